@@ -1,0 +1,6 @@
+//! Extended regular expressions as `lex` of POSIX.1-2017 has them, read from text and kept as trees.
+#![tactic(auto)]
+
+pub mod expr;
+pub mod fault;
+pub mod set;
