@@ -1,0 +1,92 @@
+-- Bytes, words and lines.
+use Rattle.std.specs.Prelude.{◌≡◌, ℕ, Bool, true, false, not, ◌&&◌, ◌||◌, nat_eq, nat_lt, nat_le, if◌then◌else◌, List, [], ◌∷◌, length, map, take, drop, Option, Some, None}
+use Rattle.std.specs.List.{list_all, prefix_len}
+use Rattle.bstr.specs.Text.{lines_of, without_terminator}
+
+-- the lines of a text, without LF, or CR LF, at their ends
+abbrev pub lines : List ℕ → List (List ℕ)
+lines text = map without_terminator (lines_of text)
+
+-- a space or a tab
+abbrev pub is_blank : ℕ → Bool
+is_blank c = nat_eq c 32 || nat_eq c 9
+
+abbrev pub is_between : ℕ → ℕ → ℕ → Bool
+is_between low high c = nat_le low c && nat_le c high
+
+abbrev pub is_digit : ℕ → Bool
+is_digit c = is_between 48 57 c
+
+abbrev pub is_letter : ℕ → Bool
+is_letter c = is_between 65 90 c || is_between 97 122 c
+
+abbrev pub is_alphanumeric : ℕ → Bool
+is_alphanumeric c = is_letter c || is_digit c
+
+-- a letter, a digit or _
+abbrev pub is_word_byte : ℕ → Bool
+is_word_byte c = is_alphanumeric c || nat_eq c 95
+
+-- the first byte passes the test
+abbrev pub begins : (ℕ → Bool) → List ℕ → Bool
+begins p [] = false
+begins p (c ∷ text) = p c
+
+-- the text begins with these two bytes
+abbrev pub begins_with : ℕ → ℕ → List ℕ → Bool
+begins_with a b [] = false
+begins_with a b (c ∷ text) = nat_eq c a && begins (λ d. nat_eq d b) text
+
+-- the two bytes stand somewhere in the text, one behind the other
+abbrev pub has_pair : ℕ → ℕ → List ℕ → Bool
+has_pair a b [] = false
+has_pair a b (c ∷ text) = begins_with a b (c ∷ text) || has_pair a b text
+
+-- the text from the first byte on that fails the test
+abbrev pub behind_run : (ℕ → Bool) → List ℕ → List ℕ
+behind_run p text = drop (prefix_len p text) text
+
+-- the longest run at the front of bytes that pass the test
+abbrev pub run : (ℕ → Bool) → List ℕ → List ℕ
+run p text = take (prefix_len p text) text
+
+abbrev pub begins_identifier : ℕ → Bool
+begins_identifier c = is_letter c || nat_eq c 95
+
+-- a letter or _, and then letters, digits or _
+abbrev pub is_identifier : List ℕ → Bool
+is_identifier [] = false
+is_identifier (c ∷ text) = begins_identifier c && list_all is_word_byte text
+
+abbrev pub keep : ℕ → List ℕ → List ℕ
+keep c [] = if is_blank c then [] else c ∷ []
+keep c (d ∷ text) = c ∷ d ∷ text
+
+-- the text without the blanks at its end
+abbrev pub trimmed : List ℕ → List ℕ
+trimmed [] = []
+trimmed (c ∷ text) = keep c (trimmed text)
+
+abbrev pub onto_first : ℕ → List (List ℕ) → List (List ℕ)
+onto_first c [] = (c ∷ []) ∷ []
+onto_first c (word ∷ words) = (c ∷ word) ∷ words
+
+abbrev pub with_byte : ℕ → List ℕ → List (List ℕ) → List (List ℕ)
+with_byte c [] words = (c ∷ []) ∷ words
+with_byte c (d ∷ text) words = if is_blank d then (c ∷ []) ∷ words else onto_first c words
+
+-- the words of a text, with blanks between
+abbrev pub words_of : List ℕ → List (List ℕ)
+words_of [] = []
+words_of (c ∷ text) = if is_blank c then words_of text else with_byte c text (words_of text)
+
+abbrev pub is_no_blank : ℕ → Bool
+is_no_blank c = not (is_blank c)
+
+abbrev pub word_at : List ℕ → Option (List ℕ × List ℕ)
+word_at [] = None
+word_at (c ∷ text) = Some (run is_no_blank (c ∷ text), behind_run is_no_blank (c ∷ text))
+
+-- the first word, and the text behind it
+abbrev pub next_word : List ℕ → Option (List ℕ × List ℕ)
+next_word text = word_at (behind_run is_blank text)

@@ -1,0 +1,83 @@
+-- What every specification keeps of its conditions, kinds and rules.
+use Rattle.std.specs.Prelude.{ℕ, ◌+◌, Bool, true, false, not, ◌&&◌, nat_lt, nat_le, nat_eq, if◌then◌else◌, List, [], ◌∷◌, ◌++◌, length, map, Option, Some, None}
+use Rattle.std.specs.List.{list_all, list_any, flat_map}
+use Rattle.std.specs.Option.{option_map}
+use Rattle.std.specs.Cmp.Lexicographic.{pointwise}
+use Rattle.lx_spec.specs.Bytes.{is_identifier}
+use Rattle.lx_spec.specs.declared.rule.Kind.{Kind}
+use Rattle.lx_spec.specs.declared.rule.Kind.TheVariants.{Name, Number}
+use Rattle.lx_spec.specs.declared.rule.Step.{Step}
+use Rattle.lx_spec.specs.declared.rule.Step.TheVariants.{Echo, Begin, Return}
+use Rattle.lx_spec.specs.declared.rule.Rule.{Rule}
+use Rattle.lx_spec.specs.declared.condition.Condition.{Condition}
+use Rattle.lx_spec.specs.declared.definition.Definition.{Definition}
+
+-- the letters of INITIAL
+abbrev pub initial_letters : List ℕ
+initial_letters = 73 ∷ 78 ∷ 73 ∷ 84 ∷ 73 ∷ 65 ∷ 76 ∷ []
+
+-- the first condition is INITIAL, which isn't exclusive
+abbrev pub begins_initial : List Condition → Bool
+begins_initial [] = false
+begins_initial (c ∷ more) = pointwise nat_eq c.name.items initial_letters && not c.exclusive
+
+abbrev pub condition_names : List Condition → List (List ℕ)
+condition_names conditions = map (λ c. c.name.items) conditions
+
+abbrev pub definition_names : List Definition → List (List ℕ)
+definition_names definitions = map (λ d. d.name.items) definitions
+
+-- no two of the names are the same
+abbrev pub are_distinct : List (List ℕ) → Bool
+are_distinct [] = true
+are_distinct (name ∷ names) = not (list_any (λ other. pointwise nat_eq other name) names) && are_distinct names
+
+-- the kind is one of so many identifiers, or a number below 2 ^ 31
+abbrev pub is_kind : ℕ → Kind → Bool
+is_kind kinds (Name n) = nat_lt n kinds
+is_kind kinds (Number n) = nat_lt n 2147483648
+
+-- the steps name conditions and kinds that are there, and a return stands last
+abbrev pub are_steps : ℕ → ℕ → List Step → Bool
+are_steps conditions kinds [] = true
+are_steps conditions kinds (Echo ∷ steps) = are_steps conditions kinds steps
+are_steps conditions kinds (Begin c ∷ steps) = nat_lt c conditions && are_steps conditions kinds steps
+are_steps conditions kinds (Return k ∷ []) = is_kind kinds k
+are_steps conditions kinds (Return k ∷ step ∷ steps) = false
+
+-- the numbers rise, and the last is below the bound; there is one at least
+abbrev pub are_rising_below : ℕ → List ℕ → Bool
+are_rising_below most [] = false
+are_rising_below most (c ∷ []) = nat_lt c most
+are_rising_below most (c ∷ d ∷ more) = nat_lt c d && are_rising_below most (d ∷ more)
+
+abbrev pub are_conditions : ℕ → Option (List ℕ) → Bool
+are_conditions most None = true
+are_conditions most (Some list) = are_rising_below most list
+
+-- what a rule says names conditions and kinds that are there, and its line counts from 1
+abbrev pub is_rule : ℕ → ℕ → Rule → Bool
+is_rule conditions kinds rule =
+    nat_lt 0 rule.line && (are_steps conditions kinds rule.action.items && are_conditions conditions (option_map (λ list. list.items) rule.conditions))
+
+-- the names that the steps return, by their numbers
+abbrev pub returned_names : List Step → List ℕ
+returned_names [] = []
+returned_names (Echo ∷ steps) = returned_names steps
+returned_names (Begin c ∷ steps) = returned_names steps
+returned_names (Return (Name n) ∷ steps) = n ∷ returned_names steps
+returned_names (Return (Number n) ∷ steps) = returned_names steps
+
+-- The number behind those that appear, where each appears first behind all smaller ones, and n of them appeared before.
+abbrev pub next_number : ℕ → List ℕ → Option ℕ
+next_number n [] = Some n
+next_number n (k ∷ numbers) = if nat_lt k n then next_number n numbers else if nat_eq k n then next_number (n + 1) numbers else None
+
+abbrev pub is_number : ℕ → Option ℕ → Bool
+is_number n None = false
+is_number n (Some k) = nat_eq k n
+
+-- the kinds are identifiers, each once and returned by a rule, in order of first appearance
+abbrev pub are_kinds : List (List ℕ) → List Rule → Bool
+are_kinds kinds rules =
+    list_all is_identifier kinds && (are_distinct kinds && is_number (length kinds) (next_number 0 (flat_map (λ r. returned_names r.action.items) rules)))

@@ -1,0 +1,42 @@
+-- What names in braces stand for (XCU `lex`, "Definitions in lex": `{name}`).
+use Rattle.std.specs.Prelude.{◌≡◌, ℕ, zero, suc, Bool, List, [], ◌∷◌, ◌++◌, slice_get, Some, Contains, nat_eq}
+use Rattle.std.specs.List.{list_any}
+use Rattle.std.specs.Cmp.Lexicographic.{pointwise}
+use Rattle.lx_ere.specs.Regex.{Regex, nil, one_of, then, or, times, named, regex_of}
+use Rattle.lx_ere.specs.Matching.{Matches}
+use Rattle.lx_spec.specs.declared.definition.Definition.{Definition}
+
+-- the names that stand in an expression, from left to right, as often as they stand there
+abbrev pub names_of : Regex → List (List ℕ)
+names_of nil = []
+names_of (one_of s) = []
+names_of (then a b) = names_of a ++ names_of b
+names_of (or a b) = names_of a ++ names_of b
+names_of (times body low high) = names_of body
+names_of (named name) = name ∷ []
+
+-- the definition is one of the list, and has this name
+pub record Defines (definitions : List Definition) (name : List ℕ) (d : Definition) : Type 0 where
+  pub place : ℕ
+  pub at : slice_get definitions place ≡ Some d
+  pub is : d.name.items ≡ name
+
+-- one of the definitions has this name
+abbrev pub is_defined : List Definition → List ℕ → Bool
+is_defined definitions name = list_any (λ d. pointwise nat_eq d.name.items name) definitions
+
+-- The word is one of what the name stands for, where `inner` says what words names match in that.
+abbrev pub DefinedMatches : (List ℕ → List ℕ → Type 0) → List Definition → List ℕ → List ℕ → Type 0
+DefinedMatches inner definitions name word = (d : Definition) × Defines definitions name d × Matches inner (regex_of d.expr) word
+
+-- what words a name matches, names unfolded at most n deep
+abbrev pub NameMatches : List Definition → ℕ → List ℕ → List ℕ → Type 0
+NameMatches definitions zero name word = ⊥
+NameMatches definitions (suc n) name word = DefinedMatches (NameMatches definitions n) definitions name word
+
+-- So many names in a row: the first stands in the expression, each later one in what the one before is defined as;
+-- the last is this name.
+pub data Reaches (definitions : List Definition) : Regex → ℕ → List ℕ → Type 0 where
+  stands : (r : Regex) (last : List ℕ) → Contains (names_of r) last → Reaches definitions r 1 last
+  further : (r : Regex) (n : ℕ) (name last : List ℕ) (d : Definition) → Contains (names_of r) name → Defines definitions name d →
+      Reaches definitions (regex_of d.expr) n last → Reaches definitions r (suc n) last

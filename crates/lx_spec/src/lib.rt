@@ -1,0 +1,9 @@
+//! Specifications of the scanner generator, read whole: sections, names, start conditions, rules and actions
+//! (POSIX.1-2017, XCU `lex`, "Definitions in lex", "Rules in lex", "Actions in lex").
+#![tactic(auto)]
+
+pub mod condition;
+pub mod definition;
+pub mod fault;
+pub mod rule;
+pub mod spec;
