@@ -1,3 +1,7 @@
 pub mod Items
-pub mod Pieces
 pub mod Plans
+pub mod Pieces
+pub mod Arrivals
+pub mod Kept
+pub mod Relayed
+pub mod Listed

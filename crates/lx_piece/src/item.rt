@@ -38,7 +38,7 @@ impl Item {
 }
 
 /// A list of items, which contracts see as that list.
-#[derive(Drop)]
+#[derive(Debug, Drop)]
 pub struct Items {
     list: Vec<Item>,
 }

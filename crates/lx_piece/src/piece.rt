@@ -3,7 +3,7 @@ ghost use Rattle.std.specs.Prelude.{◌≡◌};
 use crate::item::Items;
 
 /// A part of the items of a file.
-#[derive(Drop)]
+#[derive(Debug, Drop)]
 pub struct Piece {
     /// The number of the run that it belongs to.
     pub run: u64,
