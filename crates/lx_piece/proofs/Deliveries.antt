@@ -1,0 +1,147 @@
+use Rattle.std.proofs.Common.{ℕ, zero, suc, ◌≡◌, ◌+◌, ◌<◌, ◌≤◌, ◌⊎◌, inl, inr, Bool, true, false, not, ◌||◌, List, [], ◌∷◌, ◌++◌, length, map, Option, Some, None, refl, sym, ◌∙◌, ap, subst, arith, nat_eq, nat_lt, get_or, is_some, replicate}
+use Rattle.std.specs.Prelude.{slice_get, slice_set, slice_index, All, Contains, if◌then◌else◌}
+use Rattle.std.proofs.lemmas.Bool.{both_ways, eqb-true, ltb-true, lt-ltb, le-ltb, or_left, or_from, not-false}
+use Rattle.std.proofs.lemmas.Option.{slice_get-get_or}
+use Rattle.std.proofs.lemmas.List.Elements.{All-nil, All-head, All-tail, All-push, All-contains}
+use Rattle.std.proofs.lemmas.List.{get_or-replicate, append-nil, length-replicate}
+use Rattle.lx_piece.specs.declared.piece.Piece.{Piece}
+use Rattle.lx_piece.specs.declared.reply.Why.{Why}
+use Rattle.lx_piece.specs.Plans.{Planned, files_of}
+use Rattle.lx_piece.specs.Pieces.{IsPieceOf}
+use Rattle.lx_piece.specs.Arrivals.{Site, site_of, IsHonest, AreHonest, IsLeastMissing, accepted_behind, accepted_of, with_arrival, joined, cause_against, has_piece, is_numbered, reply_to, replies_of}
+use Rattle.lx_piece.specs.Kept.{Lane, Kept, LaneStandsFor, StandsFor, NoneReady, site_of_kept, held_at, delivered_counts, is_ready, is_ready_at, fresh_lane}
+use Rattle.lx_piece.specs.declared.reply.Reply.{Reply}
+use Rattle.lx_piece.specs.Relayed.{HoldsPlanned, AllDelivered, AtMostDelivered, AreAtMost, Relayed, RelayedInPart}
+use Rattle.lx_piece.proofs.SoFar.{SoFar}
+use Rattle.lx_piece.proofs.Tests.{any_last}
+use Rattle.lx_piece.proofs.Standing.{known, accepted_last, replies_last}
+use Rattle.lx_piece.proofs.Relays.{nexts, length-nexts, count_at}
+
+-- the pieces accepted from an honest list are the plan's
+accepted_planned : (plan : Planned) (accepted came : List Piece) → All (IsPieceOf plan) accepted → AreHonest plan came → All (IsPieceOf plan) (accepted_behind (site_of plan) accepted came)
+accepted_planned plan accepted [] h honest = h
+accepted_planned plan accepted (p ∷ came) h honest =
+    let first = All-head (IsHonest plan) p came honest in
+    let go : (cause : Option Why) → cause ≡ cause_against (site_of plan) accepted p → All (IsPieceOf plan) (joined cause accepted p) = elim [
+      | None ↦ λ e.
+        let k = known (site_of plan) accepted p e in
+        All-push (IsPieceOf plan) accepted p h (first (eqb-true p.run plan.run (not-false (nat_eq p.run plan.run) k.0)) (ltb-true p.file (files_of plan) (not-false (nat_lt p.file (files_of plan)) k.1)))
+      | Some why ↦ λ e. h
+    ] in
+    accepted_planned plan (with_arrival (site_of plan) accepted p) came (go (cause_against (site_of plan) accepted p) refl) (All-tail (IsHonest plan) p came honest)
+
+-- so is what a collector holds that stands for the list
+pub planned_from : (plan : Planned) (kept : Kept) (came : List Piece) → site_of_kept kept ≡ site_of plan → StandsFor kept came → AreHonest plan came → HoldsPlanned plan kept.lanes
+planned_from plan kept came e s honest =
+    record {
+      files = ap (λ (site : Site). site.files) e;
+      each = λ file lane at n p held.
+        let is = (s.each file lane at).held n p held in
+        let there = subst (λ site. Contains (accepted_of site came) p) e is.2 in
+        (All-contains (IsPieceOf plan) (accepted_of (site_of plan) came) p (accepted_planned plan [] came (All-nil (IsPieceOf plan)) honest) there, is.0, is.1);
+    }
+
+-- where nothing more can be delivered, all was
+pub all_delivered : (site : Site) (kept : Kept) (came : List Piece) (counts : List ℕ) → site_of_kept kept ≡ site → StandsFor kept came → NoneReady kept.lanes → counts ≡ delivered_counts kept → AllDelivered site came counts
+all_delivered site kept came counts e s ready c =
+    record {
+      files = ap length c ∙ length-nexts kept.lanes ∙ ap (λ (t : Site). t.files) e;
+      each = λ file within.
+        let inside : file < length kept.lanes = (let f = ap (λ (t : Site). t.files) e in omega arith) in
+        let lane = get_or kept.lanes file fresh_lane in
+        let at : slice_get kept.lanes file ≡ Some lane = slice_get-get_or kept.lanes file fresh_lane inside in
+        let stands : LaneStandsFor lane file (accepted_of site came) = subst (λ t. LaneStandsFor lane file (accepted_of t came)) e (s.each file lane at) in
+        let count : slice_index counts file ≡ lane.next = ap (λ (ns : List ℕ). slice_index ns file) c ∙ count_at kept.lanes file lane at in
+        record {
+          below = λ j l. stands.numbers j ∙ or_left (nat_lt j lane.next) (is_some (held_at lane j)) (lt-ltb j lane.next (omega arith));
+          missing = ap (λ (n : ℕ). has_piece file n (accepted_of site came)) count ∙ stands.numbers lane.next ∙ or_from (nat_lt lane.next lane.next) (is_some (held_at lane lane.next)) (le-ltb lane.next lane.next (omega arith)) (sym (ap is_ready_at at) ∙ ready file);
+        };
+    }
+
+-- what was delivered was accepted
+pub at_most_delivered : (site : Site) (kept : Kept) (came : List Piece) (counts : List ℕ) → site_of_kept kept ≡ site → StandsFor kept came → AreAtMost counts (delivered_counts kept) → AtMostDelivered site came counts
+at_most_delivered site kept came counts e s c =
+    record {
+      files = c.files ∙ length-nexts kept.lanes ∙ ap (λ (t : Site). t.files) e;
+      each = λ file j within l.
+        let inside : file < length kept.lanes = (let f = ap (λ (t : Site). t.files) e in omega arith) in
+        let lane = get_or kept.lanes file fresh_lane in
+        let at : slice_get kept.lanes file ≡ Some lane = slice_get-get_or kept.lanes file fresh_lane inside in
+        let stands : LaneStandsFor lane file (accepted_of site came) = subst (λ t. LaneStandsFor lane file (accepted_of t came)) e (s.each file lane at) in
+        let count : slice_index (delivered_counts kept) file ≡ lane.next = count_at kept.lanes file lane at in
+        let bound = c.each file in
+        stands.numbers j ∙ or_left (nat_lt j lane.next) (is_some (held_at lane j)) (lt-ltb j lane.next (omega arith));
+    }
+
+pub same_at_most : (counts others : List ℕ) → counts ≡ others → AreAtMost counts others
+same_at_most counts others e = record { files = ap length e; each = λ file. (let f = ap (λ (ns : List ℕ). slice_index ns file) e in omega arith) }
+
+has_more : (site : Site) (accepted : List Piece) (p : Piece) (file j : ℕ) (cause : Option Why) → has_piece file j accepted ≡ true → has_piece file j (joined cause accepted p) ≡ true
+has_more site accepted p file j None h = any_last (is_numbered file j) accepted p ∙ or_left (has_piece file j accepted) (is_numbered file j p) h
+has_more site accepted p file j (Some why) h = h
+
+-- an arrival more takes nothing back
+pub at_most_more : (site : Site) (came : List Piece) (counts : List ℕ) (p : Piece) → AtMostDelivered site came counts → AtMostDelivered site (came ++ p ∷ []) counts
+at_most_more site came counts p h =
+    record {
+      files = h.files;
+      each = λ file j within l. ap (has_piece file j) (accepted_last site [] came p) ∙ has_more site (accepted_of site came) p file j (cause_against site (accepted_of site came) p) (h.each file j within l);
+    }
+
+-- at the start no file is ready, and every count is 0
+pub fresh_ready : (n g : ℕ) → is_ready_at (slice_get (replicate n fresh_lane) g) ≡ false
+fresh_ready zero g = refl
+fresh_ready (suc n) zero = refl
+fresh_ready (suc n) (suc g) = fresh_ready n g
+
+pub fresh_counts : (n : ℕ) → nexts (replicate n fresh_lane) ≡ replicate n 0
+fresh_counts zero = refl
+fresh_counts (suc n) = ap (λ (ns : List ℕ). 0 ∷ ns) (fresh_counts n)
+
+pub fresh_site : (plan : Planned) (kept : Kept) (run files : ℕ) → kept ≡ record { run = run; lanes = replicate files fresh_lane } → run ≡ plan.run → files ≡ files_of plan → site_of_kept kept ≡ site_of plan
+fresh_site plan kept run files k r f =
+    ap site_of_kept k
+    ∙ ap (λ (n : ℕ). record { run = run; files = n }) (length-replicate files fresh_lane ∙ f)
+    ∙ ap (λ (n : ℕ). record { run = n; files = files_of plan }) r
+
+pub fresh_delivered : (plan : Planned) (kept : Kept) (run files : ℕ) → kept ≡ record { run = run; lanes = replicate files fresh_lane } → files ≡ files_of plan → replicate (files_of plan) 0 ≡ delivered_counts kept
+fresh_delivered plan kept run files k f = sym (ap delivered_counts k ∙ fresh_counts files ∙ ap (λ (n : ℕ). replicate n 0) f)
+
+-- one arrival more
+pub so_far_with : {S : Type 0} (plan : Planned) (leads : S → List Piece → S → Type 0) (goes_on : (s t u : S) (xs ys : List Piece) → leads s xs t → leads t ys u → leads s (xs ++ ys) u) (s t u : S) (old new : Kept) (replies : List Reply) (p : Piece) (reply : Reply) → SoFar plan (λ came. leads s came t) old replies → leads t (p ∷ []) u → IsHonest plan p → site_of_kept old ≡ site_of plan → ((came : List Piece) → StandsFor old came → reply ≡ reply_to (site_of_kept old) (accepted_of (site_of_kept old) came) p) → ((came : List Piece) → StandsFor old came → StandsFor new (came ++ p ∷ [])) → SoFar plan (λ came. leads s came u) new (replies ++ reply ∷ [])
+so_far_with plan leads goes_on s t u old new replies p reply so led honest e answers stands =
+    record {
+      came = so.came ++ p ∷ [];
+      led = goes_on s t u so.came (p ∷ []) so.led led;
+      honest = All-push (IsHonest plan) so.came p so.honest honest;
+      replied =
+        ap (λ rs. rs ++ reply ∷ []) so.replied
+        ∙ ap (λ r. replies_of (site_of plan) so.came ++ r ∷ []) (answers so.came so.stands ∙ ap (λ site. reply_to site (accepted_of site so.came) p) e)
+        ∙ sym (replies_last (site_of plan) [] so.came p);
+      stands = stands so.came so.stands;
+    }
+
+-- what is delivered out changes nothing of that
+pub so_far_still : (plan : Planned) (leads : List Piece → Type 0) (old new : Kept) (replies : List Reply) → SoFar plan leads old replies → ((came : List Piece) → StandsFor old came → StandsFor new came) → SoFar plan leads new replies
+so_far_still plan leads old new replies so stands = record { came = so.came; led = so.led; honest = so.honest; replied = so.replied; stands = stands so.came so.stands }
+
+pub in_part : (plan : Planned) (leads : List Piece → Type 0) (kept : Kept) (replies : List Reply) (counts : List ℕ) → SoFar plan leads kept replies → site_of_kept kept ≡ site_of plan → AreAtMost counts (delivered_counts kept) → RelayedInPart (site_of plan) leads counts
+in_part plan leads kept replies counts so e c = record { came = so.came; led = so.led; delivered = at_most_delivered (site_of plan) kept so.came counts e so.stands c }
+
+-- an arrival that no reply was given to
+pub in_part_with : {S : Type 0} (plan : Planned) (leads : S → List Piece → S → Type 0) (goes_on : (s t u : S) (xs ys : List Piece) → leads s xs t → leads t ys u → leads s (xs ++ ys) u) (s t u : S) (kept : Kept) (replies : List Reply) (counts : List ℕ) (p : Piece) → SoFar plan (λ came. leads s came t) kept replies → leads t (p ∷ []) u → site_of_kept kept ≡ site_of plan → counts ≡ delivered_counts kept → RelayedInPart (site_of plan) (λ came. leads s came u) counts
+in_part_with plan leads goes_on s t u kept replies counts p so led e c =
+    record {
+      came = so.came ++ p ∷ [];
+      led = goes_on s t u so.came (p ∷ []) so.led led;
+      delivered = at_most_more (site_of plan) so.came counts p (at_most_delivered (site_of plan) kept so.came counts e so.stands (same_at_most counts (delivered_counts kept) c));
+    }
+
+pub whole : {S : Type 0} (plan : Planned) (leads : S → List Piece → S → Type 0) (goes_on : (s t u : S) (xs ys : List Piece) → leads s xs t → leads t ys u → leads s (xs ++ ys) u) (s t u : S) (kept : Kept) (replies : List Reply) (counts : List ℕ) → SoFar plan (λ came. leads s came t) kept replies → leads t [] u → site_of_kept kept ≡ site_of plan → NoneReady kept.lanes → counts ≡ delivered_counts kept → Relayed (site_of plan) (λ came. leads s came u) replies counts
+whole plan leads goes_on s t u kept replies counts so led e ready c =
+    record {
+      came = so.came;
+      led = subst (λ came. leads s came u) (append-nil so.came) (goes_on s t u so.came [] so.led led);
+      replied = so.replied;
+      delivered = all_delivered (site_of plan) kept so.came counts e so.stands ready c;
+    }

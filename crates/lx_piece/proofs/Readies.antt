@@ -1,0 +1,65 @@
+use Rattle.std.proofs.Common.{ℕ, zero, suc, ◌≡◌, ◌+◌, ◌<◌, ◌≤◌, ◌⊎◌, inl, inr, Bool, true, false, List, [], ◌∷◌, length, Option, Some, None, refl, sym, ◌∙◌, ap, subst, arith, get_or, nat_cmp, is_gt, nat_eq}
+use Rattle.std.proofs.lemmas.Bool.{cases_eq}
+use Rattle.std.proofs.lemmas.Bool.Decides.{nat_tests}
+use Rattle.std.proofs.Math.ListN.{length-set}
+use Rattle.std.specs.BTreeMap.{is_at}
+use Rattle.std.specs.Prelude.{slice_get, slice_set, unwrap_or, cond}
+use Rattle.std.specs.BTreeSet.{BTreeSet, contains}
+use Rattle.std.proofs.lemmas.Bool.{both_ways, ne_eqb, le-ltb, false_from_ne_true, true≢false}
+use Rattle.std.proofs.lemmas.Option.{unwrap_or-slice_get}
+use Rattle.lx_piece.specs.declared.piece.Piece.{Piece}
+use Rattle.lx_piece.specs.Kept.{Lane, Advances, Delivers, IsReadySet, is_ready, is_ready_at, held_at}
+
+-- where a file is ready, it has a lane
+pub ready_lane : (o : Option Lane) → is_ready_at o ≡ true → (lane : Lane) × (o ≡ Some lane) × (is_ready lane ≡ true)
+ready_lane None h = absurd (both_ways false refl h)
+ready_lane (Some lane) h = (lane, refl, h)
+
+is_above : (m n : ℕ) → n < m → is_gt (nat_cmp m n) ≡ true
+is_above m n l = rw (le-ltb m n (omega arith), ne_eqb m n (λ e. absurd (omega arith))) refl
+
+-- the lowest of the ready files hands its next piece on
+pub lowest_delivers : (lanes : List Lane) (ready : BTreeSet ℕ) (file : ℕ) (lane advanced : Lane) (p : Piece) → IsReadySet lanes ready → contains nat_cmp ready file ≡ true → ((q : ℕ) → contains nat_cmp ready q ≡ true → is_gt (nat_cmp file q) ≡ false) → lane ≡ get_or lanes file lane → held_at lane lane.next ≡ Some p → Advances lane advanced → Delivers lanes file p (slice_set lanes file advanced)
+lowest_delivers lanes ready file lane advanced p set has least at next moves =
+    let r = ready_lane (slice_get lanes file) (sym (set.each file) ∙ has) in
+    let same : lane ≡ r.0 = at ∙ (sym (unwrap_or-slice_get lanes file lane) ∙ ap (λ o. unwrap_or o lane) r.1) in
+    record {
+      lane = lane;
+      advanced = advanced;
+      there = r.1 ∙ ap (λ l. Some l) (sym same);
+      next = next;
+      lowest = λ g l. false_from_ne_true (is_ready_at (slice_get lanes g)) (λ h. both_ways (is_gt (nat_cmp file g)) (least g (set.each g ∙ h)) (is_above file g l));
+      moves = moves;
+      after = refl;
+    }
+
+-- the element that was set, and the others
+pub get_set_same : {X : Type 0} (xs : List X) (i : ℕ) (y : X) → i < length xs → slice_get (slice_set xs i y) i ≡ Some y
+get_set_same [] i y l = absurd (omega arith)
+get_set_same (x ∷ xs) zero y l = refl
+get_set_same (x ∷ xs) (suc i) y l = get_set_same xs i y (omega arith)
+
+pub get_set_other : {X : Type 0} (xs : List X) (i j : ℕ) (y : X) → (j ≡ i → ⊥) → slice_get (slice_set xs i y) j ≡ slice_get xs j
+get_set_other [] i j y d = refl
+get_set_other (x ∷ xs) zero zero y d = absurd (d refl)
+get_set_other (x ∷ xs) zero (suc j) y d = refl
+get_set_other (x ∷ xs) (suc i) zero y d = refl
+get_set_other (x ∷ xs) (suc i) (suc j) y d = get_set_other xs i j y (λ e. d (ap suc e))
+
+-- what `is_at` tests
+pub at_number : (k n : ℕ) → is_at (nat_cmp k) n ≡ nat_eq n k
+at_number k n = elim (cases_eq n k) [
+  | inl e ↦ grind (arith, nat_tests)
+  | inr d ↦ grind (arith, nat_tests)
+]
+
+-- the set is kept when one file's lane changes
+pub ready_set_with : (lanes : List Lane) (ready after : BTreeSet ℕ) (file : ℕ) (advanced : Lane) → IsReadySet lanes ready → file < length lanes → contains nat_cmp after file ≡ is_ready advanced → ((g : ℕ) → (g ≡ file → ⊥) → contains nat_cmp after g ≡ contains nat_cmp ready g) → IsReadySet (slice_set lanes file advanced) after
+ready_set_with lanes ready after file advanced set within here others =
+    record {
+      few = rw length-set set.few;
+      each = λ g. elim (cases_eq g file) [
+        | inl e ↦ ap (contains nat_cmp after) e ∙ here ∙ sym (ap (λ i. is_ready_at (slice_get (slice_set lanes file advanced) i)) e ∙ ap is_ready_at (get_set_same lanes file advanced within))
+        | inr d ↦ others g d ∙ set.each g ∙ sym (ap is_ready_at (get_set_other lanes file g advanced d))
+      ];
+    }

@@ -1,0 +1,116 @@
+use Rattle.std.proofs.Common.{ℕ, zero, suc, ◌≡◌, ◌+◌, ◌<◌, ◌≤◌, ◌⊎◌, inl, inr, Bool, true, false, not, List, [], ◌∷◌, ◌++◌, length, map, Option, Some, None, refl, sym, ◌∙◌, ap, subst, arith, nat_eq, nat_lt, get_or, is_some, replicate}
+use Rattle.std.specs.Prelude.{slice_get, slice_set, slice_index, All, if◌then◌else◌, sum_by}
+use Rattle.std.proofs.lemmas.Bool.{cases_eq, eq-eqb, ne_eqb, both_ways}
+use Rattle.std.proofs.lemmas.Option.{slice_get_within, get_or_from_slice_get}
+use Rattle.std.proofs.lemmas.List.{map-set, get_or-map, get_or-set_same, get_or-set_other}
+use Rattle.std.proofs.lemmas.List.Sums.{sum_by-set}
+use Rattle.std.proofs.Math.ListN.{length-set}
+use Rattle.std.proofs.Math.Seq.{map-set_same}
+use Rattle.lx_piece.specs.declared.piece.Piece.{Piece}
+use Rattle.lx_piece.specs.Plans.{Planned, files_of}
+use Rattle.lx_piece.specs.Pieces.{IsPieceOf}
+use Rattle.lx_piece.specs.Kept.{Lane, Kept, Delivers, KeepsIn, Advances, held_at, delivered_counts, held_total}
+use Rattle.lx_piece.specs.Relayed.{HoldsPlanned, IsNextPiece, AreAtMost}
+use Rattle.lx_piece.proofs.Readies.{get_set_same, get_set_other}
+use Rattle.lx_piece.proofs.Standing.{same_some}
+
+-- the counts of these lanes
+abbrev pub nexts : List Lane → List ℕ
+nexts lanes = map (λ (lane : Lane). lane.next) lanes
+
+pub length-nexts : (lanes : List Lane) → length (nexts lanes) ≡ length lanes
+length-nexts [] = refl
+length-nexts (lane ∷ lanes) = ap suc (length-nexts lanes)
+
+-- a piece that is kept changes no count
+pub counts_kept : (old new : List Lane) (p : Piece) → KeepsIn old p new → nexts new ≡ nexts old
+counts_kept old new p k =
+    ap nexts k.after
+    ∙ map-set_same (λ (lane : Lane). lane.next) old p.file k.kept k.lane (k.keeps.next ∙ sym (ap (λ (lane : Lane). lane.next) (get_or_from_slice_get old p.file k.lane k.lane k.there)))
+
+-- a file's count
+pub count_at : (lanes : List Lane) (file : ℕ) (lane : Lane) → slice_get lanes file ≡ Some lane → slice_index (nexts lanes) file ≡ lane.next
+count_at lanes file lane h =
+    get_or-map (λ (l : Lane). l.next) lanes file lane 0 (slice_get_within lanes file lane h)
+    ∙ ap (λ (l : Lane). l.next) (get_or_from_slice_get lanes file lane lane h)
+
+-- a piece that is delivered raises its file's count by one
+pub counts_delivered : (old new : List Lane) (file : ℕ) (p : Piece) → Delivers old file p new → nexts new ≡ slice_set (nexts old) file (slice_index (nexts old) file + 1)
+counts_delivered old new file p h =
+    ap nexts h.after
+    ∙ map-set (λ (lane : Lane). lane.next) old file h.advanced
+    ∙ ap (λ (n : ℕ). slice_set (nexts old) file n) (h.moves.next ∙ ap (λ (n : ℕ). n + 1) (sym (count_at old file h.lane h.there)))
+
+-- the piece that is delivered is the one that the reader takes next of its file
+pub delivered_is_next : (plan : Planned) (counts : List ℕ) (old new : List Lane) (file : ℕ) (p : Piece) → HoldsPlanned plan old → counts ≡ nexts old → Delivers old file p new → IsNextPiece plan counts p
+delivered_is_next plan counts old new file p s e h =
+    let is = s.each file h.lane h.there h.lane.next p h.next in
+    record {
+      planned = is.0;
+      number = is.2 ∙ sym (count_at old file h.lane h.there) ∙ ap (λ (n : ℕ). slice_index (nexts old) n) (sym is.1) ∙ sym (ap (λ (ns : List ℕ). slice_index ns p.file) e);
+    }
+
+-- the reader's counts follow the collector's
+pub counts_follow : (plan : Planned) (counts after : List ℕ) (old new : List Lane) (file : ℕ) (p : Piece) → HoldsPlanned plan old → counts ≡ nexts old → Delivers old file p new → after ≡ slice_set counts p.file (slice_index counts p.file + 1) → after ≡ nexts new
+counts_follow plan counts after old new file p s e h a =
+    let is = s.each file h.lane h.there h.lane.next p h.next in
+    a
+    ∙ ap (λ (ns : List ℕ). slice_set ns p.file (slice_index ns p.file + 1)) e
+    ∙ ap (λ (n : ℕ). slice_set (nexts old) n (slice_index (nexts old) n + 1)) is.1
+    ∙ sym (counts_delivered old new file p h)
+
+-- what is held stays the plan's
+pub planned_delivered : (plan : Planned) (old new : List Lane) (file : ℕ) (p : Piece) → HoldsPlanned plan old → Delivers old file p new → HoldsPlanned plan new
+planned_delivered plan old new file p s h =
+    record {
+      files = ap length h.after ∙ length-set old file h.advanced ∙ s.files;
+      each = λ g lane at n q held.
+        elim (cases_eq g file) [
+          | inl e ↦
+            let is : Some h.advanced ≡ Some lane = sym (ap (λ l. slice_get l g) h.after ∙ (ap (slice_get (slice_set old file h.advanced)) e ∙ get_set_same old file h.advanced (slice_get_within old file h.lane h.there))) ∙ at in
+            let advanced : held_at h.advanced n ≡ Some q = ap (λ l. held_at l n) (same_some h.advanced lane is) ∙ held in
+            elim (cases_eq n h.lane.next) [
+              | inl same ↦
+                let gone : None ≡ Some q = sym (h.moves.held n ∙ ap (λ b. if b then None else held_at h.lane n) (eq-eqb n h.lane.next same)) ∙ advanced in
+                absurd (cc)
+              | inr d ↦
+                let was : held_at h.lane n ≡ Some q = sym (h.moves.held n ∙ ap (λ b. if b then None else held_at h.lane n) (ne_eqb n h.lane.next d)) ∙ advanced in
+                let r = s.each file h.lane h.there n q was in
+                (r.0, r.1 ∙ sym e, r.2)
+            ]
+          | inr d ↦ s.each g lane (sym (ap (λ l. slice_get l g) h.after ∙ get_set_other old file g h.advanced d) ∙ at) n q held
+        ];
+    }
+
+-- fewer pieces are held
+pub fewer_held : (old new : List Lane) (file : ℕ) (p : Piece) → Delivers old file p new → held_total new < held_total old
+fewer_held old new file p h =
+    let total = sum_by-set (λ (lane : Lane). length lane.held) old file h.advanced h.lane (slice_get_within old file h.lane h.there) in
+    let lane = ap (λ (l : Lane). length l.held) (get_or_from_slice_get old file h.lane h.lane h.there) in
+    let fewer = h.moves.fewer in
+    let now = ap held_total h.after in
+    omega arith
+
+pub same_size : (old new : List Lane) (file : ℕ) (p : Piece) → Delivers old file p new → length new ≡ length old
+same_size old new file p h = ap length h.after ∙ length-set old file h.advanced
+
+-- the counts before are at most those after
+pub counts_rise : (old new : List Lane) (file : ℕ) (p : Piece) → Delivers old file p new → AreAtMost (nexts old) (nexts new)
+counts_rise old new file p h =
+    record {
+      files = length-nexts old ∙ sym (same_size old new file p h) ∙ sym (length-nexts new);
+      each = λ g. elim (cases_eq g file) [
+        | inl e ↦
+          let size = length-nexts old in
+          let within = slice_get_within old file h.lane h.there in
+          let set : slice_index (nexts new) g ≡ slice_index (nexts old) g + 1 =
+            ap (λ (ns : List ℕ). slice_index ns g) (counts_delivered old new file p h)
+            ∙ ap (slice_index (slice_set (nexts old) file (slice_index (nexts old) file + 1))) e
+            ∙ get_or-set_same (nexts old) file (slice_index (nexts old) file + 1) 0 (omega arith)
+            ∙ ap (λ (n : ℕ). slice_index (nexts old) n + 1) (sym e) in
+          omega arith
+        | inr d ↦
+          let same : slice_index (nexts new) g ≡ slice_index (nexts old) g = ap (λ (ns : List ℕ). slice_index ns g) (counts_delivered old new file p h) ∙ get_or-set_other (nexts old) file g (slice_index (nexts old) file + 1) 0 d in
+          omega arith
+      ];
+    }

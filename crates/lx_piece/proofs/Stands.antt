@@ -1,0 +1,128 @@
+use Rattle.std.proofs.Common.{ℕ, ◌≡◌, ◌≢◌, ◌+◌, ◌<◌, ◌≤◌, ◌⊎◌, Bool, true, false, ◌&&◌, ◌||◌, nat_lt, nat_eq, is_some, List, [], ◌∷◌, ◌++◌, length, Option, Some, None, inl, inr, refl, sym, ◌∙◌, ap, subst, arith}
+use Rattle.std.specs.Prelude.{if◌then◌else◌, Contains}
+use Rattle.std.specs.List.{list_any}
+use Rattle.std.proofs.lemmas.Bool.{both_ways, or_left, or_right, or_cases, or_from, and_parts, and_from, and_left, and_right, eqb-true, eq-eqb, ne_eqb, ltb-true, lt-ltb, le-ltb, cases_eq, cases_order, cases_Bool, or_parts, false_from_ne_true}
+use Rattle.std.proofs.lemmas.List.Elements.{Contains-append_left, Contains-append_right}
+use Rattle.lx_piece.specs.declared.piece.Piece.{Piece}
+use Rattle.lx_piece.specs.declared.reply.Why.{Why}
+use Rattle.lx_piece.specs.declared.reply.Why.TheVariants.{WrongRun, UnknownFile, Double, AfterLast, Contradicts, Memory}
+use Rattle.lx_piece.specs.Pieces.{is_closing, top_number}
+use Rattle.lx_piece.specs.Arrivals.{has_piece, has_closing, closes_before, is_later, is_numbered, cause_among}
+use Rattle.lx_piece.specs.Kept.{Lane, LaneStandsFor, KeepsPiece, Advances, is_ready, held_at, has_number, is_number, closing_with}
+use Rattle.lx_piece.proofs.Tests.{same_tests, any_witness, any_last, choice_none, or_none}
+
+-- what no cause against p says
+pub record NoCause (accepted : List Piece) (p : Piece) : Type 0 where
+  pub new : has_piece p.file p.number accepted ≡ false
+  pub countable : nat_eq p.number top_number ≡ false
+  pub before_closing : list_any (closes_before p) accepted ≡ false
+  pub consistent : ((is_closing p) && list_any (is_later p) accepted) ≡ false
+
+pub no_cause : (accepted : List Piece) (p : Piece) → None ≡ cause_among accepted p → NoCause accepted p
+no_cause accepted p h =
+    let a = choice_none (has_piece p.file p.number accepted) Double _ h in
+    let b = choice_none (nat_eq p.number top_number || list_any (closes_before p) accepted) AfterLast _ a.1 in
+    let c = choice_none ((is_closing p) && list_any (is_later p) accepted) Contradicts None b.1 in
+    let d = or_parts (nat_eq p.number top_number) (list_any (closes_before p) accepted) b.0 in
+    record { new = a.0; countable = d.0; before_closing = d.1; consistent = c.0 }
+
+-- no other closing piece of the file was accepted
+no_other_closing : (accepted : List Piece) (p : Piece) (n : ℕ) → NoCause accepted p → (is_closing p) ≡ true → (p.number ≡ n → ⊥) → has_closing p.file n accepted ≡ false
+no_other_closing accepted p n none last other = false_from_ne_true (has_closing p.file n accepted) (λ h.
+    let w = any_witness (λ r. (is_closing r) && is_numbered p.file n r) accepted h in
+    let q = w.0 in
+    let a = and_parts (is_closing q) (is_numbered p.file n q) w.1 in
+    let b = and_parts (nat_eq q.file p.file) (nat_eq q.number n) a.1 in
+    let same : q.number ≡ n = eqb-true q.number n b.1 in
+    elim (cases_order q.number p.number) [
+      | inl e ↦ other (sym e ∙ same)
+      | inr o ↦ elim o [
+        | inl lt ↦ both_ways (list_any (closes_before p) accepted) none.before_closing
+          (w.2 (closes_before p) (and_from (is_closing q) (nat_eq q.file p.file && nat_lt q.number p.number) a.0 (and_from (nat_eq q.file p.file) (nat_lt q.number p.number) b.0 (lt-ltb q.number p.number lt))))
+        | inr gt ↦ both_ways ((is_closing p) && list_any (is_later p) accepted) none.consistent
+          (and_from (is_closing p) (list_any (is_later p) accepted) last (w.2 (is_later p) (and_from (nat_eq q.file p.file) (nat_lt p.number q.number) b.0 (lt-ltb p.number q.number gt))))
+      ]
+    ])
+
+-- a lane that keeps an accepted piece stands for it too
+pub kept_stands : (old new : Lane) (accepted : List Piece) (p : Piece) → LaneStandsFor old p.file accepted → KeepsPiece old p new → None ≡ cause_among accepted p → LaneStandsFor new p.file (accepted ++ p ∷ [])
+kept_stands old new accepted p s k none =
+    let clear = no_cause accepted p none in
+    record {
+      numbers = λ n. elim (cases_eq n p.number) [
+        | inl e ↦
+          any_last (is_numbered p.file n) accepted p
+          ∙ or_right (has_piece p.file n accepted) (is_numbered p.file n p) (and_from (nat_eq p.file p.file) (nat_eq p.number n) (eq-eqb p.file p.file refl) (eq-eqb p.number n (sym e)))
+          ∙ sym (or_right (nat_lt n new.next) (is_some (held_at new n)) (ap is_some (k.held n ∙ ap (λ b. if b then Some p else held_at old n) (eq-eqb n p.number e))))
+        | inr d ↦
+          any_last (is_numbered p.file n) accepted p
+          ∙ or_none (has_piece p.file n accepted) (is_numbered p.file n p) (and_right (nat_eq p.file p.file) (nat_eq p.number n) (ne_eqb p.number n (λ e. d (sym e))))
+          ∙ s.numbers n
+          ∙ sym (ap (λ (m : ℕ). nat_lt n m || is_some (held_at new n)) k.next ∙ ap (λ (o : Option Piece). nat_lt n old.next || is_some o) (k.held n ∙ ap (λ b. if b then Some p else held_at old n) (ne_eqb n p.number d)))
+      ];
+      held = λ n q h. elim (cases_eq n p.number) [
+        | inl e ↦
+          let is : Some p ≡ Some q = sym (k.held n ∙ ap (λ b. if b then Some p else held_at old n) (eq-eqb n p.number e)) ∙ h in
+          let same : p ≡ q = cc in
+          (ap (λ (r : Piece). r.file) (sym same), ap (λ (r : Piece). r.number) (sym same) ∙ sym e, Contains-append_right accepted (p ∷ []) q (subst (λ r. Contains (p ∷ []) r) same (0, omega arith, refl)))
+        | inr d ↦
+          let was = s.held n q (sym (k.held n ∙ ap (λ b. if b then Some p else held_at old n) (ne_eqb n p.number d)) ∙ h) in
+          (was.0, was.1, Contains-append_left accepted (p ∷ []) q was.2)
+      ];
+      closing = λ n.
+        let more = any_last (λ r. (is_closing r) && is_numbered p.file n r) accepted p in
+        elim (cases_Bool (is_closing p)) [
+          | inl last ↦
+            let now : new.closing ≡ Some p.number = k.closing ∙ ap (λ b. if b then Some p.number else old.closing) last in
+            elim (cases_eq p.number n) [
+              | inl e ↦
+                more
+                ∙ or_right (has_closing p.file n accepted) ((is_closing p) && is_numbered p.file n p) (and_from (is_closing p) (is_numbered p.file n p) last (and_from (nat_eq p.file p.file) (nat_eq p.number n) (eq-eqb p.file p.file refl) (eq-eqb p.number n e)))
+                ∙ sym (ap (λ o. is_number o n) now ∙ eq-eqb p.number n e)
+              | inr d ↦
+                more
+                ∙ or_from (has_closing p.file n accepted) ((is_closing p) && is_numbered p.file n p) (no_other_closing accepted p n clear last d) (and_right (is_closing p) (is_numbered p.file n p) (and_right (nat_eq p.file p.file) (nat_eq p.number n) (ne_eqb p.number n d)))
+                ∙ sym (ap (λ o. is_number o n) now ∙ ne_eqb p.number n d)
+            ]
+          | inr open_ ↦
+            more
+            ∙ or_none (has_closing p.file n accepted) ((is_closing p) && is_numbered p.file n p) (and_left (is_closing p) (is_numbered p.file n p) open_)
+            ∙ s.closing n
+            ∙ sym (ap (λ o. is_number o n) (k.closing ∙ ap (λ b. if b then Some p.number else old.closing) open_))
+        ];
+    }
+
+-- a piece of another file changes nothing for a lane
+pub other_stands : (lane : Lane) (file : ℕ) (accepted : List Piece) (p : Piece) → LaneStandsFor lane file accepted → (p.file ≡ file → ⊥) → LaneStandsFor lane file (accepted ++ p ∷ [])
+other_stands lane file accepted p s other =
+    let away : (n : ℕ) → is_numbered file n p ≡ false = λ n. and_left (nat_eq p.file file) (nat_eq p.number n) (ne_eqb p.file file other) in
+    record {
+      numbers = λ n. any_last (is_numbered file n) accepted p ∙ or_none (has_piece file n accepted) (is_numbered file n p) (away n) ∙ s.numbers n;
+      held = λ n q h. let was = s.held n q h in (was.0, was.1, Contains-append_left accepted (p ∷ []) q was.2);
+      closing = λ n. any_last (λ r. (is_closing r) && is_numbered file n r) accepted p ∙ or_none (has_closing file n accepted) ((is_closing p) && is_numbered file n p) (and_right (is_closing p) (is_numbered file n p) (away n)) ∙ s.closing n;
+    }
+
+one_more : (n k : ℕ) → (n ≡ k → ⊥) → nat_lt n (k + 1) ≡ nat_lt n k
+one_more n k d = same_tests (nat_lt n (k + 1)) (nat_lt n k) (λ h. let l = ltb-true n (k + 1) h in lt-ltb n k (omega arith)) (λ h. let l = ltb-true n k h in lt-ltb n (k + 1) (omega arith))
+
+-- a lane that delivered its next piece on stands for the same
+pub advanced_stands : (old new : Lane) (file : ℕ) (accepted : List Piece) → LaneStandsFor old file accepted → Advances old new → is_ready old ≡ true → LaneStandsFor new file accepted
+advanced_stands old new file accepted s m ready =
+    record {
+      numbers = λ n. s.numbers n ∙ elim (cases_eq n old.next) [
+        | inl e ↦
+          or_right (nat_lt n old.next) (is_some (held_at old n)) (ap (λ i. is_some (held_at old i)) e ∙ ready)
+          ∙ sym (or_left (nat_lt n new.next) (is_some (held_at new n)) (lt-ltb n new.next (let f = m.next in omega arith)))
+        | inr d ↦
+          sym (ap (λ (i : ℕ). nat_lt n i || is_some (held_at new n)) m.next
+            ∙ ap (λ b. b || is_some (held_at new n)) (one_more n old.next d)
+            ∙ ap (λ (o : Option Piece). nat_lt n old.next || is_some o) (m.held n ∙ ap (λ b. if b then None else held_at old n) (ne_eqb n old.next d)))
+      ];
+      held = λ n q h. elim (cases_eq n old.next) [
+        | inl e ↦
+          let gone : None ≡ Some q = sym (m.held n ∙ ap (λ b. if b then None else held_at old n) (eq-eqb n old.next e)) ∙ h in
+          absurd (cc)
+        | inr d ↦ s.held n q (sym (m.held n ∙ ap (λ b. if b then None else held_at old n) (ne_eqb n old.next d)) ∙ h)
+      ];
+      closing = λ n. s.closing n ∙ sym (ap (λ o. is_number o n) m.closing);
+    }

@@ -1,0 +1,42 @@
+use Rattle.std.proofs.Common.{◌≡◌, sym, ◌∙◌, subst, ap, arith}
+use Rattle.lx_piece.specs.declared.piece.Piece.{Piece}
+use Rattle.lx_piece.specs.Kept.{Kept, site_of_kept}
+use Rattle.lx_piece.specs.Relayed.{HoldsPlanned, IsNextPiece, AreAtMost}
+use Rattle.lx_piece.proofs.Relays.{nexts, delivered_is_next, counts_follow, planned_delivered, fewer_held, counts_rise, same_size}
+use Rattle.lx_piece.proofs.Standing.{same_site}
+use Rattle.lx_piece.proofs.relaying.deliver_all.Goals as goal
+
+pub take-requires-clause-next : goal.take-requires-clause-next
+take-requires-clause-next g c =
+    let i = c.loop-piece.invariant in
+    let h = c.in-Some.ensures.delivered in
+    subst (λ plan. IsNextPiece plan (g.R.Reader.counts c.loop-piece.reader) c.in-Some.piece) (sym i.plan)
+    (delivered_is_next _ _ _ _ h.0 c.in-Some.piece i.planned i.counts h.1)
+
+pub loop-piece-smaller : goal.loop-piece-smaller
+loop-piece-smaller g c = let h = c.in-Some.ensures.delivered in fewer_held _ _ h.0 c.in-Some.piece h.1
+
+pub loop-piece-preserved : goal.loop-piece-preserved
+loop-piece-preserved g c =
+    let i = c.loop-piece.invariant in
+    let h = c.in-Some.ensures.delivered in
+    let took = c.in-Ok.ensures in
+    record {
+      plan = took.plan ∙ i.plan;
+      follows = g.met.R.Reader.follows_on _ _ _ i.follows took.follows;
+      planned = planned_delivered _ _ _ h.0 c.in-Some.piece i.planned h.1;
+      counts = counts_follow _ _ _ _ _ h.0 c.in-Some.piece i.planned i.counts h.1 took.ok;
+      faults = took.no_fault ∙ i.faults;
+      stands = λ came s. c.in-Some.ensures.stands came (i.stands came s);
+      site = same_site _ _ c.in-Some.ensures.run (same_size _ _ h.0 c.in-Some.piece h.1) ∙ i.site;
+    }
+
+pub returns-in-Err-Device-clause-err : goal.returns-in-Err-Device-clause-err
+returns-in-Err-Device-clause-err g c =
+    let h = c.in-Some.ensures.delivered in
+    subst (λ counts. AreAtMost counts (nexts c.deliver.new.self.lanes)) (sym (c.in-Err-Device.ensures.err ∙ c.loop-piece.invariant.counts)) (counts_rise _ _ h.0 c.in-Some.piece h.1)
+
+pub returns-in-Err-Memory-clause-err : goal.returns-in-Err-Memory-clause-err
+returns-in-Err-Memory-clause-err g c =
+    let h = c.in-Some.ensures.delivered in
+    subst (λ counts. AreAtMost counts (nexts c.deliver.new.self.lanes)) (sym (c.in-Err-Memory.ensures.err ∙ c.loop-piece.invariant.counts)) (counts_rise _ _ h.0 c.in-Some.piece h.1)

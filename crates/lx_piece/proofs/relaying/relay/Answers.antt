@@ -1,0 +1,79 @@
+use Rattle.std.proofs.Common.{◌≡◌, sym, ◌∙◌, subst, ap, arith, [], ◌∷◌, ◌++◌, append-nil, refl}
+use Rattle.std.specs.Prelude.{slice_get}
+use Rattle.std.proofs.lemmas.List.Elements.{All-nil}
+use Rattle.std.proofs.lemmas.Result.{err_from_is_err_and}
+use Rattle.lx_piece.specs.Arrivals.{IsHonest}
+use Rattle.lx_piece.specs.Kept.{is_ready_at}
+use Rattle.lx_piece.specs.Relayed.{HoldsPlanned}
+use Rattle.lx_piece.proofs.SoFar.{SoFar}
+use Rattle.lx_piece.proofs.Deliveries.{fresh_site, fresh_delivered, fresh_ready, so_far_with, so_far_still, in_part, in_part_with, whole, planned_from, same_at_most}
+use Rattle.lx_piece.proofs.relaying.relay.Goals as goal
+
+pub loop-piece-init : goal.loop-piece-init
+loop-piece-init g c =
+    let k = c.in_ok-collector.ensures in
+    record {
+      arrivals_plan = c.requires.arrivals_plan;
+      reader_plan = c.requires.reader_plan;
+      follows = g.met.R.Reader.follows_itself _;
+      counts = c.requires.nothing_taken ∙ fresh_delivered c.args.plan.now _ _ _ k.kept c.files.ensures.count;
+      faults = refl;
+      site = fresh_site c.args.plan.now _ _ _ k.kept c.run.ensures c.files.ensures.count;
+      ready = λ file. ap (λ kept. is_ready_at (slice_get kept.lanes file)) k.kept ∙ fresh_ready c.files.result file;
+      so_far = record { came = []; led = g.met.A.Arrivals.stays _; honest = All-nil (IsHonest c.args.plan.now); replied = c.new-replies.ensures.items; stands = k.stands };
+    }
+
+pub returns-in_err-reply-clause-err : goal.returns-in_err-reply-clause-err
+returns-in_err-reply-clause-err g c =
+    let i = c.loop-piece.invariant in
+    let p = err_from_is_err_and c.from_residual-in_err-reply.result c.from_residual-in_err-reply.ensures.1 in
+    rw p.1 (in_part_with c.args.plan.now g.A.Arrivals.leads g.met.A.Arrivals.goes_on _ _ _ c.loop-piece.collector _ _ c.in-Some.piece i.so_far c.in-Some.ensures.leads i.site i.counts)
+
+pub deliver_all-requires-clause-planned : goal.deliver_all-requires-clause-planned
+deliver_all-requires-clause-planned g c =
+    let i = c.loop-piece.invariant in
+    let b = c.in_ok-reply.ensures in
+    let honest = subst (λ plan. IsHonest plan c.in-Some.piece) i.arrivals_plan c.in-Some.ensures.honest in
+    let so = so_far_with c.args.plan.now g.A.Arrivals.leads g.met.A.Arrivals.goes_on _ _ _ c.loop-piece.collector c.offer_to.new.collector _ c.in-Some.piece c.in_ok-reply.reply i.so_far c.in-Some.ensures.leads honest i.site b.reply b.stands in
+    subst (λ plan. HoldsPlanned plan c.offer_to.new.collector.lanes) (sym i.reader_plan) (planned_from c.args.plan.now c.offer_to.new.collector so.came (b.site ∙ i.site) so.stands so.honest)
+
+pub returns-clause-ok : goal.returns-clause-ok
+returns-clause-ok g c =
+    let i = c.loop-piece.invariant in
+    whole c.args.plan.now g.A.Arrivals.leads g.met.A.Arrivals.goes_on _ _ _ c.loop-piece.collector _ _ i.so_far c.in_default.ensures.leads.0 i.site i.ready i.counts
+
+pub returns-in_err-push-clause-err : goal.returns-in_err-push-clause-err
+returns-in_err-push-clause-err g c =
+    let i = c.loop-piece.invariant in
+    let p = err_from_is_err_and c.from_residual-in_err-push.result c.from_residual-in_err-push.ensures.1 in
+    rw p.1 (in_part_with c.args.plan.now g.A.Arrivals.leads g.met.A.Arrivals.goes_on _ _ _ c.loop-piece.collector _ _ c.in-Some.piece i.so_far c.in-Some.ensures.leads i.site i.counts)
+
+pub loop-piece-preserved : goal.loop-piece-preserved
+loop-piece-preserved g c =
+    let i = c.loop-piece.invariant in
+    let b = c.in_ok-reply.ensures in
+    let h = c.in_ok-deliver_all.ensures in
+    let honest = subst (λ plan. IsHonest plan c.in-Some.piece) i.arrivals_plan c.in-Some.ensures.honest in
+    let so = so_far_with c.args.plan.now g.A.Arrivals.leads g.met.A.Arrivals.goes_on _ _ _ c.loop-piece.collector c.offer_to.new.collector _ c.in-Some.piece c.in_ok-reply.reply i.so_far c.in-Some.ensures.leads honest i.site b.reply b.stands in
+    let then = so_far_still c.args.plan.now _ c.offer_to.new.collector c.deliver_all.new.collector _ so h.stands in
+    record {
+      arrivals_plan = c.in-Some.ensures.plan ∙ i.arrivals_plan;
+      reader_plan = h.plan ∙ i.reader_plan;
+      follows = g.met.R.Reader.follows_on _ _ _ i.follows h.follows;
+      counts = h.ok.0;
+      faults = h.ok.2 ∙ i.faults;
+      site = h.site ∙ (b.site ∙ i.site);
+      ready = h.ok.1;
+      so_far = subst (λ replies. SoFar c.args.plan.now (λ came. g.A.Arrivals.leads c.args.arrivals.now came c.next.new.self) c.deliver_all.new.collector replies) (sym c.in_ok-push.ensures.items) then;
+    }
+
+pub returns-in_err-deliver_all-clause-err : goal.returns-in_err-deliver_all-clause-err
+returns-in_err-deliver_all-clause-err g c =
+    let i = c.loop-piece.invariant in
+    let b = c.in_ok-reply.ensures in
+    let h = c.in_err-deliver_all.ensures in
+    let honest = subst (λ plan. IsHonest plan c.in-Some.piece) i.arrivals_plan c.in-Some.ensures.honest in
+    let so = so_far_with c.args.plan.now g.A.Arrivals.leads g.met.A.Arrivals.goes_on _ _ _ c.loop-piece.collector c.offer_to.new.collector _ c.in-Some.piece c.in_ok-reply.reply i.so_far c.in-Some.ensures.leads honest i.site b.reply b.stands in
+    let then = so_far_still c.args.plan.now _ c.offer_to.new.collector c.deliver_all.new.collector _ so h.stands in
+    let p = err_from_is_err_and c.from_residual-in_err-deliver_all.result c.from_residual-in_err-deliver_all.ensures.1 in
+    rw p.1 (in_part c.args.plan.now _ c.deliver_all.new.collector _ _ then (h.site ∙ (b.site ∙ i.site)) h.err)

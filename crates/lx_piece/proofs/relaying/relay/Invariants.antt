@@ -1,0 +1,23 @@
+use Rattle.std.proofs.Common.{◌≡◌, ◌-◌, ◌^◌, List, vec_len}
+use Rattle.lx_piece.specs.Plans.{Planned}
+use Rattle.lx_piece.specs.Arrivals.{site_of}
+use Rattle.lx_piece.specs.Kept.{NoneReady, site_of_kept, delivered_counts}
+use Rattle.lx_piece.proofs.SoFar.{SoFar}
+use Rattle.lx_piece.proofs.relaying.relay.Given as goal
+
+-- the collector stands for what came, the replies are those to it, and all that can be delivered is delivered
+abbrev pub invariant-loop-piece : goal.invariant-loop-piece
+invariant-loop-piece g l =
+    record {
+      arrivals_plan : g.A.Arrivals.plan l.arrivals ≡ l.plan;
+      reader_plan : g.R.Reader.plan l.reader ≡ l.plan;
+      follows : g.R.Reader.follows l.fn.reader l.reader;
+      counts : g.R.Reader.counts l.reader ≡ delivered_counts l.collector;
+      faults : g.R.Reader.fault_count l.reader ≡ g.R.Reader.fault_count l.fn.reader;
+      site : site_of_kept l.collector ≡ site_of l.plan;
+      ready : NoneReady l.collector.lanes;
+      so_far : SoFar l.plan (λ came. g.A.Arrivals.leads l.fn.arrivals came l.arrivals) l.collector l.replies.items;
+    }
+
+abbrev pub decreases-loop-piece : goal.decreases-loop-piece
+decreases-loop-piece g l = 2 ^ 64 - vec_len l.replies

@@ -1,0 +1,96 @@
+use Rattle.std.specs.Prelude.{ℕ, ◌≡◌, ◌+◌, ◌<◌, ◌==◌, Bool, true, false, not, ◌&&◌, ◌||◌, if◌then◌else◌, nat_lt, is_none, List, [], ◌∷◌, ◌++◌, Option, Some, None, All}
+use Rattle.std.specs.List.{list_any}
+use Rattle.lx_piece.specs.declared.piece.Piece.{Piece}
+use Rattle.lx_piece.specs.declared.reply.Why.{Why}
+use Rattle.lx_piece.specs.declared.reply.Why.TheVariants.{WrongRun, UnknownFile, Double, AfterLast, Contradicts, Memory}
+use Rattle.lx_piece.specs.declared.reply.Reply.{Reply}
+use Rattle.lx_piece.specs.declared.reply.Reply.TheVariants.{Accepted, Refused}
+use Rattle.lx_piece.specs.Plans.{Planned, files_of}
+use Rattle.lx_piece.specs.Pieces.{is_closing, IsPieceOf, top_number}
+
+-- where pieces come together: a run, and the number of its files
+pub record Site : Type 0 where
+  pub run : ℕ
+  pub files : ℕ
+
+abbrev pub site_of : Planned → Site
+site_of plan = record { run = plan.run; files = files_of plan }
+
+-- an arrival of the plan's run and one of its files is the plan's piece
+abbrev pub IsHonest : Planned → Piece → Type 0
+IsHonest plan p = p.run ≡ plan.run → p.file < files_of plan → IsPieceOf plan p
+
+abbrev pub AreHonest : Planned → List Piece → Type 0
+AreHonest plan came = All (IsHonest plan) came
+
+-- p is a piece of this file and number
+abbrev pub is_numbered : ℕ → ℕ → Piece → Bool
+is_numbered file number p = (p.file == file) && (p.number == number)
+
+-- q closes p's file before p
+abbrev pub closes_before : Piece → Piece → Bool
+closes_before p q = is_closing q && ((q.file == p.file) && nat_lt q.number p.number)
+
+-- q is a later piece of p's file
+abbrev pub is_later : Piece → Piece → Bool
+is_later p q = (q.file == p.file) && nat_lt p.number q.number
+
+-- whether a piece of this file and number is among these
+abbrev pub has_piece : ℕ → ℕ → List Piece → Bool
+has_piece file number pieces = list_any (is_numbered file number) pieces
+
+-- whether a closing piece of this file and number is among these
+abbrev pub has_closing : ℕ → ℕ → List Piece → Bool
+has_closing file number pieces = list_any (λ p. is_closing p && is_numbered file number p) pieces
+
+-- the first cause against an arrival that lies in its own file's pieces
+abbrev pub cause_among : List Piece → Piece → Option Why
+cause_among accepted p =
+    if has_piece p.file p.number accepted then Some Double
+    else if (p.number == top_number) || list_any (closes_before p) accepted then Some AfterLast
+    else if is_closing p && list_any (is_later p) accepted then Some Contradicts
+    else None
+
+-- the first cause against an arrival behind those that were accepted
+abbrev pub cause_against : Site → List Piece → Piece → Option Why
+cause_against site accepted p =
+    if not (p.run == site.run) then Some WrongRun
+    else if not (nat_lt p.file site.files) then Some UnknownFile
+    else cause_among accepted p
+
+abbrev pub reply_for : Option Why → Reply
+reply_for None = Accepted
+reply_for (Some why) = Refused why
+
+abbrev pub reply_to : Site → List Piece → Piece → Reply
+reply_to site accepted p = reply_for (cause_against site accepted p)
+
+-- those accepted, with the arrival where it is accepted
+abbrev pub joined : Option Why → List Piece → Piece → List Piece
+joined None accepted p = accepted ++ p ∷ []
+joined (Some why) accepted p = accepted
+
+abbrev pub with_arrival : Site → List Piece → Piece → List Piece
+with_arrival site accepted p = joined (cause_against site accepted p) accepted p
+
+-- those accepted after all these have come
+abbrev pub accepted_behind : Site → List Piece → List Piece → List Piece
+accepted_behind site accepted [] = accepted
+accepted_behind site accepted (p ∷ came) = accepted_behind site (with_arrival site accepted p) came
+
+abbrev pub accepted_of : Site → List Piece → List Piece
+accepted_of site came = accepted_behind site [] came
+
+-- the reply to each, in order
+abbrev pub replies_behind : Site → List Piece → List Piece → List Reply
+replies_behind site accepted [] = []
+replies_behind site accepted (p ∷ came) =
+    reply_to site accepted p ∷ replies_behind site (with_arrival site accepted p) came
+
+abbrev pub replies_of : Site → List Piece → List Reply
+replies_of site came = replies_behind site [] came
+
+-- k is the least number of the file that isn't accepted
+pub record IsLeastMissing (accepted : List Piece) (file k : ℕ) : Type 0 where
+  pub below : (j : ℕ) → j < k → has_piece file j accepted ≡ true
+  pub missing : has_piece file k accepted ≡ false

@@ -1,0 +1,7 @@
+pub mod Items
+pub mod Plans
+pub mod Pieces
+pub mod Arrivals
+pub mod Kept
+pub mod Relayed
+pub mod Listed

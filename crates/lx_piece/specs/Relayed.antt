@@ -1,0 +1,45 @@
+use Rattle.std.specs.Prelude.{ℕ, ◌≡◌, ◌+◌, ◌<◌, ◌≤◌, true, List, Some, length, slice_index, slice_get}
+use Rattle.lx_piece.specs.declared.reply.Reply.{Reply}
+use Rattle.lx_piece.specs.Kept.{Kept, Lane, StandsFor, held_at}
+use Rattle.lx_piece.specs.declared.piece.Piece.{Piece}
+use Rattle.lx_piece.specs.Plans.{Planned, files_of}
+use Rattle.lx_piece.specs.Pieces.{IsPieceOf}
+use Rattle.lx_piece.specs.Arrivals.{Site, site_of, AreHonest, accepted_of, replies_of, has_piece, IsLeastMissing}
+
+-- p is the piece that a reader with these counts takes next of its file
+pub record IsNextPiece (plan : Planned) (counts : List ℕ) (p : Piece) : Type 0 where
+  pub planned : IsPieceOf plan p
+  pub number : p.number ≡ slice_index counts p.file
+
+-- the counts are, for each file, the least number that isn't accepted
+pub record AllDelivered (site : Site) (came : List Piece) (counts : List ℕ) : Type 0 where
+  pub files : length counts ≡ site.files
+  pub each : (file : ℕ) → file < site.files → IsLeastMissing (accepted_of site came) file (slice_index counts file)
+
+-- the counts are no greater than that
+pub record AtMostDelivered (site : Site) (came : List Piece) (counts : List ℕ) : Type 0 where
+  pub files : length counts ≡ site.files
+  pub each : (file j : ℕ) → file < site.files → j < slice_index counts file → has_piece file j (accepted_of site came) ≡ true
+
+-- what a whole run answered and delivered: the list that came, its replies, and all that it delivers
+pub record Relayed (site : Site) (leads : List Piece → Type 0) (replies : List Reply) (counts : List ℕ) : Type 0 where
+  pub came : List Piece
+  pub led : leads came
+  pub replied : replies ≡ replies_of site came
+  pub delivered : AllDelivered site came counts
+
+-- what a run that failed delivered: no more than the list taken so far delivers
+pub record RelayedInPart (site : Site) (leads : List Piece → Type 0) (counts : List ℕ) : Type 0 where
+  pub came : List Piece
+  pub led : leads came
+  pub delivered : AtMostDelivered site came counts
+
+-- each held piece is the plan's piece of its file and number
+pub record HoldsPlanned (plan : Planned) (lanes : List Lane) : Type 0 where
+  pub files : length lanes ≡ files_of plan
+  pub each : (file : ℕ) (lane : Lane) → slice_get lanes file ≡ Some lane → (n : ℕ) (p : Piece) → held_at lane n ≡ Some p → IsPieceOf plan p × (p.file ≡ file) × (p.number ≡ n)
+
+-- no count is above another list's
+pub record AreAtMost (counts others : List ℕ) : Type 0 where
+  pub files : length counts ≡ length others
+  pub each : (file : ℕ) → slice_index counts file ≤ slice_index others file

@@ -1,0 +1,24 @@
+//! Pieces of the items of files, the collector that puts arriving pieces in order, and the relay that
+//! hands them to a reader.
+#![tactic(auto)]
+
+mod arrivals;
+mod collector;
+mod item;
+mod lane;
+mod list_arrivals;
+mod piece;
+mod plan;
+mod reader;
+mod relaying;
+mod reply;
+
+pub use arrivals::Arrivals;
+pub use collector::Collector;
+pub use item::{Item, Items, Kind};
+pub use list_arrivals::ListArrivals;
+pub use piece::Piece;
+pub use plan::Plan;
+pub use reader::{Reader, ReaderFault};
+pub use relaying::{RelayFault, relay};
+pub use reply::{Refused, Reply, Why};

@@ -1,0 +1,114 @@
+ghost use Rattle.std.specs.Prelude.{◌≡◌, ◌<◌, ◌≤◌, length, map};
+ghost use Rattle.lx_piece.specs.Plans.{IsPlan, files_of, bytes_of, kind_of, items_of};
+
+use std::marker::Model;
+
+use crate::item::Item;
+
+/// The files of one run, the items of each, and how the items are cut into pieces.
+#[derive(Drop)]
+pub struct Plan {
+    kinds: Vec<Vec<u8>>,
+    files: Vec<Vec<u8>>,
+    items: Vec<Vec<Item>>,
+    per_piece: u32,
+    run: u64,
+}
+
+impl Model for Plan {
+    ghost use Rattle.std.specs.Prelude.{map};
+    ghost use Rattle.lx_piece.specs.Plans.{Planned, IsPlan};
+
+    ghost Value = { Planned };
+
+    ghost view = { λ s. record {
+        run = s.run;
+        per_piece = s.per_piece;
+        kinds = map (λ name. name.items) s.kinds.items;
+        texts = map (λ file. file.items) s.files.items;
+        items = map (λ list. list.items) s.items.items;
+    } };
+
+    ghost invariant = { λ s. IsPlan (record {
+        run = s.run;
+        per_piece = s.per_piece;
+        kinds = map (λ name. name.items) s.kinds.items;
+        texts = map (λ file. file.items) s.files.items;
+        items = map (λ list. list.items) s.items.items;
+    }) };
+}
+
+impl Plan {
+    /// A plan of files whose items are given. Each list of `items` is that of the file at its place; the
+    /// items lie in their file and name kinds that are there. `per_piece`, 1 to 4,096, is how many items a
+    /// piece has, and `run` is the number that the pieces carry. It takes no memory.
+    pub fn of_items(
+        kinds: Vec<Vec<u8>>,
+        files: Vec<Vec<u8>>,
+        items: Vec<Vec<Item>>,
+        per_piece: u32,
+        run: u64,
+    ) -> Plan
+        requires { IsPlan (record {
+            run = run;
+            per_piece = per_piece;
+            kinds = map (λ name. name.items) kinds.items;
+            texts = map (λ file. file.items) files.items;
+            items = map (λ list. list.items) items.items;
+        }) }
+        ensures { result ≡ record {
+            run = run;
+            per_piece = per_piece;
+            kinds = map (λ name. name.items) kinds.items;
+            texts = map (λ file. file.items) files.items;
+            items = map (λ list. list.items) items.items;
+        } }
+    {
+        Plan {
+            kinds,
+            files,
+            items,
+            per_piece,
+            run,
+        }
+    }
+
+    /// How many files there are, 1 to 65,536.
+    pub fn files(&self) -> u32
+        ensures count { result ≡ files_of self.now }
+        ensures plan { IsPlan self.now }
+    {
+        self.files.len() as u32
+    }
+
+    /// The bytes of a file.
+    pub fn bytes(&self, file: u32) -> &[u8]
+        requires { file < files_of self.now }
+        ensures { result.now ≡ bytes_of self.now file }
+    {
+        self.files[file as usize].as_slice()
+    }
+
+    /// The name of a kind.
+    pub fn kind(&self, number: u32) -> &[u8]
+        requires { number < length self.now.kinds }
+        ensures { result.now ≡ kind_of self.now number }
+    {
+        self.kinds[number as usize].as_slice()
+    }
+
+    /// The number that the pieces carry.
+    pub(crate) fn run(&self) -> u64
+        ensures { result ≡ self.now.run }
+    {
+        self.run
+    }
+
+    /// The items of a file.
+    pub(crate) fn items(&self, file: u32) -> &[Item]
+        requires { file < files_of self.now }
+        ensures { result.now ≡ items_of self.now file }
+    {
+        self.items[file as usize].as_slice()
+    }
+}
