@@ -1,0 +1,4 @@
+pub mod PlaceLemmas
+pub mod SetLemmas
+pub mod Weights
+pub mod NameLemmas

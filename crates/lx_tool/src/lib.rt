@@ -1,0 +1,5 @@
+// The tool.
+#![tactic(auto)]
+
+pub mod places;
+pub mod matcher;
