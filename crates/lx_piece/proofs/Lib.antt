@@ -7,3 +7,4 @@ pub mod Readies
 pub mod Standing
 pub mod Relays
 pub mod Deliveries
+pub mod Closed
