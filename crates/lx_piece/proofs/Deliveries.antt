@@ -18,18 +18,22 @@ use Rattle.lx_piece.proofs.Prefixes.{takes_in_order}
 use Rattle.lx_piece.proofs.Standing.{known, accepted_last, replies_last}
 use Rattle.lx_piece.proofs.Relays.{nexts, length-nexts, count_at}
 
--- the pieces accepted from an honest list are the plan's
-accepted_planned : (plan : Planned) (accepted came : List Piece) → All (IsPieceOf plan) accepted → AreHonest plan came → All (IsPieceOf plan) (accepted_behind (site_of plan) accepted came)
-accepted_planned plan accepted [] h honest = h
-accepted_planned plan accepted (p ∷ came) h honest =
-    let first = All-head (IsHonest plan) p came honest in
+-- an honest arrival leaves the accepted pieces the plan's
+pub with_planned : (plan : Planned) (accepted : List Piece) (p : Piece) → All (IsPieceOf plan) accepted → IsHonest plan p → All (IsPieceOf plan) (with_arrival (site_of plan) accepted p)
+with_planned plan accepted p h first =
     let go : (cause : Option Why) → cause ≡ cause_against (site_of plan) accepted p → All (IsPieceOf plan) (joined cause accepted p) = elim [
       | None ↦ λ e.
         let k = known (site_of plan) accepted p e in
         All-push (IsPieceOf plan) accepted p h (first (eqb-true p.run plan.run (not-false (nat_eq p.run plan.run) k.0)) (ltb-true p.file (files_of plan) (not-false (nat_lt p.file (files_of plan)) k.1)))
       | Some why ↦ λ e. h
     ] in
-    accepted_planned plan (with_arrival (site_of plan) accepted p) came (go (cause_against (site_of plan) accepted p) refl) (All-tail (IsHonest plan) p came honest)
+    go (cause_against (site_of plan) accepted p) refl
+
+-- the pieces accepted from an honest list are the plan's
+accepted_planned : (plan : Planned) (accepted came : List Piece) → All (IsPieceOf plan) accepted → AreHonest plan came → All (IsPieceOf plan) (accepted_behind (site_of plan) accepted came)
+accepted_planned plan accepted [] h honest = h
+accepted_planned plan accepted (p ∷ came) h honest =
+    accepted_planned plan (with_arrival (site_of plan) accepted p) came (with_planned plan accepted p h (All-head (IsHonest plan) p came honest)) (All-tail (IsHonest plan) p came honest)
 
 -- so is what a collector holds that stands for the list
 pub planned_from : (plan : Planned) (kept : Kept) (came : List Piece) → site_of_kept kept ≡ site_of plan → StandsFor kept came → AreHonest plan came → HoldsPlanned plan kept.lanes
@@ -77,7 +81,7 @@ at_most_delivered site kept came counts e s c =
 pub same_at_most : (counts others : List ℕ) → counts ≡ others → AreAtMost counts others
 same_at_most counts others e = record { files = ap length e; each = λ file. (let f = ap (λ (ns : List ℕ). slice_index ns file) e in omega arith) }
 
-has_more : (site : Site) (accepted : List Piece) (p : Piece) (file j : ℕ) (cause : Option Why) → has_piece file j accepted ≡ true → has_piece file j (joined cause accepted p) ≡ true
+pub has_more : (site : Site) (accepted : List Piece) (p : Piece) (file j : ℕ) (cause : Option Why) → has_piece file j accepted ≡ true → has_piece file j (joined cause accepted p) ≡ true
 has_more site accepted p file j None h = any_last (is_numbered file j) accepted p ∙ or_left (has_piece file j accepted) (is_numbered file j p) h
 has_more site accepted p file j (Some why) h = h
 
@@ -170,19 +174,3 @@ part_at_start plan leads counts some led e =
             absurd (omega arith);
         } in
     record { came = []; led = led; honest = All-nil (IsHonest plan); delivered = delivered; taken = taken_from plan [] counts some (All-nil (IsHonest plan)) delivered }
-
--- where all was delivered, no more than that was
-at_most_all : (site : Site) (came : List Piece) (counts : List ℕ) → AllDelivered site came counts → AtMostDelivered site came counts
-at_most_all site came counts h = record { files = h.files; each = λ file j within l. (h.each file within).below j l }
-
-pub whole : {S : Type 0} (plan : Planned) (leads : S → List Piece → S → Type 0) (goes_on : (s t u : S) (xs ys : List Piece) → leads s xs t → leads t ys u → leads s (xs ++ ys) u) (s t u : S) (kept : Kept) (replies : List Reply) (counts : List ℕ) → 0 < plan.per_piece → SoFar plan (λ came. leads s came t) kept replies → leads t [] u → site_of_kept kept ≡ site_of plan → NoneReady kept.lanes → counts ≡ delivered_counts kept → Relayed plan (λ came. leads s came u) replies counts
-whole plan leads goes_on s t u kept replies counts some so led e ready c =
-    let delivered = all_delivered (site_of plan) kept so.came counts e so.stands ready c in
-    record {
-      came = so.came;
-      led = subst (λ came. leads s came u) (append-nil so.came) (goes_on s t u so.came [] so.led led);
-      honest = so.honest;
-      replied = so.replied;
-      delivered = delivered;
-      taken = taken_from plan so.came counts some so.honest (at_most_all (site_of plan) so.came counts delivered);
-    }

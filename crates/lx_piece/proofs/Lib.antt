@@ -8,3 +8,5 @@ pub mod Standing
 pub mod Relays
 pub mod Deliveries
 pub mod Closed
+pub mod Arrived
+pub mod Whole

@@ -1,9 +1,9 @@
-use Rattle.std.specs.Prelude.{ℕ, ◌≡◌, ◌+◌, ◌<◌, ◌≤◌, true, List, Some, length, slice_index, slice_get}
+use Rattle.std.specs.Prelude.{ℕ, ◌≡◌, ◌+◌, ◌<◌, ◌≤◌, true, List, Some, Contains, length, slice_index, slice_get}
 use Rattle.lx_piece.specs.declared.reply.Reply.{Reply}
 use Rattle.lx_piece.specs.Kept.{Kept, Lane, StandsFor, held_at}
 use Rattle.lx_piece.specs.declared.piece.Piece.{Piece}
 use Rattle.lx_piece.specs.Plans.{Planned, files_of}
-use Rattle.lx_piece.specs.Pieces.{IsPieceOf, TakesInOrder, pieces_of}
+use Rattle.lx_piece.specs.Pieces.{IsPieceOf, TakesInOrder, pieces_of, piece_at}
 use Rattle.lx_piece.specs.Arrivals.{Site, site_of, AreHonest, accepted_of, replies_of, has_piece, IsLeastMissing}
 
 -- p is the piece that a reader with these counts takes next of its file
@@ -26,7 +26,12 @@ pub record AtMostDelivered (site : Site) (came : List Piece) (counts : List ℕ)
   pub files : length counts ≡ site.files
   pub each : (file j : ℕ) → file < site.files → j < slice_index counts file → has_piece file j (accepted_of site came) ≡ true
 
--- what a whole run answered and delivered: the list that came, its replies, all that it delivers, and of each file no more than its pieces
+-- every piece of a file is among these
+abbrev pub AreAllAmong : Planned → ℕ → List Piece → Type 0
+AreAllAmong plan file came = (number : ℕ) → number < pieces_of plan file → Contains came (piece_at plan file number)
+
+-- What a whole run answered and delivered: the list that came, its replies, all that it delivers, and of each
+-- file no more than its pieces. A file of which every piece came was taken whole.
 pub record Relayed (plan : Planned) (leads : List Piece → Type 0) (replies : List Reply) (counts : List ℕ) : Type 0 where
   pub came : List Piece
   pub led : leads came
@@ -34,6 +39,7 @@ pub record Relayed (plan : Planned) (leads : List Piece → Type 0) (replies : L
   pub replied : replies ≡ replies_of (site_of plan) came
   pub delivered : AllDelivered (site_of plan) came counts
   pub taken : TakesAllInOrder plan counts
+  pub whole : (file : ℕ) → file < files_of plan → AreAllAmong plan file came → slice_index counts file ≡ pieces_of plan file
 
 -- what a run that failed delivered: no more than the list taken so far delivers
 pub record RelayedInPart (plan : Planned) (leads : List Piece → Type 0) (counts : List ℕ) : Type 0 where
