@@ -1,34 +1,39 @@
 use Rattle.std.proofs.Common.{ℕ, zero, suc, ◌≡◌, ◌+◌, ◌<◌, ◌≤◌, ◌⊎◌, inl, inr, Bool, true, false, not, ◌||◌, List, [], ◌∷◌, ◌++◌, length, map, Option, Some, None, refl, sym, ◌∙◌, ap, subst, arith, nat_eq, nat_lt, get_or, is_some, replicate}
 use Rattle.std.specs.Prelude.{slice_get, slice_set, slice_index, All, Contains, if◌then◌else◌}
-use Rattle.std.proofs.lemmas.Bool.{both_ways, eqb-true, ltb-true, lt-ltb, le-ltb, or_left, or_from, not-false}
+use Rattle.std.proofs.lemmas.Bool.{both_ways, and_parts, cases_lt, eqb-true, ltb-true, lt-ltb, le-ltb, or_left, or_from, not-false}
 use Rattle.std.proofs.lemmas.Option.{slice_get-get_or}
 use Rattle.std.proofs.lemmas.List.Elements.{All-nil, All-head, All-tail, All-push, All-contains}
 use Rattle.std.proofs.lemmas.List.{get_or-replicate, append-nil, length-replicate}
 use Rattle.lx_piece.specs.declared.piece.Piece.{Piece}
 use Rattle.lx_piece.specs.declared.reply.Why.{Why}
 use Rattle.lx_piece.specs.Plans.{Planned, files_of}
-use Rattle.lx_piece.specs.Pieces.{IsPieceOf}
+use Rattle.lx_piece.specs.Pieces.{IsPieceOf, pieces_of}
 use Rattle.lx_piece.specs.Arrivals.{Site, site_of, IsHonest, AreHonest, IsLeastMissing, accepted_behind, accepted_of, with_arrival, joined, cause_against, has_piece, is_numbered, reply_to, replies_of}
 use Rattle.lx_piece.specs.Kept.{Lane, Kept, LaneStandsFor, StandsFor, NoneReady, site_of_kept, held_at, delivered_counts, is_ready, is_ready_at, fresh_lane}
 use Rattle.lx_piece.specs.declared.reply.Reply.{Reply}
-use Rattle.lx_piece.specs.Relayed.{HoldsPlanned, AllDelivered, AtMostDelivered, AreAtMost, Relayed, RelayedInPart}
+use Rattle.lx_piece.specs.Relayed.{TakesAllInOrder, HoldsPlanned, AllDelivered, AtMostDelivered, AreAtMost, Relayed, RelayedInPart}
 use Rattle.lx_piece.proofs.SoFar.{SoFar}
-use Rattle.lx_piece.proofs.Tests.{any_last}
+use Rattle.lx_piece.proofs.Tests.{any_last, any_of}
+use Rattle.lx_piece.proofs.Prefixes.{takes_in_order}
 use Rattle.lx_piece.proofs.Standing.{known, accepted_last, replies_last}
 use Rattle.lx_piece.proofs.Relays.{nexts, length-nexts, count_at}
 
--- the pieces accepted from an honest list are the plan's
-accepted_planned : (plan : Planned) (accepted came : List Piece) → All (IsPieceOf plan) accepted → AreHonest plan came → All (IsPieceOf plan) (accepted_behind (site_of plan) accepted came)
-accepted_planned plan accepted [] h honest = h
-accepted_planned plan accepted (p ∷ came) h honest =
-    let first = All-head (IsHonest plan) p came honest in
+-- an honest arrival leaves the accepted pieces the plan's
+pub with_planned : (plan : Planned) (accepted : List Piece) (p : Piece) → All (IsPieceOf plan) accepted → IsHonest plan p → All (IsPieceOf plan) (with_arrival (site_of plan) accepted p)
+with_planned plan accepted p h first =
     let go : (cause : Option Why) → cause ≡ cause_against (site_of plan) accepted p → All (IsPieceOf plan) (joined cause accepted p) = elim [
       | None ↦ λ e.
         let k = known (site_of plan) accepted p e in
         All-push (IsPieceOf plan) accepted p h (first (eqb-true p.run plan.run (not-false (nat_eq p.run plan.run) k.0)) (ltb-true p.file (files_of plan) (not-false (nat_lt p.file (files_of plan)) k.1)))
       | Some why ↦ λ e. h
     ] in
-    accepted_planned plan (with_arrival (site_of plan) accepted p) came (go (cause_against (site_of plan) accepted p) refl) (All-tail (IsHonest plan) p came honest)
+    go (cause_against (site_of plan) accepted p) refl
+
+-- the pieces accepted from an honest list are the plan's
+accepted_planned : (plan : Planned) (accepted came : List Piece) → All (IsPieceOf plan) accepted → AreHonest plan came → All (IsPieceOf plan) (accepted_behind (site_of plan) accepted came)
+accepted_planned plan accepted [] h honest = h
+accepted_planned plan accepted (p ∷ came) h honest =
+    accepted_planned plan (with_arrival (site_of plan) accepted p) came (with_planned plan accepted p h (All-head (IsHonest plan) p came honest)) (All-tail (IsHonest plan) p came honest)
 
 -- so is what a collector holds that stands for the list
 pub planned_from : (plan : Planned) (kept : Kept) (came : List Piece) → site_of_kept kept ≡ site_of plan → StandsFor kept came → AreHonest plan came → HoldsPlanned plan kept.lanes
@@ -76,7 +81,7 @@ at_most_delivered site kept came counts e s c =
 pub same_at_most : (counts others : List ℕ) → counts ≡ others → AreAtMost counts others
 same_at_most counts others e = record { files = ap length e; each = λ file. (let f = ap (λ (ns : List ℕ). slice_index ns file) e in omega arith) }
 
-has_more : (site : Site) (accepted : List Piece) (p : Piece) (file j : ℕ) (cause : Option Why) → has_piece file j accepted ≡ true → has_piece file j (joined cause accepted p) ≡ true
+pub has_more : (site : Site) (accepted : List Piece) (p : Piece) (file j : ℕ) (cause : Option Why) → has_piece file j accepted ≡ true → has_piece file j (joined cause accepted p) ≡ true
 has_more site accepted p file j None h = any_last (is_numbered file j) accepted p ∙ or_left (has_piece file j accepted) (is_numbered file j p) h
 has_more site accepted p file j (Some why) h = h
 
@@ -125,23 +130,47 @@ so_far_with plan leads goes_on s t u old new replies p reply so led honest e ans
 pub so_far_still : (plan : Planned) (leads : List Piece → Type 0) (old new : Kept) (replies : List Reply) → SoFar plan leads old replies → ((came : List Piece) → StandsFor old came → StandsFor new came) → SoFar plan leads new replies
 so_far_still plan leads old new replies so stands = record { came = so.came; led = so.led; honest = so.honest; replied = so.replied; stands = stands so.came so.stands }
 
-pub in_part : (plan : Planned) (leads : List Piece → Type 0) (kept : Kept) (replies : List Reply) (counts : List ℕ) → SoFar plan leads kept replies → site_of_kept kept ≡ site_of plan → AreAtMost counts (delivered_counts kept) → RelayedInPart (site_of plan) leads counts
-in_part plan leads kept replies counts so e c = record { came = so.came; led = so.led; delivered = at_most_delivered (site_of plan) kept so.came counts e so.stands c }
+-- of each file no more was taken than its pieces
+pub taken_from : (plan : Planned) (came : List Piece) (counts : List ℕ) → 0 < plan.per_piece → AreHonest plan came → AtMostDelivered (site_of plan) came counts → TakesAllInOrder plan counts
+taken_from plan came counts some honest h =
+    let within : (file : ℕ) → file < files_of plan → slice_index counts file ≤ pieces_of plan file = λ file l.
+        elim (cases_lt (pieces_of plan file) (slice_index counts file)) [
+          | inl more ↦
+            let found = any_of (IsPieceOf plan) (is_numbered file (pieces_of plan file)) (accepted_of (site_of plan) came)
+                (accepted_planned plan [] came (All-nil (IsPieceOf plan)) honest) (h.each file (pieces_of plan file) l more) in
+            let at = and_parts (nat_eq found.0.file file) (nat_eq found.0.number (pieces_of plan file)) found.2 in
+            let below = subst (λ (f : ℕ). found.0.number < pieces_of plan f) (eqb-true found.0.file file at.0) found.1.number in
+            let same = eqb-true found.0.number (pieces_of plan file) at.1 in
+            absurd (omega arith)
+          | inr less ↦ less
+        ] in
+    record { within = within; each = λ file l. takes_in_order plan file (slice_index counts file) some (within file l) }
+
+pub in_part : (plan : Planned) (leads : List Piece → Type 0) (kept : Kept) (replies : List Reply) (counts : List ℕ) → 0 < plan.per_piece → SoFar plan leads kept replies → site_of_kept kept ≡ site_of plan → AreAtMost counts (delivered_counts kept) → RelayedInPart plan leads counts
+in_part plan leads kept replies counts some so e c =
+    let delivered = at_most_delivered (site_of plan) kept so.came counts e so.stands c in
+    record { came = so.came; led = so.led; honest = so.honest; delivered = delivered; taken = taken_from plan so.came counts some so.honest delivered }
 
 -- an arrival that no reply was given to
-pub in_part_with : {S : Type 0} (plan : Planned) (leads : S → List Piece → S → Type 0) (goes_on : (s t u : S) (xs ys : List Piece) → leads s xs t → leads t ys u → leads s (xs ++ ys) u) (s t u : S) (kept : Kept) (replies : List Reply) (counts : List ℕ) (p : Piece) → SoFar plan (λ came. leads s came t) kept replies → leads t (p ∷ []) u → site_of_kept kept ≡ site_of plan → counts ≡ delivered_counts kept → RelayedInPart (site_of plan) (λ came. leads s came u) counts
-in_part_with plan leads goes_on s t u kept replies counts p so led e c =
+pub in_part_with : {S : Type 0} (plan : Planned) (leads : S → List Piece → S → Type 0) (goes_on : (s t u : S) (xs ys : List Piece) → leads s xs t → leads t ys u → leads s (xs ++ ys) u) (s t u : S) (kept : Kept) (replies : List Reply) (counts : List ℕ) (p : Piece) → 0 < plan.per_piece → SoFar plan (λ came. leads s came t) kept replies → leads t (p ∷ []) u → IsHonest plan p → site_of_kept kept ≡ site_of plan → counts ≡ delivered_counts kept → RelayedInPart plan (λ came. leads s came u) counts
+in_part_with plan leads goes_on s t u kept replies counts p some so led honest e c =
+    let delivered = at_most_delivered (site_of plan) kept so.came counts e so.stands (same_at_most counts (delivered_counts kept) c) in
     record {
       came = so.came ++ p ∷ [];
       led = goes_on s t u so.came (p ∷ []) so.led led;
-      delivered = at_most_more (site_of plan) so.came counts p (at_most_delivered (site_of plan) kept so.came counts e so.stands (same_at_most counts (delivered_counts kept) c));
+      honest = All-push (IsHonest plan) so.came p so.honest honest;
+      delivered = at_most_more (site_of plan) so.came counts p delivered;
+      taken = taken_from plan so.came counts some so.honest delivered;
     }
 
-pub whole : {S : Type 0} (plan : Planned) (leads : S → List Piece → S → Type 0) (goes_on : (s t u : S) (xs ys : List Piece) → leads s xs t → leads t ys u → leads s (xs ++ ys) u) (s t u : S) (kept : Kept) (replies : List Reply) (counts : List ℕ) → SoFar plan (λ came. leads s came t) kept replies → leads t [] u → site_of_kept kept ≡ site_of plan → NoneReady kept.lanes → counts ≡ delivered_counts kept → Relayed (site_of plan) (λ came. leads s came u) replies counts
-whole plan leads goes_on s t u kept replies counts so led e ready c =
-    record {
-      came = so.came;
-      led = subst (λ came. leads s came u) (append-nil so.came) (goes_on s t u so.came [] so.led led);
-      replied = so.replied;
-      delivered = all_delivered (site_of plan) kept so.came counts e so.stands ready c;
-    }
+-- before anything came nothing was taken
+pub part_at_start : (plan : Planned) (leads : List Piece → Type 0) (counts : List ℕ) → 0 < plan.per_piece → leads [] → counts ≡ replicate (files_of plan) 0 → RelayedInPart plan leads counts
+part_at_start plan leads counts some led e =
+    let delivered : AtMostDelivered (site_of plan) [] counts =
+        record {
+          files = ap length e ∙ length-replicate (files_of plan) 0;
+          each = λ file j within l.
+            let none : slice_index counts file ≡ 0 = ap (λ (ns : List ℕ). slice_index ns file) e ∙ get_or-replicate (files_of plan) file 0 0 within in
+            absurd (omega arith);
+        } in
+    record { came = []; led = led; honest = All-nil (IsHonest plan); delivered = delivered; taken = taken_from plan [] counts some (All-nil (IsHonest plan)) delivered }

@@ -10,11 +10,11 @@ use Rattle.lx_piece.specs.Arrivals.{has_piece, has_closing, closes_before, is_la
 use Rattle.lx_piece.specs.Kept.{Lane, LaneStandsFor, held_at, has_number, is_number, closed_before}
 use Rattle.lx_piece.proofs.Tests.{same_tests, any_witness}
 
-number_closes : (o : Option ℕ) (m n : ℕ) → is_number o m ≡ true → nat_lt m n ≡ true → closed_before o n ≡ true
+pub number_closes : (o : Option ℕ) (m n : ℕ) → is_number o m ≡ true → nat_lt m n ≡ true → closed_before o n ≡ true
 number_closes None m n h l = absurd (both_ways false refl h)
 number_closes (Some k) m n h l = ap (λ i. nat_lt i n) (eqb-true k m h) ∙ l
 
-closing_number : (o : Option ℕ) (n : ℕ) → closed_before o n ≡ true → (m : ℕ) × (is_number o m ≡ true) × (nat_lt m n ≡ true)
+pub closing_number : (o : Option ℕ) (n : ℕ) → closed_before o n ≡ true → (m : ℕ) × (is_number o m ≡ true) × (nat_lt m n ≡ true)
 closing_number None n h = absurd (both_ways false refl h)
 closing_number (Some k) n h = (k, eq-eqb k k refl, h)
 

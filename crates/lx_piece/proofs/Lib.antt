@@ -1,8 +1,12 @@
 pub mod SoFar
 pub mod Tests
+pub mod Prefixes
 pub mod Lanes
 pub mod Stands
 pub mod Readies
 pub mod Standing
 pub mod Relays
 pub mod Deliveries
+pub mod Closed
+pub mod Arrived
+pub mod Whole

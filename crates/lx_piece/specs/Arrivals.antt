@@ -90,6 +90,10 @@ replies_behind site accepted (p ∷ came) =
 abbrev pub replies_of : Site → List Piece → List Reply
 replies_of site came = replies_behind site [] came
 
+-- among the first pieces of the file, this many, a closing one was accepted
+abbrev pub IsClosedBelow : List Piece → ℕ → ℕ → Type 0
+IsClosedBelow accepted file count = (n : ℕ) × (n < count) × (has_closing file n accepted ≡ true)
+
 -- k is the least number of the file that isn't accepted
 pub record IsLeastMissing (accepted : List Piece) (file k : ℕ) : Type 0 where
   pub below : (j : ℕ) → j < k → has_piece file j accepted ≡ true

@@ -1,5 +1,6 @@
-use Rattle.std.specs.Prelude.{ℕ, zero, suc, ◌≡◌, ◌+◌, ◌*◌, ◌-◌, ◌/◌, ◌<◌, ◌==◌, Bool, List, [], ◌∷◌, ◌++◌, length, take, drop, max}
-use Rattle.std.specs.List.{flat_map}
+use Rattle.std.specs.Prelude.{ℕ, zero, suc, ◌≡◌, ◌+◌, ◌*◌, ◌<◌, ◌==◌, ◌↔◌, Bool, true, List, [], ◌∷◌, ◌++◌, length, take, drop, max}
+use Rattle.std.specs.Int.{div_ceil}
+use Rattle.std.specs.List.{flat_map, list_any}
 use Rattle.lx_piece.specs.declared.item.Item.{Item}
 use Rattle.lx_piece.specs.declared.piece.Piece.{Piece}
 use Rattle.lx_piece.specs.Plans.{Planned, files_of, items_of}
@@ -12,9 +13,9 @@ is_closing piece = piece.last
 abbrev pub top_number : ℕ
 top_number = 18446744073709551615
 
--- how many pieces a list of items makes: one at least, and no more than hold all
+-- how many pieces a list of items makes: one at least
 abbrev pub piece_count : ℕ → List Item → ℕ
-piece_count per_piece items = max 1 ((length items + (per_piece - 1)) / per_piece)
+piece_count per_piece items = max 1 (div_ceil (length items) per_piece)
 
 -- how many pieces a file has
 abbrev pub pieces_of : Planned → ℕ → ℕ
@@ -45,3 +46,23 @@ pub record IsPieceOf (plan : Planned) (p : Piece) : Type 0 where
   pub number : p.number < pieces_of plan p.file
   pub countable : p.number < top_number
   pub whole : p ≡ piece_at plan p.file p.number
+
+-- the pieces of a file from 0 on, this many
+abbrev pub pieces_to : Planned → ℕ → ℕ → List Piece
+pieces_to plan file zero = []
+pieces_to plan file (suc count) = pieces_to plan file count ++ piece_at plan file count ∷ []
+
+-- the items of pieces, one piece after the other
+abbrev pub contents : List Piece → List Item
+contents pieces = flat_map (λ (piece : Piece). piece.items) pieces
+
+-- the first begins the second
+abbrev pub IsPrefix : {X : Type 0} → List X → List X → Type 0
+IsPrefix {X} xs ys = (rest : List X) × (xs ++ rest ≡ ys)
+
+-- What is taken of a file by its first pieces: a prefix of its items. The closing piece is among them exactly
+-- where they are all of the file's pieces, and then it is all of the items.
+pub record TakesInOrder (plan : Planned) (file count : ℕ) : Type 0 where
+  pub prefix : IsPrefix (contents (pieces_to plan file count)) (items_of plan file)
+  pub closed : (list_any is_closing (pieces_to plan file count) ≡ true) ↔ (count ≡ pieces_of plan file)
+  pub whole : list_any is_closing (pieces_to plan file count) ≡ true → contents (pieces_to plan file count) ≡ items_of plan file

@@ -1,15 +1,20 @@
-use Rattle.std.specs.Prelude.{ℕ, ◌≡◌, ◌+◌, ◌<◌, ◌≤◌, true, List, Some, length, slice_index, slice_get}
+use Rattle.std.specs.Prelude.{ℕ, ◌≡◌, ◌+◌, ◌<◌, ◌≤◌, true, List, Some, Contains, length, slice_index, slice_get}
 use Rattle.lx_piece.specs.declared.reply.Reply.{Reply}
 use Rattle.lx_piece.specs.Kept.{Kept, Lane, StandsFor, held_at}
 use Rattle.lx_piece.specs.declared.piece.Piece.{Piece}
 use Rattle.lx_piece.specs.Plans.{Planned, files_of}
-use Rattle.lx_piece.specs.Pieces.{IsPieceOf}
+use Rattle.lx_piece.specs.Pieces.{IsPieceOf, TakesInOrder, pieces_of, piece_at}
 use Rattle.lx_piece.specs.Arrivals.{Site, site_of, AreHonest, accepted_of, replies_of, has_piece, IsLeastMissing}
 
 -- p is the piece that a reader with these counts takes next of its file
 pub record IsNextPiece (plan : Planned) (counts : List ℕ) (p : Piece) : Type 0 where
   pub planned : IsPieceOf plan p
   pub number : p.number ≡ slice_index counts p.file
+
+-- of each file the pieces taken are some of its first ones, and so in order and none twice
+pub record TakesAllInOrder (plan : Planned) (counts : List ℕ) : Type 0 where
+  pub within : (file : ℕ) → file < files_of plan → slice_index counts file ≤ pieces_of plan file
+  pub each : (file : ℕ) → file < files_of plan → TakesInOrder plan file (slice_index counts file)
 
 -- the counts are, for each file, the least number that isn't accepted
 pub record AllDelivered (site : Site) (came : List Piece) (counts : List ℕ) : Type 0 where
@@ -21,18 +26,28 @@ pub record AtMostDelivered (site : Site) (came : List Piece) (counts : List ℕ)
   pub files : length counts ≡ site.files
   pub each : (file j : ℕ) → file < site.files → j < slice_index counts file → has_piece file j (accepted_of site came) ≡ true
 
--- what a whole run answered and delivered: the list that came, its replies, and all that it delivers
-pub record Relayed (site : Site) (leads : List Piece → Type 0) (replies : List Reply) (counts : List ℕ) : Type 0 where
+-- every piece of a file is among these
+abbrev pub AreAllAmong : Planned → ℕ → List Piece → Type 0
+AreAllAmong plan file came = (number : ℕ) → number < pieces_of plan file → Contains came (piece_at plan file number)
+
+-- What a whole run answered and delivered: the list that came, its replies, all that it delivers, and of each
+-- file no more than its pieces. A file of which every piece came was taken whole.
+pub record Relayed (plan : Planned) (leads : List Piece → Type 0) (replies : List Reply) (counts : List ℕ) : Type 0 where
   pub came : List Piece
   pub led : leads came
-  pub replied : replies ≡ replies_of site came
-  pub delivered : AllDelivered site came counts
+  pub honest : AreHonest plan came
+  pub replied : replies ≡ replies_of (site_of plan) came
+  pub delivered : AllDelivered (site_of plan) came counts
+  pub taken : TakesAllInOrder plan counts
+  pub whole : (file : ℕ) → file < files_of plan → AreAllAmong plan file came → slice_index counts file ≡ pieces_of plan file
 
 -- what a run that failed delivered: no more than the list taken so far delivers
-pub record RelayedInPart (site : Site) (leads : List Piece → Type 0) (counts : List ℕ) : Type 0 where
+pub record RelayedInPart (plan : Planned) (leads : List Piece → Type 0) (counts : List ℕ) : Type 0 where
   pub came : List Piece
   pub led : leads came
-  pub delivered : AtMostDelivered site came counts
+  pub honest : AreHonest plan came
+  pub delivered : AtMostDelivered (site_of plan) came counts
+  pub taken : TakesAllInOrder plan counts
 
 -- each held piece is the plan's piece of its file and number
 pub record HoldsPlanned (plan : Planned) (lanes : List Lane) : Type 0 where

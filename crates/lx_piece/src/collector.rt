@@ -1,8 +1,8 @@
-ghost use Rattle.std.specs.Prelude.{◌≡◌, ◌<◌, ◌≤◌, ◌⊎◌, ℕ, List, [], ◌∷◌, ◌++◌, length, MatchOption, MatchResult, OnOk, IfErr, IfOk, IfNone, IsTrue, slice_get, false, true, All, replicate, ◌↔◌, Some, None};
+ghost use Rattle.std.specs.Prelude.{◌≡◌, ◌<◌, ◌≤◌, ◌⊎◌, ℕ, List, [], ◌∷◌, ◌++◌, length, MatchOption, MatchResult, OnOk, IfErr, IfOk, IfNone, IsTrue, slice_get, slice_index, false, true, All, replicate, ◌↔◌, Some, None};
 ghost use Rattle.lx_piece.specs.declared.piece.Piece.{Piece};
-ghost use Rattle.lx_piece.specs.Arrivals.{cause_against, accepted_of, has_closing};
+ghost use Rattle.lx_piece.specs.Arrivals.{cause_against, accepted_of, IsClosedBelow};
 ghost use Rattle.lx_piece.specs.Pieces.{top_number};
-ghost use Rattle.lx_piece.specs.Kept.{Lane, StandsFor, Delivers, NoneReady, KeepsIn, IsReadySet, fresh_lane, has_number, is_lane_closed, site_of_kept};
+ghost use Rattle.lx_piece.specs.Kept.{Lane, StandsFor, Delivers, NoneReady, KeepsIn, IsReadySet, fresh_lane, has_number, is_lane_closed, delivered_counts, site_of_kept};
 
 use std::alloc::{AllocError, Global};
 use std::collections::BTreeSet;
@@ -149,18 +149,22 @@ impl Collector {
         deliver_lowest(&mut self.lanes, &mut self.ready)
     }
 
-    /// The file's closing piece was delivered.
+    /// The closing piece of the file was delivered.
     pub fn is_closed(&self, file: u32) -> bool
         requires { file < length self.now.lanes }
-        ensures { (lane : Lane) → slice_get self.now.lanes file ≡ Some lane → result ≡ is_lane_closed lane }
+        ensures lane { (lane : Lane) → slice_get self.now.lanes file ≡ Some lane → result ≡ is_lane_closed lane }
+        ensures closed { (came : List Piece) → StandsFor self.now came → IsTrue result ↔
+            IsClosedBelow (accepted_of (site_of_kept self.now) came) file (slice_index (delivered_counts self.now) file) }
     {
         let lane = &self.lanes[file as usize];
         lane.is_closed()
     }
 
-    /// Every file's closing piece was delivered.
+    /// The closing piece of each file was delivered.
     pub fn all_closed(&self) -> bool
-        ensures { IsTrue result ↔ All (λ lane. is_lane_closed lane ≡ true) self.now.lanes }
+        ensures lanes { IsTrue result ↔ All (λ lane. is_lane_closed lane ≡ true) self.now.lanes }
+        ensures closed { (came : List Piece) → StandsFor self.now came → IsTrue result ↔ ((file : ℕ) → file < length self.now.lanes →
+            IsClosedBelow (accepted_of (site_of_kept self.now) came) file (slice_index (delivered_counts self.now) file)) }
     {
         all_lanes_closed(&self.lanes)
     }

@@ -4,6 +4,7 @@
 
 mod arrivals;
 mod collector;
+mod cutter;
 mod item;
 mod lane;
 mod list_arrivals;
@@ -15,6 +16,7 @@ mod reply;
 
 pub use arrivals::Arrivals;
 pub use collector::Collector;
+pub use cutter::{Cutter, takes_in_order};
 pub use item::{Item, Items, Kind};
 pub use list_arrivals::ListArrivals;
 pub use piece::Piece;

@@ -104,6 +104,15 @@ impl Plan {
         self.run
     }
 
+    /// How many items a piece has, 1 to 4,096.
+    pub(crate) fn per_piece(&self) -> u32
+        ensures count { result ≡ self.now.per_piece }
+        ensures some { 0 < result }
+        ensures few { result ≤ 4096 }
+    {
+        self.per_piece
+    }
+
     /// The items of a file.
     pub(crate) fn items(&self, file: u32) -> &[Item]
         requires { file < files_of self.now }

@@ -2,7 +2,7 @@ ghost use Rattle.std.specs.Prelude.{◌≡◌, ◌<◌, List, [], ◌∷◌, ◌
 ghost use Rattle.lx_piece.specs.declared.piece.Piece.{Piece};
 ghost use Rattle.lx_piece.specs.Plans.{files_of};
 ghost use Rattle.lx_piece.specs.Pieces.{top_number};
-ghost use Rattle.lx_piece.specs.Arrivals.{site_of, accepted_of, replies_of, reply_to};
+ghost use Rattle.lx_piece.specs.Arrivals.{accepted_of, replies_of, reply_to};
 ghost use Rattle.lx_piece.specs.Kept.{StandsFor, NoneReady, site_of_kept, delivered_counts};
 ghost use Rattle.lx_piece.specs.Relayed.{Relayed, RelayedInPart, HoldsPlanned, AreAtMost};
 
@@ -105,10 +105,10 @@ pub fn relay<A: Arrivals, R: Reader>(
     // All arrivals came. The replies are those to the list that came, and of each file the reader took
     // the pieces below the least number that wasn't accepted.
     ensures ended { OnOk result (A.has_ended arrivals.new) }
-    ensures ok { IfOk result (λ replies. Relayed (site_of plan.now) (λ came. A.leads arrivals.old came arrivals.new) replies.items (R.counts reader.new)) }
+    ensures ok { IfOk result (λ replies. Relayed plan.now (λ came. A.leads arrivals.old came arrivals.new) replies.items (R.counts reader.new)) }
 
     // After a fault it took no more than those of the list that came so far.
-    ensures err { OnErr result (RelayedInPart (site_of plan.now) (λ came. A.leads arrivals.old came arrivals.new) (R.counts reader.new)) }
+    ensures err { OnErr result (RelayedInPart plan.now (λ came. A.leads arrivals.old came arrivals.new) (R.counts reader.new)) }
     ensures follows { R.follows reader.old reader.new }
     ensures plan { R.plan reader.new ≡ R.plan reader.old }
     ensures arrivals_plan { A.plan arrivals.new ≡ A.plan arrivals.old }

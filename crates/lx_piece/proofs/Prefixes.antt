@@ -1,0 +1,68 @@
+use Rattle.std.proofs.Common.{ℕ, zero, suc, ◌≡◌, ◌+◌, ◌*◌, ◌<◌, ◌≤◌, ◌⊎◌, inl, inr, ◌↔◌, Bool, true, false, ◌||◌, List, [], ◌∷◌, ◌++◌, length, take, drop, max, refl, sym, ◌∙◌, ap, subst, arith, nat_eq, append-nil, All}
+use Rattle.std.specs.Prelude.{slice_index}
+use Rattle.std.specs.List.{list_any, flat_map}
+use Rattle.std.specs.Int.{div_ceil}
+use Rattle.std.proofs.lemmas.Bool.{both_ways, eq-eqb, ne_eqb, eqb-true, or_right, or_from, ltb-true, cases_lt}
+use Rattle.std.proofs.lemmas.List.{take-append-drop, take_all}
+use Rattle.std.proofs.lemmas.List.Elements.{All-nil, All-contains}
+use Rattle.std.proofs.lemmas.Grind.{div_ceil_times, flat_map-append}
+use Rattle.std.proofs.Math.Seq.{take-add}
+use Rattle.std.proofs.Math.Nat.{suc-mul, mul-le-mul_right, zero-mul}
+use Rattle.lx_piece.specs.declared.item.Item.{Item}
+use Rattle.lx_piece.specs.declared.piece.Piece.{Piece}
+use Rattle.lx_piece.specs.Plans.{Planned, IsPlan, files_of, items_of}
+use Rattle.lx_piece.specs.Pieces.{is_closing, IsPieceOf, piece_at, pieces_of, piece_count, pieces_to, contents, part, IsPrefix, TakesInOrder}
+use Rattle.lx_piece.proofs.Tests.{any_last}
+
+-- the first pieces hold the first items
+pub contents_to : (plan : Planned) (file count : ℕ) → contents (pieces_to plan file count) ≡ take (count * plan.per_piece) (items_of plan file)
+contents_to plan file zero = rw zero-mul refl
+contents_to plan file (suc count) =
+    flat_map-append (λ (piece : Piece). piece.items) (pieces_to plan file count) (piece_at plan file count ∷ [])
+    ∙ ap (λ items. items ++ (part plan.per_piece (items_of plan file) count ++ [])) (contents_to plan file count)
+    ∙ ap (λ items. take (count * plan.per_piece) (items_of plan file) ++ items) (append-nil (part plan.per_piece (items_of plan file) count))
+    ∙ sym (ap (λ n. take n (items_of plan file)) (suc-mul count plan.per_piece) ∙ take-add (count * plan.per_piece) plan.per_piece (items_of plan file))
+
+pub prefix_to : (plan : Planned) (file count : ℕ) → IsPrefix (contents (pieces_to plan file count)) (items_of plan file)
+prefix_to plan file count =
+    (drop (count * plan.per_piece) (items_of plan file), ap (λ items. items ++ drop (count * plan.per_piece) (items_of plan file)) (contents_to plan file count) ∙ take-append-drop (count * plan.per_piece) (items_of plan file))
+
+-- no piece before the last one is marked
+pub open_below : (plan : Planned) (file count : ℕ) → count < pieces_of plan file → list_any is_closing (pieces_to plan file count) ≡ false
+open_below plan file zero l = refl
+open_below plan file (suc count) l =
+    any_last is_closing (pieces_to plan file count) (piece_at plan file count)
+    ∙ or_from (list_any is_closing (pieces_to plan file count)) (nat_eq (count + 1) (pieces_of plan file)) (open_below plan file count (omega arith)) (ne_eqb (count + 1) (pieces_of plan file) (λ e. absurd (omega arith)))
+
+-- the last one is
+pub closed_at : (plan : Planned) (file count : ℕ) → count ≡ pieces_of plan file → list_any is_closing (pieces_to plan file count) ≡ true
+closed_at plan file zero e = absurd (omega arith)
+closed_at plan file (suc count) e =
+    any_last is_closing (pieces_to plan file count) (piece_at plan file count)
+    ∙ or_right (list_any is_closing (pieces_to plan file count)) (nat_eq (count + 1) (pieces_of plan file)) (eq-eqb (count + 1) (pieces_of plan file) (omega arith))
+
+-- all pieces hold all items
+pub pieces_hold : (per_piece : ℕ) (items : List Item) → 0 < per_piece → length items ≤ piece_count per_piece items * per_piece
+pieces_hold per_piece items some =
+    let whole = (div_ceil_times (length items) per_piece some).0 in
+    let more = mul-le-mul_right per_piece (let l : div_ceil (length items) per_piece ≤ max 1 (div_ceil (length items) per_piece) = omega arith in l) in
+    omega arith
+
+pub whole_at : (plan : Planned) (file count : ℕ) → 0 < plan.per_piece → count ≡ pieces_of plan file → contents (pieces_to plan file count) ≡ items_of plan file
+whole_at plan file count some e =
+    contents_to plan file count
+    ∙ ap (λ n. take (n * plan.per_piece) (items_of plan file)) e
+    ∙ take_all (pieces_of plan file * plan.per_piece) (items_of plan file) (pieces_hold plan.per_piece (items_of plan file) some)
+
+pub takes_in_order : (plan : Planned) (file count : ℕ) → 0 < plan.per_piece → count ≤ pieces_of plan file → TakesInOrder plan file count
+takes_in_order plan file count some within =
+    let all : list_any is_closing (pieces_to plan file count) ≡ true → count ≡ pieces_of plan file = λ closed.
+        elim (cases_lt count (pieces_of plan file)) [
+          | inl below ↦ absurd (both_ways (list_any is_closing (pieces_to plan file count)) (open_below plan file count below) closed)
+          | inr above ↦ omega arith
+        ] in
+    record {
+      prefix = prefix_to plan file count;
+      closed = (all, closed_at plan file count);
+      whole = λ closed. whole_at plan file count some (all closed);
+    }
