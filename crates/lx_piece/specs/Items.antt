@@ -1,6 +1,6 @@
 use Rattle.std.specs.Prelude.{ℕ, ◌+◌, ◌<◌, ◌≤◌, List, length, slice_range}
-use Rattle.lx_piece.specs.declared.item.Kind.{Kind}
-use Rattle.lx_piece.specs.declared.item.Kind.TheVariants.{Name, Number}
+use Rattle.lx_spec.specs.declared.rule.Kind.{Kind}
+use Rattle.lx_spec.specs.declared.rule.Kind.TheVariants.{Name, Number}
 use Rattle.lx_piece.specs.declared.item.Item.{Item}
 use Rattle.lx_piece.specs.declared.item.Item.TheVariants.{Token, Echo}
 

@@ -1,15 +1,7 @@
 ghost use Rattle.std.specs.Prelude.{◌≡◌};
 
+use lx_spec::rule::Kind;
 use std::marker::Model;
-
-/// What a token is.
-#[derive(Clone, Copy, Debug, PartialEq, Eq)]
-pub enum Kind {
-    /// A place, from 0, in the list of names that a rule of the specification returns.
-    Name(u32),
-    /// A number that a rule returns.
-    Number(u32),
-}
 
 /// What a scanner gives at one place of a file. `start` is the place of its first byte, from 0, and `len`
 /// how many bytes it has.
