@@ -1,4 +1,7 @@
 pub mod PlaceLemmas
 pub mod SetLemmas
 pub mod Weights
+pub mod Best
 pub mod NameLemmas
+pub mod Steps
+pub mod Runs

@@ -13,10 +13,10 @@ use Rattle.std.proofs.Common.{slice_index, nat_lt, nat_eq, ltb-true, lt-ltb, ap�
 use Rattle.std.proofs.lemmas.Map.Keys.{any_passes_from_place}
 use Rattle.std.proofs.lemmas.Map.Views.{length-le_from_below}
 use Rattle.std.proofs.lemmas.Option.{slice_get-get_or}
-use Rattle.std.proofs.Common.{get_or, eq-eqb, ne_eqb}
+use Rattle.std.proofs.Common.{get_or, eq-eqb, ne_eqb, eqb-true, take-append-drop, length-take-le}
 use Rattle.lx_ere.specs.Regex.{one_of}
 use Rattle.lx_ere.specs.Matching.{Splits, Repeats, RepeatsBetween, Matches}
-use Rattle.lx_tool.specs.Places.{Between, IsReached, AreEnds, AreWithin, AnyNumber, AtMost, AreBehind, is_byte_at}
+use Rattle.lx_tool.specs.Places.{Between, IsReached, AreEnds, AreWithin, AnyNumber, AtMost, AreBehind, AreLengths, is_byte_at}
 use Rattle.lx_tool.proofs.SetLemmas.{is_empty, at_number}
 
 -- ---- words
@@ -291,3 +291,22 @@ closing_falls text old new fresh fresh' more count ordered within =
     falls_by : (most m n k : ℕ) → n ≤ most → n ≡ m + k → 2 * (most - n) + (if nat_eq k 0 then 0 else 1) < 2 * (most - m) + 1
     falls_by most m n zero h e = omega arith
     falls_by most m n (suc k) h e = let test : nat_eq (suc k) 0 ≡ false = ne_eqb (suc k) 0 (λ z. absurd (omega (arith, z))) in rw test (omega arith)
+
+-- ---- from the front of a text
+pub lengths_from_ends : (L : List ℕ → Type 0) (text : List ℕ) (front ends : BTreeSet ℕ) → ((j : ℕ) → contains nat_cmp front j ≡ nat_eq j 0) → AreEnds L text front ends → AreLengths L text ends
+lengths_from_ends L text front ends only e = record {
+  within = λ n h. ends_within L text front ends (λ j g. let z : j ≡ 0 = eqb-true j 0 (sym (only j) ∙ g) in omega arith) e n h;
+  sound = λ n h. let r = e.sound n h in let b = r.between in
+    let z : r.from ≡ 0 = eqb-true (r.from) 0 (sym (only (r.from)) ∙ r.start) in
+    let long : n ≡ length (b.word) = (let f = b.end in omega arith) in
+    let there : text ≡ b.word ++ b.rest = subst (λ (i : ℕ). drop i text ≡ b.word ++ b.rest) z (b.there) in
+    subst L (sym (ap₂ (λ (k : ℕ) (t : List ℕ). take k t) long there ∙ take_front (b.word) (b.rest))) (b.matches);
+  whole = λ n le m. e.whole n (record {
+    from = 0; start = only 0;
+    between = record { word = take n text; rest = drop n text; matches = m; there = sym (take-append-drop n text); end = let h : length (take n text) ≡ n = length-take-le n text le in omega arith };
+  });
+}
+  where
+    take_front : (u v : List ℕ) → take (length u) (u ++ v) ≡ u
+    take_front [] v = refl
+    take_front (x ∷ u) v = ap (λ (w : List ℕ). x ∷ w) (take_front u v)

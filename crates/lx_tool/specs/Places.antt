@@ -1,5 +1,5 @@
 -- What lies between two places of a text, and the places that words lead to.
-use Rattle.std.specs.Prelude.{◌≡◌, ℕ, ◌+◌, ◌≤◌, true, false, Bool, ◌&&◌, nat_lt, List, ◌++◌, length, drop, slice_index}
+use Rattle.std.specs.Prelude.{◌≡◌, ℕ, ◌+◌, ◌≤◌, true, false, Bool, ◌&&◌, nat_lt, List, ◌++◌, length, take, drop, slice_index}
 use Rattle.std.specs.FinSet as set
 use Rattle.std.specs.Ordering.{nat_cmp}
 use Rattle.std.specs.BTreeSet.{BTreeSet, contains}
@@ -23,6 +23,12 @@ pub record IsReached (L : List ℕ → Type 0) (text : List ℕ) (starts : BTree
 pub record AreEnds (L : List ℕ → Type 0) (text : List ℕ) (starts ends : BTreeSet ℕ) : Type 0 where
   pub sound : (j : ℕ) → contains nat_cmp ends j ≡ true → IsReached L text starts j
   pub whole : (j : ℕ) → IsReached L text starts j → contains nat_cmp ends j ≡ true
+
+-- the lengths of the words of the language with which the text begins
+pub record AreLengths (L : List ℕ → Type 0) (text : List ℕ) (lengths : BTreeSet ℕ) : Type 0 where
+  pub within : (n : ℕ) → contains nat_cmp lengths n ≡ true → n ≤ length text
+  pub sound : (n : ℕ) → contains nat_cmp lengths n ≡ true → L (take n text)
+  pub whole : (n : ℕ) → n ≤ length text → L (take n text) → contains nat_cmp lengths n ≡ true
 
 -- each place is one of the text, or its end
 abbrev pub AreWithin : List ℕ → BTreeSet ℕ → Type 0

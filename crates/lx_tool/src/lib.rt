@@ -1,5 +1,7 @@
 // The tool.
 #![tactic(auto)]
 
-pub mod places;
+pub mod choice;
 pub mod matcher;
+pub mod places;
+pub mod scanner;

@@ -1,0 +1,6 @@
+use Rattle.std.proofs.Common.{ℕ}
+use Rattle.lx_tool.proofs.Best.{Best}
+use Rattle.lx_tool.proofs.choice.choose.Given as goal
+
+abbrev pub invariant-loop-i : goal.invariant-loop-i
+invariant-loop-i l = Best l.spec l.condition l.begin l.text l.i l.best_reach l.best

@@ -1,0 +1,115 @@
+//! The plain scanner: the items of a text, match by match.
+
+ghost use Rattle.std.specs.Prelude.{◌≡◌, ◌<◌, ◌≤◌, ◌++◌, length, IfOk, IfSome, OnOk, MatchOption, All, map};
+ghost use Rattle.std.specs.Option.{ForSome};
+ghost use Rattle.lx_piece.specs.Items.{IsItemOf};
+ghost use Rattle.lx_tool.specs.Items.{AreItemsBy, GoesOn, actions_of, condition_after, items_of_steps, steps_of};
+
+use crate::choice::choose;
+use lx_piece::Item;
+use lx_spec::rule::Step;
+use lx_spec::spec::Spec;
+use std::alloc::{AllocError, Global};
+
+/// Where a scanner stands: before byte `offset`, from 0, under a condition, and whether a line begins there.
+#[derive(Clone, Copy, Debug, PartialEq, Eq)]
+pub struct Place {
+    pub offset: usize,
+    pub condition: u16,
+    pub at_line_begin: bool,
+}
+
+/// A match of a rule, by its number from 0, or of none: a byte that is echoed.
+#[derive(Clone, Copy, Debug, PartialEq, Eq)]
+pub struct Match {
+    pub rule: Option<u16>,
+    pub start: usize,
+    pub len: usize,
+}
+
+// What is done where a rule matches, or none: a byte that no rule matches is echoed.
+fn steps_of_rule(spec: &Spec, rule: Option<u16>) -> &[Step]
+    requires { ForSome rule (λ i. i < length spec.now.rules.items) }
+    ensures { result.now ≡ steps_of (actions_of spec.now) rule }
+{
+    match rule {
+        Some(rule) => spec.rules[rule as usize].action.as_slice(),
+        None => &[Step::Echo],
+    }
+}
+
+// The condition behind the steps.
+fn condition_behind(steps: &[Step], condition: u16) -> u16
+    ensures { result ≡ condition_after steps.now condition }
+{
+    let mut now = condition;
+    for step in steps {
+        if let Step::Begin(next) = step {
+            now = *next;
+        }
+    }
+    now
+}
+
+/// The match at a place and the place behind it, or nothing at the end of the text.
+pub fn next_match(alloc: Global, spec: &Spec, text: &[u8], place: Place) -> Result<Option<(Match, Place)>, AllocError>
+    requires within { place.offset ≤ length text.now }
+    requires known { place.condition < length spec.now.conditions.items }
+    ensures { IfOk result (λ found. MatchOption found (place.offset ≡ length text.now) (λ f. GoesOn spec.now text.now place f.0 f.1)) }
+{
+    if place.offset == text.len() {
+        return Ok(None);
+    }
+    let (rule, len) = match choose(alloc, spec, place.condition, place.at_line_begin, &text[place.offset..])? {
+        Some((rule, len)) => (Some(rule), len),
+        None => (None, 1),
+    };
+    let offset = place.offset + len;
+    let next = Place {
+        offset,
+        condition: condition_behind(steps_of_rule(spec, rule), place.condition),
+        at_line_begin: text[offset - 1] == b'\n',
+    };
+    let found = Match {
+        rule,
+        start: place.offset,
+        len,
+    };
+    Ok(Some((found, next)))
+}
+
+// Adds the items that the steps give of `len` bytes from `start`.
+fn push_items(items: &mut Vec<Item>, steps: &[Step], start: usize, len: usize) -> Result<(), AllocError>
+    ensures { OnOk result (items.new.items ≡ items.old.items ++ items_of_steps steps.now start len) }
+{
+    for step in steps {
+        match step {
+            Step::Echo => {
+                items.push(Item::Echo { start, len })?;
+            }
+            Step::Begin(_) => {}
+            Step::Return(kind) => {
+                items.push(Item::Token { kind: *kind, start, len })?;
+            }
+        }
+    }
+    Ok(())
+}
+
+/// The items of the text by the rules of the specification. They lie in the text, and name kinds that are there.
+pub fn scan(alloc: Global, spec: &Spec, text: &[u8]) -> Result<Vec<Item>, AllocError>
+    ensures items { IfOk result (λ items. AreItemsBy spec.now text.now items.items) }
+    ensures placed { IfOk result (λ items. All (IsItemOf (map (λ name. name.items) spec.now.kinds.items) text.now) items.items) }
+{
+    let mut items = Vec::new(alloc);
+    let mut place = Place {
+        offset: 0,
+        condition: 0,
+        at_line_begin: true,
+    };
+    'matches: while let Some((found, next)) = next_match(alloc, spec, text, place)? {
+        push_items(&mut items, steps_of_rule(spec, found.rule), found.start, found.len)?;
+        place = next;
+    }
+    Ok(items)
+}
