@@ -5,3 +5,4 @@ pub mod Best
 pub mod NameLemmas
 pub mod Steps
 pub mod Runs
+pub mod OneList

@@ -1,6 +1,6 @@
 //! The plain scanner: the items of a text, match by match.
 
-ghost use Rattle.std.specs.Prelude.{◌≡◌, ◌<◌, ◌≤◌, ◌++◌, length, IfOk, IfSome, OnOk, MatchOption, All, map};
+ghost use Rattle.std.specs.Prelude.{◌≡◌, ◌<◌, ◌≤◌, ◌++◌, length, IfOk, IfSome, OnOk, MatchOption, All, map, List, ℕ};
 ghost use Rattle.std.specs.Option.{ForSome};
 ghost use Rattle.lx_piece.specs.Items.{IsItemOf};
 ghost use Rattle.lx_tool.specs.Items.{AreItemsBy, GoesOn, actions_of, condition_after, items_of_steps, steps_of};
@@ -112,4 +112,10 @@ pub fn scan(alloc: Global, spec: &Spec, text: &[u8]) -> Result<Vec<Item>, AllocE
         place = next;
     }
     Ok(items)
+}
+
+/// A law: by the rules of a specification a text has one list of items.
+pub fn one_list_of_items()
+    ensures { (spec : Spec) (text : List ℕ) (xs ys : List Item) → AreItemsBy spec text xs → AreItemsBy spec text ys → xs ≡ ys }
+{
 }
