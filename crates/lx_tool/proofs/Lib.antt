@@ -3,6 +3,6 @@ pub mod SetLemmas
 pub mod Weights
 pub mod Best
 pub mod NameLemmas
-pub mod Steps
+pub mod RuleSteps
 pub mod Runs
 pub mod OneList

@@ -3,7 +3,7 @@ use Rattle.std.specs.Option.{option_map}
 use Rattle.std.proofs.lemmas.List.{take_rest}
 use Rattle.lx_spec.specs.Choice.{IsChoice}
 use Rattle.lx_tool.specs.Items.{condition_after}
-use Rattle.lx_tool.proofs.Steps.{goes_on}
+use Rattle.lx_tool.proofs.RuleSteps.{goes_on}
 use Rattle.lx_tool.proofs.scanner.next_match.Goals as goal
 use Rattle.lx_tool.proofs.scanner.next_match.Goals.{in-Some, in-None}
 

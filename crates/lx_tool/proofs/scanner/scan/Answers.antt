@@ -7,7 +7,7 @@ use Rattle.lx_spec.specs.Invariant.{are_steps}
 use Rattle.lx_piece.specs.Items.{IsItemOf}
 use Rattle.lx_tool.specs.Items.{GoesOn, first_place, items_of_match, items_of_steps, actions_of, steps_of, place_after}
 use Rattle.lx_tool.proofs.Runs.{run_push, flat_map_push}
-use Rattle.lx_tool.proofs.Steps.{items_known, steps_known, match_within}
+use Rattle.lx_tool.proofs.RuleSteps.{items_known, steps_known, match_within}
 use Rattle.lx_tool.proofs.scanner.scan.Goals as goal
 
 pub matches-preserved : goal.matches-preserved
