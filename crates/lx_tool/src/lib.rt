@@ -1,0 +1,4 @@
+//! The program `lx`.
+#![tactic(auto)]
+
+mod line;
