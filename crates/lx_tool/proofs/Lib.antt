@@ -1,1 +1,4 @@
 pub mod Appending
+pub mod Pieces
+pub mod Files
+pub mod Queues

@@ -2,4 +2,5 @@
 #![tactic(auto)]
 
 mod line;
+mod waiting;
 mod writing;
