@@ -2,3 +2,4 @@ pub mod Appending
 pub mod Pieces
 pub mod Files
 pub mod Queues
+pub mod Placing

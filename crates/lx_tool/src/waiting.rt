@@ -3,7 +3,7 @@ ghost use Rattle.std.specs.Io.KnownBytes.{Appends};
 ghost use Rattle.std.specs.List.{list_any};
 ghost use Rattle.lx_piece.specs.declared.piece.Piece.{Piece};
 ghost use Rattle.lx_piece.specs.Items.{IsItemOf};
-ghost use Rattle.lx_piece.specs.Plans.{files_of, bytes_of};
+ghost use Rattle.lx_piece.specs.Plans.{IsPlan, files_of, bytes_of};
 ghost use Rattle.lx_piece.specs.Pieces.{contents, is_closing};
 ghost use Rattle.lx_piece.specs.Relayed.{IsNextPiece};
 ghost use Rattle.lx_tool.specs.Lines.{lines_of};
@@ -87,7 +87,8 @@ pub(crate) fn place<W: Write>(
     waiting: &mut Vec<VecDeque<Piece>>,
     piece: Piece,
 ) -> Result<u32, ReaderFault>
-    requires { (counts : List ℕ) × KeepsUp plan.now counts first (queued waiting.old.items) × IsNextPiece plan.now counts piece }
+    requires plan { IsPlan plan.now }
+    requires next { (counts : List ℕ) × KeepsUp plan.now counts first (queued waiting.old.items) × IsNextPiece plan.now counts piece }
     ensures { (counts : List ℕ) → KeepsUp plan.now counts first (queued waiting.old.items) → IsNextPiece plan.now counts piece → MatchResult result
         (λ next. Places plan.now counts first piece.file next (queued waiting.new.items) (W.contents out.old) (W.contents out.new))
         (λ _. WritesInPart plan.now (due_by plan.now counts first) (W.contents out.old) (W.contents out.new)) }
