@@ -3,3 +3,4 @@ pub mod Pieces
 pub mod Files
 pub mod Queues
 pub mod Placing
+pub mod Steps

@@ -50,6 +50,9 @@ pub record Printed : Type 0 where
   pub progress : Progress
   pub written : Option (List ℕ)
 
+abbrev pub printed : Progress → Option (List ℕ) → Printed
+printed progress written = record { progress = progress; written = written }
+
 -- What a listing wrote between two states.
 pub record Prints (old new : Printed) : Type 0 where
   pub plan : new.progress.plan ≡ old.progress.plan

@@ -4,7 +4,7 @@ use Rattle.std.specs.declared.collections.VecDeque.{VecDeque}
 use Rattle.std.specs.Io.KnownBytes.{Appends}
 use Rattle.std.specs.List.{list_any}
 use Rattle.lx_piece.specs.declared.piece.Piece.{Piece}
-use Rattle.lx_piece.specs.Plans.{Planned, files_of}
+use Rattle.lx_piece.specs.Plans.{Planned, IsPlan, files_of}
 use Rattle.lx_piece.specs.Pieces.{IsPrefix, contents, is_closing, pieces_of, pieces_to}
 use Rattle.lx_tool.specs.Lines.{lines_of}
 use Rattle.lx_tool.specs.Listings.{listing_to, listing_of, taken_lines, IsFirstOpen}
@@ -67,3 +67,8 @@ pub record Places (plan : Planned) (counts : List ℕ) (first file next : ℕ) (
   pub bytes : List ℕ
   pub wrote : Appends before after bytes
   pub due : due_by plan counts first ++ bytes ≡ due_by plan (counted counts file) next
+
+-- what holds of a listing between two calls
+pub record IsInStep (plan : Planned) (counts : List ℕ) (first : ℕ) (waiting : List (List Piece)) (failed : Bool) : Type 0 where
+  pub plan_is : IsPlan plan
+  pub keeps : failed ≡ false → KeepsUp plan counts first waiting

@@ -2,5 +2,6 @@
 #![tactic(auto)]
 
 mod line;
+mod listing;
 mod waiting;
 mod writing;
