@@ -1,6 +1,5 @@
 pub mod SoFar
 pub mod Tests
-pub mod Prefixes
 pub mod Lanes
 pub mod Stands
 pub mod Readies

@@ -1,6 +1,7 @@
 pub mod Items
 pub mod Plans
 pub mod Pieces
+pub mod PieceLaws
 pub mod Cutting
 pub mod Arrivals
 pub mod Kept

@@ -1,4 +1,4 @@
-use Rattle.lx_piece.proofs.Prefixes as lemmas
+use Rattle.lx_piece.specs.PieceLaws as lemmas
 use Rattle.lx_piece.proofs.cutter.takes_in_order.Goals as goal
 
 pub returns : goal.returns

@@ -6,13 +6,18 @@ use Rattle.std.proofs.lemmas.Bool.{both_ways, eq-eqb, ne_eqb, eqb-true, or_right
 use Rattle.std.proofs.lemmas.List.{take-append-drop, take_all}
 use Rattle.std.proofs.lemmas.List.Elements.{All-nil, All-contains}
 use Rattle.std.proofs.lemmas.Grind.{div_ceil_times, flat_map-append}
+use Rattle.std.proofs.lemmas.List.Folds.{list_any-append}
+use Rattle.std.proofs.Math.Bool.{or-false}
 use Rattle.std.proofs.Math.Seq.{take-add}
 use Rattle.std.proofs.Math.Nat.{suc-mul, mul-le-mul_right, zero-mul}
 use Rattle.lx_piece.specs.declared.item.Item.{Item}
 use Rattle.lx_piece.specs.declared.piece.Piece.{Piece}
 use Rattle.lx_piece.specs.Plans.{Planned, IsPlan, files_of, items_of}
 use Rattle.lx_piece.specs.Pieces.{is_closing, IsPieceOf, piece_at, pieces_of, piece_count, pieces_to, contents, part, IsPrefix, TakesInOrder}
-use Rattle.lx_piece.proofs.Tests.{any_last}
+
+-- a test of a list with one element more
+any_last : {X : Type 0} (test : X → Bool) (xs : List X) (x : X) → list_any test (xs ++ x ∷ []) ≡ (list_any test xs || test x)
+any_last test xs x = list_any-append test xs (x ∷ []) ∙ ap (λ b. list_any test xs || b) (or-false (test x))
 
 -- the first pieces hold the first items
 pub contents_to : (plan : Planned) (file count : ℕ) → contents (pieces_to plan file count) ≡ take (count * plan.per_piece) (items_of plan file)

@@ -1,0 +1,66 @@
+use Rattle.std.proofs.Common.{◌≡◌, ◌<◌, ◌+◌, sym, ◌∙◌, ap, subst, arith, List, Option, ℕ}
+use Rattle.std.specs.Prelude.{All}
+use Rattle.std.specs.Io.KnownBytes.{Appends}
+use Rattle.std.proofs.lemmas.Result.{err_from_is_err_and}
+use Rattle.lx_piece.specs.declared.piece.Piece.{Piece}
+use Rattle.lx_piece.specs.Items.{IsItemOf}
+use Rattle.lx_piece.specs.Plans.{files_of, bytes_of}
+use Rattle.lx_tool.specs.Lines.{lines_of}
+use Rattle.lx_tool.specs.Listings.{AppendsPrefix, listing_to}
+use Rattle.lx_tool.specs.Waiting.{Places, WritesOn, WritesInPart, due_by, queued}
+use Rattle.lx_tool.proofs.Placing.{match_from, placed_later, placed_nothing, placed_fault, placed_open, placed_closed, placed_part, due_by_begins, next_items, waits_behind}
+use Rattle.lx_tool.proofs.waiting.place.Goals as goal
+
+pub returns-in_err-hold : goal.returns-in_err-hold
+returns-in_err-hold g c = λ counts k next.
+    let p = err_from_is_err_and c.from_residual.result c.from_residual.ensures.1 in
+    rw p.1 (placed_nothing c.args.plan.now counts c.args.first (queued c.args.waiting.now.items) (g.W.Write.contents c.args.out.now) k (due_by_begins c.args.plan.now counts c.args.first k.first_open))
+
+pub returns-then-piece-first : goal.returns-then-piece-first
+returns-then-piece-first g c = λ counts k next.
+    subst (λ ws. Places c.args.plan.now counts c.args.first c.args.piece.file c.args.first ws (g.W.Write.contents c.args.out.now) (g.W.Write.contents c.args.out.now)) (sym c.in_ok-hold.ensures)
+    (placed_later c.args.plan.now counts c.args.first (queued c.args.waiting.now.items) c.args.piece (g.W.Write.contents c.args.out.now) k next c.if-piece-first.true)
+
+pub write_items-requires-clause-items : goal.write_items-requires-clause-items
+write_items-requires-clause-items g c =
+    let plan = c.args.plan.now in
+    let w = c.requires.next in
+    subst (All (IsItemOf plan.kinds (bytes_of plan c.args.first))) (sym c.as_slice.ensures)
+    (subst (λ (f : ℕ). All (IsItemOf plan.kinds (bytes_of plan f)) c.args.piece.items) c.if-piece-first.false (next_items plan w.0 c.args.piece c.requires.plan w.2))
+
+pub returns-in_err-write_items : goal.returns-in_err-write_items
+returns-in_err-write_items g c = λ counts k next.
+    let p = err_from_is_err_and c.from_residual-in_err-write_items.result c.from_residual-in_err-write_items.ensures.1 in
+    let there : c.args.first < files_of c.args.plan.now = (let l = next.planned.file in omega arith) in
+    rw p.1 (placed_fault c.args.plan.now counts c.args.first c.args.piece (g.W.Write.contents c.args.out.now) (g.W.Write.contents c.write_items.new.out) there next c.if-piece-first.false
+        (subst (λ items. AppendsPrefix (g.W.Write.contents c.args.out.now) (g.W.Write.contents c.write_items.new.out) (lines_of c.args.plan.now c.args.first items)) c.as_slice.ensures c.in_err-write_items.ensures.err))
+
+pub returns-then-not-is_closing : goal.returns-then-not-is_closing
+returns-then-not-is_closing g c = λ counts k next.
+    placed_open c.args.plan.now counts c.args.first (queued c.args.waiting.now.items) c.args.piece (g.W.Write.contents c.args.out.now) (g.W.Write.contents c.write_items.new.out) k next c.if-piece-first.false (sym c.is_closing.ensures ∙ c.if-not-is_closing.true)
+    (subst (λ items. Appends (g.W.Write.contents c.args.out.now) (g.W.Write.contents c.write_items.new.out) (lines_of c.args.plan.now c.args.first items)) c.as_slice.ensures c.in_ok-write_items.ensures.ok)
+
+pub overflow_add-first : goal.overflow_add-first
+overflow_add-first g c =
+    let w = c.requires.next in
+    let there = w.2.planned.file in
+    let few = c.requires.plan.few_files in
+    omega arith
+
+pub returns : goal.returns
+returns g c = λ counts k next.
+    let plan = c.args.plan.now in
+    let first = c.args.first in
+    let queues = queued c.args.waiting.now.items in
+    let before = g.W.Write.contents c.args.out.now in
+    let mid = g.W.Write.contents c.write_items.new.out in
+    let after = g.W.Write.contents c.write_on.new.out in
+    let marked = sym c.is_closing.ensures ∙ c.if-not-is_closing.false in
+    let wrote = subst (λ items. Appends before mid (lines_of plan first items)) c.as_slice.ensures c.in_ok-write_items.ensures.ok in
+    match_from c.write_on.result
+    (λ (file : ℕ). WritesOn plan (first + 1) queues file (queued c.write_on.new.waiting.items) mid after)
+    (λ (file : ℕ). Places plan counts first c.args.piece.file file (queued c.write_on.new.waiting.items) before after)
+    (WritesInPart plan (listing_to plan (first + 1)) mid after) (WritesInPart plan (due_by plan counts first) before after)
+    c.write_on.ensures.ok c.write_on.ensures.err
+    (λ file w. placed_closed plan counts first queues file (queued c.write_on.new.waiting.items) c.args.piece before mid after c.requires.plan k next c.if-piece-first.false marked wrote w)
+    (λ w. placed_part plan counts first c.args.piece before mid after c.requires.plan next c.if-piece-first.false marked wrote w)

@@ -1,0 +1,47 @@
+use Rattle.std.specs.Prelude.{ℕ, ◌+◌, ◌/◌, ◌%◌, ◌==◌, ◌&&◌, nat_lt, nat_le, if◌then◌else◌, List, [], ◌∷◌, ◌++◌, codes, decimal}
+use Rattle.std.specs.List.{flat_map}
+use Rattle.lx_spec.specs.declared.rule.Kind.{Kind}
+use Rattle.lx_spec.specs.declared.rule.Kind.TheVariants.{Name, Number}
+use Rattle.lx_piece.specs.declared.item.Item.{Item}
+use Rattle.lx_piece.specs.declared.item.Item.TheVariants.{Token, Echo}
+use Rattle.lx_piece.specs.Items.{start_of, len_of, text_of}
+use Rattle.lx_piece.specs.Plans.{Planned, bytes_of, kind_of}
+
+-- an upper-case hexadecimal digit
+abbrev pub hex_digit : ℕ → ℕ
+hex_digit n = if nat_lt n 10 then 48 + n else 55 + n
+
+-- How a byte of a text stands in a line: a backslash twice, the other bytes from 32 to 126 as they are, and
+-- each other byte as a backslash, an x and two digits.
+abbrev pub escaped : ℕ → List ℕ
+escaped byte =
+    if byte == 92 then codes "\\\\"
+    else if nat_le 32 byte && nat_le byte 126 then byte ∷ []
+    else codes "\\x" ++ hex_digit (byte / 16) ∷ hex_digit (byte % 16) ∷ []
+
+-- whether it is a token or an Echo
+abbrev pub class_text : Item → List ℕ
+class_text (Token kind start len) = codes "T"
+class_text (Echo start len) = codes "E"
+
+-- the name of a kind, or its number
+abbrev pub name_text : Planned → Kind → List ℕ
+name_text plan (Name place) = kind_of plan place
+name_text plan (Number number) = decimal number
+
+-- the kind of a token
+abbrev pub kind_text : Planned → Item → List ℕ
+kind_text plan (Token kind start len) = name_text plan kind
+kind_text plan (Echo start len) = codes "-"
+
+-- The line of an item: the number of its file, its class, its kind, its start and its length, with a space behind
+-- each, and its text.
+abbrev pub line_of : Planned → ℕ → Item → List ℕ
+line_of plan file item =
+    decimal file ++ codes " " ++ class_text item ++ codes " " ++ kind_text plan item ++ codes " "
+    ++ decimal (start_of item) ++ codes " " ++ decimal (len_of item) ++ codes " "
+    ++ flat_map escaped (text_of (bytes_of plan file) item) ++ codes "\n"
+
+-- the lines of items of a file, in order
+abbrev pub lines_of : Planned → ℕ → List Item → List ℕ
+lines_of plan file items = flat_map (line_of plan file) items

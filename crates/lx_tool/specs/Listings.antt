@@ -1,0 +1,68 @@
+use Rattle.std.specs.Prelude.{ℕ, zero, suc, ◌≡◌, ◌≢◌, ◌+◌, ◌<◌, ◌≤◌, Bool, true, false, List, [], ◌∷◌, ◌++◌, Option, length, slice_index}
+use Rattle.std.specs.Io.KnownBytes.{Appends}
+use Rattle.lx_piece.specs.Plans.{Planned, files_of, items_of}
+use Rattle.lx_piece.specs.Pieces.{IsPrefix, contents, pieces_of, pieces_to}
+use Rattle.lx_tool.specs.Lines.{lines_of}
+
+-- the lines of the files below this one, in order
+abbrev pub listing_to : Planned → ℕ → List ℕ
+listing_to plan zero = []
+listing_to plan (suc file) = listing_to plan file ++ lines_of plan file (items_of plan file)
+
+-- the lines of all files, in order
+abbrev pub listing_of : Planned → List ℕ
+listing_of plan = listing_to plan (files_of plan)
+
+-- the lines of the first pieces of a file, this many
+abbrev pub taken_lines : Planned → ℕ → ℕ → List ℕ
+taken_lines plan file count = lines_of plan file (contents (pieces_to plan file count))
+
+-- By these counts of pieces taken, it is the first file that isn't closed, or the number of files where each is.
+pub record IsFirstOpen (plan : Planned) (counts : List ℕ) (first : ℕ) : Type 0 where
+  pub files : length counts ≡ files_of plan
+  pub within : first ≤ files_of plan
+  pub below : (file : ℕ) → file < first → slice_index counts file ≡ pieces_of plan file
+  pub not_closed : first < files_of plan → slice_index counts first ≢ pieces_of plan first
+
+-- text is the lines of the pieces taken of the files up to and with the first that isn't closed
+pub record IsDue (plan : Planned) (counts : List ℕ) (text : List ℕ) : Type 0 where
+  pub first : ℕ
+  pub first_open : IsFirstOpen plan counts first
+  pub lines : text ≡ listing_to plan first ++ taken_lines plan first (slice_index counts first)
+
+-- of some file not each piece was taken
+abbrev pub HasOpenFile : Planned → List ℕ → Type 0
+HasOpenFile plan counts = (file : ℕ) × (file < files_of plan) × (slice_index counts file ≢ pieces_of plan file)
+
+-- known bytes grow by a prefix of these
+abbrev pub AppendsPrefix : Option (List ℕ) → Option (List ℕ) → List ℕ → Type 0
+AppendsPrefix old new bytes = (front : List ℕ) × IsPrefix front bytes × Appends old new front
+
+-- how far a listing has come: the pieces that it took of each file, and whether it failed
+pub record Progress : Type 0 where
+  pub plan : Planned
+  pub counts : List ℕ
+  pub faults : ℕ
+  pub failed : Bool
+
+-- a listing, and the bytes that its writer holds, where they are known
+pub record Printed : Type 0 where
+  pub progress : Progress
+  pub written : Option (List ℕ)
+
+abbrev pub printed : Progress → Option (List ℕ) → Printed
+printed progress written = record { progress = progress; written = written }
+
+-- What a listing wrote between two states.
+pub record Prints (old new : Printed) : Type 0 where
+  pub plan : new.progress.plan ≡ old.progress.plan
+  pub bytes : List ℕ
+  pub wrote : Appends old.written new.written bytes
+  -- Until it fails, all that is due by the pieces taken.
+  pub due : old.progress.failed ≡ false → new.progress.failed ≡ false → (text : List ℕ) → IsDue old.progress.plan old.progress.counts text → IsDue new.progress.plan new.progress.counts (text ++ bytes)
+  -- A prefix of the listing, failed or not.
+  pub prefix : old.progress.failed ≡ false → (text : List ℕ) → IsDue old.progress.plan old.progress.counts text → IsPrefix (text ++ bytes) (listing_of old.progress.plan)
+  -- Where it fails, a file stays open.
+  pub stuck : old.progress.failed ≡ false → new.progress.failed ≡ true → HasOpenFile new.progress.plan new.progress.counts
+  -- Once it has failed, nothing, and it takes no piece.
+  pub stopped : old.progress.failed ≡ true → (new.progress.failed ≡ true) × (bytes ≡ []) × (new.progress.counts ≡ old.progress.counts)

@@ -1,0 +1,23 @@
+-- Plans made of files by a specification.
+use Rattle.std.specs.Prelude.{◌≡◌, ℕ, ◌<◌, List, [], length, map, All, slice_index_or}
+use Rattle.lx_spec.specs.declared.spec.Spec.{Spec}
+use Rattle.lx_piece.specs.declared.item.Item.{Item}
+use Rattle.lx_piece.specs.Items.{IsItemOf}
+use Rattle.lx_piece.specs.Plans.{Planned, bytes_of, items_of}
+use Rattle.lx_tool.specs.Items.{AreItemsBy}
+
+-- the names of the kinds that rules return
+abbrev pub kinds_of : Spec → List (List ℕ)
+kinds_of spec = map (λ name. name.items) spec.kinds.items
+
+-- The lists are those of the items of the texts, in order.
+pub record AreScanned (spec : Spec) (texts : List (List ℕ)) (lists : List (List Item)) : Type 0 where
+  pub long : length lists ≡ length texts
+  pub items : (file : ℕ) → file < length texts → AreItemsBy spec (slice_index_or texts file []) (slice_index_or lists file [])
+  pub placed : (file : ℕ) → file < length texts → All (IsItemOf (kinds_of spec) (slice_index_or texts file [])) (slice_index_or lists file [])
+
+-- The plan is of these files, and of each it has the items by the rules of the specification.
+pub record IsPlanBy (spec : Spec) (texts : List (List ℕ)) (plan : Planned) : Type 0 where
+  pub kinds : plan.kinds ≡ kinds_of spec
+  pub texts_are : plan.texts ≡ texts
+  pub items : (file : ℕ) → file < length texts → AreItemsBy spec (bytes_of plan file) (items_of plan file)

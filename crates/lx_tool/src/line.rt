@@ -1,0 +1,112 @@
+ghost use Rattle.std.specs.Prelude.{◌≡◌, ◌<◌, ◌++◌, OnOk, decimal};
+ghost use Rattle.std.specs.List.{flat_map};
+ghost use Rattle.lx_piece.specs.Items.{start_of, len_of, IsItemOf, IsKindAmong, NamesKindAmong};
+ghost use Rattle.lx_piece.specs.Plans.{files_of, bytes_of};
+ghost use Rattle.lx_tool.specs.Lines.{hex_digit, escaped, class_text, name_text, kind_text, line_of};
+
+use itoa::Buffer;
+use lx_piece::{Item, Plan};
+use lx_spec::rule::Kind;
+use std::alloc::AllocError;
+
+fn hex_digit(n: u8) -> u8
+    requires { n < 16 }
+    ensures { result ≡ hex_digit n }
+{
+    if n < 10 { b'0' + n } else { b'A' + (n - 10) }
+}
+
+fn push_escaped(line: &mut Vec<u8>, byte: u8) -> Result<(), AllocError>
+    ensures { OnOk result (line.new.items ≡ line.old.items ++ escaped byte) }
+{
+    match byte {
+        b'\\' => line.extend_from_slice(b"\\\\"),
+        b' '..=b'~' => line.extend_from_slice(&[byte]),
+        _ => {
+            line.extend_from_slice(&[b'\\', b'x', hex_digit(byte / 16), hex_digit(byte % 16)])
+        }
+    }
+}
+
+fn push_text(line: &mut Vec<u8>, text: &[u8]) -> Result<(), AllocError>
+    ensures { OnOk result (line.new.items ≡ line.old.items ++ flat_map escaped text.now) }
+{
+    for byte in text {
+        push_escaped(line, *byte)?;
+    }
+    Ok(())
+}
+
+fn push_number(line: &mut Vec<u8>, number: u64) -> Result<(), AllocError>
+    ensures { OnOk result (line.new.items ≡ line.old.items ++ decimal number) }
+{
+    let mut buffer = Buffer::new();
+    line.extend_from_slice(buffer.format(number).as_bytes())
+}
+
+fn push_class(line: &mut Vec<u8>, item: &Item) -> Result<(), AllocError>
+    ensures { OnOk result (line.new.items ≡ line.old.items ++ class_text item.now) }
+{
+    match item {
+        Item::Token { .. } => line.extend_from_slice(b"T"),
+        Item::Echo { .. } => line.extend_from_slice(b"E"),
+    }
+}
+
+fn push_name(line: &mut Vec<u8>, plan: &Plan, kind: Kind) -> Result<(), AllocError>
+    requires { IsKindAmong plan.now.kinds kind }
+    ensures { OnOk result (line.new.items ≡ line.old.items ++ name_text plan.now kind) }
+{
+    match kind {
+        Kind::Name(place) => line.extend_from_slice(plan.kind(place)),
+        Kind::Number(number) => push_number(line, u64::from(number)),
+    }
+}
+
+fn push_kind(line: &mut Vec<u8>, plan: &Plan, item: &Item) -> Result<(), AllocError>
+    requires { NamesKindAmong plan.now.kinds item.now }
+    ensures { OnOk result (line.new.items ≡ line.old.items ++ kind_text plan.now item.now) }
+{
+    match item {
+        Item::Token { kind, .. } => push_name(line, plan, *kind),
+        Item::Echo { .. } => line.extend_from_slice(b"-"),
+    }
+}
+
+/// Where an item starts, and how many bytes it has.
+fn extent(item: &Item) -> (usize, usize)
+    ensures start { result.0 ≡ start_of item.now }
+    ensures len { result.1 ≡ len_of item.now }
+{
+    match *item {
+        Item::Token { start, len, .. } | Item::Echo { start, len } => (start, len),
+    }
+}
+
+/// Makes the line of an item of a file, in place of what the buffer held. Where memory is refused the buffer
+/// holds a part of it.
+pub(crate) fn make_line(
+    line: &mut Vec<u8>,
+    plan: &Plan,
+    file: u32,
+    item: &Item,
+) -> Result<(), AllocError>
+    requires file { file < files_of plan.now }
+    requires item { IsItemOf plan.now.kinds (bytes_of plan.now file) item.now }
+    ensures { OnOk result (line.new.items ≡ line_of plan.now file item.now) }
+{
+    let (start, len) = extent(item);
+    line.clear();
+    push_number(line, u64::from(file))?;
+    line.extend_from_slice(b" ")?;
+    push_class(line, item)?;
+    line.extend_from_slice(b" ")?;
+    push_kind(line, plan, item)?;
+    line.extend_from_slice(b" ")?;
+    push_number(line, start as u64)?;
+    line.extend_from_slice(b" ")?;
+    push_number(line, len as u64)?;
+    line.extend_from_slice(b" ")?;
+    push_text(line, item.text(plan.bytes(file)))?;
+    line.extend_from_slice(b"\n")
+}

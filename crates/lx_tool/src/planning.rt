@@ -1,0 +1,36 @@
+//! Files, scanned whole, as a plan of pieces.
+
+ghost use Rattle.std.specs.Prelude.{◌≡◌, ◌<◌, ◌≤◌, IfOk, map, vec_len};
+ghost use Rattle.lx_tool.specs.Planning.{AreScanned, IsPlanBy};
+
+use crate::scanner::scan;
+use lx_piece::{Item, Plan};
+use lx_spec::spec::Spec;
+use std::alloc::{AllocError, Global};
+
+// The number that the pieces of a run of the program carry.
+const RUN: u64 = 1;
+
+// The items of each file.
+fn scan_files(alloc: Global, spec: &Spec, files: &[Vec<u8>]) -> Result<Vec<Vec<Item>>, AllocError>
+    ensures { IfOk result (λ lists. AreScanned spec.now (map (λ file. file.items) files.now) (map (λ list. list.items) lists.items)) }
+{
+    let mut lists = Vec::new(alloc);
+    for file in files {
+        lists.push(scan(alloc, spec, file)?)?;
+    }
+    Ok(lists)
+}
+
+/// The plan of the files, with `per_piece` items a piece, by the rules of the specification.
+pub(crate) fn plan_files(alloc: Global, spec: Spec, files: Vec<Vec<u8>>, per_piece: u32) -> Result<Plan, AllocError>
+    requires some_files { 0 < vec_len files }
+    requires few_files { vec_len files ≤ 65536 }
+    requires some_items { 0 < per_piece }
+    requires few_items { per_piece ≤ 4096 }
+    ensures { IfOk result (IsPlanBy spec (map (λ file. file.items) files.items)) }
+{
+    let items = scan_files(alloc, &spec, &files)?;
+    let Spec { kinds, .. } = spec;
+    Ok(Plan::of_items(kinds, files, items, per_piece, RUN))
+}

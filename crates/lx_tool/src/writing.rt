@@ -1,0 +1,69 @@
+ghost use Rattle.std.specs.Prelude.{◌≡◌, ◌<◌, IfOk, OnOk, OnErr, All};
+ghost use Rattle.std.specs.Io.KnownBytes.{Appends};
+ghost use Rattle.std.specs.List.{list_any};
+ghost use Rattle.lx_piece.specs.Items.{IsItemOf};
+ghost use Rattle.lx_piece.specs.Plans.{files_of, bytes_of};
+ghost use Rattle.lx_piece.specs.Pieces.{contents, is_closing};
+ghost use Rattle.lx_tool.specs.Lines.{line_of, lines_of};
+ghost use Rattle.lx_tool.specs.Listings.{AppendsPrefix};
+
+use lx_piece::{Item, Piece, Plan, ReaderFault};
+use std::collections::VecDeque;
+use std::io::Write;
+
+use crate::line::make_line;
+
+/// Writes bytes in one write, or in further ones for the rest of what was taken in part. A write of 0 bytes or
+/// an error is a fault, behind which a prefix was written.
+fn write_bytes<W: Write>(out: &mut W, bytes: &[u8]) -> Result<(), ReaderFault>
+    ensures ok { OnOk result (Appends (W.contents out.old) (W.contents out.new) bytes.now) }
+    ensures err { OnErr result (AppendsPrefix (W.contents out.old) (W.contents out.new) bytes.now) }
+{
+    let mut done = 0;
+    while done < bytes.len() {
+        match out.write(&bytes[done..]) {
+            Ok(0) => return Err(ReaderFault::Device),
+            Ok(n) => done += n,
+            Err(_) => return Err(ReaderFault::Device),
+        }
+    }
+    Ok(())
+}
+
+/// Writes the line of an item of a file. Where memory is refused nothing is written.
+fn write_item<W: Write>(
+    out: &mut W,
+    line: &mut Vec<u8>,
+    plan: &Plan,
+    file: u32,
+    item: &Item,
+) -> Result<(), ReaderFault>
+    requires file { file < files_of plan.now }
+    requires item { IsItemOf plan.now.kinds (bytes_of plan.now file) item.now }
+    ensures ok { OnOk result (Appends (W.contents out.old) (W.contents out.new) (line_of plan.now file item.now)) }
+    ensures err { OnErr result (AppendsPrefix (W.contents out.old) (W.contents out.new) (line_of plan.now file item.now)) }
+{
+    if make_line(line, plan, file, item).is_err() {
+        return Err(ReaderFault::Memory);
+    }
+    write_bytes(out, line)
+}
+
+/// Writes the lines of items of a file.
+pub(crate) fn write_items<W: Write>(
+    out: &mut W,
+    line: &mut Vec<u8>,
+    plan: &Plan,
+    file: u32,
+    items: &[Item],
+) -> Result<(), ReaderFault>
+    requires file { file < files_of plan.now }
+    requires items { All (IsItemOf plan.now.kinds (bytes_of plan.now file)) items.now }
+    ensures ok { OnOk result (Appends (W.contents out.old) (W.contents out.new) (lines_of plan.now file items.now)) }
+    ensures err { OnErr result (AppendsPrefix (W.contents out.old) (W.contents out.new) (lines_of plan.now file items.now)) }
+{
+    for item in items {
+        write_item(out, line, plan, file, item)?;
+    }
+    Ok(())
+}
