@@ -12,3 +12,4 @@ pub mod Runs
 pub mod SetLemmas
 pub mod Steps
 pub mod Weights
+pub mod PlanLemmas
