@@ -1,3 +1,5 @@
 pub mod Bytes
 pub mod Regex
 pub mod Matching
+pub mod Grammar
+pub mod Stacks
