@@ -1,2 +1,6 @@
 pub mod ByteLemmas
 pub mod Parser
+pub mod Choices
+pub mod SequenceLemmas
+pub mod RunLemmas
+pub mod EscapeLemmas

@@ -3,3 +3,9 @@ pub mod Regex
 pub mod Matching
 pub mod Grammar
 pub mod Stacks
+pub mod Escapes
+pub mod Sequences
+pub mod Brackets
+pub mod Spelling
+pub mod Pattern
+pub mod Reading
