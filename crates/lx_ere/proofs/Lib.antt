@@ -4,3 +4,4 @@ pub mod Choices
 pub mod SequenceLemmas
 pub mod RunLemmas
 pub mod EscapeLemmas
+pub mod BracketLemmas

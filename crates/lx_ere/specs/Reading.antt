@@ -91,11 +91,13 @@ range_from low f = if nat_le low (f.0) then Some ((low, f.0) ∷ [], f.1) else N
 abbrev pub member_from : ℕ × List ℕ → Option (List (ℕ × ℕ) × List ℕ)
 member_from f = if range_follows (f.1) then option_and_then (range_from (f.0)) (range_end_at (drop 1 (f.1))) else Some ((f.0, f.0) ∷ [], f.1)
 
--- a class, from behind the `[:` on
-abbrev pub class_at : List ℕ → Option (List (ℕ × ℕ) × List ℕ)
-class_at text =
-    let n = run_len is_name_byte (length text) text in
+-- a class whose name has n bytes, from behind the `[:` on
+abbrev pub class_of : ℕ → List ℕ → Option (List (ℕ × ℕ) × List ℕ)
+class_of n text =
     option_and_then (λ ranges. option_map (λ rest. (ranges, rest)) (option_and_then (behind_byte 93) (behind_byte 58 (drop n text)))) (class_ranges (take n text))
+
+abbrev pub class_at : List ℕ → Option (List (ℕ × ℕ) × List ℕ)
+class_at text = class_of (run_len is_name_byte (length text) text) text
 
 abbrev pub begins_pair : ℕ → ℕ → List ℕ → Bool
 begins_pair c d text = begins_with c text && begins_with d (drop 1 text)
@@ -128,17 +130,19 @@ quoted_byte_at (c ∷ text) = if nat_eq c 92 then escape_at text else unescaped_
 abbrev pub string_at : List ℕ → Option (Lexeme × List ℕ)
 string_at text = option_map (λ f. (quoted (f.0) (f.1), f.2)) (opened_at quoted_byte_at quoted_byte_at 34 text)
 
--- a name and the closing brace
-abbrev pub name_at : List ℕ → Option (Lexeme × List ℕ)
-name_at text =
-    let n = run_len is_name_byte (length text) text in
-    if is_identifier (take n text) then option_map (λ rest. (name (take n text), rest)) (behind_byte 125 (drop n text)) else None
+-- a name of n bytes and the closing brace
+abbrev pub name_of : ℕ → List ℕ → Option (Lexeme × List ℕ)
+name_of n text = if is_identifier (take n text) then option_map (λ rest. (name (take n text), rest)) (behind_byte 125 (drop n text)) else None
 
--- the bound of an interval
+abbrev pub name_at : List ℕ → Option (Lexeme × List ℕ)
+name_at text = name_of (run_len is_name_byte (length text) text) text
+
+-- the bound of an interval, of n digits
+abbrev pub bound_of : ℕ → List ℕ → Option (ℕ × List ℕ)
+bound_of n text = if nat_eq n 0 then None else number_at 10 n text
+
 abbrev pub bound_at : List ℕ → Option (ℕ × List ℕ)
-bound_at text =
-    let n = run_len (is_digit 10) (length text) text in
-    if nat_eq n 0 then None else number_at 10 n text
+bound_at text = bound_of (run_len (is_digit 10) (length text) text) text
 
 abbrev pub high_at : ℕ → ℕ × List ℕ → Option (Lexeme × List ℕ)
 high_at low f = if nat_le low (f.0) then option_map (λ rest. (interval low (Some (f.0)), rest)) (behind_byte 125 (f.1)) else None
