@@ -14,7 +14,7 @@ use Rattle.lx_ere.proofs.RunLemmas.{run_len-append, take_front, drop_front, IsRu
 byte_of_small : (base : ℕ) (digits : List ℕ) → number_of base digits < 256 → byte_of base digits ≡ Some (number_of base digits)
 byte_of_small base digits h = grind (arith, nat_tests)
 
-number_at_front : (base : ℕ) (digits behind : List ℕ) → number_of base digits < 256 → number_at base (length digits) (digits ++ behind) ≡ Some (number_of base digits, behind)
+pub number_at_front : (base : ℕ) (digits behind : List ℕ) → number_of base digits < 256 → number_at base (length digits) (digits ++ behind) ≡ Some (number_of base digits, behind)
 number_at_front base digits behind h = rw (take_front digits behind, drop_front digits behind, byte_of_small base digits h) refl
 
 octal_low : (c : ℕ) → is_digit 8 c ≡ true → 48 ≤ c
@@ -80,7 +80,7 @@ pub record NumberAt (base n : ℕ) (text : List ℕ) (byte : ℕ) (behind : List
   pub byte_is : number_of base (take n text) ≡ byte
   pub behind_is : drop n text ≡ behind
 
-number_at_is : (base n : ℕ) (text : List ℕ) (byte : ℕ) (behind : List ℕ) → number_at base n text ≡ Some (byte, behind) → NumberAt base n text byte behind
+pub number_at_is : (base n : ℕ) (text : List ℕ) (byte : ℕ) (behind : List ℕ) → number_at base n text ≡ Some (byte, behind) → NumberAt base n text byte behind
 number_at_is base n text byte behind e = go (nat_lt (number_of base (take n text)) 256) refl e
   where
     go : (b : Bool) → nat_lt (number_of base (take n text)) 256 ≡ b → option_map {U = ℕ × List ℕ} (λ byte. (byte, drop n text)) (cond b (Some (number_of base (take n text))) None) ≡ Some (byte, behind) → NumberAt base n text byte behind

@@ -5,3 +5,4 @@ pub mod SequenceLemmas
 pub mod RunLemmas
 pub mod EscapeLemmas
 pub mod BracketLemmas
+pub mod SpellingLemmas
