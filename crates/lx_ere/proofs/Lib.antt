@@ -6,3 +6,4 @@ pub mod RunLemmas
 pub mod EscapeLemmas
 pub mod BracketLemmas
 pub mod SpellingLemmas
+pub mod NumberLemmas

@@ -4,3 +4,6 @@
 pub mod expr;
 pub mod fault;
 pub mod set;
+
+mod escape;
+mod front;
