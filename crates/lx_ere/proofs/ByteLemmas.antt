@@ -1,5 +1,5 @@
 -- What the set of the bytes that pass a test holds.
-use Rattle.std.proofs.Common.{◌≡◌, ◌≢◌, ℕ, zero, suc, ◌+◌, ◌-◌, ◌*◌, ◌/◌, ◌%◌, ◌^◌, ◌<◌, ◌≤◌, max, Bool, true, false, ◌&&◌, ◌||◌, not, nat_eq, nat_lt, nat_le, cond, List, [], ◌∷◌, filter, refl, sym, ap, ◌∙◌, arith, get_or, set, length, bit_and, bit_or, inl, inr, get_or-set_same, get_or-set_other, w64}
+use Rattle.std.proofs.Common.{◌≡◌, ◌≢◌, ℕ, zero, suc, ◌+◌, ◌-◌, ◌*◌, ◌/◌, ◌%◌, ◌^◌, ◌<◌, ◌≤◌, max, Bool, true, false, ◌&&◌, ◌||◌, not, nat_eq, nat_lt, nat_le, cond, List, [], ◌∷◌, filter, refl, sym, ap, ◌∙◌, arith, get_or, set, length, bit_and, bit_or, inl, inr, get_or-set_same, get_or-set_other, w64, take, add-one}
 use Rattle.std.specs.List.{list_any}
 use Rattle.std.proofs.lemmas.Bool.Decides.{nat_tests}
 use Rattle.std.specs.FinSet as byte_sets
@@ -7,7 +7,7 @@ use Rattle.std.specs.Ordering.{nat_cmp}
 use Rattle.std.specs.Int.{bit_at}
 use Rattle.std.proofs.lemmas.Nat.Bits.{shr_and_one, bit_at_set_same, bit_at_set_other, bit_at_not, bit_at-lt}
 use Rattle.std.proofs.lemmas.Bool.{cases_eq}
-use Rattle.lx_ere.specs.Bytes.{numbers_from, all_bytes, bytes_where, has_bit, is_between}
+use Rattle.lx_ere.specs.Bytes.{numbers_from, all_bytes, bytes_where, has_bit, is_between, in_ranges}
 
 any_filter : (test : ℕ → Bool) (xs : List ℕ) (q : ℕ) → list_any (λ y. nat_eq y q) (filter test xs) ≡ (test q && list_any (λ y. nat_eq y q) xs)
 any_filter test [] q = and_none (test q)
@@ -141,3 +141,28 @@ complement_is words four fits0 fits1 fits2 fits3 test e = same_where _ _ (λ q l
         let word : get_or ((all_ones - get_or words 0 0) ∷ (all_ones - get_or words 1 0) ∷ (all_ones - get_or words 2 0) ∷ (all_ones - get_or words 3 0) ∷ []) (q / 64) 0 ≡ all_ones - get_or words (q / 64) 0
           = flipped_at (get_or words 0 0) (get_or words 1 0) (get_or words 2 0) (get_or words 3 0) (q / 64) k ∙ ap (λ xs. all_ones - get_or xs (q / 64) 0) (sym (four_words words four)) in
         ap (λ w. nat_eq (bit_at w (q % 64)) 1) word ∙ (ap (λ n. nat_eq n 1) (bit_at_not w64 (get_or words (q / 64) 0) (q % 64) (fits (q / 64) k) low) ∙ (not_one (bit_at (get_or words (q / 64) 0) (q % 64)) (bit_at-lt (get_or words (q / 64) 0) (q % 64)) ∙ ap not (agree (has_bit words) test e q lt)))
+
+-- one more range
+in_ranges_more : (ranges : List (ℕ × ℕ)) (i : ℕ) (d : ℕ × ℕ) (b : ℕ) → i < length ranges → in_ranges (take (suc i) ranges) b ≡ (in_ranges (take i ranges) b || is_between ((get_or ranges i d).0) ((get_or ranges i d).1) b)
+in_ranges_more [] i d b h = absurd (omega (arith, h))
+in_ranges_more (r ∷ ranges) zero d b h = or_none (is_between (r.0) (r.1) b)
+  where
+    or_none : (x : Bool) → (x || false) ≡ x
+    or_none true = refl
+    or_none false = refl
+in_ranges_more (r ∷ ranges) (suc i) d b h = ap (λ x. is_between (r.0) (r.1) b || x) (in_ranges_more ranges i d b (omega (arith, h))) ∙ assoc (is_between (r.0) (r.1) b) (in_ranges (take i ranges) b) (is_between ((get_or ranges i d).0) ((get_or ranges i d).1) b)
+  where
+    assoc : (x y z : Bool) → (x || (y || z)) ≡ ((x || y) || z)
+    assoc true y z = refl
+    assoc false y z = refl
+
+pub ranges_more : (ranges : List (ℕ × ℕ)) (i : ℕ) (d : ℕ × ℕ) (test : ℕ → Bool) → i < length ranges →
+    bytes_where (λ b. is_between ((get_or ranges i d).0) ((get_or ranges i d).1) b || (in_ranges (take i ranges) b || test b)) ≡ bytes_where (λ b. in_ranges (take (i + 1) ranges) b || test b)
+ranges_more ranges i d test h = same_where _ (λ b. in_ranges (take (i + 1) ranges) b || test b) (λ b _. moved (is_between ((get_or ranges i d).0) ((get_or ranges i d).1) b) (in_ranges (take i ranges) b) (test b)
+    ∙ (ap (λ x. x || test b) (sym (in_ranges_more ranges i d b h)) ∙ ap (λ n. in_ranges (take n ranges) b || test b) (sym (add-one i))))
+  where
+    moved : (x y z : Bool) → (x || (y || z)) ≡ ((y || x) || z)
+    moved true true z = refl
+    moved true false z = refl
+    moved false true z = refl
+    moved false false z = refl

@@ -7,3 +7,4 @@ pub mod EscapeLemmas
 pub mod BracketLemmas
 pub mod SpellingLemmas
 pub mod NumberLemmas
+pub mod MemberLoop

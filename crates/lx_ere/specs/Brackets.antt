@@ -4,7 +4,7 @@ use Rattle.std.specs.List.{list_any}
 use Rattle.std.specs.Str.{bytes_eq}
 use Rattle.std.specs.Ordering.{nat_cmp}
 use Rattle.std.specs.FinSet as set
-use Rattle.lx_ere.specs.Bytes.{is_between, bytes_where}
+use Rattle.lx_ere.specs.Bytes.{in_ranges, bytes_where}
 use Rattle.lx_ere.specs.Escapes.{Escape}
 use Rattle.lx_ere.specs.Sequences.{Opened}
 
@@ -82,10 +82,6 @@ pub data Member : Spot → List ℕ → List (ℕ × ℕ) → List ℕ → Type 
   equivalence : (spot : Spot) (c : ℕ) (behind : List ℕ) → c ≢ 10 → Member spot (91 ∷ 61 ∷ c ∷ 61 ∷ 93 ∷ []) ((c, c) ∷ []) behind
   class : (spot : Spot) (name : List ℕ) (ranges : List (ℕ × ℕ)) (behind : List ℕ) → class_ranges name ≡ Some ranges →
     Member spot (91 ∷ 58 ∷ (name ++ (58 ∷ 93 ∷ []))) ranges behind
-
--- whether the byte is in one of the ranges
-abbrev pub in_ranges : List (ℕ × ℕ) → ℕ → Bool
-in_ranges ranges b = list_any (λ r. is_between r.0 r.1 b) ranges
 
 -- whether the byte is in one of the members
 abbrev pub in_members : List (List (ℕ × ℕ)) → ℕ → Bool

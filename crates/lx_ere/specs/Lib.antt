@@ -9,3 +9,4 @@ pub mod Brackets
 pub mod Spelling
 pub mod Pattern
 pub mod Reading
+pub mod Tokens

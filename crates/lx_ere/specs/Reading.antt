@@ -112,6 +112,14 @@ member_at spot text =
 abbrev pub members_at : Spot → List ℕ → Option (List (ℕ × ℕ) × List (List (ℕ × ℕ)) × List ℕ)
 members_at spot text = opened_at (member_at spot) (member_at inside) 93 text
 
+-- the set of the members, and what stands behind them
+abbrev pub members_set : List (ℕ × ℕ) × List (List (ℕ × ℕ)) × List ℕ → set.FinSet nat_cmp × List ℕ
+members_set f = (bytes_where (in_members (f.0 ∷ f.1)), f.2)
+
+-- the bytes that pass the test or are in the members, and what stands behind these
+abbrev pub with_members : (ℕ → Bool) → List (List (ℕ × ℕ)) × List ℕ → set.FinSet nat_cmp × List ℕ
+with_members test f = (bytes_where (λ b. test b || in_members (f.0) b), f.1)
+
 -- a bracket expression, from behind the `[` on
 abbrev pub bracket_at : List ℕ → Option (set.FinSet nat_cmp × List ℕ)
 bracket_at text =

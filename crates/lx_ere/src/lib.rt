@@ -5,5 +5,7 @@ pub mod expr;
 pub mod fault;
 pub mod set;
 
+mod bracket;
 mod escape;
 mod front;
+mod name;

@@ -25,7 +25,7 @@ impl Model for ByteSet {
 }
 
 impl ByteSet {
-    ghost use Rattle.lx_ere.specs.Bytes.{bytes_where, byte_set, is_between};
+    ghost use Rattle.lx_ere.specs.Bytes.{bytes_where, byte_set, is_between, in_ranges};
 
     /// The set without bytes.
     pub(crate) fn empty() -> ByteSet
@@ -64,6 +64,15 @@ impl ByteSet {
     {
         for byte in first..=last {
             self.insert(byte);
+        }
+    }
+
+    /// Adds the bytes of the ranges, each from its first byte to its last.
+    pub(crate) fn insert_ranges(&mut self, ranges: &[(u8, u8)])
+        ensures { (test : ℕ → Bool) → self.old ≡ bytes_where test → self.new ≡ bytes_where (λ b. in_ranges ranges.now b || test b) }
+    {
+        for range in ranges {
+            self.insert_range(range.0, range.1);
         }
     }
 
