@@ -8,3 +8,4 @@ pub mod BracketLemmas
 pub mod SpellingLemmas
 pub mod NumberLemmas
 pub mod MemberLoop
+pub mod QuoteLoop

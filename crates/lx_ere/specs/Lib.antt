@@ -10,3 +10,5 @@ pub mod Spelling
 pub mod Pattern
 pub mod Reading
 pub mod Tokens
+pub mod Lexemes
+pub mod Groups

@@ -181,12 +181,19 @@ brace_at text = if starts_digit text then interval_at text else name_at text
 abbrev pub as_set : Option (ℕ × List ℕ) → Option (Lexeme × List ℕ)
 as_set found = option_map (λ f. (set_of (byte_set (f.0)), f.1)) found
 
+abbrev pub as_bracket : Option (set.FinSet nat_cmp × List ℕ) → Option (Lexeme × List ℕ)
+as_bracket found = option_map (λ f. (set_of (f.0), f.1)) found
+
+-- the lexeme that is the byte c alone
+abbrev pub as_single : ℕ → List ℕ → Option (Lexeme × List ℕ)
+as_single c text = option_map (λ l. (l, text)) (byte_lexeme c)
+
 -- the lexeme whose first byte is c, where that begins neither an escape nor a string nor brackets; then where it may begin the others
 abbrev pub brace_or_byte : ℕ → List ℕ → Option (Lexeme × List ℕ)
-brace_or_byte c text = if nat_eq c 123 then brace_at text else option_map (λ l. (l, text)) (byte_lexeme c)
+brace_or_byte c text = if nat_eq c 123 then brace_at text else as_single c text
 
 abbrev pub bracket_or_other : ℕ → List ℕ → Option (Lexeme × List ℕ)
-bracket_or_other c text = if nat_eq c 91 then option_map (λ f. (set_of (f.0), f.1)) (bracket_at text) else brace_or_byte c text
+bracket_or_other c text = if nat_eq c 91 then as_bracket (bracket_at text) else brace_or_byte c text
 
 abbrev pub string_or_other : ℕ → List ℕ → Option (Lexeme × List ℕ)
 string_or_other c text = if nat_eq c 34 then string_at text else bracket_or_other c text

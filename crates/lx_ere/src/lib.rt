@@ -8,4 +8,6 @@ pub mod set;
 mod bracket;
 mod escape;
 mod front;
+mod groups;
+mod lexeme;
 mod name;

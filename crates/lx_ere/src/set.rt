@@ -43,6 +43,13 @@ impl ByteSet {
         set
     }
 
+    /// The set of all bytes but one.
+    pub(crate) fn all_but(byte: u8) -> ByteSet
+        ensures { result ≡ bytes_where (λ b. not (is_between byte byte b)) }
+    {
+        ByteSet::of(byte).complement()
+    }
+
     /// Whether the byte is in the set.
     pub fn has(&self, byte: u8) -> bool
         ensures { result ≡ set.contains self.now byte }
