@@ -9,3 +9,4 @@ pub mod SpellingLemmas
 pub mod NumberLemmas
 pub mod MemberLoop
 pub mod QuoteLoop
+pub mod ReadLemmas

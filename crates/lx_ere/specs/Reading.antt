@@ -1,14 +1,16 @@
 -- The spelling at the front of a text, by computation. The contracts of private functions cite these; that they find the spellings of
 -- Escapes, Brackets and Spelling, and no others, is proved in proofs/.
-use Rattle.std.specs.Prelude.{ℕ, zero, suc, ◌+◌, Bool, true, false, not, ◌&&◌, ◌||◌, nat_eq, nat_lt, nat_le, if◌then◌else◌, List, [], ◌∷◌, length, take, drop, Option, Some, None}
+use Rattle.std.specs.Prelude.{◌≡◌, codes, ℕ, zero, suc, ◌+◌, Bool, true, false, not, ◌&&◌, ◌||◌, nat_eq, nat_lt, nat_le, if◌then◌else◌, List, [], ◌∷◌, length, take, drop, Option, Some, None}
 use Rattle.std.specs.Option.{option_map, option_and_then}
 use Rattle.std.specs.Ordering.{nat_cmp}
 use Rattle.std.specs.FinSet as set
 use Rattle.lx_ere.specs.Bytes.{byte_set, bytes_where}
-use Rattle.lx_ere.specs.Grammar.{Lexeme, set_of, quoted, name, interval}
+use Rattle.std.specs.Str.{bytes_eq}
+use Rattle.lx_ere.specs.Regex.{Regex}
+use Rattle.lx_ere.specs.Grammar.{Lexeme, set_of, quoted, name, interval, IsAlternation}
 use Rattle.lx_ere.specs.Escapes.{is_digit, number_of, letter_byte}
 use Rattle.lx_ere.specs.Brackets.{Spot, opening, behind_caret, inside, is_inside, begins_with, stands_alone, range_follows, class_ranges, in_members}
-use Rattle.lx_ere.specs.Spelling.{byte_lexeme, is_name_byte, is_identifier}
+use Rattle.lx_ere.specs.Spelling.{byte_lexeme, is_name_byte, is_identifier, Lexes}
 
 -- how many bytes at the front pass the test, at most so many
 abbrev pub run_len : (ℕ → Bool) → ℕ → List ℕ → ℕ
@@ -205,3 +207,21 @@ escape_or_other c text = if nat_eq c 92 then as_set (escape_at text) else string
 abbrev pub lexeme_at : List ℕ → Option (Lexeme × List ℕ)
 lexeme_at [] = None
 lexeme_at (c ∷ text) = escape_or_other c text
+
+-- the text behind a `^` at its front
+abbrev pub body_of : List ℕ → List ℕ
+body_of text = if begins_with 94 text then drop 1 text else text
+
+-- what the ending of a pattern says of the anchor
+abbrev pub ending_at : List ℕ → Option Bool
+ending_at text =
+    if nat_eq (length text) 0 then Some false
+    else if bytes_eq text (codes "$") || bytes_eq text (codes "/\\n") then Some true
+    else None
+
+-- The text is the spellings of an alternation, this is its tree, and no spelling stands at the front of what is behind.
+pub record Reads (text : List ℕ) (tree : Regex) (ending : List ℕ) : Type 0 where
+  pub lexemes : List Lexeme
+  pub spelled : Lexes text lexemes ending
+  pub alternation : IsAlternation lexemes tree
+  pub stops : lexeme_at ending ≡ None

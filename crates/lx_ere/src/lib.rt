@@ -3,6 +3,7 @@
 
 pub mod expr;
 pub mod fault;
+pub mod read;
 pub mod set;
 
 mod bracket;
