@@ -10,3 +10,4 @@ pub mod NumberLemmas
 pub mod MemberLoop
 pub mod QuoteLoop
 pub mod ReadLemmas
+pub mod EndLemmas

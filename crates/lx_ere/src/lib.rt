@@ -2,6 +2,7 @@
 #![tactic(auto)]
 
 pub mod expr;
+pub mod extent;
 pub mod fault;
 pub mod read;
 pub mod set;
