@@ -2,5 +2,14 @@
 #![tactic(auto)]
 
 pub mod expr;
+pub mod extent;
 pub mod fault;
+pub mod read;
 pub mod set;
+
+mod bracket;
+mod escape;
+mod front;
+mod groups;
+mod lexeme;
+mod name;
