@@ -1,4 +1,9 @@
+pub mod Blocks
 pub mod Bytes
 pub mod Choice
 pub mod Invariant
+pub mod Lines
+pub mod LineViews
 pub mod Names
+pub mod RuleLines
+pub mod RuleLineViews

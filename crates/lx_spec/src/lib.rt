@@ -2,8 +2,12 @@
 //! (POSIX.1-2017, XCU `lex`, "Definitions in lex", "Rules in lex", "Actions in lex").
 #![tactic(auto)]
 
+pub mod block;
+pub mod bytes;
 pub mod condition;
 pub mod definition;
 pub mod fault;
+pub mod line;
 pub mod rule;
+pub mod rule_line;
 pub mod spec;
