@@ -5,5 +5,8 @@ pub mod Invariant
 pub mod Lines
 pub mod LineViews
 pub mod Names
+pub mod PlaceViews
 pub mod RuleLines
 pub mod RuleLineViews
+pub mod Sections
+pub mod SheetViews

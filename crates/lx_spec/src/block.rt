@@ -106,3 +106,17 @@ pub fn with_line(count: Count, line: &[u8]) -> Count
     }
     Count { opened: so_far.opened, closed: so_far.closed, mode: behind_line(so_far.mode) }
 }
+
+fn is_outside(mode: Mode) -> bool
+    ensures { result ≡ plain.is_outside mode }
+{
+    !matches!(mode, Mode::Comment | Mode::Star)
+}
+
+/// Whether the action ends with the lines that were counted: no comment is open, and as many braces at least are
+/// closed as opened.
+pub fn is_closed(count: Count) -> bool
+    ensures { result ≡ plain.is_closed count }
+{
+    is_outside(count.mode) && count.opened <= count.closed
+}

@@ -10,4 +10,6 @@ pub mod fault;
 pub mod line;
 pub mod rule;
 pub mod rule_line;
+pub mod section;
+pub mod sheet;
 pub mod spec;
