@@ -1,3 +1,4 @@
 pub mod Declaring
 pub mod Entering
+pub mod Numbers
 pub mod Words

@@ -1,6 +1,9 @@
+pub mod ActionWords
+pub mod Actions
 pub mod Blocks
 pub mod Bytes
 pub mod Choice
+pub mod Constants
 pub mod Invariant
 pub mod Lines
 pub mod LineViews

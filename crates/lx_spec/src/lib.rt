@@ -5,6 +5,7 @@
 pub mod block;
 pub mod bytes;
 pub mod condition;
+pub mod constant;
 pub mod definition;
 pub mod fault;
 pub mod line;
