@@ -1,4 +1,5 @@
 pub mod Declaring
 pub mod Entering
 pub mod Numbers
+pub mod WordSteps
 pub mod Words

@@ -79,6 +79,6 @@ piece_at (c ∷ text) =
 
 -- The text is these words, one after the other, with blanks, lines' ends and comments between.
 pub data AreWords : List ℕ → List Word → Type 0 where
-  none : AreWords [] []
+  none : (text : List ℕ) → piece_at text ≡ ended → AreWords text []
   behind_passed : (text rest : List ℕ) (ws : List Word) → piece_at text ≡ passed rest → AreWords rest ws → AreWords text ws
   behind_word : (text rest : List ℕ) (w : Word) (ws : List Word) → piece_at text ≡ word w rest → AreWords rest ws → AreWords text (w ∷ ws)

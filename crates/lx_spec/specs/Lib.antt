@@ -8,8 +8,10 @@ pub mod Invariant
 pub mod Lines
 pub mod LineViews
 pub mod Names
+pub mod PieceViews
 pub mod PlaceViews
 pub mod RuleLines
 pub mod RuleLineViews
 pub mod Sections
 pub mod SheetViews
+pub mod WordViews

@@ -14,3 +14,4 @@ pub mod rule_line;
 pub mod section;
 pub mod sheet;
 pub mod spec;
+pub mod word;
