@@ -3,4 +3,5 @@
 
 pub mod expr;
 pub mod fault;
+pub mod read;
 pub mod set;

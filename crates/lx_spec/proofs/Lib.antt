@@ -2,4 +2,5 @@ pub mod Declaring
 pub mod Entering
 pub mod Numbers
 pub mod WordSteps
+pub mod ActionSteps
 pub mod Words

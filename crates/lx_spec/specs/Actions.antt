@@ -103,19 +103,44 @@ letters_at text ws =
     else if pointwise nat_eq text (codes "BEGIN") then begin_at (operand_at ws)
     else None
 
--- the statement at the front of some words, and the words behind it
-abbrev pub statement_at : List Word → Option (Statement × List Word)
-statement_at [] = None
-statement_at (semicolon ∷ ws) = Some (nothing, ws)
-statement_at (letters text ∷ ws) = letters_at text ws
-statement_at (_ ∷ ws) = None
+-- what stands at the front of some words
+pub data Turn : Type 0 where
+  finished : Turn
+  -- a brace, and the words behind it
+  opens : (rest : List Word) → Turn
+  closes : (rest : List Word) → Turn
+  -- a statement, and the words behind it
+  states : (s : Statement) (rest : List Word) → Turn
+  no_statement : Turn
 
--- With so many braces open, the words are these statements, one after the other, and as many braces as are closed are opened.
+abbrev pub stated_or_none : Option (Statement × List Word) → Turn
+stated_or_none None = no_statement
+stated_or_none (Some (s, rest)) = states s rest
+
+abbrev pub turn_at : List Word → Turn
+turn_at [] = finished
+turn_at (open_brace ∷ ws) = opens ws
+turn_at (close_brace ∷ ws) = closes ws
+turn_at (semicolon ∷ ws) = states nothing ws
+turn_at (letters text ∷ ws) = stated_or_none (letters_at text ws)
+turn_at (_ ∷ ws) = no_statement
+
+-- With so many braces open, the words are these statements, one after the other, and as many braces are closed as opened.
 pub data AreStatements : ℕ → List Word → List Statement → Type 0 where
-  none : AreStatements 0 [] []
-  opened : (depth : ℕ) (ws : List Word) (ss : List Statement) → AreStatements (suc depth) ws ss → AreStatements depth (open_brace ∷ ws) ss
-  closed : (depth : ℕ) (ws : List Word) (ss : List Statement) → AreStatements depth ws ss → AreStatements (suc depth) (close_brace ∷ ws) ss
-  stated : (depth : ℕ) (ws rest : List Word) (s : Statement) (ss : List Statement) → statement_at ws ≡ Some (s, rest) → AreStatements depth rest ss → AreStatements depth ws (s ∷ ss)
+  none : (ws : List Word) → turn_at ws ≡ finished → AreStatements 0 ws []
+  opened : (depth : ℕ) (ws rest : List Word) (ss : List Statement) → turn_at ws ≡ opens rest → AreStatements (suc depth) rest ss → AreStatements depth ws ss
+  closed : (depth : ℕ) (ws rest : List Word) (ss : List Statement) → turn_at ws ≡ closes rest → AreStatements depth rest ss → AreStatements (suc depth) ws ss
+  stated : (depth : ℕ) (ws rest : List Word) (s : Statement) (ss : List Statement) → turn_at ws ≡ states s rest → AreStatements depth rest ss → AreStatements depth ws (s ∷ ss)
+
+abbrev pub is_no_word : List Word → Bool
+is_no_word [] = true
+is_no_word (w ∷ ws) = false
+
+-- the words are a single `|`
+abbrev pub is_bar : List Word → Bool
+is_bar [] = false
+is_bar (bar ∷ ws) = is_no_word ws
+is_bar (_ ∷ ws) = false
 
 pub data Action : Type 0 where
   -- `|`: the action of the next rule

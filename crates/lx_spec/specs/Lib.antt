@@ -1,3 +1,4 @@
+pub mod ActionViews
 pub mod ActionWords
 pub mod Actions
 pub mod Blocks
@@ -14,4 +15,5 @@ pub mod RuleLines
 pub mod RuleLineViews
 pub mod Sections
 pub mod SheetViews
+pub mod TurnViews
 pub mod WordViews

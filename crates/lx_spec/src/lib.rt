@@ -2,6 +2,7 @@
 //! (POSIX.1-2017, XCU `lex`, "Definitions in lex", "Rules in lex", "Actions in lex").
 #![tactic(auto)]
 
+pub mod action;
 pub mod block;
 pub mod bytes;
 pub mod condition;
