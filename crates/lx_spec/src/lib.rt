@@ -9,6 +9,7 @@ pub mod condition;
 pub mod constant;
 pub mod definition;
 pub mod fault;
+pub mod graph;
 pub mod line;
 pub mod rule;
 pub mod rule_line;
