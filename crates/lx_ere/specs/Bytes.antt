@@ -1,5 +1,6 @@
 -- Sets of bytes, by a test.
 use Rattle.std.specs.Prelude.{ℕ, zero, suc, ◌+◌, ◌/◌, ◌%◌, Bool, nat_eq, nat_le, ◌&&◌, List, [], ◌∷◌, slice_index, filter}
+use Rattle.std.specs.List.{list_any}
 use Rattle.std.specs.Ordering.{nat_cmp}
 use Rattle.std.specs.FinSet as set
 use Rattle.std.specs.Int.{bit_at}
@@ -26,3 +27,7 @@ is_between first last b = nat_le first b && nat_le b last
 
 abbrev pub byte_set : ℕ → set.FinSet nat_cmp
 byte_set byte = bytes_where (is_between byte byte)
+
+-- whether the byte is in one of the ranges, each from its first byte to its last
+abbrev pub in_ranges : List (ℕ × ℕ) → ℕ → Bool
+in_ranges ranges b = list_any (λ r. is_between r.0 r.1 b) ranges

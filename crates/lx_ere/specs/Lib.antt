@@ -1,4 +1,14 @@
 pub mod Bytes
-pub mod Reading
 pub mod Regex
 pub mod Matching
+pub mod Grammar
+pub mod Stacks
+pub mod Escapes
+pub mod Sequences
+pub mod Brackets
+pub mod Spelling
+pub mod Pattern
+pub mod Reading
+pub mod Tokens
+pub mod Lexemes
+pub mod Groups

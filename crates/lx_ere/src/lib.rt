@@ -5,3 +5,10 @@ pub mod expr;
 pub mod fault;
 pub mod read;
 pub mod set;
+
+mod bracket;
+mod escape;
+mod front;
+mod groups;
+mod lexeme;
+mod name;

@@ -1,31 +1,116 @@
-// Stub.
-ghost use Rattle.std.specs.Prelude.{◌≡◌, ◌≤◌, length, IfOk, Err};
-ghost use Rattle.lx_ere.specs.Regex.{Regex, regex_of};
-ghost use Rattle.lx_ere.specs.Regex.{Reading, reading_of};
-ghost use Rattle.lx_ere.specs.Reading.{IsPattern, IsSubstitute, pattern_end_of};
+//! Patterns and substitutes, read from left to right once (POSIX.1-2017, XCU `lex`, "Regular Expressions in lex", "Definitions in lex").
+
+ghost use Rattle.std.specs.Prelude.{◌≡◌, ◌++◌, IfOk, Err, List, ℕ};
+ghost use Rattle.lx_ere.specs.Regex.{Regex, Reading, regex_of, reading_of};
+ghost use Rattle.lx_ere.specs.Grammar.{Lexeme, IsAlternation};
+ghost use Rattle.lx_ere.specs.Brackets.{begins_with};
+ghost use Rattle.lx_ere.specs.Spelling.{Spells, Lexes};
+ghost use Rattle.lx_ere.specs.Pattern.{IsPattern, IsSubstitute};
+ghost use Rattle.lx_ere.specs.Reading.{lexeme_at, body_of, ending_at, Reads};
 
 use crate::expr::{Expr, Pattern};
 use crate::fault::EreFault;
+use crate::front::{begins_with, skip};
+use crate::groups::{finish, no_groups, step};
+use crate::lexeme::lexeme_at;
 use std::alloc::Global;
 
+/// The most bytes that a pattern or a substitute may have.
+const MAX_LEN: usize = 1024;
+
+/// The alternation at the front, and what stands behind its last spelling.
+fn read_alternation(alloc: Global, text: &[u8]) -> Result<(Expr, &[u8]), EreFault>
+    ensures reading { IfOk result (λ f. Reads text.now (regex_of f.0) f.1.now) }
+    ensures refused { result ≡ Err EreFault.NoReading → (tree : Regex) (ending : List ℕ) → Reads text.now tree ending → ⊥ }
+{
+    let mut groups = no_groups(alloc);
+    let mut rest = text;
+    loop {
+        let Some((lexeme, behind)) = lexeme_at(alloc, rest)? else {
+            break;
+        };
+        let Some(next) = step(alloc, groups, lexeme)? else {
+            return Err(EreFault::NoReading);
+        };
+        groups = next;
+        rest = behind;
+    }
+    match finish(alloc, groups)? {
+        Some(tree) => Ok((tree, rest)),
+        None => Err(EreFault::NoReading),
+    }
+}
+
+/// The text behind a `^` at its front.
+fn behind_caret(text: &[u8]) -> &[u8]
+    ensures { result.now ≡ body_of text.now }
+{
+    if begins_with(b'^', text) { skip(1, text) } else { text }
+}
+
+/// Whether what stands behind the alternation is the anchor of a line's end; `None` where it is no ending of a pattern.
+fn ending_at(text: &[u8]) -> Option<bool>
+    ensures { result ≡ ending_at text.now }
+{
+    if text.is_empty() {
+        Some(false)
+    } else if text == b"$".as_slice() || text == b"/\\n".as_slice() {
+        Some(true)
+    } else {
+        None
+    }
+}
+
+/// Reads a pattern: its anchors and its expression.
+///
+/// The text has at most 1,024 bytes; it is read once, from left to right. The reading is the one that the grammar of `lex` gives (XCU `lex`,
+/// "Regular Expressions in lex"): `^` only at the beginning, `$` or `/\n` only at the end, an interval applying to all that stands to its
+/// left in its branch. It fails with [`EreFault::NoReading`] exactly where the text has no reading, and with [`EreFault::Memory`] where memory
+/// was refused.
 pub fn read_pattern(alloc: Global, text: &[u8]) -> Result<Pattern, EreFault>
     ensures reading { IfOk result (λ p. IsPattern text.now (reading_of p)) }
     ensures refused { result ≡ Err EreFault.NoReading → (r : Reading) → IsPattern text.now r → ⊥ }
 {
-    Err(EreFault::Memory)
+    if text.len() > MAX_LEN {
+        return Err(EreFault::NoReading);
+    }
+    let line_begin = begins_with(b'^', text);
+    let (expr, ending) = read_alternation(alloc, behind_caret(text))?;
+    match ending_at(ending) {
+        Some(line_end) => Ok(Pattern { line_begin, line_end, expr }),
+        None => Err(EreFault::NoReading),
+    }
 }
 
+/// Reads a substitute, the text that a name is defined as: an expression without anchors.
+///
+/// The text has at most 1,024 bytes. It fails with [`EreFault::NoReading`] exactly where the text has no reading, and with
+/// [`EreFault::Memory`] where memory was refused.
 pub fn read_substitute(alloc: Global, text: &[u8]) -> Result<Expr, EreFault>
     ensures reading { IfOk result (λ e. IsSubstitute text.now (regex_of e)) }
-    ensures refused { result ≡ Err EreFault.NoReading → (r : Regex) → IsSubstitute text.now r → ⊥ }
+    ensures refused { result ≡ Err EreFault.NoReading → (tree : Regex) → IsSubstitute text.now tree → ⊥ }
 {
-    Err(EreFault::Memory)
+    if text.len() > MAX_LEN {
+        return Err(EreFault::NoReading);
+    }
+    let (expr, ending) = read_alternation(alloc, text)?;
+    if ending.is_empty() { Ok(expr) } else { Err(EreFault::NoReading) }
 }
 
-#[tactic(auto, unfolding(crate::specs::Reading::pattern_end_of))]
-pub fn pattern_end(text: &[u8]) -> usize
-    ensures value { result ≡ pattern_end_of text.now }
-    ensures within { result ≤ length text.now }
+/// A law: a front of a text is at most one spelling of a lexeme.
+pub fn one_spelling()
+    ensures { (t u : List ℕ) (l m : Lexeme) (v w : List ℕ) → Spells t l v → Spells u m w → t ++ v ≡ u ++ w → (t ≡ u) × (l ≡ m) × (v ≡ w) }
 {
-    text.len()
+}
+
+/// A law: a text has at most one reading as a pattern.
+pub fn one_reading()
+    ensures { (text : List ℕ) (r s : Reading) → IsPattern text r → IsPattern text s → r ≡ s }
+{
+}
+
+/// A law: a text has at most one reading as a substitute.
+pub fn one_substitute()
+    ensures { (text : List ℕ) (r s : Regex) → IsSubstitute text r → IsSubstitute text s → r ≡ s }
+{
 }

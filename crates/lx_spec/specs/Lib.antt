@@ -5,6 +5,7 @@ pub mod Blocks
 pub mod Bytes
 pub mod Choice
 pub mod Constants
+pub mod End
 pub mod Graph
 pub mod Invariant
 pub mod Lines

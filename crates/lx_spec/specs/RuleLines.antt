@@ -1,6 +1,6 @@
 -- What a line of the second section says by itself (XCU `lex`, "Rules in lex").
 use Rattle.std.specs.Prelude.{ℕ, Bool, true, false, not, nat_eq, if◌then◌else◌, List, [], ◌∷◌, take, drop}
-use Rattle.lx_ere.specs.Reading.{pattern_end_of}
+use Rattle.lx_spec.specs.End.{pattern_end_of}
 use Rattle.lx_spec.specs.Bytes.{is_blank, begins_with, run, behind_run}
 
 -- what stands before a pattern: nothing, a `<` with no `>` on its line, or what `<` and `>` enclose

@@ -5,7 +5,7 @@ ghost use Rattle.lx_spec.specs.RuleLines as plain;
 ghost use Rattle.lx_spec.specs.RuleLineViews.{prefix_view, rule_line_view};
 
 use crate::bytes::{begins_with, blanks_len, is_blank};
-use lx_ere::read::pattern_end;
+use crate::end::pattern_end;
 
 /// What stands before a pattern.
 #[derive(Drop)]

@@ -1,0 +1,208 @@
+//! The groups that are open while a pattern is read from left to right, on the heap, so that nesting takes no call depth.
+
+ghost use Rattle.std.specs.Prelude.{◌≡◌, IfOk, Some, None, [], List, ℕ};
+ghost use Rattle.std.specs.Option.{option_map};
+ghost use Rattle.lx_ere.specs.Bytes.{byte_set};
+ghost use Rattle.lx_ere.specs.Regex.{regex_of, one_of};
+ghost use Rattle.lx_ere.specs.Grammar.{open_group, close_group, bar, interval, quoted, joined};
+ghost use Rattle.lx_ere.specs.Stacks.{empty_frame, stack, whole, total, push, again, step, finish};
+ghost use Rattle.lx_ere.specs.Groups.{frame_of, groups_of};
+ghost use Rattle.lx_ere.specs.Lexemes.{lexeme_of};
+
+use crate::expr::Expr;
+use crate::lexeme::Lexeme;
+use crate::set::ByteSet;
+use std::alloc::{AllocError, Global};
+
+/// What was read of a group that is not closed.
+#[derive(Drop)]
+struct Frame {
+    /// The alternatives before the last bar.
+    before: Option<Expr>,
+    /// The branch behind that bar, without its last unit.
+    branch: Option<Expr>,
+    /// The last unit, which `*`, `+` and `?` repeat.
+    unit: Option<Expr>,
+}
+
+/// The innermost open group, and those around it, the outermost first.
+#[derive(Drop)]
+pub(crate) struct Groups {
+    top: Frame,
+    below: Vec<Frame>,
+}
+
+/// A group of which nothing was read.
+fn empty_frame() -> Frame
+    ensures { frame_of result ≡ empty_frame }
+{
+    Frame { before: None, branch: None, unit: None }
+}
+
+/// Nothing was read, and no group is open.
+pub(crate) fn no_groups(alloc: Global) -> Groups
+    ensures { groups_of result ≡ stack empty_frame [] }
+{
+    Groups { top: empty_frame(), below: Vec::new(alloc) }
+}
+
+/// The branch with its last unit.
+fn whole(alloc: Global, branch: Option<Expr>, unit: Option<Expr>) -> Result<Option<Expr>, AllocError>
+    ensures { IfOk result (λ o. option_map regex_of o ≡ whole (option_map regex_of branch) (option_map regex_of unit)) }
+{
+    match (branch, unit) {
+        (Some(branch), Some(unit)) => {
+            let left = Box::new(alloc, branch)?;
+            let right = Box::new(alloc, unit)?;
+            Ok(Some(Expr::Then(left, right)))
+        }
+        (Some(branch), None) => Ok(Some(branch)),
+        (None, unit) => Ok(unit),
+    }
+}
+
+/// The alternation so far, where something stands behind its last bar.
+fn total(alloc: Global, frame: Frame) -> Result<Option<Expr>, AllocError>
+    ensures { IfOk result (λ o. option_map regex_of o ≡ total (frame_of frame)) }
+{
+    let Frame { before, branch, unit } = frame;
+    let last = whole(alloc, branch, unit)?;
+    match (before, last) {
+        (Some(left), Some(right)) => {
+            let left = Box::new(alloc, left)?;
+            let right = Box::new(alloc, right)?;
+            Ok(Some(Expr::Or(left, right)))
+        }
+        (None, last) => Ok(last),
+        (Some(_), None) => Ok(None),
+    }
+}
+
+/// A unit behind what was read.
+fn push(alloc: Global, frame: Frame, unit: Expr) -> Result<Frame, AllocError>
+    ensures { IfOk result (λ next. frame_of next ≡ push (frame_of frame) (regex_of unit)) }
+{
+    let Frame { before, branch, unit: last } = frame;
+    let branch = whole(alloc, branch, last)?;
+    Ok(Frame { before, branch, unit: Some(unit) })
+}
+
+/// A unit behind what was read of the innermost group.
+fn push_unit(alloc: Global, groups: Groups, unit: Expr) -> Result<Groups, AllocError>
+    ensures { IfOk result (λ next. groups_of next ≡ stack (push (groups_of groups).top (regex_of unit)) (groups_of groups).below) }
+{
+    let Groups { top, below } = groups;
+    let top = push(alloc, top, unit)?;
+    Ok(Groups { top, below })
+}
+
+/// The bytes of a quoted string, one after the other.
+fn joined(alloc: Global, first: u8, more: &[u8]) -> Result<Expr, AllocError>
+    ensures { IfOk result (λ e. regex_of e ≡ joined (one_of (byte_set first)) more.now) }
+{
+    let mut string = Expr::Set(ByteSet::of(first));
+    for byte in more {
+        let left = Box::new(alloc, string)?;
+        let right = Box::new(alloc, Expr::Set(ByteSet::of(*byte)))?;
+        string = Expr::Then(left, right);
+    }
+    Ok(string)
+}
+
+/// The last unit, repeated.
+fn again(alloc: Global, groups: Groups, low: u8, high: Option<u8>) -> Result<Option<Groups>, AllocError>
+    ensures { IfOk result (λ o. option_map groups_of o ≡ again low high (groups_of groups)) }
+{
+    let Groups { top, below } = groups;
+    let Frame { before, branch, unit } = top;
+    match unit {
+        Some(unit) => {
+            let body = Box::new(alloc, unit)?;
+            let unit = Some(Expr::Times { body, low, high });
+            Ok(Some(Groups { top: Frame { before, branch, unit }, below }))
+        }
+        None => Ok(None),
+    }
+}
+
+/// All of the branch, repeated.
+fn repeat_branch(alloc: Global, groups: Groups, low: u8, high: Option<u8>) -> Result<Option<Groups>, AllocError>
+    ensures { IfOk result (λ o. option_map groups_of o ≡ step (interval low high) (groups_of groups)) }
+{
+    let Groups { top, below } = groups;
+    let Frame { before, branch, unit } = top;
+    match whole(alloc, branch, unit)? {
+        Some(branch) => {
+            let body = Box::new(alloc, branch)?;
+            let branch = Some(Expr::Times { body, low, high });
+            Ok(Some(Groups { top: Frame { before, branch, unit: None }, below }))
+        }
+        None => Ok(None),
+    }
+}
+
+/// A group opens.
+fn open_group(groups: Groups) -> Result<Groups, AllocError>
+    ensures { IfOk result (λ next. step open_group (groups_of groups) ≡ Some (groups_of next)) }
+{
+    let Groups { top, mut below } = groups;
+    below.push(top)?;
+    Ok(Groups { top: empty_frame(), below })
+}
+
+/// The innermost group closes.
+fn close_group(alloc: Global, groups: Groups) -> Result<Option<Groups>, AllocError>
+    ensures { IfOk result (λ o. option_map groups_of o ≡ step close_group (groups_of groups)) }
+{
+    let Groups { top, mut below } = groups;
+    let Some(tree) = total(alloc, top)? else {
+        return Ok(None);
+    };
+    match below.pop() {
+        Some(outer) => {
+            let top = push(alloc, outer, tree)?;
+            Ok(Some(Groups { top, below }))
+        }
+        None => Ok(None),
+    }
+}
+
+/// An alternative ends.
+fn next_alternative(alloc: Global, groups: Groups) -> Result<Option<Groups>, AllocError>
+    ensures { IfOk result (λ o. option_map groups_of o ≡ step bar (groups_of groups)) }
+{
+    let Groups { top, below } = groups;
+    match total(alloc, top)? {
+        Some(tree) => Ok(Some(Groups { top: Frame { before: Some(tree), branch: None, unit: None }, below })),
+        None => Ok(None),
+    }
+}
+
+/// What was read with one more lexeme; `None` where that lexeme cannot stand here.
+pub(crate) fn step(alloc: Global, groups: Groups, lexeme: Lexeme) -> Result<Option<Groups>, AllocError>
+    ensures { IfOk result (λ o. option_map groups_of o ≡ step (lexeme_of lexeme) (groups_of groups)) }
+{
+    match lexeme {
+        Lexeme::Set(set) => Ok(Some(push_unit(alloc, groups, Expr::Set(set))?)),
+        Lexeme::Quoted(first, more) => {
+            let string = joined(alloc, first, more.as_slice())?;
+            Ok(Some(push_unit(alloc, groups, string)?))
+        }
+        Lexeme::Name(name) => Ok(Some(push_unit(alloc, groups, Expr::Name(name))?)),
+        Lexeme::Interval(low, high) => repeat_branch(alloc, groups, low, high),
+        Lexeme::OpenGroup => Ok(Some(open_group(groups)?)),
+        Lexeme::CloseGroup => close_group(alloc, groups),
+        Lexeme::Star => again(alloc, groups, 0, None),
+        Lexeme::Plus => again(alloc, groups, 1, None),
+        Lexeme::Question => again(alloc, groups, 0, Some(1)),
+        Lexeme::Bar => next_alternative(alloc, groups),
+    }
+}
+
+/// The alternation that was read, where no group is open and something stands behind the last bar.
+pub(crate) fn finish(alloc: Global, groups: Groups) -> Result<Option<Expr>, AllocError>
+    ensures { IfOk result (λ o. option_map regex_of o ≡ finish (groups_of groups).top (groups_of groups).below) }
+{
+    let Groups { top, below } = groups;
+    if below.is_empty() { total(alloc, top) } else { Ok(None) }
+}
