@@ -2,8 +2,19 @@
 //! (POSIX.1-2017, XCU `lex`, "Definitions in lex", "Rules in lex", "Actions in lex").
 #![tactic(auto)]
 
+pub mod action;
+pub mod block;
+pub mod bytes;
 pub mod condition;
+pub mod constant;
 pub mod definition;
+pub mod end;
 pub mod fault;
+pub mod graph;
+pub mod line;
 pub mod rule;
+pub mod rule_line;
+pub mod section;
+pub mod sheet;
 pub mod spec;
+pub mod word;

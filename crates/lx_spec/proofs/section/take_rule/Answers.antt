@@ -1,0 +1,14 @@
+use Rattle.std.proofs.Common.{◌≡◌, ◌∙◌, ◌+◌}
+use Rattle.std.specs.Option.{option_map}
+use Rattle.lx_spec.specs.Blocks.{start, with_line}
+use Rattle.lx_spec.specs.RuleLineViews.{prefix_view}
+use Rattle.lx_spec.specs.SheetViews.{sheet_view, raw_view}
+use Rattle.lx_spec.specs.PlaceViews.{place_view}
+use Rattle.lx_spec.proofs.Entering.{rule_begun, Goes-same, behind-same}
+use Rattle.lx_spec.proofs.section.take_rule.Goals as goal
+
+pub returns-in_ok-begun-in-BeginsRule : goal.returns-in_ok-begun-in-BeginsRule
+returns-in_ok-begun-in-BeginsRule c = λ rest. Goes-same _ c.args.number rest c.continue_rule.result _ _
+    (behind-same (sheet_view c.args.sheet) _ _ _ _ (c.args.number + 1) rest c.in_ok-begun-in-BeginsRule.ensures.rule c.in_ok-begun-in-BeginsRule.ensures.count
+      ∙ rule_begun (sheet_view c.args.sheet) c.args.number c.args.line.now _ _ _ rest c.in-BeginsRule.ensures)
+    (c.continue_rule.ensures c.args.number rest)
