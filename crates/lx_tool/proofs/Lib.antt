@@ -4,3 +4,4 @@ pub mod Files
 pub mod Queues
 pub mod Placing
 pub mod Steps
+pub mod Cutting
