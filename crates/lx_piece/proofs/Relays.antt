@@ -7,6 +7,7 @@ use Rattle.std.proofs.lemmas.List.Sums.{sum_by-set}
 use Rattle.std.proofs.Math.ListN.{length-set}
 use Rattle.std.proofs.Math.Seq.{map-set_same}
 use Rattle.lx_piece.specs.declared.piece.Piece.{Piece}
+use Rattle.lx_piece.specs.PieceLaws.{takes_in_order}
 use Rattle.lx_piece.specs.Plans.{Planned, files_of}
 use Rattle.lx_piece.specs.Pieces.{IsPieceOf}
 use Rattle.lx_piece.specs.Kept.{Lane, Kept, Delivers, KeepsIn, Advances, held_at, delivered_counts, held_total}
@@ -42,12 +43,15 @@ counts_delivered old new file p h =
     ∙ ap (λ (n : ℕ). slice_set (nexts old) file n) (h.moves.next ∙ ap (λ (n : ℕ). n + 1) (sym (count_at old file h.lane h.there)))
 
 -- the piece that is delivered is the one that the reader takes next of its file
-pub delivered_is_next : (plan : Planned) (counts : List ℕ) (old new : List Lane) (file : ℕ) (p : Piece) → HoldsPlanned plan old → counts ≡ nexts old → Delivers old file p new → IsNextPiece plan counts p
-delivered_is_next plan counts old new file p s e h =
+pub delivered_is_next : (plan : Planned) (counts : List ℕ) (old new : List Lane) (file : ℕ) (p : Piece) → 0 < plan.per_piece → HoldsPlanned plan old → counts ≡ nexts old → Delivers old file p new → IsNextPiece plan counts p
+delivered_is_next plan counts old new file p some s e h =
     let is = s.each file h.lane h.there h.lane.next p h.next in
+    let number = is.2 ∙ sym (count_at old file h.lane h.there) ∙ ap (λ (n : ℕ). slice_index (nexts old) n) (sym is.1) ∙ sym (ap (λ (ns : List ℕ). slice_index ns p.file) e) in
+    let below = is.0.number in
     record {
       planned = is.0;
-      number = is.2 ∙ sym (count_at old file h.lane h.there) ∙ ap (λ (n : ℕ). slice_index (nexts old) n) (sym is.1) ∙ sym (ap (λ (ns : List ℕ). slice_index ns p.file) e);
+      number = number;
+      taken = takes_in_order plan p.file (slice_index counts p.file) some (omega arith);
     }
 
 -- the reader's counts follow the collector's

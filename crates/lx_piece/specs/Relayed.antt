@@ -6,10 +6,11 @@ use Rattle.lx_piece.specs.Plans.{Planned, files_of}
 use Rattle.lx_piece.specs.Pieces.{IsPieceOf, TakesInOrder, pieces_of, piece_at}
 use Rattle.lx_piece.specs.Arrivals.{Site, site_of, AreHonest, accepted_of, replies_of, has_piece, IsLeastMissing}
 
--- p is the piece that a reader with these counts takes next of its file
+-- p is the piece that a reader with these counts takes next of its file, of which it took the first ones, in order
 pub record IsNextPiece (plan : Planned) (counts : List ℕ) (p : Piece) : Type 0 where
   pub planned : IsPieceOf plan p
   pub number : p.number ≡ slice_index counts p.file
+  pub taken : TakesInOrder plan p.file (slice_index counts p.file)
 
 -- of each file the pieces taken are some of its first ones, and so in order and none twice
 pub record TakesAllInOrder (plan : Planned) (counts : List ℕ) : Type 0 where

@@ -1,6 +1,6 @@
-ghost use Rattle.std.specs.Prelude.{◌≡◌, ◌+◌, ◌<◌, ◌≤◌, ℕ, IfOk, OnErr, MatchOption};
-ghost use Rattle.lx_piece.specs.Plans.{Planned, IsPlan, files_of, items_of};
-ghost use Rattle.lx_piece.specs.Pieces.{piece_at, pieces_of, part, IsPieceOf, TakesInOrder};
+ghost use Rattle.std.specs.Prelude.{◌≡◌, ◌+◌, ◌<◌, IfOk, OnErr, MatchOption};
+ghost use Rattle.lx_piece.specs.Plans.{files_of, items_of};
+ghost use Rattle.lx_piece.specs.Pieces.{piece_at, pieces_of, part, IsPieceOf};
 ghost use Rattle.lx_piece.specs.Cutting.{IsCutterOf};
 
 use std::alloc::{AllocError, Global};
@@ -97,11 +97,4 @@ impl Cutter {
         self.number += 1;
         Ok(Some(piece))
     }
-}
-
-/// A law, which does nothing: the first pieces of a file hold a prefix of its items; the closing piece is among
-/// them exactly where they are all of the file's pieces, and then they hold all of its items.
-pub fn takes_in_order()
-    ensures { (plan : Planned) (file count : ℕ) → IsPlan plan → count ≤ pieces_of plan file → TakesInOrder plan file count }
-{
 }

@@ -16,7 +16,7 @@ mod reply;
 
 pub use arrivals::Arrivals;
 pub use collector::Collector;
-pub use cutter::{Cutter, takes_in_order};
+pub use cutter::Cutter;
 pub use item::{Item, Items};
 pub use list_arrivals::ListArrivals;
 pub use piece::Piece;

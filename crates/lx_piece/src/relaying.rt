@@ -67,6 +67,7 @@ fn offer_to(collector: &mut Collector, piece: Piece) -> Result<Reply, RelayFault
 
 /// Hands the reader all that can be delivered.
 fn deliver_all<R: Reader>(collector: &mut Collector, reader: &mut R) -> Result<(), RelayFault>
+    requires per_piece { 0 < (R.plan reader.old).per_piece }
     requires planned { HoldsPlanned (R.plan reader.old) collector.old.lanes }
     requires counts { R.counts reader.old ≡ delivered_counts collector.old }
     requires countable { R.fault_count reader.old < top_number }

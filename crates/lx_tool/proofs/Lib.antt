@@ -13,3 +13,4 @@ pub mod SetLemmas
 pub mod Steps
 pub mod Weights
 pub mod PlanLemmas
+pub mod Cutting

@@ -8,7 +8,7 @@ use Rattle.lx_piece.specs.Plans.{Planned, files_of, items_of}
 use Rattle.lx_piece.specs.Pieces.{IsPrefix, pieces_of, pieces_to}
 use Rattle.lx_piece.specs.Relayed.{IsNextPiece}
 use Rattle.lx_tool.specs.Listings.{IsFirstOpen, taken_lines, IsDue, HasOpenFile, Progress, Printed, Prints, listing_of, printed}
-use Rattle.lx_tool.specs.ListingLaws.{appends_nothing, due_begins}
+use Rattle.lx_tool.specs.ListingLaws.{appends_nothing, due_begins, due_whole}
 use Rattle.lx_tool.specs.Waiting.{KeepsUp, Places, WritesInPart, counted, due_by, waiting_of}
 
 -- there is one first file that isn't closed
@@ -45,6 +45,7 @@ prints_placed plan counts first file next faults waiting new a b k p =
       wrote = p.wrote;
       due = λ _ _ text d. due_then plan counts first file next waiting new text a b k p d;
       prefix = λ _ text d. due_begins plan (counted counts file) (text ++ p.bytes) (due_then plan counts first file next waiting new text a b k p d);
+      whole = λ _ closed text d. due_whole plan (counted counts file) (text ++ p.bytes) closed (due_then plan counts first file next waiting new text a b k p d);
       stuck = λ _ failed. absurd (both_ways false refl failed);
       stopped = λ failed. absurd (both_ways false refl failed);
     }
@@ -58,6 +59,7 @@ prints_part plan counts first faults after waiting p a b k next w =
       wrote = w.wrote;
       due = λ _ going. absurd (both_ways true going refl);
       prefix = λ _ text d. subst (λ (bs : List ℕ). IsPrefix (bs ++ w.bytes) (listing_of plan)) (sym (due_is plan counts first text k.first_open d)) w.prefix;
+      whole = λ _ closed. absurd (let all = closed p.file next.planned.file in let number = next.number in let less = next.planned.number in let no_less : ⊥ = absurd (omega arith) in no_less);
       stuck = λ _ _. (p.file, next.planned.file, λ e. let number = next.number in let less = next.planned.number in absurd (omega arith));
       stopped = λ failed. absurd (both_ways false refl failed);
     }
@@ -71,6 +73,7 @@ prints_stopped plan counts faults after a =
       wrote = appends_nothing a;
       due = λ going. absurd (both_ways true going refl);
       prefix = λ going. absurd (both_ways true going refl);
+      whole = λ going. absurd (both_ways true going refl);
       stuck = λ going. absurd (both_ways true going refl);
       stopped = λ _. (refl, refl, refl);
     }

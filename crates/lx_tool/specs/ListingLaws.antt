@@ -9,7 +9,7 @@ use Rattle.lx_piece.specs.Plans.{Planned, files_of, items_of}
 use Rattle.lx_piece.specs.Pieces.{IsPrefix, contents, pieces_of, pieces_to}
 use Rattle.lx_piece.specs.PieceLaws.{prefix_to}
 use Rattle.lx_tool.specs.Lines.{line_of, lines_of}
-use Rattle.lx_tool.specs.Listings.{listing_to, listing_of, taken_lines, IsFirstOpen, IsDue, HasOpenFile, AppendsPrefix, Progress, Printed, Prints}
+use Rattle.lx_tool.specs.Listings.{listing_to, listing_of, taken_lines, IsFirstOpen, IsDue, AreAllClosed, HasOpenFile, AppendsPrefix, Progress, Printed, Prints}
 
 -- nothing was appended
 pub appends_nothing : (o : Option (List ℕ)) → Appends o o []
@@ -77,6 +77,21 @@ due_begins plan counts text d =
         (subst (λ (bytes : List ℕ). IsPrefix bytes (listing_of plan)) (sym (append-nil (listing_of plan))) (prefix_all (listing_of plan))))
     ])
 
+-- what is due once every file is closed
+pub due_whole : (plan : Planned) (counts text : List ℕ) → AreAllClosed plan counts → IsDue plan counts text → text ≡ listing_of plan
+due_whole plan counts text closed d =
+    let size = d.first_open.files in
+    let within = d.first_open.within in
+    let all : d.first ≡ files_of plan = elim (cases_lt d.first (files_of plan)) [
+      | inl l ↦ absurd (d.first_open.not_closed l (closed d.first l))
+      | inr past ↦ omega arith
+    ] in
+    let none : slice_index counts d.first ≡ 0 = get_or_past counts d.first 0 (omega arith) in
+    d.lines
+    ∙ ap (λ (n : ℕ). listing_to plan d.first ++ taken_lines plan d.first n) none
+    ∙ append-nil (listing_to plan d.first)
+    ∙ ap (λ (n : ℕ). listing_to plan n) all
+
 pub prints_nothing : (s : Printed) → Prints s s
 prints_nothing s =
     record {
@@ -85,6 +100,7 @@ prints_nothing s =
       wrote = appends_nothing s.written;
       due = λ _ _ text due. subst (λ (bytes : List ℕ). IsDue s.progress.plan s.progress.counts bytes) (sym (append-nil text)) due;
       prefix = λ _ text due. subst (λ (bytes : List ℕ). IsPrefix bytes (listing_of s.progress.plan)) (sym (append-nil text)) (due_begins s.progress.plan s.progress.counts text due);
+      whole = λ _ closed text due. append-nil text ∙ due_whole s.progress.plan s.progress.counts text closed due;
       stuck = λ working failed. absurd (both_ways s.progress.failed working failed);
       stopped = λ failed. (failed, refl, refl);
     }
@@ -104,6 +120,13 @@ prints_on s t u f h =
         | inr going ↦
           subst (λ (bytes : List ℕ). IsPrefix bytes (listing_of s.progress.plan)) (append_assoc text f.bytes h.bytes)
           (subst (λ (plan : Planned). IsPrefix ((text ++ f.bytes) ++ h.bytes) (listing_of plan)) f.plan (h.prefix going (text ++ f.bytes) (f.due working going text due)))
+      ];
+      whole = λ working closed text due. elim (cases_Bool t.progress.failed) [
+        | inl failed ↦
+          let some_open = f.stuck working failed in
+          let before = subst (λ (plan : Planned). AreAllClosed plan t.progress.counts) h.plan (subst (λ (counts : List ℕ). AreAllClosed u.progress.plan counts) (h.stopped failed).2 closed) in
+          absurd (some_open.2 (before some_open.0 some_open.1))
+        | inr going ↦ sym (append_assoc text f.bytes h.bytes) ∙ h.whole going closed (text ++ f.bytes) (f.due working going text due)
       ];
       stuck = λ working failed. elim (cases_Bool t.progress.failed) [
         | inl before ↦

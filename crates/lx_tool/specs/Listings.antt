@@ -34,6 +34,10 @@ pub record IsDue (plan : Planned) (counts : List ℕ) (text : List ℕ) : Type 0
 abbrev pub HasOpenFile : Planned → List ℕ → Type 0
 HasOpenFile plan counts = (file : ℕ) × (file < files_of plan) × (slice_index counts file ≢ pieces_of plan file)
 
+-- of every file each piece was taken
+abbrev pub AreAllClosed : Planned → List ℕ → Type 0
+AreAllClosed plan counts = (file : ℕ) → file < files_of plan → slice_index counts file ≡ pieces_of plan file
+
 -- known bytes grow by a prefix of these
 abbrev pub AppendsPrefix : Option (List ℕ) → Option (List ℕ) → List ℕ → Type 0
 AppendsPrefix old new bytes = (front : List ℕ) × IsPrefix front bytes × Appends old new front
@@ -62,6 +66,8 @@ pub record Prints (old new : Printed) : Type 0 where
   pub due : old.progress.failed ≡ false → new.progress.failed ≡ false → (text : List ℕ) → IsDue old.progress.plan old.progress.counts text → IsDue new.progress.plan new.progress.counts (text ++ bytes)
   -- A prefix of the listing, failed or not.
   pub prefix : old.progress.failed ≡ false → (text : List ℕ) → IsDue old.progress.plan old.progress.counts text → IsPrefix (text ++ bytes) (listing_of old.progress.plan)
+  -- Once every file is closed, all of the listing.
+  pub whole : old.progress.failed ≡ false → AreAllClosed new.progress.plan new.progress.counts → (text : List ℕ) → IsDue old.progress.plan old.progress.counts text → text ++ bytes ≡ listing_of new.progress.plan
   -- Where it fails, a file stays open.
   pub stuck : old.progress.failed ≡ false → new.progress.failed ≡ true → HasOpenFile new.progress.plan new.progress.counts
   -- Once it has failed, nothing, and it takes no piece.

@@ -3,6 +3,7 @@
 
 mod choice;
 mod command_line;
+mod cuts;
 mod line;
 mod listing;
 mod matcher;
@@ -16,3 +17,4 @@ mod writing;
 
 pub use program::run;
 pub use source::{ListSources, SourceFault, Sources};
+pub use listing::Listing;

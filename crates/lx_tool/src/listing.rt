@@ -1,4 +1,4 @@
-ghost use Rattle.std.specs.Prelude.{◌≡◌, ◌+◌, ◌<◌, IfOk, OnOk, OnErr, Err, replicate, slice_set, slice_index, true, false};
+ghost use Rattle.std.specs.Prelude.{◌≡◌, ◌+◌, ◌<◌, [], IfOk, OnOk, OnErr, Err, replicate, slice_set, slice_index, true, false};
 ghost use Rattle.lx_piece.specs.Plans.{files_of};
 ghost use Rattle.lx_piece.specs.Pieces.{top_number};
 ghost use Rattle.lx_piece.specs.Relayed.{IsNextPiece};
@@ -105,4 +105,67 @@ impl<'a> Lister<'a> {
     {
         self.faults
     }
+}
+
+/// Writes the lines of a plan's files in their order, and holds the pieces of later files until the earlier ones
+/// are closed. Each line is written at once, or in further writes for the rest of what was taken in part. A write
+/// of 0 bytes or an error is a fault of the device. Where memory is refused for a line, nothing of it is
+/// written. After a fault of either kind nothing more is written, and Device is answered and counted.
+#[derive(Drop)]
+pub struct Listing<'a, W: Write> {
+    lister: Lister<'a>,
+    out: W,
+}
+
+impl<'a, W: Write> Model for Listing<'a, W> {
+    ghost use Rattle.lx_tool.specs.Listings.{Printed, printed};
+
+    ghost Value = { Printed };
+
+    ghost view = { λ s. printed s.lister (W.contents s.out) };
+}
+
+impl<'a, W: Write> Listing<'a, W> {
+    /// A listing that has taken nothing, and writes to `out`.
+    pub fn new(alloc: Global, plan: &'a Plan, out: W) -> Result<Listing<'a, W>, AllocError>
+    where
+        W: Drop,
+        ensures plan { IfOk result (λ listing. listing.progress.plan ≡ plan.now) }
+        ensures counts { IfOk result (λ listing. listing.progress.counts ≡ replicate (files_of plan.now) 0) }
+        ensures faults { IfOk result (λ listing. listing.progress.faults ≡ 0) }
+        ensures failed { IfOk result (λ listing. listing.progress.failed ≡ false) }
+        ensures written { IfOk result (λ listing. listing.written ≡ W.contents out) }
+        // By what it has taken nothing is due yet.
+        ensures due { IfOk result (λ listing. IsDue plan.now listing.progress.counts []) }
+    {
+        Ok(Listing {
+            lister: Lister::new(alloc, plan)?,
+            out,
+        })
+    }
+}
+
+impl<'a, W: Write> Reader for Listing<'a, W> {
+    ghost use Rattle.lx_tool.specs.Listings.{Prints};
+    ghost use Rattle.lx_tool.specs.ListingLaws.{prints_nothing, prints_on};
+
+    ghost plan = { λ s. s.progress.plan };
+
+    ghost counts = { λ s. s.progress.counts };
+
+    ghost fault_count = { λ s. s.progress.faults };
+
+    ghost follows = { Prints };
+
+    fn take(&mut self, piece: Piece) -> Result<(), ReaderFault> {
+        self.lister.take(&mut self.out, piece)
+    }
+
+    fn faults(&self) -> u64 {
+        self.lister.faults()
+    }
+
+    ghost follows_itself = { prints_nothing };
+
+    ghost follows_on = { prints_on };
 }

@@ -11,7 +11,7 @@ take-requires-clause-next g c =
     let i = c.loop-piece.invariant in
     let h = c.in-Some.ensures.delivered in
     subst (λ plan. IsNextPiece plan (g.R.Reader.counts c.loop-piece.reader) c.in-Some.piece) (sym i.plan)
-    (delivered_is_next _ _ _ _ h.0 c.in-Some.piece i.planned i.counts h.1)
+    (delivered_is_next _ _ _ _ h.0 c.in-Some.piece c.requires.per_piece i.planned i.counts h.1)
 
 pub loop-piece-smaller : goal.loop-piece-smaller
 loop-piece-smaller g c = let h = c.in-Some.ensures.delivered in fewer_held _ _ h.0 c.in-Some.piece h.1

@@ -1,7 +1,8 @@
-use Rattle.std.proofs.Common.{◌≡◌, sym, ◌∙◌, subst, ap, arith, [], ◌∷◌, ◌++◌, append-nil, refl}
+use Rattle.std.proofs.Common.{◌≡◌, ◌<◌, sym, ◌∙◌, subst, ap, arith, [], ◌∷◌, ◌++◌, append-nil, refl}
 use Rattle.std.specs.Prelude.{slice_get}
 use Rattle.std.proofs.lemmas.List.Elements.{All-nil}
 use Rattle.std.proofs.lemmas.Result.{err_from_is_err_and}
+use Rattle.lx_piece.specs.Plans.{Planned}
 use Rattle.lx_piece.specs.Arrivals.{IsHonest}
 use Rattle.lx_piece.specs.Kept.{is_ready_at}
 use Rattle.lx_piece.specs.Relayed.{HoldsPlanned}
@@ -83,3 +84,6 @@ returns-in_err-deliver_all-clause-err g c =
     let then = so_far_still c.args.plan.now _ c.offer_to.new.collector c.deliver_all.new.collector _ so h.stands in
     let p = err_from_is_err_and c.from_residual-in_err-deliver_all.result c.from_residual-in_err-deliver_all.ensures.1 in
     rw p.1 (in_part c.args.plan.now _ c.deliver_all.new.collector _ _ c.files.ensures.plan.some_items then (h.site ∙ (b.site ∙ i.site)) h.err)
+
+pub deliver_all-requires-clause-per_piece : goal.deliver_all-requires-clause-per_piece
+deliver_all-requires-clause-per_piece g c = subst (λ (plan : Planned). 0 < plan.per_piece) (sym c.loop-piece.invariant.reader_plan) c.files.ensures.plan.some_items
