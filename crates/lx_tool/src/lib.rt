@@ -12,9 +12,11 @@ mod planning;
 mod program;
 mod scanner;
 mod source;
+#[cfg(test)]
+mod tests;
 mod waiting;
 mod writing;
 
+pub use listing::Listing;
 pub use program::run;
 pub use source::{ListSources, SourceFault, Sources};
-pub use listing::Listing;
