@@ -5,3 +5,4 @@ pub mod Queues
 pub mod Placing
 pub mod Steps
 pub mod Cutting
+pub mod AllPrinted

@@ -4,7 +4,9 @@
 mod cuts;
 mod line;
 mod listing;
+mod printing;
 mod waiting;
 mod writing;
 
 pub use listing::Listing;
+pub use printing::{RunFault, print_listing};
