@@ -9,6 +9,7 @@ mod listing;
 mod matcher;
 mod places;
 mod planning;
+mod printing;
 mod program;
 mod scanner;
 mod source;
@@ -18,5 +19,8 @@ mod waiting;
 mod writing;
 
 pub use listing::Listing;
+pub use planning::list_files;
+pub use printing::{RunFault, print_listing};
 pub use program::run;
+pub use scanner::one_list_of_items;
 pub use source::{ListSources, SourceFault, Sources};
