@@ -1,10 +1,12 @@
 -- Plans made of files by a specification.
-use Rattle.std.specs.Prelude.{◌≡◌, ℕ, ◌<◌, List, [], length, map, All, slice_index_or}
+use Rattle.std.specs.Prelude.{◌≡◌, ℕ, ◌<◌, List, [], Option, length, map, All, slice_index_or}
 use Rattle.lx_spec.specs.declared.spec.Spec.{Spec}
 use Rattle.lx_piece.specs.declared.item.Item.{Item}
 use Rattle.lx_piece.specs.Items.{IsItemOf}
 use Rattle.lx_piece.specs.Plans.{Planned, bytes_of, items_of}
+use Rattle.std.specs.Io.KnownBytes.{Appends}
 use Rattle.lx_tool.specs.Items.{AreItemsBy}
+use Rattle.lx_tool.specs.Listings.{AppendsPrefix, listing_of}
 
 -- the names of the kinds that rules return
 abbrev pub kinds_of : Spec → List (List ℕ)
@@ -21,3 +23,15 @@ pub record IsPlanBy (spec : Spec) (texts : List (List ℕ)) (plan : Planned) : T
   pub kinds : plan.kinds ≡ kinds_of spec
   pub texts_are : plan.texts ≡ texts
   pub items : (file : ℕ) → file < length texts → AreItemsBy spec (bytes_of plan file) (items_of plan file)
+
+-- What was written are the lines of the items of these texts by the rules of the specification.
+pub record ListsBy (spec : Spec) (texts : List (List ℕ)) (old new : Option (List ℕ)) : Type 0 where
+  pub plan : Planned
+  pub by_rules : IsPlanBy spec texts plan
+  pub wrote : Appends old new (listing_of plan)
+
+-- What was written is a prefix of those lines.
+pub record ListsPrefixBy (spec : Spec) (texts : List (List ℕ)) (old new : Option (List ℕ)) : Type 0 where
+  pub plan : Planned
+  pub by_rules : IsPlanBy spec texts plan
+  pub wrote : AppendsPrefix old new (listing_of plan)

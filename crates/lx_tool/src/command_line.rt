@@ -1,11 +1,13 @@
 //! The command line of `lx`.
 
+ghost use Rattle.std.specs.Prelude.{◌<◌, ◌≤◌};
+
 use clap::error::ErrorKind;
 use clap::{Arg, ArgAction, ArgMatches, Command, Error, value_parser};
 use std::alloc::{AllocError, Global};
 
-// How many items a piece has where `-b` is not given.
-const ITEMS: u32 = 256;
+/// How many items a piece has where `-b` is not given.
+pub(crate) const ITEMS: u32 = 256;
 
 /// What the words of the command line ask for.
 #[derive(Drop)]
@@ -21,12 +23,14 @@ pub(crate) enum Order<'a> {
 /// The words of `run`.
 #[derive(Drop)]
 pub(crate) struct RunOrder<'a> {
-    /// How many items a piece has, from 1 to 4,096.
+    /// How many items a piece has.
     pub(crate) per_piece: u32,
     /// The name of the specification.
     pub(crate) specification: &'a str,
-    /// The names of the files, at least one.
+    /// The names of the files.
     pub(crate) files: Vec<&'a str>,
+    ghost some_items: { 0 < per_piece },
+    ghost few_items: { per_piece ≤ 4096 },
 }
 
 /// Why the words of the command line ask for nothing.
@@ -104,7 +108,7 @@ fn run_order_of<'a>(alloc: Global, matches: &ArgMatches<'a>) -> Result<RunOrder<
         None => Vec::new(alloc),
     };
     Ok(RunOrder {
-        per_piece: matches.get_one::<u32>("items").unwrap_or(ITEMS),
+        per_piece: matches.get_one::<u32>("items").unwrap_or(ITEMS).clamp(1, 4096),
         specification: matches.get_str("SPEC").unwrap_or(""),
         files,
     })

@@ -1,12 +1,15 @@
 //! Files, scanned whole, as a plan of pieces.
 
-ghost use Rattle.std.specs.Prelude.{◌≡◌, ◌<◌, ◌≤◌, IfOk, map, vec_len};
-ghost use Rattle.lx_tool.specs.Planning.{AreScanned, IsPlanBy};
+ghost use Rattle.std.specs.Prelude.{◌≡◌, ◌<◌, ◌≤◌, ◌⊎◌, IfOk, OnOk, OnErr, map, vec_len};
+ghost use Rattle.std.specs.Io.KnownBytes.{Keeps};
+ghost use Rattle.lx_tool.specs.Planning.{AreScanned, IsPlanBy, ListsBy, ListsPrefixBy};
 
+use crate::printing::{RunFault, print_listing};
 use crate::scanner::scan;
 use lx_piece::{Item, Plan};
 use lx_spec::spec::Spec;
 use std::alloc::{AllocError, Global};
+use std::io::Write;
 
 // The number that the pieces of a run of the program carry.
 const RUN: u64 = 1;
@@ -33,4 +36,18 @@ pub(crate) fn plan_files(alloc: Global, spec: Spec, files: Vec<Vec<u8>>, per_pie
     let items = scan_files(alloc, &spec, &files)?;
     let Spec { kinds, .. } = spec;
     Ok(Plan::of_items(kinds, files, items, per_piece, RUN))
+}
+
+/// Writes the lines of the files' items by the rules of the specification, with `per_piece` items a piece: all of them,
+/// or after a fault a prefix, possibly empty.
+pub fn list_files<W: Write>(alloc: Global, spec: Spec, files: Vec<Vec<u8>>, per_piece: u32, out: &mut W) -> Result<(), RunFault>
+    requires some_files { 0 < vec_len files }
+    requires few_files { vec_len files ≤ 65536 }
+    requires some_items { 0 < per_piece }
+    requires few_items { per_piece ≤ 4096 }
+    ensures ok { OnOk result (ListsBy spec (map (λ file. file.items) files.items) (W.contents out.old) (W.contents out.new)) }
+    ensures err { OnErr result (Keeps (W.contents out.old) (W.contents out.new) ⊎ ListsPrefixBy spec (map (λ file. file.items) files.items) (W.contents out.old) (W.contents out.new)) }
+{
+    let plan = plan_files(alloc, spec, files, per_piece)?;
+    print_listing(alloc, &plan, out)
 }

@@ -1,7 +1,11 @@
 //! The program `lx`, but for the real files and streams.
 
-use crate::command_line::{Order, Refusal, RunOrder, read_words};
-use crate::source::{SourceFault, Sources};
+ghost use Rattle.std.specs.Prelude.{◌≡◌, IfOk, vec_len, length};
+
+use crate::command_line::{ITEMS, Order, Refusal, RunOrder, read_words};
+use crate::planning::list_files;
+use crate::printing::RunFault;
+use crate::source::{ListSources, SourceFault, Sources};
 use clap::Error as WordsError;
 use lx_spec::fault::{Code, SpecFault};
 use lx_spec::spec::Spec;
@@ -11,6 +15,12 @@ use thiserror::Error;
 
 // The most files that one listing has.
 const MOST_FILES: usize = 65_536;
+
+// The files of the stored run.
+static STORED: [(&str, &[u8]); 2] = [
+    ("words.l", b"%%\n[a-z]+ return ID;\n[0-9]+ return NUM;\n[ \\n]+ ;\n"),
+    ("words.txt", b"ab 12\n"),
+];
 
 // Why a command is not done.
 #[derive(Debug, Drop, Error)]
@@ -54,6 +64,15 @@ impl<T: Drop> From<AllocFailed<T>> for Failure<'_> {
     }
 }
 
+impl From<RunFault> for Failure<'_> {
+    fn from(fault: RunFault) -> Self {
+        match fault {
+            RunFault::Memory => Failure::Memory,
+            RunFault::Reader => Failure::Output,
+        }
+    }
+}
+
 impl From<SpecFault> for Failure<'_> {
     fn from(fault: SpecFault) -> Self {
         match fault.code {
@@ -81,28 +100,42 @@ pub fn run<R, S: Sources, O: Write, E: Write>(_rt: &R, alloc: Global, words: &[S
     }
 }
 
+// Does what the words ask for.
 fn obey<'a, S: Sources, O: Write>(alloc: Global, words: &'a [String], sources: &mut S, out: &mut O) -> Result<(), Failure<'a>> {
     match read_words(alloc, words) {
-        Ok(Order::Stored) => {}
+        Ok(Order::Stored) => list(alloc, &stored_order(alloc)?, &mut ListSources::new(STORED.as_slice()), out)?,
         Ok(Order::Help(text)) => write!(out, "{text}").map_err(|_| Failure::Output)?,
-        Ok(Order::Run(order)) => run_files(alloc, &order, sources, out)?,
+        Ok(Order::Run(order)) => list(alloc, &order, sources, out)?,
         Err(Refusal::Words(error)) => return Err(Failure::Words(error)),
         Err(Refusal::Memory) => return Err(Failure::Memory),
     }
     out.flush().map_err(|_| Failure::Output)
 }
 
-fn run_files<'a, S: Sources, O: Write>(alloc: Global, order: &RunOrder<'a>, sources: &mut S, out: &mut O) -> Result<(), Failure<'a>> {
+// Lists the order's files by its specification. All are read before the first line is written.
+fn list<'a, S: Sources, O: Write>(alloc: Global, order: &RunOrder<'a>, sources: &mut S, out: &mut O) -> Result<(), Failure<'a>> {
     if order.files.len() > MOST_FILES {
         return Err(Failure::TooManyFiles);
     }
     let text = read_file(alloc, sources, order.specification)?;
     let spec = read_spec(alloc, &text)?;
+    let files = read_files(alloc, sources, &order.files)?;
+    if files.is_empty() {
+        return Ok(());
+    }
+    list_files(alloc, spec, files, order.per_piece, out)?;
+    Ok(())
+}
+
+// The files with these names, in order.
+fn read_files<'a, S: Sources>(alloc: Global, sources: &mut S, names: &[&'a str]) -> Result<Vec<Vec<u8>>, Failure<'a>>
+    ensures { IfOk result (λ files. vec_len files ≡ length names.now) }
+{
     let mut files = Vec::new(alloc);
-    for name in &order.files {
+    for name in names {
         files.push(read_file(alloc, sources, name)?)?;
     }
-    list(alloc, spec, files, order.per_piece, out)
+    Ok(files)
 }
 
 fn read_file<'a, S: Sources>(alloc: Global, sources: &mut S, name: &'a str) -> Result<Vec<u8>, Failure<'a>> {
@@ -113,10 +146,15 @@ fn read_file<'a, S: Sources>(alloc: Global, sources: &mut S, name: &'a str) -> R
     }
 }
 
-fn read_spec(_alloc: Global, _text: &[u8]) -> Result<Spec, SpecFault> {
-    Err(SpecFault { code: Code::NoAction, line: 2 })
+// The order of the stored run.
+fn stored_order(alloc: Global) -> Result<RunOrder<'static>, AllocError> {
+    Ok(RunOrder {
+        per_piece: ITEMS,
+        specification: "words.l",
+        files: vec![in alloc; "words.txt"]?,
+    })
 }
 
-fn list<'a, O: Write>(_alloc: Global, _spec: Spec, _files: Vec<Vec<u8>>, _per_piece: u32, _out: &mut O) -> Result<(), Failure<'a>> {
-    Ok(())
+fn read_spec(_alloc: Global, _text: &[u8]) -> Result<Spec, SpecFault> {
+    Err(SpecFault { code: Code::NoAction, line: 2 })
 }
