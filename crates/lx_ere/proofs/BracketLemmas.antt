@@ -30,15 +30,16 @@ not_is_false true h = absurd (false≢true h)
 not_is_false false h = refl
 
 -- what a byte that stands alone is not
-record Alone (spot : Spot) (c : ℕ) (behind : List ℕ) : Type 0 where
+pub record Alone (spot : Spot) (c : ℕ) (behind : List ℕ) : Type 0 where
   pub no_close : nat_eq c 93 ≡ false
   pub no_slash : nat_eq c 92 ≡ false
   pub no_dash : nat_eq c 45 ≡ false
   pub no_period : (nat_eq c 91 && begins_with 46 behind) ≡ false
   pub no_colon : (nat_eq c 91 && begins_with 58 behind) ≡ false
   pub no_equals : (nat_eq c 91 && begins_with 61 behind) ≡ false
+  pub no_inner : opens_inner c behind ≡ false
 
-alone_is : (spot : Spot) (c : ℕ) (behind : List ℕ) → stands_alone spot c behind ≡ true → Alone spot c behind
+pub alone_is : (spot : Spot) (c : ℕ) (behind : List ℕ) → stands_alone spot c behind ≡ true → Alone spot c behind
 alone_is spot c behind h =
     let a = not_or (nat_eq c 93) (nat_eq c 92 || (nat_eq c 45 || (nat_eq c 10 || ((is_opening spot && nat_eq c 94) || opens_inner c behind)))) h in
     let b = not_or (nat_eq c 92) (nat_eq c 45 || (nat_eq c 10 || ((is_opening spot && nat_eq c 94) || opens_inner c behind))) a.1 in
@@ -47,7 +48,7 @@ alone_is spot c behind h =
     let g = not_or (is_opening spot && nat_eq c 94) (opens_inner c behind) f.1 in
     let inner : opens_inner c behind ≡ false = not_is_false (opens_inner c behind) g.1 in
     let parts = three (nat_eq c 91) (begins_with 58 behind) (begins_with 46 behind) (begins_with 61 behind) inner in
-    record { no_close = a.0; no_slash = b.0; no_dash = d.0; no_period = parts.1; no_colon = parts.0; no_equals = parts.2 }
+    record { no_close = a.0; no_slash = b.0; no_dash = d.0; no_period = parts.1; no_colon = parts.0; no_equals = parts.2; no_inner = inner }
   where
     three : (n x y z : Bool) → (n && (x || (y || z))) ≡ false → ((n && x) ≡ false) × ((n && y) ≡ false) × ((n && z) ≡ false)
     three false x y z h = (refl, refl, refl)
@@ -183,7 +184,7 @@ range_end_sound text c behind e = go (cases_of (begins_with 45 text) (Some (45, 
     go (inr (b, f)) = let i = point_sound inside text c behind f in record { front = i.front; spelled = end_point (i.front) c behind i.spelled; joins = i.joins }
 
 -- the names of classes are runs of name bytes
-class_name : (name : List ℕ) (ranges : List (ℕ × ℕ)) → class_ranges name ≡ Some ranges → list_all is_name_byte name ≡ true
+pub class_name : (name : List ℕ) (ranges : List (ℕ × ℕ)) → class_ranges name ≡ Some ranges → list_all is_name_byte name ≡ true
 class_name name ranges e =
     by (codes "upper") refl _ _ (by (codes "lower") refl _ _ (by (codes "alpha") refl _ _ (by (codes "digit") refl _ _ (by (codes "alnum") refl _ _ (by (codes "xdigit") refl _ _
     (by (codes "space") refl _ _ (by (codes "blank") refl _ _ (by (codes "punct") refl _ _ (by (codes "print") refl _ _ (by (codes "graph") refl _ _ (by (codes "cntrl") refl _ _ (λ none. absurd (no_none ranges none))))))))))))) e
@@ -336,14 +337,22 @@ members_sound : (spot : Spot) (text : List ℕ) (m : List (ℕ × ℕ)) (ms : Li
 members_sound spot text m ms behind e =
     opened_sound (Member inside) (member_at inside) 93 (member_complete inside) (member_sound inside) (member_some inside) member_closes (Member spot) (member_at spot) (member_sound spot) text m ms behind e
 
-pub bracket_complete : (text : List ℕ) (s : set.FinSet nat_cmp) (behind : List ℕ) → Bracket text s behind → BracketAt text s behind
-bracket_complete _ _ _ (matching text m ms behind o) = record { rest = text; opens = refl; found = go (begins_with 94 (text ++ behind)) refl }
+-- members directly behind `[` don't begin with `^`
+pub opening_no_caret : (text : List ℕ) (m : List (ℕ × ℕ)) (ms : List (List (ℕ × ℕ))) (behind : List ℕ) → Opened (Member opening) (Member inside) 93 text m ms behind → begins_with 94 (text ++ behind) ≡ false
+opening_no_caret text m ms behind o = go (begins_with 94 (text ++ behind)) refl
   where
-    go : (b : Bool) → begins_with 94 (text ++ behind) ≡ b → bracket_at (text ++ behind) ≡ Some (bytes_where (in_members (m ∷ ms)), behind)
-    go false eb = pick_second (begins_with 94 (text ++ behind)) _ _ eb ∙ ap (option_map {U = Set1} (λ f. (bytes_where (in_members (f.0 ∷ f.1)), f.2))) (members_complete opening text m ms behind o)
+    go : (b : Bool) → begins_with 94 (text ++ behind) ≡ b → b ≡ false
+    go false eb = refl
     go true eb =
         let none : members_at opening (94 ∷ drop 1 (text ++ behind)) ≡ None = refl in
         absurd (no_none (m, ms, behind) (sym none ∙ (ap (members_at opening) (sym (begins_is 94 (text ++ behind) eb)) ∙ members_complete opening text m ms behind o)))
+
+pub bracket_complete : (text : List ℕ) (s : set.FinSet nat_cmp) (behind : List ℕ) → Bracket text s behind → BracketAt text s behind
+bracket_complete _ _ _ (matching text m ms behind o) = record {
+  rest = text;
+  opens = refl;
+  found = pick_second (begins_with 94 (text ++ behind)) _ _ (opening_no_caret text m ms behind o) ∙ ap (option_map {U = Set1} (λ f. (bytes_where (in_members (f.0 ∷ f.1)), f.2))) (members_complete opening text m ms behind o);
+}
 bracket_complete _ _ _ (excluding text m ms behind o) = record {
   rest = 94 ∷ text;
   opens = refl;

@@ -76,7 +76,7 @@ string_sound text l behind e =
      k.2 ∙ ap (λ v. k.0 ++ v) last)
 
 -- names
-identifier_bytes : (n : List ℕ) → is_identifier n ≡ true → list_all is_name_byte n ≡ true
+pub identifier_bytes : (n : List ℕ) → is_identifier n ≡ true → list_all is_name_byte n ≡ true
 identifier_bytes [] h = absurd (false≢true h)
 identifier_bytes (c ∷ more) h =
     let both = and_parts (is_name_start c) (list_all is_name_byte more) h in
@@ -229,7 +229,7 @@ interval_brace : (digits : List ℕ) (n : ℕ) (tail behind : List ℕ) (l : Lex
 interval_brace digits n tail behind l i e = ap brace_at (append_assoc digits tail behind) ∙ (pick_first (starts_digit (digits ++ (tail ++ behind))) _ _ (bound_starts digits n (tail ++ behind) i) ∙ e)
 
 -- a byte that is a lexeme by itself begins nothing else
-byte_other : (c d : ℕ) (l : Lexeme) → byte_lexeme c ≡ Some l → byte_lexeme d ≡ None → nat_eq c d ≡ false
+pub byte_other : (c d : ℕ) (l : Lexeme) → byte_lexeme c ≡ Some l → byte_lexeme d ≡ None → nat_eq c d ≡ false
 byte_other c d l e none = eq_other c d (λ same. no_none l (sym none ∙ (ap byte_lexeme (sym same) ∙ e)))
 
 pub lexeme_complete : (text : List ℕ) (l : Lexeme) (behind : List ℕ) → Spells text l behind → lexeme_at (text ++ behind) ≡ Some (l, behind)

@@ -1,11 +1,12 @@
 //! Patterns and substitutes, read from left to right once (POSIX.1-2017, XCU `lex`, "Regular Expressions in lex", "Definitions in lex").
 
-ghost use Rattle.std.specs.Prelude.{◌≡◌, ◌++◌, IfOk, Err, List, ℕ};
+ghost use Rattle.std.specs.Prelude.{◌≡◌, ◌++◌, IfOk, Err, List, length, ℕ};
 ghost use Rattle.lx_ere.specs.Regex.{Regex, Reading, regex_of, reading_of};
 ghost use Rattle.lx_ere.specs.Grammar.{Lexeme, IsAlternation};
 ghost use Rattle.lx_ere.specs.Brackets.{begins_with};
 ghost use Rattle.lx_ere.specs.Spelling.{Spells, Lexes};
 ghost use Rattle.lx_ere.specs.Pattern.{IsPattern, IsSubstitute};
+ghost use Rattle.lx_ere.specs.PatternEnd.{IsPatternEnd};
 ghost use Rattle.lx_ere.specs.Reading.{lexeme_at, body_of, ending_at, Reads};
 
 use crate::expr::{Expr, Pattern};
@@ -112,5 +113,11 @@ pub fn one_reading()
 /// A law: a text has at most one reading as a substitute.
 pub fn one_substitute()
     ensures { (text : List ℕ) (r s : Regex) → IsSubstitute text r → IsSubstitute text s → r ≡ s }
+{
+}
+
+/// A law: a text that has a reading as a pattern has no space or tab outside quotes, brackets and escapes, so it ends where `pattern_end` says.
+pub fn pattern_reaches_end()
+    ensures { (text : List ℕ) (r : Reading) → IsPattern text r → IsPatternEnd text (length text) }
 {
 }
