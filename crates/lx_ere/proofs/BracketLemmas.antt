@@ -168,6 +168,7 @@ range_end_complete _ _ _ (end_point text c behind p) = go (begins_with 45 (text 
         pick : (begins_with 93 x ≡ true) × ◌≡◌ {A = Option Point1} (Some (45, x)) (Some (c, behind)) ⊎ ((begins_with 93 x ≡ false) × ◌≡◌ {A = Option Point1} None (Some (c, behind))) → ◌≡◌ {A = Option Point1} (Some (45, x)) (Some (c, behind))
         pick (inl (b, f)) = f
         pick (inr (b, f)) = absurd (no_none (c, behind) f)
+
     go : (b : Bool) → begins_with 45 (text ++ behind) ≡ b → range_end_at (text ++ behind) ≡ Some (c, behind)
     go false eb = pick_second (begins_with 45 (text ++ behind)) _ _ eb ∙ point_complete inside text c behind p
     go true eb = pick_first (begins_with 45 (text ++ behind)) _ _ eb ∙ at_dash (drop 1 (text ++ behind)) (ap (point_at inside) (sym (begins_is 45 (text ++ behind) eb)) ∙ point_complete inside text c behind p)
@@ -227,7 +228,7 @@ member_complete _ _ _ _ (range spot text low text' high behind p follows end le)
     let no = point_no_pair spot text low (45 ∷ (text' ++ behind)) p in
     let at_end : option_and_then (range_from low) (range_end_at (text' ++ behind)) ≡ Some ((low, high) ∷ [], behind) = ap (option_and_then (range_from low)) (range_end_complete text' high behind end) ∙ pick_first (nat_le low high) _ _ (le-leb low high le) in
     ap (member_at spot) e ∙ (pick_second (begins_pair 91 58 (text ++ (45 ∷ (text' ++ behind)))) _ _ no.0 ∙ (pick_second (begins_pair 91 61 (text ++ (45 ∷ (text' ++ behind)))) _ _ no.1 ∙
-      (ap (option_and_then member_from) (point_complete spot text low (45 ∷ (text' ++ behind)) p) ∙ (pick_first (range_follows (45 ∷ (text' ++ behind))) _ _ follows ∙ at_end))))
+    (ap (option_and_then member_from) (point_complete spot text low (45 ∷ (text' ++ behind)) p) ∙ (pick_first (range_follows (45 ∷ (text' ++ behind))) _ _ follows ∙ at_end))))
 member_complete _ _ _ _ (equivalence spot c behind h) = ap (option_map {U = Ranges1} (λ f. ((f.0, f.0) ∷ [], f.1))) (marked_complete 61 c behind h)
 member_complete _ _ _ _ (class spot name ranges behind known) =
     let e : (name ++ (58 ∷ 93 ∷ [])) ++ behind ≡ name ++ (58 ∷ 93 ∷ behind) = append_assoc name (58 ∷ 93 ∷ []) behind in
@@ -250,7 +251,7 @@ member_from_sound : (spot : Spot) (text : List ℕ) (low : ℕ) (rest : List ℕ
 member_from_sound spot text low rest ranges behind i e = go (cases_of (range_follows rest) (option_and_then (range_from low) (range_end_at (drop 1 rest))) (Some ((low, low) ∷ [], rest)) (Some (ranges, behind)) e)
   where
     ranged : (high : ℕ) (after : List ℕ) → range_follows rest ≡ true → range_end_at (drop 1 rest) ≡ Some (high, after) →
-      (nat_le low high ≡ true) × ◌≡◌ {A = Option Ranges1} (Some ((low, high) ∷ [], after)) (Some (ranges, behind)) ⊎ ((nat_le low high ≡ false) × ◌≡◌ {A = Option Ranges1} None (Some (ranges, behind))) → IsFront (Member spot) text ranges behind
+        (nat_le low high ≡ true) × ◌≡◌ {A = Option Ranges1} (Some ((low, high) ∷ [], after)) (Some (ranges, behind)) ⊎ ((nat_le low high ≡ false) × ◌≡◌ {A = Option Ranges1} None (Some (ranges, behind))) → IsFront (Member spot) text ranges behind
     ranged high after follows at (inl (b, f)) =
         let pair : ◌≡◌ {A = Ranges1} ((low, high) ∷ [], after) (ranges, behind) = same_some ((low, high) ∷ [], after) (ranges, behind) f in
         let same : (low, high) ∷ [] ≡ ranges = ap (λ p. p.0) pair in
@@ -365,20 +366,22 @@ bracket_sound text s behind e =
     go (cases_of (begins_with 94 text) (option_map {U = Set1} (λ f. (bytes_where (λ b. not (in_members (f.0 ∷ f.1) b)), f.2)) (members_at behind_caret (drop 1 text))) (option_map {U = Set1} (λ f. (bytes_where (in_members (f.0 ∷ f.1)), f.2)) (members_at opening text)) (Some (s, behind)) e)
   where
     go : (begins_with 94 text ≡ true) × (option_map {U = Set1} (λ f. (bytes_where (λ b. not (in_members (f.0 ∷ f.1) b)), f.2)) (members_at behind_caret (drop 1 text)) ≡ Some (s, behind)) ⊎
-         ((begins_with 94 text ≡ false) × (option_map {U = Set1} (λ f. (bytes_where (in_members (f.0 ∷ f.1)), f.2)) (members_at opening text) ≡ Some (s, behind))) → (front : List ℕ) × Bracket (91 ∷ front) s behind × (text ≡ front ++ behind)
+        ((begins_with 94 text ≡ false) × (option_map {U = Set1} (λ f. (bytes_where (in_members (f.0 ∷ f.1)), f.2)) (members_at opening text) ≡ Some (s, behind))) → (front : List ℕ) × Bracket (91 ∷ front) s behind × (text ≡ front ++ behind)
     go (inl (b, f)) =
         let (found, at, pair) = map_is {B = Set1} (λ f. (bytes_where (λ b. not (in_members (f.0 ∷ f.1) b)), f.2)) (members_at behind_caret (drop 1 text)) (s, behind) f in
         let k = members_sound behind_caret (drop 1 text) (found.0) (found.1) (found.2) at in
         let same : bytes_where (λ b. not (in_members (found.0 ∷ found.1) b)) ≡ s = ap (λ p. p.0) pair in
-        let last : found.2 ≡ behind = ap (λ p. p.1) pair in
-        (94 ∷ k.0,
-         subst (λ v. Bracket (91 ∷ 94 ∷ k.0) s v) last (subst (λ x. Bracket (91 ∷ 94 ∷ k.0) x (found.2)) same (excluding (k.0) (found.0) (found.1) (found.2) k.1)),
-         begins_is 94 text b ∙ ap (λ t. 94 ∷ t) (k.2 ∙ ap (λ v. k.0 ++ v) last))
+        let last : found.2 ≡ behind = ap (λ p. p.1) pair in (
+          94 ∷ k.0,
+          subst (λ v. Bracket (91 ∷ 94 ∷ k.0) s v) last (subst (λ x. Bracket (91 ∷ 94 ∷ k.0) x (found.2)) same (excluding (k.0) (found.0) (found.1) (found.2) k.1)),
+          begins_is 94 text b ∙ ap (λ t. 94 ∷ t) (k.2 ∙ ap (λ v. k.0 ++ v) last),
+        )
     go (inr (b, f)) =
         let (found, at, pair) = map_is {B = Set1} (λ f. (bytes_where (in_members (f.0 ∷ f.1)), f.2)) (members_at opening text) (s, behind) f in
         let k = members_sound opening text (found.0) (found.1) (found.2) at in
         let same : bytes_where (in_members (found.0 ∷ found.1)) ≡ s = ap (λ p. p.0) pair in
-        let last : found.2 ≡ behind = ap (λ p. p.1) pair in
-        (k.0,
-         subst (λ v. Bracket (91 ∷ k.0) s v) last (subst (λ x. Bracket (91 ∷ k.0) x (found.2)) same (matching (k.0) (found.0) (found.1) (found.2) k.1)),
-         k.2 ∙ ap (λ v. k.0 ++ v) last)
+        let last : found.2 ≡ behind = ap (λ p. p.1) pair in (
+          k.0,
+          subst (λ v. Bracket (91 ∷ k.0) s v) last (subst (λ x. Bracket (91 ∷ k.0) x (found.2)) same (matching (k.0) (found.0) (found.1) (found.2) k.1)),
+          k.2 ∙ ap (λ v. k.0 ++ v) last,
+        )

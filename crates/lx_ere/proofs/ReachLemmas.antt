@@ -50,6 +50,7 @@ quote_digit c text b d h = quote_byte c text b (no_quote c d) (no_slash c d) h
   where
     no_quote : (c : ℕ) → is_digit 16 c ≡ true → c ≢ 34
     no_quote c d = grind (arith, nat_tests)
+
     no_slash : (c : ℕ) → is_digit 16 c ≡ true → c ≢ 92
     no_slash c d = grind (arith, nat_tests)
 
@@ -68,8 +69,10 @@ bracket_digit c text b d h = bracket_byte c text b (no_close c d) (no_slash c d)
   where
     no_close : (c : ℕ) → is_digit 16 c ≡ true → c ≢ 93
     no_close c d = grind (arith, nat_tests)
+
     no_slash : (c : ℕ) → is_digit 16 c ≡ true → c ≢ 92
     no_slash c d = grind (arith, nat_tests)
+
     no_bracket : (c : ℕ) → is_digit 16 c ≡ true → nat_eq c 91 ≡ false
     no_bracket c d = grind (arith, nat_tests)
 
@@ -165,6 +168,7 @@ opened_passed spot text m ms behind (front, rest, d, j, more) =
   where
     inner : BehindBrackets (rest ++ behind) behind
     inner = members_passed ms rest behind more
+
     go : Aside front (rest ++ behind) ⊎ Whole front (rest ++ behind) → BehindBrackets (skip_first 93 (front ++ (rest ++ behind))) behind
     go (inl a) = subst (λ t. BehindBrackets (skip_first 93 (t ++ (rest ++ behind))) behind) (sym a.is) (a.passes behind inner)
     go (inr w) = subst (λ t. BehindBrackets t behind) (sym (pick_second (begins_with 93 (front ++ (rest ++ behind))) _ _ w.no_close)) (w.passes behind inner)
@@ -183,10 +187,13 @@ ordinary_passed c rest b o h = past_byte c rest b (no_blank c o) (no_slash c o) 
   where
     no_blank : (c : ℕ) → ordinary c ≡ true → is_blank c ≡ false
     no_blank c o = grind (arith, nat_tests)
+
     no_slash : (c : ℕ) → ordinary c ≡ true → c ≢ 92
     no_slash c o = grind (arith, nat_tests)
+
     no_quote : (c : ℕ) → ordinary c ≡ true → c ≢ 34
     no_quote c o = grind (arith, nat_tests)
+
     no_bracket : (c : ℕ) → ordinary c ≡ true → c ≢ 91
     no_bracket c o = grind (arith, nat_tests)
 
@@ -218,16 +225,16 @@ spelling_passed _ _ _ (of_byte c l rest e) b h = ordinary_passed c rest b (byte_
 spelling_passed _ _ _ (of_escape text byte rest d) b h = escape_passed BehindPattern (λ c t b h. past_escape c t b h) (λ c t b d h. ordinary_passed c t b (hexadecimal_ordinary c d) h) text byte rest d b h
 spelling_passed _ _ _ (of_string text first more rest (front, tail, i, j, closed)) b h =
     past_quotes (text ++ rest) rest b
-      (subst (λ t. BehindQuotes t rest) (sym (ap (λ t. t ++ rest) j ∙ append_assoc front tail rest)) (quoted_byte_passed front first (tail ++ rest) i rest (quotes_passed more tail rest closed))) h
+    (subst (λ t. BehindQuotes t rest) (sym (ap (λ t. t ++ rest) j ∙ append_assoc front tail rest)) (quoted_byte_passed front first (tail ++ rest) i rest (quotes_passed more tail rest closed))) h
 spelling_passed _ _ _ (of_bracket text s rest d) b h = bracket_passed text s rest d b h
 spelling_passed _ _ _ (of_name n rest e) b h =
     ordinary_passed 123 ((n ++ (125 ∷ [])) ++ rest) b refl (subst (λ t. BehindPattern t b) (sym (append_assoc n (125 ∷ []) rest))
-      (run_passed n (125 ∷ rest) b (all_imply is_name_byte ordinary name_ordinary n (identifier_bytes n e)) (ordinary_passed 125 rest b refl h)))
+    (run_passed n (125 ∷ rest) b (all_imply is_name_byte ordinary name_ordinary n (identifier_bytes n e)) (ordinary_passed 125 rest b refl h)))
 spelling_passed _ _ _ (exactly digits n rest i) b h = digits_then digits (125 ∷ []) rest b n i (ordinary_passed 125 rest b refl h)
 spelling_passed _ _ _ (at_least digits n rest i) b h = digits_then digits (44 ∷ 125 ∷ []) rest b n i (ordinary_passed 44 (125 ∷ rest) b refl (ordinary_passed 125 rest b refl h))
 spelling_passed _ _ _ (between digits low more high rest i k le) b h =
     digits_then digits (44 ∷ (more ++ (125 ∷ []))) rest b low i (ordinary_passed 44 ((more ++ (125 ∷ [])) ++ rest) b refl
-      (subst (λ t. BehindPattern t b) (sym (append_assoc more (125 ∷ []) rest)) (run_passed more (125 ∷ rest) b (all_imply (is_digit 10) ordinary decimal_ordinary more k.decimal) (ordinary_passed 125 rest b refl h))))
+    (subst (λ t. BehindPattern t b) (sym (append_assoc more (125 ∷ []) rest)) (run_passed more (125 ∷ rest) b (all_imply (is_digit 10) ordinary decimal_ordinary more k.decimal) (ordinary_passed 125 rest b refl h))))
 
 lexemes_passed : (text : List ℕ) (ls : List Lexeme) (ending b : List ℕ) → Lexes text ls ending → BehindPattern ending b → BehindPattern text b
 lexemes_passed text [] ending b h e = subst (λ t. BehindPattern t b) (sym h) e
@@ -245,6 +252,7 @@ reaches_end text r p =
   where
     body : BehindPattern (p.body) []
     body = lexemes_passed (p.body) (p.lexemes) (p.ending) [] p.spelled (ending_passed (p.ending) (r.line_end) p.ends)
+
     whole : (b : Bool) → r.line_begin ≡ b → BehindPattern text []
     whole true eb = subst (λ t. BehindPattern t []) (sym (p.begins ∙ ap (λ c. cond {A = List ℕ} c (94 ∷ p.body) (p.body)) eb)) (ordinary_passed 94 (p.body) [] refl body)
     whole false eb = subst (λ t. BehindPattern t []) (sym (p.begins ∙ ap (λ c. cond {A = List ℕ} c (94 ∷ p.body) (p.body)) eb)) body
