@@ -69,11 +69,12 @@ tail_tail : (text rest behind : List ℕ) → IsTail text rest → IsTail rest b
 tail_tail text rest behind s t = record {
   within = omega (arith, s.within, t.within);
   is = let e : (length rest - length behind) + (length text - length rest) ≡ length text - length behind = omega (arith, s.within, t.within) in
-    t.is ∙ (ap (drop (length rest - length behind)) s.is ∙ (drops (length text - length rest) (length rest - length behind) text ∙ ap (λ n. drop n text) (swap (length text - length rest) (length rest - length behind) ∙ e)));
+      t.is ∙ (ap (drop (length rest - length behind)) s.is ∙ (drops (length text - length rest) (length rest - length behind) text ∙ ap (λ n. drop n text) (swap (length text - length rest) (length rest - length behind) ∙ e)));
 }
   where
     swap : (a b : ℕ) → a + b ≡ b + a
     swap a b = omega arith
+
     drops : (a b : ℕ) (xs : List ℕ) → drop b (drop a xs) ≡ drop (a + b) xs
     drops zero b xs = let e : 0 + b ≡ b = omega arith in rw e refl
     drops (suc a) b [] = drop_nothing b ∙ sym (drop_nothing (suc a + b))
@@ -188,7 +189,7 @@ pattern_at zero text = []
 pattern_at (suc n) [] = []
 pattern_at (suc n) (c ∷ text) =
     cond (is_blank c) (c ∷ text) (cond (nat_eq c 92) (pattern_at n (drop 1 text)) (cond (nat_eq c 34) (pattern_at n (quotes_at (suc (length text)) text))
-      (cond (nat_eq c 91) (pattern_at n (brackets_at (suc (length (skip_first 93 (skip_first 94 text)))) (skip_first 93 (skip_first 94 text)))) (pattern_at n text))))
+    (cond (nat_eq c 91) (pattern_at n (brackets_at (suc (length (skip_first 93 (skip_first 94 text)))) (skip_first 93 (skip_first 94 text)))) (pattern_at n text))))
 
 skip_shorter : (c : ℕ) (text : List ℕ) → length (skip_first c text) ≤ length text
 skip_shorter c text = go (begins_with c text)
@@ -213,7 +214,7 @@ pattern_one _ _ (past_quotes text rest behind q h) (suc n) lt =
 pattern_one _ _ (past_brackets text rest behind q h) (suc n) lt =
     let t = brackets_tail (skip_first 93 (skip_first 94 text)) rest q in
     ap (pattern_at n) (brackets_one (skip_first 93 (skip_first 94 text)) rest q (suc (length (skip_first 93 (skip_first 94 text)))) (omega arith))
-      ∙ pattern_one rest behind h n (omega (arith, lt, t.within, skip_shorter 94 text, skip_shorter 93 (skip_first 94 text)))
+    ∙ pattern_one rest behind h n (omega (arith, lt, t.within, skip_shorter 94 text, skip_shorter 93 (skip_first 94 text)))
 pattern_one _ _ (past_byte c text behind a b d e h) (suc n) lt =
     pick_second (is_blank c) _ _ a ∙ (pick_second (nat_eq c 92) _ _ (eq_other c 92 b) ∙ (pick_second (nat_eq c 34) _ _ (eq_other c 34 d) ∙ (pick_second (nat_eq c 91) _ _ (eq_other c 91 e) ∙ pattern_one text behind h n (omega (arith, lt)))))
 

@@ -11,3 +11,4 @@ pub mod MemberLoop
 pub mod QuoteLoop
 pub mod ReadLemmas
 pub mod EndLemmas
+pub mod ReachLemmas

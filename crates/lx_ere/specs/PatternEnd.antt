@@ -31,7 +31,7 @@ pub data BehindBrackets : List ℕ → List ℕ → Type 0 where
   bracket_escape : (c : ℕ) (text behind : List ℕ) → BehindBrackets text behind → BehindBrackets (92 ∷ c ∷ text) behind
   bracket_slash : BehindBrackets (92 ∷ []) []
   bracket_inner : (mark : ℕ) (text rest behind : List ℕ) → (nat_eq mark 58 || (nat_eq mark 46 || nat_eq mark 61)) ≡ true → BehindMark mark (drop 1 text) rest →
-    BehindBrackets rest behind → BehindBrackets (91 ∷ mark ∷ text) behind
+      BehindBrackets rest behind → BehindBrackets (91 ∷ mark ∷ text) behind
   bracket_byte : (c : ℕ) (text behind : List ℕ) → c ≢ 93 → c ≢ 92 → opens_inner c text ≡ false → BehindBrackets text behind → BehindBrackets (c ∷ text) behind
 
 -- the text behind the byte, where it begins with it

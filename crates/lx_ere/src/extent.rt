@@ -52,7 +52,9 @@ fn inner_mark(first: u8, behind: &[u8]) -> Option<u8>
     ensures { MatchOption result (opens_inner first behind.now ≡ false) (λ mark. IsInner mark first behind.now) }
 {
     match behind {
-        [mark, ..] if first == b'[' && (*mark == b':' || *mark == b'.' || *mark == b'=') => Some(*mark),
+        [mark, ..] if first == b'[' && (*mark == b':' || *mark == b'.' || *mark == b'=') => Some(
+            *mark,
+        ),
         _ => None,
     }
 }
@@ -84,7 +86,11 @@ fn skip_first(c: u8, text: &[u8]) -> &[u8]
     ensures value { result.now ≡ skip_first c text.now }
     ensures shorter { length result.now ≤ length text.now }
 {
-    if begins_with(c, text) { skip(1, text) } else { text }
+    if begins_with(c, text) {
+        skip(1, text)
+    } else {
+        text
+    }
 }
 
 fn is_blank(c: u8) -> bool
@@ -127,5 +133,4 @@ pub fn pattern_end(text: &[u8]) -> usize
 /// A law: a text has one place where its pattern ends.
 pub fn one_pattern_end()
     ensures { (text : List ℕ) (n m : ℕ) → IsPatternEnd text n → IsPatternEnd text m → n ≡ m }
-{
-}
+{}

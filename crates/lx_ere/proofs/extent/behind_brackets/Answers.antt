@@ -17,7 +17,7 @@ pub loop-first-preserved-in-Some-inner_mark : goal.loop-first-preserved-in-Some-
 loop-first-preserved-in-Some-inner_mark c = record {
   within = omega (arith, c.in-Some.ensures.cases.1, c.loop-first.invariant.within, c.behind_mark-rest.ensures.shorter, ap length c.skip.ensures, length-drop 2 c.in-Some.behind.now);
   keeps = λ behind h. c.loop-first.invariant.keeps behind (subst (λ t. BehindBrackets t behind) (sym c.in-Some.ensures.cases.0)
-    (inner_found c.in-Some-inner_mark.mark c.in-Some.first.now c.in-Some.behind.now c.behind_mark-rest.result.now behind c.in-Some-inner_mark.ensures
+      (inner_found c.in-Some-inner_mark.mark c.in-Some.first.now c.in-Some.behind.now c.behind_mark-rest.result.now behind c.in-Some-inner_mark.ensures
       (subst (λ t. BehindMark c.in-Some-inner_mark.mark t c.behind_mark-rest.result.now) c.skip.ensures c.behind_mark-rest.ensures.behind) h));
 }
 
