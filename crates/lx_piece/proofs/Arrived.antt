@@ -9,7 +9,7 @@ use Rattle.lx_piece.specs.Plans.{Planned, files_of}
 use Rattle.lx_piece.specs.Pieces.{is_closing, top_number, IsPieceOf, piece_at, pieces_of}
 use Rattle.lx_piece.specs.Arrivals.{site_of, IsHonest, AreHonest, accepted_behind, accepted_of, with_arrival, joined, cause_against, has_piece, is_numbered, closes_before, is_later}
 use Rattle.lx_piece.specs.Relayed.{AllDelivered, AreAllAmong}
-use Rattle.lx_piece.proofs.Tests.{any_last, any_of}
+use Rattle.lx_piece.proofs.AnyOf.{any_last, any_of}
 use Rattle.lx_piece.proofs.Deliveries.{with_planned, has_more}
 
 -- a closing piece of the plan is the last of its file

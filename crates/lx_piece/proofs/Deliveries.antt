@@ -13,7 +13,7 @@ use Rattle.lx_piece.specs.Kept.{Lane, Kept, LaneStandsFor, StandsFor, NoneReady,
 use Rattle.lx_piece.specs.declared.reply.Reply.{Reply}
 use Rattle.lx_piece.specs.Relayed.{TakesAllInOrder, HoldsPlanned, AllDelivered, AtMostDelivered, AreAtMost, Relayed, RelayedInPart}
 use Rattle.lx_piece.proofs.SoFar.{SoFar}
-use Rattle.lx_piece.proofs.Tests.{any_last, any_of}
+use Rattle.lx_piece.proofs.AnyOf.{any_last, any_of}
 use Rattle.lx_piece.specs.PieceLaws.{takes_in_order}
 use Rattle.lx_piece.proofs.Standing.{known, accepted_last, replies_last}
 use Rattle.lx_piece.proofs.Relays.{nexts, length-nexts, count_at}

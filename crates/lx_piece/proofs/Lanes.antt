@@ -8,7 +8,7 @@ use Rattle.lx_piece.specs.declared.reply.Why.TheVariants.{WrongRun, UnknownFile,
 use Rattle.lx_piece.specs.Pieces.{is_closing, top_number}
 use Rattle.lx_piece.specs.Arrivals.{has_piece, has_closing, closes_before, is_later, is_numbered, cause_among}
 use Rattle.lx_piece.specs.Kept.{Lane, LaneStandsFor, held_at, has_number, is_number, closed_before}
-use Rattle.lx_piece.proofs.Tests.{same_tests, any_witness}
+use Rattle.lx_piece.proofs.AnyOf.{same_tests, any_witness}
 
 pub number_closes : (o : Option ℕ) (m n : ℕ) → is_number o m ≡ true → nat_lt m n ≡ true → closed_before o n ≡ true
 number_closes None m n h l = absurd (both_ways false refl h)

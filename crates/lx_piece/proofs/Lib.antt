@@ -1,5 +1,5 @@
 pub mod SoFar
-pub mod Tests
+pub mod AnyOf
 pub mod Lanes
 pub mod Stands
 pub mod Readies
@@ -9,3 +9,4 @@ pub mod Deliveries
 pub mod Closed
 pub mod Arrived
 pub mod Whole
+pub mod Echoed

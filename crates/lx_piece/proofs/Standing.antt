@@ -8,7 +8,7 @@ use Rattle.lx_piece.specs.declared.reply.Why.{Why}
 use Rattle.lx_piece.specs.declared.reply.Why.TheVariants.{WrongRun, UnknownFile, Memory}
 use Rattle.lx_piece.specs.Arrivals.{Site, accepted_behind, accepted_of, replies_behind, replies_of, with_arrival, joined, reply_to, cause_against, cause_among}
 use Rattle.lx_piece.specs.Kept.{Lane, Kept, LaneStandsFor, StandsFor, site_of_kept, Delivers, KeepsIn, NoneReady, is_ready, held_at}
-use Rattle.lx_piece.proofs.Tests.{choice_none}
+use Rattle.lx_piece.proofs.AnyOf.{choice_none}
 use Rattle.lx_piece.proofs.Stands.{kept_stands, other_stands, advanced_stands}
 use Rattle.lx_piece.proofs.Readies.{get_set_same, get_set_other}
 

@@ -9,7 +9,7 @@ use Rattle.lx_piece.specs.declared.reply.Why.TheVariants.{WrongRun, UnknownFile,
 use Rattle.lx_piece.specs.Pieces.{is_closing, top_number}
 use Rattle.lx_piece.specs.Arrivals.{has_piece, has_closing, closes_before, is_later, is_numbered, cause_among}
 use Rattle.lx_piece.specs.Kept.{Lane, LaneStandsFor, KeepsPiece, Advances, is_ready, held_at, has_number, is_number, closing_with}
-use Rattle.lx_piece.proofs.Tests.{same_tests, any_witness, any_last, choice_none, or_none}
+use Rattle.lx_piece.proofs.AnyOf.{same_tests, any_witness, any_last, choice_none, or_none}
 
 -- what no cause against p says
 pub record NoCause (accepted : List Piece) (p : Piece) : Type 0 where

@@ -1,4 +1,6 @@
 use Rattle.std.specs.Prelude.{ℕ, ◌≡◌, ◌+◌, ◌*◌, ◌-◌, ◌/◌, ◌<◌, ◌≤◌, ◌==◌, All, List, [], ◌∷◌, length, map, take, drop, max, slice_index_or}
+use Rattle.std.specs.declared.alloc.Global.{Global}
+use Rattle.std.specs.declared.vec.Vec.{Vec}
 use Rattle.lx_piece.specs.declared.item.Item.{Item}
 use Rattle.lx_piece.specs.Items.{IsItemOf}
 
@@ -10,6 +12,17 @@ pub record Planned : Type 0 where
   pub kinds : List (List ℕ)
   pub texts : List (List ℕ)
   pub items : List (List Item)
+
+-- a plan of these files, with these names of kinds and these items
+abbrev pub planned : ℕ → ℕ → List (Vec ℕ Global) → List (Vec ℕ Global) → List (Vec Item Global) → Planned
+planned run per_piece kinds files items =
+    record {
+      run = run;
+      per_piece = per_piece;
+      kinds = map (λ name. name.items) kinds;
+      texts = map (λ file. file.items) files;
+      items = map (λ list. list.items) items;
+    }
 
 -- how many files it has
 abbrev pub files_of : Planned → ℕ

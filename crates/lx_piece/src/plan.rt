@@ -1,5 +1,5 @@
-ghost use Rattle.std.specs.Prelude.{◌≡◌, ◌<◌, ◌≤◌, length, map};
-ghost use Rattle.lx_piece.specs.Plans.{IsPlan, files_of, bytes_of, kind_of, items_of};
+ghost use Rattle.std.specs.Prelude.{◌≡◌, ◌<◌, ◌≤◌, length};
+ghost use Rattle.lx_piece.specs.Plans.{IsPlan, planned, files_of, bytes_of, kind_of, items_of};
 
 use std::marker::Model;
 
@@ -16,26 +16,13 @@ pub struct Plan {
 }
 
 impl Model for Plan {
-    ghost use Rattle.std.specs.Prelude.{map};
-    ghost use Rattle.lx_piece.specs.Plans.{Planned, IsPlan};
+    ghost use Rattle.lx_piece.specs.Plans.{Planned, IsPlan, planned};
 
     ghost Value = { Planned };
 
-    ghost view = { λ s. record {
-        run = s.run;
-        per_piece = s.per_piece;
-        kinds = map (λ name. name.items) s.kinds.items;
-        texts = map (λ file. file.items) s.files.items;
-        items = map (λ list. list.items) s.items.items;
-    } };
+    ghost view = { λ s. planned s.run s.per_piece s.kinds.items s.files.items s.items.items };
 
-    ghost invariant = { λ s. IsPlan (record {
-        run = s.run;
-        per_piece = s.per_piece;
-        kinds = map (λ name. name.items) s.kinds.items;
-        texts = map (λ file. file.items) s.files.items;
-        items = map (λ list. list.items) s.items.items;
-    }) };
+    ghost invariant = { λ s. IsPlan (planned s.run s.per_piece s.kinds.items s.files.items s.items.items) };
 }
 
 impl Plan {
@@ -49,20 +36,8 @@ impl Plan {
         per_piece: u32,
         run: u64,
     ) -> Plan
-        requires { IsPlan (record {
-            run = run;
-            per_piece = per_piece;
-            kinds = map (λ name. name.items) kinds.items;
-            texts = map (λ file. file.items) files.items;
-            items = map (λ list. list.items) items.items;
-        }) }
-        ensures { result ≡ record {
-            run = run;
-            per_piece = per_piece;
-            kinds = map (λ name. name.items) kinds.items;
-            texts = map (λ file. file.items) files.items;
-            items = map (λ list. list.items) items.items;
-        } }
+        requires { IsPlan (planned run per_piece kinds.items files.items items.items) }
+        ensures { result ≡ planned run per_piece kinds.items files.items items.items }
     {
         Plan {
             kinds,

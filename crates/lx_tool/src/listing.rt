@@ -146,8 +146,12 @@ impl<'a, W: Write> Listing<'a, W> {
 }
 
 impl<'a, W: Write> Reader for Listing<'a, W> {
+    ghost use Rattle.std.specs.Prelude.{◌≡◌, ◌+◌, ◌<◌, OnOk, OnErr, Err, true};
+    ghost use Rattle.lx_piece.specs.Pieces.{top_number};
+    ghost use Rattle.lx_piece.specs.Relayed.{IsNextPiece};
     ghost use Rattle.lx_tool.specs.Listings.{Prints};
     ghost use Rattle.lx_tool.specs.ListingLaws.{prints_nothing, prints_on};
+    ghost use Rattle.lx_tool.specs.Waiting.{counted};
 
     ghost plan = { λ s. s.progress.plan };
 
@@ -157,7 +161,20 @@ impl<'a, W: Write> Reader for Listing<'a, W> {
 
     ghost follows = { Prints };
 
-    fn take(&mut self, piece: Piece) -> Result<(), ReaderFault> {
+    /// After a fault of either kind it has failed, and answers Device from then on.
+    fn take(&mut self, piece: Piece) -> Result<(), ReaderFault>
+        requires next { IsNextPiece self.old.progress.plan self.old.progress.counts piece }
+        requires countable { self.old.progress.faults < top_number }
+        ensures plan { self.new.progress.plan ≡ self.old.progress.plan }
+        ensures follows { Prints self.old self.new }
+        ensures ok { OnOk result (self.new.progress.counts ≡ counted self.old.progress.counts piece.file) }
+        ensures err { OnErr result (self.new.progress.counts ≡ self.old.progress.counts) }
+        ensures device { result ≡ Err ReaderFault.Device → self.new.progress.faults ≡ self.old.progress.faults + 1 }
+        ensures memory { result ≡ Err ReaderFault.Memory → self.new.progress.faults ≡ self.old.progress.faults }
+        ensures no_fault { OnOk result (self.new.progress.faults ≡ self.old.progress.faults) }
+        ensures failed { OnErr result (self.new.progress.failed ≡ true) }
+        ensures stopped { self.old.progress.failed ≡ true → result ≡ Err ReaderFault.Device }
+    {
         self.lister.take(&mut self.out, piece)
     }
 
