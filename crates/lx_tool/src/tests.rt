@@ -17,7 +17,7 @@ struct Ran {
 }
 
 /// Runs the program with these words behind its name, over these files.
-fn lx(rt: &HostRuntime, words: &[&str], files: &[(&str, &[u8])]) -> Result<Ran, AllocError> {
+fn lx<R: AllocGlobal>(rt: &R, words: &[&str], files: &[(&str, &[u8])]) -> Result<Ran, AllocError> {
     let alloc = rt.alloc();
     let words = words_of(alloc, words)?;
     let mut sources = ListSources::new(files);
@@ -37,7 +37,7 @@ fn words_of(alloc: Global, words: &[&str]) -> Result<Vec<String>, AllocError> {
 }
 
 /// Asserts that the text is listed so by the specification.
-fn lists(rt: &HostRuntime, spec: &str, text: &[u8], listing: &str) -> Result<(), Fail> {
+fn lists<R: Abort + AllocGlobal>(rt: &R, spec: &str, text: &[u8], listing: &str) -> Result<(), Fail> {
     let ran = lx(rt, &["run", "S", "F"], &[("S", spec.as_bytes()), ("F", text)])?;
     assert_eq!(rt; ran.status, 0, "{spec}");
     assert_eq!(rt; ran.out.as_slice(), listing.as_bytes(), "{spec}");
@@ -46,7 +46,7 @@ fn lists(rt: &HostRuntime, spec: &str, text: &[u8], listing: &str) -> Result<(),
 }
 
 /// Asserts that the specification is refused with this line, and nothing is listed.
-fn refuses(rt: &HostRuntime, spec: &str, line: &str) -> Result<(), Fail> {
+fn refuses<R: Abort + AllocGlobal>(rt: &R, spec: &str, line: &str) -> Result<(), Fail> {
     let ran = lx(rt, &["run", "S", "F"], &[("S", spec.as_bytes()), ("F", b"a")])?;
     assert_eq!(rt; ran.status, 1, "{spec}");
     assert_eq!(rt; ran.err.as_slice(), line.as_bytes(), "{spec}");
