@@ -20,7 +20,7 @@ use std::collections::BTreeSet;
 const NESTING: u8 = 32;
 
 /// Whether the rule is active in the condition.
-pub fn is_active(spec: &Spec, rule: &Rule, condition: u16) -> bool
+pub(crate) fn is_active(spec: &Spec, rule: &Rule, condition: u16) -> bool
     requires { condition < length spec.now.conditions.items }
     ensures { IsTrue result ↔ IsActive spec.now rule.now condition }
 {
@@ -63,7 +63,7 @@ fn may_end(rule: &Rule, text: &[u8], n: usize) -> bool
 }
 
 /// The greatest number of bytes at the front of the text that the rule fits.
-pub fn longest(alloc: Global, spec: &Spec, rule: &Rule, condition: u16, begin: bool, text: &[u8]) -> Result<Option<usize>, AllocError>
+pub(crate) fn longest(alloc: Global, spec: &Spec, rule: &Rule, condition: u16, begin: bool, text: &[u8]) -> Result<Option<usize>, AllocError>
     requires { condition < length spec.now.conditions.items }
     ensures { IfOk result (IsLongest spec.now rule.now condition begin text.now) }
 {
@@ -88,7 +88,7 @@ fn reach_of(rule: &Rule, n: usize) -> usize
 }
 
 /// The rule and the number of bytes with the greatest reach, and among these the earliest rule.
-pub fn choose(alloc: Global, spec: &Spec, condition: u16, begin: bool, text: &[u8]) -> Result<Option<(u16, usize)>, AllocError>
+pub(crate) fn choose(alloc: Global, spec: &Spec, condition: u16, begin: bool, text: &[u8]) -> Result<Option<(u16, usize)>, AllocError>
     requires { condition < length spec.now.conditions.items }
     ensures { IfOk result (IsChoice spec.now condition begin text.now) }
 {

@@ -14,7 +14,7 @@ use std::collections::BTreeSet;
 
 /// The places to which words of the expression lead from the starts, names unfolded at most `depth` deep.
 #[cycle(matcher)]
-pub fn ends(alloc: Global, definitions: &[Definition], depth: u8, expr: &Expr, text: &[u8], starts: &BTreeSet<usize>) -> Result<BTreeSet<usize>, AllocError>
+pub(crate) fn ends(alloc: Global, definitions: &[Definition], depth: u8, expr: &Expr, text: &[u8], starts: &BTreeSet<usize>) -> Result<BTreeSet<usize>, AllocError>
     requires { AreWithin text.now starts.now }
     ensures { IfOk result (λ ends. AreEnds (Matches (NameMatches definitions.now depth) (regex_of expr.now)) text.now starts.now ends) }
 {

@@ -13,18 +13,18 @@ use std::alloc::{AllocError, Global};
 
 /// Where a scanner stands: before byte `offset`, from 0, under a condition, and whether a line begins there.
 #[derive(Clone, Copy, Debug, PartialEq, Eq)]
-pub struct Place {
-    pub offset: usize,
-    pub condition: u16,
-    pub at_line_begin: bool,
+pub(crate) struct Place {
+    pub(crate) offset: usize,
+    pub(crate) condition: u16,
+    pub(crate) at_line_begin: bool,
 }
 
 /// A match of a rule, by its number from 0, or of none: a byte that is echoed.
 #[derive(Clone, Copy, Debug, PartialEq, Eq)]
-pub struct Match {
-    pub rule: Option<u16>,
-    pub start: usize,
-    pub len: usize,
+pub(crate) struct Match {
+    pub(crate) rule: Option<u16>,
+    pub(crate) start: usize,
+    pub(crate) len: usize,
 }
 
 // What is done where a rule matches, or none: a byte that no rule matches is echoed.
@@ -52,7 +52,7 @@ fn condition_behind(steps: &[Step], condition: u16) -> u16
 }
 
 /// The match at a place and the place behind it, or nothing at the end of the text.
-pub fn next_match(alloc: Global, spec: &Spec, text: &[u8], place: Place) -> Result<Option<(Match, Place)>, AllocError>
+pub(crate) fn next_match(alloc: Global, spec: &Spec, text: &[u8], place: Place) -> Result<Option<(Match, Place)>, AllocError>
     requires within { place.offset ≤ length text.now }
     requires known { place.condition < length spec.now.conditions.items }
     ensures { IfOk result (λ found. MatchOption found (place.offset ≡ length text.now) (λ f. GoesOn spec.now text.now place f.0 f.1)) }
@@ -97,7 +97,7 @@ fn push_items(items: &mut Vec<Item>, steps: &[Step], start: usize, len: usize) -
 }
 
 /// The items of the text by the rules of the specification. They lie in the text, and name kinds that are there.
-pub fn scan(alloc: Global, spec: &Spec, text: &[u8]) -> Result<Vec<Item>, AllocError>
+pub(crate) fn scan(alloc: Global, spec: &Spec, text: &[u8]) -> Result<Vec<Item>, AllocError>
     ensures items { IfOk result (λ items. AreItemsBy spec.now text.now items.items) }
     ensures placed { IfOk result (λ items. All (IsItemOf (map (λ name. name.items) spec.now.kinds.items) text.now) items.items) }
 {
