@@ -6,7 +6,7 @@ use Rattle.std.specs.Ordering.{nat_cmp}
 use Rattle.std.specs.FinSet as set
 use Rattle.lx_ere.specs.Bytes.{bytes_where, in_ranges}
 use Rattle.lx_ere.specs.Brackets.{Spot, inside, behind_caret, begins_with, Member, in_members}
-use Rattle.lx_ere.specs.Reading.{all_items_at, member_at, members_at, members_set, with_members, bracket_at}
+use Rattle.lx_ere.specs.Lexing.{all_items_at, member_at, members_at, members_set, with_members, bracket_at}
 use Rattle.lx_ere.proofs.Choices.{pick_first, no_none, same_some}
 use Rattle.lx_ere.proofs.ByteLemmas.{same_where}
 use Rattle.lx_ere.proofs.BracketLemmas.{member_complete, member_sound, member_some, member_closes}

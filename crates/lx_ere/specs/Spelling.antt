@@ -64,4 +64,4 @@ pub data Spells : List ℕ → Lexeme → List ℕ → Type 0 where
 -- The text is spellings of the lexemes, one after the other, and then `behind`.
 abbrev pub Lexes : List ℕ → List Lexeme → List ℕ → Type 0
 Lexes text [] behind = text ≡ behind
-Lexes text (l ∷ ls) behind = (front : List ℕ) × (rest : List ℕ) × Spells front l rest × (text ≡ front ++ rest) × Lexes rest ls behind
+Lexes text (l ∷ ls) behind = (prefix : List ℕ) × (rest : List ℕ) × Spells prefix l rest × (text ≡ prefix ++ rest) × Lexes rest ls behind

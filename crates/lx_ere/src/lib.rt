@@ -6,7 +6,7 @@ mod escape;
 pub mod expr;
 pub mod extent;
 pub mod fault;
-mod front;
+mod prefix;
 mod groups;
 mod lexeme;
 mod name;

@@ -1,6 +1,6 @@
 use Rattle.std.proofs.Common.{◌≡◌, ℕ, List, Option, Some, None, sym, ◌∙◌, ap}
 use Rattle.lx_ere.specs.Regex.{regex_of}
-use Rattle.lx_ere.specs.Reading.{lexeme_at}
+use Rattle.lx_ere.specs.Lexing.{lexeme_at}
 use Rattle.lx_ere.specs.Stacks.{step, finish}
 use Rattle.lx_ere.specs.Groups.{groups_of}
 use Rattle.lx_ere.specs.Lexemes.{lexeme_of}

@@ -7,7 +7,7 @@ use Rattle.lx_ere.specs.declared.fault.EreFault.{EreFault}
 use Rattle.lx_ere.specs.declared.fault.EreFault.TheVariants.{NoReading}
 use Rattle.std.specs.Borrow.{Bor}
 use Rattle.lx_ere.specs.Regex.{regex_of, reading_of}
-use Rattle.lx_ere.specs.Reading.{body_of, ending_at, Reads}
+use Rattle.lx_ere.specs.Lexing.{body_of, ending_at, Reads}
 use Rattle.lx_ere.proofs.Choices.{no_none}
 use Rattle.lx_ere.proofs.ReadLemmas.{parts_of, of_parts, one_alternation, ending_complete, ending_sound}
 use Rattle.lx_ere.proofs.read.read_pattern.Goals as goal

@@ -7,7 +7,7 @@ use Rattle.lx_ere.specs.declared.fault.EreFault.{EreFault}
 use Rattle.lx_ere.specs.declared.fault.EreFault.TheVariants.{NoReading}
 use Rattle.lx_ere.specs.Regex.{regex_of}
 use Rattle.lx_ere.specs.Pattern.{IsSubstitute}
-use Rattle.lx_ere.specs.Reading.{Reads}
+use Rattle.lx_ere.specs.Lexing.{Reads}
 use Rattle.lx_ere.proofs.ReadLemmas.{one_alternation, reads_of}
 use Rattle.lx_ere.proofs.read.read_substitute.Goals as goal
 
