@@ -1,21 +1,20 @@
 -- What `bracket_at` finds is what a front of the text spells, and nothing else.
-use Rattle.std.proofs.Common.{◌≡◌, ◌≢◌, ℕ, zero, suc, ◌+◌, ◌<◌, ◌≤◌, ◌⊎◌, inl, inr, Bool, true, false, ◌&&◌, ◌||◌, not, nat_eq, nat_le, cond, List, [], ◌∷◌, ◌++◌, length, take, drop, Option, Some, None, refl, sym, ap, subst, ◌∙◌, arith, append_assoc, length-append, codes}
+use Rattle.std.proofs.Common.{◌≡◌, ◌≢◌, ℕ, ◌<◌, ◌⊎◌, inl, inr, Bool, true, false, ◌&&◌, ◌||◌, not, nat_eq, nat_le, cond, List, [], ◌∷◌, ◌++◌, length, take, drop, Option, Some, None, refl, sym, ap, subst, ◌∙◌, arith, append_assoc, length-append, codes}
 use Rattle.std.specs.Str.{bytes_eq}
 use Rattle.std.specs.List.{list_all}
 use Rattle.std.specs.Option.{option_map, option_and_then}
 use Rattle.std.specs.Ordering.{nat_cmp}
 use Rattle.std.specs.FinSet as set
-use Rattle.std.proofs.lemmas.Bool.{eqb-true, eqb-false, leb-true, le-leb, false≢true, and_parts, or_parts}
+use Rattle.std.proofs.lemmas.Bool.{eqb-true, eqb-false, leb-true, le-leb, false≢true, and_parts}
 use Rattle.std.proofs.lemmas.Slice.Eq.{bytes_eq-Decides}
 use Rattle.lx_ere.specs.Bytes.{bytes_where}
-use Rattle.lx_ere.specs.Escapes.{Escape, NoneFirst}
-use Rattle.lx_ere.specs.Sequences.{Opened, Closed}
+use Rattle.lx_ere.specs.Sequences.{Opened}
 use Rattle.lx_ere.specs.Brackets.{Spot, opening, behind_caret, inside, is_inside, is_opening, begins_with, opens_inner, stands_alone, range_follows, Point, plain_point, escaped, first_bracket, outer_dash, collating, RangeEnd, end_point, end_dash, class_ranges, Member, point, range, equivalence, class, in_members, Bracket, matching, excluding}
 use Rattle.lx_ere.specs.Spelling.{is_name_byte}
-use Rattle.lx_ere.specs.Lexing.{run_len, behind_byte, escape_at, opened_at, marked_byte_at, bare_point_at, point_at, range_end_at, range_from, member_from, class_of, class_at, begins_pair, member_at, members_at, bracket_at}
-use Rattle.lx_ere.proofs.Choices.{pick_first, pick_second, cases_of, no_none, same_some, map_is, then_is, eq_other, eq_same, begins_is, behind_byte_is, behind_byte_at, IsSpelledPrefix}
+use Rattle.lx_ere.specs.Lexing.{run_len, behind_byte, escape_at, marked_byte_at, bare_point_at, point_at, range_end_at, range_from, member_from, class_of, class_at, begins_pair, member_at, members_at, bracket_at}
+use Rattle.lx_ere.proofs.Choices.{pick_first, pick_second, cases_of, no_none, same_some, map_is, then_is, eq_other, begins_is, behind_byte_is, behind_byte_at, IsSpelledPrefix}
 use Rattle.lx_ere.proofs.RunLemmas.{run_whole, take_prefix, drop_prefix, rejoin}
-use Rattle.lx_ere.proofs.EscapeLemmas.{EscapeAt, escape_complete, escape_sound}
+use Rattle.lx_ere.proofs.EscapeLemmas.{escape_complete, escape_sound}
 use Rattle.lx_ere.proofs.SequenceLemmas.{opened_complete, opened_sound}
 
 abbrev Point1 : Type 0

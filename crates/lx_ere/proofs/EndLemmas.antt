@@ -1,6 +1,6 @@
 -- Steps of the loops that look for the end of a pattern.
-use Rattle.std.proofs.Common.{◌≡◌, ◌≢◌, ℕ, zero, suc, ◌+◌, ◌-◌, ◌<◌, ◌≤◌, Bool, true, false, ◌&&◌, ◌||◌, nat_eq, cond, List, [], ◌∷◌, ◌++◌, length, drop, refl, sym, ap, subst, ◌∙◌, arith, length-drop}
-use Rattle.std.proofs.lemmas.Bool.{eqb-true, eqb-false, and_parts}
+use Rattle.std.proofs.Common.{◌≡◌, ℕ, zero, suc, ◌+◌, ◌-◌, ◌<◌, ◌≤◌, Bool, true, false, ◌&&◌, ◌||◌, nat_eq, cond, List, [], ◌∷◌, length, drop, refl, sym, ap, subst, ◌∙◌, arith, length-drop}
+use Rattle.std.proofs.lemmas.Bool.{eqb-true, and_parts}
 use Rattle.lx_ere.specs.Brackets.{begins_with, opens_inner}
 use Rattle.lx_ere.specs.PatternEnd.{BehindQuotes, quote_closes, quote_open, quote_escape, quote_slash, quote_byte, BehindMark, mark_closes, mark_open, mark_byte, IsInner, BehindBrackets, bracket_closes, bracket_open, bracket_escape, bracket_slash, bracket_inner, bracket_byte, is_blank, skip_first, BehindPattern, at_end, at_blank, past_escape, past_slash, past_quotes, past_brackets, past_byte, IsPatternEnd}
 use Rattle.std.proofs.Math.ListN.{drop_of_length-le}

@@ -1,13 +1,12 @@
 -- What `escape_at` finds is what a front of the text spells, and nothing else.
-use Rattle.std.proofs.Common.{◌≡◌, ◌≢◌, ℕ, zero, suc, ◌+◌, ◌-◌, ◌*◌, ◌<◌, ◌≤◌, ◌⊎◌, inl, inr, Bool, true, false, ◌&&◌, ◌||◌, not, nat_eq, nat_lt, nat_le, cond, List, [], ◌∷◌, ◌++◌, length, take, drop, Option, Some, None, refl, sym, ap, subst, ◌∙◌, arith, append_assoc, length-append, rules, if◌then◌else◌}
+use Rattle.std.proofs.Common.{◌≡◌, ℕ, zero, suc, ◌<◌, ◌≤◌, inl, inr, Bool, true, false, nat_eq, nat_lt, cond, List, [], ◌∷◌, ◌++◌, length, take, drop, Option, Some, None, refl, sym, ap, ◌∙◌, arith, length-append}
 use Rattle.std.specs.List.{list_all}
 use Rattle.std.specs.Option.{option_map}
 use Rattle.std.proofs.lemmas.Grind.{common_steps}
-use Rattle.std.proofs.lemmas.Bool.{false≢true, cases_lt, ltb-true, eqb-true, eqb-false}
+use Rattle.std.proofs.lemmas.Bool.{cases_lt, ltb-true, eqb-true, eqb-false}
 use Rattle.std.proofs.lemmas.Bool.Decides.{nat_tests}
-use Rattle.lx_ere.specs.Bytes.{is_between}
-use Rattle.lx_ere.specs.Escapes.{digit_of, is_digit, number_of, NoneFirst, letter_byte, Escape, letter, octal, hexadecimal, only_x, itself}
-use Rattle.lx_ere.specs.Lexing.{run_len, byte_of, number_at, hexadecimal_at, other_at, letter_or_other, escape_at}
+use Rattle.lx_ere.specs.Escapes.{is_digit, number_of, NoneFirst, letter_byte, Escape, letter, octal, hexadecimal, only_x, itself}
+use Rattle.lx_ere.specs.Lexing.{run_len, byte_of, number_at, hexadecimal_at, letter_or_other, escape_at}
 use Rattle.lx_ere.proofs.Choices.{pick_first, pick_second, eq_other}
 use Rattle.lx_ere.proofs.RunLemmas.{run_len-append, take_prefix, drop_prefix, IsRun, run_is, take_len, rejoin, run_positive}
 

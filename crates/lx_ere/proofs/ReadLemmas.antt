@@ -1,18 +1,18 @@
 -- How far a pattern was read, and what its reading is.
-use Rattle.std.proofs.Common.{◌≡◌, ◌≢◌, ℕ, zero, suc, ◌+◌, ◌<◌, ◌≤◌, Bool, true, false, ◌||◌, nat_eq, cond, List, [], ◌∷◌, ◌++◌, Option, Some, None, length, drop, refl, sym, ap, subst, ◌∙◌, arith, append_assoc, length-append, ◌⊎◌, inl, inr}
-use Rattle.std.specs.Option.{option_and_then, option_map}
-use Rattle.std.proofs.lemmas.Bool.{eqb-true, false≢true, true≢false, or_cases}
+use Rattle.std.proofs.Common.{◌≡◌, ℕ, ◌<◌, ◌≤◌, Bool, true, false, ◌||◌, nat_eq, cond, List, [], ◌∷◌, ◌++◌, Option, Some, None, length, drop, refl, sym, ap, subst, ◌∙◌, arith, append_assoc, length-append, ◌⊎◌, inl, inr}
+use Rattle.std.specs.Option.{option_and_then}
+use Rattle.std.proofs.lemmas.Bool.{eqb-true, or_cases}
 use Rattle.std.proofs.lemmas.Slice.Eq.{bytes_eq-Decides}
 use Rattle.std.specs.Prelude.{codes}
 use Rattle.std.specs.Str.{bytes_eq}
 use Rattle.lx_ere.specs.Regex.{Regex, Reading}
 use Rattle.lx_ere.specs.Grammar.{Lexeme, IsAlternation}
 use Rattle.lx_ere.specs.Brackets.{begins_with}
-use Rattle.lx_ere.specs.Spelling.{Spells, Lexes}
+use Rattle.lx_ere.specs.Spelling.{Lexes}
 use Rattle.lx_ere.specs.Pattern.{IsEnding, nothing, dollar, slash_newline, IsPattern, IsSubstitute}
 use Rattle.lx_ere.specs.Lexing.{lexeme_at, body_of, ending_at, Reads}
-use Rattle.lx_ere.specs.Stacks.{Frame, empty_frame, Stack, stack, step, run, finish, parse}
-use Rattle.lx_ere.proofs.Choices.{no_none, same_some, cases_of, begins_is, IsSpelledPrefix}
+use Rattle.lx_ere.specs.Stacks.{empty_frame, Stack, stack, step, run, finish, parse}
+use Rattle.lx_ere.proofs.Choices.{no_none, same_some, cases_of, begins_is}
 use Rattle.lx_ere.proofs.Parser.{runs, run_fails, parse_sound, parse_complete, one_tree}
 use Rattle.lx_ere.proofs.SpellingLemmas.{lexeme_sound, lexeme_complete, spelling_some}
 

@@ -1,24 +1,22 @@
 -- What `lexeme_at` finds is what a front of the text spells, and nothing else.
-use Rattle.std.proofs.Common.{◌≡◌, ◌≢◌, ℕ, zero, suc, ◌+◌, ◌<◌, ◌≤◌, ◌⊎◌, inl, inr, Bool, true, false, ◌&&◌, ◌||◌, not, nat_eq, nat_lt, nat_le, cond, List, [], ◌∷◌, ◌++◌, length, take, drop, Option, Some, None, refl, sym, ap, subst, ◌∙◌, arith, append_assoc, length-append}
+use Rattle.std.proofs.Common.{◌≡◌, ◌≢◌, ℕ, ◌<◌, ◌≤◌, ◌⊎◌, inl, inr, true, false, ◌||◌, nat_eq, nat_le, cond, List, [], ◌∷◌, ◌++◌, length, take, drop, Option, Some, None, refl, sym, ap, subst, ◌∙◌, arith, append_assoc}
 use Rattle.std.specs.List.{list_all}
 use Rattle.std.specs.Option.{option_map, option_and_then}
-use Rattle.std.specs.Ordering.{nat_cmp}
-use Rattle.std.specs.FinSet as set
 use Rattle.std.proofs.lemmas.List.{append_cancel_right}
 use Rattle.std.proofs.lemmas.Bool.{eqb-true, eqb-false, leb-true, le-leb, false≢true, and_parts, or_parts}
 use Rattle.std.proofs.lemmas.Bool.Decides.{nat_tests}
-use Rattle.lx_ere.specs.Bytes.{byte_set, is_between}
+use Rattle.lx_ere.specs.Bytes.{byte_set}
 use Rattle.lx_ere.specs.Grammar.{Lexeme, set_of, quoted, name, interval}
-use Rattle.lx_ere.specs.Escapes.{digit_of, is_digit, number_of, Escape, NoneFirst}
+use Rattle.lx_ere.specs.Escapes.{is_digit, number_of, NoneFirst}
 use Rattle.lx_ere.specs.Sequences.{Opened}
-use Rattle.lx_ere.specs.Brackets.{begins_with, Bracket}
+use Rattle.lx_ere.specs.Brackets.{begins_with}
 use Rattle.lx_ere.specs.Spelling.{byte_lexeme, QuotedByte, unescaped, escaped_byte, is_name_start, is_name_byte, is_identifier, IsBound, Spells, of_byte, of_escape, of_string, of_bracket, of_name, exactly, at_least, between}
-use Rattle.lx_ere.specs.Lexing.{run_len, number_at, byte_of, behind_byte, escape_at, opened_at, bracket_at, unescaped_at, quoted_byte_at, string_at, name_of, name_at, bound_of, bound_at, high_at, behind_comma_at, behind_low_at, interval_at, starts_digit, brace_at, as_set, brace_or_byte, bracket_or_other, string_or_other, escape_or_other, lexeme_at}
-use Rattle.lx_ere.proofs.Choices.{pick_first, pick_second, cases_of, no_none, same_some, map_is, then_is, eq_other, eq_same, begins_is, behind_byte_is, behind_byte_at, IsSpelledPrefix}
-use Rattle.lx_ere.proofs.RunLemmas.{run_whole, take_prefix, drop_prefix, rejoin, IsWholeRun, whole_run_is}
-use Rattle.lx_ere.proofs.EscapeLemmas.{EscapeAt, escape_complete, escape_sound, NumberAt, number_at_is, number_follows_mark}
+use Rattle.lx_ere.specs.Lexing.{run_len, number_at, behind_byte, escape_at, opened_at, bracket_at, unescaped_at, quoted_byte_at, string_at, name_of, name_at, bound_of, bound_at, high_at, behind_comma_at, behind_low_at, interval_at, starts_digit, brace_at, as_set, brace_or_byte, bracket_or_other, string_or_other, lexeme_at}
+use Rattle.lx_ere.proofs.Choices.{pick_first, pick_second, cases_of, no_none, same_some, map_is, then_is, eq_other, begins_is, behind_byte_is, IsSpelledPrefix}
+use Rattle.lx_ere.proofs.RunLemmas.{run_whole, take_prefix, drop_prefix, rejoin, whole_run_is}
+use Rattle.lx_ere.proofs.EscapeLemmas.{escape_complete, escape_sound, number_at_is, number_follows_mark}
 use Rattle.lx_ere.proofs.SequenceLemmas.{opened_complete, opened_sound}
-use Rattle.lx_ere.proofs.BracketLemmas.{BracketAt, bracket_complete, bracket_sound}
+use Rattle.lx_ere.proofs.BracketLemmas.{bracket_complete, bracket_sound}
 
 abbrev Byte1 : Type 0
 Byte1 = ℕ × List ℕ

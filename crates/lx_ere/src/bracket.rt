@@ -9,8 +9,8 @@ ghost use Rattle.lx_ere.specs.Lexing.{run_len, all_items_at, marked_byte_at, bar
 ghost use Rattle.lx_ere.specs.Tokens.{spot_of, ranges_of};
 
 use crate::escape::escape_at;
-use crate::prefix::{begins_pair, begins_with, behind_byte, skip};
 use crate::name::name_run;
+use crate::prefix::{begins_pair, begins_with, behind_byte, skip};
 use crate::set::ByteSet;
 
 /// A place in the brackets.

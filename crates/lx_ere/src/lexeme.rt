@@ -8,8 +8,8 @@ ghost use Rattle.lx_ere.specs.Lexemes.{lexeme_of};
 
 use crate::bracket::bracket_at;
 use crate::escape::{digit_run, escape_at, is_digit, number_at};
-use crate::prefix::{begins_with, behind_byte, skip};
 use crate::name::{is_identifier, name_run};
+use crate::prefix::{begins_with, behind_byte, skip};
 use crate::set::ByteSet;
 use std::alloc::{AllocError, Global};
 
@@ -38,7 +38,23 @@ fn is_plain(c: u8) -> bool
 {
     !matches!(
         c,
-        b'\n' | b'\t' | b' ' | b'"' | b'$' | b'(' | b')' | b'*' | b'+' | b'.' | b'/' | b'?' | b'[' | b'\\' | b'^' | b'{' | b'|'
+        b'\n'
+            | b'\t'
+            | b' '
+            | b'"'
+            | b'$'
+            | b'('
+            | b')'
+            | b'*'
+            | b'+'
+            | b'.'
+            | b'/'
+            | b'?'
+            | b'['
+            | b'\\'
+            | b'^'
+            | b'{'
+            | b'|'
     )
 }
 

@@ -11,9 +11,9 @@ ghost use Rattle.lx_ere.specs.Lexing.{lexeme_at, body_of, ending_at, Reads};
 
 use crate::expr::{Expr, Pattern};
 use crate::fault::EreFault;
-use crate::prefix::{begins_with, skip};
 use crate::groups::{finish, no_groups, step};
 use crate::lexeme::lexeme_at;
+use crate::prefix::{begins_with, skip};
 use std::alloc::Global;
 
 /// The most bytes that a pattern or a substitute may have.

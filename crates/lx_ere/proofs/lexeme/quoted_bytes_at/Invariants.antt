@@ -1,4 +1,4 @@
-use Rattle.std.proofs.Common.{ℕ, length}
+use Rattle.std.proofs.Common.{length}
 use Rattle.lx_ere.specs.Lexing.{quoted_byte_at}
 use Rattle.lx_ere.proofs.SequenceLemmas.{Scanned}
 use Rattle.lx_ere.proofs.lexeme.quoted_bytes_at.Given as goal
