@@ -1,21 +1,20 @@
 -- What `bracket_at` finds is what a front of the text spells, and nothing else.
-use Rattle.std.proofs.Common.{◌≡◌, ◌≢◌, ℕ, zero, suc, ◌+◌, ◌<◌, ◌≤◌, ◌⊎◌, inl, inr, Bool, true, false, ◌&&◌, ◌||◌, not, nat_eq, nat_le, cond, List, [], ◌∷◌, ◌++◌, length, take, drop, Option, Some, None, refl, sym, ap, subst, ◌∙◌, arith, append_assoc, length-append, codes}
+use Rattle.std.proofs.Common.{◌≡◌, ◌≢◌, ℕ, ◌<◌, ◌⊎◌, inl, inr, Bool, true, false, ◌&&◌, ◌||◌, not, nat_eq, nat_le, cond, List, [], ◌∷◌, ◌++◌, length, take, drop, Option, Some, None, refl, sym, ap, subst, ◌∙◌, arith, append_assoc, length-append, codes}
 use Rattle.std.specs.Str.{bytes_eq}
 use Rattle.std.specs.List.{list_all}
 use Rattle.std.specs.Option.{option_map, option_and_then}
 use Rattle.std.specs.Ordering.{nat_cmp}
 use Rattle.std.specs.FinSet as set
-use Rattle.std.proofs.lemmas.Bool.{eqb-true, eqb-false, leb-true, le-leb, false≢true, and_parts, or_parts}
+use Rattle.std.proofs.lemmas.Bool.{eqb-true, eqb-false, leb-true, le-leb, false≢true, and_parts}
 use Rattle.std.proofs.lemmas.Slice.Eq.{bytes_eq-Decides}
 use Rattle.lx_ere.specs.Bytes.{bytes_where}
-use Rattle.lx_ere.specs.Escapes.{Escape, NoneFirst}
-use Rattle.lx_ere.specs.Sequences.{Opened, Closed}
+use Rattle.lx_ere.specs.Sequences.{Opened}
 use Rattle.lx_ere.specs.Brackets.{Spot, opening, behind_caret, inside, is_inside, is_opening, begins_with, opens_inner, stands_alone, range_follows, Point, plain_point, escaped, first_bracket, outer_dash, collating, RangeEnd, end_point, end_dash, class_ranges, Member, point, range, equivalence, class, in_members, Bracket, matching, excluding}
 use Rattle.lx_ere.specs.Spelling.{is_name_byte}
-use Rattle.lx_ere.specs.Reading.{run_len, behind_byte, escape_at, opened_at, marked_byte_at, bare_point_at, point_at, range_end_at, range_from, member_from, class_of, class_at, begins_pair, member_at, members_at, bracket_at}
-use Rattle.lx_ere.proofs.Choices.{pick_first, pick_second, cases_of, no_none, same_some, map_is, then_is, eq_other, eq_same, begins_is, behind_byte_is, behind_byte_at, IsFront}
-use Rattle.lx_ere.proofs.RunLemmas.{run_whole, take_front, drop_front, rejoin}
-use Rattle.lx_ere.proofs.EscapeLemmas.{EscapeAt, escape_complete, escape_sound}
+use Rattle.lx_ere.specs.Lexing.{run_len, behind_byte, escape_at, marked_byte_at, bare_point_at, point_at, range_end_at, range_from, member_from, class_of, class_at, begins_pair, member_at, members_at, bracket_at}
+use Rattle.lx_ere.proofs.Choices.{pick_first, pick_second, cases_of, no_none, same_some, map_is, then_is, eq_other, begins_is, behind_byte_is, behind_byte_at, IsSpelledPrefix}
+use Rattle.lx_ere.proofs.RunLemmas.{run_whole, take_prefix, drop_prefix, rejoin}
+use Rattle.lx_ere.proofs.EscapeLemmas.{escape_complete, escape_sound}
 use Rattle.lx_ere.proofs.SequenceLemmas.{opened_complete, opened_sound}
 
 abbrev Point1 : Type 0
@@ -84,61 +83,61 @@ point_complete _ _ _ _ (first_bracket spot behind h) = pick_second (is_inside sp
 point_complete _ _ _ _ (outer_dash spot behind h) = pick_first (not (is_inside spot) || begins_with 93 behind) _ _ h
 point_complete _ _ _ _ (collating spot c behind h) = marked_complete 46 c behind h
 
-pub point_sound : (spot : Spot) (text : List ℕ) (c : ℕ) (behind : List ℕ) → point_at spot text ≡ Some (c, behind) → IsFront (Point spot) text c behind
+pub point_sound : (spot : Spot) (text : List ℕ) (c : ℕ) (behind : List ℕ) → point_at spot text ≡ Some (c, behind) → IsSpelledPrefix (Point spot) text c behind
 point_sound spot [] c behind e = absurd (no_none (c, behind) e)
 point_sound spot (d ∷ text) c behind e = by_slash (cases_of (nat_eq d 92) (escape_at text) (bare_point_at spot d text) (Some (c, behind)) e)
   where
     Found : Type 0
-    Found = IsFront (Point spot) (d ∷ text) c behind
+    Found = IsSpelledPrefix (Point spot) (d ∷ text) c behind
 
-    by_alone : (stands_alone spot d text ≡ true) × ◌≡◌ {A = Option Point1} (Some (d, text)) (Some (c, behind)) ⊎ ((stands_alone spot d text ≡ false) × ◌≡◌ {A = Option Point1} None (Some (c, behind))) → IsFront (Point spot) (d ∷ text) c behind
+    by_alone : (stands_alone spot d text ≡ true) × ◌≡◌ {A = Option Point1} (Some (d, text)) (Some (c, behind)) ⊎ ((stands_alone spot d text ≡ false) × ◌≡◌ {A = Option Point1} None (Some (c, behind))) → IsSpelledPrefix (Point spot) (d ∷ text) c behind
     by_alone (inl (b, f)) =
         let pair : ◌≡◌ {A = Point1} (d, text) (c, behind) = same_some (d, text) (c, behind) f in
         let byte : d ≡ c = ap (λ p. p.0) pair in
         let last : text ≡ behind = ap (λ p. p.1) pair in
-        record { front = d ∷ []; spelled = subst (λ x. Point spot (d ∷ []) x behind) byte (subst (λ v. Point spot (d ∷ []) d v) last (plain_point spot d text b)); joins = ap (λ t. d ∷ t) last }
+        record { prefix = d ∷ []; spelled = subst (λ x. Point spot (d ∷ []) x behind) byte (subst (λ v. Point spot (d ∷ []) d v) last (plain_point spot d text b)); joins = ap (λ t. d ∷ t) last }
     by_alone (inr (b, f)) = absurd (no_none (c, behind) f)
 
-    by_period : ((nat_eq d 91 && begins_with 46 text) ≡ true) × (marked_byte_at 46 (drop 1 text) ≡ Some (c, behind)) ⊎ (((nat_eq d 91 && begins_with 46 text) ≡ false) × (cond {A = Option Point1} (stands_alone spot d text) (Some (d, text)) None ≡ Some (c, behind))) → IsFront (Point spot) (d ∷ text) c behind
+    by_period : ((nat_eq d 91 && begins_with 46 text) ≡ true) × (marked_byte_at 46 (drop 1 text) ≡ Some (c, behind)) ⊎ (((nat_eq d 91 && begins_with 46 text) ≡ false) × (cond {A = Option Point1} (stands_alone spot d text) (Some (d, text)) None ≡ Some (c, behind))) → IsSpelledPrefix (Point spot) (d ∷ text) c behind
     by_period (inl (b, f)) =
         let both = and_parts (nat_eq d 91) (begins_with 46 text) b in
         let m = marked_sound 46 (drop 1 text) c behind f in
         let is : d ≡ 91 = eqb-true d 91 both.0 in
         record {
-          front = 91 ∷ 46 ∷ c ∷ 46 ∷ 93 ∷ [];
+          prefix = 91 ∷ 46 ∷ c ∷ 46 ∷ 93 ∷ [];
           spelled = collating spot c behind m.0;
           joins = ap (λ x. x ∷ text) is ∙ ap (λ t. 91 ∷ t) (begins_is 46 text both.1 ∙ ap (λ t. 46 ∷ t) m.1);
         }
     by_period (inr (b, f)) = by_alone (cases_of (stands_alone spot d text) (Some (d, text)) None (Some (c, behind)) f)
 
-    after_dash : ((not (is_inside spot) || begins_with 93 text) ≡ true) × ◌≡◌ {A = Option Point1} (Some (45, text)) (Some (c, behind)) ⊎ (((not (is_inside spot) || begins_with 93 text) ≡ false) × ◌≡◌ {A = Option Point1} None (Some (c, behind))) → d ≡ 45 → IsFront (Point spot) (d ∷ text) c behind
+    after_dash : ((not (is_inside spot) || begins_with 93 text) ≡ true) × ◌≡◌ {A = Option Point1} (Some (45, text)) (Some (c, behind)) ⊎ (((not (is_inside spot) || begins_with 93 text) ≡ false) × ◌≡◌ {A = Option Point1} None (Some (c, behind))) → d ≡ 45 → IsSpelledPrefix (Point spot) (d ∷ text) c behind
     after_dash (inl (b, f)) is =
         let pair : ◌≡◌ {A = Point1} (45, text) (c, behind) = same_some (45, text) (c, behind) f in
         let byte : 45 ≡ c = ap (λ p. p.0) pair in
         let last : text ≡ behind = ap (λ p. p.1) pair in
-        record { front = 45 ∷ []; spelled = subst (λ x. Point spot (45 ∷ []) x behind) byte (subst (λ v. Point spot (45 ∷ []) 45 v) last (outer_dash spot text b)); joins = ap (λ x. x ∷ text) is ∙ ap (λ t. 45 ∷ t) last }
+        record { prefix = 45 ∷ []; spelled = subst (λ x. Point spot (45 ∷ []) x behind) byte (subst (λ v. Point spot (45 ∷ []) 45 v) last (outer_dash spot text b)); joins = ap (λ x. x ∷ text) is ∙ ap (λ t. 45 ∷ t) last }
     after_dash (inr (b, f)) is = absurd (no_none (c, behind) f)
 
-    by_dash : (nat_eq d 45 ≡ true) × (cond {A = Option Point1} (not (is_inside spot) || begins_with 93 text) (Some (45, text)) None ≡ Some (c, behind)) ⊎ ((nat_eq d 45 ≡ false) × (cond {A = Option Point1} (nat_eq d 91 && begins_with 46 text) (marked_byte_at 46 (drop 1 text)) (cond {A = Option Point1} (stands_alone spot d text) (Some (d, text)) None) ≡ Some (c, behind))) → IsFront (Point spot) (d ∷ text) c behind
+    by_dash : (nat_eq d 45 ≡ true) × (cond {A = Option Point1} (not (is_inside spot) || begins_with 93 text) (Some (45, text)) None ≡ Some (c, behind)) ⊎ ((nat_eq d 45 ≡ false) × (cond {A = Option Point1} (nat_eq d 91 && begins_with 46 text) (marked_byte_at 46 (drop 1 text)) (cond {A = Option Point1} (stands_alone spot d text) (Some (d, text)) None) ≡ Some (c, behind))) → IsSpelledPrefix (Point spot) (d ∷ text) c behind
     by_dash (inl (b, f)) = after_dash (cases_of (not (is_inside spot) || begins_with 93 text) (Some (45, text)) None (Some (c, behind)) f) (eqb-true d 45 b)
     by_dash (inr (b, f)) = by_period (cases_of (nat_eq d 91 && begins_with 46 text) (marked_byte_at 46 (drop 1 text)) (cond {A = Option Point1} (stands_alone spot d text) (Some (d, text)) None) (Some (c, behind)) f)
 
-    after_close : (is_inside spot ≡ true) × ◌≡◌ {A = Option Point1} None (Some (c, behind)) ⊎ ((is_inside spot ≡ false) × ◌≡◌ {A = Option Point1} (Some (93, text)) (Some (c, behind))) → d ≡ 93 → IsFront (Point spot) (d ∷ text) c behind
+    after_close : (is_inside spot ≡ true) × ◌≡◌ {A = Option Point1} None (Some (c, behind)) ⊎ ((is_inside spot ≡ false) × ◌≡◌ {A = Option Point1} (Some (93, text)) (Some (c, behind))) → d ≡ 93 → IsSpelledPrefix (Point spot) (d ∷ text) c behind
     after_close (inl (b, f)) is = absurd (no_none (c, behind) f)
     after_close (inr (b, f)) is =
         let pair : ◌≡◌ {A = Point1} (93, text) (c, behind) = same_some (93, text) (c, behind) f in
         let byte : 93 ≡ c = ap (λ p. p.0) pair in
         let last : text ≡ behind = ap (λ p. p.1) pair in
-        record { front = 93 ∷ []; spelled = subst (λ x. Point spot (93 ∷ []) x behind) byte (subst (λ v. Point spot (93 ∷ []) 93 v) last (first_bracket spot text b)); joins = ap (λ x. x ∷ text) is ∙ ap (λ t. 93 ∷ t) last }
+        record { prefix = 93 ∷ []; spelled = subst (λ x. Point spot (93 ∷ []) x behind) byte (subst (λ v. Point spot (93 ∷ []) 93 v) last (first_bracket spot text b)); joins = ap (λ x. x ∷ text) is ∙ ap (λ t. 93 ∷ t) last }
 
-    by_close : (nat_eq d 93 ≡ true) × (cond {A = Option Point1} (is_inside spot) None (Some (93, text)) ≡ Some (c, behind)) ⊎ ((nat_eq d 93 ≡ false) × (cond {A = Option Point1} (nat_eq d 45) (cond {A = Option Point1} (not (is_inside spot) || begins_with 93 text) (Some (45, text)) None) (cond {A = Option Point1} (nat_eq d 91 && begins_with 46 text) (marked_byte_at 46 (drop 1 text)) (cond {A = Option Point1} (stands_alone spot d text) (Some (d, text)) None)) ≡ Some (c, behind))) → IsFront (Point spot) (d ∷ text) c behind
+    by_close : (nat_eq d 93 ≡ true) × (cond {A = Option Point1} (is_inside spot) None (Some (93, text)) ≡ Some (c, behind)) ⊎ ((nat_eq d 93 ≡ false) × (cond {A = Option Point1} (nat_eq d 45) (cond {A = Option Point1} (not (is_inside spot) || begins_with 93 text) (Some (45, text)) None) (cond {A = Option Point1} (nat_eq d 91 && begins_with 46 text) (marked_byte_at 46 (drop 1 text)) (cond {A = Option Point1} (stands_alone spot d text) (Some (d, text)) None)) ≡ Some (c, behind))) → IsSpelledPrefix (Point spot) (d ∷ text) c behind
     by_close (inl (b, f)) = after_close (cases_of (is_inside spot) None (Some (93, text)) (Some (c, behind)) f) (eqb-true d 93 b)
     by_close (inr (b, f)) = by_dash (cases_of (nat_eq d 45) (cond {A = Option Point1} (not (is_inside spot) || begins_with 93 text) (Some (45, text)) None) (cond {A = Option Point1} (nat_eq d 91 && begins_with 46 text) (marked_byte_at 46 (drop 1 text)) (cond {A = Option Point1} (stands_alone spot d text) (Some (d, text)) None)) (Some (c, behind)) f)
 
-    by_slash : (nat_eq d 92 ≡ true) × (escape_at text ≡ Some (c, behind)) ⊎ ((nat_eq d 92 ≡ false) × (bare_point_at spot d text ≡ Some (c, behind))) → IsFront (Point spot) (d ∷ text) c behind
+    by_slash : (nat_eq d 92 ≡ true) × (escape_at text ≡ Some (c, behind)) ⊎ ((nat_eq d 92 ≡ false) × (bare_point_at spot d text ≡ Some (c, behind))) → IsSpelledPrefix (Point spot) (d ∷ text) c behind
     by_slash (inl (b, f)) =
         let i = escape_sound text c behind f in
-        record { front = 92 ∷ i.rest; spelled = escaped spot (92 ∷ i.rest) c behind i.spelled; joins = ap (λ x. x ∷ text) (eqb-true d 92 b) ∙ ap (λ t. 92 ∷ t) i.joins }
+        record { prefix = 92 ∷ i.rest; spelled = escaped spot (92 ∷ i.rest) c behind i.spelled; joins = ap (λ x. x ∷ text) (eqb-true d 92 b) ∙ ap (λ t. 92 ∷ t) i.joins }
     by_slash (inr (b, f)) = by_close (cases_of (nat_eq d 93) (cond {A = Option Point1} (is_inside spot) None (Some (93, text))) (cond {A = Option Point1} (nat_eq d 45) (cond {A = Option Point1} (not (is_inside spot) || begins_with 93 text) (Some (45, text)) None) (cond {A = Option Point1} (nat_eq d 91 && begins_with 46 text) (marked_byte_at 46 (drop 1 text)) (cond {A = Option Point1} (stands_alone spot d text) (Some (d, text)) None))) (Some (c, behind)) f)
 
 point_some : (spot : Spot) (text : List ℕ) (c : ℕ) (behind : List ℕ) → Point spot text c behind → 0 < length text
@@ -173,16 +172,16 @@ range_end_complete _ _ _ (end_point text c behind p) = go (begins_with 45 (text 
     go false eb = pick_second (begins_with 45 (text ++ behind)) _ _ eb ∙ point_complete inside text c behind p
     go true eb = pick_first (begins_with 45 (text ++ behind)) _ _ eb ∙ at_dash (drop 1 (text ++ behind)) (ap (point_at inside) (sym (begins_is 45 (text ++ behind) eb)) ∙ point_complete inside text c behind p)
 
-range_end_sound : (text : List ℕ) (c : ℕ) (behind : List ℕ) → range_end_at text ≡ Some (c, behind) → IsFront RangeEnd text c behind
+range_end_sound : (text : List ℕ) (c : ℕ) (behind : List ℕ) → range_end_at text ≡ Some (c, behind) → IsSpelledPrefix RangeEnd text c behind
 range_end_sound text c behind e = go (cases_of (begins_with 45 text) (Some (45, drop 1 text)) (point_at inside text) (Some (c, behind)) e)
   where
-    go : (begins_with 45 text ≡ true) × ◌≡◌ {A = Option Point1} (Some (45, drop 1 text)) (Some (c, behind)) ⊎ ((begins_with 45 text ≡ false) × (point_at inside text ≡ Some (c, behind))) → IsFront RangeEnd text c behind
+    go : (begins_with 45 text ≡ true) × ◌≡◌ {A = Option Point1} (Some (45, drop 1 text)) (Some (c, behind)) ⊎ ((begins_with 45 text ≡ false) × (point_at inside text ≡ Some (c, behind))) → IsSpelledPrefix RangeEnd text c behind
     go (inl (b, f)) =
         let pair : ◌≡◌ {A = Point1} (45, drop 1 text) (c, behind) = same_some (45, drop 1 text) (c, behind) f in
         let byte : 45 ≡ c = ap (λ p. p.0) pair in
         let last : drop 1 text ≡ behind = ap (λ p. p.1) pair in
-        record { front = 45 ∷ []; spelled = subst (λ x. RangeEnd (45 ∷ []) x behind) byte (end_dash behind); joins = begins_is 45 text b ∙ ap (λ t. 45 ∷ t) last }
-    go (inr (b, f)) = let i = point_sound inside text c behind f in record { front = i.front; spelled = end_point (i.front) c behind i.spelled; joins = i.joins }
+        record { prefix = 45 ∷ []; spelled = subst (λ x. RangeEnd (45 ∷ []) x behind) byte (end_dash behind); joins = begins_is 45 text b ∙ ap (λ t. 45 ∷ t) last }
+    go (inr (b, f)) = let i = point_sound inside text c behind f in record { prefix = i.prefix; spelled = end_point (i.prefix) c behind i.spelled; joins = i.joins }
 
 -- the names of classes are runs of name bytes
 pub class_name : (name : List ℕ) (ranges : List (ℕ × ℕ)) → class_ranges name ≡ Some ranges → list_all is_name_byte name ≡ true
@@ -203,9 +202,9 @@ Ranges1 = List (ℕ × ℕ) × List ℕ
 class_complete : (name : List ℕ) (ranges : List (ℕ × ℕ)) (behind : List ℕ) → class_ranges name ≡ Some ranges → class_at (name ++ (58 ∷ 93 ∷ behind)) ≡ Some (ranges, behind)
 class_complete name ranges behind e =
     let run = run_whole is_name_byte name (58 ∷ 93 ∷ behind) (class_name name ranges e) refl in
-    let front : take (length name) (name ++ (58 ∷ 93 ∷ behind)) ≡ name = take_front name (58 ∷ 93 ∷ behind) in
-    let rest : drop (length name) (name ++ (58 ∷ 93 ∷ behind)) ≡ 58 ∷ 93 ∷ behind = drop_front name (58 ∷ 93 ∷ behind) in
-    ap (λ n. class_of n (name ++ (58 ∷ 93 ∷ behind))) run ∙ found (take (length name) (name ++ (58 ∷ 93 ∷ behind))) (drop (length name) (name ++ (58 ∷ 93 ∷ behind))) front rest
+    let prefix : take (length name) (name ++ (58 ∷ 93 ∷ behind)) ≡ name = take_prefix name (58 ∷ 93 ∷ behind) in
+    let rest : drop (length name) (name ++ (58 ∷ 93 ∷ behind)) ≡ 58 ∷ 93 ∷ behind = drop_prefix name (58 ∷ 93 ∷ behind) in
+    ap (λ n. class_of n (name ++ (58 ∷ 93 ∷ behind))) run ∙ found (take (length name) (name ++ (58 ∷ 93 ∷ behind))) (drop (length name) (name ++ (58 ∷ 93 ∷ behind))) prefix rest
   where
     found : (n t : List ℕ) → n ≡ name → t ≡ 58 ∷ 93 ∷ behind → option_and_then (λ rs. option_map {U = Ranges1} (λ r. (rs, r)) (option_and_then (behind_byte 93) (behind_byte 58 t))) (class_ranges n) ≡ Some (ranges, behind)
     found n t en et = rw et (rw en (rw e refl))
@@ -247,27 +246,27 @@ range_follows_is : (text : List ℕ) → range_follows text ≡ true → text �
 range_follows_is [] e = absurd (false≢true e)
 range_follows_is (c ∷ text) e = let both = and_parts (nat_eq c 45) (not (begins_with 93 text)) e in ap (λ x. x ∷ text) (eqb-true c 45 both.0)
 
-member_from_sound : (spot : Spot) (text : List ℕ) (low : ℕ) (rest : List ℕ) (ranges : List (ℕ × ℕ)) (behind : List ℕ) → IsFront (Point spot) text low rest → member_from (low, rest) ≡ Some (ranges, behind) → IsFront (Member spot) text ranges behind
+member_from_sound : (spot : Spot) (text : List ℕ) (low : ℕ) (rest : List ℕ) (ranges : List (ℕ × ℕ)) (behind : List ℕ) → IsSpelledPrefix (Point spot) text low rest → member_from (low, rest) ≡ Some (ranges, behind) → IsSpelledPrefix (Member spot) text ranges behind
 member_from_sound spot text low rest ranges behind i e = go (cases_of (range_follows rest) (option_and_then (range_from low) (range_end_at (drop 1 rest))) (Some ((low, low) ∷ [], rest)) (Some (ranges, behind)) e)
   where
     ranged : (high : ℕ) (after : List ℕ) → range_follows rest ≡ true → range_end_at (drop 1 rest) ≡ Some (high, after) →
-        (nat_le low high ≡ true) × ◌≡◌ {A = Option Ranges1} (Some ((low, high) ∷ [], after)) (Some (ranges, behind)) ⊎ ((nat_le low high ≡ false) × ◌≡◌ {A = Option Ranges1} None (Some (ranges, behind))) → IsFront (Member spot) text ranges behind
+        (nat_le low high ≡ true) × ◌≡◌ {A = Option Ranges1} (Some ((low, high) ∷ [], after)) (Some (ranges, behind)) ⊎ ((nat_le low high ≡ false) × ◌≡◌ {A = Option Ranges1} None (Some (ranges, behind))) → IsSpelledPrefix (Member spot) text ranges behind
     ranged high after follows at (inl (b, f)) =
         let pair : ◌≡◌ {A = Ranges1} ((low, high) ∷ [], after) (ranges, behind) = same_some ((low, high) ∷ [], after) (ranges, behind) f in
         let same : (low, high) ∷ [] ≡ ranges = ap (λ p. p.0) pair in
         let last : after ≡ behind = ap (λ p. p.1) pair in
         let k = range_end_sound (drop 1 rest) high after at in
-        let whole : rest ≡ 45 ∷ (k.front ++ after) = range_follows_is rest follows ∙ ap (λ t. 45 ∷ t) k.joins in
-        let p : Point spot (i.front) low (45 ∷ (k.front ++ after)) = subst (Point spot (i.front) low) whole i.spelled in
-        let m : Member spot (i.front ++ (45 ∷ k.front)) ((low, high) ∷ []) after = range spot (i.front) low (k.front) high after p (subst (λ t. range_follows t ≡ true) whole follows) k.spelled (leb-true low high b) in
+        let whole : rest ≡ 45 ∷ (k.prefix ++ after) = range_follows_is rest follows ∙ ap (λ t. 45 ∷ t) k.joins in
+        let p : Point spot (i.prefix) low (45 ∷ (k.prefix ++ after)) = subst (Point spot (i.prefix) low) whole i.spelled in
+        let m : Member spot (i.prefix ++ (45 ∷ k.prefix)) ((low, high) ∷ []) after = range spot (i.prefix) low (k.prefix) high after p (subst (λ t. range_follows t ≡ true) whole follows) k.spelled (leb-true low high b) in
         record {
-          front = i.front ++ (45 ∷ k.front);
-          spelled = subst (λ v. Member spot (i.front ++ (45 ∷ k.front)) ranges v) last (subst (λ r. Member spot (i.front ++ (45 ∷ k.front)) r after) same m);
-          joins = i.joins ∙ (ap (λ t. i.front ++ t) (whole ∙ ap (λ v. 45 ∷ (k.front ++ v)) last) ∙ sym (append_assoc (i.front) (45 ∷ k.front) behind));
+          prefix = i.prefix ++ (45 ∷ k.prefix);
+          spelled = subst (λ v. Member spot (i.prefix ++ (45 ∷ k.prefix)) ranges v) last (subst (λ r. Member spot (i.prefix ++ (45 ∷ k.prefix)) r after) same m);
+          joins = i.joins ∙ (ap (λ t. i.prefix ++ t) (whole ∙ ap (λ v. 45 ∷ (k.prefix ++ v)) last) ∙ sym (append_assoc (i.prefix) (45 ∷ k.prefix) behind));
         }
     ranged high after follows at (inr (b, f)) = absurd (no_none (ranges, behind) f)
 
-    go : (range_follows rest ≡ true) × (option_and_then (range_from low) (range_end_at (drop 1 rest)) ≡ Some (ranges, behind)) ⊎ ((range_follows rest ≡ false) × ◌≡◌ {A = Option Ranges1} (Some ((low, low) ∷ [], rest)) (Some (ranges, behind))) → IsFront (Member spot) text ranges behind
+    go : (range_follows rest ≡ true) × (option_and_then (range_from low) (range_end_at (drop 1 rest)) ≡ Some (ranges, behind)) ⊎ ((range_follows rest ≡ false) × ◌≡◌ {A = Option Ranges1} (Some ((low, low) ∷ [], rest)) (Some (ranges, behind))) → IsSpelledPrefix (Member spot) text ranges behind
     go (inl (b, f)) =
         let (end, at, more) = then_is (range_from low) (range_end_at (drop 1 rest)) (ranges, behind) f in
         ranged (end.0) (end.1) b at (cases_of (nat_le low (end.0)) (Some ((low, end.0) ∷ [], end.1)) None (Some (ranges, behind)) more)
@@ -275,14 +274,14 @@ member_from_sound spot text low rest ranges behind i e = go (cases_of (range_fol
         let pair : ◌≡◌ {A = Ranges1} ((low, low) ∷ [], rest) (ranges, behind) = same_some ((low, low) ∷ [], rest) (ranges, behind) f in
         let same : (low, low) ∷ [] ≡ ranges = ap (λ p. p.0) pair in
         let last : rest ≡ behind = ap (λ p. p.1) pair in
-        let m : Member spot (i.front) ((low, low) ∷ []) rest = point spot (i.front) low rest i.spelled b in
-        record { front = i.front; spelled = subst (λ v. Member spot (i.front) ranges v) last (subst (λ r. Member spot (i.front) r rest) same m); joins = i.joins ∙ ap (λ v. i.front ++ v) last }
+        let m : Member spot (i.prefix) ((low, low) ∷ []) rest = point spot (i.prefix) low rest i.spelled b in
+        record { prefix = i.prefix; spelled = subst (λ v. Member spot (i.prefix) ranges v) last (subst (λ r. Member spot (i.prefix) r rest) same m); joins = i.joins ∙ ap (λ v. i.prefix ++ v) last }
 
-pub member_sound : (spot : Spot) (text : List ℕ) (ranges : List (ℕ × ℕ)) (behind : List ℕ) → member_at spot text ≡ Some (ranges, behind) → IsFront (Member spot) text ranges behind
+pub member_sound : (spot : Spot) (text : List ℕ) (ranges : List (ℕ × ℕ)) (behind : List ℕ) → member_at spot text ≡ Some (ranges, behind) → IsSpelledPrefix (Member spot) text ranges behind
 member_sound spot text ranges behind e =
     by_colon (cases_of (begins_pair 91 58 text) (class_at (drop 2 text)) (cond {A = Option Ranges1} (begins_pair 91 61 text) (option_map {U = Ranges1} (λ f. ((f.0, f.0) ∷ [], f.1)) (marked_byte_at 61 (drop 2 text))) (option_and_then member_from (point_at spot text))) (Some (ranges, behind)) e)
   where
-    by_equals : (begins_pair 91 61 text ≡ true) × (option_map {U = Ranges1} (λ f. ((f.0, f.0) ∷ [], f.1)) (marked_byte_at 61 (drop 2 text)) ≡ Some (ranges, behind)) ⊎ ((begins_pair 91 61 text ≡ false) × (option_and_then member_from (point_at spot text) ≡ Some (ranges, behind))) → IsFront (Member spot) text ranges behind
+    by_equals : (begins_pair 91 61 text ≡ true) × (option_map {U = Ranges1} (λ f. ((f.0, f.0) ∷ [], f.1)) (marked_byte_at 61 (drop 2 text)) ≡ Some (ranges, behind)) ⊎ ((begins_pair 91 61 text ≡ false) × (option_and_then member_from (point_at spot text) ≡ Some (ranges, behind))) → IsSpelledPrefix (Member spot) text ranges behind
     by_equals (inl (b, f)) =
         let (found, at, pair) = map_is {B = Ranges1} (λ f. ((f.0, f.0) ∷ [], f.1)) (marked_byte_at 61 (drop 2 text)) (ranges, behind) f in
         let m = marked_sound 61 (drop 2 text) (found.0) (found.1) at in
@@ -290,7 +289,7 @@ member_sound spot text ranges behind e =
         let last : found.1 ≡ behind = ap (λ p. p.1) pair in
         let whole : Member spot (91 ∷ 61 ∷ found.0 ∷ 61 ∷ 93 ∷ []) ((found.0, found.0) ∷ []) behind = equivalence spot (found.0) behind m.0 in
         record {
-          front = 91 ∷ 61 ∷ found.0 ∷ 61 ∷ 93 ∷ [];
+          prefix = 91 ∷ 61 ∷ found.0 ∷ 61 ∷ 93 ∷ [];
           spelled = subst (λ r. Member spot (91 ∷ 61 ∷ found.0 ∷ 61 ∷ 93 ∷ []) r behind) same whole;
           joins = pair_is 91 61 text b ∙ ap (λ t. 91 ∷ 61 ∷ t) (m.1 ∙ ap (λ v. found.0 ∷ 61 ∷ 93 ∷ v) last);
         }
@@ -298,12 +297,12 @@ member_sound spot text ranges behind e =
         let (found, at, more) = then_is member_from (point_at spot text) (ranges, behind) f in
         member_from_sound spot text (found.0) (found.1) ranges behind (point_sound spot text (found.0) (found.1) at) more
 
-    by_colon : (begins_pair 91 58 text ≡ true) × (class_at (drop 2 text) ≡ Some (ranges, behind)) ⊎ ((begins_pair 91 58 text ≡ false) × (cond {A = Option Ranges1} (begins_pair 91 61 text) (option_map {U = Ranges1} (λ f. ((f.0, f.0) ∷ [], f.1)) (marked_byte_at 61 (drop 2 text))) (option_and_then member_from (point_at spot text)) ≡ Some (ranges, behind))) → IsFront (Member spot) text ranges behind
+    by_colon : (begins_pair 91 58 text ≡ true) × (class_at (drop 2 text) ≡ Some (ranges, behind)) ⊎ ((begins_pair 91 58 text ≡ false) × (cond {A = Option Ranges1} (begins_pair 91 61 text) (option_map {U = Ranges1} (λ f. ((f.0, f.0) ∷ [], f.1)) (marked_byte_at 61 (drop 2 text))) (option_and_then member_from (point_at spot text)) ≡ Some (ranges, behind))) → IsSpelledPrefix (Member spot) text ranges behind
     by_colon (inl (b, f)) =
         let n : ℕ = run_len is_name_byte (length (drop 2 text)) (drop 2 text) in
         let k = class_sound n (drop 2 text) ranges behind f in
         record {
-          front = 91 ∷ 58 ∷ (take n (drop 2 text) ++ (58 ∷ 93 ∷ []));
+          prefix = 91 ∷ 58 ∷ (take n (drop 2 text) ++ (58 ∷ 93 ∷ []));
           spelled = class spot (take n (drop 2 text)) ranges behind k.0;
           joins = pair_is 91 58 text b ∙ ap (λ t. 91 ∷ 58 ∷ t) (k.1 ∙ sym (append_assoc (take n (drop 2 text)) (58 ∷ 93 ∷ []) behind));
         }
@@ -334,7 +333,7 @@ members_complete : (spot : Spot) (text : List ℕ) (m : List (ℕ × ℕ)) (ms :
 members_complete spot text m ms behind o =
     opened_complete (Member inside) (member_at inside) 93 (member_complete inside) (member_sound inside) (member_some inside) member_closes (Member spot) (member_at spot) (member_complete spot) text m ms behind o
 
-members_sound : (spot : Spot) (text : List ℕ) (m : List (ℕ × ℕ)) (ms : List (List (ℕ × ℕ))) (behind : List ℕ) → members_at spot text ≡ Some (m, ms, behind) → (front : List ℕ) × Opened (Member spot) (Member inside) 93 front m ms behind × (text ≡ front ++ behind)
+members_sound : (spot : Spot) (text : List ℕ) (m : List (ℕ × ℕ)) (ms : List (List (ℕ × ℕ))) (behind : List ℕ) → members_at spot text ≡ Some (m, ms, behind) → (prefix : List ℕ) × Opened (Member spot) (Member inside) 93 prefix m ms behind × (text ≡ prefix ++ behind)
 members_sound spot text m ms behind e =
     opened_sound (Member inside) (member_at inside) 93 (member_complete inside) (member_sound inside) (member_some inside) member_closes (Member spot) (member_at spot) (member_sound spot) text m ms behind e
 
@@ -361,12 +360,12 @@ bracket_complete _ _ _ (excluding text m ms behind o) = record {
 }
 
 -- what stands behind the opening bracket, for a text that `bracket_at` reads
-pub bracket_sound : (text : List ℕ) (s : set.FinSet nat_cmp) (behind : List ℕ) → bracket_at text ≡ Some (s, behind) → (front : List ℕ) × Bracket (91 ∷ front) s behind × (text ≡ front ++ behind)
+pub bracket_sound : (text : List ℕ) (s : set.FinSet nat_cmp) (behind : List ℕ) → bracket_at text ≡ Some (s, behind) → (prefix : List ℕ) × Bracket (91 ∷ prefix) s behind × (text ≡ prefix ++ behind)
 bracket_sound text s behind e =
     go (cases_of (begins_with 94 text) (option_map {U = Set1} (λ f. (bytes_where (λ b. not (in_members (f.0 ∷ f.1) b)), f.2)) (members_at behind_caret (drop 1 text))) (option_map {U = Set1} (λ f. (bytes_where (in_members (f.0 ∷ f.1)), f.2)) (members_at opening text)) (Some (s, behind)) e)
   where
     go : (begins_with 94 text ≡ true) × (option_map {U = Set1} (λ f. (bytes_where (λ b. not (in_members (f.0 ∷ f.1) b)), f.2)) (members_at behind_caret (drop 1 text)) ≡ Some (s, behind)) ⊎
-        ((begins_with 94 text ≡ false) × (option_map {U = Set1} (λ f. (bytes_where (in_members (f.0 ∷ f.1)), f.2)) (members_at opening text) ≡ Some (s, behind))) → (front : List ℕ) × Bracket (91 ∷ front) s behind × (text ≡ front ++ behind)
+        ((begins_with 94 text ≡ false) × (option_map {U = Set1} (λ f. (bytes_where (in_members (f.0 ∷ f.1)), f.2)) (members_at opening text) ≡ Some (s, behind))) → (prefix : List ℕ) × Bracket (91 ∷ prefix) s behind × (text ≡ prefix ++ behind)
     go (inl (b, f)) =
         let (found, at, pair) = map_is {B = Set1} (λ f. (bytes_where (λ b. not (in_members (f.0 ∷ f.1) b)), f.2)) (members_at behind_caret (drop 1 text)) (s, behind) f in
         let k = members_sound behind_caret (drop 1 text) (found.0) (found.1) (found.2) at in

@@ -1,10 +1,10 @@
 -- What an answer of `if`, `option_map` or `option_and_then` came from.
-use Rattle.std.proofs.Common.{◌≡◌, ℕ, ◌<◌, ◌⊎◌, inl, inr, Bool, true, false, nat_eq, cond, List, [], ◌∷◌, ◌++◌, length, drop, Option, Some, None, refl, sym, ap, ◌∙◌, arith}
+use Rattle.std.proofs.Common.{◌≡◌, ℕ, ◌⊎◌, inl, inr, Bool, true, false, nat_eq, cond, List, [], ◌∷◌, ◌++◌, drop, Option, Some, None, refl, ap, arith}
 use Rattle.std.specs.Option.{option_map, option_and_then}
 use Rattle.std.proofs.lemmas.Bool.{eqb-true, false≢true}
 use Rattle.std.proofs.lemmas.Bool.Decides.{nat_tests}
 use Rattle.lx_ere.specs.Brackets.{begins_with}
-use Rattle.lx_ere.specs.Reading.{behind_byte}
+use Rattle.lx_ere.specs.Lexing.{behind_byte}
 
 pub pick_first : {A : Type 0} (b : Bool) (x y : A) → b ≡ true → cond b x y ≡ x
 pick_first b x y e = rw e refl
@@ -53,7 +53,7 @@ pub behind_byte_at : (c : ℕ) (rest : List ℕ) → behind_byte c (c ∷ rest) 
 behind_byte_at c rest = pick_first (nat_eq c c) (Some rest) None (eq_same c)
 
 -- a front of the text spells x
-pub record IsFront {A : Type 0} (Item : List ℕ → A → List ℕ → Type 0) (text : List ℕ) (x : A) (behind : List ℕ) : Type 0 where
-  pub front : List ℕ
-  pub spelled : Item front x behind
-  pub joins : text ≡ front ++ behind
+pub record IsSpelledPrefix {A : Type 0} (Item : List ℕ → A → List ℕ → Type 0) (text : List ℕ) (x : A) (behind : List ℕ) : Type 0 where
+  pub prefix : List ℕ
+  pub spelled : Item prefix x behind
+  pub joins : text ≡ prefix ++ behind

@@ -1,6 +1,6 @@
 -- Steps of the loops that look for the end of a pattern.
-use Rattle.std.proofs.Common.{◌≡◌, ◌≢◌, ℕ, zero, suc, ◌+◌, ◌-◌, ◌<◌, ◌≤◌, Bool, true, false, ◌&&◌, ◌||◌, nat_eq, cond, List, [], ◌∷◌, ◌++◌, length, drop, refl, sym, ap, subst, ◌∙◌, arith, length-drop}
-use Rattle.std.proofs.lemmas.Bool.{eqb-true, eqb-false, and_parts}
+use Rattle.std.proofs.Common.{◌≡◌, ℕ, zero, suc, ◌+◌, ◌-◌, ◌<◌, ◌≤◌, Bool, true, false, ◌&&◌, ◌||◌, nat_eq, cond, List, [], ◌∷◌, length, drop, refl, sym, ap, subst, ◌∙◌, arith, length-drop}
+use Rattle.std.proofs.lemmas.Bool.{eqb-true, and_parts}
 use Rattle.lx_ere.specs.Brackets.{begins_with, opens_inner}
 use Rattle.lx_ere.specs.PatternEnd.{BehindQuotes, quote_closes, quote_open, quote_escape, quote_slash, quote_byte, BehindMark, mark_closes, mark_open, mark_byte, IsInner, BehindBrackets, bracket_closes, bracket_open, bracket_escape, bracket_slash, bracket_inner, bracket_byte, is_blank, skip_first, BehindPattern, at_end, at_blank, past_escape, past_slash, past_quotes, past_brackets, past_byte, IsPatternEnd}
 use Rattle.std.proofs.Math.ListN.{drop_of_length-le}
@@ -40,9 +40,9 @@ mark_found mark first text h =
 
 pub inner_found : (mark first : ℕ) (text rest behind : List ℕ) → IsInner mark first text → BehindMark mark (drop 2 text) rest → BehindBrackets rest behind → BehindBrackets (first ∷ text) behind
 inner_found mark first text rest behind i h more =
-    let two : drop 2 text ≡ drop 1 (drop 1 text) = ap (drop 2) i.at_front in
+    let two : drop 2 text ≡ drop 1 (drop 1 text) = ap (drop 2) i.follows_mark in
     let whole : BehindBrackets (91 ∷ mark ∷ drop 1 text) behind = bracket_inner mark (drop 1 text) rest behind i.is_mark (subst (λ t. BehindMark mark t rest) two h) more in
-    subst (λ c. BehindBrackets (c ∷ text) behind) (sym i.opens) (subst (λ t. BehindBrackets (91 ∷ t) behind) (sym i.at_front) whole)
+    subst (λ c. BehindBrackets (c ∷ text) behind) (sym i.opens) (subst (λ t. BehindBrackets (91 ∷ t) behind) (sym i.follows_mark) whole)
 
 -- what stands behind is an end of the text
 pub record IsTail (text behind : List ℕ) : Type 0 where
@@ -154,15 +154,15 @@ mark_one _ _ _ (mark_open mark) = refl
 mark_one _ _ _ (mark_byte mark c text behind a h) = pick_second (nat_eq c mark && begins_with 93 text) _ _ a ∙ mark_one mark text behind h
 
 -- the byte at the front
-abbrev front_of : List ℕ → ℕ
-front_of [] = 0
-front_of (c ∷ text) = c
+abbrev first_of : List ℕ → ℕ
+first_of [] = 0
+first_of (c ∷ text) = c
 
 abbrev brackets_at : ℕ → List ℕ → List ℕ
 brackets_at zero text = []
 brackets_at (suc n) [] = []
 brackets_at (suc n) (c ∷ text) =
-    cond (nat_eq c 93) text (cond (nat_eq c 92) (brackets_at n (drop 1 text)) (cond (opens_inner c text) (brackets_at n (mark_at (front_of text) (drop 2 text))) (brackets_at n text)))
+    cond (nat_eq c 93) text (cond (nat_eq c 92) (brackets_at n (drop 1 text)) (cond (opens_inner c text) (brackets_at n (mark_at (first_of text) (drop 2 text))) (brackets_at n text)))
 
 opens_mark : (mark : ℕ) (text : List ℕ) → (nat_eq mark 58 || (nat_eq mark 46 || nat_eq mark 61)) ≡ true → opens_inner 91 (mark ∷ text) ≡ true
 opens_mark mark text h = h

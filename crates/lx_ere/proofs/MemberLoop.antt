@@ -1,12 +1,11 @@
 -- How far the loop over the members of brackets has come.
 use Rattle.std.proofs.Common.{◌≡◌, ℕ, ◌<◌, Bool, true, false, ◌||◌, not, List, [], ◌∷◌, ◌++◌, length, drop, Option, Some, None, refl, sym, ap, ◌∙◌}
 use Rattle.std.specs.Option.{option_map, option_and_then}
-use Rattle.std.specs.List.{list_any}
 use Rattle.std.specs.Ordering.{nat_cmp}
 use Rattle.std.specs.FinSet as set
 use Rattle.lx_ere.specs.Bytes.{bytes_where, in_ranges}
 use Rattle.lx_ere.specs.Brackets.{Spot, inside, behind_caret, begins_with, Member, in_members}
-use Rattle.lx_ere.specs.Reading.{all_items_at, member_at, members_at, members_set, with_members, bracket_at}
+use Rattle.lx_ere.specs.Lexing.{all_items_at, member_at, members_at, members_set, with_members, bracket_at}
 use Rattle.lx_ere.proofs.Choices.{pick_first, no_none, same_some}
 use Rattle.lx_ere.proofs.ByteLemmas.{same_where}
 use Rattle.lx_ere.proofs.BracketLemmas.{member_complete, member_sound, member_some, member_closes}

@@ -1,9 +1,9 @@
 -- Reading lexemes from left to right with a stack gives the one tree of the grammar.
-use Rattle.std.proofs.Common.{◌≡◌, ℕ, zero, suc, ◌+◌, ◌<◌, ◌≤◌, List, [], ◌∷◌, ◌++◌, Option, Some, None, refl, sym, ap, subst, ◌∙◌, arith, append_assoc, rules}
+use Rattle.std.proofs.Common.{◌≡◌, ℕ, List, [], ◌∷◌, ◌++◌, Option, Some, None, refl, ap, subst, ◌∙◌, arith, append_assoc}
 use Rattle.std.specs.Option.{option_map, option_and_then}
 use Rattle.std.proofs.lemmas.Grind.{common_steps}
 use Rattle.lx_ere.specs.Bytes.{byte_set}
-use Rattle.lx_ere.specs.Regex.{Regex, nil, one_of, then, or, times, named}
+use Rattle.lx_ere.specs.Regex.{Regex, one_of, then, or, times, named}
 use Rattle.lx_ere.specs.Grammar.{Lexeme, set_of, quoted, name, interval, open_group, close_group, star, plus, question, bar, joined, IsAlternation, branch_alone, or_branch, IsBranch, unit_alone, then_unit, then_interval, IsUnit, a_set, a_string, a_name, a_group, any_times, some_times, at_most_once}
 use Rattle.lx_ere.specs.Stacks.{Frame, frame, empty_frame, whole, either, total, push, Stack, stack, again, closed, step, run, finish, parse}
 
@@ -95,15 +95,15 @@ IsStarted (Some b) None ls = IsBranch ls b
 IsStarted (Some b) (Some u) ls = (ms : List Lexeme) × (ns : List Lexeme) × IsBranch ms b × IsUnit ns u × (ls ≡ ms ++ ns)
 
 pub record IsFrame (f : Frame) (ls : List Lexeme) : Type 0 where
-  pub front : List Lexeme
+  pub prefix : List Lexeme
   pub back : List Lexeme
-  pub before : IsBefore (f.before) front
+  pub before : IsBefore (f.before) prefix
   pub started : IsStarted (f.branch) (f.unit) back
-  pub joins : ls ≡ front ++ back
+  pub joins : ls ≡ prefix ++ back
 
 abbrev pub IsStack : Frame → List Frame → List Lexeme → Type 0
 IsStack f [] ls = IsFrame f ls
-IsStack f (g ∷ fs) ls = (front : List Lexeme) × (inner : List Lexeme) × IsStack g fs front × IsFrame f inner × (ls ≡ front ++ open_group ∷ inner)
+IsStack f (g ∷ fs) ls = (prefix : List Lexeme) × (inner : List Lexeme) × IsStack g fs prefix × IsFrame f inner × (ls ≡ prefix ++ open_group ∷ inner)
 
 whole_is : (b u : Option Regex) (ls : List Lexeme) (r : Regex) → IsStarted b u ls → whole b u ≡ Some r → IsBranch ls r
 whole_is None None ls r s e = absurd (let h : None ≡ Some r = e in cc)
@@ -116,7 +116,7 @@ whole_is (Some b) (Some u) ls r (ms, ns, d, w, j) e =
 total_is : (a b u : Option Regex) (ls : List Lexeme) (r : Regex) → IsFrame (frame a b u) ls → total (frame a b u) ≡ Some r → IsAlternation ls r
 total_is a b u ls r i e = go a (whole b u) refl i.before e
   where
-    go : (a w : Option Regex) → whole b u ≡ w → IsBefore a (i.front) → option_map (either a) w ≡ Some r → IsAlternation ls r
+    go : (a w : Option Regex) → whole b u ≡ w → IsBefore a (i.prefix) → option_map (either a) w ≡ Some r → IsAlternation ls r
     go a None ew before e = absurd (let h : None ≡ Some r = e in cc)
     go None (Some x) ew before e =
         let h : x ≡ r = cc in
@@ -140,40 +140,40 @@ started_push (Some b) ls ms r s d = (ls, ms, s, d, refl)
 
 frame_push : (f : Frame) (ls ms : List Lexeme) (r : Regex) → IsFrame f ls → IsUnit ms r → IsFrame (push f r) (ls ++ ms)
 frame_push f ls ms r i d = record {
-  front = i.front;
+  prefix = i.prefix;
   back = i.back ++ ms;
   before = i.before;
   started = started_push (whole (f.branch) (f.unit)) (i.back) ms r (started_whole (f.branch) (f.unit) (i.back) i.started) d;
-  joins = ap (λ xs. xs ++ ms) i.joins ∙ append_assoc (i.front) (i.back) ms;
+  joins = ap (λ xs. xs ++ ms) i.joins ∙ append_assoc (i.prefix) (i.back) ms;
 }
 
 stack_push : (f : Frame) (fs : List Frame) (ls ms : List Lexeme) (r : Regex) → IsStack f fs ls → IsUnit ms r → IsStack (push f r) fs (ls ++ ms)
 stack_push f [] ls ms r i d = frame_push f ls ms r i d
-stack_push f (g ∷ fs) ls ms r (front, inner, s, i, j) d =
-    (front, inner ++ ms, s, frame_push f inner ms r i d, ap (λ xs. xs ++ ms) j ∙ append_assoc front (open_group ∷ inner) ms)
+stack_push f (g ∷ fs) ls ms r (prefix, inner, s, i, j) d =
+    (prefix, inner ++ ms, s, frame_push f inner ms r i d, ap (λ xs. xs ++ ms) j ∙ append_assoc prefix (open_group ∷ inner) ms)
 
 -- a change of the innermost frame alone
 stack_change : (f g : Frame) (fs : List Frame) (ls ms : List Lexeme) → ((ls : List Lexeme) → IsFrame f ls → IsFrame g (ls ++ ms)) → IsStack f fs ls → IsStack g fs (ls ++ ms)
 stack_change f g [] ls ms change i = change ls i
-stack_change f g (h ∷ fs) ls ms change (front, inner, s, i, j) =
-    (front, inner ++ ms, s, change inner i, ap (λ xs. xs ++ ms) j ∙ append_assoc front (open_group ∷ inner) ms)
+stack_change f g (h ∷ fs) ls ms change (prefix, inner, s, i, j) =
+    (prefix, inner ++ ms, s, change inner i, ap (λ xs. xs ++ ms) j ∙ append_assoc prefix (open_group ∷ inner) ms)
 
 frame_again : (a b : Option Regex) (u v : Regex) (l : Lexeme) (ls : List Lexeme) → ((ms : List Lexeme) → IsUnit ms u → IsUnit (ms ++ l ∷ []) v) → IsFrame (frame a b (Some u)) ls → IsFrame (frame a b (Some v)) (ls ++ l ∷ [])
 frame_again a None u v l ls make i = record {
-  front = i.front;
+  prefix = i.prefix;
   back = i.back ++ l ∷ [];
   before = i.before;
   started = make (i.back) i.started;
-  joins = ap (λ xs. xs ++ l ∷ []) i.joins ∙ append_assoc (i.front) (i.back) (l ∷ []);
+  joins = ap (λ xs. xs ++ l ∷ []) i.joins ∙ append_assoc (i.prefix) (i.back) (l ∷ []);
 }
 frame_again a (Some b) u v l ls make i =
     let s = i.started in
     record {
-      front = i.front;
+      prefix = i.prefix;
       back = i.back ++ l ∷ [];
       before = i.before;
       started = (s.0, s.1 ++ l ∷ [], s.2, make (s.1) (s.3), ap (λ xs. xs ++ l ∷ []) (s.4) ∙ append_assoc (s.0) (s.1) (l ∷ []));
-      joins = ap (λ xs. xs ++ l ∷ []) i.joins ∙ append_assoc (i.front) (i.back) (l ∷ []);
+      joins = ap (λ xs. xs ++ l ∷ []) i.joins ∙ append_assoc (i.prefix) (i.back) (l ∷ []);
     }
 
 again_keeps : (a b u : Option Regex) (fs : List Frame) (ls : List Lexeme) (l : Lexeme) (low : ℕ) (high : Option ℕ) (t : Stack) →
@@ -194,11 +194,11 @@ interval_keeps a b u fs ls low high t s e = go (whole b u) refl e
         let h : stack (frame a (Some (times x low high)) None) fs ≡ t = cc in
         rw (← h) (stack_change (frame a b u) (frame a (Some (times x low high)) None) fs ls (interval low high ∷ [])
         (λ ms i. record {
-          front = i.front;
+          prefix = i.prefix;
           back = i.back ++ interval low high ∷ [];
           before = i.before;
           started = then_interval (i.back) x low high (whole_is b u (i.back) x i.started ew);
-          joins = ap (λ xs. xs ++ interval low high ∷ []) i.joins ∙ append_assoc (i.front) (i.back) (interval low high ∷ []);
+          joins = ap (λ xs. xs ++ interval low high ∷ []) i.joins ∙ append_assoc (i.prefix) (i.back) (interval low high ∷ []);
         }) s)
 
 bar_keeps : (a b u : Option Regex) (fs : List Frame) (ls : List Lexeme) (t : Stack) →
@@ -210,7 +210,7 @@ bar_keeps a b u fs ls t s e = go (total (frame a b u)) refl e
     go (Some x) ew e =
         let h : stack (frame (Some x) None None) fs ≡ t = cc in
         rw (← h) (stack_change (frame a b u) (frame (Some x) None None) fs ls (bar ∷ [])
-        (λ ms i. record { front = ms ++ bar ∷ []; back = []; before = (ms, total_is a b u ms x i ew, refl); started = refl; joins = grind (arith, common_steps) }) s)
+        (λ ms i. record { prefix = ms ++ bar ∷ []; back = []; before = (ms, total_is a b u ms x i ew, refl); started = refl; joins = grind (arith, common_steps) }) s)
 
 close_keeps : (a b u : Option Regex) (fs : List Frame) (ls : List Lexeme) (t : Stack) →
     IsStack (frame a b u) fs ls → step close_group (stack (frame a b u) fs) ≡ Some t → IsStack (t.top) (t.below) (ls ++ close_group ∷ [])
@@ -219,17 +219,17 @@ close_keeps a b u [] ls t s e = go (total (frame a b u)) e
     go : (w : Option Regex) → closed w [] ≡ Some t → IsStack (t.top) (t.below) (ls ++ close_group ∷ [])
     go None e = absurd (let h : None ≡ Some t = e in cc)
     go (Some x) e = absurd (let h : None ≡ Some t = e in cc)
-close_keeps a b u (g ∷ fs) ls t (front, inner, s, i, j) e = go (total (frame a b u)) refl e
+close_keeps a b u (g ∷ fs) ls t (prefix, inner, s, i, j) e = go (total (frame a b u)) refl e
   where
     go : (w : Option Regex) → total (frame a b u) ≡ w → closed w (g ∷ fs) ≡ Some t → IsStack (t.top) (t.below) (ls ++ close_group ∷ [])
     go None ew e = absurd (let h : None ≡ Some t = e in cc)
     go (Some x) ew e =
         let h : stack (push g x) fs ≡ t = cc in
-        let k : ls ++ close_group ∷ [] ≡ front ++ (open_group ∷ inner ++ close_group ∷ []) = ap (λ xs. xs ++ close_group ∷ []) j ∙ append_assoc front (open_group ∷ inner) (close_group ∷ []) in
-        rw (k, ← h) (stack_push g fs front (open_group ∷ inner ++ close_group ∷ []) x s (a_group inner x (total_is a b u inner x i ew)))
+        let k : ls ++ close_group ∷ [] ≡ prefix ++ (open_group ∷ inner ++ close_group ∷ []) = ap (λ xs. xs ++ close_group ∷ []) j ∙ append_assoc prefix (open_group ∷ inner) (close_group ∷ []) in
+        rw (k, ← h) (stack_push g fs prefix (open_group ∷ inner ++ close_group ∷ []) x s (a_group inner x (total_is a b u inner x i ew)))
 
 open_keeps : (f : Frame) (fs : List Frame) (ls : List Lexeme) → IsStack f fs ls → IsStack empty_frame (f ∷ fs) (ls ++ open_group ∷ [])
-open_keeps f fs ls s = (ls, [], s, record { front = []; back = []; before = refl; started = refl; joins = refl }, refl)
+open_keeps f fs ls s = (ls, [], s, record { prefix = []; back = []; before = refl; started = refl; joins = refl }, refl)
 
 pub step_keeps : (l : Lexeme) (st t : Stack) (ls : List Lexeme) → IsStack (st.top) (st.below) ls → step l st ≡ Some t → IsStack (t.top) (t.below) (ls ++ l ∷ [])
 step_keeps (set_of x) st t ls s e = let h : stack (push (st.top) (one_of x)) (st.below) ≡ t = cc in rw (← h) (stack_push (st.top) (st.below) ls (set_of x ∷ []) (one_of x) s (a_set x))
@@ -263,4 +263,4 @@ parse_sound ls r e = go (run ls (stack empty_frame [])) refl e
 
     go : (o : Option Stack) → run ls (stack empty_frame []) ≡ o → option_and_then (λ st. finish st.top st.below) o ≡ Some r → IsAlternation ls r
     go None eo e = absurd (let h : None ≡ Some r = e in cc)
-    go (Some t) eo e = at_end (t.top) (t.below) (run_keeps ls (stack empty_frame []) t [] (record { front = []; back = []; before = refl; started = refl; joins = refl }) eo) e
+    go (Some t) eo e = at_end (t.top) (t.below) (run_keeps ls (stack empty_frame []) t [] (record { prefix = []; back = []; before = refl; started = refl; joins = refl }) eo) e

@@ -1,23 +1,22 @@
 -- A pattern that has a reading has no blank outside escapes, quotes and brackets.
-use Rattle.std.proofs.Common.{◌≡◌, ◌≢◌, ℕ, zero, suc, ◌+◌, ◌-◌, ◌<◌, ◌≤◌, ◌⊎◌, inl, inr, Bool, true, false, ◌&&◌, ◌||◌, not, nat_eq, nat_lt, nat_le, cond, List, [], ◌∷◌, ◌++◌, Option, Some, None, length, drop, refl, sym, ap, subst, ◌∙◌, arith, append_assoc}
+use Rattle.std.proofs.Common.{◌≡◌, ◌≢◌, ℕ, ◌<◌, ◌≤◌, ◌⊎◌, inl, inr, Bool, true, false, ◌&&◌, ◌||◌, not, nat_eq, cond, List, [], ◌∷◌, ◌++◌, Option, Some, None, length, drop, refl, sym, ap, subst, ◌∙◌, arith, append_assoc}
 use Rattle.std.specs.List.{list_all}
 use Rattle.std.specs.Ordering.{nat_cmp}
 use Rattle.std.specs.FinSet as set
 use Rattle.std.proofs.Math.ListN.{drop_of_length-le}
-use Rattle.std.proofs.lemmas.Bool.{eqb-false, false≢true, and_parts, or_parts}
+use Rattle.std.proofs.lemmas.Bool.{eqb-false, false≢true, and_parts}
 use Rattle.std.proofs.lemmas.Bool.Decides.{nat_tests}
-use Rattle.lx_ere.specs.Bytes.{is_between}
 use Rattle.lx_ere.specs.Regex.{Reading}
 use Rattle.lx_ere.specs.Grammar.{Lexeme}
-use Rattle.lx_ere.specs.Escapes.{digit_of, is_digit, Escape, letter, octal, hexadecimal, only_x, itself}
+use Rattle.lx_ere.specs.Escapes.{is_digit, Escape, letter, octal, hexadecimal, only_x, itself}
 use Rattle.lx_ere.specs.Sequences.{Closed, Opened}
-use Rattle.lx_ere.specs.Brackets.{Spot, opening, behind_caret, inside, is_inside, begins_with, opens_inner, stands_alone, Point, plain_point, escaped, first_bracket, outer_dash, collating, RangeEnd, end_point, end_dash, class_ranges, Member, point, range, equivalence, class, Bracket, matching, excluding}
-use Rattle.lx_ere.specs.Spelling.{byte_lexeme, QuotedByte, unescaped, escaped_byte, is_name_byte, is_identifier, IsBound, Spells, of_byte, of_escape, of_string, of_bracket, of_name, exactly, at_least, between, Lexes}
+use Rattle.lx_ere.specs.Brackets.{Spot, opening, behind_caret, inside, begins_with, Point, plain_point, escaped, first_bracket, outer_dash, collating, RangeEnd, end_point, end_dash, class_ranges, Member, point, range, equivalence, class, Bracket, matching, excluding}
+use Rattle.lx_ere.specs.Spelling.{byte_lexeme, QuotedByte, unescaped, escaped_byte, is_name_byte, IsBound, Spells, of_byte, of_escape, of_string, of_bracket, of_name, exactly, at_least, between, Lexes}
 use Rattle.lx_ere.specs.Pattern.{IsEnding, nothing, dollar, slash_newline, IsPattern}
 use Rattle.lx_ere.specs.PatternEnd.{BehindQuotes, quote_closes, quote_escape, quote_byte, BehindMark, mark_closes, mark_byte, BehindBrackets, bracket_closes, bracket_escape, bracket_inner, bracket_byte, skip_first, is_blank, BehindPattern, at_end, past_escape, past_quotes, past_brackets, past_byte, IsPatternEnd}
-use Rattle.lx_ere.proofs.Choices.{pick_second, eq_other}
-use Rattle.lx_ere.proofs.EscapeLemmas.{EscapeAt, escape_complete}
-use Rattle.lx_ere.proofs.BracketLemmas.{Alone, alone_is, class_name, opening_no_caret}
+use Rattle.lx_ere.proofs.Choices.{pick_second}
+use Rattle.lx_ere.proofs.EscapeLemmas.{escape_complete}
+use Rattle.lx_ere.proofs.BracketLemmas.{alone_is, class_name, opening_no_caret}
 use Rattle.lx_ere.proofs.SpellingLemmas.{byte_other, identifier_bytes}
 
 all_imply : (p q : ℕ → Bool) → ((c : ℕ) → p c ≡ true → q c ≡ true) → (xs : List ℕ) → list_all p xs ≡ true → list_all q xs ≡ true
@@ -60,8 +59,8 @@ quoted_byte_passed _ _ _ (escaped_byte text c behind d) b h = escape_passed Behi
 
 quotes_passed : (xs text behind : List ℕ) → Closed QuotedByte 34 text xs behind → BehindQuotes (text ++ behind) behind
 quotes_passed [] text behind h = subst (λ t. BehindQuotes (t ++ behind) behind) (sym h) (quote_closes behind)
-quotes_passed (x ∷ xs) text behind (front, rest, i, j, more) =
-    subst (λ t. BehindQuotes t behind) (sym (ap (λ t. t ++ behind) j ∙ append_assoc front rest behind)) (quoted_byte_passed front x (rest ++ behind) i behind (quotes_passed xs rest behind more))
+quotes_passed (x ∷ xs) text behind (prefix, rest, i, j, more) =
+    subst (λ t. BehindQuotes t behind) (sym (ap (λ t. t ++ behind) j ∙ append_assoc prefix rest behind)) (quoted_byte_passed prefix x (rest ++ behind) i behind (quotes_passed xs rest behind more))
 
 -- brackets
 bracket_digit : (c : ℕ) (text b : List ℕ) → is_digit 16 c ≡ true → BehindBrackets text b → BehindBrackets (c ∷ text) b
@@ -159,19 +158,19 @@ member_whole _ _ _ (class _ name ranges behind known) b h = subst (λ t. BehindB
 
 members_passed : (ms : List (List (ℕ × ℕ))) (text behind : List ℕ) → Closed (Member inside) 93 text ms behind → BehindBrackets (text ++ behind) behind
 members_passed [] text behind h = subst (λ t. BehindBrackets (t ++ behind) behind) (sym h) (bracket_closes behind)
-members_passed (m ∷ ms) text behind (front, rest, i, j, more) =
-    subst (λ t. BehindBrackets t behind) (sym (ap (λ t. t ++ behind) j ∙ append_assoc front rest behind)) (member_whole front m (rest ++ behind) i behind (members_passed ms rest behind more))
+members_passed (m ∷ ms) text behind (prefix, rest, i, j, more) =
+    subst (λ t. BehindBrackets t behind) (sym (ap (λ t. t ++ behind) j ∙ append_assoc prefix rest behind)) (member_whole prefix m (rest ++ behind) i behind (members_passed ms rest behind more))
 
 opened_passed : (spot : Spot) (text : List ℕ) (m : List (ℕ × ℕ)) (ms : List (List (ℕ × ℕ))) (behind : List ℕ) → Opened (Member spot) (Member inside) 93 text m ms behind → BehindBrackets (skip_first 93 (text ++ behind)) behind
-opened_passed spot text m ms behind (front, rest, d, j, more) =
-    subst (λ t. BehindBrackets (skip_first 93 t) behind) (sym (ap (λ t. t ++ behind) j ∙ append_assoc front rest behind)) (go (member_passed spot front m (rest ++ behind) d))
+opened_passed spot text m ms behind (prefix, rest, d, j, more) =
+    subst (λ t. BehindBrackets (skip_first 93 t) behind) (sym (ap (λ t. t ++ behind) j ∙ append_assoc prefix rest behind)) (go (member_passed spot prefix m (rest ++ behind) d))
   where
     inner : BehindBrackets (rest ++ behind) behind
     inner = members_passed ms rest behind more
 
-    go : Aside front (rest ++ behind) ⊎ Whole front (rest ++ behind) → BehindBrackets (skip_first 93 (front ++ (rest ++ behind))) behind
+    go : Aside prefix (rest ++ behind) ⊎ Whole prefix (rest ++ behind) → BehindBrackets (skip_first 93 (prefix ++ (rest ++ behind))) behind
     go (inl a) = subst (λ t. BehindBrackets (skip_first 93 (t ++ (rest ++ behind))) behind) (sym a.is) (a.passes behind inner)
-    go (inr w) = subst (λ t. BehindBrackets t behind) (sym (pick_second (begins_with 93 (front ++ (rest ++ behind))) _ _ w.no_close)) (w.passes behind inner)
+    go (inr w) = subst (λ t. BehindBrackets t behind) (sym (pick_second (begins_with 93 (prefix ++ (rest ++ behind))) _ _ w.no_close)) (w.passes behind inner)
 
 bracket_passed : (text : List ℕ) (s : set.FinSet nat_cmp) (rest : List ℕ) → Bracket text s rest → (b : List ℕ) → BehindPattern rest b → BehindPattern (text ++ rest) b
 bracket_passed _ _ _ (matching text m ms behind o) b h =
@@ -220,12 +219,12 @@ digits_then : (digits tail rest b : List ℕ) (n : ℕ) → IsBound digits n →
 digits_then digits tail rest b n i h =
     ordinary_passed 123 ((digits ++ tail) ++ rest) b refl (subst (λ t. BehindPattern t b) (sym (append_assoc digits tail rest)) (run_passed digits (tail ++ rest) b (all_imply (is_digit 10) ordinary decimal_ordinary digits i.decimal) h))
 
-spelling_passed : (front : List ℕ) (l : Lexeme) (rest : List ℕ) → Spells front l rest → (b : List ℕ) → BehindPattern rest b → BehindPattern (front ++ rest) b
+spelling_passed : (prefix : List ℕ) (l : Lexeme) (rest : List ℕ) → Spells prefix l rest → (b : List ℕ) → BehindPattern rest b → BehindPattern (prefix ++ rest) b
 spelling_passed _ _ _ (of_byte c l rest e) b h = ordinary_passed c rest b (byte_ordinary c l e) h
 spelling_passed _ _ _ (of_escape text byte rest d) b h = escape_passed BehindPattern (λ c t b h. past_escape c t b h) (λ c t b d h. ordinary_passed c t b (hexadecimal_ordinary c d) h) text byte rest d b h
-spelling_passed _ _ _ (of_string text first more rest (front, tail, i, j, closed)) b h =
+spelling_passed _ _ _ (of_string text first more rest (prefix, tail, i, j, closed)) b h =
     past_quotes (text ++ rest) rest b
-    (subst (λ t. BehindQuotes t rest) (sym (ap (λ t. t ++ rest) j ∙ append_assoc front tail rest)) (quoted_byte_passed front first (tail ++ rest) i rest (quotes_passed more tail rest closed))) h
+    (subst (λ t. BehindQuotes t rest) (sym (ap (λ t. t ++ rest) j ∙ append_assoc prefix tail rest)) (quoted_byte_passed prefix first (tail ++ rest) i rest (quotes_passed more tail rest closed))) h
 spelling_passed _ _ _ (of_bracket text s rest d) b h = bracket_passed text s rest d b h
 spelling_passed _ _ _ (of_name n rest e) b h =
     ordinary_passed 123 ((n ++ (125 ∷ [])) ++ rest) b refl (subst (λ t. BehindPattern t b) (sym (append_assoc n (125 ∷ []) rest))
@@ -238,7 +237,7 @@ spelling_passed _ _ _ (between digits low more high rest i k le) b h =
 
 lexemes_passed : (text : List ℕ) (ls : List Lexeme) (ending b : List ℕ) → Lexes text ls ending → BehindPattern ending b → BehindPattern text b
 lexemes_passed text [] ending b h e = subst (λ t. BehindPattern t b) (sym h) e
-lexemes_passed text (l ∷ ls) ending b (front, rest, d, j, more) e = subst (λ t. BehindPattern t b) (sym j) (spelling_passed front l rest d b (lexemes_passed rest ls ending b more e))
+lexemes_passed text (l ∷ ls) ending b (prefix, rest, d, j, more) e = subst (λ t. BehindPattern t b) (sym j) (spelling_passed prefix l rest d b (lexemes_passed rest ls ending b more e))
 
 ending_passed : (ending : List ℕ) (a : Bool) → IsEnding ending a → BehindPattern ending []
 ending_passed _ _ nothing = at_end

@@ -1,18 +1,18 @@
 -- How far a pattern was read, and what its reading is.
-use Rattle.std.proofs.Common.{◌≡◌, ◌≢◌, ℕ, zero, suc, ◌+◌, ◌<◌, ◌≤◌, Bool, true, false, ◌||◌, nat_eq, cond, List, [], ◌∷◌, ◌++◌, Option, Some, None, length, drop, refl, sym, ap, subst, ◌∙◌, arith, append_assoc, length-append, ◌⊎◌, inl, inr}
-use Rattle.std.specs.Option.{option_and_then, option_map}
-use Rattle.std.proofs.lemmas.Bool.{eqb-true, false≢true, true≢false, or_cases}
+use Rattle.std.proofs.Common.{◌≡◌, ℕ, ◌<◌, ◌≤◌, Bool, true, false, ◌||◌, nat_eq, cond, List, [], ◌∷◌, ◌++◌, Option, Some, None, length, drop, refl, sym, ap, subst, ◌∙◌, arith, append_assoc, length-append, ◌⊎◌, inl, inr}
+use Rattle.std.specs.Option.{option_and_then}
+use Rattle.std.proofs.lemmas.Bool.{eqb-true, or_cases}
 use Rattle.std.proofs.lemmas.Slice.Eq.{bytes_eq-Decides}
 use Rattle.std.specs.Prelude.{codes}
 use Rattle.std.specs.Str.{bytes_eq}
 use Rattle.lx_ere.specs.Regex.{Regex, Reading}
 use Rattle.lx_ere.specs.Grammar.{Lexeme, IsAlternation}
 use Rattle.lx_ere.specs.Brackets.{begins_with}
-use Rattle.lx_ere.specs.Spelling.{Spells, Lexes}
+use Rattle.lx_ere.specs.Spelling.{Lexes}
 use Rattle.lx_ere.specs.Pattern.{IsEnding, nothing, dollar, slash_newline, IsPattern, IsSubstitute}
-use Rattle.lx_ere.specs.Reading.{lexeme_at, body_of, ending_at, Reads}
-use Rattle.lx_ere.specs.Stacks.{Frame, empty_frame, Stack, stack, step, run, finish, parse}
-use Rattle.lx_ere.proofs.Choices.{no_none, same_some, cases_of, begins_is, IsFront}
+use Rattle.lx_ere.specs.Lexing.{lexeme_at, body_of, ending_at, Reads}
+use Rattle.lx_ere.specs.Stacks.{empty_frame, Stack, stack, step, run, finish, parse}
+use Rattle.lx_ere.proofs.Choices.{no_none, same_some, cases_of, begins_is}
 use Rattle.lx_ere.proofs.Parser.{runs, run_fails, parse_sound, parse_complete, one_tree}
 use Rattle.lx_ere.proofs.SpellingLemmas.{lexeme_sound, lexeme_complete, spelling_some}
 
@@ -29,15 +29,15 @@ Reached-start text = record { read = []; leads = refl; sound = λ ms ending h. h
 pub lexeme_shorter : (text : List ℕ) (l : Lexeme) (behind : List ℕ) → lexeme_at text ≡ Some (l, behind) → length behind < length text
 lexeme_shorter text l behind e =
     let i = lexeme_sound text l behind e in
-    let some : 0 < length (i.front) = spelling_some (i.front) l behind i.spelled in
-    omega (arith, some, ap length i.joins, length-append (i.front) behind)
+    let some : 0 < length (i.prefix) = spelling_some (i.prefix) l behind i.spelled in
+    omega (arith, some, ap length i.joins, length-append (i.prefix) behind)
 
 -- a lexeme at the front is the first in each list of lexemes
 Lexes-first : (rest : List ℕ) (l : Lexeme) (behind : List ℕ) (ks : List Lexeme) (ending : List ℕ) → lexeme_at ending ≡ None → lexeme_at rest ≡ Some (l, behind) → Lexes rest ks ending →
     (ms : List Lexeme) × Lexes behind ms ending × (ks ≡ l ∷ ms)
 Lexes-first rest l behind [] ending stops e h = absurd (no_none (l, behind) (sym stops ∙ (ap lexeme_at (sym h) ∙ e)))
-Lexes-first rest l behind (k ∷ ks) ending stops e (front, after, d, j, more) =
-    let a : lexeme_at rest ≡ Some (k, after) = ap lexeme_at j ∙ lexeme_complete front k after d in
+Lexes-first rest l behind (k ∷ ks) ending stops e (prefix, after, d, j, more) =
+    let a : lexeme_at rest ≡ Some (k, after) = ap lexeme_at j ∙ lexeme_complete prefix k after d in
     let pair : ◌≡◌ {A = Lexeme × List ℕ} (l, behind) (k, after) = same_some (l, behind) (k, after) (sym e ∙ a) in
     let same : after ≡ behind = sym (ap (λ p. p.1) pair) in
     (ks, subst (λ x. Lexes x ks ending) same more, ap (λ x. x ∷ ks) (sym (ap (λ p. p.0) pair)))
@@ -45,13 +45,13 @@ Lexes-first rest l behind (k ∷ ks) ending stops e (front, after, d, j, more) =
 -- where no lexeme is at the front, there are none
 Lexes-none : (rest : List ℕ) (ks : List Lexeme) (ending : List ℕ) → lexeme_at rest ≡ None → Lexes rest ks ending → (ks ≡ []) × (rest ≡ ending)
 Lexes-none rest [] ending none h = (refl, h)
-Lexes-none rest (k ∷ ks) ending none (front, after, d, j, more) = absurd (no_none (k, after) (sym none ∙ (ap lexeme_at j ∙ lexeme_complete front k after d)))
+Lexes-none rest (k ∷ ks) ending none (prefix, after, d, j, more) = absurd (no_none (k, after) (sym none ∙ (ap lexeme_at j ∙ lexeme_complete prefix k after d)))
 
 pub Reached-step : (text rest : List ℕ) (st next : Stack) (l : Lexeme) (behind : List ℕ) → lexeme_at rest ≡ Some (l, behind) → step l st ≡ Some next → Reached text rest st → Reached text behind next
 Reached-step text rest st next l behind e s r = record {
   read = r.read ++ l ∷ [];
   leads = runs (r.read) (l ∷ []) (stack empty_frame []) st next r.leads (rw s refl);
-  sound = λ ms ending h. let i = lexeme_sound rest l behind e in rw append_assoc (r.sound (l ∷ ms) ending (i.front, behind, i.spelled, i.joins, h));
+  sound = λ ms ending h. let i = lexeme_sound rest l behind e in rw append_assoc (r.sound (l ∷ ms) ending (i.prefix, behind, i.spelled, i.joins, h));
   complete = λ ks ending stops h.
       let a = r.complete ks ending stops h in
       let b = Lexes-first rest l behind (a.0) ending stops e (a.1) in
@@ -96,8 +96,8 @@ one_lexing : (text : List ℕ) (ks ms : List Lexeme) (v w : List ℕ) → lexeme
 one_lexing text [] ms v w stops_v stops_w h k =
     let n = Lexes-none text ms w (ap lexeme_at h ∙ stops_v) k in
     (sym n.0, sym h ∙ n.1)
-one_lexing text (k ∷ ks) ms v w stops_v stops_w (front, behind, d, j, more) h =
-    let b = Lexes-first text k behind ms w stops_w (ap lexeme_at j ∙ lexeme_complete front k behind d) h in
+one_lexing text (k ∷ ks) ms v w stops_v stops_w (prefix, behind, d, j, more) h =
+    let b = Lexes-first text k behind ms w stops_w (ap lexeme_at j ∙ lexeme_complete prefix k behind d) h in
     let rec = one_lexing behind ks (b.0) v w stops_v stops_w more (b.1) in
     (ap (λ x. k ∷ x) rec.0 ∙ sym b.2, rec.1)
 

@@ -1,11 +1,11 @@
 -- Runs of bytes that pass a test.
-use Rattle.std.proofs.Common.{◌≡◌, ◌≢◌, ℕ, zero, suc, ◌+◌, ◌-◌, ◌<◌, ◌≤◌, Bool, true, false, ◌&&◌, cond, List, [], ◌∷◌, ◌++◌, length, take, drop, get_or, refl, sym, ap, subst, ◌∙◌, arith, length-append, add-one, inl, inr}
+use Rattle.std.proofs.Common.{◌≡◌, ℕ, zero, suc, ◌+◌, ◌-◌, ◌<◌, ◌≤◌, Bool, true, false, ◌&&◌, cond, List, [], ◌∷◌, ◌++◌, length, take, drop, get_or, refl, ap, arith, length-append, inl, inr}
 use Rattle.std.specs.List.{list_all}
 use Rattle.std.proofs.lemmas.Grind.{common_steps}
 use Rattle.std.proofs.lemmas.List.{drop_more}
 use Rattle.std.proofs.lemmas.Bool.{false≢true, cases_lt}
 use Rattle.lx_ere.specs.Escapes.{NoneFirst}
-use Rattle.lx_ere.specs.Reading.{run_len}
+use Rattle.lx_ere.specs.Lexing.{run_len}
 
 -- a run ends where no byte that passes follows, or at the limit
 pub run_len-append : (test : ℕ → Bool) (n : ℕ) (run behind : List ℕ) → list_all test run ≡ true → length run ≤ n → (length run < n → NoneFirst test behind) → run_len test n (run ++ behind) ≡ length run
@@ -23,11 +23,11 @@ run_len-append test (suc n) (d ∷ run) behind all le ends = go (test d) refl al
 pub run_whole : (test : ℕ → Bool) (run behind : List ℕ) → list_all test run ≡ true → NoneFirst test behind → run_len test (length (run ++ behind)) (run ++ behind) ≡ length run
 run_whole test run behind all ends = run_len-append test (length (run ++ behind)) run behind all (omega (arith, length-append run behind)) (λ _. ends)
 
-pub take_front : (xs ys : List ℕ) → take (length xs) (xs ++ ys) ≡ xs
-take_front xs ys = grind (arith, common_steps)
+pub take_prefix : (xs ys : List ℕ) → take (length xs) (xs ++ ys) ≡ xs
+take_prefix xs ys = grind (arith, common_steps)
 
-pub drop_front : (xs ys : List ℕ) → drop (length xs) (xs ++ ys) ≡ ys
-drop_front xs ys = grind (arith, common_steps)
+pub drop_prefix : (xs ys : List ℕ) → drop (length xs) (xs ++ ys) ≡ ys
+drop_prefix xs ys = grind (arith, common_steps)
 
 -- the run that is found is one
 pub record IsRun (test : ℕ → Bool) (n : ℕ) (text : List ℕ) : Type 0 where

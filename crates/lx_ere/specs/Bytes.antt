@@ -1,5 +1,5 @@
 -- Sets of bytes, by a test.
-use Rattle.std.specs.Prelude.{ℕ, zero, suc, ◌+◌, ◌/◌, ◌%◌, Bool, nat_eq, nat_le, ◌&&◌, List, [], ◌∷◌, slice_index, filter}
+use Rattle.std.specs.Prelude.{ℕ, zero, suc, ◌/◌, ◌%◌, Bool, nat_eq, nat_le, ◌&&◌, List, [], ◌∷◌, slice_index, filter}
 use Rattle.std.specs.List.{list_any}
 use Rattle.std.specs.Ordering.{nat_cmp}
 use Rattle.std.specs.FinSet as set

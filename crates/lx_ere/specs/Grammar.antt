@@ -3,7 +3,7 @@ use Rattle.std.specs.Prelude.{ℕ, List, [], ◌∷◌, ◌++◌, Option, Some, 
 use Rattle.std.specs.Ordering.{nat_cmp}
 use Rattle.std.specs.FinSet as set
 use Rattle.lx_ere.specs.Bytes.{byte_set}
-use Rattle.lx_ere.specs.Regex.{Regex, nil, one_of, then, or, times, named}
+use Rattle.lx_ere.specs.Regex.{Regex, one_of, then, or, times, named}
 
 pub data Lexeme : Type 0 where
   -- a byte, an escape, a period or a bracket expression

@@ -1,5 +1,5 @@
 -- What the open groups of the code stand for.
-use Rattle.std.specs.Prelude.{List, map, reverse}
+use Rattle.std.specs.Prelude.{map, reverse}
 use Rattle.std.specs.Option.{option_map}
 use Rattle.lx_ere.specs.Regex.{regex_of}
 use Rattle.lx_ere.specs.declared.groups.Frame as code

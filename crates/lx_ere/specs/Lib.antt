@@ -8,7 +8,7 @@ pub mod Sequences
 pub mod Brackets
 pub mod Spelling
 pub mod Pattern
-pub mod Reading
+pub mod Lexing
 pub mod Tokens
 pub mod Lexemes
 pub mod Groups

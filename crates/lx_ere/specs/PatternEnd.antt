@@ -21,7 +21,7 @@ pub data BehindMark : ℕ → List ℕ → List ℕ → Type 0 where
 pub record IsInner (mark first : ℕ) (behind : List ℕ) : Type 0 where
   pub opens : first ≡ 91
   pub is_mark : (nat_eq mark 58 || (nat_eq mark 46 || nat_eq mark 61)) ≡ true
-  pub at_front : behind ≡ mark ∷ drop 1 behind
+  pub follows_mark : behind ≡ mark ∷ drop 1 behind
 
 -- What stands behind brackets, of the text behind their first `^` and `]`: all behind the next `]` that no backslash takes along and that
 -- stands in no `[:` to `:]`, `[.` to `.]` or `[=` to `=]`, which have a byte at least between them; nothing where the brackets aren't closed.

@@ -1,5 +1,5 @@
 -- How lexemes are spelled (XCU `lex`, "Regular Expressions in lex").
-use Rattle.std.specs.Prelude.{◌≡◌, ◌≢◌, ℕ, ◌<◌, ◌≤◌, ◌⊎◌, Bool, true, false, not, ◌&&◌, ◌||◌, nat_eq, if◌then◌else◌, List, [], ◌∷◌, ◌++◌, length, Option, Some, None}
+use Rattle.std.specs.Prelude.{◌≡◌, ◌≢◌, ℕ, ◌<◌, ◌≤◌, Bool, true, false, not, ◌&&◌, ◌||◌, nat_eq, if◌then◌else◌, List, [], ◌∷◌, ◌++◌, length, Option, Some, None}
 use Rattle.std.specs.List.{list_all}
 use Rattle.std.specs.Ordering.{nat_cmp}
 use Rattle.std.specs.FinSet as set
@@ -64,4 +64,4 @@ pub data Spells : List ℕ → Lexeme → List ℕ → Type 0 where
 -- The text is spellings of the lexemes, one after the other, and then `behind`.
 abbrev pub Lexes : List ℕ → List Lexeme → List ℕ → Type 0
 Lexes text [] behind = text ≡ behind
-Lexes text (l ∷ ls) behind = (front : List ℕ) × (rest : List ℕ) × Spells front l rest × (text ≡ front ++ rest) × Lexes rest ls behind
+Lexes text (l ∷ ls) behind = (prefix : List ℕ) × (rest : List ℕ) × Spells prefix l rest × (text ≡ prefix ++ rest) × Lexes rest ls behind

@@ -5,12 +5,12 @@ ghost use Rattle.std.specs.Option.{option_map};
 ghost use Rattle.lx_ere.specs.Bytes.{bytes_where, in_ranges};
 ghost use Rattle.lx_ere.specs.Brackets.{inside, is_inside, is_opening, stands_alone, range_follows, class_ranges, in_members};
 ghost use Rattle.lx_ere.specs.Spelling.{is_name_byte};
-ghost use Rattle.lx_ere.specs.Reading.{run_len, all_items_at, marked_byte_at, bare_point_at, point_at, range_end_at, member_from, class_at, member_at, members_set, with_members, members_at, bracket_at};
+ghost use Rattle.lx_ere.specs.Lexing.{run_len, all_items_at, marked_byte_at, bare_point_at, point_at, range_end_at, member_from, class_at, member_at, members_set, with_members, members_at, bracket_at};
 ghost use Rattle.lx_ere.specs.Tokens.{spot_of, ranges_of};
 
 use crate::escape::escape_at;
-use crate::front::{begins_pair, begins_with, behind_byte, skip};
 use crate::name::name_run;
+use crate::prefix::{begins_pair, begins_with, behind_byte, skip};
 use crate::set::ByteSet;
 
 /// A place in the brackets.

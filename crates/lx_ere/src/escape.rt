@@ -3,18 +3,18 @@
 ghost use Rattle.std.specs.Prelude.{◌≡◌, ◌≤◌, length};
 ghost use Rattle.std.specs.Option.{option_map};
 ghost use Rattle.lx_ere.specs.Escapes.{digit_of, is_digit, letter_byte};
-ghost use Rattle.lx_ere.specs.Reading.{run_len, byte_of, number_at, hexadecimal_at, escape_at};
+ghost use Rattle.lx_ere.specs.Lexing.{run_len, byte_of, number_at, hexadecimal_at, escape_at};
 
 /// The value of a digit, in a base of at most 16.
 fn digit_of(c: u8) -> u8
     ensures { result ≡ digit_of c }
 {
-    if c <= 57 {
-        c.saturating_sub(48)
-    } else if c <= 70 {
-        c - 55
+    if c <= b'9' {
+        c.saturating_sub(b'0')
+    } else if c <= b'F' {
+        c - (b'A' - 10)
     } else {
-        c.saturating_sub(87)
+        c.saturating_sub(b'a' - 10)
     }
 }
 
@@ -22,8 +22,7 @@ fn digit_of(c: u8) -> u8
 pub(crate) fn is_digit(base: u8, c: u8) -> bool
     ensures { result ≡ is_digit base c }
 {
-    let shown = (48 <= c && c <= 57) || (65 <= c && c <= 70) || (97 <= c && c <= 102);
-    shown && digit_of(c) < base
+    c.is_ascii_hexdigit() && digit_of(c) < base
 }
 
 /// How many digits stand at the front, at most so many.

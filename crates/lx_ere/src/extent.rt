@@ -4,7 +4,7 @@ ghost use Rattle.std.specs.Prelude.{◌≡◌, ◌≤◌, ◌&&◌, length, fals
 ghost use Rattle.lx_ere.specs.Brackets.{begins_with, opens_inner};
 ghost use Rattle.lx_ere.specs.PatternEnd.{BehindQuotes, BehindMark, BehindBrackets, BehindPattern, IsPatternEnd, IsInner, skip_first, is_blank};
 
-use crate::front::{begins_with, skip};
+use crate::prefix::{begins_with, skip};
 
 /// The text behind a quoted string, from behind its opening quote on.
 fn behind_quotes(text: &[u8]) -> &[u8]

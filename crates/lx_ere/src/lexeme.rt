@@ -3,13 +3,13 @@
 ghost use Rattle.std.specs.Prelude.{◌≡◌, IfOk, List, ℕ};
 ghost use Rattle.std.specs.Option.{option_map};
 ghost use Rattle.lx_ere.specs.Spelling.{is_plain, byte_lexeme};
-ghost use Rattle.lx_ere.specs.Reading.{all_items_at, unescaped_at, quoted_byte_at, string_at, name_at, bound_at, behind_comma_at, behind_low_at, interval_at, starts_digit, brace_at, as_set, as_bracket, as_single, escape_at, bracket_at, lexeme_at};
+ghost use Rattle.lx_ere.specs.Lexing.{all_items_at, unescaped_at, quoted_byte_at, string_at, name_at, bound_at, behind_comma_at, behind_low_at, interval_at, starts_digit, brace_at, as_set, as_bracket, as_single, escape_at, bracket_at, lexeme_at};
 ghost use Rattle.lx_ere.specs.Lexemes.{lexeme_of};
 
 use crate::bracket::bracket_at;
 use crate::escape::{digit_run, escape_at, is_digit, number_at};
-use crate::front::{begins_with, behind_byte, skip};
 use crate::name::{is_identifier, name_run};
+use crate::prefix::{begins_with, behind_byte, skip};
 use crate::set::ByteSet;
 use std::alloc::{AllocError, Global};
 
@@ -38,7 +38,23 @@ fn is_plain(c: u8) -> bool
 {
     !matches!(
         c,
-        10 | 9 | 32 | 34 | 36 | 40 | 41 | 42 | 43 | 46 | 47 | 63 | 91 | 92 | 94 | 123 | 124
+        b'\n'
+            | b'\t'
+            | b' '
+            | b'"'
+            | b'$'
+            | b'('
+            | b')'
+            | b'*'
+            | b'+'
+            | b'.'
+            | b'/'
+            | b'?'
+            | b'['
+            | b'\\'
+            | b'^'
+            | b'{'
+            | b'|'
     )
 }
 

@@ -6,10 +6,10 @@ mod escape;
 pub mod expr;
 pub mod extent;
 pub mod fault;
-mod front;
 mod groups;
 mod lexeme;
 mod name;
+mod prefix;
 pub mod read;
 pub mod set;
 #[cfg(test)]

@@ -3,7 +3,7 @@
 ghost use Rattle.std.specs.Prelude.{◌≡◌, ◌≤◌, length};
 ghost use Rattle.std.specs.List.{list_all};
 ghost use Rattle.lx_ere.specs.Spelling.{is_name_start, is_name_byte, is_identifier};
-ghost use Rattle.lx_ere.specs.Reading.{run_len};
+ghost use Rattle.lx_ere.specs.Lexing.{run_len};
 
 /// Whether the byte can begin an identifier.
 fn is_name_start(c: u8) -> bool

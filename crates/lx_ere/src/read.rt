@@ -7,13 +7,13 @@ ghost use Rattle.lx_ere.specs.Brackets.{begins_with};
 ghost use Rattle.lx_ere.specs.Spelling.{Spells, Lexes};
 ghost use Rattle.lx_ere.specs.Pattern.{IsPattern, IsSubstitute};
 ghost use Rattle.lx_ere.specs.PatternEnd.{IsPatternEnd};
-ghost use Rattle.lx_ere.specs.Reading.{lexeme_at, body_of, ending_at, Reads};
+ghost use Rattle.lx_ere.specs.Lexing.{lexeme_at, body_of, ending_at, Reads};
 
 use crate::expr::{Expr, Pattern};
 use crate::fault::EreFault;
-use crate::front::{begins_with, skip};
 use crate::groups::{finish, no_groups, step};
 use crate::lexeme::lexeme_at;
+use crate::prefix::{begins_with, skip};
 use std::alloc::Global;
 
 /// The most bytes that a pattern or a substitute may have.

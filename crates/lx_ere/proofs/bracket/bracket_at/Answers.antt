@@ -1,7 +1,7 @@
-use Rattle.std.proofs.Common.{◌≡◌, ◌∙◌, true, ap, sym, refl}
+use Rattle.std.proofs.Common.{◌∙◌, ap, sym}
 use Rattle.std.specs.Option.{option_map}
-use Rattle.lx_ere.specs.Brackets.{behind_caret, begins_with}
-use Rattle.lx_ere.specs.Reading.{members_at, members_set}
+use Rattle.lx_ere.specs.Brackets.{behind_caret}
+use Rattle.lx_ere.specs.Lexing.{members_at, members_set}
 use Rattle.lx_ere.proofs.MemberLoop.{bracket_excluding, bracket_excluding_none}
 use Rattle.lx_ere.proofs.bracket.bracket_at.Goals as goal
 

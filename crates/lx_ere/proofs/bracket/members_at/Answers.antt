@@ -1,4 +1,4 @@
-use Rattle.std.proofs.Common.{◌≡◌, ◌∙◌, ◌||◌, ℕ, Bool, true, false, ap, sym, refl}
+use Rattle.std.proofs.Common.{◌∙◌, ◌||◌, false, sym}
 use Rattle.lx_ere.specs.Bytes.{in_ranges}
 use Rattle.lx_ere.specs.Tokens.{spot_of, ranges_of}
 use Rattle.lx_ere.proofs.MemberLoop.{members_at_is, members_at_none}

@@ -1,7 +1,4 @@
-use Rattle.std.proofs.Common.{◌≡◌, ◌∙◌, ◌||◌, ℕ, Bool, true, false, not, ap, sym, refl}
-use Rattle.std.specs.Option.{option_map}
-use Rattle.lx_ere.specs.Brackets.{inside, begins_with}
-use Rattle.lx_ere.specs.Reading.{member_at}
+use Rattle.std.proofs.Common.{◌∙◌, sym}
 use Rattle.lx_ere.specs.Tokens.{ranges_of}
 use Rattle.lx_ere.proofs.MemberLoop.{members_start, members_step, members_end, members_none, member_shorter}
 use Rattle.lx_ere.proofs.bracket.members_behind.Goals as goal

@@ -1,4 +1,4 @@
-use Rattle.std.proofs.Common.{◌≡◌, ℕ, ◌+◌, ◌*◌, ◌<◌, ◌≤◌, get_or, drop, arith, sym, refl, ◌∙◌}
+use Rattle.std.proofs.Common.{◌≡◌, ℕ, ◌+◌, ◌*◌, get_or, drop, arith, sym, refl, ◌∙◌}
 use Rattle.lx_ere.specs.Escapes.{number_behind, number_of, digit_of}
 use Rattle.lx_ere.proofs.NumberLemmas.{number_step, number_large}
 use Rattle.lx_ere.proofs.escape.byte_of.Goals as goal

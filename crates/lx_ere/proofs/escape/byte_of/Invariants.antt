@@ -1,4 +1,4 @@
-use Rattle.std.proofs.Common.{◌≡◌, ℕ, ◌<◌, ◌≤◌, drop}
+use Rattle.std.proofs.Common.{◌≡◌, ◌<◌, ◌≤◌, drop}
 use Rattle.lx_ere.specs.Escapes.{number_of, number_behind}
 use Rattle.lx_ere.proofs.escape.byte_of.Given as goal
 

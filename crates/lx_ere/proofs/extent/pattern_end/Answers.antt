@@ -1,4 +1,3 @@
-use Rattle.std.proofs.Common.{◌≡◌, sym, ap}
 use Rattle.lx_ere.proofs.EndLemmas.{end_of}
 use Rattle.lx_ere.proofs.extent.pattern_end.Goals as goal
 

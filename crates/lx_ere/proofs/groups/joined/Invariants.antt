@@ -1,4 +1,4 @@
-use Rattle.std.proofs.Common.{◌≡◌, ℕ, drop}
+use Rattle.std.proofs.Common.{◌≡◌, drop}
 use Rattle.lx_ere.specs.Bytes.{byte_set}
 use Rattle.lx_ere.specs.Regex.{regex_of, one_of}
 use Rattle.lx_ere.specs.Grammar.{joined}

@@ -1,5 +1,5 @@
-use Rattle.std.proofs.Common.{ℕ, length}
-use Rattle.lx_ere.specs.Reading.{quoted_byte_at}
+use Rattle.std.proofs.Common.{length}
+use Rattle.lx_ere.specs.Lexing.{quoted_byte_at}
 use Rattle.lx_ere.proofs.SequenceLemmas.{Scanned}
 use Rattle.lx_ere.proofs.lexeme.quoted_bytes_at.Given as goal
 

@@ -1,6 +1,6 @@
-use Rattle.std.proofs.Common.{◌≡◌, ℕ, ◌+◌, ◌-◌, ◌≤◌, length, drop}
+use Rattle.std.proofs.Common.{◌≡◌, ◌+◌, ◌-◌, ◌≤◌, length, drop}
 use Rattle.lx_ere.specs.Spelling.{is_name_byte}
-use Rattle.lx_ere.specs.Reading.{run_len}
+use Rattle.lx_ere.specs.Lexing.{run_len}
 use Rattle.lx_ere.proofs.name.name_run.Given as goal
 
 abbrev pub invariant-loop-n : goal.invariant-loop-n

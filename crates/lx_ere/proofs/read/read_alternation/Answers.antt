@@ -1,7 +1,5 @@
-use Rattle.std.proofs.Common.{◌≡◌, ℕ, List, Option, Some, None, sym, ◌∙◌, ap}
+use Rattle.std.proofs.Common.{sym}
 use Rattle.lx_ere.specs.Regex.{regex_of}
-use Rattle.lx_ere.specs.Reading.{lexeme_at}
-use Rattle.lx_ere.specs.Stacks.{step, finish}
 use Rattle.lx_ere.specs.Groups.{groups_of}
 use Rattle.lx_ere.specs.Lexemes.{lexeme_of}
 use Rattle.lx_ere.proofs.ReadLemmas.{Reached-step, Reached-end, Reached-no_end, Reached-no_step, lexeme_shorter}

@@ -1,4 +1,4 @@
-use Rattle.std.proofs.Common.{ℕ, length}
+use Rattle.std.proofs.Common.{length}
 use Rattle.lx_ere.specs.Groups.{groups_of}
 use Rattle.lx_ere.proofs.ReadLemmas.{Reached}
 use Rattle.lx_ere.proofs.read.read_alternation.Given as goal

@@ -1,4 +1,4 @@
-use Rattle.std.proofs.Common.{◌≡◌, ◌∙◌, ◌<◌, ℕ, length, arith}
+use Rattle.std.proofs.Common.{◌∙◌, arith}
 use Rattle.lx_ere.proofs.ByteLemmas.{complement_is}
 use Rattle.lx_ere.proofs.set.ByteSet.complement.Goals as goal
 

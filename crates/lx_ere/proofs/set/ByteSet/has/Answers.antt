@@ -1,4 +1,3 @@
-use Rattle.std.proofs.Common.{◌≡◌}
 use Rattle.lx_ere.proofs.ByteLemmas.{has_is}
 use Rattle.lx_ere.proofs.set.ByteSet.has.Goals as goal
 

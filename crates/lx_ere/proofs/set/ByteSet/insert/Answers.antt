@@ -1,4 +1,4 @@
-use Rattle.std.proofs.Common.{◌≡◌, ◌∙◌, ◌<◌, ℕ, length, arith}
+use Rattle.std.proofs.Common.{◌∙◌}
 use Rattle.lx_ere.proofs.ByteLemmas.{insert_is}
 use Rattle.lx_ere.proofs.set.ByteSet.insert.Goals as goal
 

@@ -1,4 +1,4 @@
-use Rattle.std.proofs.Common.{◌≡◌, ◌∙◌, ◌<◌, ◌≤◌, ◌+◌, max, ℕ, length, arith}
+use Rattle.std.proofs.Common.{◌∙◌, arith}
 use Rattle.lx_ere.proofs.ByteLemmas.{range_none, range_more, range_all}
 use Rattle.lx_ere.proofs.set.ByteSet.insert_range.Goals as goal
 

@@ -1,4 +1,4 @@
-use Rattle.std.proofs.Common.{◌≡◌, ◌∙◌}
+use Rattle.std.proofs.Common.{◌∙◌}
 use Rattle.lx_ere.proofs.ByteLemmas.{ranges_more}
 use Rattle.lx_ere.proofs.set.ByteSet.insert_ranges.Goals as goal
 

@@ -3,7 +3,7 @@
 ghost use Rattle.std.specs.Prelude.{◌≡◌, ◌≤◌, length, drop};
 ghost use Rattle.std.specs.Option.{option_map};
 ghost use Rattle.lx_ere.specs.Brackets.{begins_with};
-ghost use Rattle.lx_ere.specs.Reading.{behind_byte, begins_pair};
+ghost use Rattle.lx_ere.specs.Lexing.{behind_byte, begins_pair};
 
 /// The text without its first n bytes.
 pub(crate) fn skip(n: usize, text: &[u8]) -> &[u8]
