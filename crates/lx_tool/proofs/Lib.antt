@@ -6,3 +6,4 @@ pub mod Placing
 pub mod Steps
 pub mod Cutting
 pub mod AllPrinted
+pub mod TestPieces

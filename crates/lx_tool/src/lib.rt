@@ -8,5 +8,8 @@ mod printing;
 mod waiting;
 mod writing;
 
+#[cfg(test)]
+mod listing_tests;
+
 pub use listing::Listing;
 pub use printing::{RunFault, print_listing};
