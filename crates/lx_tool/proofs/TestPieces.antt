@@ -27,8 +27,8 @@ pub fit_more : (names : List (List ℕ)) (files : List (Vec ℕ Global)) (items 
     → (file : ℕ) → file < i + 1 → All (IsItemOf names (get_or (map (λ (v : Vec ℕ Global). v.items) files) file [])) (get_or (map (λ (v : Vec Item Global). v.items) items) file [])
 fit_more names files items i text list f g t l all before = λ file below. elim (cases_eq file i) [
   | inl e ↦
-    subst (λ (n : ℕ). All (IsItemOf names (get_or (map (λ (v : Vec ℕ Global). v.items) files) n [])) (get_or (map (λ (v : Vec Item Global). v.items) items) n [])) (sym e)
-    (subst (λ (bytes : List ℕ). All (IsItemOf names bytes) (get_or (map (λ (v : Vec Item Global). v.items) items) i [])) (ap (λ (v : Vec ℕ Global). v.items) t ∙ sym (get_or-map (λ (v : Vec ℕ Global). v.items) files i text [] f))
-    (subst (λ (parts : List Item). All (IsItemOf names text.items) parts) (ap (λ (v : Vec Item Global). v.items) l ∙ sym (get_or-map (λ (v : Vec Item Global). v.items) items i list [] g)) all))
+      subst (λ (n : ℕ). All (IsItemOf names (get_or (map (λ (v : Vec ℕ Global). v.items) files) n [])) (get_or (map (λ (v : Vec Item Global). v.items) items) n [])) (sym e)
+      (subst (λ (bytes : List ℕ). All (IsItemOf names bytes) (get_or (map (λ (v : Vec Item Global). v.items) items) i [])) (ap (λ (v : Vec ℕ Global). v.items) t ∙ sym (get_or-map (λ (v : Vec ℕ Global). v.items) files i text [] f))
+      (subst (λ (parts : List Item). All (IsItemOf names text.items) parts) (ap (λ (v : Vec Item Global). v.items) l ∙ sym (get_or-map (λ (v : Vec Item Global). v.items) items i list [] g)) all))
   | inr d ↦ before file (omega arith)
 ]

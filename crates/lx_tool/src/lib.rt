@@ -4,12 +4,11 @@
 mod cuts;
 mod line;
 mod listing;
+#[cfg(test)]
+mod listing_tests;
 mod printing;
 mod waiting;
 mod writing;
-
-#[cfg(test)]
-mod listing_tests;
 
 pub use listing::Listing;
 pub use printing::{RunFault, print_listing};

@@ -3,13 +3,12 @@ ghost use Rattle.lx_piece.specs.Items.{IsItemOf};
 ghost use Rattle.lx_piece.specs.Plans.{files_of};
 ghost use Rattle.lx_piece.specs.Arrivals.{AreHonest};
 
+use crate::{Listing, RunFault, print_listing};
 use lx_piece::{Cutter, Item, Kind, ListArrivals, Piece, Plan, Reader, ReaderFault, relay};
 use std::alloc::{AllocError, Global};
 use std::io;
 use std::io::{ErrorKind, Write};
 use std::test::Fail;
-
-use crate::{Listing, RunFault, print_listing};
 
 /// An item lies in a text, and its kind is there.
 fn fits(kinds: &[Vec<u8>], text: &[u8], item: &Item) -> bool
@@ -109,7 +108,8 @@ fn mixed_plan(alloc: Global, per_piece: u32) -> Result<Option<Plan>, AllocError>
 }
 
 /// Its listing.
-const MIXED: &[u8] = b"0 T ID 0 2 ab\n0 T NUM 3 2 12\n2 E - 0 1 \\\\\n2 E - 1 1 \\x0A\n2 E - 2 1 \\xFF\n2 E - 3 1  \n2 T 65 0 6 \\\\\\x0A\\xFF ~\\x7F\n";
+const MIXED: &[u8] =
+    b"0 T ID 0 2 ab\n0 T NUM 3 2 12\n2 E - 0 1 \\\\\n2 E - 1 1 \\x0A\n2 E - 2 1 \\xFF\n2 E - 3 1  \n2 T 65 0 6 \\\\\\x0A\\xFF ~\\x7F\n";
 
 /// A writer that takes at most so many bytes at a time, and fails at one of its calls.
 #[derive(Drop)]
@@ -182,8 +182,14 @@ fn ends_where_the_writer_fails(rt: HostRuntime) -> Result<(), Fail> {
     let plan = checked_plan(kinds, files, items, 256).ok_or("an item doesn't fit")?;
     for takes_nothing in [false, true] {
         let mut out = failing_writer(alloc, 4_096, 3, takes_nothing);
-        assert_eq!(rt; print_listing(alloc, &plan, &mut out), Err(RunFault::Reader));
-        assert_eq!(rt; out.held.as_slice(), b"0 E - 0 1 h\n0 E - 1 1 i\n".as_slice());
+        assert_eq!(rt;
+            print_listing(alloc, &plan, &mut out),
+            Err(RunFault::Reader)
+        );
+        assert_eq!(rt;
+            out.held.as_slice(),
+            b"0 E - 0 1 h\n0 E - 1 1 i\n".as_slice()
+        );
         assert_eq!(rt; out.calls, 3);
     }
     Ok(())

@@ -1,4 +1,4 @@
-use Rattle.std.proofs.Common.{◌≡◌, arith, below_more, subst, get_or, map}
+use Rattle.std.proofs.Common.{arith, below_more, subst, map}
 use Rattle.std.proofs.lemmas.List.{get_or_default}
 use Rattle.lx_piece.specs.Items.{IsItemOf}
 use Rattle.lx_piece.specs.declared.item.Item.{Item}

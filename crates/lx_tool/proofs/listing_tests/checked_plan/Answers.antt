@@ -1,4 +1,4 @@
-use Rattle.std.proofs.Common.{◌≡◌, ◌<◌, List, ℕ, Global, Vec, arith, length, map, subst}
+use Rattle.std.proofs.Common.{◌<◌, List, ℕ, Global, Vec, arith, length, map, subst}
 use Rattle.std.specs.Prelude.{All}
 use Rattle.lx_piece.specs.declared.item.Item.{Item}
 use Rattle.lx_piece.specs.Items.{IsItemOf}

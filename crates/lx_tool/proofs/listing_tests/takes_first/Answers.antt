@@ -1,4 +1,4 @@
-use Rattle.std.proofs.Common.{◌≡◌, ◌∙◌, sym, ap, subst, List, ℕ}
+use Rattle.std.proofs.Common.{◌∙◌, sym, ap, subst}
 use Rattle.lx_piece.specs.Cutting.{Cutting}
 use Rattle.lx_piece.specs.Plans.{Planned}
 use Rattle.lx_piece.specs.Pieces.{piece_at}
