@@ -1,8 +1,8 @@
-use Rattle.std.proofs.Common.{ℕ, zero, suc, ◌≡◌, ◌+◌, ◌<◌, ◌≤◌, ◌⊎◌, inl, inr, Bool, true, false, not, ◌&&◌, ◌||◌, List, [], ◌∷◌, ◌++◌, length, Option, Some, None, refl, sym, ◌∙◌, ap, subst, arith, nat_eq, nat_lt}
-use Rattle.std.specs.Prelude.{slice_index, All, Contains, if◌then◌else◌}
+use Rattle.std.proofs.Common.{ℕ, zero, suc, ◌≡◌, ◌+◌, ◌<◌, ◌≤◌, ◌⊎◌, inl, inr, true, false, ◌&&◌, List, [], ◌∷◌, Option, None, refl, sym, ◌∙◌, ap, subst, arith, nat_eq, nat_lt}
+use Rattle.std.specs.Prelude.{slice_index, All, Contains}
 use Rattle.std.specs.List.{list_any}
-use Rattle.std.proofs.lemmas.Bool.{both_ways, and_parts, and_from, cases_lt, cases_Bool, eqb-true, eq-eqb, ne_eqb, ltb-true, lt-ltb, or_right, or_left, or_from, not_from_true, false_from_ne_true}
-use Rattle.std.proofs.lemmas.List.Elements.{All-nil, All-head, All-tail, All-push, All-contains}
+use Rattle.std.proofs.lemmas.Bool.{both_ways, and_parts, and_from, cases_lt, cases_Bool, eqb-true, eq-eqb, ne_eqb, ltb-true, lt-ltb, or_right, or_from, not_from_true, false_from_ne_true}
+use Rattle.std.proofs.lemmas.List.Elements.{All-nil, All-head, All-tail, All-contains}
 use Rattle.lx_piece.specs.declared.piece.Piece.{Piece}
 use Rattle.lx_piece.specs.declared.reply.Why.{Why}
 use Rattle.lx_piece.specs.Plans.{Planned, files_of}
@@ -55,9 +55,9 @@ accepted_then : (plan : Planned) (accepted : List Piece) (p : Piece) → All (Is
 accepted_then plan accepted p all is = elim (cases_Bool (has_piece p.file p.number accepted)) [
   | inl there ↦ has_more (site_of plan) accepted p p.file p.number (cause_against (site_of plan) accepted p) there
   | inr new ↦
-    ap (λ (cause : Option Why). has_piece p.file p.number (joined cause accepted p)) (accepted_new plan accepted p all is new)
-    ∙ any_last (is_numbered p.file p.number) accepted p
-    ∙ or_right (has_piece p.file p.number accepted) (is_numbered p.file p.number p) (and_from (nat_eq p.file p.file) (nat_eq p.number p.number) (eq-eqb p.file p.file refl) (eq-eqb p.number p.number refl))
+      ap (λ (cause : Option Why). has_piece p.file p.number (joined cause accepted p)) (accepted_new plan accepted p all is new)
+      ∙ any_last (is_numbered p.file p.number) accepted p
+      ∙ or_right (has_piece p.file p.number accepted) (is_numbered p.file p.number p) (and_from (nat_eq p.file p.file) (nat_eq p.number p.number) (eq-eqb p.file p.file refl) (eq-eqb p.number p.number refl))
 ]
 
 -- a piece in a list stands first or in the rest
@@ -66,7 +66,7 @@ first_or_rest q came p (zero, within, at) = inl at
 first_or_rest q came p (suc k, within, at) = inr (k, omega arith, at)
 
 accepted_from : (plan : Planned) (accepted came : List Piece) (p : Piece) → All (IsPieceOf plan) accepted → AreHonest plan came → IsPieceOf plan p → Contains came p ⊎ (has_piece p.file p.number accepted ≡ true) → has_piece p.file p.number (accepted_behind (site_of plan) accepted came) ≡ true
-accepted_from plan accepted [] p all honest is h = elim h [ | inl at ↦ absurd (omega (arith, at.1)) | inr there ↦ there ]
+accepted_from plan accepted [] p all honest is h = elim h [ inl at ↦ absurd (omega (arith, at.1)) | inr there ↦ there ]
 accepted_from plan accepted (q ∷ came) p all honest is h =
     let next = with_planned plan accepted q all (All-head (IsHonest plan) q came honest) in
     let more : Contains came p ⊎ (has_piece p.file p.number (with_arrival (site_of plan) accepted q) ≡ true) = elim h [
@@ -83,10 +83,10 @@ pub taken_whole : (plan : Planned) (came : List Piece) (counts : List ℕ) (file
 taken_whole plan came counts file honest delivered within at_most all =
     elim (cases_lt (slice_index counts file) (pieces_of plan file)) [
       | inl less ↦
-        let p = piece_at plan file (slice_index counts file) in
-        let there = all (slice_index counts file) less in
-        let is = All-contains (IsHonest plan) came p honest there refl within in
-        absurd (both_ways (has_piece file (slice_index counts file) (accepted_of (site_of plan) came)) ((delivered.each file within).missing)
-            (accepted_from plan [] came p (All-nil (IsPieceOf plan)) honest is (inl there)))
+          let p = piece_at plan file (slice_index counts file) in
+          let there = all (slice_index counts file) less in
+          let is = All-contains (IsHonest plan) came p honest there refl within in
+          absurd (both_ways (has_piece file (slice_index counts file) (accepted_of (site_of plan) came)) ((delivered.each file within).missing)
+          (accepted_from plan [] came p (All-nil (IsPieceOf plan)) honest is (inl there)))
       | inr more ↦ omega arith
     ]

@@ -1,4 +1,4 @@
-use Rattle.std.proofs.Common.{ℕ, ◌≡◌, ◌<◌, ◌↔◌, Bool, true, List, Option, Some, length, get_or, sym, ◌∙◌, ap, subst}
+use Rattle.std.proofs.Common.{ℕ, ◌≡◌, ◌<◌, ◌↔◌, Bool, true, List, Some, length, get_or, sym, ◌∙◌, subst}
 use Rattle.std.specs.Prelude.{slice_get, slice_index, All}
 use Rattle.std.proofs.lemmas.Bool.{ltb-true, lt-ltb}
 use Rattle.std.proofs.lemmas.List.{get_or_default}
@@ -35,6 +35,7 @@ file_closed kept came file closed s within tells =
 pub files_closed : (kept : Kept) (came : List Piece) (closed : Bool) → StandsFor kept came → (closed ≡ true) ↔ All (λ (lane : Lane). is_lane_closed lane ≡ true) kept.lanes → (closed ≡ true) ↔ ((file : ℕ) → file < length kept.lanes → IsClosedBelow (accepted_of (site_of_kept kept) came) file (slice_index (delivered_counts kept) file))
 files_closed kept came closed s all =
     let lane : ℕ → Lane = λ file. get_or kept.lanes file fresh_lane in
-    let at : (file : ℕ) → file < length kept.lanes → slice_get kept.lanes file ≡ Some (lane file) = λ file within. slice_get-get_or kept.lanes file fresh_lane within in
-    (λ h file within. (lane_closed_at kept came file (lane file) s (at file within)).0 (All-get_or (λ (l : Lane). is_lane_closed l ≡ true) kept.lanes file fresh_lane within (all.0 h)),
-     λ each. all.1 (λ file d within. subst (λ (l : Lane). is_lane_closed l ≡ true) (get_or_default kept.lanes file fresh_lane d within) ((lane_closed_at kept came file (lane file) s (at file within)).1 (each file within))))
+    let at : (file : ℕ) → file < length kept.lanes → slice_get kept.lanes file ≡ Some (lane file) = λ file within. slice_get-get_or kept.lanes file fresh_lane within in (
+      λ h file within. (lane_closed_at kept came file (lane file) s (at file within)).0 (All-get_or (λ (l : Lane). is_lane_closed l ≡ true) kept.lanes file fresh_lane within (all.0 h)),
+      λ each. all.1 (λ file d within. subst (λ (l : Lane). is_lane_closed l ≡ true) (get_or_default kept.lanes file fresh_lane d within) ((lane_closed_at kept came file (lane file) s (at file within)).1 (each file within))),
+    )

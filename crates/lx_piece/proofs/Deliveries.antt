@@ -1,17 +1,17 @@
-use Rattle.std.proofs.Common.{ℕ, zero, suc, ◌≡◌, ◌+◌, ◌<◌, ◌≤◌, ◌⊎◌, inl, inr, Bool, true, false, not, ◌||◌, List, [], ◌∷◌, ◌++◌, length, map, Option, Some, None, refl, sym, ◌∙◌, ap, subst, arith, nat_eq, nat_lt, get_or, is_some, replicate}
-use Rattle.std.specs.Prelude.{slice_get, slice_set, slice_index, All, Contains, if◌then◌else◌}
-use Rattle.std.proofs.lemmas.Bool.{both_ways, and_parts, cases_lt, eqb-true, ltb-true, lt-ltb, le-ltb, or_left, or_from, not-false}
+use Rattle.std.proofs.Common.{ℕ, zero, suc, ◌≡◌, ◌<◌, ◌≤◌, inl, inr, true, false, List, [], ◌∷◌, ◌++◌, length, Option, Some, None, refl, sym, ◌∙◌, ap, subst, arith, nat_eq, nat_lt, get_or, is_some, replicate}
+use Rattle.std.specs.Prelude.{slice_get, slice_index, All, Contains}
+use Rattle.std.proofs.lemmas.Bool.{and_parts, cases_lt, eqb-true, ltb-true, lt-ltb, le-ltb, or_left, or_from, not-false}
 use Rattle.std.proofs.lemmas.Option.{slice_get-get_or}
 use Rattle.std.proofs.lemmas.List.Elements.{All-nil, All-head, All-tail, All-push, All-contains}
-use Rattle.std.proofs.lemmas.List.{get_or-replicate, append-nil, length-replicate}
+use Rattle.std.proofs.lemmas.List.{get_or-replicate, length-replicate}
 use Rattle.lx_piece.specs.declared.piece.Piece.{Piece}
 use Rattle.lx_piece.specs.declared.reply.Why.{Why}
 use Rattle.lx_piece.specs.Plans.{Planned, files_of}
 use Rattle.lx_piece.specs.Pieces.{IsPieceOf, pieces_of}
-use Rattle.lx_piece.specs.Arrivals.{Site, site_of, IsHonest, AreHonest, IsLeastMissing, accepted_behind, accepted_of, with_arrival, joined, cause_against, has_piece, is_numbered, reply_to, replies_of}
-use Rattle.lx_piece.specs.Kept.{Lane, Kept, LaneStandsFor, StandsFor, NoneReady, site_of_kept, held_at, delivered_counts, is_ready, is_ready_at, fresh_lane}
+use Rattle.lx_piece.specs.Arrivals.{Site, site_of, IsHonest, AreHonest, accepted_behind, accepted_of, with_arrival, joined, cause_against, has_piece, is_numbered, reply_to, replies_of}
+use Rattle.lx_piece.specs.Kept.{Kept, LaneStandsFor, StandsFor, NoneReady, site_of_kept, held_at, delivered_counts, is_ready_at, fresh_lane}
 use Rattle.lx_piece.specs.declared.reply.Reply.{Reply}
-use Rattle.lx_piece.specs.Relayed.{TakesAllInOrder, HoldsPlanned, AllDelivered, AtMostDelivered, AreAtMost, Relayed, RelayedInPart}
+use Rattle.lx_piece.specs.Relayed.{TakesAllInOrder, HoldsPlanned, AllDelivered, AtMostDelivered, AreAtMost, RelayedInPart}
 use Rattle.lx_piece.proofs.SoFar.{SoFar}
 use Rattle.lx_piece.proofs.AnyOf.{any_last, any_of}
 use Rattle.lx_piece.specs.PieceLaws.{takes_in_order}
@@ -23,8 +23,8 @@ pub with_planned : (plan : Planned) (accepted : List Piece) (p : Piece) → All 
 with_planned plan accepted p h first =
     let go : (cause : Option Why) → cause ≡ cause_against (site_of plan) accepted p → All (IsPieceOf plan) (joined cause accepted p) = elim [
       | None ↦ λ e.
-        let k = known (site_of plan) accepted p e in
-        All-push (IsPieceOf plan) accepted p h (first (eqb-true p.run plan.run (not-false (nat_eq p.run plan.run) k.0)) (ltb-true p.file (files_of plan) (not-false (nat_lt p.file (files_of plan)) k.1)))
+          let k = known (site_of plan) accepted p e in
+          All-push (IsPieceOf plan) accepted p h (first (eqb-true p.run plan.run (not-false (nat_eq p.run plan.run) k.0)) (ltb-true p.file (files_of plan) (not-false (nat_lt p.file (files_of plan)) k.1)))
       | Some why ↦ λ e. h
     ] in
     go (cause_against (site_of plan) accepted p) refl
@@ -41,9 +41,9 @@ planned_from plan kept came e s honest =
     record {
       files = ap (λ (site : Site). site.files) e;
       each = λ file lane at n p held.
-        let is = (s.each file lane at).held n p held in
-        let there = subst (λ site. Contains (accepted_of site came) p) e is.2 in
-        (All-contains (IsPieceOf plan) (accepted_of (site_of plan) came) p (accepted_planned plan [] came (All-nil (IsPieceOf plan)) honest) there, is.0, is.1);
+          let is = (s.each file lane at).held n p held in
+          let there = subst (λ site. Contains (accepted_of site came) p) e is.2 in
+          (All-contains (IsPieceOf plan) (accepted_of (site_of plan) came) p (accepted_planned plan [] came (All-nil (IsPieceOf plan)) honest) there, is.0, is.1);
     }
 
 -- where nothing more can be delivered, all was
@@ -52,15 +52,15 @@ all_delivered site kept came counts e s ready c =
     record {
       files = ap length c ∙ length-nexts kept.lanes ∙ ap (λ (t : Site). t.files) e;
       each = λ file within.
-        let inside : file < length kept.lanes = (let f = ap (λ (t : Site). t.files) e in omega arith) in
-        let lane = get_or kept.lanes file fresh_lane in
-        let at : slice_get kept.lanes file ≡ Some lane = slice_get-get_or kept.lanes file fresh_lane inside in
-        let stands : LaneStandsFor lane file (accepted_of site came) = subst (λ t. LaneStandsFor lane file (accepted_of t came)) e (s.each file lane at) in
-        let count : slice_index counts file ≡ lane.next = ap (λ (ns : List ℕ). slice_index ns file) c ∙ count_at kept.lanes file lane at in
-        record {
-          below = λ j l. stands.numbers j ∙ or_left (nat_lt j lane.next) (is_some (held_at lane j)) (lt-ltb j lane.next (omega arith));
-          missing = ap (λ (n : ℕ). has_piece file n (accepted_of site came)) count ∙ stands.numbers lane.next ∙ or_from (nat_lt lane.next lane.next) (is_some (held_at lane lane.next)) (le-ltb lane.next lane.next (omega arith)) (sym (ap is_ready_at at) ∙ ready file);
-        };
+          let inside : file < length kept.lanes = (let f = ap (λ (t : Site). t.files) e in omega arith) in
+          let lane = get_or kept.lanes file fresh_lane in
+          let at : slice_get kept.lanes file ≡ Some lane = slice_get-get_or kept.lanes file fresh_lane inside in
+          let stands : LaneStandsFor lane file (accepted_of site came) = subst (λ t. LaneStandsFor lane file (accepted_of t came)) e (s.each file lane at) in
+          let count : slice_index counts file ≡ lane.next = ap (λ (ns : List ℕ). slice_index ns file) c ∙ count_at kept.lanes file lane at in
+          record {
+            below = λ j l. stands.numbers j ∙ or_left (nat_lt j lane.next) (is_some (held_at lane j)) (lt-ltb j lane.next (omega arith));
+            missing = ap (λ (n : ℕ). has_piece file n (accepted_of site came)) count ∙ stands.numbers lane.next ∙ or_from (nat_lt lane.next lane.next) (is_some (held_at lane lane.next)) (le-ltb lane.next lane.next (omega arith)) (sym (ap is_ready_at at) ∙ ready file);
+          };
     }
 
 -- what was delivered was accepted
@@ -69,13 +69,13 @@ at_most_delivered site kept came counts e s c =
     record {
       files = c.files ∙ length-nexts kept.lanes ∙ ap (λ (t : Site). t.files) e;
       each = λ file j within l.
-        let inside : file < length kept.lanes = (let f = ap (λ (t : Site). t.files) e in omega arith) in
-        let lane = get_or kept.lanes file fresh_lane in
-        let at : slice_get kept.lanes file ≡ Some lane = slice_get-get_or kept.lanes file fresh_lane inside in
-        let stands : LaneStandsFor lane file (accepted_of site came) = subst (λ t. LaneStandsFor lane file (accepted_of t came)) e (s.each file lane at) in
-        let count : slice_index (delivered_counts kept) file ≡ lane.next = count_at kept.lanes file lane at in
-        let bound = c.each file in
-        stands.numbers j ∙ or_left (nat_lt j lane.next) (is_some (held_at lane j)) (lt-ltb j lane.next (omega arith));
+          let inside : file < length kept.lanes = (let f = ap (λ (t : Site). t.files) e in omega arith) in
+          let lane = get_or kept.lanes file fresh_lane in
+          let at : slice_get kept.lanes file ≡ Some lane = slice_get-get_or kept.lanes file fresh_lane inside in
+          let stands : LaneStandsFor lane file (accepted_of site came) = subst (λ t. LaneStandsFor lane file (accepted_of t came)) e (s.each file lane at) in
+          let count : slice_index (delivered_counts kept) file ≡ lane.next = count_at kept.lanes file lane at in
+          let bound = c.each file in
+          stands.numbers j ∙ or_left (nat_lt j lane.next) (is_some (held_at lane j)) (lt-ltb j lane.next (omega arith));
     }
 
 pub same_at_most : (counts others : List ℕ) → counts ≡ others → AreAtMost counts others
@@ -120,9 +120,9 @@ so_far_with plan leads goes_on s t u old new replies p reply so led honest e ans
       led = goes_on s t u so.came (p ∷ []) so.led led;
       honest = All-push (IsHonest plan) so.came p so.honest honest;
       replied =
-        ap (λ rs. rs ++ reply ∷ []) so.replied
-        ∙ ap (λ r. replies_of (site_of plan) so.came ++ r ∷ []) (answers so.came so.stands ∙ ap (λ site. reply_to site (accepted_of site so.came) p) e)
-        ∙ sym (replies_last (site_of plan) [] so.came p);
+          ap (λ rs. rs ++ reply ∷ []) so.replied
+          ∙ ap (λ r. replies_of (site_of plan) so.came ++ r ∷ []) (answers so.came so.stands ∙ ap (λ site. reply_to site (accepted_of site so.came) p) e)
+          ∙ sym (replies_last (site_of plan) [] so.came p);
       stands = stands so.came so.stands;
     }
 
@@ -134,16 +134,16 @@ so_far_still plan leads old new replies so stands = record { came = so.came; led
 pub taken_from : (plan : Planned) (came : List Piece) (counts : List ℕ) → 0 < plan.per_piece → AreHonest plan came → AtMostDelivered (site_of plan) came counts → TakesAllInOrder plan counts
 taken_from plan came counts some honest h =
     let within : (file : ℕ) → file < files_of plan → slice_index counts file ≤ pieces_of plan file = λ file l.
-        elim (cases_lt (pieces_of plan file) (slice_index counts file)) [
-          | inl more ↦
-            let found = any_of (IsPieceOf plan) (is_numbered file (pieces_of plan file)) (accepted_of (site_of plan) came)
-                (accepted_planned plan [] came (All-nil (IsPieceOf plan)) honest) (h.each file (pieces_of plan file) l more) in
-            let at = and_parts (nat_eq found.0.file file) (nat_eq found.0.number (pieces_of plan file)) found.2 in
-            let below = subst (λ (f : ℕ). found.0.number < pieces_of plan f) (eqb-true found.0.file file at.0) found.1.number in
-            let same = eqb-true found.0.number (pieces_of plan file) at.1 in
-            absurd (omega arith)
-          | inr less ↦ less
-        ] in
+    elim (cases_lt (pieces_of plan file) (slice_index counts file)) [
+      | inl more ↦
+          let found = any_of (IsPieceOf plan) (is_numbered file (pieces_of plan file)) (accepted_of (site_of plan) came)
+          (accepted_planned plan [] came (All-nil (IsPieceOf plan)) honest) (h.each file (pieces_of plan file) l more) in
+          let at = and_parts (nat_eq found.0.file file) (nat_eq found.0.number (pieces_of plan file)) found.2 in
+          let below = subst (λ (f : ℕ). found.0.number < pieces_of plan f) (eqb-true found.0.file file at.0) found.1.number in
+          let same = eqb-true found.0.number (pieces_of plan file) at.1 in
+          absurd (omega arith)
+      | inr less ↦ less
+    ] in
     record { within = within; each = λ file l. takes_in_order plan file (slice_index counts file) some (within file l) }
 
 pub in_part : (plan : Planned) (leads : List Piece → Type 0) (kept : Kept) (replies : List Reply) (counts : List ℕ) → 0 < plan.per_piece → SoFar plan leads kept replies → site_of_kept kept ≡ site_of plan → AreAtMost counts (delivered_counts kept) → RelayedInPart plan leads counts
@@ -167,10 +167,10 @@ in_part_with plan leads goes_on s t u kept replies counts p some so led honest e
 pub part_at_start : (plan : Planned) (leads : List Piece → Type 0) (counts : List ℕ) → 0 < plan.per_piece → leads [] → counts ≡ replicate (files_of plan) 0 → RelayedInPart plan leads counts
 part_at_start plan leads counts some led e =
     let delivered : AtMostDelivered (site_of plan) [] counts =
-        record {
-          files = ap length e ∙ length-replicate (files_of plan) 0;
-          each = λ file j within l.
-            let none : slice_index counts file ≡ 0 = ap (λ (ns : List ℕ). slice_index ns file) e ∙ get_or-replicate (files_of plan) file 0 0 within in
-            absurd (omega arith);
-        } in
+    record {
+      files = ap length e ∙ length-replicate (files_of plan) 0;
+      each = λ file j within l.
+          let none : slice_index counts file ≡ 0 = ap (λ (ns : List ℕ). slice_index ns file) e ∙ get_or-replicate (files_of plan) file 0 0 within in
+          absurd (omega arith);
+    } in
     record { came = []; led = led; honest = All-nil (IsHonest plan); delivered = delivered; taken = taken_from plan [] counts some (All-nil (IsHonest plan)) delivered }

@@ -21,12 +21,12 @@ echoed_more files items text list e all =
       lists = length_push items list ∙ ap (λ n. n + 1) lists ∙ sym (length_push files text);
       each = λ i f d l. elim (cases_eq i (length files)) [
         | inl s ↦
-          subst (λ (t : Vec ℕ Global). All (IsItemOf [] t.items) (get_or (items ++ list ∷ []) i d).items) (sym (get_or_push files text f i (sym s)))
-          (subst (λ (t : Vec Item Global). All (IsItemOf [] text.items) t.items) (sym (get_or_push items list d i (lists ∙ sym s))) all)
+            subst (λ (t : Vec ℕ Global). All (IsItemOf [] t.items) (get_or (items ++ list ∷ []) i d).items) (sym (get_or_push files text f i (sym s)))
+            (subst (λ (t : Vec Item Global). All (IsItemOf [] text.items) t.items) (sym (get_or_push items list d i (lists ∙ sym s))) all)
         | inr d_ ↦
-          let before : i < length files = (let size = length_push files text in omega arith) in
-          subst (λ (t : Vec ℕ Global). All (IsItemOf [] t.items) (get_or (items ++ list ∷ []) i d).items) (sym (get_or_append_left files (text ∷ []) f i before))
-          (subst (λ (t : Vec Item Global). All (IsItemOf [] (get_or files i f).items) t.items) (sym (get_or_append_left items (list ∷ []) d i (omega arith))) (e.each i f d before))
+            let before : i < length files = (let size = length_push files text in omega arith) in
+            subst (λ (t : Vec ℕ Global). All (IsItemOf [] t.items) (get_or (items ++ list ∷ []) i d).items) (sym (get_or_append_left files (text ∷ []) f i before))
+            (subst (λ (t : Vec Item Global). All (IsItemOf [] (get_or files i f).items) t.items) (sym (get_or_append_left items (list ∷ []) d i (omega arith))) (e.each i f d before))
       ];
     }
 
@@ -42,10 +42,10 @@ with_elements run per_piece kinds files items none e some few least most text li
       few_items = most;
       lists = lists ∙ same ∙ sym count;
       items = λ file l.
-        let here : file < length files = omega arith in
-        subst (λ (names : List (Vec ℕ Global)). All (IsItemOf (map (λ (v : Vec ℕ Global). v.items) names) (get_or (map (λ (v : Vec ℕ Global). v.items) files) file [])) (get_or (map (λ (v : Vec Item Global). v.items) items) file [])) (sym none)
-        (subst (λ (bytes : List ℕ). All (IsItemOf [] bytes) (get_or (map (λ (v : Vec Item Global). v.items) items) file [])) (sym (get_or-map (λ (v : Vec ℕ Global). v.items) files file text [] here))
-        (subst (λ (parts : List Item). All (IsItemOf [] (get_or files file text).items) parts) (sym (get_or-map (λ (v : Vec Item Global). v.items) items file list [] (omega arith))) (e.each file text list here)));
+          let here : file < length files = omega arith in
+          subst (λ (names : List (Vec ℕ Global)). All (IsItemOf (map (λ (v : Vec ℕ Global). v.items) names) (get_or (map (λ (v : Vec ℕ Global). v.items) files) file [])) (get_or (map (λ (v : Vec Item Global). v.items) items) file [])) (sym none)
+          (subst (λ (bytes : List ℕ). All (IsItemOf [] bytes) (get_or (map (λ (v : Vec Item Global). v.items) items) file [])) (sym (get_or-map (λ (v : Vec ℕ Global). v.items) files file text [] here))
+          (subst (λ (parts : List Item). All (IsItemOf [] (get_or files file text).items) parts) (sym (get_or-map (λ (v : Vec Item Global). v.items) items file list [] (omega arith))) (e.each file text list here)));
     }
 
 -- so they make a plan

@@ -1,12 +1,10 @@
-use Rattle.std.proofs.Common.{ℕ, ◌≡◌, ◌+◌, ◌<◌, ◌≤◌, Bool, true, false, ◌&&◌, ◌||◌, nat_lt, nat_eq, is_some, List, [], ◌∷◌, ◌++◌, Option, Some, None, refl, sym, ◌∙◌, ap, subst, arith}
-use Rattle.std.specs.Prelude.{if◌then◌else◌}
+use Rattle.std.proofs.Common.{ℕ, ◌≡◌, ◌<◌, ◌≤◌, true, false, ◌&&◌, ◌||◌, nat_lt, nat_eq, is_some, List, Option, Some, None, refl, sym, ◌∙◌, ap, subst, arith}
 use Rattle.std.specs.List.{list_any}
-use Rattle.std.proofs.lemmas.Bool.{both_ways, or_left, or_right, or_cases, or_from, and_parts, and_from, eqb-true, eq-eqb, ltb-true, lt-ltb, le-ltb, false_from_ne_true, ltb-false, or_parts}
+use Rattle.std.proofs.lemmas.Bool.{both_ways, or_right, and_parts, and_from, eqb-true, eq-eqb, ltb-true, lt-ltb, le-ltb, false_from_ne_true, ltb-false, or_parts}
 use Rattle.lx_piece.specs.declared.piece.Piece.{Piece}
-use Rattle.lx_piece.specs.declared.reply.Why.{Why}
-use Rattle.lx_piece.specs.declared.reply.Why.TheVariants.{WrongRun, UnknownFile, Double, AfterLast, Contradicts, Memory}
+use Rattle.lx_piece.specs.declared.reply.Why.TheVariants.{AfterLast, Contradicts}
 use Rattle.lx_piece.specs.Pieces.{is_closing, top_number}
-use Rattle.lx_piece.specs.Arrivals.{has_piece, has_closing, closes_before, is_later, is_numbered, cause_among}
+use Rattle.lx_piece.specs.Arrivals.{closes_before, is_later, is_numbered, cause_among}
 use Rattle.lx_piece.specs.Kept.{Lane, LaneStandsFor, held_at, has_number, is_number, closed_before}
 use Rattle.lx_piece.proofs.AnyOf.{same_tests, any_witness}
 
@@ -23,19 +21,19 @@ pub closed_alike : (lane : Lane) (accepted : List Piece) (p : Piece) → LaneSta
 closed_alike lane accepted p s =
     same_tests (list_any (closes_before p) accepted) (closed_before lane.closing p.number)
     (λ h.
-        let w = any_witness (closes_before p) accepted h in
-        let q = w.0 in
-        let a = and_parts (is_closing q) (nat_eq q.file p.file && nat_lt q.number p.number) w.1 in
-        let b = and_parts (nat_eq q.file p.file) (nat_lt q.number p.number) a.1 in
-        let there = w.2 (λ r. (is_closing r) && is_numbered p.file q.number r) (and_from (is_closing q) (is_numbered p.file q.number q) a.0 (and_from (nat_eq q.file p.file) (nat_eq q.number q.number) b.0 (eq-eqb q.number q.number refl))) in
-        number_closes lane.closing q.number p.number (sym (s.closing q.number) ∙ there) b.1)
+    let w = any_witness (closes_before p) accepted h in
+    let q = w.0 in
+    let a = and_parts (is_closing q) (nat_eq q.file p.file && nat_lt q.number p.number) w.1 in
+    let b = and_parts (nat_eq q.file p.file) (nat_lt q.number p.number) a.1 in
+    let there = w.2 (λ r. (is_closing r) && is_numbered p.file q.number r) (and_from (is_closing q) (is_numbered p.file q.number q) a.0 (and_from (nat_eq q.file p.file) (nat_eq q.number q.number) b.0 (eq-eqb q.number q.number refl))) in
+    number_closes lane.closing q.number p.number (sym (s.closing q.number) ∙ there) b.1)
     (λ h.
-        let k = closing_number lane.closing p.number h in
-        let w = any_witness (λ r. (is_closing r) && is_numbered p.file k.0 r) accepted (s.closing k.0 ∙ k.1) in
-        let q = w.0 in
-        let a = and_parts (is_closing q) (is_numbered p.file k.0 q) w.1 in
-        let b = and_parts (nat_eq q.file p.file) (nat_eq q.number k.0) a.1 in
-        w.2 (closes_before p) (and_from (is_closing q) (nat_eq q.file p.file && nat_lt q.number p.number) a.0 (and_from (nat_eq q.file p.file) (nat_lt q.number p.number) b.0 (ap (λ i. nat_lt i p.number) (eqb-true q.number k.0 b.1) ∙ k.2))))
+    let k = closing_number lane.closing p.number h in
+    let w = any_witness (λ r. (is_closing r) && is_numbered p.file k.0 r) accepted (s.closing k.0 ∙ k.1) in
+    let q = w.0 in
+    let a = and_parts (is_closing q) (is_numbered p.file k.0 q) w.1 in
+    let b = and_parts (nat_eq q.file p.file) (nat_eq q.number k.0) a.1 in
+    w.2 (closes_before p) (and_from (is_closing q) (nat_eq q.file p.file && nat_lt q.number p.number) a.0 (and_from (nat_eq q.file p.file) (nat_lt q.number p.number) b.0 (ap (λ i. nat_lt i p.number) (eqb-true q.number k.0 b.1) ∙ k.2))))
 
 -- a later piece that was accepted is held, where p itself was not delivered
 pub later_is_held : (lane : Lane) (accepted : List Piece) (p : Piece) → LaneStandsFor lane p.file accepted → lane.next ≤ p.number → list_any (is_later p) accepted ≡ true → (m : ℕ) × (p.number < m) × (is_some (held_at lane m) ≡ true)
@@ -74,7 +72,7 @@ not_refused lane accepted p s h e n =
     let d = s.numbers p.number ∙ h in
     let f = ap (λ t. nat_eq p.number top_number || t) (closed_alike lane accepted p s) ∙ e in
     let g : ((is_closing p) && list_any (is_later p) accepted) ≡ false = false_from_ne_true ((is_closing p) && list_any (is_later p) accepted) (λ t.
-        let a = and_parts (is_closing p) (list_any (is_later p) accepted) t in
-        let w = later_is_held lane accepted p s (ltb-false p.number lane.next (or_parts (nat_lt p.number lane.next) (is_some (held_at lane p.number)) h).0) a.1 in
-        both_ways (is_some (held_at lane w.0)) (ap is_some (n a.0 w.0 w.1)) w.2) in
+    let a = and_parts (is_closing p) (list_any (is_later p) accepted) t in
+    let w = later_is_held lane accepted p s (ltb-false p.number lane.next (or_parts (nat_lt p.number lane.next) (is_some (held_at lane p.number)) h).0) a.1 in
+    both_ways (is_some (held_at lane w.0)) (ap is_some (n a.0 w.0 w.1)) w.2) in
     rw (d, f, g) refl

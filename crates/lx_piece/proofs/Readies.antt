@@ -1,11 +1,11 @@
-use Rattle.std.proofs.Common.{ℕ, zero, suc, ◌≡◌, ◌+◌, ◌<◌, ◌≤◌, ◌⊎◌, inl, inr, Bool, true, false, List, [], ◌∷◌, length, Option, Some, None, refl, sym, ◌∙◌, ap, subst, arith, get_or, nat_cmp, is_gt, nat_eq}
+use Rattle.std.proofs.Common.{ℕ, zero, suc, ◌≡◌, ◌<◌, inl, inr, true, false, List, [], ◌∷◌, length, Option, Some, None, refl, sym, ◌∙◌, ap, arith, get_or, nat_cmp, is_gt, nat_eq}
 use Rattle.std.proofs.lemmas.Bool.{cases_eq}
 use Rattle.std.proofs.lemmas.Bool.Decides.{nat_tests}
 use Rattle.std.proofs.Math.ListN.{length-set}
 use Rattle.std.specs.BTreeMap.{is_at}
-use Rattle.std.specs.Prelude.{slice_get, slice_set, unwrap_or, cond}
+use Rattle.std.specs.Prelude.{slice_get, slice_set, unwrap_or}
 use Rattle.std.specs.BTreeSet.{BTreeSet, contains}
-use Rattle.std.proofs.lemmas.Bool.{both_ways, ne_eqb, le-ltb, false_from_ne_true, true≢false}
+use Rattle.std.proofs.lemmas.Bool.{both_ways, ne_eqb, le-ltb, false_from_ne_true}
 use Rattle.std.proofs.lemmas.Option.{unwrap_or-slice_get}
 use Rattle.lx_piece.specs.declared.piece.Piece.{Piece}
 use Rattle.lx_piece.specs.Kept.{Lane, Advances, Delivers, IsReadySet, is_ready, is_ready_at, held_at}

@@ -1,6 +1,6 @@
-use Rattle.std.proofs.Common.{ℕ, zero, suc, ◌≡◌, ◌+◌, ◌<◌, ◌≤◌, ◌⊎◌, inl, inr, Bool, true, false, not, List, [], ◌∷◌, ◌++◌, length, map, Option, Some, None, refl, sym, ◌∙◌, ap, subst, arith, nat_eq, nat_lt, get_or, is_some, replicate}
-use Rattle.std.specs.Prelude.{slice_get, slice_set, slice_index, All, if◌then◌else◌, sum_by}
-use Rattle.std.proofs.lemmas.Bool.{cases_eq, eq-eqb, ne_eqb, both_ways}
+use Rattle.std.proofs.Common.{ℕ, suc, ◌≡◌, ◌+◌, ◌<◌, inl, inr, List, [], ◌∷◌, length, map, Some, None, refl, sym, ◌∙◌, ap, arith}
+use Rattle.std.specs.Prelude.{slice_get, slice_set, slice_index, if◌then◌else◌}
+use Rattle.std.proofs.lemmas.Bool.{cases_eq, eq-eqb, ne_eqb}
 use Rattle.std.proofs.lemmas.Option.{slice_get_within, get_or_from_slice_get}
 use Rattle.std.proofs.lemmas.List.{map-set, get_or-map, get_or-set_same, get_or-set_other}
 use Rattle.std.proofs.lemmas.List.Sums.{sum_by-set}
@@ -8,9 +8,8 @@ use Rattle.std.proofs.Math.ListN.{length-set}
 use Rattle.std.proofs.Math.Seq.{map-set_same}
 use Rattle.lx_piece.specs.declared.piece.Piece.{Piece}
 use Rattle.lx_piece.specs.PieceLaws.{takes_in_order}
-use Rattle.lx_piece.specs.Plans.{Planned, files_of}
-use Rattle.lx_piece.specs.Pieces.{IsPieceOf}
-use Rattle.lx_piece.specs.Kept.{Lane, Kept, Delivers, KeepsIn, Advances, held_at, delivered_counts, held_total}
+use Rattle.lx_piece.specs.Plans.{Planned}
+use Rattle.lx_piece.specs.Kept.{Lane, Delivers, KeepsIn, held_at, held_total}
 use Rattle.lx_piece.specs.Relayed.{HoldsPlanned, IsNextPiece, AreAtMost}
 use Rattle.lx_piece.proofs.Readies.{get_set_same, get_set_other}
 use Rattle.lx_piece.proofs.Standing.{same_some}
@@ -69,21 +68,21 @@ planned_delivered plan old new file p s h =
     record {
       files = ap length h.after ∙ length-set old file h.advanced ∙ s.files;
       each = λ g lane at n q held.
-        elim (cases_eq g file) [
-          | inl e ↦
-            let is : Some h.advanced ≡ Some lane = sym (ap (λ l. slice_get l g) h.after ∙ (ap (slice_get (slice_set old file h.advanced)) e ∙ get_set_same old file h.advanced (slice_get_within old file h.lane h.there))) ∙ at in
-            let advanced : held_at h.advanced n ≡ Some q = ap (λ l. held_at l n) (same_some h.advanced lane is) ∙ held in
-            elim (cases_eq n h.lane.next) [
-              | inl same ↦
-                let gone : None ≡ Some q = sym (h.moves.held n ∙ ap (λ b. if b then None else held_at h.lane n) (eq-eqb n h.lane.next same)) ∙ advanced in
-                absurd (cc)
-              | inr d ↦
-                let was : held_at h.lane n ≡ Some q = sym (h.moves.held n ∙ ap (λ b. if b then None else held_at h.lane n) (ne_eqb n h.lane.next d)) ∙ advanced in
-                let r = s.each file h.lane h.there n q was in
-                (r.0, r.1 ∙ sym e, r.2)
-            ]
-          | inr d ↦ s.each g lane (sym (ap (λ l. slice_get l g) h.after ∙ get_set_other old file g h.advanced d) ∙ at) n q held
-        ];
+          elim (cases_eq g file) [
+            | inl e ↦
+                let is : Some h.advanced ≡ Some lane = sym (ap (λ l. slice_get l g) h.after ∙ (ap (slice_get (slice_set old file h.advanced)) e ∙ get_set_same old file h.advanced (slice_get_within old file h.lane h.there))) ∙ at in
+                let advanced : held_at h.advanced n ≡ Some q = ap (λ l. held_at l n) (same_some h.advanced lane is) ∙ held in
+                elim (cases_eq n h.lane.next) [
+                  | inl same ↦
+                      let gone : None ≡ Some q = sym (h.moves.held n ∙ ap (λ b. if b then None else held_at h.lane n) (eq-eqb n h.lane.next same)) ∙ advanced in
+                      absurd (cc)
+                  | inr d ↦
+                      let was : held_at h.lane n ≡ Some q = sym (h.moves.held n ∙ ap (λ b. if b then None else held_at h.lane n) (ne_eqb n h.lane.next d)) ∙ advanced in
+                      let r = s.each file h.lane h.there n q was in
+                      (r.0, r.1 ∙ sym e, r.2)
+                ]
+            | inr d ↦ s.each g lane (sym (ap (λ l. slice_get l g) h.after ∙ get_set_other old file g h.advanced d) ∙ at) n q held
+          ];
     }
 
 -- fewer pieces are held
@@ -105,16 +104,16 @@ counts_rise old new file p h =
       files = length-nexts old ∙ sym (same_size old new file p h) ∙ sym (length-nexts new);
       each = λ g. elim (cases_eq g file) [
         | inl e ↦
-          let size = length-nexts old in
-          let within = slice_get_within old file h.lane h.there in
-          let set : slice_index (nexts new) g ≡ slice_index (nexts old) g + 1 =
+            let size = length-nexts old in
+            let within = slice_get_within old file h.lane h.there in
+            let set : slice_index (nexts new) g ≡ slice_index (nexts old) g + 1 =
             ap (λ (ns : List ℕ). slice_index ns g) (counts_delivered old new file p h)
             ∙ ap (slice_index (slice_set (nexts old) file (slice_index (nexts old) file + 1))) e
             ∙ get_or-set_same (nexts old) file (slice_index (nexts old) file + 1) 0 (omega arith)
             ∙ ap (λ (n : ℕ). slice_index (nexts old) n + 1) (sym e) in
-          omega arith
+            omega arith
         | inr d ↦
-          let same : slice_index (nexts new) g ≡ slice_index (nexts old) g = ap (λ (ns : List ℕ). slice_index ns g) (counts_delivered old new file p h) ∙ get_or-set_other (nexts old) file g (slice_index (nexts old) file + 1) 0 d in
-          omega arith
+            let same : slice_index (nexts new) g ≡ slice_index (nexts old) g = ap (λ (ns : List ℕ). slice_index ns g) (counts_delivered old new file p h) ∙ get_or-set_other (nexts old) file g (slice_index (nexts old) file + 1) 0 d in
+            omega arith
       ];
     }

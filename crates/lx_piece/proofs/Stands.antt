@@ -1,14 +1,13 @@
-use Rattle.std.proofs.Common.{ℕ, ◌≡◌, ◌≢◌, ◌+◌, ◌<◌, ◌≤◌, ◌⊎◌, Bool, true, false, ◌&&◌, ◌||◌, nat_lt, nat_eq, is_some, List, [], ◌∷◌, ◌++◌, length, Option, Some, None, inl, inr, refl, sym, ◌∙◌, ap, subst, arith}
+use Rattle.std.proofs.Common.{ℕ, ◌≡◌, ◌+◌, true, false, ◌&&◌, ◌||◌, nat_lt, nat_eq, is_some, List, [], ◌∷◌, ◌++◌, Option, Some, None, inl, inr, refl, sym, ◌∙◌, ap, subst, arith}
 use Rattle.std.specs.Prelude.{if◌then◌else◌, Contains}
 use Rattle.std.specs.List.{list_any}
-use Rattle.std.proofs.lemmas.Bool.{both_ways, or_left, or_right, or_cases, or_from, and_parts, and_from, and_left, and_right, eqb-true, eq-eqb, ne_eqb, ltb-true, lt-ltb, le-ltb, cases_eq, cases_order, cases_Bool, or_parts, false_from_ne_true}
+use Rattle.std.proofs.lemmas.Bool.{both_ways, or_left, or_right, or_from, and_parts, and_from, and_left, and_right, eqb-true, eq-eqb, ne_eqb, ltb-true, lt-ltb, cases_eq, cases_order, cases_Bool, or_parts, false_from_ne_true}
 use Rattle.std.proofs.lemmas.List.Elements.{Contains-append_left, Contains-append_right}
 use Rattle.lx_piece.specs.declared.piece.Piece.{Piece}
-use Rattle.lx_piece.specs.declared.reply.Why.{Why}
-use Rattle.lx_piece.specs.declared.reply.Why.TheVariants.{WrongRun, UnknownFile, Double, AfterLast, Contradicts, Memory}
+use Rattle.lx_piece.specs.declared.reply.Why.TheVariants.{Double, AfterLast, Contradicts}
 use Rattle.lx_piece.specs.Pieces.{is_closing, top_number}
 use Rattle.lx_piece.specs.Arrivals.{has_piece, has_closing, closes_before, is_later, is_numbered, cause_among}
-use Rattle.lx_piece.specs.Kept.{Lane, LaneStandsFor, KeepsPiece, Advances, is_ready, held_at, has_number, is_number, closing_with}
+use Rattle.lx_piece.specs.Kept.{Lane, LaneStandsFor, KeepsPiece, Advances, is_ready, held_at, is_number}
 use Rattle.lx_piece.proofs.AnyOf.{same_tests, any_witness, any_last, choice_none, or_none}
 
 -- what no cause against p says
@@ -38,9 +37,9 @@ no_other_closing accepted p n none last other = false_from_ne_true (has_closing 
       | inl e ↦ other (sym e ∙ same)
       | inr o ↦ elim o [
         | inl lt ↦ both_ways (list_any (closes_before p) accepted) none.before_closing
-          (w.2 (closes_before p) (and_from (is_closing q) (nat_eq q.file p.file && nat_lt q.number p.number) a.0 (and_from (nat_eq q.file p.file) (nat_lt q.number p.number) b.0 (lt-ltb q.number p.number lt))))
+            (w.2 (closes_before p) (and_from (is_closing q) (nat_eq q.file p.file && nat_lt q.number p.number) a.0 (and_from (nat_eq q.file p.file) (nat_lt q.number p.number) b.0 (lt-ltb q.number p.number lt))))
         | inr gt ↦ both_ways ((is_closing p) && list_any (is_later p) accepted) none.consistent
-          (and_from (is_closing p) (list_any (is_later p) accepted) last (w.2 (is_later p) (and_from (nat_eq q.file p.file) (nat_lt p.number q.number) b.0 (lt-ltb p.number q.number gt))))
+            (and_from (is_closing p) (list_any (is_later p) accepted) last (w.2 (is_later p) (and_from (nat_eq q.file p.file) (nat_lt p.number q.number) b.0 (lt-ltb p.number q.number gt))))
       ]
     ])
 
@@ -51,45 +50,45 @@ kept_stands old new accepted p s k none =
     record {
       numbers = λ n. elim (cases_eq n p.number) [
         | inl e ↦
-          any_last (is_numbered p.file n) accepted p
-          ∙ or_right (has_piece p.file n accepted) (is_numbered p.file n p) (and_from (nat_eq p.file p.file) (nat_eq p.number n) (eq-eqb p.file p.file refl) (eq-eqb p.number n (sym e)))
-          ∙ sym (or_right (nat_lt n new.next) (is_some (held_at new n)) (ap is_some (k.held n ∙ ap (λ b. if b then Some p else held_at old n) (eq-eqb n p.number e))))
+            any_last (is_numbered p.file n) accepted p
+            ∙ or_right (has_piece p.file n accepted) (is_numbered p.file n p) (and_from (nat_eq p.file p.file) (nat_eq p.number n) (eq-eqb p.file p.file refl) (eq-eqb p.number n (sym e)))
+            ∙ sym (or_right (nat_lt n new.next) (is_some (held_at new n)) (ap is_some (k.held n ∙ ap (λ b. if b then Some p else held_at old n) (eq-eqb n p.number e))))
         | inr d ↦
-          any_last (is_numbered p.file n) accepted p
-          ∙ or_none (has_piece p.file n accepted) (is_numbered p.file n p) (and_right (nat_eq p.file p.file) (nat_eq p.number n) (ne_eqb p.number n (λ e. d (sym e))))
-          ∙ s.numbers n
-          ∙ sym (ap (λ (m : ℕ). nat_lt n m || is_some (held_at new n)) k.next ∙ ap (λ (o : Option Piece). nat_lt n old.next || is_some o) (k.held n ∙ ap (λ b. if b then Some p else held_at old n) (ne_eqb n p.number d)))
+            any_last (is_numbered p.file n) accepted p
+            ∙ or_none (has_piece p.file n accepted) (is_numbered p.file n p) (and_right (nat_eq p.file p.file) (nat_eq p.number n) (ne_eqb p.number n (λ e. d (sym e))))
+            ∙ s.numbers n
+            ∙ sym (ap (λ (m : ℕ). nat_lt n m || is_some (held_at new n)) k.next ∙ ap (λ (o : Option Piece). nat_lt n old.next || is_some o) (k.held n ∙ ap (λ b. if b then Some p else held_at old n) (ne_eqb n p.number d)))
       ];
       held = λ n q h. elim (cases_eq n p.number) [
         | inl e ↦
-          let is : Some p ≡ Some q = sym (k.held n ∙ ap (λ b. if b then Some p else held_at old n) (eq-eqb n p.number e)) ∙ h in
-          let same : p ≡ q = cc in
-          (ap (λ (r : Piece). r.file) (sym same), ap (λ (r : Piece). r.number) (sym same) ∙ sym e, Contains-append_right accepted (p ∷ []) q (subst (λ r. Contains (p ∷ []) r) same (0, omega arith, refl)))
+            let is : Some p ≡ Some q = sym (k.held n ∙ ap (λ b. if b then Some p else held_at old n) (eq-eqb n p.number e)) ∙ h in
+            let same : p ≡ q = cc in
+            (ap (λ (r : Piece). r.file) (sym same), ap (λ (r : Piece). r.number) (sym same) ∙ sym e, Contains-append_right accepted (p ∷ []) q (subst (λ r. Contains (p ∷ []) r) same (0, omega arith, refl)))
         | inr d ↦
-          let was = s.held n q (sym (k.held n ∙ ap (λ b. if b then Some p else held_at old n) (ne_eqb n p.number d)) ∙ h) in
-          (was.0, was.1, Contains-append_left accepted (p ∷ []) q was.2)
+            let was = s.held n q (sym (k.held n ∙ ap (λ b. if b then Some p else held_at old n) (ne_eqb n p.number d)) ∙ h) in
+            (was.0, was.1, Contains-append_left accepted (p ∷ []) q was.2)
       ];
       closing = λ n.
-        let more = any_last (λ r. (is_closing r) && is_numbered p.file n r) accepted p in
-        elim (cases_Bool (is_closing p)) [
-          | inl last ↦
-            let now : new.closing ≡ Some p.number = k.closing ∙ ap (λ b. if b then Some p.number else old.closing) last in
-            elim (cases_eq p.number n) [
-              | inl e ↦
+          let more = any_last (λ r. (is_closing r) && is_numbered p.file n r) accepted p in
+          elim (cases_Bool (is_closing p)) [
+            | inl last ↦
+                let now : new.closing ≡ Some p.number = k.closing ∙ ap (λ b. if b then Some p.number else old.closing) last in
+                elim (cases_eq p.number n) [
+                  | inl e ↦
+                      more
+                      ∙ or_right (has_closing p.file n accepted) ((is_closing p) && is_numbered p.file n p) (and_from (is_closing p) (is_numbered p.file n p) last (and_from (nat_eq p.file p.file) (nat_eq p.number n) (eq-eqb p.file p.file refl) (eq-eqb p.number n e)))
+                      ∙ sym (ap (λ o. is_number o n) now ∙ eq-eqb p.number n e)
+                  | inr d ↦
+                      more
+                      ∙ or_from (has_closing p.file n accepted) ((is_closing p) && is_numbered p.file n p) (no_other_closing accepted p n clear last d) (and_right (is_closing p) (is_numbered p.file n p) (and_right (nat_eq p.file p.file) (nat_eq p.number n) (ne_eqb p.number n d)))
+                      ∙ sym (ap (λ o. is_number o n) now ∙ ne_eqb p.number n d)
+                ]
+            | inr open_ ↦
                 more
-                ∙ or_right (has_closing p.file n accepted) ((is_closing p) && is_numbered p.file n p) (and_from (is_closing p) (is_numbered p.file n p) last (and_from (nat_eq p.file p.file) (nat_eq p.number n) (eq-eqb p.file p.file refl) (eq-eqb p.number n e)))
-                ∙ sym (ap (λ o. is_number o n) now ∙ eq-eqb p.number n e)
-              | inr d ↦
-                more
-                ∙ or_from (has_closing p.file n accepted) ((is_closing p) && is_numbered p.file n p) (no_other_closing accepted p n clear last d) (and_right (is_closing p) (is_numbered p.file n p) (and_right (nat_eq p.file p.file) (nat_eq p.number n) (ne_eqb p.number n d)))
-                ∙ sym (ap (λ o. is_number o n) now ∙ ne_eqb p.number n d)
-            ]
-          | inr open_ ↦
-            more
-            ∙ or_none (has_closing p.file n accepted) ((is_closing p) && is_numbered p.file n p) (and_left (is_closing p) (is_numbered p.file n p) open_)
-            ∙ s.closing n
-            ∙ sym (ap (λ o. is_number o n) (k.closing ∙ ap (λ b. if b then Some p.number else old.closing) open_))
-        ];
+                ∙ or_none (has_closing p.file n accepted) ((is_closing p) && is_numbered p.file n p) (and_left (is_closing p) (is_numbered p.file n p) open_)
+                ∙ s.closing n
+                ∙ sym (ap (λ o. is_number o n) (k.closing ∙ ap (λ b. if b then Some p.number else old.closing) open_))
+          ];
     }
 
 -- a piece of another file changes nothing for a lane
@@ -111,17 +110,17 @@ advanced_stands old new file accepted s m ready =
     record {
       numbers = λ n. s.numbers n ∙ elim (cases_eq n old.next) [
         | inl e ↦
-          or_right (nat_lt n old.next) (is_some (held_at old n)) (ap (λ i. is_some (held_at old i)) e ∙ ready)
-          ∙ sym (or_left (nat_lt n new.next) (is_some (held_at new n)) (lt-ltb n new.next (let f = m.next in omega arith)))
+            or_right (nat_lt n old.next) (is_some (held_at old n)) (ap (λ i. is_some (held_at old i)) e ∙ ready)
+            ∙ sym (or_left (nat_lt n new.next) (is_some (held_at new n)) (lt-ltb n new.next (let f = m.next in omega arith)))
         | inr d ↦
-          sym (ap (λ (i : ℕ). nat_lt n i || is_some (held_at new n)) m.next
+            sym (ap (λ (i : ℕ). nat_lt n i || is_some (held_at new n)) m.next
             ∙ ap (λ b. b || is_some (held_at new n)) (one_more n old.next d)
             ∙ ap (λ (o : Option Piece). nat_lt n old.next || is_some o) (m.held n ∙ ap (λ b. if b then None else held_at old n) (ne_eqb n old.next d)))
       ];
       held = λ n q h. elim (cases_eq n old.next) [
         | inl e ↦
-          let gone : None ≡ Some q = sym (m.held n ∙ ap (λ b. if b then None else held_at old n) (eq-eqb n old.next e)) ∙ h in
-          absurd (cc)
+            let gone : None ≡ Some q = sym (m.held n ∙ ap (λ b. if b then None else held_at old n) (eq-eqb n old.next e)) ∙ h in
+            absurd (cc)
         | inr d ↦ s.held n q (sym (m.held n ∙ ap (λ b. if b then None else held_at old n) (ne_eqb n old.next d)) ∙ h)
       ];
       closing = λ n. s.closing n ∙ sym (ap (λ o. is_number o n) m.closing);

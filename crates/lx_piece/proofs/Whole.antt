@@ -1,4 +1,4 @@
-use Rattle.std.proofs.Common.{ℕ, ◌≡◌, ◌<◌, List, [], ◌∷◌, ◌++◌, subst, append-nil}
+use Rattle.std.proofs.Common.{ℕ, ◌≡◌, ◌<◌, List, [], ◌++◌, subst, append-nil}
 use Rattle.lx_piece.specs.declared.piece.Piece.{Piece}
 use Rattle.lx_piece.specs.declared.reply.Reply.{Reply}
 use Rattle.lx_piece.specs.Plans.{Planned}

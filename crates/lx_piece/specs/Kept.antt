@@ -1,11 +1,10 @@
-use Rattle.std.specs.Prelude.{ℕ, ◌≡◌, ◌+◌, ◌<◌, ◌≤◌, ◌==◌, Bool, true, false, ◌||◌, nat_lt, is_some, IsSome, List, [], ◌∷◌, ◌++◌, Option, Some, None, Contains, length, slice_get, slice_set, map, sum_by, if◌then◌else◌}
+use Rattle.std.specs.Prelude.{ℕ, ◌≡◌, ◌+◌, ◌<◌, ◌≤◌, ◌==◌, Bool, false, ◌||◌, nat_lt, is_some, List, [], Option, Some, None, Contains, length, slice_get, slice_set, map, sum_by, if◌then◌else◌}
 use Rattle.std.specs.Ordering.{nat_cmp}
-use Rattle.std.specs.BTreeMap.{is_at, insert_entry}
+use Rattle.std.specs.BTreeMap.{is_at}
 use Rattle.std.specs.BTreeSet.{BTreeSet, contains}
-use Rattle.std.specs.Map.{lookup, remove_entry}
+use Rattle.std.specs.Map.{lookup}
 use Rattle.lx_piece.specs.declared.piece.Piece.{Piece}
-use Rattle.lx_piece.specs.Plans.{Planned, files_of}
-use Rattle.lx_piece.specs.Pieces.{is_closing, IsPieceOf}
+use Rattle.lx_piece.specs.Pieces.{is_closing}
 use Rattle.lx_piece.specs.Arrivals.{Site, accepted_of, has_piece, has_closing}
 
 -- what a collector keeps of one file: how many pieces were delivered, the closing number, and the pieces held by their numbers

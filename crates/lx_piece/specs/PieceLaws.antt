@@ -1,10 +1,8 @@
-use Rattle.std.proofs.Common.{ℕ, zero, suc, ◌≡◌, ◌+◌, ◌*◌, ◌<◌, ◌≤◌, ◌⊎◌, inl, inr, ◌↔◌, Bool, true, false, ◌||◌, List, [], ◌∷◌, ◌++◌, length, take, drop, max, refl, sym, ◌∙◌, ap, subst, arith, nat_eq, append-nil, All}
-use Rattle.std.specs.Prelude.{slice_index}
-use Rattle.std.specs.List.{list_any, flat_map}
+use Rattle.std.proofs.Common.{ℕ, zero, suc, ◌≡◌, ◌+◌, ◌*◌, ◌<◌, ◌≤◌, inl, inr, Bool, true, false, ◌||◌, List, [], ◌∷◌, ◌++◌, length, take, drop, max, refl, sym, ◌∙◌, ap, arith, nat_eq, append-nil}
+use Rattle.std.specs.List.{list_any}
 use Rattle.std.specs.Int.{div_ceil}
-use Rattle.std.proofs.lemmas.Bool.{both_ways, eq-eqb, ne_eqb, eqb-true, or_right, or_from, ltb-true, cases_lt}
+use Rattle.std.proofs.lemmas.Bool.{both_ways, eq-eqb, ne_eqb, or_right, or_from, cases_lt}
 use Rattle.std.proofs.lemmas.List.{take-append-drop, take_all}
-use Rattle.std.proofs.lemmas.List.Elements.{All-nil, All-contains}
 use Rattle.std.proofs.lemmas.Grind.{div_ceil_times, flat_map-append}
 use Rattle.std.proofs.lemmas.List.Folds.{list_any-append}
 use Rattle.std.proofs.Math.Bool.{or-false}
@@ -12,8 +10,8 @@ use Rattle.std.proofs.Math.Seq.{take-add}
 use Rattle.std.proofs.Math.Nat.{suc-mul, mul-le-mul_right, zero-mul}
 use Rattle.lx_piece.specs.declared.item.Item.{Item}
 use Rattle.lx_piece.specs.declared.piece.Piece.{Piece}
-use Rattle.lx_piece.specs.Plans.{Planned, IsPlan, files_of, items_of}
-use Rattle.lx_piece.specs.Pieces.{is_closing, IsPieceOf, piece_at, pieces_of, piece_count, pieces_to, contents, part, IsPrefix, TakesInOrder}
+use Rattle.lx_piece.specs.Plans.{Planned, items_of}
+use Rattle.lx_piece.specs.Pieces.{is_closing, piece_at, pieces_of, piece_count, pieces_to, contents, part, IsPrefix, TakesInOrder}
 
 -- a test of a list with one element more
 any_last : {X : Type 0} (test : X → Bool) (xs : List X) (x : X) → list_any test (xs ++ x ∷ []) ≡ (list_any test xs || test x)
@@ -62,10 +60,10 @@ whole_at plan file count some e =
 pub takes_in_order : (plan : Planned) (file count : ℕ) → 0 < plan.per_piece → count ≤ pieces_of plan file → TakesInOrder plan file count
 takes_in_order plan file count some within =
     let all : list_any is_closing (pieces_to plan file count) ≡ true → count ≡ pieces_of plan file = λ closed.
-        elim (cases_lt count (pieces_of plan file)) [
-          | inl below ↦ absurd (both_ways (list_any is_closing (pieces_to plan file count)) (open_below plan file count below) closed)
-          | inr above ↦ omega arith
-        ] in
+    elim (cases_lt count (pieces_of plan file)) [
+      | inl below ↦ absurd (both_ways (list_any is_closing (pieces_to plan file count)) (open_below plan file count below) closed)
+      | inr above ↦ omega arith
+    ] in
     record {
       prefix = prefix_to plan file count;
       closed = (all, closed_at plan file count);

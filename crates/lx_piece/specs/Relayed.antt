@@ -1,6 +1,6 @@
-use Rattle.std.specs.Prelude.{ℕ, ◌≡◌, ◌+◌, ◌<◌, ◌≤◌, true, List, Some, Contains, length, slice_index, slice_get}
+use Rattle.std.specs.Prelude.{ℕ, ◌≡◌, ◌<◌, ◌≤◌, true, List, Some, Contains, length, slice_index, slice_get}
 use Rattle.lx_piece.specs.declared.reply.Reply.{Reply}
-use Rattle.lx_piece.specs.Kept.{Kept, Lane, StandsFor, held_at}
+use Rattle.lx_piece.specs.Kept.{Lane, held_at}
 use Rattle.lx_piece.specs.declared.piece.Piece.{Piece}
 use Rattle.lx_piece.specs.Plans.{Planned, files_of}
 use Rattle.lx_piece.specs.Pieces.{IsPieceOf, TakesInOrder, pieces_of, piece_at}

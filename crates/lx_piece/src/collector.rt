@@ -4,20 +4,15 @@ ghost use Rattle.lx_piece.specs.Arrivals.{cause_against, accepted_of, IsClosedBe
 ghost use Rattle.lx_piece.specs.Pieces.{top_number};
 ghost use Rattle.lx_piece.specs.Kept.{Lane, StandsFor, Delivers, NoneReady, KeepsIn, IsReadySet, fresh_lane, has_number, is_lane_closed, delivered_counts, site_of_kept};
 
+use crate::lane::FileLane;
+use crate::piece::Piece;
+use crate::reply::{Refused, Why};
 use std::alloc::{AllocError, Global};
 use std::collections::BTreeSet;
 use std::marker::Model;
 
-use crate::lane::FileLane;
-use crate::piece::Piece;
-use crate::reply::{Refused, Why};
-
 /// Holds the piece in its file's lane. It comes back where memory is refused.
-fn keep_in(
-    lanes: &mut Vec<FileLane>,
-    ready: &mut BTreeSet<u32>,
-    piece: Piece,
-) -> Result<(), Piece>
+fn keep_in(lanes: &mut Vec<FileLane>, ready: &mut BTreeSet<u32>, piece: Piece) -> Result<(), Piece>
     requires file { piece.file < length lanes.old.items }
     requires countable { piece.number < top_number }
     requires ready_set { IsReadySet lanes.old.items ready.old }

@@ -3,12 +3,11 @@ ghost use Rattle.lx_piece.specs.Plans.{files_of, items_of};
 ghost use Rattle.lx_piece.specs.Pieces.{piece_at, pieces_of, part, IsPieceOf};
 ghost use Rattle.lx_piece.specs.Cutting.{IsCutterOf};
 
-use std::alloc::{AllocError, Global};
-use std::marker::Model;
-
 use crate::item::{Item, Items};
 use crate::piece::Piece;
 use crate::plan::Plan;
+use std::alloc::{AllocError, Global};
+use std::marker::Model;
 
 /// How many pieces a file has.
 fn piece_count(plan: &Plan, file: u32) -> u64
@@ -87,7 +86,7 @@ impl Cutter {
         ensures piece { IfOk result (λ next. MatchOption next
             ((self.old.next ≡ pieces_of plan.now self.old.file) × (self.new ≡ self.old))
             (λ piece. IsPieceOf plan.now piece × (piece ≡ piece_at plan.now self.old.file self.old.next)
-                × (self.new ≡ record self.old { next = self.old.next + 1 }))) }
+            × (self.new ≡ record self.old { next = self.old.next + 1 }))) }
         ensures err { OnErr result (self.new ≡ self.old) }
     {
         if self.number >= piece_count(plan, self.file) {

@@ -8,9 +8,16 @@ use std::marker::Model;
 #[derive(Clone, Copy, Debug, PartialEq, Eq)]
 pub enum Item {
     /// A token that the action of a rule returns.
-    Token { kind: Kind, start: usize, len: usize },
+    Token {
+        kind: Kind,
+        start: usize,
+        len: usize,
+    },
     /// Bytes that are copied to the output.
-    Echo { start: usize, len: usize },
+    Echo {
+        start: usize,
+        len: usize,
+    },
 }
 
 impl Item {

@@ -4,12 +4,11 @@ ghost use Rattle.lx_piece.specs.Arrivals.{cause_among};
 ghost use Rattle.lx_piece.specs.Pieces.{top_number};
 ghost use Rattle.lx_piece.specs.Kept.{LaneStandsFor, held_at, has_number, is_ready, Advances, KeepsPiece, closed_before, is_lane_closed, fresh_lane};
 
+use crate::piece::Piece;
+use crate::reply::Why;
 use std::alloc::Global;
 use std::collections::BTreeMap;
 use std::marker::Model;
-
-use crate::piece::Piece;
-use crate::reply::Why;
 
 /// What a collector keeps of one file.
 #[derive(Drop)]

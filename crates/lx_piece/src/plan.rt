@@ -1,9 +1,8 @@
 ghost use Rattle.std.specs.Prelude.{◌≡◌, ◌<◌, ◌≤◌, length};
 ghost use Rattle.lx_piece.specs.Plans.{IsPlan, planned, files_of, bytes_of, kind_of, items_of};
 
-use std::marker::Model;
-
 use crate::item::Item;
+use std::marker::Model;
 
 /// The files of one run, the items of each, and how the items are cut into pieces.
 #[derive(Drop)]

@@ -3,9 +3,8 @@ ghost use Rattle.lx_piece.specs.Plans.{Planned};
 ghost use Rattle.lx_piece.specs.Pieces.{top_number};
 ghost use Rattle.lx_piece.specs.Relayed.{IsNextPiece};
 
-use thiserror::Error;
-
 use crate::piece::Piece;
+use thiserror::Error;
 
 /// Why a reader didn't take a piece.
 #[derive(Clone, Copy, Debug, PartialEq, Eq, Error)]

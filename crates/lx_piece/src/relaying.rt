@@ -6,16 +6,14 @@ ghost use Rattle.lx_piece.specs.Arrivals.{accepted_of, replies_of, reply_to};
 ghost use Rattle.lx_piece.specs.Kept.{StandsFor, NoneReady, site_of_kept, delivered_counts};
 ghost use Rattle.lx_piece.specs.Relayed.{Relayed, RelayedInPart, HoldsPlanned, AreAtMost};
 
-use std::alloc::{AllocError, AllocFailed, Global};
-
-use thiserror::Error;
-
 use crate::arrivals::Arrivals;
 use crate::collector::Collector;
 use crate::piece::Piece;
 use crate::plan::Plan;
 use crate::reader::{Reader, ReaderFault};
 use crate::reply::{Reply, Why};
+use std::alloc::{AllocError, AllocFailed, Global};
+use thiserror::Error;
 
 /// Why a relay ended before its arrivals did.
 #[derive(Clone, Copy, Debug, PartialEq, Eq, Error)]

@@ -1,6 +1,5 @@
-use thiserror::Error;
-
 use crate::piece::Piece;
+use thiserror::Error;
 
 /// Why a collector refuses a piece. The first cause that holds, in this order, is answered.
 #[derive(Clone, Copy, Debug, PartialEq, Eq, Error)]

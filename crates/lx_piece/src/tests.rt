@@ -38,22 +38,37 @@ fn delivered(collector: &mut Collector) -> Option<(u32, u64)> {
 fn orders_the_pieces_of_a_file(rt: HostRuntime) -> Result<(), Fail> {
     let alloc = rt.alloc();
     let mut collector = Collector::new(alloc, 1, 1)?;
-    assert_eq!(rt; reply_of(&mut collector, piece(alloc, 1, 0, 2, true)), Reply::Accepted);
+    assert_eq!(rt;
+        reply_of(&mut collector, piece(alloc, 1, 0, 2, true)),
+        Reply::Accepted
+    );
     assert_eq!(rt; delivered(&mut collector), None);
-    assert_eq!(rt; reply_of(&mut collector, piece(alloc, 1, 0, 0, false)), Reply::Accepted);
+    assert_eq!(rt;
+        reply_of(&mut collector, piece(alloc, 1, 0, 0, false)),
+        Reply::Accepted
+    );
     assert_eq!(rt; delivered(&mut collector), Some((0, 0)));
     assert_eq!(rt; delivered(&mut collector), None);
     let double = piece(alloc, 1, 0, 0, false);
-    assert_eq!(rt; reply_of(&mut collector, double), Reply::Refused(Why::Double));
+    assert_eq!(rt;
+        reply_of(&mut collector, double),
+        Reply::Refused(Why::Double)
+    );
     assert_eq!(rt; delivered(&mut collector), None);
-    assert_eq!(rt; reply_of(&mut collector, piece(alloc, 1, 0, 1, false)), Reply::Accepted);
+    assert_eq!(rt;
+        reply_of(&mut collector, piece(alloc, 1, 0, 1, false)),
+        Reply::Accepted
+    );
     assert_eq!(rt; delivered(&mut collector), Some((0, 1)));
     assert!(rt; !collector.all_closed());
     assert_eq!(rt; delivered(&mut collector), Some((0, 2)));
     assert_eq!(rt; delivered(&mut collector), None);
     assert!(rt; collector.all_closed());
     let behind = piece(alloc, 1, 0, 3, false);
-    assert_eq!(rt; reply_of(&mut collector, behind), Reply::Refused(Why::AfterLast));
+    assert_eq!(rt;
+        reply_of(&mut collector, behind),
+        Reply::Refused(Why::AfterLast)
+    );
     Ok(())
 }
 
@@ -61,10 +76,19 @@ fn orders_the_pieces_of_a_file(rt: HostRuntime) -> Result<(), Fail> {
 fn refuses_a_closing_piece_before_an_accepted_one(rt: HostRuntime) -> Result<(), Fail> {
     let alloc = rt.alloc();
     let mut collector = Collector::new(alloc, 1, 1)?;
-    assert_eq!(rt; reply_of(&mut collector, piece(alloc, 1, 0, 2, false)), Reply::Accepted);
+    assert_eq!(rt;
+        reply_of(&mut collector, piece(alloc, 1, 0, 2, false)),
+        Reply::Accepted
+    );
     let closing = piece(alloc, 1, 0, 0, true);
-    assert_eq!(rt; reply_of(&mut collector, closing), Reply::Refused(Why::Contradicts));
-    assert_eq!(rt; reply_of(&mut collector, piece(alloc, 1, 0, 0, false)), Reply::Accepted);
+    assert_eq!(rt;
+        reply_of(&mut collector, closing),
+        Reply::Refused(Why::Contradicts)
+    );
+    assert_eq!(rt;
+        reply_of(&mut collector, piece(alloc, 1, 0, 0, false)),
+        Reply::Accepted
+    );
     Ok(())
 }
 
@@ -72,8 +96,14 @@ fn refuses_a_closing_piece_before_an_accepted_one(rt: HostRuntime) -> Result<(),
 fn delivers_the_lowest_file_first(rt: HostRuntime) -> Result<(), Fail> {
     let alloc = rt.alloc();
     let mut collector = Collector::new(alloc, 1, 2)?;
-    assert_eq!(rt; reply_of(&mut collector, piece(alloc, 1, 1, 0, true)), Reply::Accepted);
-    assert_eq!(rt; reply_of(&mut collector, piece(alloc, 1, 0, 0, true)), Reply::Accepted);
+    assert_eq!(rt;
+        reply_of(&mut collector, piece(alloc, 1, 1, 0, true)),
+        Reply::Accepted
+    );
+    assert_eq!(rt;
+        reply_of(&mut collector, piece(alloc, 1, 0, 0, true)),
+        Reply::Accepted
+    );
     assert_eq!(rt; delivered(&mut collector), Some((0, 0)));
     assert_eq!(rt; delivered(&mut collector), Some((1, 0)));
     assert_eq!(rt; delivered(&mut collector), None);
@@ -85,9 +115,15 @@ fn refuses_the_greatest_number(rt: HostRuntime) -> Result<(), Fail> {
     let alloc = rt.alloc();
     let mut collector = Collector::new(alloc, 1, 1)?;
     let greatest = piece(alloc, 1, 0, 18_446_744_073_709_551_615, false);
-    assert_eq!(rt; reply_of(&mut collector, greatest), Reply::Refused(Why::AfterLast));
+    assert_eq!(rt;
+        reply_of(&mut collector, greatest),
+        Reply::Refused(Why::AfterLast)
+    );
     let stranger = piece(alloc, 2, 0, 18_446_744_073_709_551_615, false);
-    assert_eq!(rt; reply_of(&mut collector, stranger), Reply::Refused(Why::WrongRun));
+    assert_eq!(rt;
+        reply_of(&mut collector, stranger),
+        Reply::Refused(Why::WrongRun)
+    );
     Ok(())
 }
 
@@ -122,7 +158,10 @@ fn plain_reply(before: &[Accepted], run: u64, p: Accepted) -> Reply {
         Reply::Refused(Why::UnknownFile)
     } else if before.iter().any(|q| of_file(q) && q.number == p.number) {
         Reply::Refused(Why::Double)
-    } else if before.iter().any(|q| of_file(q) && q.last && q.number < p.number) {
+    } else if before
+        .iter()
+        .any(|q| of_file(q) && q.last && q.number < p.number)
+    {
         Reply::Refused(Why::AfterLast)
     } else if p.last && before.iter().any(|q| of_file(q) && q.number > p.number) {
         Reply::Refused(Why::Contradicts)
@@ -169,7 +208,11 @@ fn compares_with_the_plain_program<R: Abort>(
             accepted.push(next)?;
         }
         let offered = piece(alloc, run, next.file, next.number, next.last);
-        assert_eq!(rt; reply_of(&mut collector, offered), reply, "at {turn} of {list}");
+        assert_eq!(rt;
+            reply_of(&mut collector, offered),
+            reply,
+            "at {turn} of {list}"
+        );
         if delivers_at_once || turn == 5 {
             for _ in 0..4 {
                 let delivery = plain_delivery(&accepted, counts);
@@ -303,7 +346,12 @@ fn cuts_files_into_full_pieces_and_a_rest(rt: HostRuntime) -> Result<(), Fail> {
     let pieces = all_pieces(alloc, &plan)?;
     let mut found = Vec::new(alloc);
     for piece in &pieces {
-        found.push((piece.file, piece.number, piece.items.as_slice().len(), piece.last))?;
+        found.push((
+            piece.file,
+            piece.number,
+            piece.items.as_slice().len(),
+            piece.last,
+        ))?;
     }
     let wanted = [
         (2, 0, 256, false),

@@ -1,4 +1,4 @@
-use Rattle.std.proofs.Common.{ℕ, zero, suc, ◌≡◌, ◌<◌, ◌≤◌, ◌⊎◌, inl, inr, Bool, true, false, List, [], ◌∷◌, ◌++◌, Option, refl, sym, ◌∙◌, ap, subst, arith, replicate}
+use Rattle.std.proofs.Common.{ℕ, zero, suc, ◌≡◌, ◌<◌, ◌⊎◌, inl, inr, true, false, List, [], ◌∷◌, ◌++◌, Option, refl, sym, ◌∙◌, ap, subst, arith, replicate}
 use Rattle.std.specs.Prelude.{slice_index, Contains}
 use Rattle.std.specs.Io.KnownBytes.{Appends}
 use Rattle.std.proofs.lemmas.Bool.{cases_eq, both_ways}
@@ -33,7 +33,7 @@ all_came : (plan : Planned) (old new : CutSoFar) (came : List Piece) → old ≡
 all_came plan old new came start led ended file within = λ number l.
     let same : new.plan ≡ plan = led.0 ∙ ap (λ (s : CutSoFar). s.plan) start in
     let came_is : came ≡ pieces_below plan (files_of plan) =
-        sym (led.1 ∙ ap (λ (s : CutSoFar). s.cut ++ came) start) ∙ (ended ∙ ap (λ (p : Planned). pieces_below p (files_of p)) same) in
+    sym (led.1 ∙ ap (λ (s : CutSoFar). s.cut ++ came) start) ∙ (ended ∙ ap (λ (p : Planned). pieces_below p (files_of p)) same) in
     subst (λ pieces. Contains pieces (piece_at plan file number)) (sym came_is) (piece_below plan (files_of plan) file number within l)
 
 -- a new printer that took all pieces of all files printed the listing

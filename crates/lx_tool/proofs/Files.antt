@@ -1,17 +1,17 @@
-use Rattle.std.proofs.Common.{ℕ, zero, suc, ◌≡◌, ◌+◌, ◌<◌, ◌≤◌, ◌⊎◌, inl, inr, Bool, true, false, List, [], ◌∷◌, ◌++◌, Option, Some, None, refl, sym, ◌∙◌, ap, subst, arith, length, append_assoc, append-nil, add-one}
-use Rattle.std.specs.Prelude.{slice_set, slice_index_or}
+use Rattle.std.proofs.Common.{ℕ, ◌≡◌, ◌+◌, ◌<◌, ◌≤◌, inl, inr, true, false, List, [], ◌++◌, Option, refl, sym, ◌∙◌, ap, subst, arith, length, append_assoc, append-nil, add-one}
+use Rattle.std.specs.Prelude.{slice_set}
 use Rattle.std.specs.List.{list_any}
 use Rattle.std.specs.Io.KnownBytes.{Appends}
-use Rattle.std.proofs.lemmas.Bool.{cases_eq, cases_lt}
+use Rattle.std.proofs.lemmas.Bool.{cases_eq}
 use Rattle.std.proofs.lemmas.List.{get_or-set_other, get_or_past}
 use Rattle.std.proofs.Math.ListN.{length-set}
 use Rattle.lx_piece.specs.declared.piece.Piece.{Piece}
 use Rattle.lx_piece.specs.Plans.{Planned, IsPlan, files_of, items_of}
-use Rattle.lx_piece.specs.Pieces.{IsPrefix, contents, is_closing, pieces_of, pieces_to}
-use Rattle.lx_piece.specs.PieceLaws.{prefix_to, takes_in_order, whole_at}
+use Rattle.lx_piece.specs.Pieces.{IsPrefix, contents, is_closing}
+use Rattle.lx_piece.specs.PieceLaws.{prefix_to, takes_in_order}
 use Rattle.lx_tool.specs.Lines.{lines_of}
 use Rattle.lx_tool.specs.Listings.{AppendsPrefix, listing_to, listing_of}
-use Rattle.lx_tool.specs.ListingLaws.{appends_both, appends_nothing, prefix_then, prefix_behind, listing_rises, lines_begin}
+use Rattle.lx_tool.specs.ListingLaws.{appends_both, appends_nothing, prefix_then, prefix_behind, lines_begin}
 use Rattle.lx_tool.specs.Waiting.{waiting_of, AreFirstPieces, Waits, WritesOn, WritesInPart}
 
 -- the lines of a file of which all pieces are there, behind those before it, are those of the files below the next
@@ -84,9 +84,9 @@ files_open plan from old file mid left a b c w l unclosed wrote =
       bytes = w.bytes ++ lines_of plan file (contents (waiting_of mid file));
       wrote = appends_both a b c w.bytes (lines_of plan file (contents (waiting_of mid file))) w.wrote wrote;
       lines =
-        sym (append_assoc (listing_to plan from) w.bytes (lines_of plan file (contents (waiting_of mid file))))
-        ∙ ap (λ bs. bs ++ lines_of plan file (contents (waiting_of mid file))) w.lines
-        ∙ ap (λ ps. listing_to plan file ++ lines_of plan file (contents ps)) same;
+          sym (append_assoc (listing_to plan from) w.bytes (lines_of plan file (contents (waiting_of mid file))))
+          ∙ ap (λ bs. bs ++ lines_of plan file (contents (waiting_of mid file))) w.lines
+          ∙ ap (λ ps. listing_to plan file ++ lines_of plan file (contents ps)) same;
     }
 
 -- all files are written
@@ -115,7 +115,7 @@ files_fault plan from old file mid a b c waits w l fault =
       bytes = w.bytes ++ fault.0;
       wrote = appends_both a b c w.bytes fault.0 w.wrote fault.2;
       prefix = subst (λ (bs : List ℕ). IsPrefix bs (listing_of plan)) (ap (λ bs. bs ++ fault.0) (sym w.lines) ∙ append_assoc (listing_to plan from) w.bytes fault.0)
-        (prefix_then (listing_to plan file ++ fault.0) (listing_to plan file ++ lines_of plan file (contents (waiting_of mid file))) (listing_of plan)
-            (prefix_behind (listing_to plan file) fault.0 (lines_of plan file (contents (waiting_of mid file))) fault.1)
-            (lines_begin plan file (contents (waiting_of mid file)) l begins));
+          (prefix_then (listing_to plan file ++ fault.0) (listing_to plan file ++ lines_of plan file (contents (waiting_of mid file))) (listing_of plan)
+          (prefix_behind (listing_to plan file) fault.0 (lines_of plan file (contents (waiting_of mid file))) fault.1)
+          (lines_begin plan file (contents (waiting_of mid file)) l begins));
     }

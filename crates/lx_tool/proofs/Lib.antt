@@ -14,4 +14,5 @@ pub mod RuleSteps
 pub mod Runs
 pub mod SetLemmas
 pub mod Steps
+pub mod TestPieces
 pub mod Weights

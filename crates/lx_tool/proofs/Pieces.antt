@@ -1,6 +1,6 @@
-use Rattle.std.proofs.Common.{ℕ, ◌≡◌, ◌+◌, ◌<◌, ◌≤◌, ◌||◌, Bool, List, [], ◌∷◌, ◌++◌, Option, Some, None, refl, sym, ◌∙◌, ap, subst, arith, length, get_or, append_assoc, append-nil, length-append}
+use Rattle.std.proofs.Common.{ℕ, ◌≡◌, ◌+◌, ◌<◌, ◌||◌, Bool, List, [], ◌∷◌, ◌++◌, Option, sym, ◌∙◌, ap, subst, arith, length, append_assoc, append-nil, length-append}
 use Rattle.std.specs.Prelude.{All}
-use Rattle.std.specs.List.{list_any, flat_map}
+use Rattle.std.specs.List.{list_any}
 use Rattle.std.specs.Io.KnownBytes.{Appends}
 use Rattle.std.proofs.lemmas.Grind.{flat_map-append}
 use Rattle.std.proofs.lemmas.List.{get_or_append_left, get_or-append-add}
@@ -9,12 +9,12 @@ use Rattle.std.proofs.Math.Bool.{or-false}
 use Rattle.lx_piece.specs.declared.item.Item.{Item}
 use Rattle.lx_piece.specs.declared.piece.Piece.{Piece}
 use Rattle.lx_piece.specs.Items.{IsItemOf}
-use Rattle.lx_piece.specs.Plans.{Planned, IsPlan, files_of, bytes_of, items_of}
+use Rattle.lx_piece.specs.Plans.{Planned, IsPlan, files_of, bytes_of}
 use Rattle.lx_piece.specs.Pieces.{is_closing, contents, pieces_to}
 use Rattle.lx_piece.specs.PieceLaws.{prefix_to}
 use Rattle.lx_tool.specs.Lines.{line_of, lines_of}
 use Rattle.lx_tool.specs.Listings.{AppendsPrefix}
-use Rattle.lx_tool.specs.ListingLaws.{appends_both, appends_nothing}
+use Rattle.lx_tool.specs.ListingLaws.{appends_both}
 use Rattle.lx_tool.proofs.Appending.{appends_prefix, prefix_more}
 
 -- what holds of each element holds of those of a part

@@ -1,4 +1,4 @@
-use Rattle.std.proofs.Common.{ℕ, suc, ◌≡◌, ◌≢◌, ◌+◌, ◌<◌, ◌≤◌, ◌⊎◌, inl, inr, Bool, true, false, List, [], ◌∷◌, ◌++◌, Option, refl, sym, ◌∙◌, ap, subst, arith, length, append_assoc, append-nil, add-one, nat_eq}
+use Rattle.std.proofs.Common.{ℕ, ◌≡◌, ◌≢◌, ◌+◌, ◌<◌, ◌≤◌, inl, inr, true, false, List, [], ◌∷◌, ◌++◌, Option, refl, sym, ◌∙◌, ap, subst, arith, length, append_assoc, append-nil, add-one}
 use Rattle.std.specs.Prelude.{slice_set, slice_index, All, IfOk, OnErr, MatchResult, Result, Ok, Err}
 use Rattle.std.specs.List.{list_any}
 use Rattle.std.specs.Io.KnownBytes.{Appends}
@@ -7,14 +7,14 @@ use Rattle.std.proofs.lemmas.List.{get_or-set_other, get_or-set_same, get_or_pas
 use Rattle.std.proofs.Math.ListN.{length-set}
 use Rattle.lx_piece.specs.declared.piece.Piece.{Piece}
 use Rattle.lx_piece.specs.Items.{IsItemOf}
-use Rattle.lx_piece.specs.Plans.{Planned, IsPlan, files_of, bytes_of, items_of}
-use Rattle.lx_piece.specs.Pieces.{IsPrefix, IsPieceOf, contents, is_closing, piece_at, pieces_of, pieces_to}
-use Rattle.lx_piece.specs.PieceLaws.{prefix_to, takes_in_order, closed_at, open_below, whole_at}
+use Rattle.lx_piece.specs.Plans.{Planned, IsPlan, files_of, bytes_of}
+use Rattle.lx_piece.specs.Pieces.{IsPrefix, contents, is_closing, piece_at, pieces_of, pieces_to}
+use Rattle.lx_piece.specs.PieceLaws.{prefix_to, takes_in_order, closed_at, whole_at}
 use Rattle.lx_piece.specs.Relayed.{IsNextPiece}
 use Rattle.lx_tool.specs.Lines.{lines_of}
 use Rattle.lx_tool.specs.Listings.{AppendsPrefix, IsFirstOpen, listing_to, listing_of, taken_lines}
 use Rattle.lx_tool.specs.ListingLaws.{appends_both, appends_nothing, prefix_then, prefix_behind, lines_begin, due_begins}
-use Rattle.lx_tool.specs.Waiting.{waiting_of, AreFirstPieces, Waits, KeepsUp, WritesOn, WritesInPart, Places, counted, due_by}
+use Rattle.lx_tool.specs.Waiting.{waiting_of, Waits, KeepsUp, WritesOn, WritesInPart, Places, counted, due_by}
 use Rattle.lx_tool.proofs.Pieces.{first_items, items_within, lines_one}
 
 -- the pieces taken of a file and its next one
@@ -57,10 +57,10 @@ counted_other counts file other d = get_or-set_other counts file other (slice_in
 pub not_before : (plan : Planned) (counts : List ℕ) (first : ℕ) (p : Piece) → IsFirstOpen plan counts first → IsNextPiece plan counts p → first ≤ p.file
 not_before plan counts first p open_first next = elim (cases_lt p.file first) [
   | inl before ↦
-    let all = open_first.below p.file before in
-    let number = next.number in
-    let less = next.planned.number in
-    absurd (omega arith)
+      let all = open_first.below p.file before in
+      let number = next.number in
+      let less = next.planned.number in
+      absurd (omega arith)
   | inr after ↦ after
 ]
 
@@ -90,10 +90,10 @@ placed_later plan counts first waiting p a k next d =
         ];
         waits = λ g l m. elim (cases_eq g p.file) [
           | inl e ↦
-            subst (λ (n : ℕ). waiting_of (slice_set waiting p.file (waiting_of waiting p.file ++ p ∷ [])) n ≡ pieces_to plan n (slice_index (counted counts p.file) n)) (sym e)
-            (get_or-set_same waiting p.file (waiting_of waiting p.file ++ p ∷ []) [] (omega arith)
-                ∙ ap (λ ps. ps ++ p ∷ []) (k.waits p.file behind there)
-                ∙ sym (ap (λ (count : ℕ). pieces_to plan p.file count) same ∙ next_to plan counts p next))
+              subst (λ (n : ℕ). waiting_of (slice_set waiting p.file (waiting_of waiting p.file ++ p ∷ [])) n ≡ pieces_to plan n (slice_index (counted counts p.file) n)) (sym e)
+              (get_or-set_same waiting p.file (waiting_of waiting p.file ++ p ∷ []) [] (omega arith)
+              ∙ ap (λ ps. ps ++ p ∷ []) (k.waits p.file behind there)
+              ∙ sym (ap (λ (count : ℕ). pieces_to plan p.file count) same ∙ next_to plan counts p next))
           | inr n ↦ get_or-set_other waiting p.file g (waiting_of waiting p.file ++ p ∷ []) [] n ∙ k.waits g l m ∙ sym (ap (λ (count : ℕ). pieces_to plan g count) (other g n))
         ];
       };
@@ -116,7 +116,7 @@ due_more : (plan : Planned) (counts : List ℕ) (first : ℕ) (p : Piece) → Is
 due_more plan counts first p next e =
     subst (λ (f : ℕ). due_by plan counts f ++ lines_of plan f p.items ≡ listing_to plan f ++ taken_lines plan f (slice_index counts f + 1)) e
     (append_assoc (listing_to plan p.file) (taken_lines plan p.file (slice_index counts p.file)) (lines_of plan p.file p.items)
-        ∙ ap (λ bs. listing_to plan p.file ++ bs) (sym (next_lines plan counts p next)))
+    ∙ ap (λ bs. listing_to plan p.file ++ bs) (sym (next_lines plan counts p next)))
 
 -- where it can't be written, a prefix of the listing was
 pub placed_fault : (plan : Planned) (counts : List ℕ) (first : ℕ) (p : Piece) (a b : Option (List ℕ)) → first < files_of plan → IsNextPiece plan counts p → p.file ≡ first → AppendsPrefix a b (lines_of plan first p.items) → WritesInPart plan (due_by plan counts first) a b
@@ -125,9 +125,9 @@ placed_fault plan counts first p a b within next e fault =
       bytes = fault.0;
       wrote = fault.2;
       prefix = prefix_then (due_by plan counts first ++ fault.0) (due_by plan counts first ++ lines_of plan first p.items) (listing_of plan)
-        (prefix_behind (due_by plan counts first) fault.0 (lines_of plan first p.items) fault.1)
-        (subst (λ (bs : List ℕ). IsPrefix bs (listing_of plan)) (sym (due_more plan counts first p next e))
-            (lines_begin plan first (contents (pieces_to plan first (slice_index counts first + 1))) within (prefix_to plan first (slice_index counts first + 1))));
+          (prefix_behind (due_by plan counts first) fault.0 (lines_of plan first p.items) fault.1)
+          (subst (λ (bs : List ℕ). IsPrefix bs (listing_of plan)) (sym (due_more plan counts first p next e))
+          (lines_begin plan first (contents (pieces_to plan first (slice_index counts first + 1))) within (prefix_to plan first (slice_index counts first + 1))));
     }
 
 -- it doesn't close its file
@@ -178,7 +178,7 @@ placed_part plan counts first p a m b is next e marked wrote w =
       bytes = lines_of plan first p.items ++ w.bytes;
       wrote = appends_both a m b (lines_of plan first p.items) w.bytes wrote w.wrote;
       prefix = subst (λ (bs : List ℕ). IsPrefix bs (listing_of plan))
-        (ap (λ bs. bs ++ w.bytes) (sym (due_closed plan counts first p is next e marked)) ∙ append_assoc (due_by plan counts first) (lines_of plan first p.items) w.bytes) w.prefix;
+          (ap (λ bs. bs ++ w.bytes) (sym (due_closed plan counts first p is next e marked)) ∙ append_assoc (due_by plan counts first) (lines_of plan first p.items) w.bytes) w.prefix;
     }
 
 -- it closes its file, and what waits behind it is written
@@ -196,8 +196,8 @@ placed_closed plan counts first waiting next_file new p a m b is k next e marked
     let left : waiting_of waiting next_file ≡ pieces_to plan next_file (slice_index (counted counts p.file) next_file) = elim (cases_lt next_file (files_of plan)) [
       | inl l ↦ k.waits next_file (omega arith) l ∙ sym (ap (λ (count : ℕ). pieces_to plan next_file count) (other next_file (λ s. absurd (omega arith))))
       | inr past ↦
-        get_or_past waiting next_file [] (omega arith)
-        ∙ sym (ap (λ (count : ℕ). pieces_to plan next_file count) (other next_file (λ s. absurd (omega arith)) ∙ get_or_past counts next_file 0 (omega arith)))
+          get_or_past waiting next_file [] (omega arith)
+          ∙ sym (ap (λ (count : ℕ). pieces_to plan next_file count) (other next_file (λ s. absurd (omega arith)) ∙ get_or_past counts next_file 0 (omega arith)))
     ] in
     record {
       keeps = record {
@@ -209,13 +209,13 @@ placed_closed plan counts first waiting next_file new p a m b is k next e marked
             | inr d ↦ other g (λ s. d (s ∙ e)) ∙ elim (cases_lt g first) [
               | inl before ↦ k.first_open.below g before
               | inr behind ↦
-                let order = takes_in_order plan g (slice_index counts g) is.some_items (k.within g (omega arith) (omega arith)) in
-                order.closed.0 (sym (ap (λ ps. list_any is_closing ps) (k.waits g (omega arith) (omega arith))) ∙ w.closed g (omega arith) l)
+                  let order = takes_in_order plan g (slice_index counts g) is.some_items (k.within g (omega arith) (omega arith)) in
+                  order.closed.0 (sym (ap (λ ps. list_any is_closing ps) (k.waits g (omega arith) (omega arith))) ∙ w.closed g (omega arith) l)
             ]
           ];
           not_closed = λ l all.
-            both_ways (list_any is_closing (waiting_of waiting next_file)) (w.not_closed l)
-            (ap (λ ps. list_any is_closing ps) left ∙ closed_at plan next_file (slice_index (counted counts p.file) next_file) all);
+              both_ways (list_any is_closing (waiting_of waiting next_file)) (w.not_closed l)
+              (ap (λ ps. list_any is_closing ps) left ∙ closed_at plan next_file (slice_index (counted counts p.file) next_file) all);
         };
         lists = w.lists ∙ k.lists;
         within = λ g l m. subst (λ (count : ℕ). count ≤ pieces_of plan g) (sym (other g (λ s. absurd (omega arith)))) (k.within g (omega arith) m);
@@ -224,10 +224,10 @@ placed_closed plan counts first waiting next_file new p a m b is k next e marked
       bytes = lines_of plan first p.items ++ w.bytes;
       wrote = appends_both a m b (lines_of plan first p.items) w.bytes wrote w.wrote;
       due =
-        sym (append_assoc (due_by plan counts first) (lines_of plan first p.items) w.bytes)
-        ∙ ap (λ bs. bs ++ w.bytes) (due_closed plan counts first p is next e marked)
-        ∙ w.lines
-        ∙ ap (λ ps. listing_to plan next_file ++ lines_of plan next_file (contents ps)) left;
+          sym (append_assoc (due_by plan counts first) (lines_of plan first p.items) w.bytes)
+          ∙ ap (λ bs. bs ++ w.bytes) (due_closed plan counts first p is next e marked)
+          ∙ w.lines
+          ∙ ap (λ ps. listing_to plan next_file ++ lines_of plan next_file (contents ps)) left;
     }
 
 -- a clause for each variant of a result, from what is known of each

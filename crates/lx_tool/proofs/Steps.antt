@@ -1,13 +1,12 @@
-use Rattle.std.proofs.Common.{ℕ, zero, suc, ◌≡◌, ◌≢◌, ◌+◌, ◌<◌, ◌≤◌, ◌⊎◌, inl, inr, Bool, true, false, List, [], ◌∷◌, ◌++◌, Option, refl, sym, ◌∙◌, ap, subst, arith, length, get_or, replicate, max, append-nil}
+use Rattle.std.proofs.Common.{ℕ, ◌≡◌, ◌+◌, ◌<◌, inl, inr, Bool, true, false, List, [], ◌++◌, Option, refl, sym, ◌∙◌, ap, subst, arith, length, get_or, replicate}
 use Rattle.std.specs.Prelude.{slice_index, slice_set}
-use Rattle.std.specs.Int.{div_ceil}
 use Rattle.std.proofs.lemmas.Bool.{both_ways, cases_order, cases_lt}
 use Rattle.std.proofs.lemmas.List.{get_or_default, get_or-replicate, get_or_past, length-replicate}
 use Rattle.lx_piece.specs.declared.piece.Piece.{Piece}
-use Rattle.lx_piece.specs.Plans.{Planned, files_of, items_of}
-use Rattle.lx_piece.specs.Pieces.{IsPrefix, pieces_of, pieces_to}
+use Rattle.lx_piece.specs.Plans.{Planned, files_of}
+use Rattle.lx_piece.specs.Pieces.{IsPrefix, pieces_to}
 use Rattle.lx_piece.specs.Relayed.{IsNextPiece}
-use Rattle.lx_tool.specs.Listings.{IsFirstOpen, taken_lines, IsDue, HasOpenFile, Progress, Printed, Prints, listing_of, printed}
+use Rattle.lx_tool.specs.Listings.{IsFirstOpen, taken_lines, IsDue, Prints, listing_of, printed}
 use Rattle.lx_tool.specs.ListingLaws.{appends_nothing, due_begins, due_whole}
 use Rattle.lx_tool.specs.Waiting.{KeepsUp, Places, WritesInPart, counted, due_by, waiting_of}
 
@@ -86,8 +85,8 @@ fresh_open plan counts e =
       within = omega arith;
       below = λ g l. absurd (omega arith);
       not_closed = λ l all.
-        let none : slice_index counts 0 ≡ 0 = ap (λ (ns : List ℕ). slice_index ns 0) e ∙ get_or-replicate (files_of plan) 0 0 0 l in
-        absurd (omega arith);
+          let none : slice_index counts 0 ≡ 0 = ap (λ (ns : List ℕ). slice_index ns 0) e ∙ get_or-replicate (files_of plan) 0 0 0 l in
+          absurd (omega arith);
     }
 
 pub fresh_keeps : (plan : Planned) (counts : List ℕ) (waiting : List (List Piece)) → counts ≡ replicate (files_of plan) 0 → waiting ≡ replicate (files_of plan) [] → KeepsUp plan counts 0 waiting
@@ -121,7 +120,7 @@ pub placed_at : (plan : Planned) (counts after : List ℕ) (first file next faul
 placed_at plan counts after first file next faults waiting new a b failed e raised k p =
     subst (λ (t : Bool). Prints (printed (record { plan = plan; counts = counts; faults = faults; failed = t }) a) (printed (record { plan = plan; counts = after; faults = faults; failed = t }) b)) (sym e)
     (subst (λ (ns : List ℕ). Prints (printed (record { plan = plan; counts = counts; faults = faults; failed = false }) a) (printed (record { plan = plan; counts = ns; faults = faults; failed = false }) b)) (sym raised)
-        (prints_placed plan counts first file next faults waiting new a b k p))
+    (prints_placed plan counts first file next faults waiting new a b k p))
 
 pub part_at : (plan : Planned) (counts : List ℕ) (first faults after : ℕ) (waiting : List (List Piece)) (p : Piece) (a b : Option (List ℕ)) (failed : Bool) → failed ≡ false → KeepsUp plan counts first waiting → IsNextPiece plan counts p → WritesInPart plan (due_by plan counts first) a b → Prints (printed (record { plan = plan; counts = counts; faults = faults; failed = failed }) a) (printed (record { plan = plan; counts = counts; faults = after; failed = true }) b)
 part_at plan counts first faults after waiting p a b failed e k next w =

@@ -1,7 +1,7 @@
-use Rattle.std.specs.Prelude.{ℕ, zero, suc, ◌≡◌, Bool, List, [], ◌++◌}
+use Rattle.std.specs.Prelude.{ℕ, zero, suc, Bool, List, [], ◌++◌}
 use Rattle.lx_piece.specs.declared.piece.Piece.{Piece}
 use Rattle.lx_piece.specs.Cutting.{Cutting}
-use Rattle.lx_piece.specs.Plans.{Planned, files_of}
+use Rattle.lx_piece.specs.Plans.{Planned}
 use Rattle.lx_piece.specs.Pieces.{pieces_of, pieces_to}
 
 -- the pieces of the files below this one, in order

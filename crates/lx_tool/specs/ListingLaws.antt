@@ -1,4 +1,4 @@
-use Rattle.std.proofs.Common.{ℕ, zero, suc, ◌≡◌, ◌+◌, ◌<◌, ◌≤◌, Bool, true, false, List, [], ◌∷◌, ◌++◌, Option, Some, None, inl, inr, refl, sym, ◌∙◌, ap, subst, arith, append_assoc, append-nil}
+use Rattle.std.proofs.Common.{ℕ, zero, suc, ◌≡◌, ◌<◌, ◌≤◌, List, [], ◌++◌, Option, Some, None, inl, inr, refl, sym, ◌∙◌, ap, subst, arith, append_assoc, append-nil}
 use Rattle.std.specs.Prelude.{slice_index}
 use Rattle.std.specs.Io.KnownBytes.{Appends}
 use Rattle.std.proofs.lemmas.Bool.{cases_Bool, cases_eq, cases_lt, both_ways}
@@ -6,10 +6,10 @@ use Rattle.std.proofs.lemmas.Grind.{flat_map-append}
 use Rattle.std.proofs.lemmas.List.{get_or_past}
 use Rattle.lx_piece.specs.declared.item.Item.{Item}
 use Rattle.lx_piece.specs.Plans.{Planned, files_of, items_of}
-use Rattle.lx_piece.specs.Pieces.{IsPrefix, contents, pieces_of, pieces_to}
+use Rattle.lx_piece.specs.Pieces.{IsPrefix, contents, pieces_to}
 use Rattle.lx_piece.specs.PieceLaws.{prefix_to}
 use Rattle.lx_tool.specs.Lines.{line_of, lines_of}
-use Rattle.lx_tool.specs.Listings.{listing_to, listing_of, taken_lines, IsFirstOpen, IsDue, AreAllClosed, HasOpenFile, AppendsPrefix, Progress, Printed, Prints}
+use Rattle.lx_tool.specs.Listings.{listing_to, listing_of, taken_lines, IsDue, AreAllClosed, HasOpenFile, Printed, Prints}
 
 -- nothing was appended
 pub appends_nothing : (o : Option (List ℕ)) → Appends o o []
@@ -70,11 +70,11 @@ due_begins plan counts text d =
     (elim (cases_lt d.first (files_of plan)) [
       | inl l ↦ lines_begin plan d.first (contents (pieces_to plan d.first (slice_index counts d.first))) l (prefix_to plan d.first (slice_index counts d.first))
       | inr past ↦
-        let none : slice_index counts d.first ≡ 0 = get_or_past counts d.first 0 (omega arith) in
-        let all : d.first ≡ files_of plan = omega arith in
-        subst (λ (n : ℕ). IsPrefix (listing_to plan d.first ++ taken_lines plan d.first n) (listing_of plan)) (sym none)
-        (subst (λ (n : ℕ). IsPrefix (listing_to plan n ++ []) (listing_of plan)) (sym all)
-        (subst (λ (bytes : List ℕ). IsPrefix bytes (listing_of plan)) (sym (append-nil (listing_of plan))) (prefix_all (listing_of plan))))
+          let none : slice_index counts d.first ≡ 0 = get_or_past counts d.first 0 (omega arith) in
+          let all : d.first ≡ files_of plan = omega arith in
+          subst (λ (n : ℕ). IsPrefix (listing_to plan d.first ++ taken_lines plan d.first n) (listing_of plan)) (sym none)
+          (subst (λ (n : ℕ). IsPrefix (listing_to plan n ++ []) (listing_of plan)) (sym all)
+          (subst (λ (bytes : List ℕ). IsPrefix bytes (listing_of plan)) (sym (append-nil (listing_of plan))) (prefix_all (listing_of plan))))
     ])
 
 -- what is due once every file is closed
@@ -118,24 +118,24 @@ prints_on s t u f h =
       prefix = λ working text due. elim (cases_Bool t.progress.failed) [
         | inl failed ↦ subst (λ (bytes : List ℕ). IsPrefix (text ++ bytes) (listing_of s.progress.plan)) (sym (ap (λ bytes. f.bytes ++ bytes) (h.stopped failed).1 ∙ append-nil f.bytes)) (f.prefix working text due)
         | inr going ↦
-          subst (λ (bytes : List ℕ). IsPrefix bytes (listing_of s.progress.plan)) (append_assoc text f.bytes h.bytes)
-          (subst (λ (plan : Planned). IsPrefix ((text ++ f.bytes) ++ h.bytes) (listing_of plan)) f.plan (h.prefix going (text ++ f.bytes) (f.due working going text due)))
+            subst (λ (bytes : List ℕ). IsPrefix bytes (listing_of s.progress.plan)) (append_assoc text f.bytes h.bytes)
+            (subst (λ (plan : Planned). IsPrefix ((text ++ f.bytes) ++ h.bytes) (listing_of plan)) f.plan (h.prefix going (text ++ f.bytes) (f.due working going text due)))
       ];
       whole = λ working closed text due. elim (cases_Bool t.progress.failed) [
         | inl failed ↦
-          let some_open = f.stuck working failed in
-          let before = subst (λ (plan : Planned). AreAllClosed plan t.progress.counts) h.plan (subst (λ (counts : List ℕ). AreAllClosed u.progress.plan counts) (h.stopped failed).2 closed) in
-          absurd (some_open.2 (before some_open.0 some_open.1))
+            let some_open = f.stuck working failed in
+            let before = subst (λ (plan : Planned). AreAllClosed plan t.progress.counts) h.plan (subst (λ (counts : List ℕ). AreAllClosed u.progress.plan counts) (h.stopped failed).2 closed) in
+            absurd (some_open.2 (before some_open.0 some_open.1))
         | inr going ↦ sym (append_assoc text f.bytes h.bytes) ∙ h.whole going closed (text ++ f.bytes) (f.due working going text due)
       ];
       stuck = λ working failed. elim (cases_Bool t.progress.failed) [
         | inl before ↦
-          subst (λ (plan : Planned). HasOpenFile plan u.progress.counts) (sym h.plan)
-          (subst (λ (counts : List ℕ). HasOpenFile t.progress.plan counts) (sym (h.stopped before).2) (f.stuck working before))
+            subst (λ (plan : Planned). HasOpenFile plan u.progress.counts) (sym h.plan)
+            (subst (λ (counts : List ℕ). HasOpenFile t.progress.plan counts) (sym (h.stopped before).2) (f.stuck working before))
         | inr going ↦ h.stuck going failed
       ];
       stopped = λ failed.
-        let a = f.stopped failed in
-        let b = h.stopped a.0 in
-        (b.0, ap (λ bytes. bytes ++ h.bytes) a.1 ∙ b.1, b.2 ∙ a.2);
+          let a = f.stopped failed in
+          let b = h.stopped a.0 in
+          (b.0, ap (λ bytes. bytes ++ h.bytes) a.1 ∙ b.1, b.2 ∙ a.2);
     }

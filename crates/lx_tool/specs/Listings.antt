@@ -1,4 +1,4 @@
-use Rattle.std.specs.Prelude.{ℕ, zero, suc, ◌≡◌, ◌≢◌, ◌+◌, ◌<◌, ◌≤◌, Bool, true, false, List, [], ◌∷◌, ◌++◌, Option, length, slice_index}
+use Rattle.std.specs.Prelude.{ℕ, zero, suc, ◌≡◌, ◌≢◌, ◌<◌, ◌≤◌, Bool, true, false, List, [], ◌++◌, Option, length, slice_index}
 use Rattle.std.specs.Io.KnownBytes.{Appends}
 use Rattle.lx_piece.specs.Plans.{Planned, files_of, items_of}
 use Rattle.lx_piece.specs.Pieces.{IsPrefix, contents, pieces_of, pieces_to}

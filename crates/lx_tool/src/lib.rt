@@ -6,6 +6,8 @@ mod command_line;
 mod cuts;
 mod line;
 mod listing;
+#[cfg(test)]
+mod listing_tests;
 mod matcher;
 mod places;
 mod planning;

@@ -22,9 +22,7 @@ fn push_escaped(line: &mut Vec<u8>, byte: u8) -> Result<(), AllocError>
     match byte {
         b'\\' => line.extend_from_slice(b"\\\\"),
         b' '..=b'~' => line.extend_from_slice(&[byte]),
-        _ => {
-            line.extend_from_slice(&[b'\\', b'x', hex_digit(byte / 16), hex_digit(byte % 16)])
-        }
+        _ => { line.extend_from_slice(&[b'\\', b'x', hex_digit(byte / 16), hex_digit(byte % 16)]) }
     }
 }
 

@@ -5,13 +5,12 @@ ghost use Rattle.lx_piece.specs.Relayed.{IsNextPiece};
 ghost use Rattle.lx_tool.specs.Listings.{IsDue, Prints, printed};
 ghost use Rattle.lx_tool.specs.Waiting.{queued, counted};
 
+use crate::waiting::place;
 use lx_piece::{Piece, Plan, Reader, ReaderFault};
 use std::alloc::{AllocError, Global};
 use std::collections::VecDeque;
 use std::io::Write;
 use std::marker::Model;
-
-use crate::waiting::place;
 
 /// How far a listing has come.
 #[derive(Drop)]
@@ -81,7 +80,14 @@ impl<'a> Lister<'a> {
             return Err(ReaderFault::Device);
         }
         let file = piece.file;
-        match place(out, &mut self.line, self.plan, self.first, &mut self.waiting, piece) {
+        match place(
+            out,
+            &mut self.line,
+            self.plan,
+            self.first,
+            &mut self.waiting,
+            piece,
+        ) {
             Ok(first) => {
                 self.first = first;
                 self.counts[file as usize] += 1;

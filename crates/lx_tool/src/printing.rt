@@ -3,13 +3,12 @@ ghost use Rattle.std.specs.Io.KnownBytes.{Appends};
 ghost use Rattle.lx_piece.specs.Plans.{files_of};
 ghost use Rattle.lx_tool.specs.Listings.{AppendsPrefix, listing_of};
 
+use crate::cuts::Cuts;
+use crate::listing::Lister;
 use lx_piece::{Piece, Plan, Reader, ReaderFault, RelayFault, relay};
 use std::alloc::{AllocError, Global};
 use std::io::Write;
 use thiserror::Error;
-
-use crate::cuts::Cuts;
-use crate::listing::Lister;
 
 /// Why a listing wasn't written whole.
 #[derive(Clone, Copy, Debug, PartialEq, Eq, Error)]

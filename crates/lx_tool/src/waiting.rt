@@ -10,11 +10,10 @@ ghost use Rattle.lx_tool.specs.Lines.{lines_of};
 ghost use Rattle.lx_tool.specs.Listings.{AppendsPrefix, listing_to};
 ghost use Rattle.lx_tool.specs.Waiting.{Waits, WritesOn, WritesInPart, KeepsUp, Places, due_by, queued, waiting_of};
 
+use crate::writing::write_items;
 use lx_piece::{Piece, Plan, ReaderFault};
 use std::collections::VecDeque;
 use std::io::Write;
-
-use crate::writing::write_items;
 
 /// Writes the lines of what waits of a file, and tells whether its closing piece was among it.
 fn write_waiting<W: Write>(
@@ -67,7 +66,7 @@ fn hold(waiting: &mut Vec<VecDeque<Piece>>, piece: Piece) -> Result<(), ReaderFa
     requires { piece.file < length waiting.old.items }
     ensures { OnOk result (queued waiting.new.items
         ≡ slice_set (queued waiting.old.items) piece.file
-            (waiting_of (queued waiting.old.items) piece.file ++ piece ∷ [])) }
+        (waiting_of (queued waiting.old.items) piece.file ++ piece ∷ [])) }
 {
     let queue = &mut waiting[piece.file as usize];
     match queue.push_back(piece) {

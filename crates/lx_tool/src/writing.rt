@@ -7,11 +7,10 @@ ghost use Rattle.lx_piece.specs.Pieces.{contents, is_closing};
 ghost use Rattle.lx_tool.specs.Lines.{line_of, lines_of};
 ghost use Rattle.lx_tool.specs.Listings.{AppendsPrefix};
 
+use crate::line::make_line;
 use lx_piece::{Item, Piece, Plan, ReaderFault};
 use std::collections::VecDeque;
 use std::io::Write;
-
-use crate::line::make_line;
 
 /// Writes bytes in one write, or in further ones for the rest of what was taken in part. A write of 0 bytes or
 /// an error is a fault, behind which a prefix was written.

@@ -1,4 +1,4 @@
-use Rattle.std.proofs.Common.{rules, ◌≡◌, sym, ◌∙◌, arith, ap, refl, false, cond, nat_cmp}
+use Rattle.std.proofs.Common.{sym, ◌∙◌, ap, refl, false, cond, nat_cmp}
 use Rattle.std.specs.BTreeSet.{contains}
 use Rattle.std.proofs.lemmas.Bool.{ne_eqb, eq-eqb}
 use Rattle.std.proofs.lemmas.Option.{slice_get_within}
@@ -19,12 +19,12 @@ returns-clause-ready_set c =
     let hands = lowest_delivers _ _ _ _ _ _ c.requires c.in_ok-file.ensures.member c.in_ok-file.ensures.least c.index_mut-lane.ensures.value (sym c.in_ok-piece.ensures.piece) c.in_ok-piece.ensures.some in
     let within = slice_get_within _ _ _ hands.there in
     elim c.if-not-is_ready.branch [
-      then-not-is_ready w ↦
-        ready_set_with _ ready _ file _ c.requires within
-        (ap (λ s. contains nat_cmp s file) w.ready-is ∙ w.remove.ensures.updates.0 file ∙ ap (λ b. cond b false (contains nat_cmp ready file)) (at_number file file ∙ eq-eqb file file refl) ∙ sym (sym c.is_ready.ensures ∙ w.if-not-is_ready.true))
-        (λ g d. ap (λ s. contains nat_cmp s g) w.ready-is ∙ w.remove.ensures.updates.0 g ∙ ap (λ b. cond b false (contains nat_cmp ready g)) (at_number file g ∙ ne_eqb g file d))
+      | then-not-is_ready w ↦
+          ready_set_with _ ready _ file _ c.requires within
+          (ap (λ s. contains nat_cmp s file) w.ready-is ∙ w.remove.ensures.updates.0 file ∙ ap (λ b. cond b false (contains nat_cmp ready file)) (at_number file file ∙ eq-eqb file file refl) ∙ sym (sym c.is_ready.ensures ∙ w.if-not-is_ready.true))
+          (λ g d. ap (λ s. contains nat_cmp s g) w.ready-is ∙ w.remove.ensures.updates.0 g ∙ ap (λ b. cond b false (contains nat_cmp ready g)) (at_number file g ∙ ne_eqb g file d))
       | else-not-is_ready w ↦
-        ready_set_with _ ready _ file _ c.requires within
-        (ap (λ s. contains nat_cmp s file) w.ready-is ∙ c.in_ok-file.ensures.member ∙ sym (sym c.is_ready.ensures ∙ w.if-not-is_ready.false))
-        (λ g d. ap (λ s. contains nat_cmp s g) w.ready-is)
+          ready_set_with _ ready _ file _ c.requires within
+          (ap (λ s. contains nat_cmp s file) w.ready-is ∙ c.in_ok-file.ensures.member ∙ sym (sym c.is_ready.ensures ∙ w.if-not-is_ready.false))
+          (λ g d. ap (λ s. contains nat_cmp s g) w.ready-is)
     ]

@@ -1,7 +1,5 @@
-use Rattle.std.proofs.Common.{◌≡◌, sym, ◌∙◌, subst, ap, arith}
-use Rattle.lx_piece.specs.declared.piece.Piece.{Piece}
-use Rattle.lx_piece.specs.Kept.{Kept, site_of_kept}
-use Rattle.lx_piece.specs.Relayed.{HoldsPlanned, IsNextPiece, AreAtMost}
+use Rattle.std.proofs.Common.{sym, ◌∙◌, subst}
+use Rattle.lx_piece.specs.Relayed.{IsNextPiece, AreAtMost}
 use Rattle.lx_piece.proofs.Relays.{nexts, delivered_is_next, counts_follow, planned_delivered, fewer_held, counts_rise, same_size}
 use Rattle.lx_piece.proofs.Standing.{same_site}
 use Rattle.lx_piece.proofs.relaying.deliver_all.Goals as goal

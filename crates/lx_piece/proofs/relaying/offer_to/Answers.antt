@@ -1,4 +1,4 @@
-use Rattle.std.proofs.Common.{◌≡◌, sym, ◌∙◌, subst, ap, ◌++◌, ◌∷◌, []}
+use Rattle.std.proofs.Common.{sym, subst, ap, ◌++◌, ◌∷◌, []}
 use Rattle.lx_piece.specs.Arrivals.{reply_for, cause_against, accepted_of}
 use Rattle.lx_piece.specs.Kept.{StandsFor, site_of_kept, delivered_counts}
 use Rattle.lx_piece.proofs.Standing.{stands_still, named_cause}

@@ -1,4 +1,4 @@
-use Rattle.std.proofs.Common.{◌≡◌, ◌<◌, sym, ◌∙◌, subst, ap, arith, [], ◌∷◌, ◌++◌, append-nil, refl}
+use Rattle.std.proofs.Common.{◌<◌, sym, ◌∙◌, subst, ap, [], refl}
 use Rattle.std.specs.Prelude.{slice_get}
 use Rattle.std.proofs.lemmas.List.Elements.{All-nil}
 use Rattle.std.proofs.lemmas.Result.{err_from_is_err_and}
@@ -8,7 +8,7 @@ use Rattle.lx_piece.specs.Kept.{is_ready_at}
 use Rattle.lx_piece.specs.Relayed.{HoldsPlanned}
 use Rattle.lx_piece.proofs.SoFar.{SoFar}
 use Rattle.lx_piece.proofs.Whole.{whole}
-use Rattle.lx_piece.proofs.Deliveries.{part_at_start, fresh_site, fresh_delivered, fresh_ready, so_far_with, so_far_still, in_part, in_part_with, planned_from, same_at_most}
+use Rattle.lx_piece.proofs.Deliveries.{part_at_start, fresh_site, fresh_delivered, fresh_ready, so_far_with, so_far_still, in_part, in_part_with, planned_from}
 use Rattle.lx_piece.proofs.relaying.relay.Goals as goal
 
 pub returns-in_err-collector-clause-err : goal.returns-in_err-collector-clause-err

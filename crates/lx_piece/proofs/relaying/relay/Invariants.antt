@@ -1,5 +1,4 @@
-use Rattle.std.proofs.Common.{◌≡◌, ◌-◌, ◌^◌, List, vec_len}
-use Rattle.lx_piece.specs.Plans.{Planned}
+use Rattle.std.proofs.Common.{◌≡◌, ◌-◌, ◌^◌, vec_len}
 use Rattle.lx_piece.specs.Arrivals.{site_of}
 use Rattle.lx_piece.specs.Kept.{NoneReady, site_of_kept, delivered_counts}
 use Rattle.lx_piece.proofs.SoFar.{SoFar}

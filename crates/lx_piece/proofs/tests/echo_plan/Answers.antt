@@ -1,4 +1,4 @@
-use Rattle.std.proofs.Common.{◌≡◌, ◌+◌, ◌++◌, ◌∷◌, [], ◌≤◌, ◌<◌, ◌∙◌, sym, subst, ap, arith, length}
+use Rattle.std.proofs.Common.{◌+◌, ◌++◌, ◌∷◌, [], ◌≤◌, ◌<◌, ◌∙◌, sym, subst, ap, arith, length}
 use Rattle.std.proofs.lemmas.List.{length_push}
 use Rattle.lx_piece.proofs.Echoed.{AreEchoed, echoed_more, echoed_plan}
 use Rattle.lx_piece.proofs.tests.echo_plan.Goals as goal
@@ -10,7 +10,7 @@ loop-len-preserved c =
     record {
       count = ap length c.in_ok-push.ensures.items ∙ length_push c.loop-len.files.items c.in_ok-text.text ∙ ap (λ n. n + 1) i.count;
       echoed = subst (λ fs. AreEchoed fs c.push-in-loop-len.new.self.items) (sym c.in_ok-push.ensures.items)
-        (subst (λ ls. AreEchoed (c.loop-len.files.items ++ c.in_ok-text.text ∷ []) ls) (sym c.in_ok-push-2.ensures.items) more);
+          (subst (λ ls. AreEchoed (c.loop-len.files.items ++ c.in_ok-text.text ∷ []) ls) (sym c.in_ok-push-2.ensures.items) more);
     }
 
 pub of_items-requires : goal.of_items-requires

@@ -1,4 +1,4 @@
-use Rattle.std.proofs.Common.{◌≡◌, [], arith, sym, subst}
+use Rattle.std.proofs.Common.{[], arith, sym, subst}
 use Rattle.std.specs.Prelude.{All}
 use Rattle.std.proofs.lemmas.List.Elements.{All-push}
 use Rattle.lx_piece.specs.declared.item.Item.TheVariants.{Echo}
@@ -11,5 +11,5 @@ loop-start-preserved c =
     record {
       size = i.size;
       items = subst (All (IsItemOf [] c.in_ok-text.text.items)) (sym c.in_ok-push.ensures.items)
-        (All-push (IsItemOf [] c.in_ok-text.text.items) c.loop-start.items.items (Echo c.loop-start.start 1) i.items (record { inside = (let size = i.size in omega arith); named = tt }));
+          (All-push (IsItemOf [] c.in_ok-text.text.items) c.loop-start.items.items (Echo c.loop-start.start 1) i.items (record { inside = (let size = i.size in omega arith); named = tt }));
     }

@@ -1,4 +1,4 @@
-use Rattle.std.proofs.Common.{◌≡◌, ◌∙◌, sym}
+use Rattle.std.proofs.Common.{◌∙◌, sym}
 use Rattle.std.proofs.lemmas.Result.{err_from_is_err_and}
 use Rattle.lx_tool.proofs.AllPrinted.{printed_all, printed_part}
 use Rattle.lx_tool.proofs.printing.print_all.Goals as goal

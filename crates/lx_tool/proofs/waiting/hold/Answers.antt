@@ -1,4 +1,4 @@
-use Rattle.std.proofs.Common.{◌≡◌, ◌∙◌, sym, ap, [], ◌∷◌, ◌++◌}
+use Rattle.std.proofs.Common.{◌∙◌, sym, ap, [], ◌∷◌, ◌++◌}
 use Rattle.std.specs.Prelude.{slice_set}
 use Rattle.lx_tool.specs.Waiting.{queued}
 use Rattle.lx_tool.proofs.Queues.{queue_read, queue_set}
@@ -11,8 +11,8 @@ returns c =
     let file = c.args.piece.file in
     elim c.match-push_back.branch [
       | in-Ok w ↦
-        rw w.result-is
-        (queue_set queues file c.push_back.new.self
-            ∙ ap (λ ps. slice_set (queued queues) file ps) (w.in-Ok.ensures.items ∙ ap (λ ps. ps ++ c.args.piece ∷ []) (sym (queue_read queues file c.index_mut-queue.result.now c.requires c.index_mut-queue.ensures.value))))
+          rw w.result-is
+          (queue_set queues file c.push_back.new.self
+          ∙ ap (λ ps. slice_set (queued queues) file ps) (w.in-Ok.ensures.items ∙ ap (λ ps. ps ++ c.args.piece ∷ []) (sym (queue_read queues file c.index_mut-queue.result.now c.requires c.index_mut-queue.ensures.value))))
       | in-Err w ↦ rw w.result-is tt
     ]

@@ -1,14 +1,13 @@
-use Rattle.std.proofs.Common.{◌≡◌, ◌<◌, ◌+◌, sym, ◌∙◌, ap, subst, arith, List, Option, ℕ}
+use Rattle.std.proofs.Common.{◌<◌, ◌+◌, sym, ◌∙◌, subst, arith, ℕ}
 use Rattle.std.specs.Prelude.{All}
 use Rattle.std.specs.Io.KnownBytes.{Appends}
 use Rattle.std.proofs.lemmas.Result.{err_from_is_err_and}
-use Rattle.lx_piece.specs.declared.piece.Piece.{Piece}
 use Rattle.lx_piece.specs.Items.{IsItemOf}
 use Rattle.lx_piece.specs.Plans.{files_of, bytes_of}
 use Rattle.lx_tool.specs.Lines.{lines_of}
 use Rattle.lx_tool.specs.Listings.{AppendsPrefix, listing_to}
 use Rattle.lx_tool.specs.Waiting.{Places, WritesOn, WritesInPart, due_by, queued}
-use Rattle.lx_tool.proofs.Placing.{match_from, placed_later, placed_nothing, placed_fault, placed_open, placed_closed, placed_part, due_by_begins, next_items, waits_behind}
+use Rattle.lx_tool.proofs.Placing.{match_from, placed_later, placed_nothing, placed_fault, placed_open, placed_closed, placed_part, due_by_begins, next_items}
 use Rattle.lx_tool.proofs.waiting.place.Goals as goal
 
 pub returns-in_err-hold : goal.returns-in_err-hold
@@ -33,7 +32,7 @@ returns-in_err-write_items g c = λ counts k next.
     let p = err_from_is_err_and c.from_residual-in_err-write_items.result c.from_residual-in_err-write_items.ensures.1 in
     let there : c.args.first < files_of c.args.plan.now = (let l = next.planned.file in omega arith) in
     rw p.1 (placed_fault c.args.plan.now counts c.args.first c.args.piece (g.W.Write.contents c.args.out.now) (g.W.Write.contents c.write_items.new.out) there next c.if-piece-first.false
-        (subst (λ items. AppendsPrefix (g.W.Write.contents c.args.out.now) (g.W.Write.contents c.write_items.new.out) (lines_of c.args.plan.now c.args.first items)) c.as_slice.ensures c.in_err-write_items.ensures.err))
+    (subst (λ items. AppendsPrefix (g.W.Write.contents c.args.out.now) (g.W.Write.contents c.write_items.new.out) (lines_of c.args.plan.now c.args.first items)) c.as_slice.ensures c.in_err-write_items.ensures.err))
 
 pub returns-then-not-is_closing : goal.returns-then-not-is_closing
 returns-then-not-is_closing g c = λ counts k next.

@@ -1,4 +1,4 @@
-use Rattle.std.proofs.Common.{◌≡◌, ◌+◌, ◌<◌, ◌≤◌, sym, ◌∙◌, ap, subst, arith, length}
+use Rattle.std.proofs.Common.{◌+◌, ◌<◌, sym, ◌∙◌, ap, subst, arith, length}
 use Rattle.std.specs.Prelude.{All}
 use Rattle.std.specs.List.{list_any}
 use Rattle.std.specs.Io.KnownBytes.{Appends}
@@ -37,7 +37,7 @@ returns-in_err-write_waiting-clause-err g c =
     let read = queue_read queues file c.index_mut.result.now here c.index_mut.ensures.value in
     let p = err_from_is_err_and c.from_residual.result c.from_residual.ensures.1 in
     rw p.1 (files_fault plan c.args.from (queued c.args.waiting.now.items) file (queued queues) (g.W.Write.contents c.args.out.now) (g.W.Write.contents c.loop-file.out) (g.W.Write.contents c.write_waiting.new.out) c.requires.waits w within
-        (subst (λ ps. AppendsPrefix (g.W.Write.contents c.loop-file.out) (g.W.Write.contents c.write_waiting.new.out) (lines_of plan file (contents ps))) (sym read) c.in_err-write_waiting.ensures.err))
+    (subst (λ ps. AppendsPrefix (g.W.Write.contents c.loop-file.out) (g.W.Write.contents c.write_waiting.new.out) (lines_of plan file (contents ps))) (sym read) c.in_err-write_waiting.ensures.err))
 
 pub returns-then-not-branch-clause-ok : goal.returns-then-not-branch-clause-ok
 returns-then-not-branch-clause-ok g c =
@@ -51,8 +51,8 @@ returns-then-not-branch-clause-ok g c =
     let read = queue_read queues file c.index_mut.result.now here c.index_mut.ensures.value in
     subst (λ ws. WritesOn plan c.args.from (queued c.args.waiting.now.items) file ws (g.W.Write.contents c.args.out.now) (g.W.Write.contents c.write_waiting.new.out)) (sym (queue_set queues file c.write_waiting.new.waiting))
     (files_open plan c.args.from (queued c.args.waiting.now.items) file (queued queues) c.write_waiting.new.waiting.items (g.W.Write.contents c.args.out.now) (g.W.Write.contents c.loop-file.out) (g.W.Write.contents c.write_waiting.new.out) w within
-        (ap (λ ps. list_any is_closing ps) read ∙ sym e.closed ∙ c.if-not-branch.true)
-        (subst (λ ps. Appends (g.W.Write.contents c.loop-file.out) (g.W.Write.contents c.write_waiting.new.out) (lines_of plan file (contents ps))) (sym read) e.ok))
+    (ap (λ ps. list_any is_closing ps) read ∙ sym e.closed ∙ c.if-not-branch.true)
+    (subst (λ ps. Appends (g.W.Write.contents c.loop-file.out) (g.W.Write.contents c.write_waiting.new.out) (lines_of plan file (contents ps))) (sym read) e.ok))
 
 pub loop-file-preserved : goal.loop-file-preserved
 loop-file-preserved g c =
@@ -66,5 +66,5 @@ loop-file-preserved g c =
     let read = queue_read queues file c.index_mut.result.now here c.index_mut.ensures.value in
     subst (λ ws. WroteFiles plan c.args.from (queued c.args.waiting.now.items) (file + 1) ws (g.W.Write.contents c.args.out.now) (g.W.Write.contents c.write_waiting.new.out)) (sym (queue_set queues file c.write_waiting.new.waiting))
     (files_more plan c.args.from (queued c.args.waiting.now.items) file (queued queues) c.write_waiting.new.waiting.items (g.W.Write.contents c.args.out.now) (g.W.Write.contents c.loop-file.out) (g.W.Write.contents c.write_waiting.new.out) c.files.ensures.plan c.requires.waits w within
-        (ap (λ ps. list_any is_closing ps) read ∙ sym e.closed ∙ c.if-not-branch.false)
-        (subst (λ ps. Appends (g.W.Write.contents c.loop-file.out) (g.W.Write.contents c.write_waiting.new.out) (lines_of plan file (contents ps))) (sym read) e.ok))
+    (ap (λ ps. list_any is_closing ps) read ∙ sym e.closed ∙ c.if-not-branch.false)
+    (subst (λ ps. Appends (g.W.Write.contents c.loop-file.out) (g.W.Write.contents c.write_waiting.new.out) (lines_of plan file (contents ps))) (sym read) e.ok))

@@ -1,4 +1,4 @@
-use Rattle.std.proofs.Common.{◌≡◌, ◌||◌, sym, ◌∙◌, ap, subst, refl}
+use Rattle.std.proofs.Common.{◌≡◌, ◌||◌, sym, ◌∙◌, ap, subst}
 use Rattle.std.specs.Prelude.{All}
 use Rattle.std.specs.Io.KnownBytes.{Appends}
 use Rattle.std.proofs.lemmas.Bool.{or_left}
@@ -21,7 +21,7 @@ pub returns-in_err-write_items-clause-err : goal.returns-in_err-write_items-clau
 returns-in_err-write_items-clause-err g c =
     let p = err_from_is_err_and c.from_residual.result c.from_residual.ensures.1 in
     rw p.1 (some_fault c.args.plan.now c.args.file _ _ _ _ _ _ _ c.in-Some.piece c.loop-piece.invariant c.in-Some.ensures.items
-        (subst (λ items. AppendsPrefix (g.W.Write.contents c.loop-piece.out) (g.W.Write.contents c.write_items.new.out) (lines_of c.args.plan.now c.args.file items)) c.as_slice.ensures c.in_err-write_items.ensures.err))
+    (subst (λ items. AppendsPrefix (g.W.Write.contents c.loop-piece.out) (g.W.Write.contents c.write_items.new.out) (lines_of c.args.plan.now c.args.file items)) c.as_slice.ensures c.in_err-write_items.ensures.err))
 
 pub loop-piece-preserved : goal.loop-piece-preserved
 loop-piece-preserved g c =
@@ -31,4 +31,4 @@ loop-piece-preserved g c =
     ] in
     subst (λ b. WroteSome c.args.plan.now c.args.file c.args.waiting.now.items c.pop_front.new.self.items b (g.W.Write.contents c.args.out.now) (g.W.Write.contents c.write_items.new.out)) (sym closed)
     (some_next c.args.plan.now c.args.file _ _ _ _ _ _ _ c.in-Some.piece c.loop-piece.invariant c.in-Some.ensures.items
-        (subst (λ items. Appends (g.W.Write.contents c.loop-piece.out) (g.W.Write.contents c.write_items.new.out) (lines_of c.args.plan.now c.args.file items)) c.as_slice.ensures c.in_ok-write_items.ensures.ok))
+    (subst (λ items. Appends (g.W.Write.contents c.loop-piece.out) (g.W.Write.contents c.write_items.new.out) (lines_of c.args.plan.now c.args.file items)) c.as_slice.ensures c.in_ok-write_items.ensures.ok))

@@ -1,6 +1,4 @@
-use Rattle.std.proofs.Common.{◌≡◌}
 use Rattle.std.proofs.lemmas.Result.{err_from_is_err_and}
-use Rattle.lx_piece.specs.declared.item.Item.{Item}
 use Rattle.lx_piece.specs.declared.item.Item.TheVariants.{Token}
 use Rattle.lx_spec.specs.declared.rule.Kind.TheVariants.{Name}
 use Rattle.lx_tool.specs.Lines.{line_of}

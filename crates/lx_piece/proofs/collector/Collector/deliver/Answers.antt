@@ -1,5 +1,5 @@
-use Rattle.std.proofs.Common.{◌≡◌, sym, subst}
-use Rattle.lx_piece.specs.Kept.{StandsFor, Delivers}
+use Rattle.std.proofs.Common.{sym, subst}
+use Rattle.lx_piece.specs.Kept.{StandsFor}
 use Rattle.lx_piece.proofs.Standing.{delivered_kept, delivered_stands}
 use Rattle.lx_piece.proofs.collector.Collector.deliver.Goals as goal
 

@@ -1,4 +1,4 @@
-use Rattle.std.proofs.Common.{◌≡◌, ◌<◌, ◌+◌, sym, subst, arith, length, List, ℕ, true}
+use Rattle.std.proofs.Common.{◌<◌, ◌+◌, sym, subst, arith, length, List, ℕ, true}
 use Rattle.std.specs.Prelude.{slice_set}
 use Rattle.lx_piece.specs.Relayed.{IsNextPiece}
 use Rattle.lx_tool.specs.Listings.{Progress, Prints, printed}
@@ -33,7 +33,7 @@ returns-in-Ok-clause-prints g c =
     let there : file < length s.counts.items = (let files = keeps.first_open.files in let l = next.planned.file in omega arith) in
     subst (λ (t : Progress). Prints (printed t (g.W.Write.contents c.args.out.now)) (printed (record { plan = s.plan.now; counts = after; faults = s.faults; failed = s.failed }) (g.W.Write.contents c.place.new.out))) c.self.view_is
     (placed_at s.plan.now s.counts.items after s.first file c.in-Ok.first s.faults (queued s.waiting.items) (queued c.place.new.waiting.items) (g.W.Write.contents c.args.out.now) (g.W.Write.contents c.place.new.out) s.failed c.if-self.false
-        (count_raised s.counts.items file c.index_mut.result.now there c.index_mut.ensures.value) keeps (c.in-Ok.ensures s.counts.items keeps next))
+    (count_raised s.counts.items file c.index_mut.result.now there c.index_mut.ensures.value) keeps (c.in-Ok.ensures s.counts.items keeps next))
 
 pub returns-in-Err-Device-clause-prints : goal.returns-in-Err-Device-clause-prints
 returns-in-Err-Device-clause-prints g c =

@@ -1,4 +1,4 @@
-use Rattle.std.proofs.Common.{◌≡◌, ap}
+use Rattle.std.proofs.Common.{ap}
 use Rattle.lx_tool.specs.Listings.{Progress}
 use Rattle.lx_tool.proofs.Steps.{fresh_due}
 use Rattle.lx_tool.proofs.listing.Listing.new.Goals as goal
