@@ -4,7 +4,8 @@ ghost use Rattle.lx_piece.specs.Plans.{files_of};
 ghost use Rattle.lx_piece.specs.Arrivals.{AreHonest};
 
 use crate::{Listing, RunFault, print_listing};
-use lx_piece::{Cutter, Item, Kind, ListArrivals, Piece, Plan, Reader, ReaderFault, relay};
+use lx_piece::{Cutter, Item, ListArrivals, Piece, Plan, Reader, ReaderFault, relay};
+use lx_spec::rule::Kind;
 use std::alloc::{AllocError, Global};
 use std::io;
 use std::io::{ErrorKind, Write};
