@@ -4,4 +4,6 @@ pub mod Numbers
 pub mod WordSteps
 pub mod ActionSteps
 pub mod Marks
+pub mod Reading
+pub mod Rows
 pub mod Words

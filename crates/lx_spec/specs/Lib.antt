@@ -5,7 +5,10 @@ pub mod Blocks
 pub mod Bytes
 pub mod Choice
 pub mod Constants
+pub mod Dictionary
+pub mod DictionaryViews
 pub mod End
+pub mod First
 pub mod Graph
 pub mod Invariant
 pub mod Lines
@@ -17,5 +20,7 @@ pub mod RuleLines
 pub mod RuleLineViews
 pub mod Sections
 pub mod SheetViews
+pub mod TreeViews
 pub mod TurnViews
+pub mod Verdict
 pub mod WordViews

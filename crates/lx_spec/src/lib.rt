@@ -8,6 +8,7 @@ pub mod bytes;
 pub mod condition;
 pub mod constant;
 pub mod definition;
+pub mod dictionary;
 pub mod end;
 pub mod fault;
 pub mod graph;
