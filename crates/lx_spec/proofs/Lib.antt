@@ -5,5 +5,6 @@ pub mod WordSteps
 pub mod ActionSteps
 pub mod Marks
 pub mod Reading
+pub mod Below
 pub mod Rows
 pub mod Words

@@ -14,6 +14,7 @@ pub mod Invariant
 pub mod Lines
 pub mod LineViews
 pub mod Names
+pub mod OutlookViews
 pub mod PieceViews
 pub mod PlaceViews
 pub mod RuleLines

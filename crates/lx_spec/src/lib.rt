@@ -13,6 +13,7 @@ pub mod end;
 pub mod fault;
 pub mod graph;
 pub mod line;
+pub mod outlook;
 pub mod rule;
 pub mod rule_line;
 pub mod section;
