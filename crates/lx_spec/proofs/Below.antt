@@ -1,5 +1,6 @@
 -- What definitions mention is a definition.
 use Rattle.std.proofs.Common.{◌≡◌, ℕ, zero, suc, ◌+◌, ◌≤◌, ◌<◌, nat_lt, cond, Bool, true, false, List, [], ◌∷◌, ◌++◌, length, map, Option, Some, None, refl, ap, sym, subst, ◌∙◌, arith, length-append, nat_eq}
+use Rattle.std.specs.Prelude.{slice_index}
 use Rattle.std.specs.List.{AllByRecursion, cons_option, filter_map, position, position_or_len}
 use Rattle.std.specs.Cmp.Lexicographic.{pointwise}
 use Rattle.std.proofs.lemmas.Bool.Decides.{nat_tests}
@@ -22,7 +23,7 @@ place-within p xs i e = by (nat_lt (position_or_len p xs) (length xs)) refl e wh
   by true t h = let same : position_or_len p xs ≡ i = cc in let less : position_or_len p xs < length xs = grind (arith, nat_tests) in omega (arith, same, less)
   by false t h = cc
 
-row-below : (named : List Named) (names : List (List ℕ)) → AllByRecursion (λ j. j < length named) (filter_map (number_of named) names)
+pub row-below : (named : List Named) (names : List (List ℕ)) → AllByRecursion (λ j. j < length named) (filter_map (number_of named) names)
 row-below named [] = tt
 row-below named (name ∷ names) = by (number_of named name) refl (row-below named names) where
   by : (o : Option ℕ) → number_of named name ≡ o → AllByRecursion (λ j. j < length named) (filter_map (number_of named) names) → AllByRecursion (λ j. j < length named) (filter_map (number_of named) (name ∷ names))
@@ -62,3 +63,6 @@ dictionary-below named known d =
 
 pub incomplete-length : (named : List Named) (known : Known) → IsDictionary named known → length known.incomplete ≡ length known.trees
 incomplete-length named known d = ap length d.incomplete ∙ length-map known.trees (is_incomplete named)
+
+pub row-within : (named : List Named) (tree : Regex) (k : ℕ) → k < length (row_of named tree) → slice_index (row_of named tree) k < length named
+row-within named tree k less = All-from_recursion (λ j. j < length named) (row_of named tree) (row-below named (names_of tree)) k 0 less

@@ -6,5 +6,8 @@ pub mod ActionSteps
 pub mod Marks
 pub mod Reading
 pub mod Below
+pub mod Fields
+pub mod Checking
+pub mod Ruling
 pub mod Rows
 pub mod Words

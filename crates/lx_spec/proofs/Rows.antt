@@ -1,6 +1,6 @@
 -- Rows of numbers, and places in lists that are seen through a view.
 use Rattle.std.specs.Prelude.{slice_get}
-use Rattle.std.proofs.Common.{◌≡◌, ℕ, zero, suc, get_or, arith, ◌+◌, ◌<◌, Bool, not, cond, nat_lt, List, [], ◌∷◌, ◌++◌, length, map, Option, Some, None, refl, ap, sym, ◌∙◌, append_assoc}
+use Rattle.std.proofs.Common.{◌≡◌, ℕ, zero, suc, get_or, arith, ◌+◌, ◌<◌, Bool, not, ◌&&◌, cond, nat_lt, List, [], ◌∷◌, ◌++◌, length, map, Option, Some, None, refl, ap, sym, ◌∙◌, append_assoc}
 use Rattle.std.specs.List.{position, position_or_len, prefix_len, filter_map, list_all}
 use Rattle.std.proofs.lemmas.List.{length-map}
 use Rattle.lx_ere.specs.Regex.{Regex}
@@ -34,3 +34,7 @@ pub at_map : {X Y : Type 0} (f : X → Y) (xs : List X) (i : ℕ) (d : X) → i 
 at_map f [] i d less = absurd (omega arith)
 at_map f (x ∷ xs) zero d less = refl
 at_map f (x ∷ xs) (suc i) d less = at_map f xs i d (omega arith)
+
+pub list_all-map : {X Y : Type 0} (p : Y → Bool) (v : X → Y) (xs : List X) → list_all p (map v xs) ≡ list_all (λ x. p (v x)) xs
+list_all-map p v [] = refl
+list_all-map p v (x ∷ xs) = ap (λ (b : Bool). p (v x) && b) (list_all-map p v xs)

@@ -1,6 +1,7 @@
 pub mod ActionViews
 pub mod ActionWords
 pub mod Actions
+pub mod BasisViews
 pub mod Blocks
 pub mod Bytes
 pub mod Choice
@@ -8,6 +9,7 @@ pub mod Constants
 pub mod Dictionary
 pub mod DictionaryViews
 pub mod End
+pub mod FieldViews
 pub mod First
 pub mod Graph
 pub mod Invariant

@@ -7,7 +7,7 @@ use Rattle.lx_ere.specs.Pattern.{IsPattern}
 use Rattle.lx_spec.specs.First.{IsFirst, HoldsOfNone}
 use Rattle.lx_spec.specs.Sections.{Sheet, State, Named, RawRule}
 use Rattle.lx_spec.specs.RuleLines.{Prefix, absent, unclosed, listed}
-use Rattle.lx_spec.specs.Actions.{Statement, Action, shared, own, IsAction, begun_names, is_condition_name}
+use Rattle.lx_spec.specs.Actions.{Statement, Action, shared, own, IsAction, nothing, echo, begin, return, is_condition_name}
 use Rattle.lx_spec.specs.Dictionary.{row_of, all_defined, mentions_of, unreadable_marks, incomplete_marks}
 use Rattle.lx_spec.specs.Graph.{IsMention, Leads, Follow}
 use Rattle.lx_spec.specs.declared.fault.Code.{Code}
@@ -17,6 +17,9 @@ use Rattle.lx_spec.specs.declared.fault.SpecFault.{SpecFault}
 abbrev pub onto_field : ℕ → List (List ℕ) → List (List ℕ)
 onto_field c [] = (c ∷ []) ∷ []
 onto_field c (field ∷ fields) = (c ∷ field) ∷ fields
+
+abbrev pub is_no_comma : ℕ → Bool
+is_no_comma c = not (nat_eq c 44)
 
 -- the texts between the commas of a text
 abbrev pub fields_of : List ℕ → List (List ℕ)
@@ -41,6 +44,13 @@ condition_number states name = if pointwise nat_eq name (48 ∷ []) then Some 0 
 
 abbrev pub are_declared : List State → List (List ℕ) → Bool
 are_declared states names = list_all (λ name. is_some (condition_number states name)) names
+
+-- a condition that a statement begins is declared
+abbrev pub begin_is_declared : List State → Statement → Bool
+begin_is_declared states nothing = true
+begin_is_declared states echo = true
+begin_is_declared states (begin c) = is_some (condition_number states c)
+begin_is_declared states (return v) = true
 
 -- what can be wrong with a rule
 pub data Cause : Type 0 where
@@ -101,7 +111,7 @@ IsCase g case reading = ((r : Reading) → IsPattern case.rule.pattern r → ⊥
 IsCase g case undefined = (r : Reading) × IsPattern case.rule.pattern r × LeadsUndefined g r.tree
 IsCase g case depth = (r : Reading) × IsPattern case.rule.pattern r × LeadsDeep g r.tree
 IsCase g case action_form = (a : Action) → IsAction case.rule.action a → ⊥
-IsCase g case begin_name = (ss : List Statement) × IsAction case.rule.action (own ss) × (are_declared g.states (begun_names ss) ≡ false)
+IsCase g case begin_name = (ss : List Statement) × IsAction case.rule.action (own ss) × (list_all (begin_is_declared g.states) ss ≡ false)
 IsCase g case no_next = IsAction case.rule.action shared × IsTrue case.is_last
 
 abbrev pub Holds : Ground → Case → Type 0

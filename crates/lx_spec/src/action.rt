@@ -92,7 +92,8 @@ fn value_of(word: Word<'_>) -> Option<Value<'_>>
     }
 }
 
-fn is_condition_name(text: &[u8]) -> bool
+/// Whether the text is an identifier, or `0`.
+pub fn is_condition_name(text: &[u8]) -> bool
     ensures { result ≡ plain.is_condition_name text.now }
 {
     is_identifier(text) || text == b"0".as_slice()

@@ -3,8 +3,10 @@
 #![tactic(auto)]
 
 pub mod action;
+pub mod basis;
 pub mod block;
 pub mod bytes;
+pub mod check;
 pub mod condition;
 pub mod constant;
 pub mod definition;
@@ -14,6 +16,7 @@ pub mod fault;
 pub mod graph;
 pub mod line;
 pub mod outlook;
+pub mod prefix;
 pub mod rule;
 pub mod rule_line;
 pub mod section;
