@@ -30,15 +30,16 @@ not_is_false true h = absurd (false≢true h)
 not_is_false false h = refl
 
 -- what a byte that stands alone is not
-record Alone (spot : Spot) (c : ℕ) (behind : List ℕ) : Type 0 where
+pub record Alone (spot : Spot) (c : ℕ) (behind : List ℕ) : Type 0 where
   pub no_close : nat_eq c 93 ≡ false
   pub no_slash : nat_eq c 92 ≡ false
   pub no_dash : nat_eq c 45 ≡ false
   pub no_period : (nat_eq c 91 && begins_with 46 behind) ≡ false
   pub no_colon : (nat_eq c 91 && begins_with 58 behind) ≡ false
   pub no_equals : (nat_eq c 91 && begins_with 61 behind) ≡ false
+  pub no_inner : opens_inner c behind ≡ false
 
-alone_is : (spot : Spot) (c : ℕ) (behind : List ℕ) → stands_alone spot c behind ≡ true → Alone spot c behind
+pub alone_is : (spot : Spot) (c : ℕ) (behind : List ℕ) → stands_alone spot c behind ≡ true → Alone spot c behind
 alone_is spot c behind h =
     let a = not_or (nat_eq c 93) (nat_eq c 92 || (nat_eq c 45 || (nat_eq c 10 || ((is_opening spot && nat_eq c 94) || opens_inner c behind)))) h in
     let b = not_or (nat_eq c 92) (nat_eq c 45 || (nat_eq c 10 || ((is_opening spot && nat_eq c 94) || opens_inner c behind))) a.1 in
@@ -47,7 +48,7 @@ alone_is spot c behind h =
     let g = not_or (is_opening spot && nat_eq c 94) (opens_inner c behind) f.1 in
     let inner : opens_inner c behind ≡ false = not_is_false (opens_inner c behind) g.1 in
     let parts = three (nat_eq c 91) (begins_with 58 behind) (begins_with 46 behind) (begins_with 61 behind) inner in
-    record { no_close = a.0; no_slash = b.0; no_dash = d.0; no_period = parts.1; no_colon = parts.0; no_equals = parts.2 }
+    record { no_close = a.0; no_slash = b.0; no_dash = d.0; no_period = parts.1; no_colon = parts.0; no_equals = parts.2; no_inner = inner }
   where
     three : (n x y z : Bool) → (n && (x || (y || z))) ≡ false → ((n && x) ≡ false) × ((n && y) ≡ false) × ((n && z) ≡ false)
     three false x y z h = (refl, refl, refl)
@@ -167,6 +168,7 @@ range_end_complete _ _ _ (end_point text c behind p) = go (begins_with 45 (text 
         pick : (begins_with 93 x ≡ true) × ◌≡◌ {A = Option Point1} (Some (45, x)) (Some (c, behind)) ⊎ ((begins_with 93 x ≡ false) × ◌≡◌ {A = Option Point1} None (Some (c, behind))) → ◌≡◌ {A = Option Point1} (Some (45, x)) (Some (c, behind))
         pick (inl (b, f)) = f
         pick (inr (b, f)) = absurd (no_none (c, behind) f)
+
     go : (b : Bool) → begins_with 45 (text ++ behind) ≡ b → range_end_at (text ++ behind) ≡ Some (c, behind)
     go false eb = pick_second (begins_with 45 (text ++ behind)) _ _ eb ∙ point_complete inside text c behind p
     go true eb = pick_first (begins_with 45 (text ++ behind)) _ _ eb ∙ at_dash (drop 1 (text ++ behind)) (ap (point_at inside) (sym (begins_is 45 (text ++ behind) eb)) ∙ point_complete inside text c behind p)
@@ -183,7 +185,7 @@ range_end_sound text c behind e = go (cases_of (begins_with 45 text) (Some (45, 
     go (inr (b, f)) = let i = point_sound inside text c behind f in record { front = i.front; spelled = end_point (i.front) c behind i.spelled; joins = i.joins }
 
 -- the names of classes are runs of name bytes
-class_name : (name : List ℕ) (ranges : List (ℕ × ℕ)) → class_ranges name ≡ Some ranges → list_all is_name_byte name ≡ true
+pub class_name : (name : List ℕ) (ranges : List (ℕ × ℕ)) → class_ranges name ≡ Some ranges → list_all is_name_byte name ≡ true
 class_name name ranges e =
     by (codes "upper") refl _ _ (by (codes "lower") refl _ _ (by (codes "alpha") refl _ _ (by (codes "digit") refl _ _ (by (codes "alnum") refl _ _ (by (codes "xdigit") refl _ _
     (by (codes "space") refl _ _ (by (codes "blank") refl _ _ (by (codes "punct") refl _ _ (by (codes "print") refl _ _ (by (codes "graph") refl _ _ (by (codes "cntrl") refl _ _ (λ none. absurd (no_none ranges none))))))))))))) e
@@ -226,7 +228,7 @@ member_complete _ _ _ _ (range spot text low text' high behind p follows end le)
     let no = point_no_pair spot text low (45 ∷ (text' ++ behind)) p in
     let at_end : option_and_then (range_from low) (range_end_at (text' ++ behind)) ≡ Some ((low, high) ∷ [], behind) = ap (option_and_then (range_from low)) (range_end_complete text' high behind end) ∙ pick_first (nat_le low high) _ _ (le-leb low high le) in
     ap (member_at spot) e ∙ (pick_second (begins_pair 91 58 (text ++ (45 ∷ (text' ++ behind)))) _ _ no.0 ∙ (pick_second (begins_pair 91 61 (text ++ (45 ∷ (text' ++ behind)))) _ _ no.1 ∙
-      (ap (option_and_then member_from) (point_complete spot text low (45 ∷ (text' ++ behind)) p) ∙ (pick_first (range_follows (45 ∷ (text' ++ behind))) _ _ follows ∙ at_end))))
+    (ap (option_and_then member_from) (point_complete spot text low (45 ∷ (text' ++ behind)) p) ∙ (pick_first (range_follows (45 ∷ (text' ++ behind))) _ _ follows ∙ at_end))))
 member_complete _ _ _ _ (equivalence spot c behind h) = ap (option_map {U = Ranges1} (λ f. ((f.0, f.0) ∷ [], f.1))) (marked_complete 61 c behind h)
 member_complete _ _ _ _ (class spot name ranges behind known) =
     let e : (name ++ (58 ∷ 93 ∷ [])) ++ behind ≡ name ++ (58 ∷ 93 ∷ behind) = append_assoc name (58 ∷ 93 ∷ []) behind in
@@ -249,7 +251,7 @@ member_from_sound : (spot : Spot) (text : List ℕ) (low : ℕ) (rest : List ℕ
 member_from_sound spot text low rest ranges behind i e = go (cases_of (range_follows rest) (option_and_then (range_from low) (range_end_at (drop 1 rest))) (Some ((low, low) ∷ [], rest)) (Some (ranges, behind)) e)
   where
     ranged : (high : ℕ) (after : List ℕ) → range_follows rest ≡ true → range_end_at (drop 1 rest) ≡ Some (high, after) →
-      (nat_le low high ≡ true) × ◌≡◌ {A = Option Ranges1} (Some ((low, high) ∷ [], after)) (Some (ranges, behind)) ⊎ ((nat_le low high ≡ false) × ◌≡◌ {A = Option Ranges1} None (Some (ranges, behind))) → IsFront (Member spot) text ranges behind
+        (nat_le low high ≡ true) × ◌≡◌ {A = Option Ranges1} (Some ((low, high) ∷ [], after)) (Some (ranges, behind)) ⊎ ((nat_le low high ≡ false) × ◌≡◌ {A = Option Ranges1} None (Some (ranges, behind))) → IsFront (Member spot) text ranges behind
     ranged high after follows at (inl (b, f)) =
         let pair : ◌≡◌ {A = Ranges1} ((low, high) ∷ [], after) (ranges, behind) = same_some ((low, high) ∷ [], after) (ranges, behind) f in
         let same : (low, high) ∷ [] ≡ ranges = ap (λ p. p.0) pair in
@@ -336,14 +338,22 @@ members_sound : (spot : Spot) (text : List ℕ) (m : List (ℕ × ℕ)) (ms : Li
 members_sound spot text m ms behind e =
     opened_sound (Member inside) (member_at inside) 93 (member_complete inside) (member_sound inside) (member_some inside) member_closes (Member spot) (member_at spot) (member_sound spot) text m ms behind e
 
-pub bracket_complete : (text : List ℕ) (s : set.FinSet nat_cmp) (behind : List ℕ) → Bracket text s behind → BracketAt text s behind
-bracket_complete _ _ _ (matching text m ms behind o) = record { rest = text; opens = refl; found = go (begins_with 94 (text ++ behind)) refl }
+-- members directly behind `[` don't begin with `^`
+pub opening_no_caret : (text : List ℕ) (m : List (ℕ × ℕ)) (ms : List (List (ℕ × ℕ))) (behind : List ℕ) → Opened (Member opening) (Member inside) 93 text m ms behind → begins_with 94 (text ++ behind) ≡ false
+opening_no_caret text m ms behind o = go (begins_with 94 (text ++ behind)) refl
   where
-    go : (b : Bool) → begins_with 94 (text ++ behind) ≡ b → bracket_at (text ++ behind) ≡ Some (bytes_where (in_members (m ∷ ms)), behind)
-    go false eb = pick_second (begins_with 94 (text ++ behind)) _ _ eb ∙ ap (option_map {U = Set1} (λ f. (bytes_where (in_members (f.0 ∷ f.1)), f.2))) (members_complete opening text m ms behind o)
+    go : (b : Bool) → begins_with 94 (text ++ behind) ≡ b → b ≡ false
+    go false eb = refl
     go true eb =
         let none : members_at opening (94 ∷ drop 1 (text ++ behind)) ≡ None = refl in
         absurd (no_none (m, ms, behind) (sym none ∙ (ap (members_at opening) (sym (begins_is 94 (text ++ behind) eb)) ∙ members_complete opening text m ms behind o)))
+
+pub bracket_complete : (text : List ℕ) (s : set.FinSet nat_cmp) (behind : List ℕ) → Bracket text s behind → BracketAt text s behind
+bracket_complete _ _ _ (matching text m ms behind o) = record {
+  rest = text;
+  opens = refl;
+  found = pick_second (begins_with 94 (text ++ behind)) _ _ (opening_no_caret text m ms behind o) ∙ ap (option_map {U = Set1} (λ f. (bytes_where (in_members (f.0 ∷ f.1)), f.2))) (members_complete opening text m ms behind o);
+}
 bracket_complete _ _ _ (excluding text m ms behind o) = record {
   rest = 94 ∷ text;
   opens = refl;
@@ -356,20 +366,22 @@ bracket_sound text s behind e =
     go (cases_of (begins_with 94 text) (option_map {U = Set1} (λ f. (bytes_where (λ b. not (in_members (f.0 ∷ f.1) b)), f.2)) (members_at behind_caret (drop 1 text))) (option_map {U = Set1} (λ f. (bytes_where (in_members (f.0 ∷ f.1)), f.2)) (members_at opening text)) (Some (s, behind)) e)
   where
     go : (begins_with 94 text ≡ true) × (option_map {U = Set1} (λ f. (bytes_where (λ b. not (in_members (f.0 ∷ f.1) b)), f.2)) (members_at behind_caret (drop 1 text)) ≡ Some (s, behind)) ⊎
-         ((begins_with 94 text ≡ false) × (option_map {U = Set1} (λ f. (bytes_where (in_members (f.0 ∷ f.1)), f.2)) (members_at opening text) ≡ Some (s, behind))) → (front : List ℕ) × Bracket (91 ∷ front) s behind × (text ≡ front ++ behind)
+        ((begins_with 94 text ≡ false) × (option_map {U = Set1} (λ f. (bytes_where (in_members (f.0 ∷ f.1)), f.2)) (members_at opening text) ≡ Some (s, behind))) → (front : List ℕ) × Bracket (91 ∷ front) s behind × (text ≡ front ++ behind)
     go (inl (b, f)) =
         let (found, at, pair) = map_is {B = Set1} (λ f. (bytes_where (λ b. not (in_members (f.0 ∷ f.1) b)), f.2)) (members_at behind_caret (drop 1 text)) (s, behind) f in
         let k = members_sound behind_caret (drop 1 text) (found.0) (found.1) (found.2) at in
         let same : bytes_where (λ b. not (in_members (found.0 ∷ found.1) b)) ≡ s = ap (λ p. p.0) pair in
-        let last : found.2 ≡ behind = ap (λ p. p.1) pair in
-        (94 ∷ k.0,
-         subst (λ v. Bracket (91 ∷ 94 ∷ k.0) s v) last (subst (λ x. Bracket (91 ∷ 94 ∷ k.0) x (found.2)) same (excluding (k.0) (found.0) (found.1) (found.2) k.1)),
-         begins_is 94 text b ∙ ap (λ t. 94 ∷ t) (k.2 ∙ ap (λ v. k.0 ++ v) last))
+        let last : found.2 ≡ behind = ap (λ p. p.1) pair in (
+          94 ∷ k.0,
+          subst (λ v. Bracket (91 ∷ 94 ∷ k.0) s v) last (subst (λ x. Bracket (91 ∷ 94 ∷ k.0) x (found.2)) same (excluding (k.0) (found.0) (found.1) (found.2) k.1)),
+          begins_is 94 text b ∙ ap (λ t. 94 ∷ t) (k.2 ∙ ap (λ v. k.0 ++ v) last),
+        )
     go (inr (b, f)) =
         let (found, at, pair) = map_is {B = Set1} (λ f. (bytes_where (in_members (f.0 ∷ f.1)), f.2)) (members_at opening text) (s, behind) f in
         let k = members_sound opening text (found.0) (found.1) (found.2) at in
         let same : bytes_where (in_members (found.0 ∷ found.1)) ≡ s = ap (λ p. p.0) pair in
-        let last : found.2 ≡ behind = ap (λ p. p.1) pair in
-        (k.0,
-         subst (λ v. Bracket (91 ∷ k.0) s v) last (subst (λ x. Bracket (91 ∷ k.0) x (found.2)) same (matching (k.0) (found.0) (found.1) (found.2) k.1)),
-         k.2 ∙ ap (λ v. k.0 ++ v) last)
+        let last : found.2 ≡ behind = ap (λ p. p.1) pair in (
+          k.0,
+          subst (λ v. Bracket (91 ∷ k.0) s v) last (subst (λ x. Bracket (91 ∷ k.0) x (found.2)) same (matching (k.0) (found.0) (found.1) (found.2) k.1)),
+          k.2 ∙ ap (λ v. k.0 ++ v) last,
+        )

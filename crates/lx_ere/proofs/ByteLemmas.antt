@@ -18,7 +18,7 @@ any_filter test [] q = and_none (test q)
 any_filter test (x ∷ xs) q = go (test x) refl (nat_eq x q) refl (any_filter test xs q)
   where
     go : (b : Bool) → test x ≡ b → (d : Bool) → nat_eq x q ≡ d → list_any (λ y. nat_eq y q) (filter test xs) ≡ (test q && list_any (λ y. nat_eq y q) xs) →
-      list_any (λ y. nat_eq y q) (cond b (x ∷ filter test xs) (filter test xs)) ≡ (test q && (d || list_any (λ y. nat_eq y q) xs))
+        list_any (λ y. nat_eq y q) (cond b (x ∷ filter test xs) (filter test xs)) ≡ (test q && (d || list_any (λ y. nat_eq y q) xs))
     go true e true f h = let same : x ≡ q = grind (arith, nat_tests) in rw (f, ← same, e) refl
     go true e false f h = rw f h
     go false e true f h = let same : x ≡ q = grind (arith, nat_tests) in let no : test q ≡ false = rw (← same) e in rw no at h ∙ rw no refl
@@ -71,6 +71,7 @@ has_bit-with_other words byte q four h ne = elim (cases_eq (q / 64) (byte / 64))
   where
     elsewhere : q / 64 ≢ byte / 64 → has_bit (with_bit words byte) q ≡ has_bit words q
     elsewhere other = rw (get_or-set_other words (byte / 64) (q / 64) (bit_or (get_or words (byte / 64) 0) (1 * 2 ^ (byte % 64) % 2 ^ 64)) 0 other) refl
+
     in_word : q / 64 ≡ byte / 64 → has_bit (with_bit words byte) q ≡ has_bit words q
     in_word same =
         let within : byte / 64 < length words = omega arith in
@@ -84,6 +85,7 @@ insert_is words byte four h test e = same_where (has_bit (with_bit words byte)) 
   where
     here : (q : ℕ) → q ≡ byte → has_bit (with_bit words byte) q ≡ (is_between byte byte q || test q)
     here q same = let within : is_between byte byte byte ≡ true = grind (arith, nat_tests) in rw (same, within) (has_bit-with_same words byte four h)
+
     there : (q : ℕ) → q < 256 → q ≢ byte → has_bit (with_bit words byte) q ≡ (is_between byte byte q || test q)
     there q lt other = let outside : is_between byte byte q ≡ false = grind (arith, nat_tests) in rw outside (has_bit-with_other words byte q four h other ∙ agree (has_bit words) test e q lt)
 
@@ -132,14 +134,16 @@ complement_is words four fits0 fits1 fits2 fits3 test e = same_where _ _ (λ q l
     fits (suc (suc zero)) lt = fits2
     fits (suc (suc (suc zero))) lt = fits3
     fits (suc (suc (suc (suc k)))) lt = absurd (omega (arith, lt))
+
     not_one : (n : ℕ) → n < 2 → nat_eq (1 - n) 1 ≡ not (nat_eq n 1)
     not_one n h = grind (arith, nat_tests)
+
     flips : (q : ℕ) → q < 256 → has_bit ((all_ones - get_or words 0 0) ∷ (all_ones - get_or words 1 0) ∷ (all_ones - get_or words 2 0) ∷ (all_ones - get_or words 3 0) ∷ []) q ≡ not (test q)
     flips q lt =
         let k : q / 64 < 4 = omega arith in
         let low : q % 64 < 64 = omega arith in
         let word : get_or ((all_ones - get_or words 0 0) ∷ (all_ones - get_or words 1 0) ∷ (all_ones - get_or words 2 0) ∷ (all_ones - get_or words 3 0) ∷ []) (q / 64) 0 ≡ all_ones - get_or words (q / 64) 0
-          = flipped_at (get_or words 0 0) (get_or words 1 0) (get_or words 2 0) (get_or words 3 0) (q / 64) k ∙ ap (λ xs. all_ones - get_or xs (q / 64) 0) (sym (four_words words four)) in
+        = flipped_at (get_or words 0 0) (get_or words 1 0) (get_or words 2 0) (get_or words 3 0) (q / 64) k ∙ ap (λ xs. all_ones - get_or xs (q / 64) 0) (sym (four_words words four)) in
         ap (λ w. nat_eq (bit_at w (q % 64)) 1) word ∙ (ap (λ n. nat_eq n 1) (bit_at_not w64 (get_or words (q / 64) 0) (q % 64) (fits (q / 64) k) low) ∙ (not_one (bit_at (get_or words (q / 64) 0) (q % 64)) (bit_at-lt (get_or words (q / 64) 0) (q % 64)) ∙ ap not (agree (has_bit words) test e q lt)))
 
 -- one more range

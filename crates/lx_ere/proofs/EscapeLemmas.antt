@@ -59,19 +59,22 @@ escape_complete _ _ _ (octal [] behind some few all ends small) = absurd (omega 
 escape_complete _ _ _ (octal (d ∷ digits) behind some few all ends small) =
     let first = head_digit 8 d digits all in
     record {
-      rest = d ∷ digits; slash = refl;
+      rest = d ∷ digits;
+      slash = refl;
       found = rw (octal_no_letter d first) (pick_first (is_digit 8 d) _ _ first ∙ run_front 8 3 (d ∷ digits) behind all few ends small);
     }
 escape_complete _ _ _ (hexadecimal [] behind some all ends small) = absurd (omega (arith, some))
 escape_complete _ _ _ (hexadecimal (d ∷ digits) behind some all ends small) =
     let long : length (d ∷ digits) ≤ length ((d ∷ digits) ++ behind) = omega (arith, length-append (d ∷ digits) behind) in
     record {
-      rest = 120 ∷ d ∷ digits; slash = refl;
+      rest = 120 ∷ d ∷ digits;
+      slash = refl;
       found = hexadecimal_front (length ((d ∷ digits) ++ behind)) (d ∷ digits) behind some all long ends small;
     }
 escape_complete _ _ _ (only_x behind ends) = record { rest = 120 ∷ []; slash = refl; found = rw (positive_length 16 0 behind ends) refl }
 escape_complete _ _ _ (itself c behind no_letter no_octal no_x no_newline) = record {
-  rest = c ∷ []; slash = refl;
+  rest = c ∷ [];
+  slash = refl;
   found = rw no_letter (rw no_octal (rw (eq_other c 120 no_x) (rw (eq_other c 10 no_newline) refl)));
 }
 
@@ -168,4 +171,3 @@ escape_sound (c ∷ text) byte behind e = by_letter (letter_byte c) refl e
     by_letter : (o : Option ℕ) → letter_byte c ≡ o → letter_or_other o c text ≡ Some (byte, behind) → IsEscapeFront (c ∷ text) byte behind
     by_letter (Some b) eo e = let p = exact b text e in record { rest = c ∷ []; spelled = rw (← p.0, ← p.1) (letter c b text eo); joins = ap (λ x. c ∷ x) p.1 }
     by_letter None eo e = by_octal (is_digit 8 c) refl eo e
-

@@ -10,3 +10,5 @@ pub mod NumberLemmas
 pub mod MemberLoop
 pub mod QuoteLoop
 pub mod ReadLemmas
+pub mod EndLemmas
+pub mod ReachLemmas

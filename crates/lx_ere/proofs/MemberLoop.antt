@@ -49,8 +49,8 @@ members_step test text rest s next m behind opens at adds r = record {
   done = r.done ++ m ∷ [];
   scanned = scan_step (member_at inside) 93 text (r.done) rest m behind opens at (member_shorter rest m behind at) r.scanned;
   holds = adds (λ b. test b || in_members (r.done) b) r.holds
-    ∙ same_where (λ b. in_ranges m b || (test b || in_members (r.done) b)) (λ b. test b || in_members (r.done ++ m ∷ []) b)
-        (λ b _. or_move (in_ranges m b) (test b) (in_members (r.done) b) ∙ ap (λ x. test b || x) (sym (in_members_more (r.done) m b)));
+      ∙ same_where (λ b. in_ranges m b || (test b || in_members (r.done) b)) (λ b. test b || in_members (r.done ++ m ∷ []) b)
+      (λ b _. or_move (in_ranges m b) (test b) (in_members (r.done) b) ∙ ap (λ x. test b || x) (sym (in_members_more (r.done) m b)));
 }
 
 pub members_end : (test : ℕ → Bool) (text rest : List ℕ) (s : set.FinSet nat_cmp) → begins_with 93 rest ≡ true → MembersRead test text rest s →

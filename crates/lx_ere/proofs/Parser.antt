@@ -51,14 +51,16 @@ mutual
   branch_runs _ _ (then_unit ls ms x y d e) a fs =
       let h = branch_runs ls x d a fs in
       record {
-        b = whole h.b h.u; u = Some y;
+        b = whole h.b h.u;
+        u = Some y;
         goes = runs ls ms (stack (frame a None None) fs) (stack (frame a h.b h.u) fs) (stack (frame a (whole h.b h.u) (Some y)) fs) h.goes (unit_runs ms y e (frame a h.b h.u) fs);
         gives = ap (λ o. whole o (Some y)) h.gives;
       }
   branch_runs _ _ (then_interval ls x low high d) a fs =
       let h = branch_runs ls x d a fs in
       record {
-        b = Some (times x low high); u = None;
+        b = Some (times x low high);
+        u = None;
         goes = runs ls (interval low high ∷ []) (stack (frame a None None) fs) (stack (frame a h.b h.u) fs) (stack (frame a (Some (times x low high)) None) fs) h.goes (rw h.gives refl);
         gives = refl;
       }
@@ -158,13 +160,18 @@ stack_change f g (h ∷ fs) ls ms change (front, inner, s, i, j) =
 
 frame_again : (a b : Option Regex) (u v : Regex) (l : Lexeme) (ls : List Lexeme) → ((ms : List Lexeme) → IsUnit ms u → IsUnit (ms ++ l ∷ []) v) → IsFrame (frame a b (Some u)) ls → IsFrame (frame a b (Some v)) (ls ++ l ∷ [])
 frame_again a None u v l ls make i = record {
-  front = i.front; back = i.back ++ l ∷ []; before = i.before; started = make (i.back) i.started;
+  front = i.front;
+  back = i.back ++ l ∷ [];
+  before = i.before;
+  started = make (i.back) i.started;
   joins = ap (λ xs. xs ++ l ∷ []) i.joins ∙ append_assoc (i.front) (i.back) (l ∷ []);
 }
 frame_again a (Some b) u v l ls make i =
     let s = i.started in
     record {
-      front = i.front; back = i.back ++ l ∷ []; before = i.before;
+      front = i.front;
+      back = i.back ++ l ∷ [];
+      before = i.before;
       started = (s.0, s.1 ++ l ∷ [], s.2, make (s.1) (s.3), ap (λ xs. xs ++ l ∷ []) (s.4) ∙ append_assoc (s.0) (s.1) (l ∷ []));
       joins = ap (λ xs. xs ++ l ∷ []) i.joins ∙ append_assoc (i.front) (i.back) (l ∷ []);
     }
@@ -186,11 +193,13 @@ interval_keeps a b u fs ls low high t s e = go (whole b u) refl e
     go (Some x) ew e =
         let h : stack (frame a (Some (times x low high)) None) fs ≡ t = cc in
         rw (← h) (stack_change (frame a b u) (frame a (Some (times x low high)) None) fs ls (interval low high ∷ [])
-          (λ ms i. record {
-            front = i.front; back = i.back ++ interval low high ∷ []; before = i.before;
-            started = then_interval (i.back) x low high (whole_is b u (i.back) x i.started ew);
-            joins = ap (λ xs. xs ++ interval low high ∷ []) i.joins ∙ append_assoc (i.front) (i.back) (interval low high ∷ []);
-          }) s)
+        (λ ms i. record {
+          front = i.front;
+          back = i.back ++ interval low high ∷ [];
+          before = i.before;
+          started = then_interval (i.back) x low high (whole_is b u (i.back) x i.started ew);
+          joins = ap (λ xs. xs ++ interval low high ∷ []) i.joins ∙ append_assoc (i.front) (i.back) (interval low high ∷ []);
+        }) s)
 
 bar_keeps : (a b u : Option Regex) (fs : List Frame) (ls : List Lexeme) (t : Stack) →
     IsStack (frame a b u) fs ls → step bar (stack (frame a b u) fs) ≡ Some t → IsStack (t.top) (t.below) (ls ++ bar ∷ [])
@@ -201,7 +210,7 @@ bar_keeps a b u fs ls t s e = go (total (frame a b u)) refl e
     go (Some x) ew e =
         let h : stack (frame (Some x) None None) fs ≡ t = cc in
         rw (← h) (stack_change (frame a b u) (frame (Some x) None None) fs ls (bar ∷ [])
-          (λ ms i. record { front = ms ++ bar ∷ []; back = []; before = (ms, total_is a b u ms x i ew, refl); started = refl; joins = grind (arith, common_steps) }) s)
+        (λ ms i. record { front = ms ++ bar ∷ []; back = []; before = (ms, total_is a b u ms x i ew, refl); started = refl; joins = grind (arith, common_steps) }) s)
 
 close_keeps : (a b u : Option Regex) (fs : List Frame) (ls : List Lexeme) (t : Stack) →
     IsStack (frame a b u) fs ls → step close_group (stack (frame a b u) fs) ≡ Some t → IsStack (t.top) (t.below) (ls ++ close_group ∷ [])
@@ -241,7 +250,7 @@ run_keeps [] st t ls s e = let h : st ≡ t = cc in let k : ls ++ [] ≡ ls = gr
 run_keeps (l ∷ ms) st t ls s e = go (step l st) refl e (λ next kept f. run_keeps ms next t (ls ++ l ∷ []) kept f)
   where
     go : (o : Option Stack) → step l st ≡ o → option_and_then (run ms) o ≡ Some t →
-      ((next : Stack) → IsStack (next.top) (next.below) (ls ++ l ∷ []) → run ms next ≡ Some t → IsStack (t.top) (t.below) ((ls ++ l ∷ []) ++ ms)) → IsStack (t.top) (t.below) (ls ++ l ∷ ms)
+        ((next : Stack) → IsStack (next.top) (next.below) (ls ++ l ∷ []) → run ms next ≡ Some t → IsStack (t.top) (t.below) ((ls ++ l ∷ []) ++ ms)) → IsStack (t.top) (t.below) (ls ++ l ∷ ms)
     go None eo e rest = absurd (let h : None ≡ Some t = e in cc)
     go (Some next) eo e rest = rw append_assoc at (rest next (step_keeps l st next ls s eo) e)
 

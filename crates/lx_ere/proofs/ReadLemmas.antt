@@ -53,9 +53,9 @@ Reached-step text rest st next l behind e s r = record {
   leads = runs (r.read) (l ∷ []) (stack empty_frame []) st next r.leads (rw s refl);
   sound = λ ms ending h. let i = lexeme_sound rest l behind e in rw append_assoc (r.sound (l ∷ ms) ending (i.front, behind, i.spelled, i.joins, h));
   complete = λ ks ending stops h.
-    let a = r.complete ks ending stops h in
-    let b = Lexes-first rest l behind (a.0) ending stops e (a.1) in
-    (b.0, b.1, a.2 ∙ (ap (λ x. r.read ++ x) (b.2) ∙ sym (append_assoc (r.read) (l ∷ []) (b.0))));
+      let a = r.complete ks ending stops h in
+      let b = Lexes-first rest l behind (a.0) ending stops e (a.1) in
+      (b.0, b.1, a.2 ∙ (ap (λ x. r.read ++ x) (b.2) ∙ sym (append_assoc (r.read) (l ∷ []) (b.0))));
 }
 
 nil_right : (ls : List Lexeme) → ls ++ [] ≡ ls
@@ -124,8 +124,10 @@ ending_sound ending b e = by_empty (cases_of (nat_eq (length ending) 0) (Some fa
     empty_is : (xs : List ℕ) → length xs ≡ 0 → xs ≡ []
     empty_is [] h = refl
     empty_is (x ∷ xs) h = absurd (omega (arith, h))
+
     of_text : (word : List ℕ) → bytes_eq ending word ≡ true → IsEnding word b → IsEnding ending b
     of_text word h i = let decides = bytes_eq-Decides ending word in subst (λ t. IsEnding t b) (sym (decides.0 h)) i
+
     by_text : ((bytes_eq ending (codes "$") || bytes_eq ending (codes "/\\n")) ≡ true) × ◌≡◌ {A = Option Bool} (Some true) (Some b) ⊎ (((bytes_eq ending (codes "$") || bytes_eq ending (codes "/\\n")) ≡ false) × ◌≡◌ {A = Option Bool} None (Some b)) → IsEnding ending b
     by_text (inl (h, f)) =
         let is : true ≡ b = same_some true b f in
@@ -134,6 +136,7 @@ ending_sound ending b e = by_empty (cases_of (nat_eq (length ending) 0) (Some fa
           | inr two ↦ of_text (codes "/\\n") two (subst (IsEnding (47 ∷ 92 ∷ 110 ∷ [])) is slash_newline)
         ]
     by_text (inr (h, f)) = absurd (no_none b f)
+
     by_empty : (nat_eq (length ending) 0 ≡ true) × ◌≡◌ {A = Option Bool} (Some false) (Some b) ⊎ ((nat_eq (length ending) 0 ≡ false) × (cond {A = Option Bool} (bytes_eq ending (codes "$") || bytes_eq ending (codes "/\\n")) (Some true) None ≡ Some b)) → IsEnding ending b
     by_empty (inl (h, f)) =
         let none : ending ≡ [] = empty_is ending (eqb-true (length ending) 0 h) in
@@ -164,6 +167,7 @@ parts_of text r p = go (r.line_begin) refl
   where
     reads : Reads (p.body) (r.tree) (p.ending)
     reads = record { lexemes = p.lexemes; spelled = p.spelled; alternation = p.alternation; stops = ending_stops (p.ending) (r.line_end) p.ends }
+
     go : (b : Bool) → r.line_begin ≡ b → Parts text r
     go true eb =
         let whole : text ≡ 94 ∷ p.body = p.begins ∙ ap (λ c. cond {A = List ℕ} c (94 ∷ p.body) (p.body)) eb in
@@ -210,6 +214,7 @@ one_pattern text r s p q =
   where
     make : Bool → Bool → Regex → Reading
     make a b t = record { line_begin = a; line_end = b; tree = t }
+
     join : r.line_begin ≡ s.line_begin → r.line_end ≡ s.line_end → r.tree ≡ s.tree → r ≡ s
     join a b c = three r.line_begin s.line_begin r.line_end s.line_end r.tree s.tree a b c
       where

@@ -27,6 +27,7 @@ module _ {A : Type 0} (item_at : List ℕ → Option (A × List ℕ)) (close : �
       nil_right : (xs : List A) → xs ++ [] ≡ xs
       nil_right [] = refl
       nil_right (x ∷ xs) = ap (λ ys. x ∷ ys) (nil_right xs)
+
       go : (n : ℕ) → length rest < n → all_items_at item_at close text ≡ option_map (λ g. (done ++ g.0, g.1)) (items_at item_at close n rest) → all_items_at item_at close text ≡ Some (done, drop 1 rest)
       go zero lt e = absurd (omega (arith, lt))
       go (suc n) lt e = e ∙ (ap (option_map (λ g. (done ++ g.0, g.1))) (pick_first (begins_with close rest) _ _ b) ∙ ap (λ xs. Some (xs, drop 1 rest)) (nil_right done))
@@ -39,12 +40,13 @@ module _ {A : Type 0} (item_at : List ℕ → Option (A × List ℕ)) (close : �
       go (suc n) lt e = e ∙ ap (option_map (λ g. (done ++ g.0, g.1))) (pick_second (begins_with close rest) _ _ b ∙ ap (option_and_then (λ f. option_map (λ g. (f.0 ∷ g.0, g.1)) (items_at item_at close n (f.1)))) i)
 
   pub scan_step : (text : List ℕ) (done : List A) (rest : List ℕ) (x : A) (behind : List ℕ) → begins_with close rest ≡ false → item_at rest ≡ Some (x, behind) → length behind < length rest →
-    Scanned item_at close text done rest → Scanned item_at close text (done ++ x ∷ []) behind
+      Scanned item_at close text done rest → Scanned item_at close text (done ++ x ∷ []) behind
   scan_step text done rest x behind b i shorter s = go (s.fuel) s.enough s.same
     where
       moved : (o : Option (List A × List ℕ)) → option_map {U = List A × List ℕ} (λ g. (done ++ g.0, g.1)) (option_map {U = List A × List ℕ} (λ g. (x ∷ g.0, g.1)) o) ≡ option_map {U = List A × List ℕ} (λ g. ((done ++ x ∷ []) ++ g.0, g.1)) o
       moved None = refl
       moved (Some g) = ap (λ xs. Some (xs, g.1)) (sym (append_assoc done (x ∷ []) (g.0)))
+
       go : (n : ℕ) → length rest < n → all_items_at item_at close text ≡ option_map (λ g. (done ++ g.0, g.1)) (items_at item_at close n rest) → Scanned item_at close text (done ++ x ∷ []) behind
       go zero lt e = absurd (omega (arith, lt))
       go (suc n) lt e = record {
@@ -59,7 +61,6 @@ module _ {A : Type 0} (Item : List ℕ → A → List ℕ → Type 0) (item_at :
     (sound : (text : List ℕ) (x : A) (behind : List ℕ) → item_at text ≡ Some (x, behind) → IsFront Item text x behind)
     (some : (front : List ℕ) (x : A) (behind : List ℕ) → Item front x behind → 0 < length front)
     (closes : (text : List ℕ) → item_at (close ∷ text) ≡ None) where
-
   pub item_shorter : (text : List ℕ) (x : A) (behind : List ℕ) → item_at text ≡ Some (x, behind) → length behind < length text
   item_shorter text x behind e =
       let i = sound text x behind e in
@@ -94,8 +95,8 @@ module _ {A : Type 0} (Item : List ℕ → A → List ℕ → Type 0) (item_at :
       (λ t ys v. items_sound n t ys v)
     where
       go : ((begins_with close text ≡ true) × ◌≡◌ {A = Option (List A × List ℕ)} (Some ([], drop 1 text)) (Some (xs, behind))) ⊎
-           ((begins_with close text ≡ false) × ◌≡◌ {A = Option (List A × List ℕ)} (option_and_then (λ f. option_map (λ g. (f.0 ∷ g.0, g.1)) (items_at item_at close n (f.1))) (item_at text)) (Some (xs, behind))) →
-           ((t : List ℕ) (ys : List A) (v : List ℕ) → items_at item_at close n t ≡ Some (ys, v) → IsFront (Closed Item close) t ys v) → IsFront (Closed Item close) text xs behind
+          ((begins_with close text ≡ false) × ◌≡◌ {A = Option (List A × List ℕ)} (option_and_then (λ f. option_map (λ g. (f.0 ∷ g.0, g.1)) (items_at item_at close n (f.1))) (item_at text)) (Some (xs, behind))) →
+          ((t : List ℕ) (ys : List A) (v : List ℕ) → items_at item_at close n t ≡ Some (ys, v) → IsFront (Closed Item close) t ys v) → IsFront (Closed Item close) text xs behind
       go (inl (b, f)) rec =
           let pair : ◌≡◌ {A = List A × List ℕ} ([], drop 1 text) (xs, behind) = same_some ([], drop 1 text) (xs, behind) f in
           let none : [] ≡ xs = ap (λ p. p.0) pair in
@@ -117,8 +118,8 @@ module _ {A : Type 0} (Item : List ℕ → A → List ℕ → Type 0) (item_at :
           }
 
   pub opened_complete : (First : List ℕ → A → List ℕ → Type 0) (first_at : List ℕ → Option (A × List ℕ)) →
-    ((front : List ℕ) (x : A) (behind : List ℕ) → First front x behind → first_at (front ++ behind) ≡ Some (x, behind)) →
-    (text : List ℕ) (x : A) (xs : List A) (behind : List ℕ) → Opened First Item close text x xs behind → opened_at first_at item_at close (text ++ behind) ≡ Some (x, xs, behind)
+      ((front : List ℕ) (x : A) (behind : List ℕ) → First front x behind → first_at (front ++ behind) ≡ Some (x, behind)) →
+      (text : List ℕ) (x : A) (xs : List A) (behind : List ℕ) → Opened First Item close text x xs behind → opened_at first_at item_at close (text ++ behind) ≡ Some (x, xs, behind)
   opened_complete First first_at complete_first text x xs behind (front, rest, d, j, more) =
       let e : text ++ behind ≡ front ++ (rest ++ behind) = ap (λ t. t ++ behind) j ∙ append_assoc front rest behind in
       let at : first_at (front ++ (rest ++ behind)) ≡ Some (x, rest ++ behind) = complete_first front x (rest ++ behind) d in
@@ -126,8 +127,8 @@ module _ {A : Type 0} (Item : List ℕ → A → List ℕ → Type 0) (item_at :
       ap (opened_at first_at item_at close) e ∙ (ap (option_and_then (λ f. option_map (λ g. (f.0, g.0, g.1)) (all_items_at item_at close (f.1)))) at ∙ ap (option_map (λ g. (x, g.0, g.1))) inner)
 
   pub opened_sound : (First : List ℕ → A → List ℕ → Type 0) (first_at : List ℕ → Option (A × List ℕ)) →
-    ((text : List ℕ) (x : A) (behind : List ℕ) → first_at text ≡ Some (x, behind) → IsFront First text x behind) →
-    (text : List ℕ) (x : A) (xs : List A) (behind : List ℕ) → opened_at first_at item_at close text ≡ Some (x, xs, behind) → (front : List ℕ) × Opened First Item close front x xs behind × (text ≡ front ++ behind)
+      ((text : List ℕ) (x : A) (behind : List ℕ) → first_at text ≡ Some (x, behind) → IsFront First text x behind) →
+      (text : List ℕ) (x : A) (xs : List A) (behind : List ℕ) → opened_at first_at item_at close text ≡ Some (x, xs, behind) → (front : List ℕ) × Opened First Item close front x xs behind × (text ≡ front ++ behind)
   opened_sound First first_at sound_first text x xs behind e =
       let (first, at, more) = then_is (λ f. option_map (λ g. (f.0, g.0, g.1)) (all_items_at item_at close (f.1))) (first_at text) (x, xs, behind) e in
       let (rest, found, triple) = map_is (λ g. (first.0, g.0, g.1)) (all_items_at item_at close (first.1)) (x, xs, behind) more in
@@ -137,7 +138,8 @@ module _ {A : Type 0} (Item : List ℕ → A → List ℕ → Type 0) (item_at :
       let i = sound_first text (first.0) (first.1) at in
       let k = items_sound (suc (length (first.1))) (first.1) (rest.0) (rest.1) found in
       let spelled : First (i.front) (first.0) (k.front ++ rest.1) = subst (First (i.front) (first.0)) k.joins i.spelled in
-      let whole : Opened First Item close (i.front ++ k.front) (first.0) (rest.0) (rest.1) = (i.front, k.front, spelled, refl, k.spelled) in
-      (i.front ++ k.front,
-       subst (λ v. Opened First Item close (i.front ++ k.front) x xs v) last (subst (λ ys. Opened First Item close (i.front ++ k.front) x ys (rest.1)) list (subst (λ y. Opened First Item close (i.front ++ k.front) y (rest.0) (rest.1)) one whole)),
-       i.joins ∙ (ap (λ t. i.front ++ t) (k.joins ∙ ap (λ v. k.front ++ v) last) ∙ sym (append_assoc (i.front) (k.front) behind)))
+      let whole : Opened First Item close (i.front ++ k.front) (first.0) (rest.0) (rest.1) = (i.front, k.front, spelled, refl, k.spelled) in (
+        i.front ++ k.front,
+        subst (λ v. Opened First Item close (i.front ++ k.front) x xs v) last (subst (λ ys. Opened First Item close (i.front ++ k.front) x ys (rest.1)) list (subst (λ y. Opened First Item close (i.front ++ k.front) y (rest.0) (rest.1)) one whole)),
+        i.joins ∙ (ap (λ t. i.front ++ t) (k.joins ∙ ap (λ v. k.front ++ v) last) ∙ sym (append_assoc (i.front) (k.front) behind)),
+      )

@@ -63,20 +63,21 @@ quoted_byte_closes text = refl
 string_complete : (text : List ℕ) (first : ℕ) (more behind : List ℕ) → Opened QuotedByte QuotedByte 34 text first more behind → string_at (text ++ behind) ≡ Some (quoted first more, behind)
 string_complete text first more behind o =
     ap (option_map {U = Lexeme1} (λ f. (quoted (f.0) (f.1), f.2)))
-      (opened_complete QuotedByte quoted_byte_at 34 quoted_byte_complete quoted_byte_sound quoted_byte_some quoted_byte_closes QuotedByte quoted_byte_at quoted_byte_complete text first more behind o)
+    (opened_complete QuotedByte quoted_byte_at 34 quoted_byte_complete quoted_byte_sound quoted_byte_some quoted_byte_closes QuotedByte quoted_byte_at quoted_byte_complete text first more behind o)
 
 string_sound : (text : List ℕ) (l : Lexeme) (behind : List ℕ) → string_at text ≡ Some (l, behind) → (front : List ℕ) × Spells (34 ∷ front) l behind × (text ≡ front ++ behind)
 string_sound text l behind e =
     let (found, at, pair) = map_is {B = Lexeme1} (λ f. (quoted (f.0) (f.1), f.2)) (opened_at quoted_byte_at quoted_byte_at 34 text) (l, behind) e in
     let k = opened_sound QuotedByte quoted_byte_at 34 quoted_byte_complete quoted_byte_sound quoted_byte_some quoted_byte_closes QuotedByte quoted_byte_at quoted_byte_sound text (found.0) (found.1) (found.2) at in
     let same : quoted (found.0) (found.1) ≡ l = ap (λ p. p.0) pair in
-    let last : found.2 ≡ behind = ap (λ p. p.1) pair in
-    (k.0,
-     subst (λ v. Spells (34 ∷ k.0) l v) last (subst (λ x. Spells (34 ∷ k.0) x (found.2)) same (of_string (k.0) (found.0) (found.1) (found.2) k.1)),
-     k.2 ∙ ap (λ v. k.0 ++ v) last)
+    let last : found.2 ≡ behind = ap (λ p. p.1) pair in (
+      k.0,
+      subst (λ v. Spells (34 ∷ k.0) l v) last (subst (λ x. Spells (34 ∷ k.0) x (found.2)) same (of_string (k.0) (found.0) (found.1) (found.2) k.1)),
+      k.2 ∙ ap (λ v. k.0 ++ v) last,
+    )
 
 -- names
-identifier_bytes : (n : List ℕ) → is_identifier n ≡ true → list_all is_name_byte n ≡ true
+pub identifier_bytes : (n : List ℕ) → is_identifier n ≡ true → list_all is_name_byte n ≡ true
 identifier_bytes [] h = absurd (false≢true h)
 identifier_bytes (c ∷ more) h =
     let both = and_parts (is_name_start c) (list_all is_name_byte more) h in
@@ -105,10 +106,11 @@ name_sound k text l behind e = go (cases_of (is_identifier (take k text)) (optio
     go (inl (b, f)) =
         let (rest, at, pair) = map_is {B = Lexeme1} (λ rest. (name (take k text), rest)) (behind_byte 125 (drop k text)) (l, behind) f in
         let same : name (take k text) ≡ l = ap (λ p. p.0) pair in
-        let last : rest ≡ behind = ap (λ p. p.1) pair in
-        (take k text ++ (125 ∷ []),
-         subst (λ x. Spells (123 ∷ (take k text ++ (125 ∷ []))) x behind) same (of_name (take k text) behind b),
-         rejoin k text ∙ (ap (λ t. take k text ++ t) (behind_byte_is 125 (drop k text) rest at ∙ ap (λ v. 125 ∷ v) last) ∙ sym (append_assoc (take k text) (125 ∷ []) behind)))
+        let last : rest ≡ behind = ap (λ p. p.1) pair in (
+          take k text ++ (125 ∷ []),
+          subst (λ x. Spells (123 ∷ (take k text ++ (125 ∷ []))) x behind) same (of_name (take k text) behind b),
+          rejoin k text ∙ (ap (λ t. take k text ++ t) (behind_byte_is 125 (drop k text) rest at ∙ ap (λ v. 125 ∷ v) last) ∙ sym (append_assoc (take k text) (125 ∷ []) behind)),
+        )
     go (inr (b, f)) = absurd (no_none (l, behind) f)
 
 -- intervals
@@ -143,6 +145,7 @@ bound_sound text n behind e = go (run_len (is_digit 10) (length text) text) refl
           bound = record { some = omega (arith, len, not_zero); decimal = i.passes; value = value; small = rw (← value) small };
           joins = i.joins ∙ ap (λ t. take k text ++ t) a.behind_is;
         }
+
     go : (k : ℕ) → run_len (is_digit 10) (length text) text ≡ k → bound_of k text ≡ Some (n, behind) → BoundFront text n behind
     go k ek e = found k ek (cases_of (nat_eq k 0) None (number_at 10 k text) (Some (n, behind)) e)
 
@@ -166,8 +169,8 @@ bound_no_brace (d ∷ digits) n behind i = let both = and_parts (is_digit 10 d) 
 between_complete : (digits : List ℕ) (low : ℕ) (more : List ℕ) (high : ℕ) (behind : List ℕ) → IsBound digits low → IsBound more high → low ≤ high → interval_at (digits ++ (44 ∷ (more ++ (125 ∷ behind)))) ≡ Some (interval low (Some high), behind)
 between_complete digits low more high behind i k le =
     let comma : behind_comma_at low (more ++ (125 ∷ behind)) ≡ Some (interval low (Some high), behind)
-      = pick_second (begins_with 125 (more ++ (125 ∷ behind))) _ _ (bound_no_brace more high (125 ∷ behind) k)
-        ∙ (ap (option_and_then (high_at low)) (bound_complete more high (125 ∷ behind) k refl) ∙ pick_first (nat_le low high) _ _ (le-leb low high le)) in
+    = pick_second (begins_with 125 (more ++ (125 ∷ behind))) _ _ (bound_no_brace more high (125 ∷ behind) k)
+    ∙ (ap (option_and_then (high_at low)) (bound_complete more high (125 ∷ behind) k refl) ∙ pick_first (nat_le low high) _ _ (le-leb low high le)) in
     ap (option_and_then behind_low_at) (bound_complete digits low (44 ∷ (more ++ (125 ∷ behind))) i refl) ∙ comma
 
 abbrev BraceFront : List ℕ → Lexeme → List ℕ → Type 0
@@ -182,24 +185,26 @@ comma_sound text low rest l behind i e = go (cases_of (begins_with 125 rest) (So
         let (r, at, pair) = map_is {B = Lexeme1} (λ r. (interval low (Some n), r)) (behind_byte 125 after) (l, behind) f in
         let same : interval low (Some n) ≡ l = ap (λ p. p.0) pair in
         let last : r ≡ behind = ap (λ p. p.1) pair in
-        let tail : rest ≡ (k.digits ++ (125 ∷ [])) ++ behind = k.joins ∙ (ap (λ t. k.digits ++ t) (behind_byte_is 125 after r at ∙ ap (λ v. 125 ∷ v) last) ∙ sym (append_assoc (k.digits) (125 ∷ []) behind)) in
-        (i.digits ++ (44 ∷ (k.digits ++ (125 ∷ []))),
-         subst (λ x. Spells (123 ∷ (i.digits ++ (44 ∷ (k.digits ++ (125 ∷ []))))) x behind) same (between (i.digits) low (k.digits) n behind i.bound k.bound (leb-true low n b)),
-         i.joins ∙ (ap (λ t. i.digits ++ (44 ∷ t)) tail ∙ sym (append_assoc (i.digits) (44 ∷ (k.digits ++ (125 ∷ []))) behind)))
+        let tail : rest ≡ (k.digits ++ (125 ∷ [])) ++ behind = k.joins ∙ (ap (λ t. k.digits ++ t) (behind_byte_is 125 after r at ∙ ap (λ v. 125 ∷ v) last) ∙ sym (append_assoc (k.digits) (125 ∷ []) behind)) in (
+          i.digits ++ (44 ∷ (k.digits ++ (125 ∷ []))),
+          subst (λ x. Spells (123 ∷ (i.digits ++ (44 ∷ (k.digits ++ (125 ∷ []))))) x behind) same (between (i.digits) low (k.digits) n behind i.bound k.bound (leb-true low n b)),
+          i.joins ∙ (ap (λ t. i.digits ++ (44 ∷ t)) tail ∙ sym (append_assoc (i.digits) (44 ∷ (k.digits ++ (125 ∷ []))) behind)),
+        )
     high n after k (inr (b, f)) = absurd (no_none (l, behind) f)
 
     go : (begins_with 125 rest ≡ true) × ◌≡◌ {A = Option Lexeme1} (Some (interval low None, drop 1 rest)) (Some (l, behind)) ⊎ ((begins_with 125 rest ≡ false) × (option_and_then (high_at low) (bound_at rest) ≡ Some (l, behind))) → BraceFront text l behind
     go (inl (b, f)) =
         let pair : ◌≡◌ {A = Lexeme1} (interval low None, drop 1 rest) (l, behind) = same_some (interval low None, drop 1 rest) (l, behind) f in
         let same : interval low None ≡ l = ap (λ p. p.0) pair in
-        let last : drop 1 rest ≡ behind = ap (λ p. p.1) pair in
-        (i.digits ++ (44 ∷ 125 ∷ []),
-         subst (λ x. Spells (123 ∷ (i.digits ++ (44 ∷ 125 ∷ []))) x behind) same (at_least (i.digits) low behind i.bound),
-         i.joins ∙ (ap (λ t. i.digits ++ (44 ∷ t)) (begins_is 125 rest b ∙ ap (λ v. 125 ∷ v) last) ∙ sym (append_assoc (i.digits) (44 ∷ 125 ∷ []) behind)))
+        let last : drop 1 rest ≡ behind = ap (λ p. p.1) pair in (
+          i.digits ++ (44 ∷ 125 ∷ []),
+          subst (λ x. Spells (123 ∷ (i.digits ++ (44 ∷ 125 ∷ []))) x behind) same (at_least (i.digits) low behind i.bound),
+          i.joins ∙ (ap (λ t. i.digits ++ (44 ∷ t)) (begins_is 125 rest b ∙ ap (λ v. 125 ∷ v) last) ∙ sym (append_assoc (i.digits) (44 ∷ 125 ∷ []) behind)),
+        )
     go (inr (b, f)) =
         let (found, at, more) = then_is (high_at low) (bound_at rest) (l, behind) f in
         high (found.0) (found.1) (bound_sound rest (found.0) (found.1) at)
-          (cases_of (nat_le low (found.0)) (option_map {U = Lexeme1} (λ r. (interval low (Some (found.0)), r)) (behind_byte 125 (found.1))) None (Some (l, behind)) more)
+        (cases_of (nat_le low (found.0)) (option_map {U = Lexeme1} (λ r. (interval low (Some (found.0)), r)) (behind_byte 125 (found.1))) None (Some (l, behind)) more)
 
 interval_sound : (text : List ℕ) (l : Lexeme) (behind : List ℕ) → interval_at text ≡ Some (l, behind) → BraceFront text l behind
 interval_sound text l behind e =
@@ -210,10 +215,11 @@ interval_sound text l behind e =
     go low rest i (inl (b, f)) =
         let pair : ◌≡◌ {A = Lexeme1} (interval low (Some low), drop 1 rest) (l, behind) = same_some (interval low (Some low), drop 1 rest) (l, behind) f in
         let same : interval low (Some low) ≡ l = ap (λ p. p.0) pair in
-        let last : drop 1 rest ≡ behind = ap (λ p. p.1) pair in
-        (i.digits ++ (125 ∷ []),
-         subst (λ x. Spells (123 ∷ (i.digits ++ (125 ∷ []))) x behind) same (exactly (i.digits) low behind i.bound),
-         i.joins ∙ (ap (λ t. i.digits ++ t) (begins_is 125 rest b ∙ ap (λ v. 125 ∷ v) last) ∙ sym (append_assoc (i.digits) (125 ∷ []) behind)))
+        let last : drop 1 rest ≡ behind = ap (λ p. p.1) pair in (
+          i.digits ++ (125 ∷ []),
+          subst (λ x. Spells (123 ∷ (i.digits ++ (125 ∷ []))) x behind) same (exactly (i.digits) low behind i.bound),
+          i.joins ∙ (ap (λ t. i.digits ++ t) (begins_is 125 rest b ∙ ap (λ v. 125 ∷ v) last) ∙ sym (append_assoc (i.digits) (125 ∷ []) behind)),
+        )
     go low rest i (inr (b, f)) =
         let (after, at, more) = then_is (behind_comma_at low) (behind_byte 44 rest) (l, behind) f in
         comma_sound text low after l behind (record { digits = i.digits; bound = i.bound; joins = i.joins ∙ ap (λ t. i.digits ++ t) (behind_byte_is 44 rest after at) }) more
@@ -229,13 +235,13 @@ interval_brace : (digits : List ℕ) (n : ℕ) (tail behind : List ℕ) (l : Lex
 interval_brace digits n tail behind l i e = ap brace_at (append_assoc digits tail behind) ∙ (pick_first (starts_digit (digits ++ (tail ++ behind))) _ _ (bound_starts digits n (tail ++ behind) i) ∙ e)
 
 -- a byte that is a lexeme by itself begins nothing else
-byte_other : (c d : ℕ) (l : Lexeme) → byte_lexeme c ≡ Some l → byte_lexeme d ≡ None → nat_eq c d ≡ false
+pub byte_other : (c d : ℕ) (l : Lexeme) → byte_lexeme c ≡ Some l → byte_lexeme d ≡ None → nat_eq c d ≡ false
 byte_other c d l e none = eq_other c d (λ same. no_none l (sym none ∙ (ap byte_lexeme (sym same) ∙ e)))
 
 pub lexeme_complete : (text : List ℕ) (l : Lexeme) (behind : List ℕ) → Spells text l behind → lexeme_at (text ++ behind) ≡ Some (l, behind)
 lexeme_complete _ _ _ (of_byte c l behind e) =
     pick_second (nat_eq c 92) _ _ (byte_other c 92 l e refl) ∙ (pick_second (nat_eq c 34) _ _ (byte_other c 34 l e refl) ∙ (pick_second (nat_eq c 91) _ _ (byte_other c 91 l e refl) ∙
-      (pick_second (nat_eq c 123) _ _ (byte_other c 123 l e refl) ∙ ap (option_map {U = Lexeme1} (λ m. (m, behind))) e)))
+    (pick_second (nat_eq c 123) _ _ (byte_other c 123 l e refl) ∙ ap (option_map {U = Lexeme1} (λ m. (m, behind))) e)))
 lexeme_complete _ _ _ (of_escape text byte behind d) = let at = escape_complete text byte behind d in ap (λ t. lexeme_at (t ++ behind)) at.slash ∙ ap as_set at.found
 lexeme_complete _ _ _ (of_string text first more behind o) = string_complete text first more behind o
 lexeme_complete _ _ _ (of_bracket text s behind d) = let at = bracket_complete text s behind d in ap (λ t. lexeme_at (t ++ behind)) at.opens ∙ ap (option_map {U = Lexeme1} (λ f. (set_of (f.0), f.1))) at.found
@@ -245,7 +251,7 @@ lexeme_complete _ _ _ (exactly digits n behind i) = interval_brace digits n (125
 lexeme_complete _ _ _ (at_least digits n behind i) = interval_brace digits n (44 ∷ 125 ∷ []) behind (interval n None) i (at_least_complete digits n behind i)
 lexeme_complete _ _ _ (between digits low more high behind i k le) =
     let e : interval_at (digits ++ ((44 ∷ (more ++ (125 ∷ []))) ++ behind)) ≡ Some (interval low (Some high), behind)
-      = ap (λ t. interval_at (digits ++ (44 ∷ t))) (append_assoc more (125 ∷ []) behind) ∙ between_complete digits low more high behind i k le in
+    = ap (λ t. interval_at (digits ++ (44 ∷ t))) (append_assoc more (125 ∷ []) behind) ∙ between_complete digits low more high behind i k le in
     interval_brace digits low (44 ∷ (more ++ (125 ∷ []))) behind (interval low (Some high)) i e
 
 -- the front of a text is at most one spelling

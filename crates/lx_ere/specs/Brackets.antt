@@ -78,10 +78,10 @@ class_ranges name =
 pub data Member : Spot → List ℕ → List (ℕ × ℕ) → List ℕ → Type 0 where
   point : (spot : Spot) (text : List ℕ) (c : ℕ) (behind : List ℕ) → Point spot text c behind → range_follows behind ≡ false → Member spot text ((c, c) ∷ []) behind
   range : (spot : Spot) (text : List ℕ) (low : ℕ) (text' : List ℕ) (high : ℕ) (behind : List ℕ) → Point spot text low (45 ∷ (text' ++ behind)) →
-    range_follows (45 ∷ (text' ++ behind)) ≡ true → RangeEnd text' high behind → low ≤ high → Member spot (text ++ (45 ∷ text')) ((low, high) ∷ []) behind
+      range_follows (45 ∷ (text' ++ behind)) ≡ true → RangeEnd text' high behind → low ≤ high → Member spot (text ++ (45 ∷ text')) ((low, high) ∷ []) behind
   equivalence : (spot : Spot) (c : ℕ) (behind : List ℕ) → c ≢ 10 → Member spot (91 ∷ 61 ∷ c ∷ 61 ∷ 93 ∷ []) ((c, c) ∷ []) behind
   class : (spot : Spot) (name : List ℕ) (ranges : List (ℕ × ℕ)) (behind : List ℕ) → class_ranges name ≡ Some ranges →
-    Member spot (91 ∷ 58 ∷ (name ++ (58 ∷ 93 ∷ []))) ranges behind
+      Member spot (91 ∷ 58 ∷ (name ++ (58 ∷ 93 ∷ []))) ranges behind
 
 -- whether the byte is in one of the members
 abbrev pub in_members : List (List (ℕ × ℕ)) → ℕ → Bool
@@ -90,6 +90,6 @@ in_members members b = list_any (λ ranges. in_ranges ranges b) members
 -- With `behind` after it, the text is a bracket expression of the set. With `^` the set has all other bytes, a newline among them.
 pub data Bracket : List ℕ → set.FinSet nat_cmp → List ℕ → Type 0 where
   matching : (text : List ℕ) (m : List (ℕ × ℕ)) (members : List (List (ℕ × ℕ))) (behind : List ℕ) →
-    Opened (Member opening) (Member inside) 93 text m members behind → Bracket (91 ∷ text) (bytes_where (in_members (m ∷ members))) behind
+      Opened (Member opening) (Member inside) 93 text m members behind → Bracket (91 ∷ text) (bytes_where (in_members (m ∷ members))) behind
   excluding : (text : List ℕ) (m : List (ℕ × ℕ)) (members : List (List (ℕ × ℕ))) (behind : List ℕ) →
-    Opened (Member behind_caret) (Member inside) 93 text m members behind → Bracket (91 ∷ 94 ∷ text) (bytes_where (λ b. not (in_members (m ∷ members) b))) behind
+      Opened (Member behind_caret) (Member inside) 93 text m members behind → Bracket (91 ∷ 94 ∷ text) (bytes_where (λ b. not (in_members (m ∷ members) b))) behind

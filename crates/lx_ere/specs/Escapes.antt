@@ -42,8 +42,8 @@ letter_byte c =
 pub data Escape : List ℕ → ℕ → List ℕ → Type 0 where
   letter : (c byte : ℕ) (behind : List ℕ) → letter_byte c ≡ Some byte → Escape (92 ∷ c ∷ []) byte behind
   octal : (digits behind : List ℕ) → 0 < length digits → length digits ≤ 3 → list_all (is_digit 8) digits ≡ true → (length digits < 3 → NoneFirst (is_digit 8) behind) →
-    number_of 8 digits < 256 → Escape (92 ∷ digits) (number_of 8 digits) behind
+      number_of 8 digits < 256 → Escape (92 ∷ digits) (number_of 8 digits) behind
   hexadecimal : (digits behind : List ℕ) → 0 < length digits → list_all (is_digit 16) digits ≡ true → NoneFirst (is_digit 16) behind →
-    number_of 16 digits < 256 → Escape (92 ∷ 120 ∷ digits) (number_of 16 digits) behind
+      number_of 16 digits < 256 → Escape (92 ∷ 120 ∷ digits) (number_of 16 digits) behind
   only_x : (behind : List ℕ) → NoneFirst (is_digit 16) behind → Escape (92 ∷ 120 ∷ []) 120 behind
   itself : (c : ℕ) (behind : List ℕ) → letter_byte c ≡ None → is_digit 8 c ≡ false → c ≢ 120 → c ≢ 10 → Escape (92 ∷ c ∷ []) c behind

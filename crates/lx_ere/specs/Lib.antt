@@ -12,3 +12,4 @@ pub mod Reading
 pub mod Tokens
 pub mod Lexemes
 pub mod Groups
+pub mod PatternEnd

@@ -59,7 +59,7 @@ pub data Spells : List ℕ → Lexeme → List ℕ → Type 0 where
   exactly : (digits : List ℕ) (n : ℕ) (behind : List ℕ) → IsBound digits n → Spells (123 ∷ (digits ++ (125 ∷ []))) (interval n (Some n)) behind
   at_least : (digits : List ℕ) (n : ℕ) (behind : List ℕ) → IsBound digits n → Spells (123 ∷ (digits ++ (44 ∷ 125 ∷ []))) (interval n None) behind
   between : (digits : List ℕ) (low : ℕ) (more : List ℕ) (high : ℕ) (behind : List ℕ) → IsBound digits low → IsBound more high → low ≤ high →
-    Spells (123 ∷ (digits ++ (44 ∷ (more ++ (125 ∷ []))))) (interval low (Some high)) behind
+      Spells (123 ∷ (digits ++ (44 ∷ (more ++ (125 ∷ []))))) (interval low (Some high)) behind
 
 -- The text is spellings of the lexemes, one after the other, and then `behind`.
 abbrev pub Lexes : List ℕ → List Lexeme → List ℕ → Type 0

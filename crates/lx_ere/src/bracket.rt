@@ -57,7 +57,8 @@ fn stands_alone(spot: Spot, c: u8, behind: &[u8]) -> bool
 {
     let special = c == b']' || c == b'\\' || c == b'-' || c == b'\n';
     let caret = is_opening(spot) && c == b'^';
-    let opens = c == b'[' && (begins_with(b':', behind) || begins_with(b'.', behind) || begins_with(b'=', behind));
+    let opens = c == b'['
+        && (begins_with(b':', behind) || begins_with(b'.', behind) || begins_with(b'=', behind));
     !(special || caret || opens)
 }
 
@@ -85,9 +86,17 @@ fn bare_point_at(spot: Spot, c: u8, rest: &[u8]) -> Option<(u8, &[u8])>
     ensures { option_map (λ f. (f.0, f.1.now)) result ≡ bare_point_at (spot_of spot) c rest.now }
 {
     if c == b']' {
-        if is_inside(spot) { None } else { Some((b']', rest)) }
+        if is_inside(spot) {
+            None
+        } else {
+            Some((b']', rest))
+        }
     } else if c == b'-' {
-        if !is_inside(spot) || begins_with(b']', rest) { Some((b'-', rest)) } else { None }
+        if !is_inside(spot) || begins_with(b']', rest) {
+            Some((b'-', rest))
+        } else {
+            None
+        }
     } else if c == b'[' && begins_with(b'.', rest) {
         marked_byte_at(b'.', skip(1, rest))
     } else if stands_alone(spot, c, rest) {
@@ -102,14 +111,22 @@ fn point_at(spot: Spot, text: &[u8]) -> Option<(u8, &[u8])>
     ensures { option_map (λ f. (f.0, f.1.now)) result ≡ point_at (spot_of spot) text.now }
 {
     let (first, rest) = text.split_first()?;
-    if *first == b'\\' { escape_at(rest) } else { bare_point_at(spot, *first, rest) }
+    if *first == b'\\' {
+        escape_at(rest)
+    } else {
+        bare_point_at(spot, *first, rest)
+    }
 }
 
 /// The end of a range, from behind its `-` on.
 fn range_end_at(text: &[u8]) -> Option<(u8, &[u8])>
     ensures { option_map (λ f. (f.0, f.1.now)) result ≡ range_end_at text.now }
 {
-    if begins_with(b'-', text) { Some((b'-', skip(1, text))) } else { point_at(Spot::Inside, text) }
+    if begins_with(b'-', text) {
+        Some((b'-', skip(1, text)))
+    } else {
+        point_at(Spot::Inside, text)
+    }
 }
 
 /// The member that begins with this point.
@@ -120,7 +137,11 @@ fn member_from(low: u8, rest: &[u8]) -> Option<(Member, &[u8])>
         return Some((Member::Range(low, low), rest));
     }
     let (high, behind) = range_end_at(skip(1, rest))?;
-    if low <= high { Some((Member::Range(low, high), behind)) } else { None }
+    if low <= high {
+        Some((Member::Range(low, high), behind))
+    } else {
+        None
+    }
 }
 
 /// The ranges of a class, by its name, in the POSIX locale.
@@ -193,10 +214,8 @@ fn insert_member(set: &mut ByteSet, member: Member)
 
 /// Adds the bytes of the members up to the closing bracket to a set.
 fn members_behind(mut set: ByteSet, text: &[u8]) -> Option<(ByteSet, &[u8])>
-    ensures {
-        (test : ℕ → Bool) → set ≡ bytes_where test →
-        option_map (λ f. (f.0, f.1.now)) result ≡ option_map (with_members test) (all_items_at (member_at inside) 93 text.now)
-    }
+    ensures { (test : ℕ → Bool) → set ≡ bytes_where test →
+        option_map (λ f. (f.0, f.1.now)) result ≡ option_map (with_members test) (all_items_at (member_at inside) 93 text.now) }
 {
     let mut rest = text;
     while !begins_with(b']', rest) {

@@ -107,5 +107,9 @@ fn hexadecimal_at(n: usize, text: &[u8]) -> Option<(u8, &[u8])>
     requires { n ≤ length text.now }
     ensures { option_map (λ f. (f.0, f.1.now)) result ≡ hexadecimal_at n text.now }
 {
-    if n == 0 { Some((b'x', text)) } else { number_at(16, n, text) }
+    if n == 0 {
+        Some((b'x', text))
+    } else {
+        number_at(16, n, text)
+    }
 }

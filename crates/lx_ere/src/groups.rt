@@ -36,18 +36,29 @@ pub(crate) struct Groups {
 fn empty_frame() -> Frame
     ensures { frame_of result ≡ empty_frame }
 {
-    Frame { before: None, branch: None, unit: None }
+    Frame {
+        before: None,
+        branch: None,
+        unit: None,
+    }
 }
 
 /// Nothing was read, and no group is open.
 pub(crate) fn no_groups(alloc: Global) -> Groups
     ensures { groups_of result ≡ stack empty_frame [] }
 {
-    Groups { top: empty_frame(), below: Vec::new(alloc) }
+    Groups {
+        top: empty_frame(),
+        below: Vec::new(alloc),
+    }
 }
 
 /// The branch with its last unit.
-fn whole(alloc: Global, branch: Option<Expr>, unit: Option<Expr>) -> Result<Option<Expr>, AllocError>
+fn whole(
+    alloc: Global,
+    branch: Option<Expr>,
+    unit: Option<Expr>,
+) -> Result<Option<Expr>, AllocError>
     ensures { IfOk result (λ o. option_map regex_of o ≡ whole (option_map regex_of branch) (option_map regex_of unit)) }
 {
     match (branch, unit) {
@@ -65,7 +76,11 @@ fn whole(alloc: Global, branch: Option<Expr>, unit: Option<Expr>) -> Result<Opti
 fn total(alloc: Global, frame: Frame) -> Result<Option<Expr>, AllocError>
     ensures { IfOk result (λ o. option_map regex_of o ≡ total (frame_of frame)) }
 {
-    let Frame { before, branch, unit } = frame;
+    let Frame {
+        before,
+        branch,
+        unit,
+    } = frame;
     let last = whole(alloc, branch, unit)?;
     match (before, last) {
         (Some(left), Some(right)) => {
@@ -82,9 +97,17 @@ fn total(alloc: Global, frame: Frame) -> Result<Option<Expr>, AllocError>
 fn push(alloc: Global, frame: Frame, unit: Expr) -> Result<Frame, AllocError>
     ensures { IfOk result (λ next. frame_of next ≡ push (frame_of frame) (regex_of unit)) }
 {
-    let Frame { before, branch, unit: last } = frame;
+    let Frame {
+        before,
+        branch,
+        unit: last,
+    } = frame;
     let branch = whole(alloc, branch, last)?;
-    Ok(Frame { before, branch, unit: Some(unit) })
+    Ok(Frame {
+        before,
+        branch,
+        unit: Some(unit),
+    })
 }
 
 /// A unit behind what was read of the innermost group.
@@ -110,32 +133,64 @@ fn joined(alloc: Global, first: u8, more: &[u8]) -> Result<Expr, AllocError>
 }
 
 /// The last unit, repeated.
-fn again(alloc: Global, groups: Groups, low: u8, high: Option<u8>) -> Result<Option<Groups>, AllocError>
+fn again(
+    alloc: Global,
+    groups: Groups,
+    low: u8,
+    high: Option<u8>,
+) -> Result<Option<Groups>, AllocError>
     ensures { IfOk result (λ o. option_map groups_of o ≡ again low high (groups_of groups)) }
 {
     let Groups { top, below } = groups;
-    let Frame { before, branch, unit } = top;
+    let Frame {
+        before,
+        branch,
+        unit,
+    } = top;
     match unit {
         Some(unit) => {
             let body = Box::new(alloc, unit)?;
             let unit = Some(Expr::Times { body, low, high });
-            Ok(Some(Groups { top: Frame { before, branch, unit }, below }))
+            Ok(Some(Groups {
+                top: Frame {
+                    before,
+                    branch,
+                    unit,
+                },
+                below,
+            }))
         }
         None => Ok(None),
     }
 }
 
 /// All of the branch, repeated.
-fn repeat_branch(alloc: Global, groups: Groups, low: u8, high: Option<u8>) -> Result<Option<Groups>, AllocError>
+fn repeat_branch(
+    alloc: Global,
+    groups: Groups,
+    low: u8,
+    high: Option<u8>,
+) -> Result<Option<Groups>, AllocError>
     ensures { IfOk result (λ o. option_map groups_of o ≡ step (interval low high) (groups_of groups)) }
 {
     let Groups { top, below } = groups;
-    let Frame { before, branch, unit } = top;
+    let Frame {
+        before,
+        branch,
+        unit,
+    } = top;
     match whole(alloc, branch, unit)? {
         Some(branch) => {
             let body = Box::new(alloc, branch)?;
             let branch = Some(Expr::Times { body, low, high });
-            Ok(Some(Groups { top: Frame { before, branch, unit: None }, below }))
+            Ok(Some(Groups {
+                top: Frame {
+                    before,
+                    branch,
+                    unit: None,
+                },
+                below,
+            }))
         }
         None => Ok(None),
     }
@@ -147,7 +202,10 @@ fn open_group(groups: Groups) -> Result<Groups, AllocError>
 {
     let Groups { top, mut below } = groups;
     below.push(top)?;
-    Ok(Groups { top: empty_frame(), below })
+    Ok(Groups {
+        top: empty_frame(),
+        below,
+    })
 }
 
 /// The innermost group closes.
@@ -173,13 +231,24 @@ fn next_alternative(alloc: Global, groups: Groups) -> Result<Option<Groups>, All
 {
     let Groups { top, below } = groups;
     match total(alloc, top)? {
-        Some(tree) => Ok(Some(Groups { top: Frame { before: Some(tree), branch: None, unit: None }, below })),
+        Some(tree) => Ok(Some(Groups {
+            top: Frame {
+                before: Some(tree),
+                branch: None,
+                unit: None,
+            },
+            below,
+        })),
         None => Ok(None),
     }
 }
 
 /// What was read with one more lexeme; `None` where that lexeme cannot stand here.
-pub(crate) fn step(alloc: Global, groups: Groups, lexeme: Lexeme) -> Result<Option<Groups>, AllocError>
+pub(crate) fn step(
+    alloc: Global,
+    groups: Groups,
+    lexeme: Lexeme,
+) -> Result<Option<Groups>, AllocError>
     ensures { IfOk result (λ o. option_map groups_of o ≡ step (lexeme_of lexeme) (groups_of groups)) }
 {
     match lexeme {
@@ -204,5 +273,9 @@ pub(crate) fn finish(alloc: Global, groups: Groups) -> Result<Option<Expr>, Allo
     ensures { IfOk result (λ o. option_map regex_of o ≡ finish (groups_of groups).top (groups_of groups).below) }
 {
     let Groups { top, below } = groups;
-    if below.is_empty() { total(alloc, top) } else { Ok(None) }
+    if below.is_empty() {
+        total(alloc, top)
+    } else {
+        Ok(None)
+    }
 }

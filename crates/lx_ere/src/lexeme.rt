@@ -177,7 +177,11 @@ fn starts_digit(text: &[u8]) -> bool
 fn brace_at(alloc: Global, text: &[u8]) -> Result<Option<(Lexeme, &[u8])>, AllocError>
     ensures { IfOk result (λ o. option_map (λ f. (lexeme_of f.0, f.1.now)) o ≡ brace_at text.now) }
 {
-    if starts_digit(text) { Ok(interval_at(text)) } else { name_at(alloc, text) }
+    if starts_digit(text) {
+        Ok(interval_at(text))
+    } else {
+        name_at(alloc, text)
+    }
 }
 
 /// The lexeme at the front and what stands behind it; `None` where no spelling stands at the front.

@@ -1,14 +1,22 @@
 //! Extended regular expressions as `lex` of POSIX.1-2017 has them, read from text and kept as trees.
 #![tactic(auto)]
 
-pub mod expr;
-pub mod fault;
-pub mod read;
-pub mod set;
-
 mod bracket;
 mod escape;
+pub mod expr;
+pub mod extent;
+pub mod fault;
 mod front;
 mod groups;
 mod lexeme;
 mod name;
+pub mod read;
+pub mod set;
+#[cfg(test)]
+mod tests;
+
+pub use crate::expr::{Expr, Pattern};
+pub use crate::extent::pattern_end;
+pub use crate::fault::EreFault;
+pub use crate::read::{read_pattern, read_substitute};
+pub use crate::set::ByteSet;

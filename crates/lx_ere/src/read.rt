@@ -1,11 +1,12 @@
 //! Patterns and substitutes, read from left to right once (POSIX.1-2017, XCU `lex`, "Regular Expressions in lex", "Definitions in lex").
 
-ghost use Rattle.std.specs.Prelude.{◌≡◌, ◌++◌, IfOk, Err, List, ℕ};
+ghost use Rattle.std.specs.Prelude.{◌≡◌, ◌++◌, IfOk, Err, List, length, ℕ};
 ghost use Rattle.lx_ere.specs.Regex.{Regex, Reading, regex_of, reading_of};
 ghost use Rattle.lx_ere.specs.Grammar.{Lexeme, IsAlternation};
 ghost use Rattle.lx_ere.specs.Brackets.{begins_with};
 ghost use Rattle.lx_ere.specs.Spelling.{Spells, Lexes};
 ghost use Rattle.lx_ere.specs.Pattern.{IsPattern, IsSubstitute};
+ghost use Rattle.lx_ere.specs.PatternEnd.{IsPatternEnd};
 ghost use Rattle.lx_ere.specs.Reading.{lexeme_at, body_of, ending_at, Reads};
 
 use crate::expr::{Expr, Pattern};
@@ -45,7 +46,11 @@ fn read_alternation(alloc: Global, text: &[u8]) -> Result<(Expr, &[u8]), EreFaul
 fn behind_caret(text: &[u8]) -> &[u8]
     ensures { result.now ≡ body_of text.now }
 {
-    if begins_with(b'^', text) { skip(1, text) } else { text }
+    if begins_with(b'^', text) {
+        skip(1, text)
+    } else {
+        text
+    }
 }
 
 /// Whether what stands behind the alternation is the anchor of a line's end; `None` where it is no ending of a pattern.
@@ -77,7 +82,11 @@ pub fn read_pattern(alloc: Global, text: &[u8]) -> Result<Pattern, EreFault>
     let line_begin = begins_with(b'^', text);
     let (expr, ending) = read_alternation(alloc, behind_caret(text))?;
     match ending_at(ending) {
-        Some(line_end) => Ok(Pattern { line_begin, line_end, expr }),
+        Some(line_end) => Ok(Pattern {
+            line_begin,
+            line_end,
+            expr,
+        }),
         None => Err(EreFault::NoReading),
     }
 }
@@ -94,23 +103,29 @@ pub fn read_substitute(alloc: Global, text: &[u8]) -> Result<Expr, EreFault>
         return Err(EreFault::NoReading);
     }
     let (expr, ending) = read_alternation(alloc, text)?;
-    if ending.is_empty() { Ok(expr) } else { Err(EreFault::NoReading) }
+    if ending.is_empty() {
+        Ok(expr)
+    } else {
+        Err(EreFault::NoReading)
+    }
 }
 
 /// A law: a front of a text is at most one spelling of a lexeme.
 pub fn one_spelling()
     ensures { (t u : List ℕ) (l m : Lexeme) (v w : List ℕ) → Spells t l v → Spells u m w → t ++ v ≡ u ++ w → (t ≡ u) × (l ≡ m) × (v ≡ w) }
-{
-}
+{}
 
 /// A law: a text has at most one reading as a pattern.
 pub fn one_reading()
     ensures { (text : List ℕ) (r s : Reading) → IsPattern text r → IsPattern text s → r ≡ s }
-{
-}
+{}
 
 /// A law: a text has at most one reading as a substitute.
 pub fn one_substitute()
     ensures { (text : List ℕ) (r s : Regex) → IsSubstitute text r → IsSubstitute text s → r ≡ s }
-{
-}
+{}
+
+/// A law: a text that has a reading as a pattern has no space or tab outside quotes, brackets and escapes, so it ends where `pattern_end` says.
+pub fn pattern_reaches_end()
+    ensures { (text : List ℕ) (r : Reading) → IsPattern text r → IsPatternEnd text (length text) }
+{}

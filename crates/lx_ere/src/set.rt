@@ -91,6 +91,8 @@ impl ByteSet {
         let second = self.words[1];
         let third = self.words[2];
         let fourth = self.words[3];
-        ByteSet { words: [!first, !second, !third, !fourth] }
+        ByteSet {
+            words: [!first, !second, !third, !fourth],
+        }
     }
 }

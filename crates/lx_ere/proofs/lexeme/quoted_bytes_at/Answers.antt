@@ -17,7 +17,7 @@ loop-rest-smaller c = quoted_shorter c.loop-rest.rest.now c.in-Some.byte c.in-So
 pub loop-rest-preserved : goal.loop-rest-preserved
 loop-rest-preserved c =
     rw c.in_ok-push.ensures.items (scan_step quoted_byte_at 34 c.args.text.now c.loop-rest.bytes.items c.loop-rest.rest.now c.in-Some.byte c.in-Some.behind.now (sym c.begins_with.ensures ∙ c.loop-rest-test.true) (sym c.in-Some.ensures)
-      (quoted_shorter c.loop-rest.rest.now c.in-Some.byte c.in-Some.behind.now (sym c.in-Some.ensures)) c.loop-rest.invariant)
+    (quoted_shorter c.loop-rest.rest.now c.in-Some.byte c.in-Some.behind.now (sym c.in-Some.ensures)) c.loop-rest.invariant)
 
 pub returns : goal.returns
 returns c =

@@ -16,10 +16,10 @@ pub returns-in_err-expr-clause-refused : goal.returns-in_err-expr-clause-refused
 returns-in_err-expr-clause-refused c =
     let p = err_from_is_err_and c.from_residual.result c.from_residual.ensures.1 in
     λ refused r pattern.
-      let is : ◌≡◌ {A = Result Pattern EreFault} (Err (p.0)) (Err NoReading) = sym p.1 ∙ refused in
-      let same : p.0 ≡ NoReading = cc in
-      let parts = parts_of c.args.text.now r pattern in
-      c.in_err-expr.ensures.refused (ap Err (sym p.2 ∙ same)) (r.tree) (parts.ending) (subst (λ t. Reads t (r.tree) (parts.ending)) (sym c.behind_caret.ensures) parts.reads)
+    let is : ◌≡◌ {A = Result Pattern EreFault} (Err (p.0)) (Err NoReading) = sym p.1 ∙ refused in
+    let same : p.0 ≡ NoReading = cc in
+    let parts = parts_of c.args.text.now r pattern in
+    c.in_err-expr.ensures.refused (ap Err (sym p.2 ∙ same)) (r.tree) (parts.ending) (subst (λ t. Reads t (r.tree) (parts.ending)) (sym c.behind_caret.ensures) parts.reads)
 
 pub returns-in-Some-clause-reading : goal.returns-in-Some-clause-reading
 returns-in-Some-clause-reading c =

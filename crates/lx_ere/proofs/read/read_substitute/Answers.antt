@@ -15,9 +15,9 @@ pub returns-in_err-expr-clause-refused : goal.returns-in_err-expr-clause-refused
 returns-in_err-expr-clause-refused c =
     let p = err_from_is_err_and c.from_residual.result c.from_residual.ensures.1 in
     λ refused tree substitute.
-      let is : ◌≡◌ {A = Result Expr EreFault} (Err (p.0)) (Err NoReading) = sym p.1 ∙ refused in
-      let same : p.0 ≡ NoReading = cc in
-      c.in_err-expr.ensures.refused (ap Err (sym p.2 ∙ same)) tree [] (reads_of c.args.text.now tree substitute)
+    let is : ◌≡◌ {A = Result Expr EreFault} (Err (p.0)) (Err NoReading) = sym p.1 ∙ refused in
+    let same : p.0 ≡ NoReading = cc in
+    c.in_err-expr.ensures.refused (ap Err (sym p.2 ∙ same)) tree [] (reads_of c.args.text.now tree substitute)
 
 pub returns-else-is_empty-clause-refused : goal.returns-else-is_empty-clause-refused
 returns-else-is_empty-clause-refused c = λ _ tree substitute.

@@ -1,0 +1,136 @@
+//! Where the pattern of a rule ends (POSIX.1-2017, XCU `lex`, "Rules in lex").
+
+ghost use Rattle.std.specs.Prelude.{◌≡◌, ◌≤◌, ◌&&◌, length, false, nat_eq, List, ℕ, MatchOption};
+ghost use Rattle.lx_ere.specs.Brackets.{begins_with, opens_inner};
+ghost use Rattle.lx_ere.specs.PatternEnd.{BehindQuotes, BehindMark, BehindBrackets, BehindPattern, IsPatternEnd, IsInner, skip_first, is_blank};
+
+use crate::front::{begins_with, skip};
+
+/// The text behind a quoted string, from behind its opening quote on.
+fn behind_quotes(text: &[u8]) -> &[u8]
+    ensures behind { BehindQuotes text.now result.now }
+    ensures shorter { length result.now ≤ length text.now }
+{
+    let mut rest = text;
+    while let Some((first, behind)) = rest.split_first() {
+        if *first == b'"' {
+            return behind;
+        }
+        if *first == b'\\' {
+            rest = skip(1, behind);
+            continue;
+        }
+        rest = behind;
+    }
+    rest
+}
+
+/// Whether the byte is the mark, with a `]` directly after it.
+fn closes(mark: u8, first: u8, behind: &[u8]) -> bool
+    ensures { result ≡ (nat_eq first mark && begins_with 93 behind.now) }
+{
+    first == mark && begins_with(b']', behind)
+}
+
+/// The text behind the first mark with a `]` directly after it.
+fn behind_mark(mark: u8, text: &[u8]) -> &[u8]
+    ensures behind { BehindMark mark text.now result.now }
+    ensures shorter { length result.now ≤ length text.now }
+{
+    let mut rest = text;
+    while let Some((first, behind)) = rest.split_first() {
+        if closes(mark, *first, behind) {
+            return skip(1, behind);
+        }
+        rest = behind;
+    }
+    rest
+}
+
+/// The mark of `[:`, `[.` or `[=`, where one of them begins with this byte.
+fn inner_mark(first: u8, behind: &[u8]) -> Option<u8>
+    ensures { MatchOption result (opens_inner first behind.now ≡ false) (λ mark. IsInner mark first behind.now) }
+{
+    match behind {
+        [mark, ..] if first == b'[' && (*mark == b':' || *mark == b'.' || *mark == b'=') => Some(
+            *mark,
+        ),
+        _ => None,
+    }
+}
+
+/// The text behind brackets, from behind their first `^` and `]` on.
+fn behind_brackets(text: &[u8]) -> &[u8]
+    ensures behind { BehindBrackets text.now result.now }
+    ensures shorter { length result.now ≤ length text.now }
+{
+    let mut rest = text;
+    while let Some((first, behind)) = rest.split_first() {
+        if *first == b']' {
+            return behind;
+        }
+        if *first == b'\\' {
+            rest = skip(1, behind);
+            continue;
+        }
+        rest = match inner_mark(*first, behind) {
+            Some(mark) => behind_mark(mark, skip(2, behind)),
+            None => behind,
+        };
+    }
+    rest
+}
+
+/// The text behind the byte, where it begins with it.
+fn skip_first(c: u8, text: &[u8]) -> &[u8]
+    ensures value { result.now ≡ skip_first c text.now }
+    ensures shorter { length result.now ≤ length text.now }
+{
+    if begins_with(c, text) {
+        skip(1, text)
+    } else {
+        text
+    }
+}
+
+fn is_blank(c: u8) -> bool
+    ensures { result ≡ is_blank c }
+{
+    c == b' ' || c == b'\t'
+}
+
+/// The text from the first blank on that is in no escape, quotes or brackets.
+fn behind_pattern(text: &[u8]) -> &[u8]
+    ensures behind { BehindPattern text.now result.now }
+    ensures shorter { length result.now ≤ length text.now }
+{
+    let mut rest = text;
+    while let Some((first, behind)) = rest.split_first() {
+        if is_blank(*first) {
+            return rest;
+        }
+        rest = match *first {
+            b'\\' => skip(1, behind),
+            b'"' => behind_quotes(behind),
+            b'[' => behind_brackets(skip_first(b']', skip_first(b'^', behind))),
+            _ => behind,
+        };
+    }
+    rest
+}
+
+/// The place of the first space or tab outside quotes, brackets and escapes, or the text's length where there is none.
+///
+/// A backslash takes the next byte along, a quoted string runs to its closing quote, and brackets run to their closing bracket; what is not
+/// closed runs to the end. The text may have any length.
+pub fn pattern_end(text: &[u8]) -> usize
+    ensures end { IsPatternEnd text.now result }
+    ensures within { result ≤ length text.now }
+{
+    text.len() - behind_pattern(text).len()
+}
+
+/// A law: a text has one place where its pattern ends.
+pub fn one_pattern_end()
+    ensures { (text : List ℕ) (n m : ℕ) → IsPatternEnd text n → IsPatternEnd text m → n ≡ m }
+{}
