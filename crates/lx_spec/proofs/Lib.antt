@@ -9,5 +9,6 @@ pub mod Below
 pub mod Fields
 pub mod Checking
 pub mod Ruling
+pub mod Saying
 pub mod Rows
 pub mod Words

@@ -8,7 +8,6 @@ pub mod Choice
 pub mod Constants
 pub mod Dictionary
 pub mod DictionaryViews
-pub mod End
 pub mod FieldViews
 pub mod First
 pub mod Graph
@@ -17,11 +16,13 @@ pub mod Lines
 pub mod LineViews
 pub mod Names
 pub mod OutlookViews
+pub mod Outcome
 pub mod PieceViews
 pub mod PlaceViews
 pub mod RuleLines
 pub mod RuleLineViews
 pub mod Sections
+pub mod SaidViews
 pub mod SheetViews
 pub mod TreeViews
 pub mod TurnViews

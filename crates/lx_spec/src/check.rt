@@ -26,7 +26,7 @@ use lx_ere::read::{one_reading, read_pattern};
 use std::alloc::Global;
 
 /// What the prefix of a rule lists.
-fn read_prefix<'a>(alloc: Global, basis: &Basis, rule: &RawRule<'a>, is_last: bool) -> Result<Vec<&'a [u8]>, SpecFault>
+pub fn read_prefix<'a>(alloc: Global, basis: &Basis, rule: &RawRule<'a>, is_last: bool) -> Result<Vec<&'a [u8]>, SpecFault>
     ensures checked { Checked (ground_view basis.now) (case_of (raw_view rule.now) is_last plain.prefix_form ∷ []) result }
     ensures names { IfOk result (λ names. texts_of names.items ≡ fields_in (raw_view rule.now).prefix) }
 {
@@ -41,7 +41,7 @@ fn read_prefix<'a>(alloc: Global, basis: &Basis, rule: &RawRule<'a>, is_last: bo
 }
 
 // The conditions of the prefix are declared.
-fn check_names(basis: &Basis, rule: &RawRule, names: &[&[u8]], is_last: bool) -> Result<(), SpecFault>
+pub fn check_names(basis: &Basis, rule: &RawRule, names: &[&[u8]], is_last: bool) -> Result<(), SpecFault>
     requires basis { IsBasis basis.now }
     requires names { texts_of names.now ≡ fields_in (raw_view rule.now).prefix }
     ensures { Checked (ground_view basis.now) (case_of (raw_view rule.now) is_last plain.prefix_name ∷ []) result }
@@ -74,7 +74,7 @@ fn check_pattern(alloc: Global, basis: &Basis, rule: &RawRule, pattern: &Pattern
 }
 
 // The pattern, with what it reaches.
-fn read_expression(alloc: Global, basis: &Basis, rule: &RawRule, is_last: bool) -> Result<Pattern, SpecFault>
+pub fn read_expression(alloc: Global, basis: &Basis, rule: &RawRule, is_last: bool) -> Result<Pattern, SpecFault>
     requires { IsBasis basis.now }
     ensures checked { Checked (ground_view basis.now) (case_of (raw_view rule.now) is_last plain.reading ∷ case_of (raw_view rule.now) is_last plain.undefined ∷ case_of (raw_view rule.now) is_last plain.depth ∷ []) result }
     ensures reading { IfOk result (λ p. IsPattern rule.now.pattern.now (reading_of p)) }
@@ -90,7 +90,7 @@ fn read_expression(alloc: Global, basis: &Basis, rule: &RawRule, is_last: bool) 
 }
 
 // The action has a form.
-fn read_whole_action<'r>(alloc: Global, basis: &Basis, rule: &'r RawRule, is_last: bool) -> Result<Action<'r>, SpecFault>
+pub fn read_whole_action<'r>(alloc: Global, basis: &Basis, rule: &'r RawRule, is_last: bool) -> Result<Action<'r>, SpecFault>
     ensures checked { Checked (ground_view basis.now) (case_of (raw_view rule.now) is_last plain.action_form ∷ []) result }
     ensures action { IfOk result (λ a. IsAction rule.now.action.items (action_view a)) }
 {
@@ -118,7 +118,7 @@ fn all_begin_declared(states: &[State], statements: &[Statement]) -> bool
 }
 
 // The conditions that the action begins are declared.
-fn check_begins(basis: &Basis, rule: &RawRule, action: &Action, is_last: bool) -> Result<(), SpecFault>
+pub fn check_begins(basis: &Basis, rule: &RawRule, action: &Action, is_last: bool) -> Result<(), SpecFault>
     requires basis { IsBasis basis.now }
     requires action { IsAction rule.now.action.items (action_view action.now) }
     ensures { Checked (ground_view basis.now) (case_of (raw_view rule.now) is_last plain.begin_name ∷ []) result }
@@ -136,7 +136,7 @@ fn check_begins(basis: &Basis, rule: &RawRule, action: &Action, is_last: bool) -
 }
 
 // A rule follows one whose action is that of the next.
-fn check_next(basis: &Basis, rule: &RawRule, action: &Action, is_last: bool) -> Result<(), SpecFault>
+pub fn check_next(basis: &Basis, rule: &RawRule, action: &Action, is_last: bool) -> Result<(), SpecFault>
     requires { IsAction rule.now.action.items (action_view action.now) }
     ensures { Checked (ground_view basis.now) (case_of (raw_view rule.now) is_last plain.no_next ∷ []) result }
 {
