@@ -10,5 +10,6 @@ pub mod Fields
 pub mod Checking
 pub mod Ruling
 pub mod Saying
+pub mod StepLemmas
 pub mod Rows
 pub mod Words

@@ -5,6 +5,7 @@
 pub mod action;
 pub mod basis;
 pub mod block;
+pub mod build;
 pub mod bytes;
 pub mod check;
 pub mod condition;
@@ -21,5 +22,6 @@ pub mod rule_line;
 pub mod said;
 pub mod section;
 pub mod sheet;
+pub mod small;
 pub mod spec;
 pub mod word;

@@ -141,6 +141,7 @@ fn continue_rule<'a>(sheet: Sheet<'a>, begun: OpenRule<'a>) -> Result<(Sheet<'a>
 
 // The rule that begins on a line, with the first line of its action.
 fn first_line<'a>(alloc: Global, line: u32, prefix: Prefix<'a>, pattern: &'a [u8], text: &'a [u8]) -> Result<OpenRule<'a>, SpecFault>
+    requires { 0 < line }
     ensures rule { IfOk result (λ begun. raw_view begun.rule ≡ record { line = line; prefix = prefix_view prefix.entry; pattern = pattern.now; action = text.now }) }
     ensures count { IfOk result (λ begun. begun.count ≡ blocks.with_line blocks.start text.now) }
     ensures err { IfErr result (λ f. f.code ≡ Code.Memory) }
@@ -165,6 +166,7 @@ fn next_line<'a>(begun: OpenRule<'a>, line: &[u8]) -> Result<OpenRule<'a>, SpecF
 
 // One line of the second section that stands by itself.
 fn take_rule<'a>(alloc: Global, sheet: Sheet<'a>, number: u32, line: &'a [u8]) -> Result<(Sheet<'a>, Option<Place<'a>>), SpecFault>
+    requires { 0 < number }
     ensures { (ends : List ℕ → ℕ) → EndsPatterns ends → (rest : List (List ℕ)) → Goes ends (λ d. (sheet_view d.0, option_map place_view d.1)) number rest result (plain.sheet_behind ends (sheet_view sheet.entry) plain.rules number (line.now ∷ rest)) }
 {
     match rule_line_of(line) {
@@ -180,6 +182,7 @@ fn take_rule<'a>(alloc: Global, sheet: Sheet<'a>, number: u32, line: &'a [u8]) -
 
 // One line: what is said then, and where the next line stands; nowhere behind the line that ends the rules.
 fn take_line<'a>(alloc: Global, sheet: Sheet<'a>, place: Place<'a>, number: u32, line: &'a [u8]) -> Result<(Sheet<'a>, Option<Place<'a>>), SpecFault>
+    requires { 0 < number }
     ensures { (ends : List ℕ → ℕ) → EndsPatterns ends → (rest : List (List ℕ)) → Goes ends (λ d. (sheet_view d.0, option_map place_view d.1)) number rest result (plain.sheet_behind ends (sheet_view sheet.entry) (place_view place.entry) number (line.now ∷ rest)) }
 {
     match place {
