@@ -11,5 +11,6 @@ pub mod Checking
 pub mod Ruling
 pub mod Saying
 pub mod StepLemmas
+pub mod Listed
 pub mod Rows
 pub mod Words

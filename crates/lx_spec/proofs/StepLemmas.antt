@@ -57,3 +57,21 @@ steps-more n k l (Return v ∷ []) le h = kind-more k l v le h
 steps-more n k l (Return v ∷ s ∷ steps) le h = h
 
 pub ruleset step_rules = (plain-echo, plain-begin, steps-plain, steps-return)
+
+-- one more list of steps, behind which there are more kinds
+pub lists-more : {X : Type 0} (view : X → List Step) (n k l : ℕ) (lists : List X) (x : X) → k ≤ l → IsTrue (list_all (λ y. are_steps n k (view y)) lists) → IsTrue (are_steps n l (view x)) → IsTrue (list_all (λ y. are_steps n l (view y)) (lists ++ x ∷ []))
+lists-more view n k l [] x le all is = both (are_steps n l (view x)) true is refl
+lists-more view n k l (y ∷ lists) x le all is =
+    both (are_steps n l (view y)) _ (steps-more n k l (view y) le (left-of (are_steps n k (view y)) (list_all (λ z. are_steps n k (view z)) lists) all)) (lists-more view n k l lists x le (right-of (are_steps n k (view y)) (list_all (λ z. are_steps n k (view z)) lists) all) is)
+
+pub all-front : {X : Type 0} (p : X → Bool) (xs : List X) (x : X) → IsTrue (list_all p (xs ++ x ∷ [])) → IsTrue (list_all p xs)
+all-front p [] x h = refl
+all-front p (y ∷ xs) x h = both (p y) (list_all p xs) (left-of (p y) (list_all p (xs ++ x ∷ [])) h) (all-front p xs x (right-of (p y) (list_all p (xs ++ x ∷ [])) h))
+
+pub all-last : {X : Type 0} (p : X → Bool) (xs : List X) (x : X) → IsTrue (list_all p (xs ++ x ∷ [])) → IsTrue (p x)
+all-last p [] x h = left-of (p x) true h
+all-last p (y ∷ xs) x h = all-last p xs x (right-of (p y) (list_all p (xs ++ x ∷ [])) h)
+
+pub all-push : {X : Type 0} (p : X → Bool) (xs : List X) (x : X) → IsTrue (list_all p xs) → IsTrue (p x) → IsTrue (list_all p (xs ++ x ∷ []))
+all-push p [] x h g = both (p x) true g refl
+all-push p (y ∷ xs) x h g = both (p y) (list_all p (xs ++ x ∷ [])) (left-of (p y) (list_all p xs) h) (all-push p xs x (right-of (p y) (list_all p xs) h) g)

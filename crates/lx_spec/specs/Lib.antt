@@ -5,6 +5,7 @@ pub mod BasisViews
 pub mod Blocks
 pub mod Bytes
 pub mod Choice
+pub mod ConditionViews
 pub mod Constants
 pub mod Dictionary
 pub mod DictionaryViews
@@ -27,4 +28,5 @@ pub mod SheetViews
 pub mod TreeViews
 pub mod TurnViews
 pub mod Verdict
+pub mod Whole
 pub mod WordViews
