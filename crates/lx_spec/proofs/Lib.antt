@@ -4,4 +4,13 @@ pub mod Numbers
 pub mod WordSteps
 pub mod ActionSteps
 pub mod Marks
+pub mod Reading
+pub mod Below
+pub mod Fields
+pub mod Checking
+pub mod Ruling
+pub mod Saying
+pub mod StepLemmas
+pub mod Listed
+pub mod Rows
 pub mod Words

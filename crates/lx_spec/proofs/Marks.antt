@@ -1,9 +1,10 @@
 -- Marks and depths, one mention further.
 use Rattle.std.proofs.lemmas.Bool.{eqb-true, eqb-false}
 use Rattle.std.proofs.Math.ListN.{set}
-use Rattle.std.proofs.Common.{[], ◌∷◌, replicate, ◌≡◌, ◌≢◌, ◌∙◌, get_or-set_same, get_or-set_other, nat_eq, nat_le, ℕ, zero, suc, ◌+◌, ◌<◌, ◌≤◌, min, max, Bool, true, false, not, cond, ◌||◌, ◌⊎◌, inl, inr, List, length, get_or, refl, sym, ap, subst, arith}
+use Rattle.std.proofs.Common.{[], ◌∷◌, map, replicate, ◌≡◌, ◌≢◌, ◌∙◌, get_or-set_same, get_or-set_other, nat_eq, nat_le, ℕ, zero, suc, ◌+◌, ◌<◌, ◌≤◌, min, max, Bool, true, false, not, cond, ◌||◌, ◌⊎◌, inl, inr, List, length, get_or, refl, sym, ap, subst, arith}
 use mathlib.Core.Bool.{beq}
-use Rattle.std.specs.Prelude.{slice_index, IsTrue}
+use Rattle.std.specs.Prelude.{slice_index, IsTrue, Contains}
+use Rattle.std.proofs.lemmas.List.Elements.{Contains-get_or}
 use Rattle.std.proofs.lemmas.Bool.Decides.{nat_tests}
 use Rattle.std.proofs.lemmas.Bool.{false≢true}
 use borrow.Author.Count.{below_more}
@@ -206,3 +207,18 @@ read_at (x ∷ xs) (suc i) r d less e = read_at xs i r d (omega arith) e
 pub falls : (old new : List Bool) (was is : Bool) → was ≡ true → (is ≡ true → unmarked new < unmarked old) → unmarked new ≤ unmarked old → unmarked new + cond is 1 0 < unmarked old + cond was 1 0
 falls old new was true e fewer more = let h = fewer refl in let g : ◌≡◌ {A = ℕ} (cond was 1 0) 1 = ap (λ (b : Bool). cond b 1 0) e in omega (arith, h, g)
 falls old new was false e fewer more = let g : ◌≡◌ {A = ℕ} (cond was 1 0) 1 = ap (λ (b : Bool). cond b 1 0) e in omega (arith, more, g)
+
+-- the depths that are 32 or more
+pub deep_marks : (ds : List ℕ) (i : ℕ) → get_or (map (λ d. nat_le 32 d) ds) i false ≡ nat_le 32 (slice_index ds i)
+deep_marks [] i = refl
+deep_marks (d ∷ ds) zero = refl
+deep_marks (d ∷ ds) (suc i) = deep_marks ds i
+
+-- one of the numbers is marked, where the mark was found at a place; or none is
+pub some_marked : (numbers : List ℕ) (marks : List Bool) (k : ℕ) → k < length numbers → is_marked marks (get_or numbers k 0) ≡ true → (j : ℕ) × Contains numbers j × IsTrue (is_marked marks j)
+some_marked numbers marks k less e = (get_or numbers k 0, Contains-get_or numbers k 0 less, e)
+
+pub none_marked : (numbers : List ℕ) (marks : List Bool) → ((k : ℕ) → k < length numbers → is_marked marks (get_or numbers k 0) ≡ false) → (j : ℕ) → Contains numbers j → IsTrue (is_marked marks j) → ⊥
+none_marked numbers marks none j (k, less, e) h =
+    let same : get_or numbers k 0 ≡ j = read_at numbers k j 0 less (sym e) in
+    false≢true (sym (none k less) ∙ ap (is_marked marks) same ∙ h)

@@ -20,20 +20,20 @@ trimmed-other [] c b = pick_second _ _ b
 trimmed-other (x ∷ []) c b = ap (keep x) (trimmed-other [] c b)
 trimmed-other (x ∷ y ∷ xs) c b = ap (keep x) (trimmed-other (y ∷ xs) c b)
 
-behind-more : (p : ℕ → Bool) (c : ℕ) (text : List ℕ) → p c ≡ true → behind_run p (c ∷ text) ≡ behind_run p text
+pub behind-more : (p : ℕ → Bool) (c : ℕ) (text : List ℕ) → p c ≡ true → behind_run p (c ∷ text) ≡ behind_run p text
 behind-more p c text e =
     let n : 1 + prefix_len p text ≡ suc (prefix_len p text) = omega arith in
     ap (λ (v : Bool). drop (cond v (1 + prefix_len p text) 0) (c ∷ text)) e ∙ ap (λ (k : ℕ). drop k (c ∷ text)) n
 
-behind-none : (p : ℕ → Bool) (c : ℕ) (text : List ℕ) → p c ≡ false → behind_run p (c ∷ text) ≡ c ∷ text
+pub behind-none : (p : ℕ → Bool) (c : ℕ) (text : List ℕ) → p c ≡ false → behind_run p (c ∷ text) ≡ c ∷ text
 behind-none p c text e = ap (λ (v : Bool). drop (cond v (1 + prefix_len p text) 0) (c ∷ text)) e
 
-run-more : (p : ℕ → Bool) (c : ℕ) (text : List ℕ) → p c ≡ true → run p (c ∷ text) ≡ c ∷ run p text
+pub run-more : (p : ℕ → Bool) (c : ℕ) (text : List ℕ) → p c ≡ true → run p (c ∷ text) ≡ c ∷ run p text
 run-more p c text e =
     let n : 1 + prefix_len p text ≡ suc (prefix_len p text) = omega arith in
     ap (λ (v : Bool). take (cond v (1 + prefix_len p text) 0) (c ∷ text)) e ∙ ap (λ (k : ℕ). take k (c ∷ text)) n
 
-run-none : (p : ℕ → Bool) (c : ℕ) (text : List ℕ) → p c ≡ false → run p (c ∷ text) ≡ []
+pub run-none : (p : ℕ → Bool) (c : ℕ) (text : List ℕ) → p c ≡ false → run p (c ∷ text) ≡ []
 run-none p c text e = ap (λ (v : Bool). take (cond v (1 + prefix_len p text) 0) (c ∷ text)) e
 
 words-behind_blanks : (text : List ℕ) → words_of text ≡ words_of (behind_run is_blank text)

@@ -13,7 +13,7 @@ use Rattle.lx_spec.specs.declared.action.Action.TheVariants.{Shared, Own}
 
 abbrev pub value_view : Value → actions.Value
 value_view (value.Name text) = actions.name text.now
-value_view (value.Number n) = actions.number n
+value_view (value.Number n) = actions.number n.value
 
 abbrev pub statement_view : Statement → actions.Statement
 statement_view statement.Nothing = actions.nothing

@@ -159,11 +159,3 @@ kept (nothing ∷ ss) = kept ss
 kept (echo ∷ ss) = echo ∷ kept ss
 kept (begin c ∷ ss) = begin c ∷ kept ss
 kept (return v ∷ ss) = return v ∷ []
-
--- the conditions that statements begin
-abbrev pub begun_names : List Statement → List (List ℕ)
-begun_names [] = []
-begun_names (nothing ∷ ss) = begun_names ss
-begun_names (echo ∷ ss) = begun_names ss
-begun_names (begin c ∷ ss) = c ∷ begun_names ss
-begun_names (return v ∷ ss) = begun_names ss

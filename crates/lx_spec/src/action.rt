@@ -11,6 +11,7 @@ ghost use Rattle.lx_spec.specs.TurnViews.{turn_view, TakesWords};
 
 use crate::bytes::{is_digit, is_identifier};
 use crate::constant::number_below;
+use crate::small::SmallNumber;
 use crate::word::{Word, read_words};
 use std::alloc::{AllocError, Global};
 
@@ -18,8 +19,7 @@ use std::alloc::{AllocError, Global};
 #[derive(Clone, Copy)]
 pub enum Value<'a> {
     Name(&'a [u8]),
-    /// A number below 2,147,483,648.
-    Number(u32),
+    Number(SmallNumber),
 }
 
 /// A statement of an action.
@@ -74,7 +74,7 @@ fn letters_value(text: &[u8]) -> Option<Value<'_>>
         Some(Value::Name(text))
     } else if is_decimal(text) {
         match number_below(2147483648, 10, text) {
-            Some(n) => Some(Value::Number(n)),
+            Some(value) => Some(Value::Number(SmallNumber { value })),
             None => None,
         }
     } else {
@@ -87,12 +87,13 @@ fn value_of(word: Word<'_>) -> Option<Value<'_>>
 {
     match word {
         Word::Letters(text) => letters_value(text),
-        Word::Byte(byte) => Some(Value::Number(byte as u32)),
+        Word::Byte(byte) => Some(Value::Number(SmallNumber { value: byte as u32 })),
         _ => None,
     }
 }
 
-fn is_condition_name(text: &[u8]) -> bool
+/// Whether the text is an identifier, or `0`.
+pub fn is_condition_name(text: &[u8]) -> bool
     ensures { result ≡ plain.is_condition_name text.now }
 {
     is_identifier(text) || text == b"0".as_slice()

@@ -3,18 +3,26 @@
 #![tactic(auto)]
 
 pub mod action;
+pub mod basis;
 pub mod block;
+pub mod build;
 pub mod bytes;
+pub mod check;
 pub mod condition;
 pub mod constant;
 pub mod definition;
-pub mod end;
+pub mod dictionary;
 pub mod fault;
 pub mod graph;
 pub mod line;
+pub mod outlook;
+pub mod prefix;
+pub mod read;
 pub mod rule;
 pub mod rule_line;
+pub mod said;
 pub mod section;
 pub mod sheet;
+pub mod small;
 pub mod spec;
 pub mod word;

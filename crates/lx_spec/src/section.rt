@@ -8,6 +8,7 @@ ghost use Rattle.lx_spec.specs.Bytes.{words_of};
 ghost use Rattle.lx_spec.specs.Sections as plain;
 ghost use Rattle.lx_spec.specs.Sections.{Gives, Goes};
 ghost use Rattle.lx_spec.specs.SheetViews.{raw_view, sheet_view};
+ghost use Rattle.lx_spec.specs.RuleLines.{EndsPatterns};
 ghost use Rattle.lx_spec.specs.RuleLineViews.{prefix_view};
 ghost use Rattle.lx_spec.specs.PlaceViews.{place_view};
 
@@ -106,7 +107,7 @@ fn with_rule<'a>(mut sheet: Sheet<'a>, rule: RawRule<'a>, closed: bool) -> Resul
 
 // One line of the first section that stands by itself.
 fn take_definition<'a>(sheet: Sheet<'a>, number: u32, line: &'a [u8]) -> Result<(Sheet<'a>, Option<Place<'a>>), SpecFault>
-    ensures { (rest : List (List ℕ)) → Goes (λ d. (sheet_view d.0, option_map place_view d.1)) number rest result (plain.sheet_behind (sheet_view sheet.entry) plain.definitions number (line.now ∷ rest)) }
+    ensures { (ends : List ℕ → ℕ) → EndsPatterns ends → (rest : List (List ℕ)) → Goes ends (λ d. (sheet_view d.0, option_map place_view d.1)) number rest result (plain.sheet_behind ends (sheet_view sheet.entry) plain.definitions number (line.now ∷ rest)) }
 {
     match line_of(line) {
         Line::Skipped => Ok((sheet, Some(Place::Definitions))),
@@ -127,7 +128,7 @@ fn take_definition<'a>(sheet: Sheet<'a>, number: u32, line: &'a [u8]) -> Result<
 
 // A rule, where its action is closed; else the next line goes on with it.
 fn continue_rule<'a>(sheet: Sheet<'a>, begun: OpenRule<'a>) -> Result<(Sheet<'a>, Option<Place<'a>>), SpecFault>
-    ensures { (number : ℕ) (rest : List (List ℕ)) → Goes (λ d. (sheet_view d.0, option_map place_view d.1)) number rest result (plain.with_entries (sheet_view sheet.entry) (plain.entries_behind (raw_view begun.entry.rule) begun.entry.count (number + 1) rest)) }
+    ensures { (ends : List ℕ → ℕ) → EndsPatterns ends → (number : ℕ) (rest : List (List ℕ)) → Goes ends (λ d. (sheet_view d.0, option_map place_view d.1)) number rest result (plain.with_entries (sheet_view sheet.entry) (plain.entries_behind ends (raw_view begun.entry.rule) begun.entry.count (number + 1) rest)) }
 {
     if is_closed(begun.count) {
         let OpenRule { rule, .. } = begun;
@@ -140,6 +141,7 @@ fn continue_rule<'a>(sheet: Sheet<'a>, begun: OpenRule<'a>) -> Result<(Sheet<'a>
 
 // The rule that begins on a line, with the first line of its action.
 fn first_line<'a>(alloc: Global, line: u32, prefix: Prefix<'a>, pattern: &'a [u8], text: &'a [u8]) -> Result<OpenRule<'a>, SpecFault>
+    requires { 0 < line }
     ensures rule { IfOk result (λ begun. raw_view begun.rule ≡ record { line = line; prefix = prefix_view prefix.entry; pattern = pattern.now; action = text.now }) }
     ensures count { IfOk result (λ begun. begun.count ≡ blocks.with_line blocks.start text.now) }
     ensures err { IfErr result (λ f. f.code ≡ Code.Memory) }
@@ -164,7 +166,8 @@ fn next_line<'a>(begun: OpenRule<'a>, line: &[u8]) -> Result<OpenRule<'a>, SpecF
 
 // One line of the second section that stands by itself.
 fn take_rule<'a>(alloc: Global, sheet: Sheet<'a>, number: u32, line: &'a [u8]) -> Result<(Sheet<'a>, Option<Place<'a>>), SpecFault>
-    ensures { (rest : List (List ℕ)) → Goes (λ d. (sheet_view d.0, option_map place_view d.1)) number rest result (plain.sheet_behind (sheet_view sheet.entry) plain.rules number (line.now ∷ rest)) }
+    requires { 0 < number }
+    ensures { (ends : List ℕ → ℕ) → EndsPatterns ends → (rest : List (List ℕ)) → Goes ends (λ d. (sheet_view d.0, option_map place_view d.1)) number rest result (plain.sheet_behind ends (sheet_view sheet.entry) plain.rules number (line.now ∷ rest)) }
 {
     match rule_line_of(line) {
         RuleLine::Skipped => Ok((sheet, Some(Place::Rules))),
@@ -179,7 +182,8 @@ fn take_rule<'a>(alloc: Global, sheet: Sheet<'a>, number: u32, line: &'a [u8]) -
 
 // One line: what is said then, and where the next line stands; nowhere behind the line that ends the rules.
 fn take_line<'a>(alloc: Global, sheet: Sheet<'a>, place: Place<'a>, number: u32, line: &'a [u8]) -> Result<(Sheet<'a>, Option<Place<'a>>), SpecFault>
-    ensures { (rest : List (List ℕ)) → Goes (λ d. (sheet_view d.0, option_map place_view d.1)) number rest result (plain.sheet_behind (sheet_view sheet.entry) (place_view place.entry) number (line.now ∷ rest)) }
+    requires { 0 < number }
+    ensures { (ends : List ℕ → ℕ) → EndsPatterns ends → (rest : List (List ℕ)) → Goes ends (λ d. (sheet_view d.0, option_map place_view d.1)) number rest result (plain.sheet_behind ends (sheet_view sheet.entry) (place_view place.entry) number (line.now ∷ rest)) }
 {
     match place {
         Place::Definitions => take_definition(sheet, number, line),
@@ -205,7 +209,7 @@ fn take_line<'a>(alloc: Global, sheet: Sheet<'a>, place: Place<'a>, number: u32,
 
 // What is said where the text ends.
 fn at_end<'a>(sheet: Sheet<'a>, place: Place<'a>) -> Result<Sheet<'a>, SpecFault>
-    ensures { (n : ℕ) → Gives sheet_view result (plain.sheet_behind (sheet_view sheet.entry) (place_view place.entry) n []) }
+    ensures { (ends : List ℕ → ℕ) → (n : ℕ) → Gives sheet_view result (plain.sheet_behind ends (sheet_view sheet.entry) (place_view place.entry) n []) }
 {
     match place {
         Place::Definitions => Err(SpecFault { code: Code::NoRules, line: 0 }),
@@ -230,7 +234,7 @@ fn first_sheet<'a>(alloc: Global) -> Result<Sheet<'a>, SpecFault>
 /// What the sections of a text say, or their first fault in the order of the text.
 pub fn read_sections<'a>(alloc: Global, text: &'a [u8]) -> Result<Sheet<'a>, SpecFault>
     requires { length text.now ≤ 1048576 }
-    ensures { Gives sheet_view result (plain.sheet_of text.now) }
+    ensures { (ends : List ℕ → ℕ) → EndsPatterns ends → Gives sheet_view result (plain.sheet_of ends text.now) }
 {
     let mut sheet = first_sheet(alloc)?;
     let mut place = Place::Definitions;

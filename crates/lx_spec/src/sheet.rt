@@ -1,5 +1,5 @@
 // What the sections say, entry by entry.
-ghost use Rattle.std.specs.Prelude.{◌≡◌, ◌≤◌, length};
+ghost use Rattle.std.specs.Prelude.{◌<◌, ◌≤◌, length};
 
 use crate::block::Count;
 use crate::rule_line::Prefix;
@@ -25,6 +25,7 @@ pub struct RawRule<'a> {
     pub prefix: Prefix<'a>,
     pub pattern: &'a [u8],
     pub action: Vec<u8>,
+    pub ghost counted: { 0 < line },
 }
 
 /// A rule whose action goes on, with the braces of the lines so far.
@@ -42,4 +43,8 @@ pub struct Sheet<'a> {
     pub states: Vec<State<'a>>,
     pub names: Vec<Named<'a>>,
     pub rules: Vec<RawRule<'a>>,
+    pub ghost some_states: { 0 < length states.items },
+    pub ghost few_states: { length states.items ≤ 64 },
+    pub ghost few_names: { length names.items ≤ 1024 },
+    pub ghost few_rules: { length rules.items ≤ 4096 },
 }
