@@ -8,7 +8,7 @@ use crate::printing::RunFault;
 use crate::source::{ListSources, SourceFault, Sources};
 use clap::Error as WordsError;
 use lx_spec::fault::{Code, SpecFault};
-use lx_spec::spec::Spec;
+use lx_spec::read::read_spec;
 use std::alloc::{AllocError, AllocFailed, Global};
 use std::io::Write;
 use thiserror::Error;
@@ -153,8 +153,4 @@ fn stored_order(alloc: Global) -> Result<RunOrder<'static>, AllocError> {
         specification: "words.l",
         files: vec![in alloc; "words.txt"]?,
     })
-}
-
-fn read_spec(_alloc: Global, _text: &[u8]) -> Result<Spec, SpecFault> {
-    Err(SpecFault { code: Code::NoAction, line: 2 })
 }
