@@ -56,7 +56,7 @@ impl Items {
     pub fn from_vec(list: Vec<Item>) -> Self
         ensures { result ≡ list.items }
     {
-        Items { list }
+        Self { list }
     }
 
     /// The items as a `Vec`, in the memory that they have.
