@@ -74,7 +74,8 @@ fn behind_line(mode: Mode) -> Mode
 {
     match mode {
         Mode::Comment | Mode::Star => Mode::Comment,
-        Mode::Code | Mode::Slash | Mode::LineComment | Mode::Quoted(_) | Mode::Escaped(_) => Mode::Code,
+        Mode::Code | Mode::Slash | Mode::LineComment | Mode::Quoted(_) | Mode::Escaped(_) =>
+            Mode::Code,
     }
 }
 
@@ -87,7 +88,11 @@ fn with_byte(count: Count, c: u8) -> Count
     let close = counts(count.mode) && c == b'}';
     Count {
         opened: if open { count.opened + 1 } else { count.opened },
-        closed: if close { count.closed + 1 } else { count.closed },
+        closed: if close {
+            count.closed + 1
+        } else {
+            count.closed
+        },
         mode: next_mode(count.mode, c),
     }
 }
@@ -104,7 +109,11 @@ pub fn with_line(count: Count, line: &[u8]) -> Count
     for c in line {
         so_far = with_byte(so_far, *c);
     }
-    Count { opened: so_far.opened, closed: so_far.closed, mode: behind_line(so_far.mode) }
+    Count {
+        opened: so_far.opened,
+        closed: so_far.closed,
+        mode: behind_line(so_far.mode),
+    }
 }
 
 fn is_outside(mode: Mode) -> bool

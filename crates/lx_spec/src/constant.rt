@@ -45,7 +45,11 @@ pub fn number_below(limit: u32, base: u32, digits: &[u8]) -> Option<u32>
             return None;
         }
     }
-    if number < limit as u64 { Some(number as u32) } else { None }
+    if number < limit as u64 {
+        Some(number as u32)
+    } else {
+        None
+    }
 }
 
 // The byte that the first n digits spell, and the text behind them.
@@ -81,7 +85,11 @@ fn hexadecimal_at(text: &[u8]) -> Option<(u8, &[u8])>
     ensures less { IfSome result (λ r. length r.1.now ≤ length text.now) }
 {
     let n = hexadecimal_len(text);
-    if n == 0 { Some((b'x', text)) } else { digits_at(16, n, text) }
+    if n == 0 {
+        Some((b'x', text))
+    } else {
+        digits_at(16, n, text)
+    }
 }
 
 // The byte of an escape from behind its backslash, and the text behind it.

@@ -77,7 +77,11 @@ fn read_tree(alloc: Global, substitute: &[u8]) -> Result<Option<Expr>, AllocErro
 }
 
 // The numbers of the definitions that a tree names, and whether it names what isn't defined.
-fn row_in(alloc: Global, named: &[Named], tree: &Option<Expr>) -> Result<(Vec<usize>, bool), AllocError>
+fn row_in(
+    alloc: Global,
+    named: &[Named],
+    tree: &Option<Expr>,
+) -> Result<(Vec<usize>, bool), AllocError>
     ensures row { IfOk result (λ r. r.0.items ≡ plain.row_in (map named_view named.now) (tree_view tree.now)) }
     ensures incomplete { IfOk result (λ r. r.1 ≡ plain.is_incomplete (map named_view named.now) (tree_view tree.now)) }
 {
@@ -102,24 +106,41 @@ fn push_mentions(i: usize, row: &[usize], mentions: &mut Vec<Mention>) -> Result
 }
 
 // Adds what definition i reads as and mentions.
-fn with_definition(alloc: Global, named: &[Named], dictionary: Dictionary, i: usize) -> Result<Dictionary, AllocError>
+fn with_definition(
+    alloc: Global,
+    named: &[Named],
+    dictionary: Dictionary,
+    i: usize,
+) -> Result<Dictionary, AllocError>
     requires { i < length named.now }
     ensures { IfOk result (λ d. AddsTree (map named_view named.now) i (dictionary_view dictionary) (dictionary_view d)) }
 {
-    let Dictionary { mut trees, mut mentions, mut incomplete } = dictionary;
+    let Dictionary {
+        mut trees,
+        mut mentions,
+        mut incomplete,
+    } = dictionary;
     let tree = read_tree(alloc, named[i].substitute)?;
     let (row, lacks) = row_in(alloc, named, &tree)?;
     push_mentions(i, &row, &mut mentions)?;
     incomplete.push(lacks)?;
     trees.push(tree)?;
-    Ok(Dictionary { trees, mentions, incomplete })
+    Ok(Dictionary {
+        trees,
+        mentions,
+        incomplete,
+    })
 }
 
 /// Reads each definition once.
 pub fn read_dictionary(alloc: Global, named: &[Named]) -> Result<Dictionary, AllocError>
     ensures { IfOk result (λ d. IsDictionary (map named_view named.now) (dictionary_view d)) }
 {
-    let mut dictionary = Dictionary { trees: Vec::new(alloc), mentions: Vec::new(alloc), incomplete: Vec::new(alloc) };
+    let mut dictionary = Dictionary {
+        trees: Vec::new(alloc),
+        mentions: Vec::new(alloc),
+        incomplete: Vec::new(alloc),
+    };
     for i in 0..named.len() {
         dictionary = with_definition(alloc, named, dictionary, i)?;
     }

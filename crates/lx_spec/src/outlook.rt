@@ -46,7 +46,11 @@ pub fn outlook_of(alloc: Global, dictionary: &Dictionary) -> Result<Outlook, All
     let incomplete = Vec::from_slice(alloc, &dictionary.incomplete)?;
     let depths = depths_of(alloc, dictionary.trees.len(), &dictionary.mentions)?;
     let deep = deep_of(alloc, &depths)?;
-    Ok(Outlook { unread: spread(&dictionary.mentions, unreadable), undefined: spread(&dictionary.mentions, incomplete), deep })
+    Ok(Outlook {
+        unread: spread(&dictionary.mentions, unreadable),
+        undefined: spread(&dictionary.mentions, incomplete),
+        deep,
+    })
 }
 
 /// Whether one of these numbers is marked.

@@ -71,7 +71,11 @@ pub fn condition_number(states: &[State], name: &[u8]) -> Option<usize>
     ensures number { result ≡ plain.condition_number (map state_view states.now) name.now }
     ensures within { IfSome result (λ i. i < length states.now) }
 {
-    if is_zero(name) { Some(0) } else { place_in(states, name) }
+    if is_zero(name) {
+        Some(0)
+    } else {
+        place_in(states, name)
+    }
 }
 
 fn is_declared(states: &[State], name: &[u8]) -> bool

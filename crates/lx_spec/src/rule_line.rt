@@ -28,7 +28,11 @@ pub enum RuleLine<'a> {
     /// The second line `%%`.
     RulesEnd,
     /// A rule begins, and its action with this text.
-    BeginsRule { prefix: Prefix<'a>, pattern: &'a [u8], action: &'a [u8] },
+    BeginsRule {
+        prefix: Prefix<'a>,
+        pattern: &'a [u8],
+        action: &'a [u8],
+    },
 }
 
 // How many bytes stand before the first `>`.
@@ -67,7 +71,11 @@ fn rule_split<'a>(n: usize, prefix: Prefix<'a>, text: &'a [u8]) -> RuleLine<'a>
     ensures { rule_line_view result ≡ plain.rule_split n (prefix_view prefix.entry) text.now }
 {
     let behind = &text[n..];
-    RuleLine::BeginsRule { prefix, pattern: &text[..n], action: &behind[blanks_len(behind)..] }
+    RuleLine::BeginsRule {
+        prefix,
+        pattern: &text[..n],
+        action: &behind[blanks_len(behind)..],
+    }
 }
 
 fn rule_begins<'a>(prefix: Prefix<'a>, text: &'a [u8]) -> RuleLine<'a>
