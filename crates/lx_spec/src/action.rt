@@ -93,7 +93,7 @@ fn value_of(word: Word<'_>) -> Option<Value<'_>>
 }
 
 /// Whether the text is an identifier, or `0`.
-pub fn is_condition_name(text: &[u8]) -> bool
+pub(crate) fn is_condition_name(text: &[u8]) -> bool
     ensures { result ≡ plain.is_condition_name text.now }
 {
     is_identifier(text) || text == b"0".as_slice()
@@ -298,7 +298,10 @@ fn is_bar(words: &[Word]) -> bool
 }
 
 /// The action that a text is; `None` where it has no form.
-pub fn read_action<'t>(alloc: Global, text: &'t [u8]) -> Result<Option<Action<'t>>, AllocError>
+pub(crate) fn read_action<'t>(
+    alloc: Global,
+    text: &'t [u8],
+) -> Result<Option<Action<'t>>, AllocError>
     ensures { IfOk result (λ o. MatchOption o ((a : plain.Action) → IsAction text.now a → ⊥) (λ a. IsAction text.now (action_view a))) }
 {
     let Some(words) = read_words(alloc, text)? else {

@@ -98,7 +98,7 @@ fn with_byte(count: Count, c: u8) -> Count
 }
 
 /// One more line.
-pub fn with_line(count: Count, line: &[u8]) -> Count
+pub(crate) fn with_line(count: Count, line: &[u8]) -> Count
     requires opened { count.opened + length line.now < 18446744073709551616 }
     requires closed { count.closed + length line.now < 18446744073709551616 }
     ensures value { result ≡ plain.with_line count line.now }
@@ -124,7 +124,7 @@ fn is_outside(mode: Mode) -> bool
 
 /// Whether the action ends with the lines that were counted: no comment is open, and as many braces at least are
 /// closed as opened.
-pub fn is_closed(count: Count) -> bool
+pub(crate) fn is_closed(count: Count) -> bool
     ensures { result ≡ plain.is_closed count }
 {
     is_outside(count.mode) && count.opened <= count.closed

@@ -249,7 +249,7 @@ fn definitions_from(
 }
 
 /// The specification that the rules of a sheet say.
-pub fn spec_of(
+pub(crate) fn spec_of(
     alloc: Global,
     sheet: &Sheet,
     dictionary: Dictionary,

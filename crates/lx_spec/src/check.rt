@@ -26,7 +26,7 @@ use lx_ere::read::{one_reading, read_pattern};
 use std::alloc::Global;
 
 /// What the prefix of a rule lists.
-pub fn read_prefix<'a>(
+pub(crate) fn read_prefix<'a>(
     alloc: Global,
     basis: &Basis,
     rule: &RawRule<'a>,
@@ -56,7 +56,7 @@ pub fn read_prefix<'a>(
 }
 
 // The conditions of the prefix are declared.
-pub fn check_names(
+pub(crate) fn check_names(
     basis: &Basis,
     rule: &RawRule,
     names: &[&[u8]],
@@ -116,7 +116,7 @@ fn check_pattern(
 }
 
 // The pattern, with what it reaches.
-pub fn read_expression(
+pub(crate) fn read_expression(
     alloc: Global,
     basis: &Basis,
     rule: &RawRule,
@@ -143,7 +143,7 @@ pub fn read_expression(
 }
 
 // The action has a form.
-pub fn read_whole_action<'r>(
+pub(crate) fn read_whole_action<'r>(
     alloc: Global,
     basis: &Basis,
     rule: &'r RawRule,
@@ -179,7 +179,7 @@ fn all_begin_declared(states: &[State], statements: &[Statement]) -> bool
 }
 
 // The conditions that the action begins are declared.
-pub fn check_begins(
+pub(crate) fn check_begins(
     basis: &Basis,
     rule: &RawRule,
     action: &Action,
@@ -205,7 +205,7 @@ pub fn check_begins(
 }
 
 // A rule follows one whose action is that of the next.
-pub fn check_next(
+pub(crate) fn check_next(
     basis: &Basis,
     rule: &RawRule,
     action: &Action,

@@ -31,7 +31,7 @@ fn digit_of(c: u8) -> u8
 }
 
 /// The number that digits of a base spell, where it is below the limit.
-pub fn number_below(limit: u32, base: u32, digits: &[u8]) -> Option<u32>
+pub(crate) fn number_below(limit: u32, base: u32, digits: &[u8]) -> Option<u32>
     requires small { limit ≤ 2147483648 }
     requires low { 1 ≤ base }
     requires high { base ≤ 16 }
@@ -143,7 +143,7 @@ fn behind_quote(text: &[u8]) -> Option<&[u8]>
 }
 
 /// The byte of a constant from behind its first `'`, and the text behind it.
-pub fn constant_at(text: &[u8]) -> Option<(u8, &[u8])>
+pub(crate) fn constant_at(text: &[u8]) -> Option<(u8, &[u8])>
     ensures value { option_map (λ r. (r.0, r.1.now)) result ≡ plain.constant_at text.now }
     ensures less { IfSome result (λ r. length r.1.now ≤ length text.now) }
 {

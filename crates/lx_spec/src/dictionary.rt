@@ -43,7 +43,11 @@ fn number_of(named: &[Named], name: &[u8]) -> Option<usize>
 
 /// Adds the numbers of the definitions that an expression names, and says whether each name in it is defined.
 #[tactic(auto, using(crate::proofs::Rows::row_steps))]
-pub fn push_row(named: &[Named], expr: &Expr, row: &mut Vec<usize>) -> Result<bool, AllocError>
+pub(crate) fn push_row(
+    named: &[Named],
+    expr: &Expr,
+    row: &mut Vec<usize>,
+) -> Result<bool, AllocError>
     ensures row { OnOk result (row.new.items ≡ row.old.items ++ row_of (map named_view named.now) (regex_of expr.now)) }
     ensures all { IfOk result (λ all. all ≡ all_defined (map named_view named.now) (regex_of expr.now)) }
 {
@@ -133,7 +137,7 @@ fn with_definition(
 }
 
 /// Reads each definition once.
-pub fn read_dictionary(alloc: Global, named: &[Named]) -> Result<Dictionary, AllocError>
+pub(crate) fn read_dictionary(alloc: Global, named: &[Named]) -> Result<Dictionary, AllocError>
     ensures { IfOk result (λ d. IsDictionary (map named_view named.now) (dictionary_view d)) }
 {
     let mut dictionary = Dictionary {

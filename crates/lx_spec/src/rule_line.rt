@@ -87,7 +87,7 @@ fn rule_begins<'a>(prefix: Prefix<'a>, text: &'a [u8]) -> RuleLine<'a>
 }
 
 /// The first form of Rules that fits the line.
-pub fn rule_line_of(text: &[u8]) -> RuleLine<'_>
+pub(crate) fn rule_line_of(text: &[u8]) -> RuleLine<'_>
     ensures { (ends : List ℕ → ℕ) → plain.EndsPatterns ends → rule_line_view result ≡ plain.rule_line_of ends text.now }
 {
     let Some((c, _)) = text.split_first() else {

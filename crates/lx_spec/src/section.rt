@@ -340,7 +340,7 @@ fn first_sheet<'a>(alloc: Global) -> Result<Sheet<'a>, SpecFault>
 }
 
 /// What the sections of a text say, or their first fault in the order of the text.
-pub fn read_sections<'a>(alloc: Global, text: &'a [u8]) -> Result<Sheet<'a>, SpecFault>
+pub(crate) fn read_sections<'a>(alloc: Global, text: &'a [u8]) -> Result<Sheet<'a>, SpecFault>
     requires { length text.now ≤ 1048576 }
     ensures { (ends : List ℕ → ℕ) → EndsPatterns ends → Gives sheet_view result (plain.sheet_of ends text.now) }
 {
