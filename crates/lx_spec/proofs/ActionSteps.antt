@@ -59,10 +59,10 @@ closes-suc : (whole : List Word) (k : ℕ) (rest behind : List Word) (read : Lis
 closes-suc whole k rest behind read r e = record {
   sound = λ ss a. r.sound ss (closed k rest behind ss (sym e) a);
   complete = λ ks a.
-    let w = r.complete ks a in
-    let v = in_closed (suc k) rest behind w.0 w.1 (sym e) in
-    let same : v.0 ≡ k = omega arith in
-    (w.0, subst (λ (n : ℕ). AreStatements n behind w.0) same v.2, w.2);
+      let w = r.complete ks a in
+      let v = in_closed (suc k) rest behind w.0 w.1 (sym e) in
+      let same : v.0 ≡ k = omega arith in
+      (w.0, subst (λ (n : ℕ). AreStatements n behind w.0) same v.2, w.2);
 }
 
 pub Stated-closes : (whole : List Word) (d : ℕ) (rest behind : List Word) (read : List Statement) → Stated whole d rest read → closes behind ≡ turn_at rest → 0 < d → Stated whole (d - 1) behind read
@@ -81,9 +81,9 @@ pub Stated-states : (whole : List Word) (d : ℕ) (rest behind : List Word) (rea
 Stated-states whole d rest behind read s r e = record {
   sound = λ ss a. subst (AreStatements 0 whole) (sym (append_assoc read (s ∷ []) ss)) (r.sound (s ∷ ss) (stated d rest behind s ss (sym e) a));
   complete = λ ks a.
-    let v = r.complete ks a in
-    let u = in_stated d rest behind s v.0 v.1 (sym e) in
-    (u.0, u.1, v.2 ∙ ap (λ (l : List Statement). read ++ l) u.2 ∙ sym (append_assoc read (s ∷ []) u.0));
+      let v = r.complete ks a in
+      let u = in_stated d rest behind s v.0 v.1 (sym e) in
+      (u.0, u.1, v.2 ∙ ap (λ (l : List Statement). read ++ l) u.2 ∙ sym (append_assoc read (s ∷ []) u.0));
 }
 
 pub Stated-end : (whole rest : List Word) (read : List Statement) → Stated whole 0 rest read → finished ≡ turn_at rest → AreStatements 0 whole read

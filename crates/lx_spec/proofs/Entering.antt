@@ -10,13 +10,13 @@ use Rattle.lx_spec.specs.declared.fault.SpecFault.{SpecFault}
 pub rule_begun : (ends : List ℕ → ℕ) (before : Sheet) (n : ℕ) (line : List ℕ) (prefix : Prefix) (pattern text : List ℕ) (rest : List (List ℕ)) → rule_line.begins_rule prefix pattern text ≡ rule_line_of ends line
     → with_entries before (entries_behind ends (record { line = n; prefix = prefix; pattern = pattern; action = text }) (with_line start text) (n + 1) rest) ≡ sheet_behind ends before rules n (line ∷ rest)
 rule_begun ends before n line prefix pattern text rest e = ap (λ (r : RuleLine). with_entries before (elim r [
-    | rule_line.skipped ↦ entries ends rules (n + 1) rest
-    | rule_line.opens_group ↦ entries ends (rules_group n) (n + 1) rest
-    | rule_line.rules_end ↦ []
-    | rule_line.begins_rule prefix' pattern' text' ↦
+  | rule_line.skipped ↦ entries ends rules (n + 1) rest
+  | rule_line.opens_group ↦ entries ends (rules_group n) (n + 1) rest
+  | rule_line.rules_end ↦ []
+  | rule_line.begins_rule prefix' pattern' text' ↦
       cond (is_closed (with_line start text')) (rule (record { line = n; prefix = prefix'; pattern = pattern'; action = text' }) true ∷ entries ends rules (n + 1) rest)
-        (entries ends (action (record { line = n; prefix = prefix'; pattern = pattern'; action = text' }) (with_line start text')) (n + 1) rest)
-  ])) e
+      (entries ends (action (record { line = n; prefix = prefix'; pattern = pattern'; action = text' }) (with_line start text')) (n + 1) rest)
+])) e
 
 pub Goes-same : {X : Type 0} (ends : List ℕ → ℕ) (view : X → Sheet × Option Place) (n : ℕ) (rest : List (List ℕ)) (r : Result X SpecFault) (a b : Result Sheet SpecFault) → b ≡ a → Goes ends view n rest r b → Goes ends view n rest r a
 Goes-same ends view n rest r a b e = subst (λ x. Goes ends view n rest r x) e

@@ -18,14 +18,15 @@ fields-step (c ∷ text) = by (nat_eq c 44) refl (fields-step text) where
       pick_first _ _ e ∙ sym (ap (λ (w : List ℕ). w ∷ fields_behind (behind_run is_no_comma (c ∷ text))) (run-none is_no_comma c text (ap not e)) ∙ ap (λ (t : List ℕ). [] ∷ fields_behind t) (behind-none is_no_comma c text (ap not e)))
   by false e more =
       pick_second _ _ e ∙ ap (onto_field c) more
-        ∙ sym (ap (λ (w : List ℕ). w ∷ fields_behind (behind_run is_no_comma (c ∷ text))) (run-more is_no_comma c text (ap not e)) ∙ ap (λ (t : List ℕ). (c ∷ run is_no_comma text) ∷ fields_behind t) (behind-more is_no_comma c text (ap not e)))
+      ∙ sym (ap (λ (w : List ℕ). w ∷ fields_behind (behind_run is_no_comma (c ∷ text))) (run-more is_no_comma c text (ap not e)) ∙ ap (λ (t : List ℕ). (c ∷ run is_no_comma text) ∷ fields_behind t) (behind-more is_no_comma c text (ap not e)))
 
 -- the first field ends at a comma
 pub field-next : (text : List ℕ) (n c : ℕ) (rest : List ℕ) → n ≡ prefix_len is_no_comma text → take (length text - n) (drop n text) ≡ c ∷ rest → (fields_of text ≡ take n text ∷ fields_of rest) × (length rest < length text)
 field-next text n c rest is cases =
-    let e : drop n text ≡ c ∷ rest = sym (take_rest text n) ∙ cases in
-    (fields-step text ∙ ap (λ (k : ℕ). take k text ∷ fields_behind (drop k text)) (sym is) ∙ ap (λ (l : List ℕ). take n text ∷ fields_behind l) e,
-     omega (arith, ap length e, length-drop n text))
+    let e : drop n text ≡ c ∷ rest = sym (take_rest text n) ∙ cases in (
+      fields-step text ∙ ap (λ (k : ℕ). take k text ∷ fields_behind (drop k text)) (sym is) ∙ ap (λ (l : List ℕ). take n text ∷ fields_behind l) e,
+      omega (arith, ap length e, length-drop n text),
+    )
 
 no_bytes : (l : List ℕ) → length l ≡ 0 → l ≡ []
 no_bytes [] e = refl

@@ -57,8 +57,8 @@ closed_one ms marks i f t from to less e old =
     let back : (q : ℕ) → IsTrue (is_marked marks q) → IsTrue (is_marked (set marks f v) q) = λ q h. same q ∙ h in
     let forth : (q : ℕ) → IsTrue (is_marked (set marks f v) q) → IsTrue (is_marked marks q) = λ q h. sym (same q) ∙ h in
     below_more (λ k. IsTrue (is_marked (set marks f v) (get_or ms k nowhere).to) → IsTrue (is_marked (set marks f v) (get_or ms k nowhere).from)) i
-      (λ k less' h. back (get_or ms k nowhere).from (old k less' (forth (get_or ms k nowhere).to h)))
-      (λ h. back (get_or ms i nowhere).from (ap (λ (q : ℕ). get_or marks q false) from ∙ sym e ∙ last (get_or marks f false) (get_or marks t false) (sym (ap (λ (q : ℕ). get_or marks q false) to) ∙ forth (get_or ms i nowhere).to h)))
+    (λ k less' h. back (get_or ms k nowhere).from (old k less' (forth (get_or ms k nowhere).to h)))
+    (λ h. back (get_or ms i nowhere).from (ap (λ (q : ℕ). get_or marks q false) from ∙ sym e ∙ last (get_or marks f false) (get_or marks t false) (sym (ap (λ (q : ℕ). get_or marks q false) to) ∙ forth (get_or ms i nowhere).to h)))
   where
     last : (a b : Bool) → b ≡ true → (a || b) ≡ true
     last true b h = refl
@@ -128,7 +128,7 @@ pub Marking-more : (ms : List Mention) (initial marks : List Bool) (changed : Bo
     → f < length marks → get_or marks f false ≡ a → get_or marks t false ≡ b → Marking ms initial (set marks f (a || b)) (changed || not (beq (a || b) a)) (i + 1)
 Marking-more ms initial marks changed i f t a b m within from to less x y =
     subst (λ (v : Bool). Marking ms initial (set marks f (a || v)) (changed || not (beq (a || v) a)) (i + 1)) y
-      (subst (λ (u : Bool). Marking ms initial (set marks f (u || get_or marks t false)) (changed || not (beq (u || get_or marks t false) u)) (i + 1)) x (marking-more ms initial marks changed i f t m within from to less))
+    (subst (λ (u : Bool). Marking ms initial (set marks f (u || get_or marks t false)) (changed || not (beq (u || get_or marks t false) u)) (i + 1)) x (marking-more ms initial marks changed i f t m within from to less))
 
 pub Marking-closed : (ms : List Mention) (initial marks : List Bool) (n : ℕ) → Marking ms initial marks false n → length ms ≤ n → AreClosed ms marks
 Marking-closed ms initial marks n m all i j e h =
@@ -164,11 +164,11 @@ done_one ms old ds i f t v from to less e grow done =
     let kept : (q : ℕ) → slice_index ds q ≤ slice_index (set ds f v) q = grow_one ds ds f v less (omega arith) (λ q. omega arith) in
     let here : slice_index (set ds f v) f ≡ v = get_or-set_same ds f v 0 less in
     below_more (λ k. min (slice_index old (get_or ms k nowhere).to) 31 + 1 ≤ slice_index (set ds f v) (get_or ms k nowhere).from) i
-      (λ k less'. let a = done k less' in let b = kept (get_or ms k nowhere).from in omega (arith, a, b))
-      (let g : slice_index old t ≤ slice_index ds t = grow t in
-       let at : slice_index (set ds f v) (get_or ms i nowhere).from ≡ v = ap (slice_index (set ds f v)) from ∙ here in
-       let was : slice_index old (get_or ms i nowhere).to ≡ slice_index old t = ap (slice_index old) to in
-       omega (arith, g, at, was, e))
+    (λ k less'. let a = done k less' in let b = kept (get_or ms k nowhere).from in omega (arith, a, b))
+    (let g : slice_index old t ≤ slice_index ds t = grow t in
+    let at : slice_index (set ds f v) (get_or ms i nowhere).from ≡ v = ap (slice_index (set ds f v)) from ∙ here in
+    let was : slice_index old (get_or ms i nowhere).to ≡ slice_index old t = ap (slice_index old) to in
+    omega (arith, g, at, was, e))
 
 pub reach_more : (ms : List Mention) (old ds : List ℕ) (most : ℕ) → most < 32 → Reach (IsMention ms) old most
     → ((k : ℕ) → k < length ms → min (slice_index old (get_or ms k nowhere).to) 31 + 1 ≤ slice_index ds (get_or ms k nowhere).from) → Reach (IsMention ms) ds (most + 1)

@@ -28,7 +28,7 @@ mentions-push named i [] t = append-nil (mentions_in named i t) ∙ ap (λ (n : 
 mentions-push named i (y ∷ trees) t =
     let n : suc i + length trees ≡ i + suc (length trees) = omega arith in
     ap (λ (l : List Mention). mentions_in named i y ++ l) (mentions-push named (suc i) trees t ∙ ap (λ (k : ℕ). mentions_from named (suc i) trees ++ mentions_in named k t) n)
-      ∙ sym (append_assoc (mentions_in named i y) (mentions_from named (suc i) trees) (mentions_in named (i + suc (length trees)) t))
+    ∙ sym (append_assoc (mentions_in named i y) (mentions_from named (suc i) trees) (mentions_in named (i + suc (length trees)) t))
 
 pub ReadSome-start : (named : List Named) → ReadSome named 0 (record { trees = []; mentions = []; incomplete = [] })
 ReadSome-start named = record { count = refl; trees = tt; mentions = refl; incomplete = refl }
@@ -38,8 +38,8 @@ ReadSome-more named i old new r a = subst (λ (n : ℕ). ReadSome named n new) (
   count = ap length a.trees ∙ length-append old.trees (a.tree ∷ []) ∙ (let h = r.count in omega arith);
   trees = subst (AreTrees (take (suc i) named)) (sym a.trees) (trees-push named i a.definition old.trees a.tree a.at r.count r.trees a.reads);
   mentions = a.mentions ∙ ap (λ (l : List Mention). l ++ mentions_in named i a.tree) r.mentions
-    ∙ ap (λ (k : ℕ). mentions_from named 0 old.trees ++ mentions_in named k a.tree) (let h = r.count in let e : i ≡ 0 + length old.trees = omega arith in e)
-    ∙ sym (mentions-push named 0 old.trees a.tree) ∙ ap (mentions_from named 0) (sym a.trees);
+      ∙ ap (λ (k : ℕ). mentions_from named 0 old.trees ++ mentions_in named k a.tree) (let h = r.count in let e : i ≡ 0 + length old.trees = omega arith in e)
+      ∙ sym (mentions-push named 0 old.trees a.tree) ∙ ap (mentions_from named 0) (sym a.trees);
   incomplete = a.incomplete ∙ ap (λ (l : List Bool). l ++ is_incomplete named a.tree ∷ []) r.incomplete ∙ sym (map_push (is_incomplete named) old.trees a.tree) ∙ ap (map (is_incomplete named)) (sym a.trees);
 })
 

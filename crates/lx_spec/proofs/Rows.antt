@@ -27,7 +27,7 @@ pub ruleset row_steps = (filter_map-append, list_all-append)
 pub row-joined : (named : List Named) (a b : Regex) (names : List (List ℕ)) (old mid new : List ℕ) → names ≡ names_of a ++ names_of b → mid ≡ old ++ row_of named a → new ≡ mid ++ row_of named b → new ≡ old ++ filter_map (number_of named) names
 row-joined named a b names old mid new e f g =
     g ∙ ap (λ (l : List ℕ). l ++ row_of named b) f ∙ append_assoc old (row_of named a) (row_of named b)
-      ∙ ap (λ (l : List ℕ). old ++ l) (sym (filter_map-append (number_of named) (names_of a) (names_of b))) ∙ ap (λ (l : List (List ℕ)). old ++ filter_map (number_of named) l) (sym e)
+    ∙ ap (λ (l : List ℕ). old ++ l) (sym (filter_map-append (number_of named) (names_of a) (names_of b))) ∙ ap (λ (l : List (List ℕ)). old ++ filter_map (number_of named) l) (sym e)
 
 -- an element of a list seen through a view
 pub at_map : {X Y : Type 0} (f : X → Y) (xs : List X) (i : ℕ) (d : X) → i < length xs → slice_get (map f xs) i ≡ Some (f (get_or xs i d))

@@ -23,9 +23,10 @@ not-true e h = false≢true (sym e ∙ h)
 -- what a look for a mark in a row says, where the marks say something of each number
 pub marked-iff : (b : Bool) (row row' : List ℕ) (marks marks' : List Bool) (P : ℕ → Type 0) → row ≡ row' → marks ≡ marks' → (IsTrue b ↔ ((j : ℕ) × Contains row j × IsTrue (is_marked marks j)))
     → ((i : ℕ) → IsTrue (is_marked marks' i) ↔ P i) → IsTrue b ↔ ((j : ℕ) × Contains row' j × P j)
-marked-iff b row row' marks marks' P e f found says =
-    (λ h. let w = found.0 h in (w.0, subst (λ (l : List ℕ). Contains l w.0) e w.1, (says w.0).0 (subst (λ (m : List Bool). IsTrue (is_marked m w.0)) f w.2)),
-     λ w. found.1 (w.0, subst (λ (l : List ℕ). Contains l w.0) (sym e) w.1, subst (λ (m : List Bool). IsTrue (is_marked m w.0)) (sym f) ((says w.0).1 w.2)))
+marked-iff b row row' marks marks' P e f found says = (
+  λ h. let w = found.0 h in (w.0, subst (λ (l : List ℕ). Contains l w.0) e w.1, (says w.0).0 (subst (λ (m : List Bool). IsTrue (is_marked m w.0)) f w.2)),
+  λ w. found.1 (w.0, subst (λ (l : List ℕ). Contains l w.0) (sym e) w.1, subst (λ (m : List Bool). IsTrue (is_marked m w.0)) (sym f) ((says w.0).1 w.2)),
+)
 
 abbrev pub mentions_in_ground : Basis → List Mention
 mentions_in_ground b = mentions_of (ground_view b).named (ground_view b).trees
@@ -36,7 +37,7 @@ basis-unread b is = subst (λ (ms : List Mention). (i : ℕ) → IsTrue (is_mark
 pub basis-undefined : (b : Basis) → IsBasis b → (i : ℕ) → IsTrue (is_marked b.outlook.now.undefined.items i) ↔ Leads (mentions_in_ground b) (incomplete_marks (ground_view b).named (ground_view b).trees) i
 basis-undefined b is =
     subst (λ (m : List Bool). (i : ℕ) → IsTrue (is_marked b.outlook.now.undefined.items i) ↔ Leads (mentions_in_ground b) m i) is.dictionary.incomplete
-      (subst (λ (ms : List Mention). (i : ℕ) → IsTrue (is_marked b.outlook.now.undefined.items i) ↔ Leads ms (dictionary_view b.dictionary.now).incomplete i) is.dictionary.mentions is.outlook.undefined)
+    (subst (λ (ms : List Mention). (i : ℕ) → IsTrue (is_marked b.outlook.now.undefined.items i) ↔ Leads ms (dictionary_view b.dictionary.now).incomplete i) is.dictionary.mentions is.outlook.undefined)
 
 pub basis-deep : (b : Basis) → IsBasis b → (i : ℕ) → IsTrue (is_marked b.outlook.now.deep.items i) ↔ Follow (IsMention (mentions_in_ground b)) 32 i
 basis-deep b is = subst (λ (ms : List Mention). (i : ℕ) → IsTrue (is_marked b.outlook.now.deep.items i) ↔ Follow (IsMention ms) 32 i) is.dictionary.mentions is.outlook.deep

@@ -45,9 +45,9 @@ pub Reached-word : (text rest behind : List ℕ) (read : List Word) (w : Word) �
 Reached-word text rest behind read w r e = record {
   sound = λ ws a. subst (AreWords text) (sym (append_assoc read (w ∷ []) ws)) (r.sound (w ∷ ws) (behind_word rest behind w ws (sym e) a));
   complete = λ ks a.
-    let v = r.complete ks a in
-    let u = in_word rest behind w v.0 v.1 (sym e) in
-    (u.0, u.1, v.2 ∙ ap (λ (l : List Word). read ++ l) u.2 ∙ sym (append_assoc read (w ∷ []) u.0));
+      let v = r.complete ks a in
+      let u = in_word rest behind w v.0 v.1 (sym e) in
+      (u.0, u.1, v.2 ∙ ap (λ (l : List Word). read ++ l) u.2 ∙ sym (append_assoc read (w ∷ []) u.0));
 }
 
 pub Reached-end : (text rest : List ℕ) (read : List Word) → Reached text rest read → ended ≡ piece_at rest → AreWords text read

@@ -49,13 +49,15 @@ words-step c [] e =
 words-step c (d ∷ text) e = by (is_blank d) refl (λ q. words-step d text q) where
   left : words_of (c ∷ d ∷ text) ≡ with_byte c (d ∷ text) (words_of (d ∷ text))
   left = pick_second _ _ e
+
   right : run is_no_blank (c ∷ d ∷ text) ∷ words_of (behind_run is_no_blank (c ∷ d ∷ text)) ≡ (c ∷ run is_no_blank (d ∷ text)) ∷ words_of (behind_run is_no_blank (d ∷ text))
   right = ap (λ (w : List ℕ). w ∷ words_of (behind_run is_no_blank (c ∷ d ∷ text))) (run-more is_no_blank c (d ∷ text) (ap not e))
-    ∙ ap (λ (t : List ℕ). (c ∷ run is_no_blank (d ∷ text)) ∷ words_of t) (behind-more is_no_blank c (d ∷ text) (ap not e))
+      ∙ ap (λ (t : List ℕ). (c ∷ run is_no_blank (d ∷ text)) ∷ words_of t) (behind-more is_no_blank c (d ∷ text) (ap not e))
+
   by : (b : Bool) → is_blank d ≡ b → (is_blank d ≡ false → words_of (d ∷ text) ≡ run is_no_blank (d ∷ text) ∷ words_of (behind_run is_no_blank (d ∷ text)))
-    → words_of (c ∷ d ∷ text) ≡ run is_no_blank (c ∷ d ∷ text) ∷ words_of (behind_run is_no_blank (c ∷ d ∷ text))
+      → words_of (c ∷ d ∷ text) ≡ run is_no_blank (c ∷ d ∷ text) ∷ words_of (behind_run is_no_blank (c ∷ d ∷ text))
   by true q more =
-    left ∙ pick_first _ _ q ∙ sym (right ∙ ap (λ (w : List ℕ). (c ∷ w) ∷ words_of (behind_run is_no_blank (d ∷ text))) (run-none is_no_blank d text (ap not q))
+      left ∙ pick_first _ _ q ∙ sym (right ∙ ap (λ (w : List ℕ). (c ∷ w) ∷ words_of (behind_run is_no_blank (d ∷ text))) (run-none is_no_blank d text (ap not q))
       ∙ ap (λ (t : List ℕ). (c ∷ []) ∷ words_of t) (behind-none is_no_blank d text (ap not q)))
   by false q more = left ∙ pick_second _ _ q ∙ ap (onto_first c) (more q) ∙ sym right
 

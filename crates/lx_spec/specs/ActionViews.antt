@@ -1,9 +1,6 @@
 -- The statements of actions in the code, without where they lie in memory.
 use Rattle.std.specs.Prelude.{List, map}
 use Rattle.lx_spec.specs.Actions as actions
-
-
-
 use Rattle.lx_spec.specs.declared.action.Value.{Value}
 use Rattle.lx_spec.specs.declared.action.Value.TheVariants as value
 use Rattle.lx_spec.specs.declared.action.Statement.{Statement}

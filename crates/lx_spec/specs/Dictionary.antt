@@ -62,5 +62,6 @@ is_incomplete named (Some u) = not (all_defined named u)
 -- which definitions have no reading; which name what isn't defined
 abbrev pub unreadable_marks : List (Option Regex) → List Bool
 unreadable_marks trees = map is_unreadable trees
+
 abbrev pub incomplete_marks : List Named → List (Option Regex) → List Bool
 incomplete_marks named trees = map (is_incomplete named) trees

@@ -68,8 +68,8 @@ entries ends rules n (line ∷ rest) = elim (rule_line_of ends line) [
   | rule_line.opens_group ↦ entries ends (rules_group n) (n + 1) rest
   | rule_line.rules_end ↦ []
   | rule_line.begins_rule prefix pattern text ↦
-    if is_closed (with_line start text) then rule (record { line = n; prefix = prefix; pattern = pattern; action = text }) true ∷ entries ends rules (n + 1) rest
-    else entries ends (action (record { line = n; prefix = prefix; pattern = pattern; action = text }) (with_line start text)) (n + 1) rest
+      if is_closed (with_line start text) then rule (record { line = n; prefix = prefix; pattern = pattern; action = text }) true ∷ entries ends rules (n + 1) rest
+      else entries ends (action (record { line = n; prefix = prefix; pattern = pattern; action = text }) (with_line start text)) (n + 1) rest
 ]
 entries ends (rules_group since) n (line ∷ rest) = if begins_with 37 125 line then entries ends rules (n + 1) rest else entries ends (rules_group since) (n + 1) rest
 entries ends (action raw count) n (line ∷ rest) =

@@ -18,7 +18,7 @@ pub data IsFault (ends : List ℕ → ℕ) (text : List ℕ) : SpecFault → Typ
   too_long : 1048576 < length text → IsFault ends text (fault code.TooLong 0)
   in_sections : (f : SpecFault) → length text ≤ 1048576 → sheet_of ends text ≡ Err f → IsFault ends text f
   in_rules : (sheet : Sheet) (trees : List (Option Regex)) (f : SpecFault) → length text ≤ 1048576 → sheet_of ends text ≡ Ok sheet → AreTrees sheet.names trees →
-    IsFirstFault (ground_of sheet trees) (cases sheet.rules) f → IsFault ends text f
+      IsFirstFault (ground_of sheet trees) (cases sheet.rules) f → IsFault ends text f
 
 -- The text has no fault.
 pub record IsClean (ends : List ℕ → ℕ) (text : List ℕ) : Type 0 where

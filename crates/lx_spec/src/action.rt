@@ -93,7 +93,7 @@ fn value_of(word: Word<'_>) -> Option<Value<'_>>
 }
 
 /// Whether the text is an identifier, or `0`.
-pub fn is_condition_name(text: &[u8]) -> bool
+pub(crate) fn is_condition_name(text: &[u8]) -> bool
     ensures { result ≡ plain.is_condition_name text.now }
 {
     is_identifier(text) || text == b"0".as_slice()
@@ -103,7 +103,11 @@ fn condition_of(word: Word<'_>) -> Option<&[u8]>
     ensures { option_map (λ c. c.now) result ≡ plain.condition_of (word_view word.entry) }
 {
     match word {
-        Word::Letters(text) => if is_condition_name(text) { Some(text) } else { None },
+        Word::Letters(text) => if is_condition_name(text) {
+            Some(text)
+        } else {
+            None
+        },
         _ => None,
     }
 }
@@ -244,7 +248,10 @@ fn turn_at<'t>(words: &[Word<'t>]) -> Turn<'t>
 }
 
 // The statements that words are; `None` where they aren't statements.
-fn read_statements<'t>(alloc: Global, words: &[Word<'t>]) -> Result<Option<Vec<Statement<'t>>>, AllocError>
+fn read_statements<'t>(
+    alloc: Global,
+    words: &[Word<'t>],
+) -> Result<Option<Vec<Statement<'t>>>, AllocError>
     ensures { IfOk result (λ o. MatchOption o ((ss : List plain.Statement) → AreStatements 0 (words_view words.now) ss → ⊥) (λ v. AreStatements 0 (words_view words.now) (statements_view v.items))) }
 {
     let mut statements = Vec::new(alloc);
@@ -291,7 +298,10 @@ fn is_bar(words: &[Word]) -> bool
 }
 
 /// The action that a text is; `None` where it has no form.
-pub fn read_action<'t>(alloc: Global, text: &'t [u8]) -> Result<Option<Action<'t>>, AllocError>
+pub(crate) fn read_action<'t>(
+    alloc: Global,
+    text: &'t [u8],
+) -> Result<Option<Action<'t>>, AllocError>
     ensures { IfOk result (λ o. MatchOption o ((a : plain.Action) → IsAction text.now a → ⊥) (λ a. IsAction text.now (action_view a))) }
 {
     let Some(words) = read_words(alloc, text)? else {

@@ -74,7 +74,8 @@ fn behind_line(mode: Mode) -> Mode
 {
     match mode {
         Mode::Comment | Mode::Star => Mode::Comment,
-        Mode::Code | Mode::Slash | Mode::LineComment | Mode::Quoted(_) | Mode::Escaped(_) => Mode::Code,
+        Mode::Code | Mode::Slash | Mode::LineComment | Mode::Quoted(_) | Mode::Escaped(_) =>
+            Mode::Code,
     }
 }
 
@@ -87,13 +88,17 @@ fn with_byte(count: Count, c: u8) -> Count
     let close = counts(count.mode) && c == b'}';
     Count {
         opened: if open { count.opened + 1 } else { count.opened },
-        closed: if close { count.closed + 1 } else { count.closed },
+        closed: if close {
+            count.closed + 1
+        } else {
+            count.closed
+        },
         mode: next_mode(count.mode, c),
     }
 }
 
 /// One more line.
-pub fn with_line(count: Count, line: &[u8]) -> Count
+pub(crate) fn with_line(count: Count, line: &[u8]) -> Count
     requires opened { count.opened + length line.now < 18446744073709551616 }
     requires closed { count.closed + length line.now < 18446744073709551616 }
     ensures value { result ≡ plain.with_line count line.now }
@@ -104,7 +109,11 @@ pub fn with_line(count: Count, line: &[u8]) -> Count
     for c in line {
         so_far = with_byte(so_far, *c);
     }
-    Count { opened: so_far.opened, closed: so_far.closed, mode: behind_line(so_far.mode) }
+    Count {
+        opened: so_far.opened,
+        closed: so_far.closed,
+        mode: behind_line(so_far.mode),
+    }
 }
 
 fn is_outside(mode: Mode) -> bool
@@ -115,7 +124,7 @@ fn is_outside(mode: Mode) -> bool
 
 /// Whether the action ends with the lines that were counted: no comment is open, and as many braces at least are
 /// closed as opened.
-pub fn is_closed(count: Count) -> bool
+pub(crate) fn is_closed(count: Count) -> bool
     ensures { result ≡ plain.is_closed count }
 {
     is_outside(count.mode) && count.opened <= count.closed

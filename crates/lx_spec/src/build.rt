@@ -65,7 +65,11 @@ fn begin_number(states: &[State], name: &[u8]) -> u16
 
 #[tactic(auto, using(crate::proofs::StepLemmas::step_rules))]
 // Adds the step of a statement, but for a return, whose value it answers.
-fn push_step<'t>(states: &[State], statement: Statement<'t>, steps: &mut Vec<Step>) -> Result<Option<Value<'t>>, AllocError>
+fn push_step<'t>(
+    states: &[State],
+    statement: Statement<'t>,
+    steps: &mut Vec<Step>,
+) -> Result<Option<Value<'t>>, AllocError>
     requires some { 0 < length states.now }
     requires few { length states.now ≤ 64 }
     ensures { OnOk result (IsTrue (are_plain (length states.now) steps.old.items) → IsTrue (are_plain (length states.now) steps.new.items)) }
@@ -86,7 +90,12 @@ fn push_step<'t>(states: &[State], statement: Statement<'t>, steps: &mut Vec<Ste
 
 #[tactic(auto, using(crate::proofs::StepLemmas::step_rules))]
 // The steps of some statements, up to and with the first return.
-fn steps_of(alloc: Global, states: &[State], kinds: &mut Vec<Vec<u8>>, statements: &[Statement]) -> Result<Vec<Step>, AllocError>
+fn steps_of(
+    alloc: Global,
+    states: &[State],
+    kinds: &mut Vec<Vec<u8>>,
+    statements: &[Statement],
+) -> Result<Vec<Step>, AllocError>
     requires some { 0 < length states.now }
     requires few { length states.now ≤ 64 }
     requires kinds { vec_len kinds.old < 4294967295 }
@@ -118,7 +127,12 @@ fn own_from<'s, 'r>(read: &'s [ReadRule<'r>], i: usize) -> &'s [Statement<'r>]
 }
 
 // The steps of the rules, in order.
-fn all_steps(alloc: Global, states: &[State], kinds: &mut Vec<Vec<u8>>, read: &[ReadRule]) -> Result<Vec<Vec<Step>>, AllocError>
+fn all_steps(
+    alloc: Global,
+    states: &[State],
+    kinds: &mut Vec<Vec<u8>>,
+    read: &[ReadRule],
+) -> Result<Vec<Vec<Step>>, AllocError>
     requires some { 0 < length states.now }
     requires few { length states.now ≤ 64 }
     requires rules { vec_len kinds.old + length read.now < 4294967295 }
@@ -139,8 +153,17 @@ fn rule_of(line: u32, rule: ReadRule, action: Vec<Step>, conditions: usize, kind
     requires steps { IsTrue (are_steps conditions kinds action.items) }
     ensures { IsTrue (is_rule conditions kinds result) }
 {
-    let ReadRule { conditions, pattern, action: _ } = rule;
-    Rule { line, conditions, pattern, action }
+    let ReadRule {
+        conditions,
+        pattern,
+        action: _,
+    } = rule;
+    Rule {
+        line,
+        conditions,
+        pattern,
+        action,
+    }
 }
 
 // The rules in the order of the text, where they stand in the other order.
@@ -157,7 +180,14 @@ fn reversed(alloc: Global, rules: Vec<Rule>) -> Result<Vec<Rule>, AllocError>
 }
 
 // The rules, each with its steps.
-fn assemble(alloc: Global, raws: &[RawRule], read: Vec<ReadRule>, lists: Vec<Vec<Step>>, conditions: usize, kinds: usize) -> Result<Vec<Rule>, AllocError>
+fn assemble(
+    alloc: Global,
+    raws: &[RawRule],
+    read: Vec<ReadRule>,
+    lists: Vec<Vec<Step>>,
+    conditions: usize,
+    kinds: usize,
+) -> Result<Vec<Rule>, AllocError>
     requires same { vec_len lists ≡ vec_len read }
     requires within { vec_len read ≤ length raws.now }
     requires listed { IsTrue (list_all (λ r. are_conditions conditions (option_map (λ v. v.items) r.conditions)) read.items) }
@@ -186,13 +216,20 @@ fn conditions_from(alloc: Global, states: &[State]) -> Result<Vec<Condition>, Al
     let mut conditions = Vec::new(alloc);
     for state in states {
         let name = Vec::from_slice(alloc, state.name)?;
-        conditions.push(Condition { name, exclusive: state.exclusive })?;
+        conditions.push(Condition {
+            name,
+            exclusive: state.exclusive,
+        })?;
     }
     Ok(conditions)
 }
 
 // The definitions that have a reading, in the order of the text.
-fn definitions_from(alloc: Global, named: &[Named], trees: Vec<Option<Expr>>) -> Result<Vec<Definition>, AllocError>
+fn definitions_from(
+    alloc: Global,
+    named: &[Named],
+    trees: Vec<Option<Expr>>,
+) -> Result<Vec<Definition>, AllocError>
     requires { vec_len trees ≡ length named.now }
     ensures { IfOk result (λ v. vec_len v ≤ length named.now) }
 {
@@ -212,17 +249,38 @@ fn definitions_from(alloc: Global, named: &[Named], trees: Vec<Option<Expr>>) ->
 }
 
 /// The specification that the rules of a sheet say.
-pub fn spec_of(alloc: Global, sheet: &Sheet, dictionary: Dictionary, read: Vec<ReadRule>) -> Result<Spec, AllocError>
+pub(crate) fn spec_of(
+    alloc: Global,
+    sheet: &Sheet,
+    dictionary: Dictionary,
+    read: Vec<ReadRule>,
+) -> Result<Spec, AllocError>
     requires trees { vec_len dictionary.trees ≡ vec_len sheet.now.names }
     requires rules { vec_len read ≡ vec_len sheet.now.rules }
     requires listed { IsTrue (list_all (λ r. are_conditions (vec_len sheet.now.states) (option_map (λ v. v.items) r.conditions)) read.items) }
     ensures { IfOk result (λ s. map condition_view s.conditions.items ≡ map state_view sheet.now.states.items) }
 {
-    let Dictionary { trees, mentions: _, incomplete: _ } = dictionary;
+    let Dictionary {
+        trees,
+        mentions: _,
+        incomplete: _,
+    } = dictionary;
     let mut kinds = Vec::new(alloc);
     let lists = all_steps(alloc, &sheet.states, &mut kinds, &read)?;
-    let rules = assemble(alloc, &sheet.rules, read, lists, sheet.states.len(), kinds.len())?;
+    let rules = assemble(
+        alloc,
+        &sheet.rules,
+        read,
+        lists,
+        sheet.states.len(),
+        kinds.len(),
+    )?;
     let conditions = conditions_from(alloc, &sheet.states)?;
     let definitions = definitions_from(alloc, &sheet.names, trees)?;
-    Ok(Spec { conditions, definitions, kinds, rules })
+    Ok(Spec {
+        conditions,
+        definitions,
+        kinds,
+        rules,
+    })
 }

@@ -3,37 +3,37 @@ ghost use Rattle.std.specs.Prelude.{◌≡◌, ◌≤◌, length};
 ghost use Rattle.std.specs.List.{list_all, prefix_len};
 ghost use Rattle.lx_spec.specs.Bytes as bytes;
 
-pub fn is_blank(c: u8) -> bool
+pub(crate) fn is_blank(c: u8) -> bool
     ensures { result ≡ bytes.is_blank c }
 {
     c == b' ' || c == b'\t'
 }
 
-pub fn is_letter(c: u8) -> bool
+pub(crate) fn is_letter(c: u8) -> bool
     ensures { result ≡ bytes.is_letter c }
 {
     c.is_ascii_alphabetic()
 }
 
-pub fn is_digit(c: u8) -> bool
+pub(crate) fn is_digit(c: u8) -> bool
     ensures { result ≡ bytes.is_digit c }
 {
     b'0' <= c && c <= b'9'
 }
 
-pub fn is_alphanumeric(c: u8) -> bool
+pub(crate) fn is_alphanumeric(c: u8) -> bool
     ensures { result ≡ bytes.is_alphanumeric c }
 {
     is_letter(c) || is_digit(c)
 }
 
-pub fn is_word_byte(c: u8) -> bool
+pub(crate) fn is_word_byte(c: u8) -> bool
     ensures { result ≡ bytes.is_word_byte c }
 {
     is_alphanumeric(c) || c == b'_'
 }
 
-pub fn begins_with(a: u8, b: u8, text: &[u8]) -> bool
+pub(crate) fn begins_with(a: u8, b: u8, text: &[u8]) -> bool
     ensures { result ≡ bytes.begins_with a b text.now }
 {
     match text {
@@ -42,7 +42,7 @@ pub fn begins_with(a: u8, b: u8, text: &[u8]) -> bool
     }
 }
 
-pub fn has_pair(a: u8, b: u8, text: &[u8]) -> bool
+pub(crate) fn has_pair(a: u8, b: u8, text: &[u8]) -> bool
     ensures { result ≡ bytes.has_pair a b text.now }
 {
     let mut rest = text;
@@ -56,21 +56,21 @@ pub fn has_pair(a: u8, b: u8, text: &[u8]) -> bool
 }
 
 // How many blanks stand at the front.
-pub fn blanks_len(text: &[u8]) -> usize
+pub(crate) fn blanks_len(text: &[u8]) -> usize
     ensures value { result ≡ prefix_len bytes.is_blank text.now }
     ensures within { result ≤ length text.now }
 {
     text.iter().take_while(|c| is_blank(**c)).count()
 }
 
-pub fn word_len(text: &[u8]) -> usize
+pub(crate) fn word_len(text: &[u8]) -> usize
     ensures value { result ≡ prefix_len bytes.is_word_byte text.now }
     ensures within { result ≤ length text.now }
 {
     text.iter().take_while(|c| is_word_byte(**c)).count()
 }
 
-pub fn alphanumeric_len(text: &[u8]) -> usize
+pub(crate) fn alphanumeric_len(text: &[u8]) -> usize
     ensures value { result ≡ prefix_len bytes.is_alphanumeric text.now }
     ensures within { result ≤ length text.now }
 {
@@ -89,7 +89,7 @@ fn are_word_bytes(text: &[u8]) -> bool
     text.iter().all(|c| is_word_byte(*c))
 }
 
-pub fn is_identifier(text: &[u8]) -> bool
+pub(crate) fn is_identifier(text: &[u8]) -> bool
     ensures { result ≡ bytes.is_identifier text.now }
 {
     let Some((first, rest)) = text.split_first() else {
@@ -99,7 +99,7 @@ pub fn is_identifier(text: &[u8]) -> bool
 }
 
 #[tactic(auto, using(crate::proofs::Words::trim_steps))]
-pub fn trimmed(text: &[u8]) -> &[u8]
+pub(crate) fn trimmed(text: &[u8]) -> &[u8]
     ensures { result.now ≡ bytes.trimmed text.now }
 {
     let mut front = text;

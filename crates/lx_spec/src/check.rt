@@ -26,31 +26,64 @@ use lx_ere::read::{one_reading, read_pattern};
 use std::alloc::Global;
 
 /// What the prefix of a rule lists.
-pub fn read_prefix<'a>(alloc: Global, basis: &Basis, rule: &RawRule<'a>, is_last: bool) -> Result<Vec<&'a [u8]>, SpecFault>
+pub(crate) fn read_prefix<'a>(
+    alloc: Global,
+    basis: &Basis,
+    rule: &RawRule<'a>,
+    is_last: bool,
+) -> Result<Vec<&'a [u8]>, SpecFault>
     ensures checked { Checked (ground_view basis.now) (case_of (raw_view rule.now) is_last plain.prefix_form ∷ []) result }
     ensures names { IfOk result (λ names. texts_of names.items ≡ fields_in (raw_view rule.now).prefix) }
 {
     match rule.prefix {
         Prefix::Absent => Ok(Vec::new(alloc)),
-        Prefix::Unclosed => Err(SpecFault { code: Code::NoReading, line: rule.line }),
+        Prefix::Unclosed => Err(SpecFault {
+            code: Code::NoReading,
+            line: rule.line,
+        }),
         Prefix::Listed(text) => {
             let names = read_fields(alloc, text)?;
-            if are_condition_names(&names) { Ok(names) } else { Err(SpecFault { code: Code::NoReading, line: rule.line }) }
+            if are_condition_names(&names) {
+                Ok(names)
+            } else {
+                Err(SpecFault {
+                    code: Code::NoReading,
+                    line: rule.line,
+                })
+            }
         }
     }
 }
 
 // The conditions of the prefix are declared.
-pub fn check_names(basis: &Basis, rule: &RawRule, names: &[&[u8]], is_last: bool) -> Result<(), SpecFault>
+pub(crate) fn check_names(
+    basis: &Basis,
+    rule: &RawRule,
+    names: &[&[u8]],
+    is_last: bool,
+) -> Result<(), SpecFault>
     requires basis { IsBasis basis.now }
     requires names { texts_of names.now ≡ fields_in (raw_view rule.now).prefix }
     ensures { Checked (ground_view basis.now) (case_of (raw_view rule.now) is_last plain.prefix_name ∷ []) result }
 {
-    if are_declared(basis.states, names) { Ok(()) } else { Err(SpecFault { code: Code::NoCondition, line: rule.line }) }
+    if are_declared(basis.states, names) {
+        Ok(())
+    } else {
+        Err(SpecFault {
+            code: Code::NoCondition,
+            line: rule.line,
+        })
+    }
 }
 
 // The names of the pattern lead to no substitute without a reading, to no name that isn't defined, and along 32 names at most.
-fn check_pattern(alloc: Global, basis: &Basis, rule: &RawRule, pattern: &Pattern, is_last: bool) -> Result<(), SpecFault>
+fn check_pattern(
+    alloc: Global,
+    basis: &Basis,
+    rule: &RawRule,
+    pattern: &Pattern,
+    is_last: bool,
+) -> Result<(), SpecFault>
     requires basis { IsBasis basis.now }
     requires reading { IsPattern rule.now.pattern.now (reading_of pattern.now) }
     ensures { Checked (ground_view basis.now) (case_of (raw_view rule.now) is_last plain.reading ∷ case_of (raw_view rule.now) is_last plain.undefined ∷ case_of (raw_view rule.now) is_last plain.depth ∷ []) result }
@@ -62,19 +95,33 @@ fn check_pattern(alloc: Global, basis: &Basis, rule: &RawRule, pattern: &Pattern
     let undefined = any_marked(&row, &basis.outlook.undefined);
     let deep = any_marked(&row, &basis.outlook.deep);
     if unread {
-        return Err(SpecFault { code: Code::NoReading, line: rule.line });
+        return Err(SpecFault {
+            code: Code::NoReading,
+            line: rule.line,
+        });
     }
     if !complete | undefined {
-        return Err(SpecFault { code: Code::Undefined, line: rule.line });
+        return Err(SpecFault {
+            code: Code::Undefined,
+            line: rule.line,
+        });
     }
     if deep {
-        return Err(SpecFault { code: Code::TooDeep, line: rule.line });
+        return Err(SpecFault {
+            code: Code::TooDeep,
+            line: rule.line,
+        });
     }
     Ok(())
 }
 
 // The pattern, with what it reaches.
-pub fn read_expression(alloc: Global, basis: &Basis, rule: &RawRule, is_last: bool) -> Result<Pattern, SpecFault>
+pub(crate) fn read_expression(
+    alloc: Global,
+    basis: &Basis,
+    rule: &RawRule,
+    is_last: bool,
+) -> Result<Pattern, SpecFault>
     requires { IsBasis basis.now }
     ensures checked { Checked (ground_view basis.now) (case_of (raw_view rule.now) is_last plain.reading ∷ case_of (raw_view rule.now) is_last plain.undefined ∷ case_of (raw_view rule.now) is_last plain.depth ∷ []) result }
     ensures reading { IfOk result (λ p. IsPattern rule.now.pattern.now (reading_of p)) }
@@ -84,19 +131,33 @@ pub fn read_expression(alloc: Global, basis: &Basis, rule: &RawRule, is_last: bo
             check_pattern(alloc, basis, rule, &pattern, is_last)?;
             Ok(pattern)
         }
-        Err(EreFault::NoReading) => Err(SpecFault { code: Code::NoReading, line: rule.line }),
-        Err(EreFault::Memory) => Err(SpecFault { code: Code::Memory, line: 0 }),
+        Err(EreFault::NoReading) => Err(SpecFault {
+            code: Code::NoReading,
+            line: rule.line,
+        }),
+        Err(EreFault::Memory) => Err(SpecFault {
+            code: Code::Memory,
+            line: 0,
+        }),
     }
 }
 
 // The action has a form.
-pub fn read_whole_action<'r>(alloc: Global, basis: &Basis, rule: &'r RawRule, is_last: bool) -> Result<Action<'r>, SpecFault>
+pub(crate) fn read_whole_action<'r>(
+    alloc: Global,
+    basis: &Basis,
+    rule: &'r RawRule,
+    is_last: bool,
+) -> Result<Action<'r>, SpecFault>
     ensures checked { Checked (ground_view basis.now) (case_of (raw_view rule.now) is_last plain.action_form ∷ []) result }
     ensures action { IfOk result (λ a. IsAction rule.now.action.items (action_view a)) }
 {
     match read_action(alloc, &rule.action)? {
         Some(action) => Ok(action),
-        None => Err(SpecFault { code: Code::NoAction, line: rule.line }),
+        None => Err(SpecFault {
+            code: Code::NoAction,
+            line: rule.line,
+        }),
     }
 }
 
@@ -118,7 +179,12 @@ fn all_begin_declared(states: &[State], statements: &[Statement]) -> bool
 }
 
 // The conditions that the action begins are declared.
-pub fn check_begins(basis: &Basis, rule: &RawRule, action: &Action, is_last: bool) -> Result<(), SpecFault>
+pub(crate) fn check_begins(
+    basis: &Basis,
+    rule: &RawRule,
+    action: &Action,
+    is_last: bool,
+) -> Result<(), SpecFault>
     requires basis { IsBasis basis.now }
     requires action { IsAction rule.now.action.items (action_view action.now) }
     ensures { Checked (ground_view basis.now) (case_of (raw_view rule.now) is_last plain.begin_name ∷ []) result }
@@ -129,19 +195,34 @@ pub fn check_begins(basis: &Basis, rule: &RawRule, action: &Action, is_last: boo
             if all_begin_declared(basis.states, statements) {
                 Ok(())
             } else {
-                Err(SpecFault { code: Code::NoCondition, line: rule.line })
+                Err(SpecFault {
+                    code: Code::NoCondition,
+                    line: rule.line,
+                })
             }
         }
     }
 }
 
 // A rule follows one whose action is that of the next.
-pub fn check_next(basis: &Basis, rule: &RawRule, action: &Action, is_last: bool) -> Result<(), SpecFault>
+pub(crate) fn check_next(
+    basis: &Basis,
+    rule: &RawRule,
+    action: &Action,
+    is_last: bool,
+) -> Result<(), SpecFault>
     requires { IsAction rule.now.action.items (action_view action.now) }
     ensures { Checked (ground_view basis.now) (case_of (raw_view rule.now) is_last plain.no_next ∷ []) result }
 {
     match action {
-        Action::Shared => if is_last { Err(SpecFault { code: Code::NoNext, line: rule.line }) } else { Ok(()) },
+        Action::Shared => if is_last {
+            Err(SpecFault {
+                code: Code::NoNext,
+                line: rule.line,
+            })
+        } else {
+            Ok(())
+        },
         Action::Own(_) => Ok(()),
     }
 }

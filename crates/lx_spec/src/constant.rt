@@ -31,7 +31,7 @@ fn digit_of(c: u8) -> u8
 }
 
 /// The number that digits of a base spell, where it is below the limit.
-pub fn number_below(limit: u32, base: u32, digits: &[u8]) -> Option<u32>
+pub(crate) fn number_below(limit: u32, base: u32, digits: &[u8]) -> Option<u32>
     requires small { limit ≤ 2147483648 }
     requires low { 1 ≤ base }
     requires high { base ≤ 16 }
@@ -45,7 +45,11 @@ pub fn number_below(limit: u32, base: u32, digits: &[u8]) -> Option<u32>
             return None;
         }
     }
-    if number < limit as u64 { Some(number as u32) } else { None }
+    if number < limit as u64 {
+        Some(number as u32)
+    } else {
+        None
+    }
 }
 
 // The byte that the first n digits spell, and the text behind them.
@@ -81,7 +85,11 @@ fn hexadecimal_at(text: &[u8]) -> Option<(u8, &[u8])>
     ensures less { IfSome result (λ r. length r.1.now ≤ length text.now) }
 {
     let n = hexadecimal_len(text);
-    if n == 0 { Some((b'x', text)) } else { digits_at(16, n, text) }
+    if n == 0 {
+        Some((b'x', text))
+    } else {
+        digits_at(16, n, text)
+    }
 }
 
 // The byte of an escape from behind its backslash, and the text behind it.
@@ -135,7 +143,7 @@ fn behind_quote(text: &[u8]) -> Option<&[u8]>
 }
 
 /// The byte of a constant from behind its first `'`, and the text behind it.
-pub fn constant_at(text: &[u8]) -> Option<(u8, &[u8])>
+pub(crate) fn constant_at(text: &[u8]) -> Option<(u8, &[u8])>
     ensures value { option_map (λ r. (r.0, r.1.now)) result ≡ plain.constant_at text.now }
     ensures less { IfSome result (λ r. length r.1.now ≤ length text.now) }
 {

@@ -43,7 +43,11 @@ fn number_of(named: &[Named], name: &[u8]) -> Option<usize>
 
 /// Adds the numbers of the definitions that an expression names, and says whether each name in it is defined.
 #[tactic(auto, using(crate::proofs::Rows::row_steps))]
-pub fn push_row(named: &[Named], expr: &Expr, row: &mut Vec<usize>) -> Result<bool, AllocError>
+pub(crate) fn push_row(
+    named: &[Named],
+    expr: &Expr,
+    row: &mut Vec<usize>,
+) -> Result<bool, AllocError>
     ensures row { OnOk result (row.new.items ≡ row.old.items ++ row_of (map named_view named.now) (regex_of expr.now)) }
     ensures all { IfOk result (λ all. all ≡ all_defined (map named_view named.now) (regex_of expr.now)) }
 {
@@ -77,7 +81,11 @@ fn read_tree(alloc: Global, substitute: &[u8]) -> Result<Option<Expr>, AllocErro
 }
 
 // The numbers of the definitions that a tree names, and whether it names what isn't defined.
-fn row_in(alloc: Global, named: &[Named], tree: &Option<Expr>) -> Result<(Vec<usize>, bool), AllocError>
+fn row_in(
+    alloc: Global,
+    named: &[Named],
+    tree: &Option<Expr>,
+) -> Result<(Vec<usize>, bool), AllocError>
     ensures row { IfOk result (λ r. r.0.items ≡ plain.row_in (map named_view named.now) (tree_view tree.now)) }
     ensures incomplete { IfOk result (λ r. r.1 ≡ plain.is_incomplete (map named_view named.now) (tree_view tree.now)) }
 {
@@ -102,24 +110,41 @@ fn push_mentions(i: usize, row: &[usize], mentions: &mut Vec<Mention>) -> Result
 }
 
 // Adds what definition i reads as and mentions.
-fn with_definition(alloc: Global, named: &[Named], dictionary: Dictionary, i: usize) -> Result<Dictionary, AllocError>
+fn with_definition(
+    alloc: Global,
+    named: &[Named],
+    dictionary: Dictionary,
+    i: usize,
+) -> Result<Dictionary, AllocError>
     requires { i < length named.now }
     ensures { IfOk result (λ d. AddsTree (map named_view named.now) i (dictionary_view dictionary) (dictionary_view d)) }
 {
-    let Dictionary { mut trees, mut mentions, mut incomplete } = dictionary;
+    let Dictionary {
+        mut trees,
+        mut mentions,
+        mut incomplete,
+    } = dictionary;
     let tree = read_tree(alloc, named[i].substitute)?;
     let (row, lacks) = row_in(alloc, named, &tree)?;
     push_mentions(i, &row, &mut mentions)?;
     incomplete.push(lacks)?;
     trees.push(tree)?;
-    Ok(Dictionary { trees, mentions, incomplete })
+    Ok(Dictionary {
+        trees,
+        mentions,
+        incomplete,
+    })
 }
 
 /// Reads each definition once.
-pub fn read_dictionary(alloc: Global, named: &[Named]) -> Result<Dictionary, AllocError>
+pub(crate) fn read_dictionary(alloc: Global, named: &[Named]) -> Result<Dictionary, AllocError>
     ensures { IfOk result (λ d. IsDictionary (map named_view named.now) (dictionary_view d)) }
 {
-    let mut dictionary = Dictionary { trees: Vec::new(alloc), mentions: Vec::new(alloc), incomplete: Vec::new(alloc) };
+    let mut dictionary = Dictionary {
+        trees: Vec::new(alloc),
+        mentions: Vec::new(alloc),
+        incomplete: Vec::new(alloc),
+    };
     for i in 0..named.len() {
         dictionary = with_definition(alloc, named, dictionary, i)?;
     }

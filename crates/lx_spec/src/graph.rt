@@ -35,7 +35,7 @@ fn mark_round(mentions: &[Mention], marks: &mut Vec<bool>) -> bool
 }
 
 /// Marks each definition that leads to one that is marked.
-pub fn spread(mentions: &[Mention], marks: Vec<bool>) -> Vec<bool>
+pub(crate) fn spread(mentions: &[Mention], marks: Vec<bool>) -> Vec<bool>
     requires { AreBelow mentions.now (vec_len marks) }
     ensures len { vec_len result ≡ vec_len marks }
     ensures led { (i : ℕ) → IsTrue (is_marked result.items i) ↔ Leads mentions.now marks.items i }
@@ -62,7 +62,11 @@ fn deepen(mentions: &[Mention], depths: &mut Vec<u8>)
 }
 
 /// How many more names follow each definition in a chain of mentions, where 32 stands for 32 or more.
-pub fn depths_of(alloc: Global, count: usize, mentions: &[Mention]) -> Result<Vec<u8>, AllocError>
+pub(crate) fn depths_of(
+    alloc: Global,
+    count: usize,
+    mentions: &[Mention],
+) -> Result<Vec<u8>, AllocError>
     requires { AreBelow mentions.now count }
     ensures len { IfOk result (λ depths. vec_len depths ≡ count) }
     ensures depths { IfOk result (λ depths. (i n : ℕ) → n ≤ 32 → ((n ≤ slice_index depths.items i) ↔ Follow (IsMention mentions.now) n i)) }

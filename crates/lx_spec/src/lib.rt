@@ -25,4 +25,6 @@ pub mod section;
 pub mod sheet;
 pub mod small;
 pub mod spec;
+#[cfg(test)]
+mod tests;
 pub mod word;

@@ -7,7 +7,8 @@ ghost use Rattle.lx_spec.specs.Lines as plain;
 ghost use Rattle.lx_spec.specs.LineViews.{line_view};
 
 use crate::bytes::{
-    alphanumeric_len, begins_with, blanks_len, has_pair, is_blank, is_digit, is_identifier, trimmed, word_len,
+    alphanumeric_len, begins_with, blanks_len, has_pair, is_blank, is_digit, is_identifier,
+    trimmed, word_len,
 };
 
 /// What a line of the first section says. The names of conditions stand in `names` with blanks between.
@@ -22,9 +23,15 @@ pub enum Line<'a> {
     /// The line `%%`.
     RulesBegin,
     /// `%s` or `%x` with names of conditions.
-    Conditions { exclusive: bool, names: &'a [u8] },
+    Conditions {
+        exclusive: bool,
+        names: &'a [u8],
+    },
     /// A name, and what it stands for.
-    Definition { name: &'a [u8], substitute: &'a [u8] },
+    Definition {
+        name: &'a [u8],
+        substitute: &'a [u8],
+    },
     /// No form fits.
     NoForm,
 }
@@ -38,7 +45,7 @@ fn no_blanks_len(text: &[u8]) -> usize
 }
 
 /// The first word of a text with blanks between words, and the text behind it.
-pub fn next_word(text: &[u8]) -> Option<(&[u8], &[u8])>
+pub(crate) fn next_word(text: &[u8]) -> Option<(&[u8], &[u8])>
     ensures { option_map (λ w. (w.0.now, w.1.now)) result ≡ bytes.next_word text.now }
 {
     let rest = &text[blanks_len(text)..];
@@ -75,7 +82,11 @@ fn begins_blank(text: &[u8]) -> bool
 fn plain_line<'a>(has_form: bool) -> Line<'a>
     ensures { line_view result ≡ plain.plain_line has_form }
 {
-    if has_form { Line::Skipped } else { Line::NoForm }
+    if has_form {
+        Line::Skipped
+    } else {
+        Line::NoForm
+    }
 }
 
 fn conditions_line(exclusive: bool, text: &[u8]) -> Line<'_>
@@ -83,7 +94,10 @@ fn conditions_line(exclusive: bool, text: &[u8]) -> Line<'_>
 {
     let names = &text[blanks_len(text)..];
     if begins_blank(text) && !names.is_empty() && are_identifiers(text) {
-        Line::Conditions { exclusive, names: text }
+        Line::Conditions {
+            exclusive,
+            names: text,
+        }
     } else {
         Line::NoForm
     }
@@ -168,7 +182,10 @@ fn definition_line<'a>(name: &'a [u8], text: &'a [u8]) -> Line<'a>
 {
     let rest = &text[blanks_len(text)..];
     if is_identifier(name) && begins_blank(text) && !rest.is_empty() {
-        Line::Definition { name, substitute: trimmed(rest) }
+        Line::Definition {
+            name,
+            substitute: trimmed(rest),
+        }
     } else {
         Line::NoForm
     }
@@ -189,7 +206,7 @@ fn named_text(text: &[u8]) -> Line<'_>
 }
 
 /// The first form of Definitions that fits the line.
-pub fn line_of(text: &[u8]) -> Line<'_>
+pub(crate) fn line_of(text: &[u8]) -> Line<'_>
     ensures { line_view result ≡ plain.line_of text.now }
 {
     let Some((c, rest)) = text.split_first() else {
@@ -199,7 +216,11 @@ pub fn line_of(text: &[u8]) -> Line<'_>
     if is_blank(c) {
         Line::Skipped
     } else if begins_with(b'/', b'*', text) {
-        if has_pair(b'*', b'/', &text[2..]) { Line::Skipped } else { Line::OpensComment }
+        if has_pair(b'*', b'/', &text[2..]) {
+            Line::Skipped
+        } else {
+            Line::OpensComment
+        }
     } else if begins_with(b'%', b'{', text) {
         Line::OpensGroup
     } else if begins_with(b'%', b'%', text) {

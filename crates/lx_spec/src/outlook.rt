@@ -37,7 +37,7 @@ fn deep_of(alloc: Global, depths: &[u8]) -> Result<Vec<bool>, AllocError>
 }
 
 /// Where each definition leads, found once for all rules.
-pub fn outlook_of(alloc: Global, dictionary: &Dictionary) -> Result<Outlook, AllocError>
+pub(crate) fn outlook_of(alloc: Global, dictionary: &Dictionary) -> Result<Outlook, AllocError>
     requires below { AreBelow dictionary.now.mentions.items (length dictionary.now.trees.items) }
     requires same { length dictionary.now.incomplete.items ≡ length dictionary.now.trees.items }
     ensures { IfOk result (λ o. IsOutlook (dictionary_view dictionary.now) o) }
@@ -46,11 +46,15 @@ pub fn outlook_of(alloc: Global, dictionary: &Dictionary) -> Result<Outlook, All
     let incomplete = Vec::from_slice(alloc, &dictionary.incomplete)?;
     let depths = depths_of(alloc, dictionary.trees.len(), &dictionary.mentions)?;
     let deep = deep_of(alloc, &depths)?;
-    Ok(Outlook { unread: spread(&dictionary.mentions, unreadable), undefined: spread(&dictionary.mentions, incomplete), deep })
+    Ok(Outlook {
+        unread: spread(&dictionary.mentions, unreadable),
+        undefined: spread(&dictionary.mentions, incomplete),
+        deep,
+    })
 }
 
 /// Whether one of these numbers is marked.
-pub fn any_marked(numbers: &[usize], marks: &[bool]) -> bool
+pub(crate) fn any_marked(numbers: &[usize], marks: &[bool]) -> bool
     requires { (k : ℕ) → k < length numbers.now → slice_index numbers.now k < length marks.now }
     ensures { IsTrue result ↔ ((j : ℕ) × Contains numbers.now j × IsTrue (is_marked marks.now j)) }
 {

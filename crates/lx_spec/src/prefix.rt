@@ -30,7 +30,7 @@ fn next_field(text: &[u8]) -> (&[u8], Option<&[u8]>)
 }
 
 /// The texts between the commas of a text.
-pub fn read_fields<'a>(alloc: Global, text: &'a [u8]) -> Result<Vec<&'a [u8]>, AllocError>
+pub(crate) fn read_fields<'a>(alloc: Global, text: &'a [u8]) -> Result<Vec<&'a [u8]>, AllocError>
     ensures { IfOk result (λ fields. texts_of fields.items ≡ plain.fields_of text.now) }
 {
     let mut fields = Vec::new(alloc);
@@ -46,7 +46,7 @@ pub fn read_fields<'a>(alloc: Global, text: &'a [u8]) -> Result<Vec<&'a [u8]>, A
 }
 
 /// Whether each of the texts is the name of a condition, or `0`.
-pub fn are_condition_names(fields: &[&[u8]]) -> bool
+pub(crate) fn are_condition_names(fields: &[&[u8]]) -> bool
     ensures { result ≡ list_all (λ f. names_condition f.now) fields.now }
 {
     fields.iter().all(|f| is_condition_name(*f))
@@ -66,12 +66,16 @@ fn is_zero(name: &[u8]) -> bool
 }
 
 /// The number of the condition with this name, where `0` is `INITIAL`.
-pub fn condition_number(states: &[State], name: &[u8]) -> Option<usize>
+pub(crate) fn condition_number(states: &[State], name: &[u8]) -> Option<usize>
     requires { 0 < length states.now }
     ensures number { result ≡ plain.condition_number (map state_view states.now) name.now }
     ensures within { IfSome result (λ i. i < length states.now) }
 {
-    if is_zero(name) { Some(0) } else { place_in(states, name) }
+    if is_zero(name) {
+        Some(0)
+    } else {
+        place_in(states, name)
+    }
 }
 
 fn is_declared(states: &[State], name: &[u8]) -> bool
@@ -82,7 +86,7 @@ fn is_declared(states: &[State], name: &[u8]) -> bool
 }
 
 /// Whether each of the texts names a condition that is declared.
-pub fn are_declared(states: &[State], names: &[&[u8]]) -> bool
+pub(crate) fn are_declared(states: &[State], names: &[&[u8]]) -> bool
     requires { 0 < length states.now }
     ensures { result ≡ list_all (λ f. is_some (plain.condition_number (map state_view states.now) f.now)) names.now }
 {

@@ -23,7 +23,10 @@ use crate::spec::Spec;
 use std::alloc::Global;
 
 // What the definitions read as and what the rules say, or the first fault of the rules.
-fn read_sheet<'r>(alloc: Global, sheet: &'r Sheet) -> Result<(Dictionary, Vec<ReadRule<'r>>), SpecFault>
+fn read_sheet<'r>(
+    alloc: Global,
+    sheet: &'r Sheet,
+) -> Result<(Dictionary, Vec<ReadRule<'r>>), SpecFault>
     ensures fault { IfErr result (λ f. f.code ≢ Code.Memory → (trees : List (Option Regex)) × AreTrees (sheet_view sheet.now).names trees × IsFirstFault (ground_of (sheet_view sheet.now) trees) (cases (sheet_view sheet.now).rules) f) }
     ensures trees { IfOk result (λ r. AreTrees (sheet_view sheet.now).names (trees_view r.0.trees.items)) }
     ensures clean { IfOk result (λ r. HoldsOfNone (Holds (ground_of (sheet_view sheet.now) (trees_view r.0.trees.items))) (cases (sheet_view sheet.now).rules)) }
@@ -31,7 +34,12 @@ fn read_sheet<'r>(alloc: Global, sheet: &'r Sheet) -> Result<(Dictionary, Vec<Re
 {
     let dictionary = read_dictionary(alloc, &sheet.names)?;
     let outlook = outlook_of(alloc, &dictionary)?;
-    let basis = Basis { states: &sheet.states, named: &sheet.names, dictionary: &dictionary, outlook: &outlook };
+    let basis = Basis {
+        states: &sheet.states,
+        named: &sheet.names,
+        dictionary: &dictionary,
+        outlook: &outlook,
+    };
     let read = read_rules(alloc, &basis, &sheet.rules)?;
     Ok((dictionary, read))
 }
@@ -45,7 +53,10 @@ pub fn read_spec(alloc: Global, text: &[u8]) -> Result<Spec, SpecFault>
     ensures clean { (ends : List ℕ → ℕ) → EndsPatterns ends → OnOk result (IsClean ends text.now) }
 {
     if text.len() > 1048576 {
-        return Err(SpecFault { code: Code::TooLong, line: 0 });
+        return Err(SpecFault {
+            code: Code::TooLong,
+            line: 0,
+        });
     }
     let sheet = read_sections(alloc, text)?;
     let (dictionary, read) = read_sheet(alloc, &sheet)?;

@@ -28,7 +28,11 @@ pub enum RuleLine<'a> {
     /// The second line `%%`.
     RulesEnd,
     /// A rule begins, and its action with this text.
-    BeginsRule { prefix: Prefix<'a>, pattern: &'a [u8], action: &'a [u8] },
+    BeginsRule {
+        prefix: Prefix<'a>,
+        pattern: &'a [u8],
+        action: &'a [u8],
+    },
 }
 
 // How many bytes stand before the first `>`.
@@ -67,7 +71,11 @@ fn rule_split<'a>(n: usize, prefix: Prefix<'a>, text: &'a [u8]) -> RuleLine<'a>
     ensures { rule_line_view result ≡ plain.rule_split n (prefix_view prefix.entry) text.now }
 {
     let behind = &text[n..];
-    RuleLine::BeginsRule { prefix, pattern: &text[..n], action: &behind[blanks_len(behind)..] }
+    RuleLine::BeginsRule {
+        prefix,
+        pattern: &text[..n],
+        action: &behind[blanks_len(behind)..],
+    }
 }
 
 fn rule_begins<'a>(prefix: Prefix<'a>, text: &'a [u8]) -> RuleLine<'a>
@@ -79,7 +87,7 @@ fn rule_begins<'a>(prefix: Prefix<'a>, text: &'a [u8]) -> RuleLine<'a>
 }
 
 /// The first form of Rules that fits the line.
-pub fn rule_line_of(text: &[u8]) -> RuleLine<'_>
+pub(crate) fn rule_line_of(text: &[u8]) -> RuleLine<'_>
     ensures { (ends : List ℕ → ℕ) → plain.EndsPatterns ends → rule_line_view result ≡ plain.rule_line_of ends text.now }
 {
     let Some((c, _)) = text.split_first() else {

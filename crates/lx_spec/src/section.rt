@@ -51,35 +51,62 @@ fn knows_state(states: &[State], name: &[u8]) -> bool
 }
 
 #[tactic(auto, using(std::proofs::lemmas::List::map_push, crate::proofs::Words::any_steps))]
-fn with_name<'a>(mut sheet: Sheet<'a>, number: u32, name: &'a [u8], substitute: &'a [u8]) -> Result<Sheet<'a>, SpecFault>
+fn with_name<'a>(
+    mut sheet: Sheet<'a>,
+    number: u32,
+    name: &'a [u8],
+    substitute: &'a [u8],
+) -> Result<Sheet<'a>, SpecFault>
     ensures { Gives sheet_view result (plain.with_name (sheet_view sheet.entry) number name.now substitute.now) }
 {
     if knows_name(&sheet.names, name) {
-        return Err(SpecFault { code: Code::Twice, line: number });
+        return Err(SpecFault {
+            code: Code::Twice,
+            line: number,
+        });
     }
     if sheet.names.len() >= 1024 {
-        return Err(SpecFault { code: Code::TooMany, line: number });
+        return Err(SpecFault {
+            code: Code::TooMany,
+            line: number,
+        });
     }
     sheet.names.push(Named { name, substitute })?;
     Ok(sheet)
 }
 
 #[tactic(auto, using(std::proofs::lemmas::List::map_push, crate::proofs::Words::any_steps))]
-fn with_state<'a>(mut sheet: Sheet<'a>, number: u32, exclusive: bool, name: &'a [u8]) -> Result<Sheet<'a>, SpecFault>
+fn with_state<'a>(
+    mut sheet: Sheet<'a>,
+    number: u32,
+    exclusive: bool,
+    name: &'a [u8],
+) -> Result<Sheet<'a>, SpecFault>
     ensures { Gives sheet_view result (plain.with_state (sheet_view sheet.entry) number exclusive name.now) }
 {
     if knows_state(&sheet.states, name) {
-        return Err(SpecFault { code: Code::Twice, line: number });
+        return Err(SpecFault {
+            code: Code::Twice,
+            line: number,
+        });
     }
     if sheet.states.len() >= 64 {
-        return Err(SpecFault { code: Code::TooMany, line: number });
+        return Err(SpecFault {
+            code: Code::TooMany,
+            line: number,
+        });
     }
     sheet.states.push(State { name, exclusive })?;
     Ok(sheet)
 }
 
 #[tactic(auto, using(crate::proofs::Words::word_steps))]
-fn with_states<'a>(sheet: Sheet<'a>, number: u32, exclusive: bool, names: &'a [u8]) -> Result<Sheet<'a>, SpecFault>
+fn with_states<'a>(
+    sheet: Sheet<'a>,
+    number: u32,
+    exclusive: bool,
+    names: &'a [u8],
+) -> Result<Sheet<'a>, SpecFault>
     ensures { Gives sheet_view result (plain.with_states (sheet_view sheet.entry) number exclusive (words_of names.now)) }
 {
     let mut sheet = sheet;
@@ -92,21 +119,35 @@ fn with_states<'a>(sheet: Sheet<'a>, number: u32, exclusive: bool, names: &'a [u
 }
 
 #[tactic(auto, using(std::proofs::lemmas::List::map_push))]
-fn with_rule<'a>(mut sheet: Sheet<'a>, rule: RawRule<'a>, closed: bool) -> Result<Sheet<'a>, SpecFault>
+fn with_rule<'a>(
+    mut sheet: Sheet<'a>,
+    rule: RawRule<'a>,
+    closed: bool,
+) -> Result<Sheet<'a>, SpecFault>
     ensures { Gives sheet_view result (plain.with_rule (sheet_view sheet.entry) (raw_view rule.entry) closed) }
 {
     if sheet.rules.len() >= 4096 {
-        return Err(SpecFault { code: Code::TooMany, line: rule.line });
+        return Err(SpecFault {
+            code: Code::TooMany,
+            line: rule.line,
+        });
     }
     if !closed {
-        return Err(SpecFault { code: Code::NotClosed, line: rule.line });
+        return Err(SpecFault {
+            code: Code::NotClosed,
+            line: rule.line,
+        });
     }
     sheet.rules.push(rule)?;
     Ok(sheet)
 }
 
 // One line of the first section that stands by itself.
-fn take_definition<'a>(sheet: Sheet<'a>, number: u32, line: &'a [u8]) -> Result<(Sheet<'a>, Option<Place<'a>>), SpecFault>
+fn take_definition<'a>(
+    sheet: Sheet<'a>,
+    number: u32,
+    line: &'a [u8],
+) -> Result<(Sheet<'a>, Option<Place<'a>>), SpecFault>
     ensures { (ends : List ℕ → ℕ) → EndsPatterns ends → (rest : List (List ℕ)) → Goes ends (λ d. (sheet_view d.0, option_map place_view d.1)) number rest result (plain.sheet_behind ends (sheet_view sheet.entry) plain.definitions number (line.now ∷ rest)) }
 {
     match line_of(line) {
@@ -122,12 +163,18 @@ fn take_definition<'a>(sheet: Sheet<'a>, number: u32, line: &'a [u8]) -> Result<
             let sheet = with_name(sheet, number, name, substitute)?;
             Ok((sheet, Some(Place::Definitions)))
         }
-        Line::NoForm => Err(SpecFault { code: Code::NoForm, line: number }),
+        Line::NoForm => Err(SpecFault {
+            code: Code::NoForm,
+            line: number,
+        }),
     }
 }
 
 // A rule, where its action is closed; else the next line goes on with it.
-fn continue_rule<'a>(sheet: Sheet<'a>, begun: OpenRule<'a>) -> Result<(Sheet<'a>, Option<Place<'a>>), SpecFault>
+fn continue_rule<'a>(
+    sheet: Sheet<'a>,
+    begun: OpenRule<'a>,
+) -> Result<(Sheet<'a>, Option<Place<'a>>), SpecFault>
     ensures { (ends : List ℕ → ℕ) → EndsPatterns ends → (number : ℕ) (rest : List (List ℕ)) → Goes ends (λ d. (sheet_view d.0, option_map place_view d.1)) number rest result (plain.with_entries (sheet_view sheet.entry) (plain.entries_behind ends (raw_view begun.entry.rule) begun.entry.count (number + 1) rest)) }
 {
     if is_closed(begun.count) {
@@ -140,15 +187,36 @@ fn continue_rule<'a>(sheet: Sheet<'a>, begun: OpenRule<'a>) -> Result<(Sheet<'a>
 }
 
 // The rule that begins on a line, with the first line of its action.
-fn first_line<'a>(alloc: Global, line: u32, prefix: Prefix<'a>, pattern: &'a [u8], text: &'a [u8]) -> Result<OpenRule<'a>, SpecFault>
+fn first_line<'a>(
+    alloc: Global,
+    line: u32,
+    prefix: Prefix<'a>,
+    pattern: &'a [u8],
+    text: &'a [u8],
+) -> Result<OpenRule<'a>, SpecFault>
     requires { 0 < line }
     ensures rule { IfOk result (λ begun. raw_view begun.rule ≡ record { line = line; prefix = prefix_view prefix.entry; pattern = pattern.now; action = text.now }) }
     ensures count { IfOk result (λ begun. begun.count ≡ blocks.with_line blocks.start text.now) }
     ensures err { IfErr result (λ f. f.code ≡ Code.Memory) }
 {
     let action = Vec::from_slice(alloc, text)?;
-    let count = with_line(Count { opened: 0, closed: 0, mode: Mode::Code }, text);
-    Ok(OpenRule { rule: RawRule { line, prefix, pattern, action }, count })
+    let count = with_line(
+        Count {
+            opened: 0,
+            closed: 0,
+            mode: Mode::Code,
+        },
+        text,
+    );
+    Ok(OpenRule {
+        rule: RawRule {
+            line,
+            prefix,
+            pattern,
+            action,
+        },
+        count,
+    })
 }
 
 // The rule with one more line of its action.
@@ -165,7 +233,12 @@ fn next_line<'a>(begun: OpenRule<'a>, line: &[u8]) -> Result<OpenRule<'a>, SpecF
 }
 
 // One line of the second section that stands by itself.
-fn take_rule<'a>(alloc: Global, sheet: Sheet<'a>, number: u32, line: &'a [u8]) -> Result<(Sheet<'a>, Option<Place<'a>>), SpecFault>
+fn take_rule<'a>(
+    alloc: Global,
+    sheet: Sheet<'a>,
+    number: u32,
+    line: &'a [u8],
+) -> Result<(Sheet<'a>, Option<Place<'a>>), SpecFault>
     requires { 0 < number }
     ensures { (ends : List ℕ → ℕ) → EndsPatterns ends → (rest : List (List ℕ)) → Goes ends (λ d. (sheet_view d.0, option_map place_view d.1)) number rest result (plain.sheet_behind ends (sheet_view sheet.entry) plain.rules number (line.now ∷ rest)) }
 {
@@ -173,7 +246,11 @@ fn take_rule<'a>(alloc: Global, sheet: Sheet<'a>, number: u32, line: &'a [u8]) -
         RuleLine::Skipped => Ok((sheet, Some(Place::Rules))),
         RuleLine::OpensGroup => Ok((sheet, Some(Place::RulesGroup(number)))),
         RuleLine::RulesEnd => Ok((sheet, None)),
-        RuleLine::BeginsRule { prefix, pattern, action } => {
+        RuleLine::BeginsRule {
+            prefix,
+            pattern,
+            action,
+        } => {
             let begun = first_line(alloc, number, prefix, pattern, action)?;
             continue_rule(sheet, begun)
         }
@@ -181,23 +258,41 @@ fn take_rule<'a>(alloc: Global, sheet: Sheet<'a>, number: u32, line: &'a [u8]) -
 }
 
 // One line: what is said then, and where the next line stands; nowhere behind the line that ends the rules.
-fn take_line<'a>(alloc: Global, sheet: Sheet<'a>, place: Place<'a>, number: u32, line: &'a [u8]) -> Result<(Sheet<'a>, Option<Place<'a>>), SpecFault>
+fn take_line<'a>(
+    alloc: Global,
+    sheet: Sheet<'a>,
+    place: Place<'a>,
+    number: u32,
+    line: &'a [u8],
+) -> Result<(Sheet<'a>, Option<Place<'a>>), SpecFault>
     requires { 0 < number }
     ensures { (ends : List ℕ → ℕ) → EndsPatterns ends → (rest : List (List ℕ)) → Goes ends (λ d. (sheet_view d.0, option_map place_view d.1)) number rest result (plain.sheet_behind ends (sheet_view sheet.entry) (place_view place.entry) number (line.now ∷ rest)) }
 {
     match place {
         Place::Definitions => take_definition(sheet, number, line),
         Place::Comment(since) => {
-            let next = if has_pair(b'*', b'/', line) { Place::Definitions } else { Place::Comment(since) };
+            let next = if has_pair(b'*', b'/', line) {
+                Place::Definitions
+            } else {
+                Place::Comment(since)
+            };
             Ok((sheet, Some(next)))
         }
         Place::Group(since) => {
-            let next = if begins_with(b'%', b'}', line) { Place::Definitions } else { Place::Group(since) };
+            let next = if begins_with(b'%', b'}', line) {
+                Place::Definitions
+            } else {
+                Place::Group(since)
+            };
             Ok((sheet, Some(next)))
         }
         Place::Rules => take_rule(alloc, sheet, number, line),
         Place::RulesGroup(since) => {
-            let next = if begins_with(b'%', b'}', line) { Place::Rules } else { Place::RulesGroup(since) };
+            let next = if begins_with(b'%', b'}', line) {
+                Place::Rules
+            } else {
+                Place::RulesGroup(since)
+            };
             Ok((sheet, Some(next)))
         }
         Place::Action(begun) => {
@@ -212,8 +307,14 @@ fn at_end<'a>(sheet: Sheet<'a>, place: Place<'a>) -> Result<Sheet<'a>, SpecFault
     ensures { (ends : List ℕ → ℕ) → (n : ℕ) → Gives sheet_view result (plain.sheet_behind ends (sheet_view sheet.entry) (place_view place.entry) n []) }
 {
     match place {
-        Place::Definitions => Err(SpecFault { code: Code::NoRules, line: 0 }),
-        Place::Comment(since) | Place::Group(since) | Place::RulesGroup(since) => Err(SpecFault { code: Code::NotClosed, line: since }),
+        Place::Definitions => Err(SpecFault {
+            code: Code::NoRules,
+            line: 0,
+        }),
+        Place::Comment(since) | Place::Group(since) | Place::RulesGroup(since) => Err(SpecFault {
+            code: Code::NotClosed,
+            line: since,
+        }),
         Place::Rules => Ok(sheet),
         Place::Action(begun) => {
             let OpenRule { rule, .. } = begun;
@@ -227,12 +328,19 @@ fn first_sheet<'a>(alloc: Global) -> Result<Sheet<'a>, SpecFault>
     ensures err { IfErr result (λ f. f.code ≡ Code.Memory) }
 {
     let mut states = Vec::new(alloc);
-    states.push(State { name: b"INITIAL", exclusive: false })?;
-    Ok(Sheet { states, names: Vec::new(alloc), rules: Vec::new(alloc) })
+    states.push(State {
+        name: b"INITIAL",
+        exclusive: false,
+    })?;
+    Ok(Sheet {
+        states,
+        names: Vec::new(alloc),
+        rules: Vec::new(alloc),
+    })
 }
 
 /// What the sections of a text say, or their first fault in the order of the text.
-pub fn read_sections<'a>(alloc: Global, text: &'a [u8]) -> Result<Sheet<'a>, SpecFault>
+pub(crate) fn read_sections<'a>(alloc: Global, text: &'a [u8]) -> Result<Sheet<'a>, SpecFault>
     requires { length text.now ≤ 1048576 }
     ensures { (ends : List ℕ → ℕ) → EndsPatterns ends → Gives sheet_view result (plain.sheet_of ends text.now) }
 {

@@ -146,7 +146,10 @@ fn piece_at(text: &[u8]) -> Piece<'_>
 }
 
 /// The words of an action, one after the other; `None` where the text isn't words.
-pub fn read_words<'a>(alloc: Global, text: &'a [u8]) -> Result<Option<Vec<Word<'a>>>, AllocError>
+pub(crate) fn read_words<'a>(
+    alloc: Global,
+    text: &'a [u8],
+) -> Result<Option<Vec<Word<'a>>>, AllocError>
     ensures { IfOk result (λ o. MatchOption o ((ws : List plain.Word) → AreWords text.now ws → ⊥) (λ v. AreWords text.now (words_view v.items))) }
 {
     let mut words = Vec::new(alloc);

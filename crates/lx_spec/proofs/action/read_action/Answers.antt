@@ -19,7 +19,7 @@ returns-in-Some-2 c =
     let states = rw c.in-Some-2.is at c.in_ok-statements.ensures in
     let same = ap words_view c.deref-2.ensures.value in
     plain.some_statements (words_view c.in-Some.words.items) (statements_view c.in-Some-2.statements.items) are
-      (subst (λ ws. plain.AreStatements 0 ws (statements_view c.in-Some-2.statements.items)) same states)
+    (subst (λ ws. plain.AreStatements 0 ws (statements_view c.in-Some-2.statements.items)) same states)
 
 pub returns : goal.returns
 returns c =

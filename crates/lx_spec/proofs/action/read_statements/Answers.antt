@@ -9,19 +9,19 @@ use Rattle.lx_spec.proofs.action.read_statements.Goals as goal
 pub returns-then-depth-gt0 : goal.returns-then-depth-gt0
 returns-then-depth-gt0 c =
     Stated-unclosed (words_view c.args.words.now) c.words.depth (words_view (drop c.words.at c.args.words.now)) (statements_view c.words.statements.items) c.words.invariant.read
-      (turn-other c.args.words.now c.words.at plain.finished c.in-Finished.ensures.value) (omega arith)
+    (turn-other c.args.words.now c.words.at plain.finished c.in-Finished.ensures.value) (omega arith)
 
 pub returns-in-Finished : goal.returns-in-Finished
 returns-in-Finished c =
     let zero : c.words.depth ≡ 0 = omega arith in
     Stated-end (words_view c.args.words.now) (words_view (drop c.words.at c.args.words.now)) (statements_view c.words.statements.items)
-      (subst (λ (n : ℕ). Stated (words_view c.args.words.now) n (words_view (drop c.words.at c.args.words.now)) (statements_view c.words.statements.items)) zero c.words.invariant.read)
-      (turn-other c.args.words.now c.words.at plain.finished c.in-Finished.ensures.value)
+    (subst (λ (n : ℕ). Stated (words_view c.args.words.now) n (words_view (drop c.words.at c.args.words.now)) (statements_view c.words.statements.items)) zero c.words.invariant.read)
+    (turn-other c.args.words.now c.words.at plain.finished c.in-Finished.ensures.value)
 
 pub words-preserved-in-Opens : goal.words-preserved-in-Opens
 words-preserved-in-Opens c = record {
   read = Stated-opens (words_view c.args.words.now) c.words.depth (words_view (drop c.words.at c.args.words.now)) (words_view (drop (c.words.at + 1) c.args.words.now)) (statements_view c.words.statements.items)
-    c.words.invariant.read (turn-opens c.args.words.now c.words.at c.in-Opens.ensures.value);
+      c.words.invariant.read (turn-opens c.args.words.now c.words.at c.in-Opens.ensures.value);
   within = omega (arith, c.in-Opens.ensures.within);
   shallow = omega arith;
 }
@@ -30,15 +30,15 @@ pub returns-then-depth-eq0 : goal.returns-then-depth-eq0
 returns-then-depth-eq0 c =
     let zero : c.words.depth ≡ 0 = omega arith in
     Stated-unopened (words_view c.args.words.now) (words_view (drop c.words.at c.args.words.now)) (words_view (drop (c.words.at + 1) c.args.words.now)) (statements_view c.words.statements.items)
-      (subst (λ (n : ℕ). Stated (words_view c.args.words.now) n (words_view (drop c.words.at c.args.words.now)) (statements_view c.words.statements.items)) zero c.words.invariant.read)
-      (turn-closes c.args.words.now c.words.at c.in-Closes.ensures.value)
+    (subst (λ (n : ℕ). Stated (words_view c.args.words.now) n (words_view (drop c.words.at c.args.words.now)) (statements_view c.words.statements.items)) zero c.words.invariant.read)
+    (turn-closes c.args.words.now c.words.at c.in-Closes.ensures.value)
 
 pub words-preserved-in-Closes : goal.words-preserved-in-Closes
 words-preserved-in-Closes c =
     let positive : 0 < c.words.depth = omega arith in
     record {
       read = Stated-closes (words_view c.args.words.now) c.words.depth (words_view (drop c.words.at c.args.words.now)) (words_view (drop (c.words.at + 1) c.args.words.now)) (statements_view c.words.statements.items)
-        c.words.invariant.read (turn-closes c.args.words.now c.words.at c.in-Closes.ensures.value) positive;
+          c.words.invariant.read (turn-closes c.args.words.now c.words.at c.in-Closes.ensures.value) positive;
       within = omega (arith, c.in-Closes.ensures.within);
       shallow = omega arith;
     }
@@ -46,10 +46,10 @@ words-preserved-in-Closes c =
 pub words-preserved : goal.words-preserved
 words-preserved c =
     let grown : statements_view c.push.new.self.items ≡ statements_view c.words.statements.items ++ statement_view c.in-States.statement ∷ [] =
-      ap statements_view c.in_ok-push-in-States.ensures.items ∙ map_push statement_view c.words.statements.items c.in-States.statement in
+    ap statements_view c.in_ok-push-in-States.ensures.items ∙ map_push statement_view c.words.statements.items c.in-States.statement in
     record {
       read = subst (Stated (words_view c.args.words.now) c.words.depth (words_view (drop (c.words.at + c.in-States.n) c.args.words.now))) (sym grown)
-        (Stated-states (words_view c.args.words.now) c.words.depth (words_view (drop c.words.at c.args.words.now)) (words_view (drop (c.words.at + c.in-States.n) c.args.words.now)) (statements_view c.words.statements.items)
+          (Stated-states (words_view c.args.words.now) c.words.depth (words_view (drop c.words.at c.args.words.now)) (words_view (drop (c.words.at + c.in-States.n) c.args.words.now)) (statements_view c.words.statements.items)
           (statement_view c.in-States.statement) c.words.invariant.read (turn-states c.args.words.now c.words.at c.in-States.n (statement_view c.in-States.statement) c.in-States.ensures.value));
       within = omega (arith, c.in-States.ensures.within);
       shallow = omega arith;
@@ -58,4 +58,4 @@ words-preserved c =
 pub returns-in-NoStatement : goal.returns-in-NoStatement
 returns-in-NoStatement c =
     Stated-none (words_view c.args.words.now) c.words.depth (words_view (drop c.words.at c.args.words.now)) (statements_view c.words.statements.items) c.words.invariant.read
-      (turn-other c.args.words.now c.words.at plain.no_statement c.in-NoStatement.ensures.value)
+    (turn-other c.args.words.now c.words.at plain.no_statement c.in-NoStatement.ensures.value)

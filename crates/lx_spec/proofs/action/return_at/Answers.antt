@@ -10,4 +10,4 @@ pub returns-in-Some-returned-clause-value : goal.returns-in-Some-returned-clause
 returns-in-Some-returned-clause-value c =
     let S : List Word → Option (plain.Statement × List Word) = λ l. Some (statement_view c.in-Some-returned.statement, l) in
     ap S (sym (words-further c.args.words.now c.in-Some.n 1)) ∙ c.in-Some-returned.ensures.value
-      ∙ ap (plain.returned (plain.value_of (word_view c.in-Some.word))) (words-rest c.args.words.now c.in-Some.n) ∙ ap plain.return_at c.in-Some.ensures.value
+    ∙ ap (plain.returned (plain.value_of (word_view c.in-Some.word))) (words-rest c.args.words.now c.in-Some.n) ∙ ap plain.return_at c.in-Some.ensures.value

@@ -10,7 +10,7 @@ pub loop-rule-preserved : goal.loop-rule-preserved
 loop-rule-preserved c = record {
   rest = λ n k h. all-front (is_rule n k) c.pop.new.self.items c.in-Some.rule (subst (λ (l : List Rule). IsTrue (list_all (is_rule n k) l)) c.in-Some.ensures.items (c.loop-rule.invariant.rest n k h));
   ordered = λ n k h. subst (λ (l : List Rule). IsTrue (list_all (is_rule n k) l)) (sym c.in_ok-push.ensures.items)
-    (all-push (is_rule n k) c.loop-rule.ordered.items c.in-Some.rule (c.loop-rule.invariant.ordered n k h)
+      (all-push (is_rule n k) c.loop-rule.ordered.items c.in-Some.rule (c.loop-rule.invariant.ordered n k h)
       (all-last (is_rule n k) c.pop.new.self.items c.in-Some.rule (subst (λ (l : List Rule). IsTrue (list_all (is_rule n k) l)) c.in-Some.ensures.items (c.loop-rule.invariant.rest n k h))));
   len = omega (arith, c.in_ok-push.ensures.len, c.in-Some.ensures.len, c.in-Some.ensures.cases, c.loop-rule.invariant.len);
 }

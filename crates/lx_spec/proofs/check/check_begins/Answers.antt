@@ -22,15 +22,17 @@ pub returns-then-all_begin_declared : goal.returns-then-all_begin_declared
 returns-then-all_begin_declared c =
     let p : actions.Statement → Bool = begin_is_declared (ground_view c.args.basis.now).states in
     let all : list_all p (statements_view c.in-Own.statements.items) ≡ true =
-      list_all-map p statement_view c.in-Own.statements.items ∙ ap (list_all (λ (s : Statement). p (statement_view s))) (sym c.deref.ensures.value) ∙ sym c.all_begin_declared.ensures ∙ c.if-all_begin_declared.true in
-    (λ h.
-      let e = sym (ap action_view c.in-Own.is) ∙ one_action c.args.rule.now.action.items (action_view c.args.action.now) (actions.own h.0) c.requires.action h.1 in
-      false≢true (sym h.2 ∙ ap (list_all p) (sym (same_own (statements_view c.in-Own.statements.items) h.0 e)) ∙ all), tt)
+    list_all-map p statement_view c.in-Own.statements.items ∙ ap (list_all (λ (s : Statement). p (statement_view s))) (sym c.deref.ensures.value) ∙ sym c.all_begin_declared.ensures ∙ c.if-all_begin_declared.true in (
+      λ h.
+          let e = sym (ap action_view c.in-Own.is) ∙ one_action c.args.rule.now.action.items (action_view c.args.action.now) (actions.own h.0) c.requires.action h.1 in
+          false≢true (sym h.2 ∙ ap (list_all p) (sym (same_own (statements_view c.in-Own.statements.items) h.0 e)) ∙ all),
+      tt,
+    )
 
 pub returns-else-all_begin_declared : goal.returns-else-all_begin_declared
 returns-else-all_begin_declared c =
     let p : actions.Statement → Bool = begin_is_declared (ground_view c.args.basis.now).states in
     let all : list_all p (statements_view c.in-Own.statements.items) ≡ false =
-      list_all-map p statement_view c.in-Own.statements.items ∙ ap (list_all (λ (s : Statement). p (statement_view s))) (sym c.deref.ensures.value) ∙ sym c.all_begin_declared.ensures ∙ c.if-all_begin_declared.false in
+    list_all-map p statement_view c.in-Own.statements.items ∙ ap (list_all (λ (s : Statement). p (statement_view s))) (sym c.deref.ensures.value) ∙ sym c.all_begin_declared.ensures ∙ c.if-all_begin_declared.false in
     λ _. fault-here (ground_view c.args.basis.now) (raw_view c.args.rule.now) c.args.is_last begin_name []
-      (statements_view c.in-Own.statements.items, subst (actions.IsAction c.args.rule.now.action.items) (ap action_view c.in-Own.is) c.requires.action, all)
+    (statements_view c.in-Own.statements.items, subst (actions.IsAction c.args.rule.now.action.items) (ap action_view c.in-Own.is) c.requires.action, all)

@@ -14,12 +14,12 @@ pub returns-then-are_declared : goal.returns-then-are_declared
 returns-then-are_declared c =
     let states = (ground_view c.args.basis.now).states in
     let all : plain.are_declared states (plain.fields_in (raw_view c.args.rule.now).prefix) ≡ c.are_declared.result =
-      ap (plain.are_declared states) (sym c.requires.names) ∙ list_all-map (λ name. is_some (plain.condition_number states name)) (λ (f : Bor (List ℕ)). f.now) c.args.names.now ∙ sym c.are_declared.ensures in
+    ap (plain.are_declared states) (sym c.requires.names) ∙ list_all-map (λ name. is_some (plain.condition_number states name)) (λ (f : Bor (List ℕ)). f.now) c.args.names.now ∙ sym c.are_declared.ensures in
     (λ h. false≢true (sym h ∙ all ∙ c.if-are_declared.true), tt)
 
 pub returns-else-are_declared : goal.returns-else-are_declared
 returns-else-are_declared c =
     let states = (ground_view c.args.basis.now).states in
     let all : plain.are_declared states (plain.fields_in (raw_view c.args.rule.now).prefix) ≡ c.are_declared.result =
-      ap (plain.are_declared states) (sym c.requires.names) ∙ list_all-map (λ name. is_some (plain.condition_number states name)) (λ (f : Bor (List ℕ)). f.now) c.args.names.now ∙ sym c.are_declared.ensures in
+    ap (plain.are_declared states) (sym c.requires.names) ∙ list_all-map (λ name. is_some (plain.condition_number states name)) (λ (f : Bor (List ℕ)). f.now) c.args.names.now ∙ sym c.are_declared.ensures in
     λ _. fault-here (ground_view c.args.basis.now) (raw_view c.args.rule.now) c.args.is_last plain.prefix_name [] (all ∙ c.if-are_declared.false)

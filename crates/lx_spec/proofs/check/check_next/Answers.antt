@@ -16,8 +16,10 @@ returns-then-is_last c = λ _. fault-here (ground_view c.args.basis.now) (raw_vi
     (subst (actions.IsAction c.args.rule.now.action.items) (ap action_view c.in-Shared.is) c.requires, c.if-is_last.true)
 
 pub returns-in-Own : goal.returns-in-Own
-returns-in-Own c =
-    (λ h.
+returns-in-Own c = (
+  λ h.
       let e = one_action c.args.rule.now.action.items (action_view c.args.action.now) actions.shared c.requires h.0 in
       let f = ap action_view c.in-Own.is in
-      apart (action_view c.args.action.now) _ f e, tt)
+      apart (action_view c.args.action.now) _ f e,
+  tt,
+)

@@ -55,7 +55,7 @@ returns-then-complete-undefined c =
     let unread = marked-iff c.any_marked-unread.result c.deref.result.now (row_of g.named r.tree) c.deref-2.result.now b.outlook.now.unread.items (λ j. Leads (mentions_in_ground b) (unreadable_marks g.trees) j) (c.deref.ensures.value ∙ row) c.deref-2.ensures.value c.any_marked-unread.ensures (basis-unread b c.requires.basis) in
     let undefined = marked-iff c.any_marked-undefined.result c.deref-3.result.now (row_of g.named r.tree) c.deref-4.result.now b.outlook.now.undefined.items (λ j. Leads (mentions_in_ground b) (incomplete_marks g.named g.trees) j) (c.deref-3.ensures.value ∙ row) c.deref-4.ensures.value c.any_marked-undefined.ensures (basis-undefined b c.requires.basis) in
     λ _. fault-behind g (case reading ∷ []) (case undefined_name ∷ case depth ∷ []) _ ((no-unread c.one_reading.ensures c.args.rule.now.pattern.now r c.requires.reading g (λ l. not-true c.if-unread.false (unread.1 l))), tt)
-      (fault-here g raw c.args.is_last undefined_name (case depth ∷ []) (r, c.requires.reading, undefined-some g r.tree c.in_ok-complete.complete c.any_marked-undefined.result c.in_ok-complete.ensures.all undefined c.if-complete-undefined.true))
+    (fault-here g raw c.args.is_last undefined_name (case depth ∷ []) (r, c.requires.reading, undefined-some g r.tree c.in_ok-complete.complete c.any_marked-undefined.result c.in_ok-complete.ensures.all undefined c.if-complete-undefined.true))
 
 pub returns-then-deep : goal.returns-then-deep
 returns-then-deep c =
@@ -69,7 +69,7 @@ returns-then-deep c =
     let undefined = marked-iff c.any_marked-undefined.result c.deref-3.result.now (row_of g.named r.tree) c.deref-4.result.now b.outlook.now.undefined.items (λ j. Leads (mentions_in_ground b) (incomplete_marks g.named g.trees) j) (c.deref-3.ensures.value ∙ row) c.deref-4.ensures.value c.any_marked-undefined.ensures (basis-undefined b c.requires.basis) in
     let deep = marked-iff c.any_marked-deep.result c.deref-5.result.now (row_of g.named r.tree) c.deref-6.result.now b.outlook.now.deep.items (λ j. Follow (IsMention (mentions_in_ground b)) 32 j) (c.deref-5.ensures.value ∙ row) c.deref-6.ensures.value c.any_marked-deep.ensures (basis-deep b c.requires.basis) in
     λ _. fault-behind g (case reading ∷ case undefined_name ∷ []) (case depth ∷ []) _ ((no-unread c.one_reading.ensures c.args.rule.now.pattern.now r c.requires.reading g (λ l. not-true c.if-unread.false (unread.1 l))), ((no-other c.one_reading.ensures c.args.rule.now.pattern.now r c.requires.reading (LeadsUndefined g) (undefined-none g r.tree c.in_ok-complete.complete c.any_marked-undefined.result c.in_ok-complete.ensures.all undefined c.if-complete-undefined.false)), tt))
-      (fault-here g raw c.args.is_last depth [] (r, c.requires.reading, deep.0 c.if-deep.true))
+    (fault-here g raw c.args.is_last depth [] (r, c.requires.reading, deep.0 c.if-deep.true))
 
 pub returns : goal.returns
 returns c =

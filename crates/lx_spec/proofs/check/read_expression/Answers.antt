@@ -9,4 +9,4 @@ pub returns-in-Err-NoReading-clause-checked : goal.returns-in-Err-NoReading-clau
 returns-in-Err-NoReading-clause-checked c =
     let case = case_of (raw_view c.args.rule.now) c.args.is_last in
     λ _. fault-here (ground_view c.args.basis.now) (raw_view c.args.rule.now) c.args.is_last reading (case undefined ∷ case depth ∷ [])
-      (inl (λ r. c.in-Err-NoReading.ensures.refused (ap Err c.in-Err-NoReading.field-0-is) r))
+    (inl (λ r. c.in-Err-NoReading.ensures.refused (ap Err c.in-Err-NoReading.field-0-is) r))

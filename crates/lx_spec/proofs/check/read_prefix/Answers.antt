@@ -18,13 +18,13 @@ returns-in-Unclosed-clause-checked c = λ _. fault-here (ground_view c.args.basi
 pub returns-then-are_condition_names-clause-checked : goal.returns-then-are_condition_names-clause-checked
 returns-then-are_condition_names-clause-checked c =
     let test : is_prefix (prefix_view c.args.rule.now.prefix) ≡ true =
-      ap (λ (p : Prefix). is_prefix (prefix_view p)) c.in-Listed.is ∙ ap (list_all is_condition_name) (sym c.in_ok-names-in-Listed.ensures) ∙ list_all-map is_condition_name (λ (f : Bor (List ℕ)). f.now) c.in_ok-names-in-Listed.names.items
-        ∙ ap (list_all (λ (f : Bor (List ℕ)). is_condition_name f.now)) (sym c.deref.ensures.value) ∙ sym c.are_condition_names.ensures ∙ c.if-are_condition_names.true in
+    ap (λ (p : Prefix). is_prefix (prefix_view p)) c.in-Listed.is ∙ ap (list_all is_condition_name) (sym c.in_ok-names-in-Listed.ensures) ∙ list_all-map is_condition_name (λ (f : Bor (List ℕ)). f.now) c.in_ok-names-in-Listed.names.items
+    ∙ ap (list_all (λ (f : Bor (List ℕ)). is_condition_name f.now)) (sym c.deref.ensures.value) ∙ sym c.are_condition_names.ensures ∙ c.if-are_condition_names.true in
     (λ h. false≢true (sym h ∙ test), tt)
 
 pub returns-clause-checked : goal.returns-clause-checked
 returns-clause-checked c =
     let test : is_prefix (prefix_view c.args.rule.now.prefix) ≡ false =
-      ap (λ (p : Prefix). is_prefix (prefix_view p)) c.in-Listed.is ∙ ap (list_all is_condition_name) (sym c.in_ok-names-in-Listed.ensures) ∙ list_all-map is_condition_name (λ (f : Bor (List ℕ)). f.now) c.in_ok-names-in-Listed.names.items
-        ∙ ap (list_all (λ (f : Bor (List ℕ)). is_condition_name f.now)) (sym c.deref.ensures.value) ∙ sym c.are_condition_names.ensures ∙ c.if-are_condition_names.false in
+    ap (λ (p : Prefix). is_prefix (prefix_view p)) c.in-Listed.is ∙ ap (list_all is_condition_name) (sym c.in_ok-names-in-Listed.ensures) ∙ list_all-map is_condition_name (λ (f : Bor (List ℕ)). f.now) c.in_ok-names-in-Listed.names.items
+    ∙ ap (list_all (λ (f : Bor (List ℕ)). is_condition_name f.now)) (sym c.deref.ensures.value) ∙ sym c.are_condition_names.ensures ∙ c.if-are_condition_names.false in
     λ _. fault-here (ground_view c.args.basis.now) (raw_view c.args.rule.now) c.args.is_last prefix_form [] test

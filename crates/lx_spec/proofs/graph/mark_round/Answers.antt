@@ -15,5 +15,5 @@ loop-mention-preserved c =
     record {
       len = c.loop-mention.invariant.len;
       marking = Marking-more ms c.args.marks.now.items c.loop-mention.marks.items c.loop-mention.changed i f t c.index-before.result.now c.index.result.now c.loop-mention.invariant.marking c.loop-mention-test.true refl refl f_in
-        (read_at c.loop-mention.marks.items f c.index-before.result.now false f_in c.index-before.ensures) (read_at c.loop-mention.marks.items t c.index.result.now false t_in c.index.ensures);
+          (read_at c.loop-mention.marks.items f c.index-before.result.now false f_in c.index-before.ensures) (read_at c.loop-mention.marks.items t c.index.result.now false t_in c.index.ensures);
     }

@@ -17,9 +17,10 @@ moved new ms ms' marks marks' e f led = subst (λ (m : List Bool). (i : ℕ) →
 deep_is : (deep : List Bool) (ds : List ℕ) (ms ms' : List Mention) → ms ≡ ms' → deep ≡ map (λ d. nat_le 32 d) ds → ((i n : ℕ) → n ≤ 32 → ((n ≤ slice_index ds i) ↔ Follow (IsMention ms) n i)) → (i : ℕ) → IsTrue (is_marked deep i) ↔ Follow (IsMention ms') 32 i
 deep_is deep ds ms ms' e f depths i =
     let at : is_marked deep i ≡ nat_le 32 (slice_index ds i) = ap (λ (l : List Bool). get_or l i false) f ∙ deep_marks ds i in
-    let d = depths i 32 (omega arith) in
-    (λ h. subst (λ (l : List Mention). Follow (IsMention l) 32 i) e (d.0 (let t : nat_le 32 (slice_index ds i) ≡ true = sym at ∙ h in let le : 32 ≤ slice_index ds i = grind (arith, nat_tests) in le)),
-     λ g. let le = d.1 (subst (λ (l : List Mention). Follow (IsMention l) 32 i) (sym e) g) in at ∙ (let t : nat_le 32 (slice_index ds i) ≡ true = grind (arith, nat_tests) in t))
+    let d = depths i 32 (omega arith) in (
+      λ h. subst (λ (l : List Mention). Follow (IsMention l) 32 i) e (d.0 (let t : nat_le 32 (slice_index ds i) ≡ true = sym at ∙ h in let le : 32 ≤ slice_index ds i = grind (arith, nat_tests) in le)),
+      λ g. let le = d.1 (subst (λ (l : List Mention). Follow (IsMention l) 32 i) (sym e) g) in at ∙ (let t : nat_le 32 (slice_index ds i) ≡ true = grind (arith, nat_tests) in t),
+    )
 
 pub returns : goal.returns
 returns c =

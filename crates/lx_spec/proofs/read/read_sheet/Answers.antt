@@ -9,4 +9,4 @@ use Rattle.lx_spec.proofs.read.read_sheet.Goals as goal
 pub outlook_of-requires-clause-below : goal.outlook_of-requires-clause-below
 outlook_of-requires-clause-below c =
     subst (λ (n : ℕ). AreBelow c.in_ok-dictionary.dictionary.mentions.items n) (length-map c.in_ok-dictionary.dictionary.trees.items tree_view)
-      (dictionary-below _ (dictionary_view c.in_ok-dictionary.dictionary) c.in_ok-dictionary.ensures)
+    (dictionary-below _ (dictionary_view c.in_ok-dictionary.dictionary) c.in_ok-dictionary.ensures)

@@ -20,7 +20,7 @@ returns-in-None c = λ ends e.
 pub loop-line-preserved : goal.loop-line-preserved
 loop-line-preserved c = record {
   same = λ ends e. sym (sym (c.loop-line.invariant.same ends e) ∙ ap (plain.sheet_behind ends (sheet_view c.loop-line.sheet) (place_view c.loop-line.place) c.loop-line.number) c.in-Some.ensures.steps
-    ∙ c.in_ok-more.ensures ends e c.next.new.self ∙ ap (λ o. plain.continued ends (option_map place_view o) (sheet_view c.in_ok-more.more) (c.loop-line.number + 1) c.next.new.self) c.in-Some-next.is);
+      ∙ c.in_ok-more.ensures ends e c.next.new.self ∙ ap (λ o. plain.continued ends (option_map place_view o) (sheet_view c.in_ok-more.more) (c.loop-line.number + 1) c.next.new.self) c.in-Some-next.is);
   counted = omega arith;
   few = omega (arith, ap length c.in-Some.ensures.steps, c.loop-line.invariant.few);
 }

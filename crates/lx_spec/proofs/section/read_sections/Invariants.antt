@@ -9,7 +9,7 @@ abbrev pub invariant-loop-line : goal.invariant-loop-line
 invariant-loop-line l = record {
   same : (ends : List ℕ → ℕ) → EndsPatterns ends → plain.sheet_behind ends (sheet_view l.sheet) (place_view l.place) l.number l.lines ≡ plain.sheet_of ends l.fn.text;
   counted : 0 < l.number;
-  few : l.number + length l.lines ≤ 1048577
+  few : l.number + length l.lines ≤ 1048577;
 }
 
 abbrev pub decreases-loop-line : goal.decreases-loop-line

@@ -14,6 +14,6 @@ pieces-preserved-in-Passed c = Reached-passed c.args.text.now c.pieces.rest.now 
 pub pieces-preserved : goal.pieces-preserved
 pieces-preserved c =
     let grown : words_view c.push.new.self.items ≡ words_view c.pieces.words.items ++ word_view c.in-Found.word ∷ [] =
-      ap words_view c.in_ok-push-in-Found.ensures.items ∙ map_push word_view c.pieces.words.items c.in-Found.word in
+    ap words_view c.in_ok-push-in-Found.ensures.items ∙ map_push word_view c.pieces.words.items c.in-Found.word in
     subst (Reached c.args.text.now c.in-Found.behind.now) (sym grown)
-      (Reached-word c.args.text.now c.pieces.rest.now c.in-Found.behind.now (words_view c.pieces.words.items) (word_view c.in-Found.word) c.pieces.invariant c.in-Found.ensures.value)
+    (Reached-word c.args.text.now c.pieces.rest.now c.in-Found.behind.now (words_view c.pieces.words.items) (word_view c.in-Found.word) c.pieces.invariant c.in-Found.ensures.value)

@@ -1,0 +1,109 @@
+// Worked specifications: what each says, or its fault.
+use crate::fault::{Code, SpecFault};
+use crate::read::read_spec;
+use crate::rule::{Kind, Step};
+use crate::spec::Spec;
+use std::alloc::Global;
+use std::process::Abort;
+use std::test::Fail;
+
+fn refused(rt: &impl Abort, alloc: Global, text: &[u8], code: Code, line: u32) {
+    match read_spec(alloc, text) {
+        Ok(_) => panic!(rt; "accepted"),
+        Err(fault) => {
+            assert!(rt; fault.code == code, "{fault}");
+            assert_eq!(rt; fault.line, line);
+        }
+    }
+}
+
+fn accepted(rt: &impl Abort, alloc: Global, text: &[u8]) -> Option<Spec> {
+    match read_spec(alloc, text) {
+        Ok(spec) => Some(spec),
+        Err(fault) => panic!(rt; "{fault}"),
+    }
+}
+
+fn returns(rt: &impl Abort, spec: &Spec, rule: usize, kind: Kind) {
+    match spec.rules.get(rule) {
+        Some(found) => assert!(rt; found.action.last().copied() == Some(Step::Return(kind))),
+        None => panic!(rt; "no such rule"),
+    }
+}
+
+#[test]
+fn rules_are_refused_with_their_codes(rt: HostRuntime) {
+    let alloc = rt.alloc();
+    refused(&rt, alloc, b"%%\na/b ;\n", Code::NoReading, 2);
+    refused(&rt, alloc, b"%%\n(^a) ;\n", Code::NoReading, 2);
+    refused(&rt, alloc, b"%%\na{3,2} ;\n", Code::NoReading, 2);
+    refused(&rt, alloc, b"%%\n{N} ;\n", Code::Undefined, 2);
+    refused(&rt, alloc, b"%%\n<Q>a ;\n", Code::NoCondition, 2);
+    refused(&rt, alloc, b"%%\na BEGIN Q;\n", Code::NoCondition, 2);
+    refused(&rt, alloc, b"%%\na REJECT;\n", Code::NoAction, 2);
+    refused(&rt, alloc, b"%%\na return;\n", Code::NoAction, 2);
+    refused(&rt, alloc, b"%%\na {\n", Code::NotClosed, 2);
+    refused(&rt, alloc, b"%%\na |\n", Code::NoNext, 2);
+    refused(&rt, alloc, b"%%\na return 2147483648;\n", Code::NoAction, 2);
+    refused(&rt, alloc, b"%%\na return 01;\n", Code::NoAction, 2);
+    refused(&rt, alloc, b"%%\n<A> a ;\n", Code::NoCondition, 2);
+}
+
+#[test]
+fn definitions_are_refused_with_their_codes(rt: HostRuntime) {
+    let alloc = rt.alloc();
+    refused(&rt, alloc, b"A {A}\n%%\n{A} ;\n", Code::TooDeep, 3);
+    refused(&rt, alloc, b"a b\n", Code::NoRules, 0);
+    refused(&rt, alloc, b"x-y 1\n%%\n", Code::NoForm, 1);
+    refused(&rt, alloc, b"D 1\nD 2\n%%\n", Code::Twice, 2);
+    refused(&rt, alloc, b"%x INITIAL\n%%\n", Code::Twice, 1);
+    refused(&rt, alloc, b"%option yylineno\n%%\n", Code::NoForm, 1);
+    refused(&rt, alloc, b"%{\n", Code::NotClosed, 1);
+    let spec = accepted(&rt, alloc, b"A (\n%%\na ;\n");
+    assert!(rt; spec.is_some());
+}
+
+#[test]
+fn conditions_kinds_and_steps_are_read(rt: HostRuntime) {
+    let alloc = rt.alloc();
+    let Some(spec) = accepted(
+        &rt,
+        alloc,
+        b"%x C\n%s S\r\nD [0-9]\n%%\na |\n<S,0>b { ECHO; return AB; }\n<C>{D} return 'A'; return Z;\nc BEGIN C;\n%%\n}{\n",
+    ) else {
+        return;
+    };
+    assert_eq!(rt; spec.conditions.len(), 3);
+    assert_eq!(rt; spec.kinds.len(), 1);
+    assert_eq!(rt; spec.rules.len(), 4);
+    returns(&rt, &spec, 0, Kind::Name(0));
+    returns(&rt, &spec, 1, Kind::Name(0));
+    returns(&rt, &spec, 2, Kind::Number(65));
+    match spec.rules.get(1) {
+        Some(rule) => {
+            assert_eq!(rt; rule.line, 6);
+            match &rule.conditions {
+                Some(conditions) => assert!(rt; conditions.as_slice() == [0, 2].as_slice()),
+                None => panic!(rt; "no list of conditions"),
+            }
+        }
+        None => panic!(rt; "no such rule"),
+    }
+    match spec.rules.get(3) {
+        Some(rule) => assert!(rt; rule.action.as_slice() == [Step::Begin(1)].as_slice()),
+        None => panic!(rt; "no such rule"),
+    }
+}
+
+#[test]
+fn faults_print_their_code_and_line(rt: HostRuntime) -> Result<(), Fail> {
+    let text = format!(in rt.alloc();
+        "{}",
+        SpecFault {
+            code: Code::NoAction,
+            line: 7
+        }
+    )?;
+    assert_eq!(rt; text.as_str(), "E20 at line 7");
+    Ok(())
+}
