@@ -23,10 +23,18 @@ fn list(rt: &HostRuntime, name: &str) -> io::Result<()> {
     let input = format!(in alloc; "{name}.txt")?;
     let rules = fs::read(rt, spec.as_str())?;
     let text = fs::read(rt, input.as_str())?;
-    list_input(rt, (spec.as_str(), rules.as_slice()), (input.as_str(), text.as_slice()))
+    list_input(
+        rt,
+        (spec.as_str(), rules.as_slice()),
+        (input.as_str(), text.as_slice()),
+    )
 }
 
-fn list_input<'a>(rt: &HostRuntime, spec: (&'a str, &'a [u8]), input: (&'a str, &'a [u8])) -> io::Result<()> {
+fn list_input<'a>(
+    rt: &HostRuntime,
+    spec: (&'a str, &'a [u8]),
+    input: (&'a str, &'a [u8]),
+) -> io::Result<()> {
     let alloc = rt.alloc();
     let mut words = Vec::new(alloc);
     for word in ["lx", "run", spec.0, input.0] {
@@ -35,6 +43,13 @@ fn list_input<'a>(rt: &HostRuntime, spec: (&'a str, &'a [u8]), input: (&'a str, 
     let files = [spec, input];
     let mut err: Vec<u8> = Vec::new(alloc);
     let mut out = io::writer(rt);
-    let _status = run(rt, alloc, &words, &mut ListSources::new(files.as_slice()), &mut out, &mut err);
+    let _status = run(
+        rt,
+        alloc,
+        &words,
+        &mut ListSources::new(files.as_slice()),
+        &mut out,
+        &mut err,
+    );
     out.write_all(&err)
 }

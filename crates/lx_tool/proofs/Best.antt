@@ -33,7 +33,7 @@ module _ (spec : Spec) (condition : ℕ) (begin : Bool) (text : List ℕ) where
     pub reach_is : reached ≡ reach rule n
     pub fits : Fits spec rule condition begin text n
     pub leads : (j : ℕ) (other : Rule) (m : ℕ) → j < k → slice_get spec.rules.items j ≡ Some other → Fits spec other condition begin text m →
-      (reach other m < reached) ⊎ ((reach other m ≡ reached) × (i ≤ j))
+        (reach other m < reached) ⊎ ((reach other m ≡ reached) × (i ≤ j))
     pub place : i < k
 
   abbrev pub Best : ℕ → ℕ → Option (ℕ × ℕ) → Type 0
@@ -50,7 +50,10 @@ module _ (spec : Spec) (condition : ℕ) (begin : Bool) (text : List ℕ) where
     none = λ j other n lt e f. elim (cases_lt j k) [ inl below ↦ b.none j other n below e f | inr ge ↦ never n (subst (λ r. Fits spec r condition begin text n) (same_rule k j rule other at lt ge e) f) ];
   }
   Best-none k reached (Some first) rule at never b = record {
-    rule = b.rule; at = b.at; reach_is = b.reach_is; fits = b.fits;
+    rule = b.rule;
+    at = b.at;
+    reach_is = b.reach_is;
+    fits = b.fits;
     leads = λ j other m lt e g. elim (cases_lt j k) [ inl below ↦ b.leads j other m below e g | inr ge ↦ absurd (never m (subst (λ r. Fits spec r condition begin text m) (same_rule k j rule other at lt ge e) g)) ];
     place = (let p : first.0 < k = b.place in omega arith);
   }
@@ -63,7 +66,11 @@ module _ (spec : Spec) (condition : ℕ) (begin : Bool) (text : List ℕ) where
   pub Best-new : (k reached : ℕ) (best : Option (ℕ × ℕ)) (rule : Rule) (n : ℕ) → slice_get spec.rules.items k ≡ Some rule → Fits spec rule condition begin text n → ((m : ℕ) → Fits spec rule condition begin text m → m ≤ n) →
       reached < reach rule n → Best k reached best → Best (k + 1) (reach rule n) (Some (k, n))
   Best-new k reached best rule n at f longest more b = record {
-    rule = rule; at = at; reach_is = refl; fits = f; place = omega arith;
+    rule = rule;
+    at = at;
+    reach_is = refl;
+    fits = f;
+    place = omega arith;
     leads = λ j other m lt e g. elim (cases_lt j k) [
       | inl below ↦ inl (before best b j other m below e g)
       | inr ge ↦ elim (cases_lt (reach other m) (reach rule n)) [
@@ -82,7 +89,10 @@ module _ (spec : Spec) (condition : ℕ) (begin : Bool) (text : List ℕ) where
       reach rule n ≤ reached → Best k reached best → Best (k + 1) reached best
   Best-old k reached None rule n at f longest less b = absurd (let p : 0 < reach rule n = plus_if_pos (rule.pattern.line_end) n f.not_empty in omega (arith, p, less, b.none_yet))
   Best-old k reached (Some first) rule n at f longest less b = record {
-    rule = b.rule; at = b.at; reach_is = b.reach_is; fits = b.fits;
+    rule = b.rule;
+    at = b.at;
+    reach_is = b.reach_is;
+    fits = b.fits;
     place = (let p : first.0 < k = b.place in omega arith);
     leads = λ j other m lt e g. elim (cases_lt j k) [
       | inl below ↦ b.leads j other m below e g
@@ -97,8 +107,10 @@ module _ (spec : Spec) (condition : ℕ) (begin : Bool) (text : List ℕ) where
   pub Best-all : (k reached : ℕ) (best : Option (ℕ × ℕ)) → length spec.rules.items ≤ k → Best k reached best → IsChoice spec condition begin text best
   Best-all k reached None long b = λ j rule n at f. b.none j rule n (let h : j < length spec.rules.items = slice_get_within spec.rules.items j rule at in omega arith) at f
   Best-all k reached (Some first) long b = record {
-    rule = b.rule; at = b.at; fits = b.fits;
+    rule = b.rule;
+    at = b.at;
+    fits = b.fits;
     longest = λ j other m at f. let h : j < length spec.rules.items = slice_get_within spec.rules.items j other at in
-      let e : reached ≡ reach (b.rule) (first.1) = b.reach_is in
-      rw (← e) (b.leads j other m (omega arith) at f);
+        let e : reached ≡ reach (b.rule) (first.1) = b.reach_is in
+        rw (← e) (b.leads j other m (omega arith) at f);
   }

@@ -26,10 +26,10 @@ pub below_other : (inner : List ℕ → List ℕ → Type 0) (definitions : List
 below_other inner definitions name word k here at never d = elim (cases_lt (d.place) k) [
   | inl less ↦ record { place = d.place; below = less; definition = d.definition; at = d.at; is = d.is; matches = d.matches }
   | inr more ↦
-    let e : d.place ≡ k = (let h = d.below in omega arith) in
-    let f : slice_get definitions k ≡ Some (d.definition) = subst (λ (i : ℕ). slice_get definitions i ≡ Some (d.definition)) e (d.at) in
-    let g : d.definition ≡ here = cc in
-    absurd (never (subst (λ (x : Definition). x.name.items ≡ name) g (d.is)))
+      let e : d.place ≡ k = (let h = d.below in omega arith) in
+      let f : slice_get definitions k ≡ Some (d.definition) = subst (λ (i : ℕ). slice_get definitions i ≡ Some (d.definition)) e (d.at) in
+      let g : d.definition ≡ here = cc in
+      absurd (never (subst (λ (x : Definition). x.name.items ≡ name) g (d.is)))
 ]
 
 pub below_still : (inner : List ℕ → List ℕ → Type 0) (definitions : List Definition) (name word : List ℕ) (k : ℕ) → DefinedBelow inner definitions name k word → DefinedBelow inner definitions name (k + 1) word
@@ -48,10 +48,10 @@ pub below_fewer : (inner : List ℕ → List ℕ → Type 0) (definitions : List
 below_fewer inner definitions name word k here at d = elim (cases_lt (d.place) k) [
   | inl less ↦ inl (record { place = d.place; below = less; definition = d.definition; at = d.at; is = d.is; matches = d.matches })
   | inr more ↦
-    let e : d.place ≡ k = (let h = d.below in omega arith) in
-    let f : slice_get definitions k ≡ Some (d.definition) = subst (λ (i : ℕ). slice_get definitions i ≡ Some (d.definition)) e (d.at) in
-    let g : d.definition ≡ here = cc in
-    inr (subst (λ (x : Definition). Matches inner (regex_of x.expr) word) g (d.matches))
+      let e : d.place ≡ k = (let h = d.below in omega arith) in
+      let f : slice_get definitions k ≡ Some (d.definition) = subst (λ (i : ℕ). slice_get definitions i ≡ Some (d.definition)) e (d.at) in
+      let g : d.definition ≡ here = cc in
+      inr (subst (λ (x : Definition). Matches inner (regex_of x.expr) word) g (d.matches))
 ]
 
 -- all definitions together, with one level of names fewer
@@ -67,7 +67,10 @@ name_from definitions (suc n) name word k h long m =
     let e : n ≡ suc n - 1 = omega arith in
     let found : DefinedMatches (NameMatches definitions n) definitions name word = m in
     record {
-      place = found.1.place; definition = found.0; at = found.1.at; is = found.1.is;
+      place = found.1.place;
+      definition = found.0;
+      at = found.1.at;
+      is = found.1.is;
       below = let g : found.1.place < length definitions = slice_get_within definitions (found.1.place) (found.0) (found.1.at) in omega arith;
       matches = subst (λ (m : ℕ). Matches (NameMatches definitions m) (regex_of (found.0).expr) word) e (found.2);
     }

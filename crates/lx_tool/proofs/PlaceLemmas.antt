@@ -101,14 +101,17 @@ pub between_cut : (L M : List ℕ → Type 0) (text : List ℕ) (i j : ℕ) → 
 between_cut L M text i j b =
     let s : Splits L M (b.word) = b.matches in
     let whole : drop i text ≡ s.0 ++ (s.1 ++ b.rest) = b.there ∙ ap (λ (w : List ℕ). w ++ b.rest) (s.4) ∙ append_assoc (s.0) (s.1) (b.rest) in
-    let long : length (b.word) ≡ length (s.0) + length (s.1) = ap (λ (w : List ℕ). length w) (s.4) ∙ length-append (s.0) (s.1) in
-    (i + length (s.0),
+    let long : length (b.word) ≡ length (s.0) + length (s.1) = ap (λ (w : List ℕ). length w) (s.4) ∙ length-append (s.0) (s.1) in (
+      i + length (s.0),
       record { word = s.0; rest = s.1 ++ b.rest; matches = s.2; there = whole; end = refl },
       record {
-        word = s.1; rest = b.rest; matches = s.3;
+        word = s.1;
+        rest = b.rest;
+        matches = s.3;
         there = rw (← drop-drop (length (s.0)) i text, whole) (drop-append_seam (s.0) (s.1 ++ b.rest));
         end = let e = b.end in omega arith;
-      })
+      },
+    )
 
 pub between_map : (L M : List ℕ → Type 0) (text : List ℕ) (i j : ℕ) → ((w : List ℕ) → L w → M w) → Between L text i j → Between M text i j
 between_map L M text i j f b = record { word = b.word; rest = b.rest; matches = f (b.word) (b.matches); there = b.there; end = b.end }
@@ -137,9 +140,9 @@ ends_map L M text starts ends into from e = record {
 pub ends_then : (L M : List ℕ → Type 0) (text : List ℕ) (starts cuts ends : BTreeSet ℕ) → AreEnds L text starts cuts → AreEnds M text cuts ends → AreEnds (Splits L M) text starts ends
 ends_then L M text starts cuts ends a b = record {
   sound = λ j h. let second = b.sound j h in let first = a.sound (second.from) (second.start) in
-    record { from = first.from; start = first.start; between = between_join L M text (first.from) (second.from) j (first.between) (second.between) };
+      record { from = first.from; start = first.start; between = between_join L M text (first.from) (second.from) j (first.between) (second.between) };
   whole = λ j r. let c = between_cut L M text (r.from) j (r.between) in
-    b.whole j (record { from = c.0; start = a.whole (c.0) (record { from = r.from; start = r.start; between = c.1 }); between = c.2 });
+      b.whole j (record { from = c.0; start = a.whole (c.0) (record { from = r.from; start = r.start; between = c.1 }); between = c.2 });
 }
 
 -- either of two languages
@@ -164,9 +167,9 @@ pub ends_same : (text : List ℕ) (starts ends : BTreeSet ℕ) → ((j : ℕ) �
 ends_same text starts ends is = record {
   sound = λ j h. record { from = j; start = sym (is j) ∙ h; between = record { word = []; rest = drop j text; matches = refl; there = refl; end = sym (add-zero j) } };
   whole = λ j r. let b = r.between in
-    let short : length (b.word) ≡ 0 = ap (λ (w : List ℕ). length w) (b.matches) in
-    let e : r.from ≡ j = (let f = b.end in omega arith) in
-    is j ∙ subst (λ k. contains nat_cmp starts k ≡ true) e (r.start);
+      let short : length (b.word) ≡ 0 = ap (λ (w : List ℕ). length w) (b.matches) in
+      let e : r.from ≡ j = (let f = b.end in omega arith) in
+      is j ∙ subst (λ k. contains nat_cmp starts k ≡ true) e (r.start);
 }
 
 -- nothing is reached by no word
@@ -188,7 +191,8 @@ any_none L text starts j h = record { from = j; start = h; between = record { wo
 
 any_more : (L : List ℕ → Type 0) (text : List ℕ) (starts : BTreeSet ℕ) (k j : ℕ) → IsReached (AnyNumber L) text starts k → Between L text k j → IsReached (AnyNumber L) text starts j
 any_more L text starts k j r b = record {
-  from = r.from; start = r.start;
+  from = r.from;
+  start = r.start;
   between = between_map (Splits (AnyNumber L) L) (AnyNumber L) text (r.from) j (λ w s. let first : AnyNumber L (s.0) = s.2 in (first.0 + 1, repeats_more L (first.0) w (s.0, s.1, first.1, s.3, s.4))) (between_join (AnyNumber L) L text (r.from) k j (r.between) b);
 }
 
@@ -215,7 +219,7 @@ closing_goes_on L text starts reached fresh next reached' fresh' c e more new = 
 }
   where
     stays : (i j : ℕ) (r : Bool) → contains nat_cmp reached i ≡ r → (f : Bool) → contains nat_cmp fresh i ≡ f → (contains nat_cmp reached i || contains nat_cmp next i) ≡ true →
-      (contains nat_cmp next i && not (contains nat_cmp reached i)) ≡ false → Between L text i j → (contains nat_cmp reached j || contains nat_cmp next j) ≡ true
+        (contains nat_cmp next i && not (contains nat_cmp reached i)) ≡ false → Between L text i j → (contains nat_cmp reached j || contains nat_cmp next j) ≡ true
     stays i j true r true f either neither b = or_right (contains nat_cmp reached j) (contains nat_cmp next j) (e.whole j (record { from = i; start = f; between = b }))
     stays i j true r false f either neither b = or_left (contains nat_cmp reached j) (contains nat_cmp next j) (c.closed i j r f b)
     stays i j false r f' f either neither b = absurd (true≢false (sym (rw r at either) ∙ sym (and_true (contains nat_cmp next i)) ∙ rw r at neither))
@@ -229,14 +233,14 @@ pub closing_ends : (L : List ℕ → Type 0) (text : List ℕ) (starts reached f
 closing_ends L text starts reached fresh c none = record {
   sound = c.sound;
   whole = λ j r. let b = r.between in let any : AnyNumber L (b.word) = b.matches in
-    follow (any.0) (r.from) j (c.begun (r.from) (r.start)) (record { word = b.word; rest = b.rest; matches = any.1; there = b.there; end = b.end });
+      follow (any.0) (r.from) j (c.begun (r.from) (r.start)) (record { word = b.word; rest = b.rest; matches = any.1; there = b.there; end = b.end });
 }
   where
     follow : (k i j : ℕ) → contains nat_cmp reached i ≡ true → Between (Repeats L k) text i j → contains nat_cmp reached j ≡ true
     follow zero i j h b =
-      let short : length (b.word) ≡ 0 = ap (λ (w : List ℕ). length w) (b.matches) in
-      let e : i ≡ j = (let f = b.end in omega arith) in
-      subst (λ k. contains nat_cmp reached k ≡ true) e h
+        let short : length (b.word) ≡ 0 = ap (λ (w : List ℕ). length w) (b.matches) in
+        let e : i ≡ j = (let f = b.end in omega arith) in
+        subst (λ k. contains nat_cmp reached k ≡ true) e h
     follow (suc k) i j h b = let cut = between_cut L (Repeats L k) text i j b in follow k (cut.0) j (c.closed i (cut.0) h (none i) (cut.1)) (cut.2)
 
 -- ---- one byte
@@ -251,28 +255,33 @@ ends_byte names s text starts ends b = record { sound = sound; whole = whole }
     sound : (j : ℕ) → contains nat_cmp ends j ≡ true → IsReached (Matches names (one_of s)) text starts j
     sound zero h = absurd (true≢false (sym h ∙ b.first))
     sound (suc i) h =
-      let e : suc i ≡ i + 1 = omega arith in
-      let both = and_parts (contains nat_cmp starts i) (is_byte_at s text i) (sym (b.next i) ∙ ap (λ k. contains nat_cmp ends k) (sym e) ∙ h) in
-      let there = and_parts (nat_lt i (length text)) (set.contains s (slice_index text i)) (both.1) in
-      record {
-        from = i; start = both.0;
-        between = record {
-          word = slice_index text i ∷ []; rest = drop (suc i) text; matches = (slice_index text i, there.1, refl);
-          there = head_at text i (ltb-true i (length text) (there.0));
-          end = omega arith;
-        };
-      }
+        let e : suc i ≡ i + 1 = omega arith in
+        let both = and_parts (contains nat_cmp starts i) (is_byte_at s text i) (sym (b.next i) ∙ ap (λ k. contains nat_cmp ends k) (sym e) ∙ h) in
+        let there = and_parts (nat_lt i (length text)) (set.contains s (slice_index text i)) (both.1) in
+        record {
+          from = i;
+          start = both.0;
+          between = record {
+            word = slice_index text i ∷ [];
+            rest = drop (suc i) text;
+            matches = (slice_index text i, there.1, refl);
+            there = head_at text i (ltb-true i (length text) (there.0));
+            end = omega arith;
+          };
+        }
+
     at_word : (j i c : ℕ) (rest : List ℕ) → contains nat_cmp starts i ≡ true → set.contains s c ≡ true → drop i text ≡ c ∷ rest → j ≡ i + 1 → contains nat_cmp ends j ≡ true
     at_word j i c rest start has there end =
-      let long : length text - i ≡ suc (length rest) = sym (length-drop i text) ∙ ap (λ (w : List ℕ). length w) there in
-      let within : i < length text = omega arith in
-      let same : c ≡ slice_index text i = ap (λ (w : List ℕ). slice_index w 0) (sym there ∙ head_at text i within) in
-      rw (end, b.next i, start, lt-ltb i (length text) within, ← same) has
+        let long : length text - i ≡ suc (length rest) = sym (length-drop i text) ∙ ap (λ (w : List ℕ). length w) there in
+        let within : i < length text = omega arith in
+        let same : c ≡ slice_index text i = ap (λ (w : List ℕ). slice_index w 0) (sym there ∙ head_at text i within) in
+        rw (end, b.next i, start, lt-ltb i (length text) within, ← same) has
+
     whole : (j : ℕ) → IsReached (Matches names (one_of s)) text starts j → contains nat_cmp ends j ≡ true
     whole j r =
-      let b' = r.between in
-      let m : Matches names (one_of s) (b'.word) = b'.matches in
-      at_word j (r.from) (m.0) (b'.rest) (r.start) (m.1) (b'.there ∙ ap (λ (w : List ℕ). w ++ b'.rest) (m.2)) (b'.end ∙ ap (λ (w : List ℕ). r.from + length w) (m.2))
+        let b' = r.between in
+        let m : Matches names (one_of s) (b'.word) = b'.matches in
+        at_word j (r.from) (m.0) (b'.rest) (r.start) (m.1) (b'.there ∙ ap (λ (w : List ℕ). w ++ b'.rest) (m.2)) (b'.end ∙ ap (λ (w : List ℕ). r.from + length w) (m.2))
 
 -- ---- how far a closing can grow
 set_len_le : (text : List ℕ) (s : BTreeSet ℕ) → IsOrdered nat_cmp s → AreWithin text s → btree_set_len s ≤ length text + 1
@@ -297,12 +306,13 @@ pub lengths_from_ends : (L : List ℕ → Type 0) (text : List ℕ) (front ends 
 lengths_from_ends L text front ends only e = record {
   within = λ n h. ends_within L text front ends (λ j g. let z : j ≡ 0 = eqb-true j 0 (sym (only j) ∙ g) in omega arith) e n h;
   sound = λ n h. let r = e.sound n h in let b = r.between in
-    let z : r.from ≡ 0 = eqb-true (r.from) 0 (sym (only (r.from)) ∙ r.start) in
-    let long : n ≡ length (b.word) = (let f = b.end in omega arith) in
-    let there : text ≡ b.word ++ b.rest = subst (λ (i : ℕ). drop i text ≡ b.word ++ b.rest) z (b.there) in
-    subst L (sym (ap₂ (λ (k : ℕ) (t : List ℕ). take k t) long there ∙ take_front (b.word) (b.rest))) (b.matches);
+      let z : r.from ≡ 0 = eqb-true (r.from) 0 (sym (only (r.from)) ∙ r.start) in
+      let long : n ≡ length (b.word) = (let f = b.end in omega arith) in
+      let there : text ≡ b.word ++ b.rest = subst (λ (i : ℕ). drop i text ≡ b.word ++ b.rest) z (b.there) in
+      subst L (sym (ap₂ (λ (k : ℕ) (t : List ℕ). take k t) long there ∙ take_front (b.word) (b.rest))) (b.matches);
   whole = λ n le m. e.whole n (record {
-    from = 0; start = only 0;
+    from = 0;
+    start = only 0;
     between = record { word = take n text; rest = drop n text; matches = m; there = sym (take-append-drop n text); end = let h : length (take n text) ≡ n = length-take-le n text le in omega arith };
   });
 }

@@ -20,16 +20,20 @@ scanned_more spec texts lists text list s items placed = record {
   where
     Holds : ℕ → Type 0
     Holds file = AreItemsBy spec (slice_index_or (texts ++ text ∷ []) file []) (slice_index_or (lists ++ list ∷ []) file [])
+
     Placed : ℕ → Type 0
     Placed file = All (IsItemOf (kinds_of spec) (slice_index_or (texts ++ text ∷ []) file [])) (slice_index_or (lists ++ list ∷ []) file [])
+
     here : (file : ℕ) → file < length (texts ++ text ∷ []) → length texts ≤ file → file ≡ length texts
     here file h above = let n : length (texts ++ text ∷ []) ≡ length texts + 1 = length-append texts (text ∷ []) in omega arith
+
     rest : (file : ℕ) → file < length texts → Holds file × Placed file
     rest file below =
-      let long : file < length lists = (let e : length lists ≡ length texts = s.long in omega arith) in
-      rw (get_or-append texts (text ∷ []) [] file below, get_or-append lists (list ∷ []) [] file long) (s.items file below, s.placed file below)
+        let long : file < length lists = (let e : length lists ≡ length texts = s.long in omega arith) in
+        rw (get_or-append texts (text ∷ []) [] file below, get_or-append lists (list ∷ []) [] file long) (s.items file below, s.placed file below)
+
     last : (file : ℕ) → file ≡ length texts → Holds file × Placed file
     last file e =
-      let t : slice_index_or (texts ++ text ∷ []) file [] ≡ text = rw e (get_or-append_seam texts text [] []) in
-      let l : slice_index_or (lists ++ list ∷ []) file [] ≡ list = rw (e, ← s.long) (get_or-append_seam lists list [] []) in
-      rw (t, l) (items, placed)
+        let t : slice_index_or (texts ++ text ∷ []) file [] ≡ text = rw e (get_or-append_seam texts text [] []) in
+        let l : slice_index_or (lists ++ list ∷ []) file [] ≡ list = rw (e, ← s.long) (get_or-append_seam lists list [] []) in
+        rw (t, l) (items, placed)

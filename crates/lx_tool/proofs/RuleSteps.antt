@@ -88,13 +88,14 @@ goes_on spec text place rule len condition more known choice alone is =
     rule_there : (rule : Option ℕ) → IsChoice spec place.condition place.at_line_begin (drop place.offset text) (option_map (λ i. (i, len)) rule) → ForSome rule (λ i. i < length spec.rules.items)
     rule_there None choice = λ i e. absurd (let f : None ≡ Some i = e in cc)
     rule_there (Some i) choice = λ j e. let f : i ≡ j = cc in subst (λ k. k < length spec.rules.items) f (slice_get_within (spec.rules.items) i (choice.rule) (choice.at))
+
     takes : (rule : Option ℕ) → IsChoice spec place.condition place.at_line_begin (drop place.offset text) (option_map (λ i. (i, len)) rule) → (rule ≡ None → len ≡ 1) → (0 < len) × (place.offset + len ≤ length text)
     takes None choice alone = let e : len ≡ 1 = alone refl in (omega arith, omega arith)
     takes (Some i) choice alone =
-      let fits = choice.fits in
-      let short : len ≤ length (drop place.offset text) = fits.within in
-      let rest : length (drop place.offset text) ≡ length text - place.offset = length-drop (place.offset) text in
-      (fits.not_empty, omega arith)
+        let fits = choice.fits in
+        let short : len ≤ length (drop place.offset text) = fits.within in
+        let rest : length (drop place.offset text) ≡ length text - place.offset = length-drop (place.offset) text in
+        (fits.not_empty, omega arith)
 
 -- a match that was found lies in the text
 pub match_within : (spec : Spec) (text : List ℕ) (place : Place) (m : Match) (next : Place) → GoesOn spec text place m next → m.start + m.len ≤ length text

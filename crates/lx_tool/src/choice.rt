@@ -40,7 +40,12 @@ fn front(alloc: Global) -> Result<BTreeSet<usize>, AllocError>
 }
 
 // The lengths of the words at the front of the text that the expression matches.
-fn lengths(alloc: Global, spec: &Spec, expr: &Expr, text: &[u8]) -> Result<BTreeSet<usize>, AllocError>
+fn lengths(
+    alloc: Global,
+    spec: &Spec,
+    expr: &Expr,
+    text: &[u8],
+) -> Result<BTreeSet<usize>, AllocError>
     ensures { IfOk result (λ found. AreLengths (Matches (SpecNames spec.now) (regex_of expr.now)) text.now found) }
 {
     let front = front(alloc)?;
@@ -63,7 +68,14 @@ fn may_end(rule: &Rule, text: &[u8], n: usize) -> bool
 }
 
 /// The greatest number of bytes at the front of the text that the rule fits.
-pub(crate) fn longest(alloc: Global, spec: &Spec, rule: &Rule, condition: u16, begin: bool, text: &[u8]) -> Result<Option<usize>, AllocError>
+pub(crate) fn longest(
+    alloc: Global,
+    spec: &Spec,
+    rule: &Rule,
+    condition: u16,
+    begin: bool,
+    text: &[u8],
+) -> Result<Option<usize>, AllocError>
     requires { condition < length spec.now.conditions.items }
     ensures { IfOk result (IsLongest spec.now rule.now condition begin text.now) }
 {
@@ -88,7 +100,13 @@ fn reach_of(rule: &Rule, n: usize) -> usize
 }
 
 /// The rule and the number of bytes with the greatest reach, and among these the earliest rule.
-pub(crate) fn choose(alloc: Global, spec: &Spec, condition: u16, begin: bool, text: &[u8]) -> Result<Option<(u16, usize)>, AllocError>
+pub(crate) fn choose(
+    alloc: Global,
+    spec: &Spec,
+    condition: u16,
+    begin: bool,
+    text: &[u8],
+) -> Result<Option<(u16, usize)>, AllocError>
     requires { condition < length spec.now.conditions.items }
     ensures { IfOk result (IsChoice spec.now condition begin text.now) }
 {

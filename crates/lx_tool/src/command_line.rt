@@ -108,7 +108,10 @@ fn run_order_of<'a>(alloc: Global, matches: &ArgMatches<'a>) -> Result<RunOrder<
         None => Vec::new(alloc),
     };
     Ok(RunOrder {
-        per_piece: matches.get_one::<u32>("items").unwrap_or(ITEMS).clamp(1, 4096),
+        per_piece: matches
+            .get_one::<u32>("items")
+            .unwrap_or(ITEMS)
+            .clamp(1, 4096),
         specification: matches.get_str("SPEC").unwrap_or(""),
         files,
     })

@@ -14,7 +14,14 @@ use std::collections::BTreeSet;
 
 /// The places to which words of the expression lead from the starts, names unfolded at most `depth` deep.
 #[cycle(matcher)]
-pub(crate) fn ends(alloc: Global, definitions: &[Definition], depth: u8, expr: &Expr, text: &[u8], starts: &BTreeSet<usize>) -> Result<BTreeSet<usize>, AllocError>
+pub(crate) fn ends(
+    alloc: Global,
+    definitions: &[Definition],
+    depth: u8,
+    expr: &Expr,
+    text: &[u8],
+    starts: &BTreeSet<usize>,
+) -> Result<BTreeSet<usize>, AllocError>
     requires { AreWithin text.now starts.now }
     ensures { IfOk result (λ ends. AreEnds (Matches (NameMatches definitions.now depth) (regex_of expr.now)) text.now starts.now ends) }
 {
@@ -45,7 +52,15 @@ pub(crate) fn ends(alloc: Global, definitions: &[Definition], depth: u8, expr: &
 
 // The places to which exactly so many words of the body lead.
 #[cycle(matcher)]
-fn exactly(alloc: Global, definitions: &[Definition], depth: u8, body: &Expr, count: u8, text: &[u8], starts: &BTreeSet<usize>) -> Result<BTreeSet<usize>, AllocError>
+fn exactly(
+    alloc: Global,
+    definitions: &[Definition],
+    depth: u8,
+    body: &Expr,
+    count: u8,
+    text: &[u8],
+    starts: &BTreeSet<usize>,
+) -> Result<BTreeSet<usize>, AllocError>
     requires { AreWithin text.now starts.now }
     ensures { IfOk result (λ ends. AreEnds (Repeats (Matches (NameMatches definitions.now depth) (regex_of body.now)) count) text.now starts.now ends) }
 {
@@ -58,7 +73,15 @@ fn exactly(alloc: Global, definitions: &[Definition], depth: u8, body: &Expr, co
 
 // The places to which at most so many words of the body lead.
 #[cycle(matcher)]
-fn at_most(alloc: Global, definitions: &[Definition], depth: u8, body: &Expr, most: u8, text: &[u8], starts: &BTreeSet<usize>) -> Result<BTreeSet<usize>, AllocError>
+fn at_most(
+    alloc: Global,
+    definitions: &[Definition],
+    depth: u8,
+    body: &Expr,
+    most: u8,
+    text: &[u8],
+    starts: &BTreeSet<usize>,
+) -> Result<BTreeSet<usize>, AllocError>
     requires { AreWithin text.now starts.now }
     ensures { IfOk result (λ ends. AreEnds (AtMost (Matches (NameMatches definitions.now depth) (regex_of body.now)) most) text.now starts.now ends) }
 {
@@ -73,7 +96,14 @@ fn at_most(alloc: Global, definitions: &[Definition], depth: u8, body: &Expr, mo
 
 // The places to which any number of words of the body leads. Only from places that are new does it go on.
 #[cycle(matcher)]
-fn any_number(alloc: Global, definitions: &[Definition], depth: u8, body: &Expr, text: &[u8], starts: &BTreeSet<usize>) -> Result<BTreeSet<usize>, AllocError>
+fn any_number(
+    alloc: Global,
+    definitions: &[Definition],
+    depth: u8,
+    body: &Expr,
+    text: &[u8],
+    starts: &BTreeSet<usize>,
+) -> Result<BTreeSet<usize>, AllocError>
     requires { AreWithin text.now starts.now }
     ensures { IfOk result (λ ends. AreEnds (AnyNumber (Matches (NameMatches definitions.now depth) (regex_of body.now))) text.now starts.now ends) }
 {
@@ -88,7 +118,14 @@ fn any_number(alloc: Global, definitions: &[Definition], depth: u8, body: &Expr,
 
 // The places to which words lead that the name stands for.
 #[cycle(matcher)]
-fn named(alloc: Global, definitions: &[Definition], depth: u8, name: &[u8], text: &[u8], starts: &BTreeSet<usize>) -> Result<BTreeSet<usize>, AllocError>
+fn named(
+    alloc: Global,
+    definitions: &[Definition],
+    depth: u8,
+    name: &[u8],
+    text: &[u8],
+    starts: &BTreeSet<usize>,
+) -> Result<BTreeSet<usize>, AllocError>
     requires { AreWithin text.now starts.now }
     ensures { IfOk result (λ ends. AreEnds (NameMatches definitions.now depth name.now) text.now starts.now ends) }
 {
@@ -98,7 +135,14 @@ fn named(alloc: Global, definitions: &[Definition], depth: u8, name: &[u8], text
     }
     for definition in definitions {
         if definition.name.as_slice() == name {
-            let further = ends(alloc, definitions, depth - 1, &definition.expr, text, starts)?;
+            let further = ends(
+                alloc,
+                definitions,
+                depth - 1,
+                &definition.expr,
+                text,
+                starts,
+            )?;
             add_new(alloc, &mut found, &further)?;
         }
     }

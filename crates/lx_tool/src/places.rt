@@ -12,7 +12,12 @@ use std::alloc::{AllocError, Global};
 use std::collections::BTreeSet;
 
 /// The places behind one byte of the set, from each of the starts.
-pub(crate) fn behind_byte(alloc: Global, set: &ByteSet, text: &[u8], starts: &BTreeSet<usize>) -> Result<BTreeSet<usize>, AllocError>
+pub(crate) fn behind_byte(
+    alloc: Global,
+    set: &ByteSet,
+    text: &[u8],
+    starts: &BTreeSet<usize>,
+) -> Result<BTreeSet<usize>, AllocError>
     ensures { IfOk result (AreBehind set.now text.now starts.now) }
 {
     let mut ends = BTreeSet::new(alloc);
@@ -35,7 +40,11 @@ fn has_byte_at(set: &ByteSet, text: &[u8], place: usize) -> bool
 }
 
 /// Adds the further places to those that are there, and gives those that are new.
-pub(crate) fn add_new(alloc: Global, places: &mut BTreeSet<usize>, further: &BTreeSet<usize>) -> Result<BTreeSet<usize>, AllocError>
+pub(crate) fn add_new(
+    alloc: Global,
+    places: &mut BTreeSet<usize>,
+    further: &BTreeSet<usize>,
+) -> Result<BTreeSet<usize>, AllocError>
     ensures all { OnOk result ((j : ℕ) → contains nat_cmp places.new j ≡ (contains nat_cmp places.old j || contains nat_cmp further.now j)) }
     ensures ordered { OnOk result (IsOrdered nat_cmp places.new) }
     ensures count { IfOk result (λ fresh. btree_set_len places.new ≡ btree_set_len places.old + btree_set_len fresh) }

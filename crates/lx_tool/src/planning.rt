@@ -26,7 +26,12 @@ fn scan_files(alloc: Global, spec: &Spec, files: &[Vec<u8>]) -> Result<Vec<Vec<I
 }
 
 /// The plan of the files, with `per_piece` items a piece, by the rules of the specification.
-pub(crate) fn plan_files(alloc: Global, spec: Spec, files: Vec<Vec<u8>>, per_piece: u32) -> Result<Plan, AllocError>
+pub(crate) fn plan_files(
+    alloc: Global,
+    spec: Spec,
+    files: Vec<Vec<u8>>,
+    per_piece: u32,
+) -> Result<Plan, AllocError>
     requires some_files { 0 < vec_len files }
     requires few_files { vec_len files ≤ 65536 }
     requires some_items { 0 < per_piece }
@@ -40,7 +45,13 @@ pub(crate) fn plan_files(alloc: Global, spec: Spec, files: Vec<Vec<u8>>, per_pie
 
 /// Writes the lines of the files' items by the rules of the specification, with `per_piece` items a piece: all of them,
 /// or after a fault a prefix, possibly empty.
-pub fn list_files<W: Write>(alloc: Global, spec: Spec, files: Vec<Vec<u8>>, per_piece: u32, out: &mut W) -> Result<(), RunFault>
+pub fn list_files<W: Write>(
+    alloc: Global,
+    spec: Spec,
+    files: Vec<Vec<u8>>,
+    per_piece: u32,
+    out: &mut W,
+) -> Result<(), RunFault>
     requires some_files { 0 < vec_len files }
     requires few_files { vec_len files ≤ 65536 }
     requires some_items { 0 < per_piece }

@@ -18,7 +18,10 @@ const MOST_FILES: usize = 65_536;
 
 // The files of the stored run.
 static STORED: [(&str, &[u8]); 2] = [
-    ("words.l", b"%%\n[a-z]+ return ID;\n[0-9]+ return NUM;\n[ \\n]+ ;\n"),
+    (
+        "words.l",
+        b"%%\n[a-z]+ return ID;\n[0-9]+ return NUM;\n[ \\n]+ ;\n",
+    ),
     ("words.txt", b"ab 12\n"),
 ];
 
@@ -86,7 +89,14 @@ impl From<SpecFault> for Failure<'_> {
 /// or the help goes to `out`, which is flushed, and one line on what went wrong to `err`, whose own faults change nothing.
 /// The result is the exit status: 0, all was done; 1, the specification was refused; 2, the command line was; 3, a file
 /// can't be read; 4, the output failed; 5, memory was refused.
-pub fn run<R, S: Sources, O: Write, E: Write>(_rt: &R, alloc: Global, words: &[String], sources: &mut S, out: &mut O, err: &mut E) -> u8 {
+pub fn run<R, S: Sources, O: Write, E: Write>(
+    _rt: &R,
+    alloc: Global,
+    words: &[String],
+    sources: &mut S,
+    out: &mut O,
+    err: &mut E,
+) -> u8 {
     match obey(alloc, words, sources, out) {
         Ok(()) => 0,
         Err(failure) => {
@@ -101,9 +111,19 @@ pub fn run<R, S: Sources, O: Write, E: Write>(_rt: &R, alloc: Global, words: &[S
 }
 
 // Does what the words ask for.
-fn obey<'a, S: Sources, O: Write>(alloc: Global, words: &'a [String], sources: &mut S, out: &mut O) -> Result<(), Failure<'a>> {
+fn obey<'a, S: Sources, O: Write>(
+    alloc: Global,
+    words: &'a [String],
+    sources: &mut S,
+    out: &mut O,
+) -> Result<(), Failure<'a>> {
     match read_words(alloc, words) {
-        Ok(Order::Stored) => list(alloc, &stored_order(alloc)?, &mut ListSources::new(STORED.as_slice()), out)?,
+        Ok(Order::Stored) => list(
+            alloc,
+            &stored_order(alloc)?,
+            &mut ListSources::new(STORED.as_slice()),
+            out,
+        )?,
         Ok(Order::Help(text)) => write!(out, "{text}").map_err(|_| Failure::Output)?,
         Ok(Order::Run(order)) => list(alloc, &order, sources, out)?,
         Err(Refusal::Words(error)) => return Err(Failure::Words(error)),
@@ -113,7 +133,12 @@ fn obey<'a, S: Sources, O: Write>(alloc: Global, words: &'a [String], sources: &
 }
 
 // Lists the order's files by its specification. All are read before the first line is written.
-fn list<'a, S: Sources, O: Write>(alloc: Global, order: &RunOrder<'a>, sources: &mut S, out: &mut O) -> Result<(), Failure<'a>> {
+fn list<'a, S: Sources, O: Write>(
+    alloc: Global,
+    order: &RunOrder<'a>,
+    sources: &mut S,
+    out: &mut O,
+) -> Result<(), Failure<'a>> {
     if order.files.len() > MOST_FILES {
         return Err(Failure::TooManyFiles);
     }
@@ -128,7 +153,11 @@ fn list<'a, S: Sources, O: Write>(alloc: Global, order: &RunOrder<'a>, sources: 
 }
 
 // The files with these names, in order.
-fn read_files<'a, S: Sources>(alloc: Global, sources: &mut S, names: &[&'a str]) -> Result<Vec<Vec<u8>>, Failure<'a>>
+fn read_files<'a, S: Sources>(
+    alloc: Global,
+    sources: &mut S,
+    names: &[&'a str],
+) -> Result<Vec<Vec<u8>>, Failure<'a>>
     ensures { IfOk result (λ files. vec_len files ≡ length names.now) }
 {
     let mut files = Vec::new(alloc);
@@ -138,7 +167,11 @@ fn read_files<'a, S: Sources>(alloc: Global, sources: &mut S, names: &[&'a str])
     Ok(files)
 }
 
-fn read_file<'a, S: Sources>(alloc: Global, sources: &mut S, name: &'a str) -> Result<Vec<u8>, Failure<'a>> {
+fn read_file<'a, S: Sources>(
+    alloc: Global,
+    sources: &mut S,
+    name: &'a str,
+) -> Result<Vec<u8>, Failure<'a>> {
     match sources.read(alloc, name) {
         Ok(bytes) => Ok(bytes),
         Err(SourceFault::NotRead) => Err(Failure::NotRead(name)),

@@ -52,7 +52,12 @@ fn condition_behind(steps: &[Step], condition: u16) -> u16
 }
 
 /// The match at a place and the place behind it, or nothing at the end of the text.
-pub(crate) fn next_match(alloc: Global, spec: &Spec, text: &[u8], place: Place) -> Result<Option<(Match, Place)>, AllocError>
+pub(crate) fn next_match(
+    alloc: Global,
+    spec: &Spec,
+    text: &[u8],
+    place: Place,
+) -> Result<Option<(Match, Place)>, AllocError>
     requires within { place.offset ≤ length text.now }
     requires known { place.condition < length spec.now.conditions.items }
     ensures { IfOk result (λ found. MatchOption found (place.offset ≡ length text.now) (λ f. GoesOn spec.now text.now place f.0 f.1)) }
@@ -60,7 +65,13 @@ pub(crate) fn next_match(alloc: Global, spec: &Spec, text: &[u8], place: Place) 
     if place.offset == text.len() {
         return Ok(None);
     }
-    let (rule, len) = match choose(alloc, spec, place.condition, place.at_line_begin, &text[place.offset..])? {
+    let (rule, len) = match choose(
+        alloc,
+        spec,
+        place.condition,
+        place.at_line_begin,
+        &text[place.offset..],
+    )? {
         Some((rule, len)) => (Some(rule), len),
         None => (None, 1),
     };
@@ -79,7 +90,12 @@ pub(crate) fn next_match(alloc: Global, spec: &Spec, text: &[u8], place: Place) 
 }
 
 // Adds the items that the steps give of `len` bytes from `start`.
-fn push_items(items: &mut Vec<Item>, steps: &[Step], start: usize, len: usize) -> Result<(), AllocError>
+fn push_items(
+    items: &mut Vec<Item>,
+    steps: &[Step],
+    start: usize,
+    len: usize,
+) -> Result<(), AllocError>
     ensures { OnOk result (items.new.items ≡ items.old.items ++ items_of_steps steps.now start len) }
 {
     for step in steps {
@@ -89,7 +105,11 @@ fn push_items(items: &mut Vec<Item>, steps: &[Step], start: usize, len: usize) -
             }
             Step::Begin(_) => {}
             Step::Return(kind) => {
-                items.push(Item::Token { kind: *kind, start, len })?;
+                items.push(Item::Token {
+                    kind: *kind,
+                    start,
+                    len,
+                })?;
             }
         }
     }
@@ -108,7 +128,12 @@ pub(crate) fn scan(alloc: Global, spec: &Spec, text: &[u8]) -> Result<Vec<Item>,
         at_line_begin: true,
     };
     'matches: while let Some((found, next)) = next_match(alloc, spec, text, place)? {
-        push_items(&mut items, steps_of_rule(spec, found.rule), found.start, found.len)?;
+        push_items(
+            &mut items,
+            steps_of_rule(spec, found.rule),
+            found.start,
+            found.len,
+        )?;
         place = next;
     }
     Ok(items)
@@ -117,5 +142,4 @@ pub(crate) fn scan(alloc: Global, spec: &Spec, text: &[u8]) -> Result<Vec<Item>,
 /// A law: by the rules of a specification a text has one list of items.
 pub fn one_list_of_items()
     ensures { (spec : Spec) (text : List ℕ) (xs ys : List Item) → AreItemsBy spec text xs → AreItemsBy spec text ys → xs ≡ ys }
-{
-}
+{}

@@ -37,8 +37,17 @@ fn words_of(alloc: Global, words: &[&str]) -> Result<Vec<String>, AllocError> {
 }
 
 /// Asserts that the text is listed so by the specification.
-fn lists<R: Abort + AllocGlobal>(rt: &R, spec: &str, text: &[u8], listing: &str) -> Result<(), Fail> {
-    let ran = lx(rt, &["run", "S", "F"], &[("S", spec.as_bytes()), ("F", text)])?;
+fn lists<R: Abort + AllocGlobal>(
+    rt: &R,
+    spec: &str,
+    text: &[u8],
+    listing: &str,
+) -> Result<(), Fail> {
+    let ran = lx(
+        rt,
+        &["run", "S", "F"],
+        &[("S", spec.as_bytes()), ("F", text)],
+    )?;
     assert_eq!(rt; ran.status, 0, "{spec}");
     assert_eq!(rt; ran.out.as_slice(), listing.as_bytes(), "{spec}");
     assert!(rt; ran.err.is_empty(), "{spec}");
@@ -47,7 +56,11 @@ fn lists<R: Abort + AllocGlobal>(rt: &R, spec: &str, text: &[u8], listing: &str)
 
 /// Asserts that the specification is refused with this line, and nothing is listed.
 fn refuses<R: Abort + AllocGlobal>(rt: &R, spec: &str, line: &str) -> Result<(), Fail> {
-    let ran = lx(rt, &["run", "S", "F"], &[("S", spec.as_bytes()), ("F", b"a")])?;
+    let ran = lx(
+        rt,
+        &["run", "S", "F"],
+        &[("S", spec.as_bytes()), ("F", b"a")],
+    )?;
     assert_eq!(rt; ran.status, 1, "{spec}");
     assert_eq!(rt; ran.err.as_slice(), line.as_bytes(), "{spec}");
     assert!(rt; ran.out.is_empty(), "{spec}");

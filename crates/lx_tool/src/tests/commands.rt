@@ -8,13 +8,23 @@ use std::test::Fail;
 fn without_words_lists_the_stored_text(rt: HostRuntime) -> Result<(), Fail> {
     let ran = lx(&rt, &[], &[])?;
     assert_eq!(rt; ran.status, 0);
-    assert_eq!(rt; ran.out.as_slice(), b"0 T ID 0 2 ab\n0 T NUM 3 2 12\n".as_slice());
+    assert_eq!(rt;
+        ran.out.as_slice(),
+        b"0 T ID 0 2 ab\n0 T NUM 3 2 12\n".as_slice()
+    );
     Ok(())
 }
 
 #[test]
 fn refuses_command_lines(rt: HostRuntime) -> Result<(), Fail> {
-    let some: [&[&str]; 6] = [&["none"], &["run"], &["run", "S"], &["run", "-b", "0", "S", "F"], &["run", "-b", "4097", "S", "F"], &["help"]];
+    let some: [&[&str]; 6] = [
+        &["none"],
+        &["run"],
+        &["run", "S"],
+        &["run", "-b", "0", "S", "F"],
+        &["run", "-b", "4097", "S", "F"],
+        &["help"],
+    ];
     for words in some {
         let ran = lx(&rt, words, &[])?;
         assert_eq!(rt; ran.status, 2);
@@ -74,11 +84,17 @@ fn a_write_that_fails_ends_the_listing(rt: HostRuntime) -> Result<(), Fail> {
     let files: [(&str, &[u8]); 2] = [("S", b"%%\n"), ("F", b"hi!")];
     let words = words_of(alloc, &["run", "S", "F"])?;
     let mut sources = ListSources::new(files.as_slice());
-    let mut out = Failing { calls: 0, bytes: Vec::new(alloc) };
+    let mut out = Failing {
+        calls: 0,
+        bytes: Vec::new(alloc),
+    };
     let mut err: Vec<u8> = Vec::new(alloc);
     let status = run(&rt, alloc, &words, &mut sources, &mut out, &mut err);
     assert_eq!(rt; status, 4);
-    assert_eq!(rt; out.bytes.as_slice(), b"0 E - 0 1 h\n0 E - 1 1 i\n".as_slice());
+    assert_eq!(rt;
+        out.bytes.as_slice(),
+        b"0 E - 0 1 h\n0 E - 1 1 i\n".as_slice()
+    );
     assert_eq!(rt; err.as_slice(), b"lx: cannot write\n".as_slice());
     Ok(())
 }

@@ -3,7 +3,21 @@ use std::test::Fail;
 
 #[test]
 fn refuses_patterns_without_a_reading(rt: HostRuntime) -> Result<(), Fail> {
-    for pattern in ["[a", "[a-c-e]", "[[:digit:]-z]", "\\400", "^$", "a/b", "(^a)", "a{3,2}", "a{256}", "a{2}*", "a|*b", "[z-a]", "\"\""] {
+    for pattern in [
+        "[a",
+        "[a-c-e]",
+        "[[:digit:]-z]",
+        "\\400",
+        "^$",
+        "a/b",
+        "(^a)",
+        "a{3,2}",
+        "a{256}",
+        "a{2}*",
+        "a|*b",
+        "[z-a]",
+        "\"\"",
+    ] {
         let spec = format!(in rt.alloc(); "%%\n{pattern} ;\n")?;
         refuses(&rt, spec.as_str(), "lx: E10 at line 2\n")?;
     }

@@ -10,19 +10,19 @@ use Rattle.lx_tool.proofs.choice.choose.Goals.{in-Some+then-reach-best_reach, in
 pub loop-i-preserved : goal.loop-i-preserved
 loop-i-preserved c =
     let at : slice_get c.args.spec.now.rules.items c.loop-i.i ≡ Some c.rule-item.result
-      = rw (← c.deref-rule-items.ensures.value) (slice_get_read c.deref-rule-items.result.now (length c.deref-rule-items.result.now) c.loop-i.i c.rule-item.result refl c.loop-i-test.true c.rule-item.is) in
+    = rw (← c.deref-rule-items.ensures.value) (slice_get_read c.deref-rule-items.result.now (length c.deref-rule-items.result.now) c.loop-i.i c.rule-item.result refl c.loop-i-test.true c.rule-item.is) in
     elim c.match-branch-2.branch [
       | in-Some+then-reach-best_reach w ↦
-        let far = rw w.in-Some.is at c.in_ok-n.ensures in
-        let more : c.loop-i.best_reach < reach c.rule-item.result w.in-Some.n = rw w.reach_of-reach.ensures at w.if-reach-best_reach.true in
-        rw (w.best-is, w.best_reach-is, w.reach_of-reach.ensures) (Best-new c.args.spec.now c.args.condition c.args.begin c.args.text.now c.loop-i.i c.loop-i.best_reach c.loop-i.best c.rule-item.result w.in-Some.n at far.fits far.most more c.loop-i.invariant)
+          let far = rw w.in-Some.is at c.in_ok-n.ensures in
+          let more : c.loop-i.best_reach < reach c.rule-item.result w.in-Some.n = rw w.reach_of-reach.ensures at w.if-reach-best_reach.true in
+          rw (w.best-is, w.best_reach-is, w.reach_of-reach.ensures) (Best-new c.args.spec.now c.args.condition c.args.begin c.args.text.now c.loop-i.i c.loop-i.best_reach c.loop-i.best c.rule-item.result w.in-Some.n at far.fits far.most more c.loop-i.invariant)
       | in-Some+else-reach-best_reach w ↦
-        let far = rw w.in-Some.is at c.in_ok-n.ensures in
-        let less : reach c.rule-item.result w.in-Some.n ≤ c.loop-i.best_reach = rw w.reach_of-reach.ensures at w.if-reach-best_reach.false in
-        rw (w.best-is, w.best_reach-is) (Best-old c.args.spec.now c.args.condition c.args.begin c.args.text.now c.loop-i.i c.loop-i.best_reach c.loop-i.best c.rule-item.result w.in-Some.n at far.fits far.most less c.loop-i.invariant)
+          let far = rw w.in-Some.is at c.in_ok-n.ensures in
+          let less : reach c.rule-item.result w.in-Some.n ≤ c.loop-i.best_reach = rw w.reach_of-reach.ensures at w.if-reach-best_reach.false in
+          rw (w.best-is, w.best_reach-is) (Best-old c.args.spec.now c.args.condition c.args.begin c.args.text.now c.loop-i.i c.loop-i.best_reach c.loop-i.best c.rule-item.result w.in-Some.n at far.fits far.most less c.loop-i.invariant)
       | in_default w ↦
-        let never = rw w.in_default.is at c.in_ok-n.ensures in
-        rw (w.best-is, w.best_reach-is) (Best-none c.args.spec.now c.args.condition c.args.begin c.args.text.now c.loop-i.i c.loop-i.best_reach c.loop-i.best c.rule-item.result at never c.loop-i.invariant)
+          let never = rw w.in_default.is at c.in_ok-n.ensures in
+          rw (w.best-is, w.best_reach-is) (Best-none c.args.spec.now c.args.condition c.args.begin c.args.text.now c.loop-i.i c.loop-i.best_reach c.loop-i.best c.rule-item.result at never c.loop-i.invariant)
     ]
 
 pub returns : goal.returns

@@ -26,7 +26,7 @@ any_number-closing-smaller t c =
     let more : is_empty c.closing.fresh ≡ false = ne_eqb (btree_set_len c.closing.fresh) 0 (λ e. false≢true (sym c.closing-test.true ∙ c.is_empty.ensures.1 e)) in
     let L : List ℕ → Type 0 = Matches (NameMatches c.args.definitions.now c.args.depth) (regex_of c.args.body.now) in
     let grown : AreWithin c.args.text.now c.add_new.new.places = all_within c.args.text.now c.closing.reached c.in_ok-next.next c.add_new.new.places c.closing.invariant.within
-      (ends_within L c.args.text.now c.closing.fresh c.in_ok-next.next (λ j h. c.closing.invariant.within j (c.closing.invariant.closing.inside j h)) c.in_ok-next.ensures) c.in_ok-fresh-2.ensures.all in
+    (ends_within L c.args.text.now c.closing.fresh c.in_ok-next.next (λ j h. c.closing.invariant.within j (c.closing.invariant.closing.inside j h)) c.in_ok-next.ensures) c.in_ok-fresh-2.ensures.all in
     closing_falls c.args.text.now c.closing.reached c.add_new.new.places c.closing.fresh c.in_ok-fresh-2.fresh more c.in_ok-fresh-2.ensures.count c.in_ok-fresh-2.ensures.ordered grown
 
 pub any_number-closing-preserved : goal.any_number-closing-preserved
@@ -35,7 +35,7 @@ any_number-closing-preserved t c =
     record {
       ordered = c.in_ok-fresh-2.ensures.ordered;
       within = all_within c.args.text.now c.closing.reached c.in_ok-next.next c.add_new.new.places c.closing.invariant.within
-        (ends_within L c.args.text.now c.closing.fresh c.in_ok-next.next (λ j h. c.closing.invariant.within j (c.closing.invariant.closing.inside j h)) c.in_ok-next.ensures) c.in_ok-fresh-2.ensures.all;
+          (ends_within L c.args.text.now c.closing.fresh c.in_ok-next.next (λ j h. c.closing.invariant.within j (c.closing.invariant.closing.inside j h)) c.in_ok-next.ensures) c.in_ok-fresh-2.ensures.all;
       closing = closing_goes_on L c.args.text.now c.args.starts.now c.closing.reached c.closing.fresh c.in_ok-next.next c.add_new.new.places c.in_ok-fresh-2.fresh c.closing.invariant.closing c.in_ok-next.ensures c.in_ok-fresh-2.ensures.all c.in_ok-fresh-2.ensures.new;
     }
 
@@ -49,13 +49,13 @@ at_most-loop-round-preserved t c =
     let L : List ℕ → Type 0 = Matches (NameMatches c.args.definitions.now c.args.depth) (regex_of c.args.body.now) in
     let k : ℕ = c.loop-round._round in
     let further : AreEnds (Repeats L (k + 1)) c.args.text.now c.args.starts.now c.in_ok-places-2.places
-      = ends_map (Splits (Repeats L k) L) (Repeats L (k + 1)) c.args.text.now c.args.starts.now c.in_ok-places-2.places (repeats_more L k) (repeats_fewer L k)
-        (ends_then (Repeats L k) L c.args.text.now c.args.starts.now c.loop-round.places c.in_ok-places-2.places c.loop-round.invariant.ends c.in_ok-places-2.ensures) in
+    = ends_map (Splits (Repeats L k) L) (Repeats L (k + 1)) c.args.text.now c.args.starts.now c.in_ok-places-2.places (repeats_more L k) (repeats_fewer L k)
+    (ends_then (Repeats L k) L c.args.text.now c.args.starts.now c.loop-round.places c.in_ok-places-2.places c.loop-round.invariant.ends c.in_ok-places-2.ensures) in
     record {
       within = ends_within L c.args.text.now c.loop-round.places c.in_ok-places-2.places c.loop-round.invariant.within c.in_ok-places-2.ensures;
       ends = further;
       reached = ends_map (λ w. AtMost L k w ⊎ Repeats L (k + 1) w) (AtMost L (k + 1)) c.args.text.now c.args.starts.now c.add_new.new.places (at_most_more L k) (at_most_fewer L k)
-        (ends_or (AtMost L k) (Repeats L (k + 1)) c.args.text.now c.args.starts.now c.loop-round.reached c.in_ok-places-2.places c.add_new.new.places c.loop-round.invariant.reached further c.in_ok-add_new.ensures.all);
+          (ends_or (AtMost L k) (Repeats L (k + 1)) c.args.text.now c.args.starts.now c.loop-round.reached c.in_ok-places-2.places c.add_new.new.places c.loop-round.invariant.reached further c.in_ok-add_new.ensures.all);
     }
 
 pub ends-returns-in-Set : goal.ends-returns-in-Set
@@ -72,8 +72,8 @@ ends-returns-in-Then t c =
     let L : List ℕ → Type 0 = Matches names (regex_of c.in-Then.first.value) in
     let M : List ℕ → Type 0 = Matches names (regex_of c.in-Then.second.value) in
     rw c.in-Then.is (IfOk-weaker c.ends-in-Then.result _ (AreEnds (Splits L M) c.args.text.now c.args.starts.now)
-      (λ ends. ends_then L M c.args.text.now c.args.starts.now c.in_ok-cuts-in-Then.cuts ends (rw c.deref.ensures at c.in_ok-cuts-in-Then.ensures))
-      (rw c.deref-in-Then.ensures at c.ends-in-Then.ensures))
+    (λ ends. ends_then L M c.args.text.now c.args.starts.now c.in_ok-cuts-in-Then.cuts ends (rw c.deref.ensures at c.in_ok-cuts-in-Then.ensures))
+    (rw c.deref-in-Then.ensures at c.ends-in-Then.ensures))
 
 pub ends-any_number-requires : goal.ends-any_number-requires
 ends-any_number-requires t c = (search rules, ends_within _ c.args.text.now c.args.starts.now c.in_ok-owed-in-Times.owed c.requires c.in_ok-owed-in-Times.ensures)
@@ -84,9 +84,9 @@ ends-returns-in-None t c =
     let L : List ℕ → Type 0 = Matches names (regex_of c.in-Times.body.value) in
     let low : ℕ = c.in-Times.low in
     rw (c.in-Times.is, c.in-None.is) (IfOk-weaker c.any_number.result (AreEnds (AnyNumber L) c.args.text.now c.in_ok-owed-in-Times.owed) (AreEnds (RepeatsBetween L low None) c.args.text.now c.args.starts.now)
-      (λ ends any. ends_map (Splits (Repeats L low) (AnyNumber L)) (RepeatsBetween L low None) c.args.text.now c.args.starts.now ends (between_any L low) (any_between L low)
-        (ends_then (Repeats L low) (AnyNumber L) c.args.text.now c.args.starts.now c.in_ok-owed-in-Times.owed ends (rw c.deref-in-Times.ensures at c.in_ok-owed-in-Times.ensures) any))
-      (rw c.deref-in-None.ensures at c.any_number.ensures))
+    (λ ends any. ends_map (Splits (Repeats L low) (AnyNumber L)) (RepeatsBetween L low None) c.args.text.now c.args.starts.now ends (between_any L low) (any_between L low)
+    (ends_then (Repeats L low) (AnyNumber L) c.args.text.now c.args.starts.now c.in_ok-owed-in-Times.owed ends (rw c.deref-in-Times.ensures at c.in_ok-owed-in-Times.ensures) any))
+    (rw c.deref-in-None.ensures at c.any_number.ensures))
 
 pub ends-at_most-requires : goal.ends-at_most-requires
 ends-at_most-requires t c = (search rules, ends_within _ c.args.text.now c.args.starts.now c.in_ok-owed-in-Times.owed c.requires c.in_ok-owed-in-Times.ensures)
@@ -100,9 +100,9 @@ ends-returns-in-Times t c =
     let same : c.in-Some.high ≡ high = (let e : Some c.in-Some.high ≡ Some high = sym c.in-Some.is ∙ c.in-Some-2.is in cc) in
     let le : low ≤ high = (let h : low ≤ c.in-Some.high = c.if-high-low.false in omega arith) in
     rw (c.in-Times.is, c.in-Some-2.is) (IfOk-weaker c.at_most.result (AreEnds (AtMost L (high - low)) c.args.text.now c.in_ok-owed-in-Times.owed) (AreEnds (RepeatsBetween L low (Some high)) c.args.text.now c.args.starts.now)
-      (λ ends few. ends_map (Splits (Repeats L low) (AtMost L (high - low))) (RepeatsBetween L low (Some high)) c.args.text.now c.args.starts.now ends (λ w. between_at_most L low high w le) (at_most_between L low high)
-        (ends_then (Repeats L low) (AtMost L (high - low)) c.args.text.now c.args.starts.now c.in_ok-owed-in-Times.owed ends (rw c.deref-in-Times.ensures at c.in_ok-owed-in-Times.ensures) few))
-      (rw c.deref-in-Some-2.ensures at c.at_most.ensures))
+    (λ ends few. ends_map (Splits (Repeats L low) (AtMost L (high - low))) (RepeatsBetween L low (Some high)) c.args.text.now c.args.starts.now ends (λ w. between_at_most L low high w le) (at_most_between L low high)
+    (ends_then (Repeats L low) (AtMost L (high - low)) c.args.text.now c.args.starts.now c.in_ok-owed-in-Times.owed ends (rw c.deref-in-Times.ensures at c.in_ok-owed-in-Times.ensures) few))
+    (rw c.deref-in-Some-2.ensures at c.at_most.ensures))
 
 pub exactly-loop-round-preserved : goal.exactly-loop-round-preserved
 exactly-loop-round-preserved t c =
@@ -111,7 +111,7 @@ exactly-loop-round-preserved t c =
     record {
       within = ends_within L c.args.text.now c.loop-round.places c.in_ok-places-2.places c.loop-round.invariant.within c.in_ok-places-2.ensures;
       ends = ends_map (Splits (Repeats L k) L) (Repeats L (k + 1)) c.args.text.now c.args.starts.now c.in_ok-places-2.places (repeats_more L k) (repeats_fewer L k)
-        (ends_then (Repeats L k) L c.args.text.now c.args.starts.now c.loop-round.places c.in_ok-places-2.places c.loop-round.invariant.ends c.in_ok-places-2.ensures);
+          (ends_then (Repeats L k) L c.args.text.now c.args.starts.now c.loop-round.places c.in_ok-places-2.places c.loop-round.invariant.ends c.in_ok-places-2.ensures);
     }
 
 pub named-ends-requires : goal.named-ends-requires
@@ -132,14 +132,14 @@ named-loop-definition-preserved t c =
     let name : List ℕ = c.args.name.now in
     elim c.if-eq.branch [
       | named-then-eq+in_ok-further+in_ok-add_new w ↦
-        let is : here.name.items ≡ name = sym c.as_slice.ensures.value ∙ same_text c.as_slice.result.now name (sym (sym c.eq.ensures ∙ w.if-eq.true)) in
-        let L : List ℕ → Type 0 = Matches inner (regex_of here.expr) in
-        rw w.found-is (ends_map (λ v. DefinedBelow inner definitions name k v ⊎ L v) (DefinedBelow inner definitions name (k + 1)) c.args.text.now c.args.starts.now w.add_new.new.places
+          let is : here.name.items ≡ name = sym c.as_slice.ensures.value ∙ same_text c.as_slice.result.now name (sym (sym c.eq.ensures ∙ w.if-eq.true)) in
+          let L : List ℕ → Type 0 = Matches inner (regex_of here.expr) in
+          rw w.found-is (ends_map (λ v. DefinedBelow inner definitions name k v ⊎ L v) (DefinedBelow inner definitions name (k + 1)) c.args.text.now c.args.starts.now w.add_new.new.places
           (λ v. below_more inner definitions name v k here at is) (λ v. below_fewer inner definitions name v k here at)
           (ends_or (DefinedBelow inner definitions name k) L c.args.text.now c.args.starts.now c.loop-definition.found w.in_ok-further.further w.add_new.new.places c.loop-definition.invariant w.in_ok-further.ensures w.in_ok-add_new.ensures.all))
       | named-else-eq w ↦
-        let other : here.name.items ≡ name → ⊥ = λ is. other_text c.as_slice.result.now name (sym (sym c.eq.ensures ∙ w.if-eq.false)) (c.as_slice.ensures.value ∙ is) in
-        rw w.found-is (ends_map (DefinedBelow inner definitions name k) (DefinedBelow inner definitions name (k + 1)) c.args.text.now c.args.starts.now c.loop-definition.found
+          let other : here.name.items ≡ name → ⊥ = λ is. other_text c.as_slice.result.now name (sym (sym c.eq.ensures ∙ w.if-eq.false)) (c.as_slice.ensures.value ∙ is) in
+          rw w.found-is (ends_map (DefinedBelow inner definitions name k) (DefinedBelow inner definitions name (k + 1)) c.args.text.now c.args.starts.now c.loop-definition.found
           (λ v. below_still inner definitions name v k) (λ v. below_other inner definitions name v k here at other) c.loop-definition.invariant)
     ]
 
@@ -149,4 +149,4 @@ named-returns t c =
     let deep : 0 < c.args.depth = omega arith in
     let k : ℕ = c.loop-definition.definition-index in
     ends_map (DefinedBelow inner c.args.definitions.now c.args.name.now k) (NameMatches c.args.definitions.now c.args.depth c.args.name.now) c.args.text.now c.args.starts.now c.loop-definition.found
-      (λ w. name_into c.args.definitions.now c.args.depth c.args.name.now w k deep) (λ w. name_from c.args.definitions.now c.args.depth c.args.name.now w k deep c.loop-definition-test.false) c.loop-definition.invariant
+    (λ w. name_into c.args.definitions.now c.args.depth c.args.name.now w k deep) (λ w. name_from c.args.definitions.now c.args.depth c.args.name.now w k deep c.loop-definition-test.false) c.loop-definition.invariant

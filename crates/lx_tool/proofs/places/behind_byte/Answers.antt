@@ -14,6 +14,6 @@ loop-start-preserved-in_ok-insert c =
     record {
       first = first_more c.in-Some.start.now (contains nat_cmp c.loop-start.ends 0) (contains nat_cmp c.insert.new.self 0) (added.0 0) c.loop-start.invariant.first;
       next = λ i. rw (map-append (deref {X = ℕ}) c.loop-start.yielded (c.in-Some.start ∷ []))
-        (next_more c.in-Some.start.now i (map (deref {X = ℕ}) c.loop-start.yielded) (is_byte_at c.args.set.now c.args.text.now i) (contains nat_cmp c.loop-start.ends (i + 1)) (contains nat_cmp c.insert.new.self (i + 1))
+          (next_more c.in-Some.start.now i (map (deref {X = ℕ}) c.loop-start.yielded) (is_byte_at c.args.set.now c.args.text.now i) (contains nat_cmp c.loop-start.ends (i + 1)) (contains nat_cmp c.insert.new.self (i + 1))
           (added.0 (i + 1)) (c.loop-start.invariant.next i) (λ e. subst (λ k. is_byte_at c.args.set.now c.args.text.now k ≡ true) (sym e) fits));
     }

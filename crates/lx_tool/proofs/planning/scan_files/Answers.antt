@@ -12,10 +12,10 @@ loop-file-preserved c =
     let file = c.file-item.result in
     let before = take c.loop-file.file-index c.args.files.now in
     let files : take (c.loop-file.file-index + 1) c.args.files.now ≡ before ++ file ∷ []
-      = take_more c.args.files.now c.loop-file.file-index file c.loop-file-test.true ∙ ap (λ (f : Vec ℕ Global). before ++ f ∷ []) (sym c.file-item.is) in
+    = take_more c.args.files.now c.loop-file.file-index file c.loop-file-test.true ∙ ap (λ (f : Vec ℕ Global). before ++ f ∷ []) (sym c.file-item.is) in
     let texts : texts_of (take (c.loop-file.file-index + 1) c.args.files.now) ≡ texts_of before ++ file.items ∷ []
-      = ap texts_of files ∙ map-append (λ (f : Vec ℕ Global). f.items) before (file ∷ []) in
+    = ap texts_of files ∙ map-append (λ (f : Vec ℕ Global). f.items) before (file ∷ []) in
     let lists : lists_of c.push.new.self.items ≡ lists_of c.loop-file.lists.items ++ c.in_ok-scan.field-0.items ∷ []
-      = ap lists_of c.in_ok-push.ensures.items ∙ map-append (λ (l : Vec Item Global). l.items) c.loop-file.lists.items (c.in_ok-scan.field-0 ∷ []) in
+    = ap lists_of c.in_ok-push.ensures.items ∙ map-append (λ (l : Vec Item Global). l.items) c.loop-file.lists.items (c.in_ok-scan.field-0 ∷ []) in
     rw (texts, lists) (scanned_more c.args.spec.now (texts_of before) (lists_of c.loop-file.lists.items) file.items c.in_ok-scan.field-0.items c.loop-file.invariant
-      (rw c.deref.ensures.value at c.in_ok-scan.ensures.items) (rw c.deref.ensures.value at c.in_ok-scan.ensures.placed))
+    (rw c.deref.ensures.value at c.in_ok-scan.ensures.items) (rw c.deref.ensures.value at c.in_ok-scan.ensures.placed))

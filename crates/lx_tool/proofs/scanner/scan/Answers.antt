@@ -21,11 +21,13 @@ matches-preserved c =
     record {
       within = goes.within;
       known = goes.known;
-      run = (old.0 ++ c.in-Some.found ∷ [],
+      run = (
+        old.0 ++ c.in-Some.found ∷ [],
         rw goes.after (run_push (IsChoice c.args.spec.now) actions c.args.text.now old.0 first_place c.matches.place c.in-Some.found old.1 goes.is_next),
-        pushed ∙ ap (λ xs. xs ++ items_of_match actions c.in-Some.found) old.2 ∙ sym (flat_map_push (items_of_match actions) old.0 c.in-Some.found));
+        pushed ∙ ap (λ xs. xs ++ items_of_match actions c.in-Some.found) old.2 ∙ sym (flat_map_push (items_of_match actions) old.0 c.in-Some.found),
+      );
       placed = subst (λ xs. All (IsItemOf names c.args.text.now) xs) (sym pushed)
-        (All-append (IsItemOf names c.args.text.now) c.matches.items.items (items_of_match actions c.in-Some.found) c.matches.invariant.placed
+          (All-append (IsItemOf names c.args.text.now) c.matches.items.items (items_of_match actions c.in-Some.found) c.matches.invariant.placed
           (items_known names c.args.text.now (steps_of actions c.in-Some.found.rule) (length c.args.spec.now.conditions.items) (length c.args.spec.now.kinds.items) c.in-Some.found.start c.in-Some.found.len
-            (length-map c.args.spec.now.kinds.items (λ name. name.items)) (match_within c.args.spec.now c.args.text.now c.matches.place c.in-Some.found c.in-Some.next goes) steps));
+          (length-map c.args.spec.now.kinds.items (λ name. name.items)) (match_within c.args.spec.now c.args.text.now c.matches.place c.in-Some.found c.in-Some.next goes) steps));
     }
