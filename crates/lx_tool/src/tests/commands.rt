@@ -65,7 +65,7 @@ struct Failing {
 
 impl Write for Failing {
     fn write(&mut self, bytes: &[u8]) -> io::Result<usize> {
-        if self.calls == 2 {
+        if self.calls >= 2 {
             return Err(io::Error::from(io::ErrorKind::Other));
         }
         self.calls += 1;
