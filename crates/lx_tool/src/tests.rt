@@ -5,6 +5,7 @@ use std::process::Abort;
 use std::test::Fail;
 
 mod commands;
+mod limits;
 mod refusals;
 mod rows;
 
