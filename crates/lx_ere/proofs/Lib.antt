@@ -11,4 +11,5 @@ pub mod MemberLoop
 pub mod QuoteLoop
 pub mod ReadLemmas
 pub mod EndLemmas
+pub mod EndThere
 pub mod ReachLemmas

@@ -134,3 +134,8 @@ pub fn pattern_end(text: &[u8]) -> usize
 pub fn one_pattern_end()
     ensures { (text : List ℕ) (n m : ℕ) → IsPatternEnd text n → IsPatternEnd text m → n ≡ m }
 {}
+
+/// A law: the pattern at the front of any text ends somewhere.
+pub fn some_pattern_end()
+    ensures { (text : List ℕ) → (n : ℕ) × IsPatternEnd text n }
+{}

@@ -28,3 +28,10 @@ pub mod spec;
 #[cfg(test)]
 mod tests;
 pub mod word;
+
+pub use crate::condition::Condition;
+pub use crate::definition::Definition;
+pub use crate::fault::{Code, SpecFault};
+pub use crate::read::read_spec;
+pub use crate::rule::{Kind, Rule, Step};
+pub use crate::spec::Spec;

@@ -20,6 +20,7 @@ use crate::said::{ReadRule, read_rules};
 use crate::section::read_sections;
 use crate::sheet::Sheet;
 use crate::spec::Spec;
+use lx_ere::extent::some_pattern_end;
 use std::alloc::Global;
 
 // What the definitions read as and what the rules say, or the first fault of the rules.
@@ -62,4 +63,11 @@ pub fn read_spec(alloc: Global, text: &[u8]) -> Result<Spec, SpecFault>
     let (dictionary, read) = read_sheet(alloc, &sheet)?;
     let spec = spec_of(alloc, &sheet, dictionary, read)?;
     Ok(spec)
+}
+
+/// A law: there is a function that says where patterns end, as the clauses of `read_spec` ask for one.
+pub fn patterns_end()
+    ensures { (ends : List ℕ → ℕ) × EndsPatterns ends }
+{
+    some_pattern_end();
 }
