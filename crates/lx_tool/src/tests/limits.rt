@@ -17,8 +17,17 @@ fn nested_names(alloc: Global, count: u32) -> Result<String, AllocError> {
 
 #[test]
 fn names_nest_32_deep(rt: HostRuntime) -> Result<(), Fail> {
-    lists(&rt, nested_names(rt.alloc(), 32)?.as_str(), b"a", "0 T A 0 1 a\n")?;
-    refuses(&rt, nested_names(rt.alloc(), 33)?.as_str(), "lx: E12 at line 35\n")
+    lists(
+        &rt,
+        nested_names(rt.alloc(), 32)?.as_str(),
+        b"a",
+        "0 T A 0 1 a\n",
+    )?;
+    refuses(
+        &rt,
+        nested_names(rt.alloc(), 33)?.as_str(),
+        "lx: E12 at line 35\n",
+    )
 }
 
 #[test]
@@ -37,7 +46,12 @@ fn reads_511_groups_in_one_another(rt: HostRuntime) -> Result<(), Fail> {
 
 #[test]
 fn numbers_end_below_two_to_the_31(rt: HostRuntime) -> Result<(), Fail> {
-    lists(&rt, "%%\na return 2147483647;\n", b"a", "0 T 2147483647 0 1 a\n")?;
+    lists(
+        &rt,
+        "%%\na return 2147483647;\n",
+        b"a",
+        "0 T 2147483647 0 1 a\n",
+    )?;
     refuses(&rt, "%%\na return 2147483648;\n", "lx: E20 at line 2\n")?;
     refuses(&rt, "%%\na return 01;\n", "lx: E20 at line 2\n")
 }
