@@ -1,0 +1,23 @@
+-- The steps of rules in the code, without where they lie in memory.
+use Rattle.std.specs.Prelude.{ℕ, List, [], ◌∷◌, map}
+use Rattle.std.specs.declared.alloc.Global.{Global}
+use Rattle.std.specs.declared.vec.Vec.{Vec}
+use Rattle.lx_spec.specs.Sections.{State}
+use Rattle.lx_spec.specs.Actions.{Action, shared, own}
+use Rattle.lx_spec.specs.Outcome.{PlainRule, steps_of}
+use Rattle.lx_spec.specs.declared.rule.Step.{Step}
+
+-- the steps of the last of some rules
+abbrev pub steps_at_end : List PlainRule → List Step
+steps_at_end [] = []
+steps_at_end (r ∷ []) = r.steps
+steps_at_end (r ∷ s ∷ rules) = steps_at_end (s ∷ rules)
+
+-- the steps of an action, where those of the next rule are these
+abbrev pub steps_before : List State → List (List ℕ) → Action → List Step → List Step
+steps_before states kinds shared next = next
+steps_before states kinds (own ss) next = steps_of states kinds ss
+
+-- the names of kinds
+abbrev pub names_view : List (Vec ℕ Global) → List (List ℕ)
+names_view kinds = map (λ k. k.items) kinds
