@@ -9,7 +9,7 @@ use Rattle.lx_spec.specs.declared.action.Action.{Action}
 use Rattle.lx_spec.specs.declared.action.Action.TheVariants.{Shared, Own}
 
 abbrev pub value_view : Value → actions.Value
-value_view (value.Name text) = actions.name text.now
+value_view (value.Name i) = actions.name i.text.now
 value_view (value.Number n) = actions.number n.value
 
 abbrev pub statement_view : Statement → actions.Statement

@@ -1,10 +1,8 @@
 -- The steps of rules in the code, without where they lie in memory.
 use Rattle.std.specs.Prelude.{ℕ, List, [], ◌∷◌, map}
-use Rattle.std.specs.declared.alloc.Global.{Global}
-use Rattle.std.specs.declared.vec.Vec.{Vec}
 use Rattle.lx_spec.specs.Sections.{State}
 use Rattle.lx_spec.specs.Actions.{Action, shared, own}
-use Rattle.lx_spec.specs.Outcome.{PlainRule, steps_of}
+use Rattle.lx_spec.specs.Outcome.{Said, PlainRule, steps_of}
 use Rattle.lx_spec.specs.declared.rule.Step.{Step}
 
 -- the steps of the last of some rules
@@ -18,6 +16,6 @@ abbrev pub steps_before : List State → List (List ℕ) → Action → List Ste
 steps_before states kinds shared next = next
 steps_before states kinds (own ss) next = steps_of states kinds ss
 
--- the names of kinds
-abbrev pub names_view : List (Vec ℕ Global) → List (List ℕ)
-names_view kinds = map (λ k. k.items) kinds
+-- what a rule says, with the steps of its action
+abbrev pub with_steps : ℕ → Said → List Step → PlainRule
+with_steps line s steps = record { line = line; conditions = s.conditions; reading = s.reading; steps = steps }

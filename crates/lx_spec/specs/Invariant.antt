@@ -1,5 +1,5 @@
 -- What every specification keeps of its conditions, kinds and rules.
-use Rattle.std.specs.Prelude.{ℕ, ◌+◌, Bool, true, false, not, ◌&&◌, nat_lt, nat_le, nat_eq, if◌then◌else◌, List, [], ◌∷◌, ◌++◌, length, map, Option, Some, None}
+use Rattle.std.specs.Prelude.{ℕ, ◌+◌, Bool, true, false, not, ◌&&◌, nat_lt, nat_le, nat_eq, if◌then◌else◌, List, [], ◌∷◌, ◌++◌, length, map, Option, Some, None, IsTrue}
 use Rattle.std.specs.List.{list_all, list_any, flat_map}
 use Rattle.std.specs.Option.{option_map}
 use Rattle.std.specs.Cmp.Lexicographic.{pointwise}
@@ -9,28 +9,38 @@ use Rattle.lx_spec.specs.declared.rule.Kind.TheVariants.{Name, Number}
 use Rattle.lx_spec.specs.declared.rule.Step.{Step}
 use Rattle.lx_spec.specs.declared.rule.Step.TheVariants.{Echo, Begin, Return}
 use Rattle.lx_spec.specs.declared.rule.Rule.{Rule}
-use Rattle.lx_spec.specs.declared.condition.Condition.{Condition}
-use Rattle.lx_spec.specs.declared.definition.Definition.{Definition}
+use Rattle.lx_spec.specs.Sections.{State, Named, Sheet}
+use Rattle.lx_spec.specs.Outcome.{PlainRule, PlainDefinition}
+
+-- no two of the names are the same
+abbrev pub are_distinct : List (List ℕ) → Bool
+are_distinct [] = true
+are_distinct (name ∷ names) = not (list_any (λ other. pointwise nat_eq other name) names) && are_distinct names
 
 -- the letters of INITIAL
 abbrev pub initial_letters : List ℕ
 initial_letters = 73 ∷ 78 ∷ 73 ∷ 84 ∷ 73 ∷ 65 ∷ 76 ∷ []
 
 -- the first condition is INITIAL, which isn't exclusive
-abbrev pub begins_initial : List Condition → Bool
+abbrev pub begins_initial : List State → Bool
 begins_initial [] = false
-begins_initial (c ∷ more) = pointwise nat_eq c.name.items initial_letters && not c.exclusive
+begins_initial (s ∷ more) = pointwise nat_eq s.name initial_letters && not s.exclusive
 
-abbrev pub condition_names : List Condition → List (List ℕ)
-condition_names conditions = map (λ c. c.name.items) conditions
+-- the first condition is INITIAL, and no two have the same name
+unfoldable pub are_states : List State → Bool
+are_states states = begins_initial states && are_distinct (map (λ s. s.name) states)
 
-abbrev pub definition_names : List Definition → List (List ℕ)
-definition_names definitions = map (λ d. d.name.items) definitions
+abbrev pub are_named : List Named → Bool
+are_named named = are_distinct (map (λ d. d.name) named)
 
--- no two of the names are the same
-abbrev pub are_distinct : List (List ℕ) → Bool
-are_distinct [] = true
-are_distinct (name ∷ names) = not (list_any (λ other. pointwise nat_eq other name) names) && are_distinct names
+-- The conditions and the definitions of a sheet have distinct names, and INITIAL is the first condition.
+pub record IsWellFormed (sheet : Sheet) : Type 0 where
+  pub states : IsTrue (are_states sheet.states)
+  pub named : IsTrue (are_named sheet.names)
+
+-- no two definitions have the same name
+unfoldable pub are_definitions : List PlainDefinition → Bool
+are_definitions definitions = are_distinct (map (λ d. d.name) definitions)
 
 -- the kind is one of so many identifiers, or a number below 2 ^ 31
 abbrev pub is_kind : ℕ → Kind → Bool
@@ -85,6 +95,6 @@ is_number n None = false
 is_number n (Some k) = nat_eq k n
 
 -- the kinds are identifiers, each once and returned by a rule, in order of first appearance
-abbrev pub are_kinds : List (List ℕ) → List Rule → Bool
+unfoldable pub are_kinds : List (List ℕ) → List PlainRule → Bool
 are_kinds kinds rules =
-    list_all is_identifier kinds && (are_distinct kinds && is_number (length kinds) (next_number 0 (flat_map (λ r. returned_names r.action.items) rules)))
+    list_all is_identifier kinds && (are_distinct kinds && is_number (length kinds) (next_number 0 (flat_map (λ r. returned_names r.steps) rules)))

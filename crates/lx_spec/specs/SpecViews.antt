@@ -2,13 +2,13 @@
 use Rattle.std.specs.Prelude.{map}
 use Rattle.lx_spec.specs.Outcome.{PlainSpec}
 use Rattle.lx_spec.specs.ConditionViews.{condition_view}
-use Rattle.lx_spec.specs.RuleViews.{rule_view, definition_view}
+use Rattle.lx_spec.specs.RuleViews.{rule_view, definition_view, names_view}
 use Rattle.lx_spec.specs.declared.spec.Spec.{Spec}
 
 abbrev pub spec_view : Spec → PlainSpec
 spec_view s = record {
   conditions = map condition_view s.conditions.items;
   definitions = map definition_view s.definitions.items;
-  kinds = map (λ k. k.items) s.kinds.items;
+  kinds = names_view s.kinds.items;
   rules = map rule_view s.rules.items;
 }

@@ -1,10 +1,11 @@
--- The verdict on a text: its first fault, or that it has none.
+-- The verdict on a text: its first fault, or the specification that it says.
 use Rattle.std.specs.Prelude.{◌≡◌, ℕ, ◌<◌, ◌≤◌, List, length, Option, Result, Ok, Err}
 use Rattle.lx_ere.specs.Regex.{Regex}
 use Rattle.lx_spec.specs.First.{HoldsOfNone}
 use Rattle.lx_spec.specs.Sections.{Sheet, sheet_of, fault}
 use Rattle.lx_spec.specs.Dictionary.{AreTrees}
 use Rattle.lx_spec.specs.Verdict.{Ground, Holds, IsFirstFault, cases}
+use Rattle.lx_spec.specs.Outcome.{Said, AreSaid, PlainSpec, AreSpec}
 use Rattle.lx_spec.specs.declared.fault.Code.TheVariants as code
 use Rattle.lx_spec.specs.declared.fault.SpecFault.{SpecFault}
 
@@ -20,11 +21,14 @@ pub data IsFault (ends : List ℕ → ℕ) (text : List ℕ) : SpecFault → Typ
   in_rules : (sheet : Sheet) (trees : List (Option Regex)) (f : SpecFault) → length text ≤ 1048576 → sheet_of ends text ≡ Ok sheet → AreTrees sheet.names trees →
       IsFirstFault (ground_of sheet trees) (cases sheet.rules) f → IsFault ends text f
 
--- The text has no fault.
-pub record IsClean (ends : List ℕ → ℕ) (text : List ℕ) : Type 0 where
+-- The text has no fault, and this is the specification that it says.
+pub record IsRead (ends : List ℕ → ℕ) (text : List ℕ) (spec : PlainSpec) : Type 0 where
   pub short : length text ≤ 1048576
   pub sheet : Sheet
   pub sections : sheet_of ends text ≡ Ok sheet
   pub trees : List (Option Regex)
   pub read : AreTrees sheet.names trees
   pub clean : HoldsOfNone (Holds (ground_of sheet trees)) (cases sheet.rules)
+  pub saids : List Said
+  pub says : AreSaid sheet.states sheet.rules saids
+  pub is : AreSpec (ground_of sheet trees) sheet.rules saids spec

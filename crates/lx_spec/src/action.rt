@@ -11,14 +11,14 @@ ghost use Rattle.lx_spec.specs.TurnViews.{turn_view, TakesWords};
 
 use crate::bytes::{is_digit, is_identifier};
 use crate::constant::number_below;
-use crate::small::SmallNumber;
+use crate::small::{Identifier, SmallNumber};
 use crate::word::{Word, read_words};
 use std::alloc::{AllocError, Global};
 
 /// What is returned, as it stands in the text.
 #[derive(Clone, Copy)]
 pub enum Value<'a> {
-    Name(&'a [u8]),
+    Name(Identifier<'a>),
     Number(SmallNumber),
 }
 
@@ -71,7 +71,7 @@ fn letters_value(text: &[u8]) -> Option<Value<'_>>
     ensures { option_map value_view result ≡ plain.letters_value text.now }
 {
     if is_identifier(text) {
-        Some(Value::Name(text))
+        Some(Value::Name(Identifier { text }))
     } else if is_decimal(text) {
         match number_below(2147483648, 10, text) {
             Some(value) => Some(Value::Number(SmallNumber { value })),

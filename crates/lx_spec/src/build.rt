@@ -1,122 +1,87 @@
 // The specification that rules without a fault say.
-ghost use Rattle.std.specs.Prelude.{◌≡◌, ℕ, ◌+◌, ◌<◌, ◌≤◌, length, map, IsTrue, IfOk, IfSome, OnOk, vec_len};
-ghost use Rattle.std.specs.List.{list_all};
+ghost use Rattle.std.specs.Prelude.{◌≡◌, Some, ℕ, ◌+◌, ◌<◌, ◌≤◌, length, drop, map, IsTrue, IfOk, OnOk, vec_len, nat_eq};
+ghost use Rattle.std.specs.List.{list_all, list_any, position};
 ghost use Rattle.std.specs.Option.{option_map};
+ghost use Rattle.std.specs.Cmp.Lexicographic.{pointwise};
+ghost use Rattle.lx_spec.specs.ActionViews.{value_view, statements_view, action_view};
+ghost use Rattle.lx_spec.specs.BuildViews.{steps_at_end, steps_before, with_steps};
 ghost use Rattle.lx_spec.specs.ConditionViews.{condition_view};
-ghost use Rattle.lx_spec.specs.SheetViews.{state_view};
-ghost use Rattle.lx_spec.specs.Invariant.{are_plain, are_steps, are_conditions, is_kind, is_rule};
+ghost use Rattle.lx_spec.specs.DictionaryViews.{dictionary_view, IsDictionary};
+ghost use Rattle.lx_spec.specs.First.{HoldsOfNone};
+ghost use Rattle.lx_spec.specs.Outcome as plain;
+ghost use Rattle.lx_spec.specs.Outcome.{AreSaid, AreSpec};
+ghost use Rattle.lx_spec.specs.RuleViews.{rule_view, names_view};
+ghost use Rattle.lx_spec.specs.SaidViews.{said_view};
+ghost use Rattle.lx_spec.specs.SheetViews.{raw_view, state_view, named_view, sheet_view};
+ghost use Rattle.lx_spec.specs.SpecViews.{spec_view};
+ghost use Rattle.lx_spec.specs.TreeViews.{trees_view};
+ghost use Rattle.lx_spec.specs.Verdict.{Holds, cases};
+ghost use Rattle.lx_spec.specs.Whole.{ground_of};
+ghost use Rattle.lx_spec.specs.Invariant.{IsWellFormed};
 
 use crate::action::{Action, Statement, Value};
 use crate::condition::Condition;
-use crate::definition::Definition;
 use crate::dictionary::Dictionary;
-use crate::prefix::condition_number;
+use crate::reach::definitions_of;
 use crate::rule::{Kind, Rule, Step};
-use crate::said::ReadRule;
-use crate::sheet::{Named, RawRule, Sheet, State};
+use crate::said::{ReadRule, number_or_first};
+use crate::sheet::{RawRule, Sheet, State};
 use crate::spec::Spec;
-use lx_ere::expr::Expr;
 use std::alloc::{AllocError, Global};
 
-fn place_of(kinds: &[Vec<u8>], text: &[u8]) -> Option<usize>
-    ensures { IfSome result (λ i. i < length kinds.now) }
+// What some statements return.
+fn returned_by<'t>(statements: &[Statement<'t>]) -> Option<Value<'t>>
+    ensures { option_map value_view result ≡ plain.returned_by (statements_view statements.now) }
 {
-    kinds.iter().position(|kind| kind.as_slice() == text)
-}
-
-// The number of a kind, which is added where it isn't there yet.
-fn kind_number(alloc: Global, kinds: &mut Vec<Vec<u8>>, text: &[u8]) -> Result<u32, AllocError>
-    requires { vec_len kinds.old < 4294967295 }
-    ensures within { IfOk result (λ n. n < vec_len kinds.new) }
-    ensures more { vec_len kinds.old ≤ vec_len kinds.new }
-    ensures one { vec_len kinds.new ≤ vec_len kinds.old + 1 }
-{
-    if let Some(place) = place_of(kinds, text) {
-        return Ok(place as u32);
+    for statement in statements {
+        if let Statement::Return(value) = statement {
+            return Some(*value);
+        }
     }
-    let number = kinds.len() as u32;
-    let kind = Vec::from_slice(alloc, text)?;
-    kinds.push(kind)?;
-    Ok(number)
+    None
 }
 
-fn kind_of(alloc: Global, kinds: &mut Vec<Vec<u8>>, value: Value) -> Result<Kind, AllocError>
-    requires { vec_len kinds.old < 4294967295 }
-    ensures within { IfOk result (λ k. IsTrue (is_kind (vec_len kinds.new) k)) }
-    ensures more { vec_len kinds.old ≤ vec_len kinds.new }
+fn has_kind(kinds: &[Vec<u8>], text: &[u8]) -> bool
+    ensures { result ≡ list_any (λ k. pointwise nat_eq k.items text.now) kinds.now }
+{
+    kinds.iter().any(|kind| kind.as_slice() == text)
+}
+
+// Adds a kind, where it is a name that isn't there yet.
+fn push_kind(alloc: Global, value: Value, kinds: &mut Vec<Vec<u8>>) -> Result<(), AllocError>
+    ensures kinds { OnOk result (names_view kinds.new.items ≡ plain.with_kind (names_view kinds.old.items) (Some (value_view value.entry))) }
     ensures one { vec_len kinds.new ≤ vec_len kinds.old + 1 }
 {
     match value {
-        Value::Name(text) => Ok(Kind::Name(kind_number(alloc, kinds, text)?)),
-        Value::Number(number) => Ok(Kind::Number(number.value)),
-    }
-}
-
-fn begin_number(states: &[State], name: &[u8]) -> u16
-    requires some { 0 < length states.now }
-    requires few { length states.now ≤ 64 }
-    ensures { result < length states.now }
-{
-    match condition_number(states, name) {
-        Some(number) => number as u16,
-        None => 0,
-    }
-}
-
-#[tactic(auto, using(crate::proofs::StepLemmas::step_rules))]
-// Adds the step of a statement, but for a return, whose value it answers.
-fn push_step<'t>(
-    states: &[State],
-    statement: Statement<'t>,
-    steps: &mut Vec<Step>,
-) -> Result<Option<Value<'t>>, AllocError>
-    requires some { 0 < length states.now }
-    requires few { length states.now ≤ 64 }
-    ensures { OnOk result (IsTrue (are_plain (length states.now) steps.old.items) → IsTrue (are_plain (length states.now) steps.new.items)) }
-{
-    match statement {
-        Statement::Nothing => Ok(None),
-        Statement::Echo => {
-            steps.push(Step::Echo)?;
-            Ok(None)
+        Value::Name(name) => {
+            if !has_kind(kinds, name.text) {
+                kinds.push(Vec::from_slice(alloc, name.text)?)?;
+            }
+            Ok(())
         }
-        Statement::Begin(name) => {
-            steps.push(Step::Begin(begin_number(states, name)))?;
-            Ok(None)
-        }
-        Statement::Return(value) => Ok(Some(value)),
+        Value::Number(_) => Ok(()),
     }
 }
 
-#[tactic(auto, using(crate::proofs::StepLemmas::step_rules))]
-// The steps of some statements, up to and with the first return.
-fn steps_of(
+// Adds the kind that is returned, if one is.
+fn push_returned(
     alloc: Global,
-    states: &[State],
+    returned: Option<Value>,
     kinds: &mut Vec<Vec<u8>>,
-    statements: &[Statement],
-) -> Result<Vec<Step>, AllocError>
-    requires some { 0 < length states.now }
-    requires few { length states.now ≤ 64 }
-    requires kinds { vec_len kinds.old < 4294967295 }
-    ensures range { IfOk result (λ steps. IsTrue (are_steps (length states.now) (vec_len kinds.new) steps.items)) }
-    ensures more { vec_len kinds.old ≤ vec_len kinds.new }
+) -> Result<(), AllocError>
+    ensures kinds { OnOk result (names_view kinds.new.items ≡ plain.with_kind (names_view kinds.old.items) (option_map value_view returned.entry)) }
     ensures one { vec_len kinds.new ≤ vec_len kinds.old + 1 }
 {
-    let mut steps = Vec::new(alloc);
-    for statement in statements {
-        if let Some(value) = push_step(states, *statement, &mut steps)? {
-            let kind = kind_of(alloc, kinds, value)?;
-            steps.push(Step::Return(kind))?;
-            return Ok(steps);
-        }
+    match returned {
+        Some(value) => push_kind(alloc, value, kinds),
+        None => Ok(()),
     }
-    Ok(steps)
 }
 
 // The statements of the first action from rule i on that isn't the next rule's.
 fn own_from<'s, 'r>(read: &'s [ReadRule<'r>], i: usize) -> &'s [Statement<'r>]
     requires { i ≤ length read.now }
+    ensures { statements_view result.now ≡ plain.first_own (plain.actions_in (map said_view (drop i read.now))) }
 {
     for rule in &read[i..] {
         if let Action::Own(statements) = &rule.action {
@@ -126,32 +91,94 @@ fn own_from<'s, 'r>(read: &'s [ReadRule<'r>], i: usize) -> &'s [Statement<'r>]
     &[]
 }
 
-// The steps of the rules, in order.
-fn all_steps(
-    alloc: Global,
-    states: &[State],
-    kinds: &mut Vec<Vec<u8>>,
-    read: &[ReadRule],
-) -> Result<Vec<Vec<Step>>, AllocError>
-    requires some { 0 < length states.now }
-    requires few { length states.now ≤ 64 }
-    requires rules { vec_len kinds.old + length read.now < 4294967295 }
-    ensures range { IfOk result (λ lists. IsTrue (list_all (λ steps. are_steps (length states.now) (vec_len kinds.new) steps.items) lists.items)) }
-    ensures len { IfOk result (λ lists. vec_len lists ≡ length read.now) }
+// The names that the rules return, in order of first appearance.
+fn kinds_of(alloc: Global, read: &[ReadRule]) -> Result<Vec<Vec<u8>>, AllocError>
+    ensures kinds { IfOk result (λ kinds. names_view kinds.items ≡ plain.kinds_of (map said_view read.now)) }
+    ensures few { IfOk result (λ kinds. vec_len kinds ≤ length read.now) }
 {
-    let mut lists = Vec::new(alloc);
+    let mut kinds = Vec::new(alloc);
     for i in 0..read.len() {
-        let steps = steps_of(alloc, states, kinds, own_from(read, i))?;
-        lists.push(steps)?;
+        push_returned(alloc, returned_by(own_from(read, i)), &mut kinds)?;
     }
-    Ok(lists)
+    Ok(kinds)
 }
 
-fn rule_of(line: u32, rule: ReadRule, action: Vec<Step>, conditions: usize, kinds: usize) -> Rule
-    requires line { 0 < line }
-    requires listed { IsTrue (are_conditions conditions (option_map (λ v. v.items) rule.conditions)) }
-    requires steps { IsTrue (are_steps conditions kinds action.items) }
-    ensures { IsTrue (is_rule conditions kinds result) }
+fn place_of(kinds: &[Vec<u8>], text: &[u8]) -> Option<usize>
+    ensures { result ≡ position (λ k. pointwise nat_eq k.items text.now) kinds.now }
+{
+    kinds.iter().position(|kind| kind.as_slice() == text)
+}
+
+fn kind_of(kinds: &[Vec<u8>], value: Value) -> Kind
+    requires { length kinds.now ≤ 4096 }
+    ensures { result ≡ plain.kind_of (names_view kinds.now) (value_view value.entry) }
+{
+    match value {
+        Value::Name(name) => Kind::Name(place_of(kinds, name.text).unwrap_or(0) as u32),
+        Value::Number(number) => Kind::Number(number.value),
+    }
+}
+
+// The steps of some statements, up to and with the first return.
+fn steps_of(
+    alloc: Global,
+    states: &[State],
+    kinds: &[Vec<u8>],
+    statements: &[Statement],
+) -> Result<Vec<Step>, AllocError>
+    requires some { 0 < length states.now }
+    requires few { length states.now ≤ 64 }
+    requires kinds { length kinds.now ≤ 4096 }
+    ensures { IfOk result (λ steps. steps.items ≡ plain.steps_of (map state_view states.now) (names_view kinds.now) (statements_view statements.now)) }
+{
+    let mut steps = Vec::new(alloc);
+    for statement in statements {
+        match statement {
+            Statement::Nothing => {}
+            Statement::Echo => steps.push(Step::Echo)?,
+            Statement::Begin(name) => {
+                steps.push(Step::Begin(number_or_first(states, name) as u16))?
+            }
+            Statement::Return(value) => {
+                steps.push(Step::Return(kind_of(kinds, *value)))?;
+                return Ok(steps);
+            }
+        }
+    }
+    Ok(steps)
+}
+
+// The steps of an action, behind which a rule with these steps follows.
+fn steps_before(
+    alloc: Global,
+    states: &[State],
+    kinds: &[Vec<u8>],
+    action: &Action,
+    next: &[Step],
+) -> Result<Vec<Step>, AllocError>
+    requires some { 0 < length states.now }
+    requires few { length states.now ≤ 64 }
+    requires kinds { length kinds.now ≤ 4096 }
+    ensures { IfOk result (λ steps. steps.items ≡ steps_before (map state_view states.now) (names_view kinds.now) (action_view action.now) next.now) }
+{
+    match action {
+        Action::Shared => Vec::from_slice(alloc, next),
+        Action::Own(statements) => steps_of(alloc, states, kinds, statements),
+    }
+}
+
+// The steps of the last rule.
+fn last_steps(rules: &[Rule]) -> &[Step]
+    ensures { result.now ≡ steps_at_end (map rule_view rules.now) }
+{
+    match rules.last() {
+        Some(rule) => &rule.action,
+        None => &[],
+    }
+}
+
+fn rule_of(line: u32, rule: ReadRule, action: Vec<Step>) -> Rule
+    ensures { rule_view result ≡ with_steps line (said_view rule.entry) action.items }
 {
     let ReadRule {
         conditions,
@@ -166,46 +193,29 @@ fn rule_of(line: u32, rule: ReadRule, action: Vec<Step>, conditions: usize, kind
     }
 }
 
-// The rules in the order of the text, where they stand in the other order.
-fn reversed(alloc: Global, rules: Vec<Rule>) -> Result<Vec<Rule>, AllocError>
-    ensures range { (n k : ℕ) → IsTrue (list_all (is_rule n k) rules.items) → IfOk result (λ v. IsTrue (list_all (is_rule n k) v.items)) }
-    ensures len { IfOk result (λ v. vec_len v ≡ vec_len rules) }
-{
-    let mut rest = rules;
-    let mut ordered = Vec::new(alloc);
-    while let Some(rule) = rest.pop() {
-        ordered.push(rule)?;
-    }
-    Ok(ordered)
-}
-
 // The rules, each with its steps.
-fn assemble(
+fn rules_of(
     alloc: Global,
+    states: &[State],
+    kinds: &[Vec<u8>],
     raws: &[RawRule],
     read: Vec<ReadRule>,
-    lists: Vec<Vec<Step>>,
-    conditions: usize,
-    kinds: usize,
 ) -> Result<Vec<Rule>, AllocError>
-    requires same { vec_len lists ≡ vec_len read }
-    requires within { vec_len read ≤ length raws.now }
-    requires listed { IsTrue (list_all (λ r. are_conditions conditions (option_map (λ v. v.items) r.conditions)) read.items) }
-    requires steps { IsTrue (list_all (λ s. are_steps conditions kinds s.items) lists.items) }
-    ensures rules { IfOk result (λ rules. IsTrue (list_all (is_rule conditions kinds) rules.items)) }
-    ensures few { IfOk result (λ rules. vec_len rules ≤ length raws.now) }
+    requires some { 0 < length states.now }
+    requires few { length states.now ≤ 64 }
+    requires kinds { length kinds.now ≤ 4096 }
+    requires same { vec_len read ≡ length raws.now }
+    ensures { IfOk result (λ rules. map rule_view rules.items ≡ plain.rules_of (map state_view states.now) (names_view kinds.now) (map raw_view raws.now) (map said_view read.entry.items)) }
 {
     let mut read = read;
-    let mut lists = lists;
     let mut rules = Vec::new(alloc);
     while let Some(rule) = read.pop() {
-        let Some(action) = lists.pop() else {
-            break;
-        };
         let line = raws[read.len()].line;
-        rules.push(rule_of(line, rule, action, conditions, kinds))?;
+        let action = steps_before(alloc, states, kinds, &rule.action, last_steps(&rules))?;
+        rules.push(rule_of(line, rule, action))?;
     }
-    reversed(alloc, rules)
+    rules.reverse();
+    Ok(rules)
 }
 
 // The conditions, in the order in which they are declared.
@@ -224,30 +234,6 @@ fn conditions_from(alloc: Global, states: &[State]) -> Result<Vec<Condition>, Al
     Ok(conditions)
 }
 
-// The definitions that have a reading, in the order of the text.
-fn definitions_from(
-    alloc: Global,
-    named: &[Named],
-    trees: Vec<Option<Expr>>,
-) -> Result<Vec<Definition>, AllocError>
-    requires { vec_len trees ≡ length named.now }
-    ensures { IfOk result (λ v. vec_len v ≤ length named.now) }
-{
-    let mut rest = trees;
-    let mut backwards = Vec::new(alloc);
-    while let Some(tree) = rest.pop() {
-        if let Some(expr) = tree {
-            let name = Vec::from_slice(alloc, named[rest.len()].name)?;
-            backwards.push(Definition { name, expr })?;
-        }
-    }
-    let mut definitions = Vec::new(alloc);
-    while let Some(definition) = backwards.pop() {
-        definitions.push(definition)?;
-    }
-    Ok(definitions)
-}
-
 /// The specification that the rules of a sheet say.
 pub(crate) fn spec_of(
     alloc: Global,
@@ -255,28 +241,16 @@ pub(crate) fn spec_of(
     dictionary: Dictionary,
     read: Vec<ReadRule>,
 ) -> Result<Spec, AllocError>
-    requires trees { vec_len dictionary.trees ≡ vec_len sheet.now.names }
-    requires rules { vec_len read ≡ vec_len sheet.now.rules }
-    requires listed { IsTrue (list_all (λ r. are_conditions (vec_len sheet.now.states) (option_map (λ v. v.items) r.conditions)) read.items) }
-    ensures { IfOk result (λ s. map condition_view s.conditions.items ≡ map state_view sheet.now.states.items) }
+    requires sheet { IsWellFormed (sheet_view sheet.now) }
+    requires dictionary { IsDictionary (map named_view sheet.now.names.items) (dictionary_view dictionary) }
+    requires says { AreSaid (map state_view sheet.now.states.items) (map raw_view sheet.now.rules.items) (map said_view read.items) }
+    requires clean { HoldsOfNone (Holds (ground_of (sheet_view sheet.now) (trees_view dictionary.trees.items))) (cases (map raw_view sheet.now.rules.items)) }
+    ensures { IfOk result (λ s. AreSpec (ground_of (sheet_view sheet.now) (trees_view dictionary.trees.items)) (map raw_view sheet.now.rules.items) (map said_view read.entry.items) (spec_view s)) }
 {
-    let Dictionary {
-        trees,
-        mentions: _,
-        incomplete: _,
-    } = dictionary;
-    let mut kinds = Vec::new(alloc);
-    let lists = all_steps(alloc, &sheet.states, &mut kinds, &read)?;
-    let rules = assemble(
-        alloc,
-        &sheet.rules,
-        read,
-        lists,
-        sheet.states.len(),
-        kinds.len(),
-    )?;
+    let kinds = kinds_of(alloc, &read)?;
+    let definitions = definitions_of(alloc, &sheet.names, dictionary, &read)?;
+    let rules = rules_of(alloc, &sheet.states, &kinds, &sheet.rules, read)?;
     let conditions = conditions_from(alloc, &sheet.states)?;
-    let definitions = definitions_from(alloc, &sheet.names, trees)?;
     Ok(Spec {
         conditions,
         definitions,

@@ -17,6 +17,7 @@ pub mod graph;
 pub mod line;
 pub mod outlook;
 pub mod prefix;
+pub mod reach;
 pub mod read;
 pub mod rule;
 pub mod rule_line;

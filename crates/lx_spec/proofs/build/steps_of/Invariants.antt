@@ -1,7 +1,11 @@
-use Rattle.std.proofs.Common.{◌≡◌, ◌≤◌, length, vec_len}
-use Rattle.std.specs.Prelude.{IsTrue}
-use Rattle.lx_spec.specs.Invariant.{are_plain}
+use Rattle.std.proofs.Common.{◌≡◌, ◌++◌, map, drop}
+use Rattle.lx_spec.specs.ActionViews.{statement_view}
+use Rattle.lx_spec.specs.RuleViews.{names_view}
+use Rattle.lx_spec.specs.SheetViews.{state_view}
+use Rattle.lx_spec.specs.Outcome as plain
 use Rattle.lx_spec.proofs.build.steps_of.Given as goal
 
 abbrev pub invariant-loop-statement : goal.invariant-loop-statement
-invariant-loop-statement l = IsTrue (are_plain (length l.states) l.steps.items)
+invariant-loop-statement l =
+    l.steps.items ++ plain.steps_of (map state_view l.states) (names_view l.kinds) (map statement_view (drop l.statement-index l.statements))
+    ≡ plain.steps_of (map state_view l.states) (names_view l.kinds) (map statement_view l.statements)

@@ -1,0 +1,74 @@
+-- The rules of a specification, from the last one to the first.
+use Rattle.std.proofs.Common.{◌≡◌, ◌∙◌, ℕ, zero, suc, ◌+◌, ◌-◌, ◌<◌, ◌≤◌, List, [], ◌∷◌, ◌++◌, length, map, take, drop, get_or, Option, Some, None, refl, ap, sym, subst, arith}
+use Rattle.std.specs.Prelude.{slice_get, reverse}
+use Rattle.std.proofs.lemmas.List.{reverse-append}
+use Rattle.lx_spec.specs.Sections.{State, RawRule}
+use Rattle.lx_spec.specs.Actions.{Action, Statement, shared, own}
+use Rattle.lx_spec.specs.Outcome.{Said, PlainRule, actions_in, first_own, steps_of, rules_of, with_kind, returned_by, kinds_behind, statements_in}
+use Rattle.lx_spec.specs.BuildViews.{steps_at_end, steps_before}
+use Rattle.lx_spec.specs.RuleViews.{rule_view}
+use Rattle.lx_spec.specs.SaidViews.{said_view}
+use Rattle.lx_spec.specs.declared.said.ReadRule.{ReadRule}
+use Rattle.lx_spec.specs.declared.rule.Rule.{Rule}
+use Rattle.lx_spec.specs.declared.rule.Step.{Step}
+
+last-at : (x : Rule) (rules : List Rule) (r : Rule) → slice_get (x ∷ rules) (length rules) ≡ Some r → steps_at_end (map rule_view (x ∷ rules)) ≡ r.action.items
+last-at x [] r e = let same : x ≡ r = cc in ap (λ (y : Rule). y.action.items) same
+last-at x (y ∷ rules) r e = last-at y rules r e
+
+-- the steps of the last rule
+pub last-rule : (rules : List Rule) (r : Rule) → slice_get rules (length rules - 1) ≡ Some r → steps_at_end (map rule_view rules) ≡ r.action.items
+last-rule [] r e = cc
+last-rule (x ∷ rules) r e = last-at x rules r (subst (λ (n : ℕ). slice_get (x ∷ rules) n ≡ Some r) (omega arith) e)
+
+pub end-push : (rules : List PlainRule) (r : PlainRule) → steps_at_end (rules ++ r ∷ []) ≡ r.steps
+end-push [] r = refl
+end-push (x ∷ []) r = refl
+end-push (x ∷ y ∷ rules) r = end-push (y ∷ rules) r
+
+pub before-is : (states : List State) (kinds : List (List ℕ)) (a : Action) (actions : List Action) (next : List Step) → next ≡ steps_of states kinds (first_own actions) → steps_before states kinds a next ≡ steps_of states kinds (first_own (a ∷ actions))
+before-is states kinds shared actions next e = e
+before-is states kinds (own ss) actions next e = refl
+
+-- what stands from place i on, where an element stands there
+pub drop-item : {X : Type 0} (xs : List X) (i : ℕ) (d : X) → i < length xs → drop i xs ≡ get_or xs i d ∷ drop (suc i) xs
+drop-item [] i d less = absurd (omega arith)
+drop-item (x ∷ xs) zero d less = refl
+drop-item (x ∷ xs) (suc i) d less = drop-item xs i d (omega arith)
+
+-- what stands from place n on, where what stands before the next place is known
+pub drop-last : {X : Type 0} (all front : List X) (x : X) (n : ℕ) → length front ≡ n → front ++ x ∷ [] ≡ take (suc n) all → drop n all ≡ x ∷ drop (suc n) all
+drop-last {X} [] [] x zero len e = cc
+drop-last {X} (y ∷ all) [] x zero len e = let same : x ≡ y = cc in ap (λ (z : X). z ∷ all) (sym same)
+drop-last {X} all [] x (suc n) len e = absurd (omega arith)
+drop-last {X} all (z ∷ front) x zero len e = absurd (omega arith)
+drop-last {X} [] (z ∷ front) x (suc n) len e = let no : z ∷ (front ++ x ∷ []) ≡ [] = e in cc
+drop-last {X} (y ∷ all) (z ∷ front) x (suc n) len e = drop-last all front x n (omega arith) (let tails : front ++ x ∷ [] ≡ take (suc n) all = cc in tails)
+
+pub take-front : {X : Type 0} (all front : List X) (x : X) (n : ℕ) → length front ≡ n → front ++ x ∷ [] ≡ take (suc n) all → front ≡ take n all
+take-front {X} all [] x zero len e = refl
+take-front {X} all [] x (suc n) len e = absurd (omega arith)
+take-front {X} all (z ∷ front) x zero len e = absurd (omega arith)
+take-front {X} [] (z ∷ front) x (suc n) len e = let no : z ∷ (front ++ x ∷ []) ≡ [] = e in cc
+take-front {X} (y ∷ all) (z ∷ front) x (suc n) len e = let same : z ≡ y = cc in
+    ap (λ (w : X). w ∷ front) same ∙ ap (λ (l : List X). y ∷ l) (take-front all front x n (omega arith) (let tails : front ++ x ∷ [] ≡ take (suc n) all = cc in tails))
+
+pub reverse-push : {X : Type 0} (xs : List X) (x : X) → reverse (xs ++ x ∷ []) ≡ x ∷ reverse xs
+reverse-push xs x = reverse-append xs (x ∷ [])
+
+-- one more rule before those from place n + 1 on
+pub rules-more : (states : List State) (kinds : List (List ℕ)) (raws : List RawRule) (saids : List Said) (raw : RawRule) (s : Said) (raw-rest : List RawRule) (said-rest : List Said) (rule : PlainRule) (rules : List PlainRule) →
+    raws ≡ raw ∷ raw-rest → saids ≡ s ∷ said-rest → rules ≡ rules_of states kinds raw-rest said-rest →
+    rule ≡ record { line = raw.line; conditions = s.conditions; reading = s.reading; steps = steps_of states kinds (first_own (actions_in (s ∷ said-rest))) } →
+    rule ∷ rules ≡ rules_of states kinds raws saids
+rules-more states kinds raws saids raw s raw-rest said-rest rule rules e f g h =
+    ap (λ (r : PlainRule). r ∷ rules) h ∙ ap (λ (l : List PlainRule). record { line = raw.line; conditions = s.conditions; reading = s.reading; steps = steps_of states kinds (first_own (actions_in (s ∷ said-rest))) } ∷ l) g
+    ∙ ap (λ (l : List RawRule). rules_of states kinds l (s ∷ said-rest)) (sym e) ∙ ap (λ (l : List Said). rules_of states kinds raws l) (sym f)
+
+-- one more rule whose kind was added
+pub kinds-next : (read : List ReadRule) (i : ℕ) (old new : List (List ℕ)) (all : List (List ℕ)) → i < length read →
+    new ≡ with_kind old (returned_by (first_own (actions_in (map said_view (drop i read))))) →
+    kinds_behind old (statements_in (map said_view (drop i read))) ≡ all → kinds_behind new (statements_in (map said_view (drop (suc i) read))) ≡ all
+kinds-next [] i old new all less e f = absurd (omega arith)
+kinds-next (r ∷ read) zero old new all less e f = ap (λ (k : List (List ℕ)). kinds_behind k (statements_in (map said_view read))) e ∙ f
+kinds-next (r ∷ read) (suc i) old new all less e f = kinds-next read i old new all (omega arith) e f

@@ -1,0 +1,143 @@
+// Which definitions rules reach, and the list of them.
+ghost use Rattle.std.specs.Prelude.{◌≡◌, ℕ, suc, ◌<◌, ◌≤◌, ◌↔◌, ◌∷◌, List, Option, Some, false, map, reverse, length, IfOk, OnOk, IsTrue, Contains, vec_len, slice_get, slice_index};
+ghost use Rattle.std.specs.List.{flat_map};
+ghost use Rattle.lx_ere.specs.Regex.{Regex};
+ghost use Rattle.lx_spec.specs.Dictionary.{row_of, mention_of, is_unreadable, unreadable_marks};
+ghost use Rattle.lx_spec.specs.DictionaryViews.{dictionary_view, IsDictionary};
+ghost use Rattle.lx_spec.specs.Graph.{is_marked};
+ghost use Rattle.lx_spec.specs.Outcome.{IsReached, AreReached, patterns_in};
+ghost use Rattle.lx_spec.specs.RuleViews.{definition_view};
+ghost use Rattle.lx_spec.specs.SaidViews.{said_view};
+ghost use Rattle.lx_spec.specs.Sections as plain;
+ghost use Rattle.lx_spec.specs.SheetViews.{named_view};
+ghost use Rattle.lx_spec.specs.TreeViews.{tree_view, trees_view};
+
+use crate::definition::Definition;
+use crate::dictionary::{Dictionary, push_row};
+use crate::graph::{Mention, spread};
+use crate::said::ReadRule;
+use crate::sheet::Named;
+use lx_ere::expr::Expr;
+use std::alloc::{AllocError, Global};
+
+// The numbers of the definitions that the patterns of rules name.
+fn row_of_all(alloc: Global, named: &[Named], read: &[ReadRule]) -> Result<Vec<usize>, AllocError>
+    ensures { IfOk result (λ row. row.items ≡ flat_map (row_of (map named_view named.now)) (patterns_in (map said_view read.now))) }
+{
+    let mut row = Vec::new(alloc);
+    for i in 0..read.len() {
+        push_row(named, &read[i].pattern.expr, &mut row)?;
+    }
+    Ok(row)
+}
+
+// Each mention turned round: from what is mentioned to what mentions it.
+fn turned(alloc: Global, mentions: &[Mention]) -> Result<Vec<Mention>, AllocError>
+    ensures { IfOk result (λ v. v.items ≡ map (λ m. mention_of m.to m.from) mentions.now) }
+{
+    let mut turned = Vec::new(alloc);
+    for mention in mentions {
+        turned.push(Mention {
+            from: mention.to,
+            to: mention.from,
+        })?;
+    }
+    Ok(turned)
+}
+
+// So many marks, of which those with these numbers are set.
+fn marks_at(alloc: Global, count: usize, numbers: &[usize]) -> Result<Vec<bool>, AllocError>
+    requires { (k : ℕ) → k < length numbers.now → slice_index numbers.now k < count }
+    ensures len { IfOk result (λ marks. vec_len marks ≡ count) }
+    ensures set { IfOk result (λ marks. (i : ℕ) → IsTrue (is_marked marks.items i) ↔ Contains numbers.now i) }
+{
+    let mut marks = vec![in alloc; false; count]?;
+    for j in numbers {
+        marks[*j] = true;
+    }
+    Ok(marks)
+}
+
+// Marks each definition that rules reach.
+fn reached_of(
+    alloc: Global,
+    named: &[Named],
+    dictionary: &Dictionary,
+    read: &[ReadRule],
+) -> Result<Vec<bool>, AllocError>
+    requires { IsDictionary (map named_view named.now) (dictionary_view dictionary.now) }
+    ensures len { IfOk result (λ marks. vec_len marks ≡ length named.now) }
+    ensures reached { IfOk result (λ marks. (i : ℕ) → IsTrue (is_marked marks.items i) ↔ IsReached (map named_view named.now) (trees_view dictionary.now.trees.items) (patterns_in (map said_view read.now)) i) }
+{
+    let row = row_of_all(alloc, named, read)?;
+    let turned = turned(alloc, &dictionary.mentions)?;
+    let marks = marks_at(alloc, named.len(), &row)?;
+    Ok(spread(&turned, marks))
+}
+
+// Adds definition i where it is marked; the definitions stand in the other order.
+fn push_marked(
+    alloc: Global,
+    named: &[Named],
+    marks: &[bool],
+    i: usize,
+    tree: Option<Expr>,
+    backwards: &mut Vec<Definition>,
+) -> Result<(), AllocError>
+    requires named { i < length named.now }
+    requires marks { i < length marks.now }
+    requires readable { IsTrue (is_marked marks.now i) → is_unreadable (tree_view tree) ≡ false }
+    ensures { OnOk result ((d : plain.Named) → slice_get (map named_view named.now) i ≡ Some d → (more : List plain.Named) (trees : List (Option Regex)) →
+        AreReached (λ j. IsTrue (is_marked marks.now j)) (suc i) more trees (map definition_view (reverse backwards.old.items)) →
+        AreReached (λ j. IsTrue (is_marked marks.now j)) i (d ∷ more) (tree_view tree ∷ trees) (map definition_view (reverse backwards.new.items))) }
+{
+    if marks[i] {
+        if let Some(expr) = tree {
+            let name = Vec::from_slice(alloc, named[i].name)?;
+            backwards.push(Definition { name, expr })?;
+        }
+    }
+    Ok(())
+}
+
+// The definitions that are marked, in the order of the text.
+fn marked_of(
+    alloc: Global,
+    named: &[Named],
+    marks: &[bool],
+    trees: Vec<Option<Expr>>,
+) -> Result<Vec<Definition>, AllocError>
+    requires trees { vec_len trees ≡ length named.now }
+    requires marks { length marks.now ≡ length named.now }
+    requires readable { (i : ℕ) → IsTrue (is_marked marks.now i) → is_marked (unreadable_marks (trees_view trees.items)) i ≡ false }
+    ensures { IfOk result (λ v. AreReached (λ j. IsTrue (is_marked marks.now j)) 0 (map named_view named.now) (trees_view trees.items) (map definition_view v.items)) }
+{
+    let mut rest = trees;
+    let mut definitions = Vec::new(alloc);
+    while let Some(tree) = rest.pop() {
+        push_marked(alloc, named, marks, rest.len(), tree, &mut definitions)?;
+    }
+    definitions.reverse();
+    Ok(definitions)
+}
+
+/// The definitions that rules reach, in the order of the text.
+pub(crate) fn definitions_of(
+    alloc: Global,
+    named: &[Named],
+    dictionary: Dictionary,
+    read: &[ReadRule],
+) -> Result<Vec<Definition>, AllocError>
+    requires dictionary { IsDictionary (map named_view named.now) (dictionary_view dictionary) }
+    requires readable { (i : ℕ) → IsReached (map named_view named.now) (trees_view dictionary.trees.items) (patterns_in (map said_view read.now)) i → is_marked (unreadable_marks (trees_view dictionary.trees.items)) i ≡ false }
+    ensures definitions { IfOk result (λ v. AreReached (IsReached (map named_view named.now) (trees_view dictionary.trees.items) (patterns_in (map said_view read.now))) 0 (map named_view named.now) (trees_view dictionary.trees.items) (map definition_view v.items)) }
+    ensures few { IfOk result (λ v. vec_len v ≤ length named.now) }
+{
+    let marks = reached_of(alloc, named, &dictionary, read)?;
+    let Dictionary {
+        trees,
+        mentions: _,
+        incomplete: _,
+    } = dictionary;
+    marked_of(alloc, named, &marks, trees)
+}
