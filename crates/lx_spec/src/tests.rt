@@ -95,6 +95,57 @@ fn conditions_kinds_and_steps_are_read(rt: HostRuntime) {
     }
 }
 
+fn named(rt: &impl Abort, spec: &Spec, place: usize, name: &[u8]) {
+    match spec.definitions.get(place) {
+        Some(found) => assert!(rt; found.name.as_slice() == name),
+        None => panic!(rt; "no such definition"),
+    }
+}
+
+#[test]
+fn definitions_that_rules_reach_are_kept_in_order(rt: HostRuntime) {
+    let alloc = rt.alloc();
+    let text = b"A a\nB {C}+\nC c|{E}\nD (\nE e\n%%\n{E}x ;\n{B} ;\n";
+    let Some(spec) = accepted(&rt, alloc, text) else {
+        return;
+    };
+    assert_eq!(rt; spec.definitions.len(), 3);
+    named(&rt, &spec, 0, b"B");
+    named(&rt, &spec, 1, b"C");
+    named(&rt, &spec, 2, b"E");
+}
+
+#[test]
+fn kinds_stand_in_order_of_first_appearance(rt: HostRuntime) {
+    let alloc = rt.alloc();
+    let text = b"%%\na return B; return D;\nb |\nc return A;\nd { ECHO; return (B); ; }\n";
+    let Some(spec) = accepted(&rt, alloc, text) else {
+        return;
+    };
+    assert_eq!(rt; spec.kinds.len(), 2);
+    returns(&rt, &spec, 0, Kind::Name(0));
+    returns(&rt, &spec, 1, Kind::Name(1));
+    returns(&rt, &spec, 2, Kind::Name(1));
+    returns(&rt, &spec, 3, Kind::Name(0));
+}
+
+#[test]
+fn refused_memory_is_answered_as_such(rt: HostRuntime) {
+    let text = b"%x C\nD [0-9]\nE {D}+\n%%\na |\n<C,0>{E} { ECHO; BEGIN C; return AB; }\n";
+    match read_spec(rt.alloc(), text) {
+        Ok(spec) => {
+            assert_eq!(rt; spec.conditions.len(), 2);
+            assert_eq!(rt; spec.definitions.len(), 2);
+            assert_eq!(rt; spec.kinds.len(), 1);
+            assert_eq!(rt; spec.rules.len(), 2);
+        }
+        Err(fault) => {
+            assert!(rt; fault.code == Code::Memory, "{fault}");
+            assert_eq!(rt; fault.line, 0);
+        }
+    }
+}
+
 #[test]
 fn faults_print_their_code_and_line(rt: HostRuntime) -> Result<(), Fail> {
     let text = format!(in rt.alloc();
