@@ -4,8 +4,10 @@ use Rattle.std.specs.List.{list_any}
 use Rattle.std.proofs.lemmas.Bool.Decides.{nat_tests}
 use Rattle.std.specs.FinSet as byte_sets
 use Rattle.std.specs.Int.{bit_at}
-use Rattle.std.proofs.lemmas.Nat.Bits.{shr_and_one, bit_at_set_same, bit_at_set_other, bit_at_not, bit_at-lt}
+use Rattle.std.proofs.lemmas.Nat.Bits.{shr_and_one, bit_at_set_same, bit_at_set_other, bit_at_not, bit_at-lt, same_from_bits_below}
 use Rattle.std.proofs.lemmas.Bool.{cases_eq}
+use Rattle.std.specs.Bool.{Decides}
+use Rattle.std.specs.Cmp.Lexicographic.{pointwise, bytes_decides}
 use Rattle.lx_ere.specs.Bytes.{numbers_from, all_bytes, bytes_where, has_bit, is_between, in_ranges}
 
 any_filter : (test : ℕ → Bool) (xs : List ℕ) (q : ℕ) → list_any (λ y. nat_eq y q) (filter test xs) ≡ (test q && list_any (λ y. nat_eq y q) xs)
@@ -169,3 +171,27 @@ ranges_more ranges i d test h = same_where _ (λ b. in_ranges (take (i + 1) rang
     moved true false z = refl
     moved false true z = refl
     moved false false z = refl
+
+-- words that make one set have the same bits, so each word of one is that of the other
+same_word : (v w : List ℕ) (k : ℕ) → k < 4 → get_or v k 0 < 2 ^ 64 → get_or w k 0 < 2 ^ 64 → bytes_where (has_bit v) ≡ bytes_where (has_bit w) → get_or v k 0 ≡ get_or w k 0
+same_word v w k within fits_v fits_w e = same_from_bits_below 64 (get_or v k 0) (get_or w k 0) fits_v fits_w (λ i lt. same_bit i lt)
+  where
+    one_bit : (m n : ℕ) → m < 2 → n < 2 → nat_eq m 1 ≡ nat_eq n 1 → m ≡ n
+    one_bit m n below_m below_n same = grind (arith, nat_tests)
+
+    same_bit : (i : ℕ) → i < 64 → bit_at (get_or v k 0) i ≡ bit_at (get_or w k 0) i
+    same_bit i lt =
+        let word : (k * 64 + i) / 64 ≡ k = omega arith in
+        let place : (k * 64 + i) % 64 ≡ i = omega arith in
+        let at : has_bit v (k * 64 + i) ≡ has_bit w (k * 64 + i) = agree (has_bit v) (has_bit w) e (k * 64 + i) (omega arith) in
+        one_bit (bit_at (get_or v k 0) i) (bit_at (get_or w k 0) i) (bit_at-lt (get_or v k 0) i) (bit_at-lt (get_or w k 0) i) (rw (word, place) at at)
+
+-- four words are equal exactly where they make one set
+pub words_decide : (v w : List ℕ) → length v ≡ 4 → length w ≡ 4 → ((k : ℕ) → k < 4 → get_or v k 0 < 2 ^ 64) → ((k : ℕ) → k < 4 → get_or w k 0 < 2 ^ 64) →
+    Decides (pointwise nat_eq v w) (bytes_where (has_bit v) ≡ bytes_where (has_bit w))
+words_decide v w four_v four_w fits_v fits_w = (λ e. ap (λ words. bytes_where (has_bit words)) ((bytes_decides v w).0 e), λ e. (bytes_decides v w).1 (same e))
+  where
+    same : bytes_where (has_bit v) ≡ bytes_where (has_bit w) → v ≡ w
+    same e =
+        let at : (k : ℕ) → k < 4 → get_or v k 0 ≡ get_or w k 0 = λ k lt. same_word v w k lt (fits_v k lt) (fits_w k lt) e in
+        four_words v four_v ∙ ((λ i. at 0 (omega arith) i ∷ at 1 (omega arith) i ∷ at 2 (omega arith) i ∷ at 3 (omega arith) i ∷ []) ∙ sym (four_words w four_w))

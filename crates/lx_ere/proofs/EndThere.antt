@@ -1,5 +1,5 @@
 -- Behind each text stands something: strings, marks, brackets and patterns end, at the text's end at the latest.
-use Rattle.std.proofs.Common.{◌≡◌, ◌≢◌, ℕ, zero, suc, ◌+◌, ◌-◌, ◌≤◌, ◌<◌, Bool, true, false, ◌&&◌, ◌||◌, nat_eq, List, [], ◌∷◌, length, drop, refl, sym, ap, subst, arith, eqb-true, ne_eqb, eq-eqb, ◌∙◌, length-drop, if◌then◌else◌}
+use Rattle.std.proofs.Common.{◌≡◌, ◌≢◌, ℕ, zero, suc, ◌-◌, ◌≤◌, Bool, true, false, ◌&&◌, ◌||◌, nat_eq, List, [], ◌∷◌, length, drop, refl, sym, arith, eqb-true, eq-eqb, ◌∙◌, length-drop, if◌then◌else◌}
 use Rattle.std.proofs.lemmas.Bool.{and_parts, true≢false}
 use Rattle.lx_ere.specs.Brackets.{begins_with, opens_inner}
 use Rattle.lx_ere.specs.PatternEnd.{BehindQuotes, quote_closes, quote_open, quote_escape, quote_slash, quote_byte, BehindMark, mark_closes, mark_open, mark_byte, BehindBrackets, bracket_closes, bracket_open, bracket_escape, bracket_slash, bracket_inner, bracket_byte, BehindPattern, at_end, at_blank, past_escape, past_slash, past_quotes, past_brackets, past_byte, IsPatternEnd, skip_first, is_blank}

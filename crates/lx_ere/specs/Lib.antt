@@ -13,3 +13,5 @@ pub mod Tokens
 pub mod Lexemes
 pub mod Groups
 pub mod PatternEnd
+pub mod Equality
+pub mod EqualityLaws

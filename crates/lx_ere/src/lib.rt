@@ -2,6 +2,8 @@
 #![tactic(auto)]
 
 mod bracket;
+#[cfg(test)]
+mod equality_tests;
 mod escape;
 pub mod expr;
 pub mod extent;

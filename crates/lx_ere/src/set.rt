@@ -24,6 +24,33 @@ impl Model for ByteSet {
     ghost view = { λ s. bytes_where (has_bit s.words) };
 }
 
+impl PartialEq for ByteSet {
+    ghost use Rattle.std.specs.Prelude.{◌↔◌, IsTrue};
+    ghost use Rattle.std.specs.Cmp.{partial_equiv_from_equiv};
+    ghost use Rattle.lx_ere.specs.Equality.{same_sets};
+    ghost use Rattle.lx_ere.specs.EqualityLaws.{sets_equivalence};
+
+    ghost eq = { same_sets };
+
+    ghost laws = { partial_equiv_from_equiv sets_equivalence };
+
+    /// Whether the two have the same bytes.
+    fn eq(&self, other: &ByteSet) -> bool
+        ensures value { result ≡ same_sets self.now other.now }
+        ensures same { IsTrue result ↔ (self.now ≡ other.now) }
+    {
+        let words = self.words.as_slice();
+        let others = other.words.as_slice();
+        words == others
+    }
+}
+
+impl Eq for ByteSet {
+    ghost use Rattle.lx_ere.specs.EqualityLaws.{sets_equivalence};
+
+    ghost laws = { sets_equivalence };
+}
+
 impl ByteSet {
     ghost use Rattle.lx_ere.specs.Bytes.{bytes_where, byte_set, is_between, in_ranges};
 

@@ -4,6 +4,8 @@ ghost use Rattle.lx_piece.specs.Plans.{files_of};
 ghost use Rattle.lx_piece.specs.Pieces.{IsPieceOf};
 ghost use Rattle.lx_piece.specs.Arrivals.{AreHonest};
 
+mod memory;
+
 use super::*;
 use std::alloc::{AllocError, Global};
 use std::process::Abort;
