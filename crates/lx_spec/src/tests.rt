@@ -130,6 +130,49 @@ fn kinds_stand_in_order_of_first_appearance(rt: HostRuntime) {
 }
 
 #[test]
+fn a_name_may_stand_for_another_twice_31_times(rt: HostRuntime) -> Result<(), Fail> {
+    let mut text = String::from_str(rt.alloc(), "N0 a\n")?;
+    for name in 1..32u32 {
+        let before = name.saturating_sub(1);
+        let line = format!(in rt.alloc(); "N{name} {{N{before}}}{{N{before}}}\n")?;
+        text.push_str(line.as_str())?;
+    }
+    text.push_str("%%\n{N31} ;\n")?;
+    if let Some(spec) = accepted(&rt, rt.alloc(), text.as_bytes()) {
+        assert_eq!(rt; spec.definitions.len(), 32);
+    }
+    Ok(())
+}
+
+#[test]
+fn lines_without_effect_are_counted(rt: HostRuntime) {
+    let text = b"/* note\nmore */\n%option noyywrap\n%%\na return A;\n%%\n}{\n";
+    if let Some(spec) = accepted(&rt, rt.alloc(), text) {
+        assert!(rt; spec.rules.first().map(|rule| rule.line) == Some(5));
+    }
+}
+
+#[test]
+fn cr_lf_reads_as_lf(rt: HostRuntime) {
+    let alloc = rt.alloc();
+    let plain = accepted(&rt, alloc, b"D [0-9]\n%%\na{D}+ return ID;\n. ;\n");
+    let other = accepted(&rt, alloc, b"D [0-9]\r\n%%\r\na{D}+ return ID;\r\n. ;\r\n");
+    let (Some(plain), Some(other)) = (plain, other) else {
+        return;
+    };
+    assert_eq!(rt; plain.rules.len(), other.rules.len());
+    for (rule, same) in plain.rules.iter().zip(other.rules.iter()) {
+        assert_eq!(rt; rule.line, same.line);
+        assert!(rt; rule.pattern == same.pattern);
+        assert!(rt; rule.action.as_slice() == same.action.as_slice());
+    }
+    for (definition, same) in plain.definitions.iter().zip(other.definitions.iter()) {
+        assert!(rt; definition.name.as_slice() == same.name.as_slice());
+        assert!(rt; definition.expr == same.expr);
+    }
+}
+
+#[test]
 fn refused_memory_is_answered_as_such(rt: HostRuntime) {
     let text = b"%x C\nD [0-9]\nE {D}+\n%%\na |\n<C,0>{E} { ECHO; BEGIN C; return AB; }\n";
     match read_spec(rt.alloc(), text) {
