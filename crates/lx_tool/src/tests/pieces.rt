@@ -62,8 +62,17 @@ fn a_file_has_as_many_pieces_as_its_items_fill(rt: HostRuntime) -> Result<(), Fa
     let alloc = rt.alloc();
     let bytes = [b'a'; 512];
     assert_eq!(rt; echoed(alloc, b"")?, [Some((0, true)), None, None]);
-    assert_eq!(rt; echoed(alloc, &bytes[..256])?, [Some((256, true)), None, None]);
-    assert_eq!(rt; echoed(alloc, &bytes[..257])?, [Some((256, false)), Some((1, true)), None]);
-    assert_eq!(rt; echoed(alloc, &bytes)?, [Some((256, false)), Some((256, true)), None]);
+    assert_eq!(rt;
+        echoed(alloc, &bytes[..256])?,
+        [Some((256, true)), None, None]
+    );
+    assert_eq!(rt;
+        echoed(alloc, &bytes[..257])?,
+        [Some((256, false)), Some((1, true)), None]
+    );
+    assert_eq!(rt;
+        echoed(alloc, &bytes)?,
+        [Some((256, false)), Some((256, true)), None]
+    );
     Ok(())
 }
