@@ -1,4 +1,4 @@
-use Rattle.std.proofs.Common.{◌≡◌, ℕ, List, [], sym, subst, ◌∙◌}
+use Rattle.std.proofs.Common.{sym, subst}
 use Rattle.std.proofs.lemmas.Result.{err_from_is_err_and}
 use Rattle.lx_tool.specs.Sources.{IsFirstNamed, NoneIsNamed}
 use Rattle.lx_tool.proofs.SourceLemmas.{shown_within, named_at, none_more, first_named, none_at_all}
