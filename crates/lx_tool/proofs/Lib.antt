@@ -13,6 +13,7 @@ pub mod Queues
 pub mod RuleSteps
 pub mod Runs
 pub mod SetLemmas
+pub mod SourceLemmas
 pub mod Steps
 pub mod TestPieces
 pub mod Weights

@@ -1,12 +1,12 @@
 -- What a name stands for, definition by definition.
-use Rattle.std.proofs.Common.{◌≡◌, ℕ, zero, suc, ◌+◌, ◌-◌, ◌<◌, ◌≤◌, ◌⊎◌, inl, inr, List, [], ◌∷◌, length, refl, sym, ap, subst, arith, Some, None, Option}
+use Rattle.std.proofs.Common.{◌≡◌, ℕ, zero, suc, ◌+◌, ◌-◌, ◌<◌, ◌≤◌, ◌⊎◌, inl, inr, List, length, subst, arith, Some}
 use Rattle.std.specs.Prelude.{slice_get}
 use Rattle.std.proofs.lemmas.Bool.{cases_lt}
 use Rattle.std.proofs.lemmas.Option.{slice_get_within}
 use Rattle.lx_ere.specs.Regex.{regex_of}
 use Rattle.lx_ere.specs.Matching.{Matches}
 use Rattle.lx_spec.specs.declared.definition.Definition.{Definition}
-use Rattle.lx_spec.specs.Names.{Defines, DefinedMatches, NameMatches}
+use Rattle.lx_spec.specs.Names.{DefinedMatches, NameMatches}
 
 -- the word is one of what one of the first k definitions has under this name
 pub record DefinedBelow (inner : List ℕ → List ℕ → Type 0) (definitions : List Definition) (name : List ℕ) (k : ℕ) (word : List ℕ) : Type 0 where

@@ -1,11 +1,11 @@
 -- A text has one list of items: one choice at each place, and so one match, and one run.
-use Rattle.std.proofs.Common.{◌≡◌, ℕ, ◌+◌, ◌<◌, ◌≤◌, ◌⊎◌, inl, inr, Bool, true, false, List, [], ◌∷◌, Option, Some, None, length, drop, refl, sym, ap, ap₂, subst, ◌∙◌, arith, if◌then◌else◌}
+use Rattle.std.proofs.Common.{◌≡◌, ℕ, ◌+◌, ◌<◌, ◌≤◌, inl, inr, Bool, true, false, List, [], ◌∷◌, Option, Some, None, length, drop, refl, sym, ap, ap₂, subst, ◌∙◌, arith, if◌then◌else◌}
 use Rattle.std.specs.Prelude.{slice_get, flat_map}
 use Rattle.std.specs.Option.{option_map}
 use Rattle.lx_spec.specs.declared.rule.Rule.{Rule}
 use Rattle.lx_spec.specs.declared.rule.Step.{Step}
 use Rattle.lx_spec.specs.declared.spec.Spec.{Spec}
-use Rattle.lx_spec.specs.Choice.{IsChoice, IsChosen, Fits, reach}
+use Rattle.lx_spec.specs.Choice.{IsChoice, IsChosen, reach}
 use Rattle.lx_piece.specs.declared.item.Item.{Item}
 use Rattle.lx_tool.specs.declared.scanner.Place.{Place}
 use Rattle.lx_tool.specs.declared.scanner.Match.{Match}

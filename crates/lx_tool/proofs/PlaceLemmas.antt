@@ -1,12 +1,10 @@
 -- Places that words of a language lead to: one language behind another, repeats, and the closing of a set.
-use Rattle.std.proofs.Common.{◌≡◌, ℕ, zero, suc, ◌+◌, ◌-◌, ◌<◌, ◌≤◌, ◌⊎◌, ◌↔◌, inl, inr, Bool, true, false, List, [], ◌∷◌, ◌++◌, Option, Some, None, length, drop, take, refl, sym, ap, subst, ◌∙◌, arith, append_assoc, append-nil, length-append, drop-drop, add-zero, true≢false, not, ◌||◌, ◌&&◌, length-drop}
+use Rattle.std.proofs.Common.{◌≡◌, ℕ, zero, suc, ◌+◌, ◌-◌, ◌<◌, ◌≤◌, ◌⊎◌, inl, inr, Bool, true, false, List, [], ◌∷◌, ◌++◌, Some, None, length, drop, take, refl, sym, ap, subst, ◌∙◌, arith, append_assoc, append-nil, length-append, drop-drop, add-zero, true≢false, not, ◌||◌, ◌&&◌, length-drop}
 use Rattle.std.proofs.Math.Seq.{drop-append_seam}
 use Rattle.std.proofs.lemmas.Bool.{cases_lt, or_cases, or_left, or_right, and_parts}
 use Rattle.std.specs.Ordering.{nat_cmp}
 use Rattle.std.specs.BTreeSet.{BTreeSet, contains}
 use Rattle.std.specs.FinSet as set
-use Rattle.std.specs.List.{list_any, IsDistinct}
-use Rattle.std.specs.Ordering.{eq_by_cmp}
 use Rattle.std.specs.BTreeMap.{is_at}
 use Rattle.std.specs.BTreeSet.{btree_set_len, IsOrdered}
 use Rattle.std.proofs.Common.{slice_index, nat_lt, nat_eq, ltb-true, lt-ltb, ap₂, if◌then◌else◌, ◌*◌}

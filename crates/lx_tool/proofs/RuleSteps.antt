@@ -1,6 +1,6 @@
 -- What the steps of a rule lead to: a condition and kinds that are there, and the place behind a match.
-use Rattle.std.proofs.Common.{◌≡◌, ℕ, zero, suc, ◌+◌, ◌-◌, ◌<◌, ◌≤◌, Bool, true, false, ◌&&◌, nat_eq, nat_lt, IsTrue, List, [], ◌∷◌, ◌++◌, Option, Some, None, MatchOption, length, take, drop, map, All, refl, sym, ap, subst, ◌∙◌, arith, ltb-true, length-drop}
-use Rattle.std.specs.Prelude.{slice_get, slice_index, slice_index_or, flat_map}
+use Rattle.std.proofs.Common.{◌≡◌, ℕ, zero, suc, ◌+◌, ◌-◌, ◌<◌, ◌≤◌, Bool, true, ◌&&◌, nat_eq, nat_lt, List, [], ◌∷◌, Option, Some, None, length, drop, map, All, refl, sym, ap, subst, arith, ltb-true, length-drop}
+use Rattle.std.specs.Prelude.{slice_get, slice_index, slice_index_or}
 use Rattle.std.specs.List.{list_all}
 use Rattle.std.specs.Option.{option_map, ForSome}
 use Rattle.std.proofs.lemmas.Bool.{and_parts, true≢false}
@@ -12,12 +12,12 @@ use Rattle.lx_spec.specs.declared.rule.Rule.{Rule}
 use Rattle.lx_spec.specs.declared.rule.Step.{Step}
 use Rattle.lx_spec.specs.declared.rule.Step.TheVariants.{Echo, Begin, Return}
 use Rattle.lx_spec.specs.declared.spec.Spec.{Spec}
-use Rattle.lx_spec.specs.Choice.{IsChoice, IsChosen}
+use Rattle.lx_spec.specs.Choice.{IsChoice}
 use Rattle.lx_spec.specs.Invariant.{are_steps, is_kind, is_rule, are_conditions}
 use Rattle.lx_piece.specs.Items.{IsItemOf, IsKindAmong}
 use Rattle.lx_tool.specs.declared.scanner.Place.{Place}
 use Rattle.lx_tool.specs.declared.scanner.Match.{Match}
-use Rattle.lx_tool.specs.Items.{actions_of, condition_after, items_of_steps, steps_of, place_after, IsNext, GoesOn}
+use Rattle.lx_tool.specs.Items.{actions_of, condition_after, items_of_steps, steps_of, GoesOn}
 
 -- a condition that steps lead to is one of those that are there
 condition_known : (steps : List Step) (condition conditions kinds : ℕ) → condition < conditions → are_steps conditions kinds steps ≡ true → condition_after steps condition < conditions

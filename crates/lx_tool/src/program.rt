@@ -1,6 +1,8 @@
 //! The program `lx`, but for the real files and streams.
 
-ghost use Rattle.std.specs.Prelude.{◌≡◌, IfOk, vec_len, length};
+ghost use Rattle.std.specs.Prelude.{◌≡◌, ◌<◌, ◌≤◌, IfOk, IfErr, vec_len, length};
+ghost use Rattle.std.specs.Io.KnownBytes.{Keeps};
+ghost use Rattle.lx_tool.specs.Statuses.{status_of};
 
 use crate::command_line::{ITEMS, Order, Refusal, RunOrder, read_words};
 use crate::planning::list_files;
@@ -44,7 +46,9 @@ enum Failure<'a> {
 
 impl Failure<'_> {
     // The exit status.
-    fn status(&self) -> u8 {
+    fn status(&self) -> u8
+        ensures { result ≡ status_of self.now }
+    {
         match self {
             Failure::Specification(_) => 1,
             Failure::Words(_) | Failure::TooManyFiles => 2,
@@ -68,6 +72,11 @@ impl<T: Drop> From<AllocFailed<T>> for Failure<'_> {
 }
 
 impl From<RunFault> for Failure<'_> {
+    ghost use Rattle.std.specs.Prelude.{◌≤◌};
+    ghost use Rattle.lx_tool.specs.Statuses.{status_of};
+
+    ghost from_gives = { λ _ failure. 4 ≤ status_of failure };
+
     fn from(fault: RunFault) -> Self {
         match fault {
             RunFault::Memory => Failure::Memory,
@@ -96,7 +105,11 @@ pub fn run<R, S: Sources, O: Write, E: Write>(
     sources: &mut S,
     out: &mut O,
     err: &mut E,
-) -> u8 {
+) -> u8
+    ensures known { result ≤ 5 }
+    // Where the specification, the command line or a file is refused, nothing was written.
+    ensures refused { 0 < result → result < 4 → Keeps (O.contents out.old) (O.contents out.new) }
+{
     match obey(alloc, words, sources, out) {
         Ok(()) => 0,
         Err(failure) => {
@@ -116,7 +129,9 @@ fn obey<'a, S: Sources, O: Write>(
     words: &'a [String],
     sources: &mut S,
     out: &mut O,
-) -> Result<(), Failure<'a>> {
+) -> Result<(), Failure<'a>>
+    ensures { IfErr result (λ failure. status_of failure < 4 → Keeps (O.contents out.old) (O.contents out.new)) }
+{
     match read_words(alloc, words) {
         Ok(Order::Stored) => list(
             alloc,
@@ -138,7 +153,9 @@ fn list<'a, S: Sources, O: Write>(
     order: &RunOrder<'a>,
     sources: &mut S,
     out: &mut O,
-) -> Result<(), Failure<'a>> {
+) -> Result<(), Failure<'a>>
+    ensures { IfErr result (λ failure. status_of failure < 4 → Keeps (O.contents out.old) (O.contents out.new)) }
+{
     if order.files.len() > MOST_FILES {
         return Err(Failure::TooManyFiles);
     }

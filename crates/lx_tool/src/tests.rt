@@ -6,6 +6,7 @@ use std::test::Fail;
 
 mod commands;
 mod limits;
+mod pieces;
 mod refusals;
 mod rows;
 

@@ -68,3 +68,100 @@ fn text_for_compilers_has_no_effect(rt: HostRuntime) -> Result<(), Fail> {
     lists(&rt, spec, b"a", "0 T A 0 1 a\n")?;
     refuses(&rt, "%option yylineno\n%%\n", "lx: E04 at line 1\n")
 }
+
+/// A text of so many bytes: this one, and one byte again and again behind it.
+fn filled(alloc: Global, front: &str, filler: &str, length: usize) -> Result<String, AllocError> {
+    let mut text = String::from_str(alloc, front)?;
+    for _byte in front.len()..length {
+        text.push_str(filler)?;
+    }
+    Ok(text)
+}
+
+/// The line `%x` with so many names of conditions, and a rule.
+fn some_conditions(alloc: Global, count: u32) -> Result<String, AllocError> {
+    let mut spec = String::from_str(alloc, "%x")?;
+    for number in 1..=count {
+        let name = format!(in alloc; " C{number}")?;
+        spec.push_str(name.as_str())?;
+    }
+    spec.push_str("\n%%\na return A;\n")?;
+    Ok(spec)
+}
+
+#[test]
+fn takes_63_conditions_beside_the_initial_one(rt: HostRuntime) -> Result<(), Fail> {
+    let most = some_conditions(rt.alloc(), 63)?;
+    lists(&rt, most.as_str(), b"a", "0 T A 0 1 a\n")?;
+    let more = some_conditions(rt.alloc(), 64)?;
+    refuses(&rt, more.as_str(), "lx: E06 at line 1\n")
+}
+
+/// So many definitions, and a rule that reaches the last one.
+fn some_definitions(alloc: Global, count: u32) -> Result<String, AllocError> {
+    let mut spec = String::new(alloc);
+    for number in 1..=count {
+        let line = format!(in alloc; "D{number} a\n")?;
+        spec.push_str(line.as_str())?;
+    }
+    let rule = format!(in alloc; "%%\n{{D{count}}} return A;\n")?;
+    spec.push_str(rule.as_str())?;
+    Ok(spec)
+}
+
+#[test]
+fn takes_1024_definitions(rt: HostRuntime) -> Result<(), Fail> {
+    let most = some_definitions(rt.alloc(), 1_024)?;
+    lists(&rt, most.as_str(), b"a", "0 T A 0 1 a\n")?;
+    let more = some_definitions(rt.alloc(), 1_025)?;
+    refuses(&rt, more.as_str(), "lx: E06 at line 1025\n")
+}
+
+/// So many rules, of which the last one alone matches `a`.
+fn some_rules(alloc: Global, count: u32) -> Result<String, AllocError> {
+    let mut spec = String::from_str(alloc, "%%\n")?;
+    for _rule in 1..count {
+        spec.push_str("b ;\n")?;
+    }
+    spec.push_str("a return A;\n")?;
+    Ok(spec)
+}
+
+#[test]
+fn takes_4096_rules(rt: HostRuntime) -> Result<(), Fail> {
+    let most = some_rules(rt.alloc(), 4_096)?;
+    lists(&rt, most.as_str(), b"ab", "0 T A 0 1 a\n")?;
+    let more = some_rules(rt.alloc(), 4_097)?;
+    refuses(&rt, more.as_str(), "lx: E06 at line 4098\n")
+}
+
+/// A bracket expression of so many bytes that matches `a`.
+fn long_bracket(alloc: Global, length: usize) -> Result<String, AllocError> {
+    let mut bracket = filled(alloc, "[", "a", length.saturating_sub(1))?;
+    bracket.push(']')?;
+    Ok(bracket)
+}
+
+#[test]
+fn patterns_and_substitutes_have_at_most_1024_bytes(rt: HostRuntime) -> Result<(), Fail> {
+    let alloc = rt.alloc();
+    let most = long_bracket(alloc, 1_024)?;
+    let more = long_bracket(alloc, 1_025)?;
+    let spec = format!(in alloc; "%%\n{most} return A;\n")?;
+    lists(&rt, spec.as_str(), b"a", "0 T A 0 1 a\n")?;
+    let spec = format!(in alloc; "%%\n{more} return A;\n")?;
+    refuses(&rt, spec.as_str(), "lx: E10 at line 2\n")?;
+    let spec = format!(in alloc; "N {most}\n%%\n{{N}} return A;\n")?;
+    lists(&rt, spec.as_str(), b"a", "0 T A 0 1 a\n")?;
+    let spec = format!(in alloc; "N {more}\n%%\n{{N}} return A;\n")?;
+    refuses(&rt, spec.as_str(), "lx: E10 at line 3\n")
+}
+
+#[test]
+fn specifications_have_at_most_1048576_bytes(rt: HostRuntime) -> Result<(), Fail> {
+    let front = "%%\na return A;\n%%\n";
+    let most = filled(rt.alloc(), front, "x", 1_048_576)?;
+    lists(&rt, most.as_str(), b"a", "0 T A 0 1 a\n")?;
+    let more = filled(rt.alloc(), front, "x", 1_048_577)?;
+    refuses(&rt, more.as_str(), "lx: E01 at line 0\n")
+}

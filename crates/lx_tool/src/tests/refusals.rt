@@ -1,4 +1,4 @@
-use super::refuses;
+use super::{lists, refuses};
 use std::test::Fail;
 
 #[test]
@@ -42,4 +42,10 @@ fn refuses_definitions(rt: HostRuntime) -> Result<(), Fail> {
     refuses(&rt, "x-y 1\n%%\n", "lx: E04 at line 1\n")?;
     refuses(&rt, "D 1\nD 2\n%%\n", "lx: E05 at line 2\n")?;
     refuses(&rt, "%x INITIAL\n%%\n", "lx: E05 at line 1\n")
+}
+
+#[test]
+fn reads_no_substitute_that_no_rule_reaches(rt: HostRuntime) -> Result<(), Fail> {
+    lists(&rt, "A (\n%%\na ;\n", b"a", "")?;
+    refuses(&rt, "A (\n%%\n{A} ;\n", "lx: E10 at line 3\n")
 }

@@ -1,8 +1,7 @@
-use Rattle.std.proofs.Common.{◌≡◌, ℕ, ◌+◌, ◌<◌, ◌≤◌, Some, None, length, refl, arith}
+use Rattle.std.proofs.Common.{◌≡◌, ◌<◌, ◌≤◌, Some, length, refl}
 use Rattle.std.specs.Prelude.{slice_get}
 use Rattle.std.proofs.lemmas.Option.{slice_get_read}
 use Rattle.lx_spec.specs.Choice.{reach}
-use Rattle.lx_tool.specs.Longest.{FitsAtMost}
 use Rattle.lx_tool.proofs.Best.{Best-none, Best-new, Best-old, Best-all}
 use Rattle.lx_tool.proofs.choice.choose.Goals as goal
 use Rattle.lx_tool.proofs.choice.choose.Goals.{in-Some+then-reach-best_reach, in-Some+else-reach-best_reach, in_default}

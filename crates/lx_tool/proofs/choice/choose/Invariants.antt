@@ -1,4 +1,3 @@
-use Rattle.std.proofs.Common.{ℕ}
 use Rattle.lx_tool.proofs.Best.{Best}
 use Rattle.lx_tool.proofs.choice.choose.Given as goal
 

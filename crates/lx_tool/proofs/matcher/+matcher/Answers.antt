@@ -1,16 +1,15 @@
-use Rattle.std.proofs.Common.{◌≡◌, ◌⊎◌, ◌↔◌, ℕ, ◌+◌, ◌-◌, ◌<◌, ◌≤◌, ◌||◌, ◌&&◌, not, Bool, true, false, List, [], ◌∷◌, Some, None, length, rules, arith, refl, sym, ap, subst, ◌∙◌, IfOk, inl, inr, nat_eq, eq-eqb, ne_eqb, IsTrue}
+use Rattle.std.proofs.Common.{◌≡◌, ◌⊎◌, ℕ, ◌+◌, ◌-◌, ◌<◌, ◌≤◌, false, List, Some, None, length, rules, arith, refl, sym, ◌∙◌, eq-eqb, ne_eqb}
 use Rattle.std.specs.Prelude.{slice_get}
-use Rattle.std.specs.Ordering.{nat_cmp}
-use Rattle.std.specs.BTreeSet.{BTreeSet, contains, btree_set_len}
+use Rattle.std.specs.BTreeSet.{btree_set_len}
 use Rattle.std.specs.Cmp.Lexicographic.{same_text, other_text}
 use Rattle.std.proofs.lemmas.Bool.{false≢true}
 use Rattle.std.proofs.lemmas.Option.{slice_get_read}
 use Rattle.std.proofs.lemmas.Result.{IfOk-weaker}
-use Rattle.lx_ere.specs.Regex.{regex_of, one_of, times}
+use Rattle.lx_ere.specs.Regex.{regex_of, one_of}
 use Rattle.lx_ere.specs.Matching.{Matches, Splits, Repeats, RepeatsBetween}
 use Rattle.lx_spec.specs.Names.{NameMatches}
 use Rattle.lx_spec.specs.declared.definition.Definition.{Definition}
-use Rattle.lx_tool.specs.Places.{AreEnds, AreBehind, AreWithin, AnyNumber, AtMost}
+use Rattle.lx_tool.specs.Places.{AreEnds, AreWithin, AnyNumber, AtMost}
 use Rattle.lx_tool.proofs.PlaceLemmas.{ends_within, all_within, ends_map, ends_then, ends_or, ends_byte, closing_goes_on, closing_ends, closing_falls, repeats_more, repeats_fewer, at_most_more, at_most_fewer, between_any, any_between, between_at_most, at_most_between}
 use Rattle.lx_tool.proofs.SetLemmas.{is_empty, nothing_in}
 use Rattle.lx_tool.proofs.NameLemmas.{DefinedBelow, below_other, below_still, below_more, below_fewer, name_into, name_from}

@@ -1,10 +1,10 @@
-use Rattle.std.proofs.Common.{◌≡◌, ℕ, ◌+◌, ◌-◌, ◌*◌, ◌<◌, ◌≤◌, length, Bool, if◌then◌else◌, List}
+use Rattle.std.proofs.Common.{◌+◌, ◌-◌, ◌*◌, length, if◌then◌else◌}
 use Rattle.std.specs.BTreeSet.{btree_set_len, IsOrdered}
 use Rattle.std.specs.Ordering.{nat_cmp}
 use Rattle.lx_ere.specs.Regex.{regex_of}
 use Rattle.lx_ere.specs.Matching.{Matches, Repeats}
 use Rattle.lx_spec.specs.Names.{NameMatches}
-use Rattle.lx_tool.specs.Places.{AreEnds, AreWithin, AnyNumber, AtMost}
+use Rattle.lx_tool.specs.Places.{AreEnds, AreWithin, AtMost}
 use Rattle.lx_tool.proofs.PlaceLemmas.{IsClosing}
 use Rattle.lx_tool.proofs.SetLemmas.{is_empty}
 use Rattle.lx_tool.proofs.NameLemmas.{DefinedBelow}

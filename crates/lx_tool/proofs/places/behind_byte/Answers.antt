@@ -1,10 +1,10 @@
-use Rattle.std.proofs.Common.{◌≡◌, ℕ, ◌+◌, ◌++◌, ◌&&◌, ◌∷◌, [], ◌∙◌, ap, subst, sym, true, map, List, Bor}
+use Rattle.std.proofs.Common.{◌≡◌, ℕ, ◌+◌, ◌∷◌, [], ◌∙◌, subst, sym, true, map}
 use Rattle.std.specs.Map.Iter.{deref}
 use Rattle.std.specs.BTreeSet.{contains}
 use Rattle.std.specs.Ordering.{nat_cmp}
 use Rattle.std.proofs.lemmas.List.{map-append}
 use Rattle.lx_tool.specs.Places.{is_byte_at}
-use Rattle.lx_tool.proofs.SetLemmas.{has, next_more, first_more}
+use Rattle.lx_tool.proofs.SetLemmas.{next_more, first_more}
 use Rattle.lx_tool.proofs.places.behind_byte.Goals as goal
 
 pub loop-start-preserved-in_ok-insert : goal.loop-start-preserved-in_ok-insert

@@ -1,7 +1,6 @@
-use Rattle.std.proofs.Common.{◌≡◌, ◌+◌, ◌++◌, ◌∷◌, [], List, ℕ, Vec, Global, map, take, refl, sym, ap, subst, ◌∙◌}
+use Rattle.std.proofs.Common.{◌≡◌, ◌+◌, ◌++◌, ◌∷◌, [], List, ℕ, Vec, Global, map, take, sym, ap, ◌∙◌}
 use Rattle.std.proofs.lemmas.List.{take_more, map-append}
 use Rattle.lx_piece.specs.declared.item.Item.{Item}
-use Rattle.lx_tool.specs.Planning.{AreScanned}
 use Rattle.lx_tool.proofs.PlanLemmas.{scanned_more}
 use Rattle.lx_tool.proofs.planning.scan_files.Goals as goal
 

@@ -1,11 +1,10 @@
-use Rattle.std.proofs.Common.{◌≡◌, ℕ, ◌+◌, ◌<◌, ◌≤◌, ◌++◌, ◌∷◌, [], List, length, map, All, refl, sym, ap, ◌∙◌, subst, arith, true}
-use Rattle.std.specs.Prelude.{flat_map}
+use Rattle.std.proofs.Common.{◌≡◌, ℕ, ◌++◌, ◌∷◌, [], List, length, map, All, sym, ap, ◌∙◌, subst, true}
 use Rattle.std.proofs.lemmas.List.{length-map}
 use Rattle.std.proofs.lemmas.List.Elements.{All-append}
 use Rattle.lx_spec.specs.Choice.{IsChoice}
 use Rattle.lx_spec.specs.Invariant.{are_steps}
 use Rattle.lx_piece.specs.Items.{IsItemOf}
-use Rattle.lx_tool.specs.Items.{GoesOn, first_place, items_of_match, items_of_steps, actions_of, steps_of, place_after}
+use Rattle.lx_tool.specs.Items.{GoesOn, first_place, items_of_match, items_of_steps, actions_of, steps_of}
 use Rattle.lx_tool.proofs.Runs.{run_push, flat_map_push}
 use Rattle.lx_tool.proofs.RuleSteps.{items_known, steps_known, match_within}
 use Rattle.lx_tool.proofs.scanner.scan.Goals as goal

@@ -1,4 +1,4 @@
-use Rattle.std.proofs.Common.{◌≡◌, ℕ, ◌<◌, ◌≤◌, ◌-◌, List, length, map, All}
+use Rattle.std.proofs.Common.{◌≡◌, ◌<◌, ◌≤◌, ◌-◌, List, length, map, All}
 use Rattle.std.specs.Prelude.{flat_map}
 use Rattle.lx_spec.specs.Choice.{IsChoice}
 use Rattle.lx_piece.specs.Items.{IsItemOf}
