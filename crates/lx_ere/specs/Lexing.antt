@@ -1,4 +1,4 @@
--- The spelling at the front of a text, by computation. The contracts of private functions cite these; that they find the spellings of
+-- The spelling at the front of a text, by computation. The contracts of the functions that read one cite these; that they find the spellings of
 -- Escapes, Brackets and Spelling, and no others, is proved in proofs/.
 use Rattle.std.specs.Prelude.{◌≡◌, codes, ℕ, zero, suc, Bool, true, false, not, ◌&&◌, ◌||◌, nat_eq, nat_lt, nat_le, if◌then◌else◌, List, [], ◌∷◌, length, take, drop, Option, Some, None}
 use Rattle.std.specs.Option.{option_map, option_and_then}

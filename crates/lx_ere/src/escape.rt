@@ -82,8 +82,11 @@ fn letter_byte(c: u8) -> Option<u8>
     }
 }
 
-/// The byte of an escape and what stands behind it, from behind the backslash on.
-pub(crate) fn escape_at(text: &[u8]) -> Option<(u8, &[u8])>
+/// The byte of an escape and what stands behind it, for a text from behind the backslash on: a letter of the table; one to three octal
+/// digits, as many as stand there; `x` and all hexadecimal digits that follow, or `x` for itself where none does; any other byte but a
+/// newline, for itself. `None` where no escape stands at the front, or where the digits spell no byte (POSIX.1-2017, XCU `lex`,
+/// "Regular Expressions in lex", the table of escape sequences).
+pub fn escape_at(text: &[u8]) -> Option<(u8, &[u8])>
     ensures { option_map (λ f. (f.0, f.1.now)) result ≡ escape_at text.now }
 {
     let (first, rest) = text.split_first()?;

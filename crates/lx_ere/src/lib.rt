@@ -4,7 +4,7 @@
 mod bracket;
 #[cfg(test)]
 mod equality_tests;
-mod escape;
+pub mod escape;
 pub mod expr;
 pub mod extent;
 pub mod fault;

@@ -5,6 +5,7 @@ pub mod Checking
 pub mod Declaring
 pub mod Distinct
 pub mod Entering
+pub mod EscapeSteps
 pub mod Fields
 pub mod Listed
 pub mod Marks

@@ -4,7 +4,7 @@ use Rattle.std.specs.List.{list_all}
 use Rattle.std.specs.Cmp.Lexicographic.{pointwise}
 use Rattle.lx_spec.specs.Bytes.{is_digit, is_identifier, begins}
 use Rattle.lx_spec.specs.Lines.{is_empty, is_number}
-use Rattle.lx_spec.specs.Constants.{number_below}
+use Rattle.lx_spec.specs.Constants.{decimal_below}
 use Rattle.lx_spec.specs.ActionWords.{Word, letters, byte, bar, semicolon, open_brace, close_brace, open_group, close_group, AreWords}
 
 -- what is returned, as it stands in the text
@@ -30,7 +30,7 @@ number_or_none (Some n) = Some (number n)
 -- the value of letters and digits: an identifier, or a decimal number below 2 ^ 31
 abbrev pub letters_value : List ℕ → Option Value
 letters_value text =
-    if is_identifier text then Some (name text) else if is_decimal text then number_or_none (number_below 2147483648 10 text) else None
+    if is_identifier text then Some (name text) else if is_decimal text then number_or_none (decimal_below 2147483648 text) else None
 
 -- what a word is where a value is asked for
 abbrev pub value_of : Word → Option Value

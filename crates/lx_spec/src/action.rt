@@ -10,7 +10,7 @@ ghost use Rattle.lx_spec.specs.ActionViews.{value_view, statement_view, statemen
 ghost use Rattle.lx_spec.specs.TurnViews.{turn_view, TakesWords};
 
 use crate::bytes::{is_digit, is_identifier};
-use crate::constant::number_below;
+use crate::constant::decimal_below;
 use crate::small::{Identifier, SmallNumber};
 use crate::word::{Word, read_words};
 use std::alloc::{AllocError, Global};
@@ -73,7 +73,7 @@ fn letters_value(text: &[u8]) -> Option<Value<'_>>
     if is_identifier(text) {
         Some(Value::Name(Identifier { text }))
     } else if is_decimal(text) {
-        match number_below(2147483648, 10, text) {
+        match decimal_below(2147483648, text) {
             Some(value) => Some(Value::Number(SmallNumber { value })),
             None => None,
         }
