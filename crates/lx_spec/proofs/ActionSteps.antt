@@ -1,8 +1,8 @@
 -- The statements of an action, turn by turn.
-use Rattle.std.proofs.Common.{◌≡◌, ◌∙◌, ℕ, zero, suc, ◌+◌, ◌-◌, ◌<◌, List, [], ◌∷◌, ◌++◌, Bool, true, false, ap, sym, subst, refl, append_assoc, arith, add-one, sub-one, take, drop, length}
+use Rattle.std.proofs.Common.{◌≡◌, ◌∙◌, ℕ, zero, suc, ◌+◌, ◌-◌, ◌<◌, List, [], ◌∷◌, ◌++◌, true, false, ap, sym, subst, refl, append_assoc, arith, add-one, take, drop, length}
 use Rattle.std.proofs.lemmas.List.{append-nil, drop-drop, take_rest}
 use Rattle.lx_spec.specs.ActionWords.{Word, letters, byte, bar, semicolon, open_brace, close_brace, open_group, close_group, AreWords}
-use Rattle.lx_spec.specs.Actions.{Statement, Turn, finished, opens, closes, states, no_statement, turn_at, AreStatements, none, opened, closed, stated, Action, shared, own, IsAction, a_bar, some_statements, is_bar}
+use Rattle.lx_spec.specs.Actions.{Statement, Turn, finished, opens, closes, states, no_statement, turn_at, AreStatements, none, opened, closed, stated, Action, own, IsAction, a_bar, some_statements, is_bar}
 use Rattle.lx_spec.specs.declared.word.Word.{Word as CodeWord}
 use Rattle.lx_spec.specs.WordViews.{words_view}
 use Rattle.lx_spec.proofs.WordSteps.{one_words}

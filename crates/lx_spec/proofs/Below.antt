@@ -1,5 +1,5 @@
 -- What definitions mention is a definition.
-use Rattle.std.proofs.Common.{◌≡◌, ℕ, zero, suc, ◌+◌, ◌≤◌, ◌<◌, nat_lt, cond, Bool, true, false, List, [], ◌∷◌, ◌++◌, length, map, Option, Some, None, refl, ap, sym, subst, ◌∙◌, arith, length-append, nat_eq}
+use Rattle.std.proofs.Common.{◌≡◌, ℕ, suc, ◌+◌, ◌≤◌, ◌<◌, nat_lt, cond, Bool, true, false, List, [], ◌∷◌, ◌++◌, length, map, Option, Some, None, refl, ap, sym, subst, ◌∙◌, arith, nat_eq}
 use Rattle.std.specs.Prelude.{slice_index}
 use Rattle.std.specs.List.{AllByRecursion, cons_option, filter_map, position, position_or_len}
 use Rattle.std.specs.Cmp.Lexicographic.{pointwise}
@@ -10,7 +10,7 @@ use Rattle.lx_ere.specs.Regex.{Regex}
 use Rattle.lx_spec.specs.Names.{names_of}
 use Rattle.lx_spec.specs.Sections.{Named}
 use Rattle.lx_spec.specs.Graph.{AreBelow, nowhere}
-use Rattle.lx_spec.specs.Dictionary.{AreTrees, number_of, row_of, row_in, mention_of, mentions_in, mentions_from, incomplete_marks, is_incomplete}
+use Rattle.lx_spec.specs.Dictionary.{AreTrees, number_of, row_of, row_in, mention_of, mentions_in, mentions_from, is_incomplete}
 use Rattle.lx_spec.specs.DictionaryViews.{Known, IsDictionary}
 use Rattle.lx_spec.specs.declared.graph.Mention.{Mention}
 

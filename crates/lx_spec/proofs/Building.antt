@@ -1,9 +1,9 @@
 -- The rules of a specification, from the last one to the first.
-use Rattle.std.proofs.Common.{◌≡◌, ◌∙◌, ℕ, zero, suc, ◌+◌, ◌-◌, ◌<◌, ◌≤◌, List, [], ◌∷◌, ◌++◌, length, map, take, drop, get_or, Option, Some, None, refl, ap, sym, subst, arith}
+use Rattle.std.proofs.Common.{◌≡◌, ◌∙◌, ℕ, zero, suc, ◌-◌, ◌<◌, List, [], ◌∷◌, ◌++◌, length, map, take, drop, get_or, Some, refl, ap, sym, subst, arith}
 use Rattle.std.specs.Prelude.{slice_get, reverse}
 use Rattle.std.proofs.lemmas.List.{reverse-append}
 use Rattle.lx_spec.specs.Sections.{State, RawRule}
-use Rattle.lx_spec.specs.Actions.{Action, Statement, shared, own}
+use Rattle.lx_spec.specs.Actions.{Action, shared, own}
 use Rattle.lx_spec.specs.Outcome.{Said, PlainRule, actions_in, first_own, steps_of, rules_of, with_kind, returned_by, kinds_behind, statements_in}
 use Rattle.lx_spec.specs.BuildViews.{steps_at_end, steps_before}
 use Rattle.lx_spec.specs.RuleViews.{rule_view}

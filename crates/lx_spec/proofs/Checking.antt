@@ -1,9 +1,9 @@
 -- Checks one after the other.
-use Rattle.std.proofs.Common.{◌≡◌, ℕ, suc, ◌+◌, ◌-◌, ◌≤◌, ◌<◌, Bool, true, false, nat_eq, List, [], ◌∷◌, ◌++◌, length, map, drop, get_or, refl, sym, ap, ◌∙◌, arith, length-drop, drop-cons, add-one, eq-eqb, subst}
+use Rattle.std.proofs.Common.{◌≡◌, ℕ, suc, ◌+◌, ◌-◌, ◌≤◌, ◌<◌, Bool, nat_eq, List, [], ◌∷◌, ◌++◌, length, map, drop, get_or, refl, sym, ap, ◌∙◌, arith, length-drop, drop-cons, add-one, eq-eqb, subst}
 use Rattle.std.proofs.lemmas.Bool.Decides.{nat_tests}
 use Rattle.lx_spec.specs.Sections.{RawRule}
 use Rattle.lx_spec.specs.First.{IsFirst, here, later, HoldsOfNone}
-use Rattle.lx_spec.specs.Verdict.{Ground, Case, Cause, Holds, IsCase, IsFirstFault, case_of, code_of, cases, cases_of, is_empty, fault_of}
+use Rattle.lx_spec.specs.Verdict.{Ground, Case, Cause, Holds, IsCase, IsFirstFault, case_of, cases, cases_of, is_empty, fault_of}
 use Rattle.lx_spec.specs.declared.fault.SpecFault.{SpecFault}
 
 pub none-append : {A : Type 0} (P : A → Type 0) (xs ys : List A) → HoldsOfNone P xs → HoldsOfNone P ys → HoldsOfNone P (xs ++ ys)

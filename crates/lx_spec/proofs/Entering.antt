@@ -1,9 +1,9 @@
 -- The entries of a rule: those of its first line, and of a further one.
-use Rattle.std.proofs.Common.{◌≡◌, ℕ, ◌+◌, ◌∙◌, true, cond, List, [], ◌∷◌, Option, Result, subst, sym, ap}
+use Rattle.std.proofs.Common.{◌≡◌, ℕ, ◌+◌, ◌∙◌, true, cond, List, [], ◌∷◌, Option, Result, subst, ap}
 use Rattle.lx_spec.specs.Blocks.{start, with_line, is_closed}
 use Rattle.lx_spec.specs.RuleLines as rule_line
 use Rattle.lx_spec.specs.RuleLines.{Prefix, RuleLine, rule_line_of}
-use Rattle.lx_spec.specs.Sections.{RawRule, Sheet, Place, Entry, rules, rules_group, action, rule, entries, entries_behind, sheet_behind, with_entries, Goes}
+use Rattle.lx_spec.specs.Sections.{RawRule, Sheet, Place, rules, rules_group, action, rule, entries, entries_behind, sheet_behind, with_entries, Goes}
 use Rattle.lx_spec.specs.declared.block.Count.{Count}
 use Rattle.lx_spec.specs.declared.fault.SpecFault.{SpecFault}
 

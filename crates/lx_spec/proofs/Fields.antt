@@ -1,5 +1,5 @@
 -- The fields of a text, one after the other.
-use Rattle.std.proofs.Common.{◌≡◌, ◌∙◌, ℕ, suc, ◌+◌, ◌<◌, ◌≤◌, Bool, true, false, not, cond, nat_eq, List, [], ◌∷◌, ◌++◌, length, take, drop, ap, sym, subst, refl, arith, append_assoc, ◌-◌, length-drop}
+use Rattle.std.proofs.Common.{◌≡◌, ◌∙◌, ℕ, ◌<◌, Bool, true, false, not, nat_eq, List, [], ◌∷◌, length, take, drop, ap, sym, refl, arith, ◌-◌, length-drop}
 use Rattle.std.specs.List.{prefix_len}
 use Rattle.std.proofs.lemmas.List.{take_rest}
 use Rattle.lx_spec.specs.Bytes.{run, behind_run}

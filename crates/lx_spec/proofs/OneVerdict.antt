@@ -1,9 +1,9 @@
 -- A text has one verdict.
-use Rattle.std.proofs.Common.{◌≡◌, ◌∙◌, ℕ, List, [], ◌∷◌, ◌<◌, ◌≤◌, length, Option, Ok, Err, Result, refl, ap, sym, subst, arith}
+use Rattle.std.proofs.Common.{◌≡◌, ◌∙◌, ℕ, List, Option, Ok, Err, Result, refl, ap, sym, subst, arith}
 use Rattle.lx_ere.specs.Regex.{Regex, Reading}
 use Rattle.lx_ere.specs.Pattern.{IsPattern, IsSubstitute}
 use Rattle.lx_spec.specs.First.{IsFirst, here, later, HoldsOfNone}
-use Rattle.lx_spec.specs.Sections.{Sheet, sheet_of}
+use Rattle.lx_spec.specs.Sections.{Sheet}
 use Rattle.lx_spec.specs.Dictionary.{AreTrees}
 use Rattle.lx_spec.specs.Outcome.{Said, AreSaid, PlainSpec, AreSpec}
 use Rattle.lx_spec.specs.Verdict.{Ground, Case, Holds, IsFirstFault, cases, fault_of}

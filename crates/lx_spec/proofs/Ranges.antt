@@ -1,15 +1,14 @@
 -- The rules of a specification name conditions and kinds that are there.
-use Rattle.std.proofs.Common.{◌≡◌, ◌∙◌, ℕ, suc, ◌<◌, Bool, true, false, ◌&&◌, not, ◌||◌, nat_lt, nat_eq, List, [], ◌∷◌, length, map, Option, Some, None, refl, ap, sym, subst, arith}
+use Rattle.std.proofs.Common.{◌≡◌, ◌∙◌, ℕ, suc, ◌<◌, Bool, true, false, ◌&&◌, not, ◌||◌, nat_lt, nat_eq, List, [], ◌∷◌, length, map, Option, Some, refl, ap, sym, subst, arith}
 use Rattle.std.specs.Prelude.{IsTrue}
-use Rattle.std.specs.List.{list_all, list_any, flat_map}
+use Rattle.std.specs.List.{list_all, list_any}
 use Rattle.std.specs.Cmp.Lexicographic.{pointwise}
 use Rattle.std.proofs.lemmas.Bool.Decides.{nat_tests}
 use Rattle.lx_spec.specs.Bytes.{is_identifier}
 use Rattle.lx_spec.specs.Sections.{State, Named, RawRule}
-use Rattle.lx_spec.specs.Actions.{Value, name, Statement, Action, shared, own}
 use Rattle.lx_spec.specs.ActionViews.{value_view, statement_view, statements_view, action_view}
-use Rattle.lx_spec.specs.Outcome.{Said, IsSaid, AreSaid, PlainRule, PlainDefinition, AreReached, none, reached, passed, patterns_in, conditions_of, actions_in, first_own, statements_in, returned_by, with_kind, kinds_behind, kinds_of, steps_of, rules_of}
-use Rattle.lx_spec.specs.Invariant.{are_distinct, are_named, are_definitions, are_steps, are_conditions, is_rule, are_kinds, returned_names, next_number, is_number}
+use Rattle.lx_spec.specs.Outcome.{Said, AreSaid, PlainRule, PlainDefinition, AreReached, none, reached, passed, patterns_in, actions_in, first_own, statements_in, returned_by, with_kind, kinds_behind, kinds_of, steps_of, rules_of}
+use Rattle.lx_spec.specs.Invariant.{are_distinct, are_named, are_definitions, are_steps, are_conditions, is_rule, are_kinds, is_number}
 use Rattle.lx_ere.specs.Regex.{Regex, regex_of}
 use Rattle.lx_spec.specs.RuleViews.{rule_view, expressions_view}
 use Rattle.lx_spec.specs.SaidViews.{said_view}

@@ -1,10 +1,10 @@
 -- The definitions that were read so far.
-use Rattle.std.proofs.Common.{◌≡◌, ℕ, zero, suc, ◌+◌, ◌≤◌, ◌<◌, Bool, List, [], ◌∷◌, ◌++◌, length, map, take, Option, Some, None, refl, ap, sym, subst, ◌∙◌, append_assoc, arith, add-one, length-append}
+use Rattle.std.proofs.Common.{◌≡◌, ℕ, zero, suc, ◌+◌, ◌≤◌, Bool, List, [], ◌∷◌, ◌++◌, length, map, take, Option, Some, refl, ap, sym, subst, ◌∙◌, append_assoc, arith, add-one, length-append}
 use Rattle.std.specs.Prelude.{slice_get}
 use Rattle.std.proofs.lemmas.List.{append-nil, map_push}
 use Rattle.lx_ere.specs.Regex.{Regex}
 use Rattle.lx_spec.specs.Sections.{Named}
-use Rattle.lx_spec.specs.Dictionary.{IsTreeOf, AreTrees, mentions_in, mentions_from, mentions_of, is_incomplete, incomplete_marks}
+use Rattle.lx_spec.specs.Dictionary.{IsTreeOf, AreTrees, mentions_in, mentions_from, is_incomplete, incomplete_marks}
 use Rattle.lx_spec.specs.DictionaryViews.{Known, AddsTree, IsDictionary}
 use Rattle.lx_spec.specs.declared.graph.Mention.{Mention}
 

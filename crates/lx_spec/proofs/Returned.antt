@@ -1,19 +1,17 @@
 -- The kinds that rules return, and where they stand in the list of kinds.
-use Rattle.std.proofs.Common.{◌≡◌, ◌∙◌, ℕ, zero, suc, ◌+◌, ◌<◌, ◌≤◌, Bool, true, false, cond, not, ◌&&◌, ◌||◌, nat_eq, nat_lt, List, [], ◌∷◌, ◌++◌, length, map, Option, Some, None, refl, ap, sym, subst, append_assoc, arith, add-one}
+use Rattle.std.proofs.Common.{◌≡◌, ◌∙◌, ℕ, suc, ◌+◌, ◌<◌, Bool, true, false, cond, not, ◌||◌, nat_eq, nat_lt, List, [], ◌∷◌, ◌++◌, length, Option, Some, None, refl, ap, sym, subst, append_assoc, arith}
 use Rattle.std.specs.Prelude.{IsTrue, unwrap_or}
-use Rattle.std.specs.List.{list_all, list_any, position, position_or_len, prefix_len, flat_map}
+use Rattle.std.specs.List.{list_all, list_any, position, position_or_len, flat_map}
 use Rattle.std.specs.Cmp.Lexicographic.{pointwise}
 use Rattle.std.proofs.lemmas.List.{append-nil, length-append}
 use Rattle.std.proofs.lemmas.Bool.Decides.{nat_tests}
 use Rattle.lx_spec.specs.Bytes.{is_identifier}
 use Rattle.lx_spec.specs.Sections.{State, RawRule}
 use Rattle.lx_spec.specs.Actions.{Value, name, number, Statement, nothing, echo, begin, return}
-use Rattle.lx_spec.specs.Verdict.{condition_number}
 use Rattle.lx_spec.specs.Outcome.{Said, PlainRule, actions_in, first_own, statements_in, returned_by, with_kind, kinds_behind, kind_of, steps_of, rules_of, number_or_first}
-use Rattle.lx_spec.specs.Invariant.{are_distinct, is_kind, are_steps, returned_names, next_number, is_number}
-use Rattle.lx_spec.specs.declared.rule.Step.{Step}
+use Rattle.lx_spec.specs.Invariant.{are_distinct, is_kind, are_steps, returned_names, next_number}
 use Rattle.lx_spec.proofs.StepLemmas.{both, left-of, right-of}
-use Rattle.lx_spec.proofs.Distinct.{distinct-push, or-left, or-right, same-name-is}
+use Rattle.lx_spec.proofs.Distinct.{distinct-push, same-name-is}
 
 -- a name that is an identifier, or a number below 2 ^ 31
 abbrev pub is_value : Value → Bool

@@ -1,21 +1,17 @@
 -- What the marks say of a rule's pattern.
-use Rattle.std.proofs.Common.{◌≡◌, ◌∙◌, ◌↔◌, ℕ, ◌<◌, Bool, true, false, not, ◌||◌, ◌⊎◌, inl, inr, List, [], ◌++◌, Option, length, map, refl, sym, ap, subst, arith}
+use Rattle.std.proofs.Common.{◌≡◌, ◌∙◌, ◌↔◌, ℕ, ◌<◌, Bool, true, false, not, ◌||◌, ◌⊎◌, inl, inr, List, length, sym, ap, subst, arith}
 use Rattle.std.specs.Prelude.{IsTrue, Contains, slice_index}
 use Rattle.std.proofs.lemmas.Bool.{false≢true}
 use Rattle.lx_ere.specs.Regex.{Regex, Reading}
 use Rattle.lx_ere.specs.Pattern.{IsPattern}
-use Rattle.lx_spec.specs.Sections.{Named}
-use Rattle.lx_spec.specs.SheetViews.{named_view}
-use Rattle.lx_spec.specs.TreeViews.{trees_view}
 use Rattle.lx_spec.specs.Dictionary.{row_of, all_defined, mentions_of, unreadable_marks, incomplete_marks}
 use Rattle.lx_spec.specs.DictionaryViews.{dictionary_view}
 use Rattle.lx_spec.specs.Graph.{IsMention, Leads, Follow, is_marked}
-use Rattle.lx_spec.specs.Verdict.{Ground, LeadsUnread, LeadsUndefined, LeadsDeep}
+use Rattle.lx_spec.specs.Verdict.{Ground, LeadsUnread, LeadsUndefined}
 use Rattle.lx_spec.specs.BasisViews.{ground_view, IsBasis}
 use Rattle.lx_spec.specs.declared.graph.Mention.{Mention}
 use Rattle.lx_spec.specs.declared.basis.Basis.{Basis}
 use Rattle.lx_spec.proofs.Below.{row-within, trees-length}
-use Rattle.std.proofs.lemmas.List.{length-map}
 
 pub not-true : {b : Bool} → b ≡ false → IsTrue b → ⊥
 not-true e h = false≢true (sym e ∙ h)

@@ -1,7 +1,7 @@
 -- The words of an action, piece by piece.
 use Rattle.std.proofs.Common.{◌≡◌, ◌∙◌, ℕ, List, [], ◌∷◌, ◌++◌, ap, sym, subst, refl, append_assoc}
 use Rattle.std.proofs.lemmas.List.{append-nil}
-use Rattle.lx_spec.specs.ActionWords.{Word, Piece, ended, passed, word, no_word, piece_at, AreWords, none, behind_passed, behind_word}
+use Rattle.lx_spec.specs.ActionWords.{Word, ended, passed, word, no_word, piece_at, AreWords, none, behind_passed, behind_word}
 
 in_passed : (text behind : List ℕ) (ws : List Word) → AreWords text ws → piece_at text ≡ passed behind → AreWords behind ws
 in_passed _ behind _ (none text e) h = let both : ended ≡ passed behind = sym e ∙ h in cc

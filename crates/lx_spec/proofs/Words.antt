@@ -1,5 +1,5 @@
 -- Words and trimmed texts, step by step.
-use Rattle.std.proofs.Common.{◌≡◌, ℕ, suc, ◌+◌, ◌<◌, ◌≤◌, Bool, true, false, not, cond, List, [], ◌∷◌, ◌++◌, length, take, drop, refl, sym, ap, ◌∙◌, map, ◌||◌, Option, Some, None, arith, add-one, length-drop, drop-cons}
+use Rattle.std.proofs.Common.{◌≡◌, ℕ, suc, ◌+◌, ◌<◌, Bool, true, false, not, cond, List, [], ◌∷◌, ◌++◌, length, take, drop, refl, sym, ap, ◌∙◌, map, ◌||◌, Some, None, arith, length-drop}
 use Rattle.std.specs.List.{prefix_len, list_any}
 use Rattle.lx_spec.specs.Bytes.{is_blank, is_no_blank, keep, trimmed, run, behind_run, onto_first, with_byte, words_of, word_at, next_word, begins}
 

@@ -1,5 +1,5 @@
 -- The words of an action (XCU `lex`, "Actions in lex").
-use Rattle.std.specs.Prelude.{◌≡◌, ℕ, Bool, true, false, not, ◌||◌, nat_eq, if◌then◌else◌, List, [], ◌∷◌, take, drop, Option, Some, None}
+use Rattle.std.specs.Prelude.{◌≡◌, ℕ, Bool, not, ◌||◌, nat_eq, if◌then◌else◌, List, [], ◌∷◌, drop, Option, Some, None}
 use Rattle.lx_spec.specs.Bytes.{is_blank, is_word_byte, begins_with, run, behind_run}
 use Rattle.lx_spec.specs.Constants.{constant_at}
 

@@ -1,5 +1,5 @@
 -- What the rules stand on, in the code, without where it lies in memory.
-use Rattle.std.specs.Prelude.{ℕ, ◌<◌, List, length, map}
+use Rattle.std.specs.Prelude.{◌<◌, length, map}
 use Rattle.lx_spec.specs.Verdict.{Ground}
 use Rattle.lx_spec.specs.SheetViews.{state_view, named_view}
 use Rattle.lx_spec.specs.TreeViews.{trees_view}

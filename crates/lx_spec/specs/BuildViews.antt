@@ -1,5 +1,5 @@
 -- The steps of rules in the code, without where they lie in memory.
-use Rattle.std.specs.Prelude.{ℕ, List, [], ◌∷◌, map}
+use Rattle.std.specs.Prelude.{ℕ, List, [], ◌∷◌}
 use Rattle.lx_spec.specs.Sections.{State}
 use Rattle.lx_spec.specs.Actions.{Action, shared, own}
 use Rattle.lx_spec.specs.Outcome.{Said, PlainRule, steps_of}

@@ -1,5 +1,5 @@
 -- Which rule a scanner chooses, and for how much of the text (XCU `lex`, "Rules in lex").
-use Rattle.std.specs.Prelude.{◌≡◌, ℕ, ◌+◌, ◌<◌, ◌≤◌, ◌⊎◌, Bool, true, false, IsTrue, if◌then◌else◌, List, Option, Some, MatchOption, Contains, slice_get, length, take}
+use Rattle.std.specs.Prelude.{◌≡◌, ℕ, ◌+◌, ◌<◌, ◌≤◌, ◌⊎◌, Bool, false, IsTrue, if◌then◌else◌, List, Option, Some, MatchOption, Contains, slice_get, length, take}
 use Rattle.std.specs.Option.{option_map}
 use Rattle.lx_ere.specs.Regex.{regex_of}
 use Rattle.lx_ere.specs.Matching.{Matches}

@@ -1,5 +1,5 @@
 -- What the definitions of a specification read as, and which mentions which (XCU `lex`, "Definitions in lex": `{name}`).
-use Rattle.std.specs.Prelude.{◌≡◌, ℕ, suc, Bool, false, true, not, List, [], ◌∷◌, ◌++◌, map, Option, Some, None, is_some, nat_eq}
+use Rattle.std.specs.Prelude.{ℕ, suc, Bool, false, true, not, List, [], ◌∷◌, ◌++◌, map, Option, Some, None, is_some, nat_eq}
 use Rattle.std.specs.List.{filter_map, list_all, position}
 use Rattle.std.specs.Cmp.Lexicographic.{pointwise}
 use Rattle.lx_ere.specs.Regex.{Regex}

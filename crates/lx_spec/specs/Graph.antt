@@ -1,5 +1,5 @@
 -- Which definition mentions which, by their numbers; what is led to a mark, and how many more names follow in a chain.
-use Rattle.std.specs.Prelude.{◌≡◌, ℕ, zero, suc, ◌+◌, ◌<◌, ◌≤◌, Bool, false, true, IsTrue, List, [], ◌∷◌, length, slice_index, slice_index_or}
+use Rattle.std.specs.Prelude.{◌≡◌, ℕ, zero, suc, ◌<◌, ◌≤◌, Bool, false, true, IsTrue, List, [], ◌∷◌, length, slice_index, slice_index_or}
 use Rattle.lx_spec.specs.declared.graph.Mention.{Mention}
 
 abbrev pub nowhere : Mention

@@ -1,5 +1,5 @@
 -- What a line of the first section says by itself (XCU `lex`, "Definitions in lex").
-use Rattle.std.specs.Prelude.{◌≡◌, ℕ, ◌==◌, Bool, true, false, not, ◌&&◌, ◌||◌, nat_eq, if◌then◌else◌, List, [], ◌∷◌, length, drop, codes}
+use Rattle.std.specs.Prelude.{ℕ, ◌==◌, Bool, true, false, not, ◌&&◌, ◌||◌, nat_eq, if◌then◌else◌, List, [], ◌∷◌, length, drop, codes}
 use Rattle.std.specs.List.{list_all}
 use Rattle.std.specs.Cmp.Lexicographic.{pointwise}
 use Rattle.lx_spec.specs.Bytes.{is_blank, is_digit, is_alphanumeric, is_word_byte, begins, begins_with, has_pair, run, behind_run, is_identifier, trimmed, words_of}

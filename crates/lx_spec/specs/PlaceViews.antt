@@ -3,7 +3,6 @@ use Rattle.lx_spec.specs.Sections as plain
 use Rattle.lx_spec.specs.SheetViews.{raw_view}
 use Rattle.lx_spec.specs.declared.section.Place.{Place}
 use Rattle.lx_spec.specs.declared.section.Place.TheVariants.{Definitions, Comment, Group, Rules, RulesGroup, Action}
-use Rattle.lx_spec.specs.declared.sheet.OpenRule.{OpenRule}
 
 abbrev pub place_view : Place → plain.Place
 place_view Definitions = plain.definitions

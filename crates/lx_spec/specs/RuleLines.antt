@@ -1,5 +1,5 @@
 -- What a line of the second section says by itself (XCU `lex`, "Rules in lex").
-use Rattle.std.specs.Prelude.{ℕ, Bool, true, false, not, nat_eq, if◌then◌else◌, List, [], ◌∷◌, take, drop}
+use Rattle.std.specs.Prelude.{ℕ, Bool, not, nat_eq, if◌then◌else◌, List, [], ◌∷◌, take, drop}
 use Rattle.lx_ere.specs.PatternEnd.{IsPatternEnd}
 use Rattle.lx_spec.specs.Bytes.{is_blank, begins_with, run, behind_run}
 

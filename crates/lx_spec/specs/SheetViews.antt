@@ -1,5 +1,5 @@
 -- What the sections say, in the code, without where it lies in memory.
-use Rattle.std.specs.Prelude.{ℕ, List, map}
+use Rattle.std.specs.Prelude.{map}
 use Rattle.lx_spec.specs.Sections as plain
 use Rattle.lx_spec.specs.RuleLineViews.{prefix_view}
 use Rattle.lx_spec.specs.declared.sheet.State.{State}

@@ -1,11 +1,11 @@
 -- The verdict on the rules of a specification: what can be wrong with a rule, in the order in which it is answered.
-use Rattle.std.specs.Prelude.{◌≡◌, ◌≢◌, ℕ, ◌+◌, Bool, true, false, IsTrue, not, ◌||◌, ◌&&◌, nat_eq, if◌then◌else◌, List, [], ◌∷◌, ◌++◌, ◌⊎◌, map, Option, Some, None, is_some, Result, Ok, Err, Contains}
+use Rattle.std.specs.Prelude.{◌≡◌, ◌≢◌, ℕ, Bool, true, false, IsTrue, not, nat_eq, if◌then◌else◌, List, [], ◌∷◌, ◌++◌, ◌⊎◌, Option, Some, is_some, Result, Ok, Err, Contains}
 use Rattle.std.specs.List.{list_all, position}
 use Rattle.std.specs.Cmp.Lexicographic.{pointwise}
 use Rattle.lx_ere.specs.Regex.{Regex, Reading}
 use Rattle.lx_ere.specs.Pattern.{IsPattern}
 use Rattle.lx_spec.specs.First.{IsFirst, HoldsOfNone}
-use Rattle.lx_spec.specs.Sections.{Sheet, State, Named, RawRule}
+use Rattle.lx_spec.specs.Sections.{State, Named, RawRule}
 use Rattle.lx_spec.specs.RuleLines.{Prefix, absent, unclosed, listed}
 use Rattle.lx_spec.specs.Actions.{Statement, Action, shared, own, IsAction, nothing, echo, begin, return, is_condition_name}
 use Rattle.lx_spec.specs.Dictionary.{row_of, all_defined, mentions_of, unreadable_marks, incomplete_marks}

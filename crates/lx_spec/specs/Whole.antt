@@ -1,5 +1,5 @@
 -- The verdict on a text: its first fault, or the specification that it says.
-use Rattle.std.specs.Prelude.{◌≡◌, ℕ, ◌<◌, ◌≤◌, List, length, Option, Result, Ok, Err}
+use Rattle.std.specs.Prelude.{◌≡◌, ℕ, ◌<◌, ◌≤◌, List, length, Option, Ok, Err}
 use Rattle.lx_ere.specs.Regex.{Regex}
 use Rattle.lx_spec.specs.First.{HoldsOfNone}
 use Rattle.lx_spec.specs.Sections.{Sheet, sheet_of, fault}

@@ -1,4 +1,4 @@
-use Rattle.std.proofs.Common.{◌≡◌, ◌∙◌, true, false, ◌∷◌, [], List, ap, sym, subst}
+use Rattle.std.proofs.Common.{◌≡◌, ◌∙◌, true, false, List, ap, sym, subst}
 use Rattle.lx_spec.specs.Actions as plain
 use Rattle.lx_spec.specs.ActionWords.{AreWords}
 use Rattle.lx_spec.specs.declared.word.Word.{Word}

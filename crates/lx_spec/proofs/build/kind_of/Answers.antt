@@ -1,4 +1,4 @@
-use Rattle.std.proofs.Common.{◌≡◌, ◌∙◌, nat_eq, List, ℕ, Option, map, ap, sym}
+use Rattle.std.proofs.Common.{◌∙◌, nat_eq, List, ℕ, Option, ap, sym}
 use Rattle.std.specs.Prelude.{unwrap_or}
 use Rattle.std.specs.Cmp.Lexicographic.{pointwise}
 use Rattle.std.specs.declared.alloc.Global.{Global}

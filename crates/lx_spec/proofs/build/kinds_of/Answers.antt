@@ -1,12 +1,7 @@
-use Rattle.std.proofs.Common.{◌≡◌, ◌∙◌, ◌++◌, ◌∷◌, [], ◌+◌, List, ℕ, Option, map, drop, get_or, length, ap, sym, subst, add-one, arith}
-use Rattle.std.specs.Option.{option_map}
-use Rattle.std.proofs.lemmas.List.{drop_more}
-use Rattle.lx_spec.specs.ActionViews.{statements_view}
+use Rattle.std.proofs.Common.{◌≡◌, ◌∙◌, ℕ, map, drop, ap, sym, subst, add-one, arith}
 use Rattle.lx_spec.specs.RuleViews.{names_view}
 use Rattle.lx_spec.specs.SaidViews.{said_view}
-use Rattle.lx_spec.specs.Actions.{Value}
 use Rattle.lx_spec.specs.Outcome as plain
-use Rattle.lx_spec.specs.declared.said.ReadRule.{ReadRule}
 use Rattle.lx_spec.proofs.Building.{kinds-next}
 use Rattle.lx_spec.proofs.build.kinds_of.Goals as goal
 

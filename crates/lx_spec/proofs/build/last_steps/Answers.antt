@@ -1,4 +1,4 @@
-use Rattle.std.proofs.Common.{◌≡◌, ◌∙◌, sym}
+use Rattle.std.proofs.Common.{◌∙◌, sym}
 use Rattle.lx_spec.proofs.Building.{last-rule}
 use Rattle.lx_spec.proofs.build.last_steps.Goals as goal
 

@@ -1,4 +1,4 @@
-use Rattle.std.proofs.Common.{◌≡◌, ◌≤◌, ◌++◌, map, drop, take, vec_len, length}
+use Rattle.std.proofs.Common.{◌≡◌, ◌≤◌, map, drop, take, vec_len}
 use Rattle.std.specs.Prelude.{reverse}
 use Rattle.lx_spec.specs.BuildViews.{steps_at_end}
 use Rattle.lx_spec.specs.RuleViews.{rule_view, names_view}

@@ -1,15 +1,13 @@
-use Rattle.std.proofs.Common.{◌≡◌, ◌∙◌, ◌<◌, ◌≤◌, ℕ, List, Option, length, vec_len, map, ap, sym, subst, arith}
+use Rattle.std.proofs.Common.{◌≡◌, ◌∙◌, ℕ, List, length, map, ap, sym, subst, arith}
 use Rattle.std.specs.Prelude.{IsTrue}
 use Rattle.std.specs.declared.alloc.Global.{Global}
 use Rattle.std.specs.declared.vec.Vec.{Vec}
 use Rattle.std.proofs.lemmas.List.{length-map}
 use Rattle.lx_ere.specs.Regex.{Regex}
-use Rattle.lx_spec.specs.Sections.{State, RawRule as PlainRaw}
-use Rattle.lx_spec.specs.Dictionary.{unreadable_marks}
-use Rattle.lx_spec.specs.Graph.{is_marked}
-use Rattle.lx_spec.specs.Invariant.{are_states, are_kinds}
+use Rattle.lx_spec.specs.Sections.{State}
+use Rattle.lx_spec.specs.Invariant.{are_states}
 use Rattle.lx_spec.specs.Nesting.{are_nested}
-use Rattle.lx_spec.specs.Outcome.{Said, AreReached, IsReached, patterns_in, PlainRule, rules_of, kinds_of}
+use Rattle.lx_spec.specs.Outcome.{AreReached, IsReached, patterns_in, rules_of, kinds_of}
 use Rattle.lx_spec.specs.ConditionViews.{condition_view}
 use Rattle.lx_spec.specs.RuleViews.{rule_view, definition_view, names_view}
 use Rattle.lx_spec.specs.SaidViews.{said_view}

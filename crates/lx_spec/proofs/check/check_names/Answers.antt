@@ -1,9 +1,7 @@
-use Rattle.std.proofs.Common.{◌≡◌, ◌∙◌, [], refl, ap, sym, List, ℕ, Bool, is_some, true, false}
-use Rattle.std.specs.List.{list_all}
+use Rattle.std.proofs.Common.{◌≡◌, ◌∙◌, [], ap, sym, List, ℕ, is_some}
 use Rattle.std.proofs.lemmas.Bool.{false≢true}
 use denote.Ref.{Bor}
-use Rattle.lx_spec.specs.SheetViews.{raw_view, state_view}
-use Rattle.lx_spec.specs.FieldViews.{texts_of}
+use Rattle.lx_spec.specs.SheetViews.{raw_view}
 use Rattle.lx_spec.specs.Verdict as plain
 use Rattle.lx_spec.specs.BasisViews.{ground_view}
 use Rattle.lx_spec.proofs.Rows.{list_all-map}

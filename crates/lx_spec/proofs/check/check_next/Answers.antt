@@ -1,4 +1,4 @@
-use Rattle.std.proofs.Common.{◌≡◌, ◌∙◌, [], refl, ap, sym, subst, List}
+use Rattle.std.proofs.Common.{◌≡◌, ◌∙◌, [], ap, sym, subst, List}
 use Rattle.lx_spec.specs.Actions as actions
 use Rattle.lx_spec.specs.ActionViews.{action_view}
 use Rattle.lx_spec.specs.SheetViews.{raw_view}

@@ -1,5 +1,5 @@
-use Rattle.std.proofs.Common.{◌≡◌, ◌∙◌, ◌++◌, ◌∷◌, [], List, ℕ, ap, sym, inr, length, arith}
-use Rattle.lx_ere.specs.Regex.{Regex, reading_of}
+use Rattle.std.proofs.Common.{◌∙◌, ◌++◌, ◌∷◌, [], List, ℕ, ap, inr}
+use Rattle.lx_ere.specs.Regex.{reading_of}
 use Rattle.lx_spec.specs.SheetViews.{raw_view}
 use Rattle.lx_spec.specs.Dictionary.{row_of, unreadable_marks, incomplete_marks}
 use Rattle.lx_spec.specs.Graph.{Leads, Follow, IsMention}

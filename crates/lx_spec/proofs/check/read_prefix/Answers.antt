@@ -1,4 +1,4 @@
-use Rattle.std.proofs.Common.{◌≡◌, ◌∙◌, [], List, ℕ, Bool, true, false, ap, sym}
+use Rattle.std.proofs.Common.{◌≡◌, ◌∙◌, [], List, ℕ, true, false, ap, sym}
 use Rattle.std.specs.List.{list_all}
 use Rattle.std.proofs.lemmas.Bool.{false≢true}
 use denote.Ref.{Bor}

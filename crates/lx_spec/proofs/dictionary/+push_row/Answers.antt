@@ -1,4 +1,4 @@
-use Rattle.std.proofs.Common.{◌≡◌, ◌∙◌, ◌++◌, List, ℕ, map, ap, sym, inl, inr}
+use Rattle.std.proofs.Common.{◌≡◌, ◌∙◌, ◌++◌, map, ap, sym, inl, inr}
 use Rattle.lx_ere.specs.declared.expr.Expr.{Expr}
 use Rattle.lx_ere.specs.Regex.{regex_of}
 use Rattle.lx_spec.specs.Names.{names_of}

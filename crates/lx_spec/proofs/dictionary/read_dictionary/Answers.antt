@@ -1,7 +1,7 @@
 use Rattle.std.proofs.Common.{map}
 use Rattle.lx_spec.specs.SheetViews.{named_view}
 use Rattle.lx_spec.specs.DictionaryViews.{dictionary_view}
-use Rattle.lx_spec.proofs.Reading.{ReadSome-more, ReadSome-all}
+use Rattle.lx_spec.proofs.Reading.{ReadSome-more}
 use Rattle.lx_spec.proofs.dictionary.read_dictionary.Goals as goal
 
 pub loop-i-preserved : goal.loop-i-preserved

@@ -1,9 +1,8 @@
-use Rattle.std.proofs.Common.{◌≡◌, ◌∙◌, ◌++◌, ◌∷◌, [], List, ℕ, Bool, map, ap, sym, get_or}
+use Rattle.std.proofs.Common.{◌∙◌, ◌++◌, ◌∷◌, [], List, ℕ, Bool, map, ap, get_or}
 use Rattle.std.proofs.lemmas.List.{map_push}
 use Rattle.lx_spec.specs.SheetViews.{named_view}
 use Rattle.lx_spec.specs.TreeViews.{tree_view, trees_view}
-use Rattle.lx_spec.specs.Dictionary.{mention_of, mentions_in, row_in, is_incomplete}
-use Rattle.lx_spec.specs.declared.graph.Mention.{Mention}
+use Rattle.lx_spec.specs.Dictionary.{mention_of}
 use Rattle.lx_spec.specs.declared.sheet.Named.{Named as CodeNamed}
 use Rattle.lx_spec.proofs.Rows.{at_map}
 use Rattle.lx_spec.proofs.dictionary.with_definition.Goals as goal

@@ -1,4 +1,4 @@
-use Rattle.std.proofs.Common.{◌≡◌, ◌<◌, ◌≤◌, ◌+◌, ℕ, min, max, length, get_or, refl, arith, sym, ap, ◌∙◌}
+use Rattle.std.proofs.Common.{◌≡◌, ◌<◌, ◌≤◌, ◌+◌, min, max, length, get_or, refl, arith}
 use Rattle.std.specs.Prelude.{slice_index}
 use Rattle.lx_spec.specs.Graph.{nowhere}
 use Rattle.lx_spec.proofs.Marks.{sound_one, grow_one, done_one, reach_more, read_at}

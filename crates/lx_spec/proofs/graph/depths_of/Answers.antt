@@ -1,4 +1,4 @@
-use Rattle.std.proofs.Common.{◌≡◌, ◌<◌, arith}
+use Rattle.std.proofs.Common.{arith}
 use Rattle.lx_spec.proofs.graph.depths_of.Goals as goal
 
 pub loop-preserved : goal.loop-preserved

@@ -1,4 +1,4 @@
-use Rattle.std.proofs.Common.{◌≡◌, ◌<◌, ◌+◌, Bool, false, ℕ, length, get_or, refl, arith}
+use Rattle.std.proofs.Common.{◌<◌, false, length, get_or, refl, arith}
 use Rattle.lx_spec.specs.Graph.{nowhere}
 use Rattle.lx_spec.proofs.Marks.{Marking-more, read_at}
 use Rattle.lx_spec.proofs.graph.mark_round.Goals as goal

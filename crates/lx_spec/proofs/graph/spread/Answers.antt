@@ -1,6 +1,6 @@
-use Rattle.std.proofs.Common.{◌≡◌, ◌+◌, ◌<◌, ℕ, Bool, true, false, cond, arith, refl, sym}
+use Rattle.std.proofs.Common.{refl, sym}
 use Rattle.std.proofs.lemmas.Bool.{false≢true}
-use Rattle.lx_spec.specs.Graph.{unmarked, itself}
+use Rattle.lx_spec.specs.Graph.{itself}
 use Rattle.lx_spec.proofs.Marks.{Leads-marked, falls}
 use Rattle.lx_spec.proofs.graph.spread.Goals as goal
 

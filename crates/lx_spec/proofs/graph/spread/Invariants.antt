@@ -1,4 +1,4 @@
-use Rattle.std.proofs.Common.{◌≡◌, ◌+◌, Bool, true, false, vec_len, cond}
+use Rattle.std.proofs.Common.{◌≡◌, ◌+◌, false, vec_len, cond}
 use Rattle.lx_spec.specs.Graph.{AreLed, StayMarked, AreClosed, unmarked}
 use Rattle.lx_spec.proofs.graph.spread.Given as goal
 

@@ -1,9 +1,7 @@
-use Rattle.std.proofs.Common.{◌≡◌, ◌∙◌, ◌↔◌, ◌≤◌, ℕ, Bool, List, Option, length, map, nat_le, ap, sym, subst, arith, get_or, false, true, vec_len}
+use Rattle.std.proofs.Common.{◌≡◌, ◌∙◌, ◌↔◌, ◌≤◌, ℕ, Bool, List, length, map, nat_le, ap, sym, subst, arith, get_or, false, true}
 use Rattle.std.specs.Prelude.{IsTrue, slice_index}
 use Rattle.std.proofs.lemmas.Bool.Decides.{nat_tests}
 use Rattle.std.proofs.lemmas.List.{length-map}
-use Rattle.lx_ere.specs.Regex.{Regex}
-use Rattle.lx_ere.specs.declared.expr.Expr.{Expr}
 use Rattle.lx_spec.specs.declared.graph.Mention.{Mention}
 use Rattle.lx_spec.specs.Dictionary.{unreadable_marks, is_unreadable}
 use Rattle.lx_spec.specs.TreeViews.{tree_view, trees_view}

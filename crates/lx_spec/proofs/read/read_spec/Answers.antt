@@ -1,4 +1,4 @@
-use Rattle.std.proofs.Common.{◌≡◌, List, ℕ, map}
+use Rattle.std.proofs.Common.{List, ℕ, map}
 use Rattle.std.proofs.lemmas.Result.{err_from_is_err_and}
 use Rattle.lx_spec.specs.SheetViews.{sheet_view}
 use Rattle.lx_spec.specs.SaidViews.{said_view}

@@ -1,7 +1,6 @@
-use Rattle.std.proofs.Common.{◌≡◌, ◌∙◌, ◌+◌, ◌∷◌, sym, ap}
-use Rattle.std.specs.Option.{option_map}
+use Rattle.std.proofs.Common.{◌∙◌, ◌+◌, ◌∷◌, sym, ap}
 use Rattle.lx_spec.specs.Sections as plain
-use Rattle.lx_spec.specs.SheetViews.{sheet_view, raw_view}
+use Rattle.lx_spec.specs.SheetViews.{sheet_view}
 use Rattle.lx_spec.specs.PlaceViews.{place_view}
 use Rattle.lx_spec.proofs.Entering.{Goes-same, behind-same}
 use Rattle.lx_spec.proofs.section.take_line.Goals as goal

@@ -1,9 +1,5 @@
-use Rattle.std.proofs.Common.{◌≡◌, ◌∙◌, ◌+◌}
-use Rattle.std.specs.Option.{option_map}
-use Rattle.lx_spec.specs.Blocks.{start, with_line}
-use Rattle.lx_spec.specs.RuleLineViews.{prefix_view}
-use Rattle.lx_spec.specs.SheetViews.{sheet_view, raw_view}
-use Rattle.lx_spec.specs.PlaceViews.{place_view}
+use Rattle.std.proofs.Common.{◌∙◌, ◌+◌}
+use Rattle.lx_spec.specs.SheetViews.{sheet_view}
 use Rattle.lx_spec.proofs.Entering.{rule_begun, Goes-same, behind-same}
 use Rattle.lx_spec.proofs.section.take_rule.Goals as goal
 
