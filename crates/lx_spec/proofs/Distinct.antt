@@ -7,7 +7,7 @@ use Rattle.std.proofs.lemmas.Bool.Decides.{Decides-eqb}
 use Rattle.std.proofs.lemmas.Slice.Eq.{slice_eq-Decides}
 use Rattle.std.proofs.lemmas.List.Folds.{list_any-append}
 use Rattle.lx_spec.specs.Invariant.{are_distinct}
-use Rattle.lx_spec.proofs.StepLemmas.{both, left-of, right-of}
+use Rattle.lx_spec.proofs.Conjunctions.{both, left-of, right-of}
 
 pub same-name : (a b : List ℕ) → pointwise nat_eq a b ≡ true → a ≡ b
 same-name a b e = (slice_eq-Decides Decides-eqb a b _ refl).0 e

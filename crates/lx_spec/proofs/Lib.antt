@@ -2,11 +2,13 @@ pub mod ActionSteps
 pub mod Below
 pub mod Building
 pub mod Checking
+pub mod Conjunctions
 pub mod Declaring
 pub mod Distinct
 pub mod Entering
 pub mod EscapeSteps
 pub mod Fields
+pub mod Indexing
 pub mod Listed
 pub mod Marks
 pub mod Nested
@@ -20,7 +22,6 @@ pub mod Returned
 pub mod Rows
 pub mod Ruling
 pub mod Saying
-pub mod StepLemmas
 pub mod WellFormed
 pub mod WordSteps
 pub mod Words

@@ -20,7 +20,7 @@ use Rattle.lx_spec.specs.Verdict.{Ground, Holds, cases}
 use Rattle.lx_spec.specs.declared.graph.Mention.{Mention}
 use Rattle.lx_spec.proofs.Marks.{read_at}
 use Rattle.lx_spec.proofs.Words.{pick_first, pick_second}
-use Rattle.lx_spec.proofs.StepLemmas.{both, left-of, right-of}
+use Rattle.lx_spec.proofs.Conjunctions.{both, left-of, right-of}
 use Rattle.lx_spec.proofs.Reached.{safe-patterns, reached-complete}
 
 -- the place of the first that passes, where the front one does, and where it doesn't

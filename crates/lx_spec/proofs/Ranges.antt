@@ -22,7 +22,7 @@ use Rattle.lx_spec.specs.declared.action.Action.TheVariants.{Shared, Own}
 use Rattle.lx_spec.specs.declared.said.ReadRule.{ReadRule}
 use Rattle.lx_spec.specs.declared.sheet.RawRule.{RawRule as CodeRaw}
 use Rattle.lx_spec.specs.declared.rule.Rule.{Rule}
-use Rattle.lx_spec.proofs.StepLemmas.{both, left-of, right-of}
+use Rattle.lx_spec.proofs.Conjunctions.{both, left-of, right-of}
 use Rattle.lx_spec.proofs.Rows.{list_all-map}
 use Rattle.lx_spec.proofs.Listed.{conditions-listed}
 use Rattle.lx_spec.proofs.Distinct.{or-left, or-right, not-true}

@@ -10,7 +10,7 @@ use Rattle.lx_spec.specs.Sections.{State, RawRule}
 use Rattle.lx_spec.specs.Actions.{Value, name, number, Statement, nothing, echo, begin, return}
 use Rattle.lx_spec.specs.Outcome.{Said, PlainRule, actions_in, first_own, statements_in, returned_by, with_kind, kinds_behind, kind_of, steps_of, rules_of, number_or_first}
 use Rattle.lx_spec.specs.Invariant.{are_distinct, is_kind, are_steps, returned_names, next_number}
-use Rattle.lx_spec.proofs.StepLemmas.{both, left-of, right-of}
+use Rattle.lx_spec.proofs.Conjunctions.{both, left-of, right-of, all-push}
 use Rattle.lx_spec.proofs.Distinct.{distinct-push, same-name-is}
 
 -- a name that is an identifier, or a number below 2 ^ 31
@@ -65,17 +65,13 @@ pub kinds-distinct : (lists : List (List Statement)) (kinds : List (List ℕ)) �
 kinds-distinct [] kinds d = d
 kinds-distinct (ss ∷ lists) kinds d = kinds-distinct lists (with_kind kinds (returned_by ss)) (with-distinct kinds (returned_by ss) d)
 
-all-push : (kinds : List (List ℕ)) (text : List ℕ) → IsTrue (list_all is_identifier kinds) → IsTrue (is_identifier text) → IsTrue (list_all is_identifier (kinds ++ text ∷ []))
-all-push [] text h g = both (is_identifier text) true g refl
-all-push (k ∷ kinds) text h g = both (is_identifier k) (list_all is_identifier (kinds ++ text ∷ [])) (left-of (is_identifier k) (list_all is_identifier kinds) h) (all-push kinds text (right-of (is_identifier k) (list_all is_identifier kinds) h) g)
-
 with-identifiers : (kinds : List (List ℕ)) (o : Option Value) → ((v : Value) → o ≡ Some v → IsTrue (is_value v)) → IsTrue (list_all is_identifier kinds) → IsTrue (list_all is_identifier (with_kind kinds o))
 with-identifiers kinds None is h = h
 with-identifiers kinds (Some (number n)) is h = h
 with-identifiers kinds (Some (name text)) is h = by (is_found kinds text) where
   by : (b : Bool) → IsTrue (list_all is_identifier (cond b kinds (kinds ++ text ∷ [])))
   by true = h
-  by false = all-push kinds text h (is (name text) refl)
+  by false = all-push is_identifier kinds text h (is (name text) refl)
 
 pub kinds-identifiers : (lists : List (List Statement)) (kinds : List (List ℕ)) → IsTrue (list_all are_statements lists) → IsTrue (list_all is_identifier kinds) → IsTrue (list_all is_identifier (kinds_behind kinds lists))
 kinds-identifiers [] kinds are h = h

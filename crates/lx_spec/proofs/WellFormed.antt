@@ -8,7 +8,7 @@ use Rattle.lx_spec.specs.Sections.{State, Named, RawRule, Sheet, Entry, conditio
 use Rattle.lx_spec.specs.Invariant.{are_distinct, begins_initial, are_states, are_named, IsWellFormed}
 use Rattle.lx_spec.specs.declared.fault.Code.TheVariants as code
 use Rattle.lx_spec.specs.declared.fault.SpecFault.{SpecFault}
-use Rattle.lx_spec.proofs.StepLemmas.{both, left-of, right-of}
+use Rattle.lx_spec.proofs.Conjunctions.{both, left-of, right-of}
 use Rattle.lx_spec.proofs.Words.{list_any-map}
 use Rattle.lx_spec.proofs.Distinct.{distinct-push}
 

@@ -151,11 +151,3 @@ pub data Action : Type 0 where
 pub data IsAction (text : List ℕ) : Action → Type 0 where
   a_bar : AreWords text (bar ∷ []) → IsAction text shared
   some_statements : (ws : List Word) (ss : List Statement) → AreWords text ws → AreStatements 0 ws ss → IsAction text (own ss)
-
--- the statements up to and with the first return, without those that do nothing
-abbrev pub kept : List Statement → List Statement
-kept [] = []
-kept (nothing ∷ ss) = kept ss
-kept (echo ∷ ss) = echo ∷ kept ss
-kept (begin c ∷ ss) = begin c ∷ kept ss
-kept (return v ∷ ss) = return v ∷ []

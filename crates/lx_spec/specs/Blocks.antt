@@ -69,10 +69,3 @@ is_closed n = is_outside n.mode && nat_le n.opened n.closed
 
 abbrev pub start : Count
 start = record { opened = 0; closed = 0; mode = Code }
-
--- the first so many lines are an action, the first of them from behind the pattern on
-pub record IsBlock (lines : List (List ℕ)) (n : ℕ) : Type 0 where
-  pub some : 0 < n
-  pub within : n ≤ length lines
-  pub closed : is_closed (with_lines start (take n lines)) ≡ true
-  pub shortest : (k : ℕ) → 0 < k → k < n → is_closed (with_lines start (take k lines)) ≡ false

@@ -55,13 +55,6 @@ are_steps conditions kinds (Begin c ∷ steps) = nat_lt c conditions && are_step
 are_steps conditions kinds (Return k ∷ []) = is_kind kinds k
 are_steps conditions kinds (Return k ∷ step ∷ steps) = false
 
--- the steps return nothing, and name conditions that are there
-abbrev pub are_plain : ℕ → List Step → Bool
-are_plain conditions [] = true
-are_plain conditions (Echo ∷ steps) = are_plain conditions steps
-are_plain conditions (Begin c ∷ steps) = nat_lt c conditions && are_plain conditions steps
-are_plain conditions (Return k ∷ steps) = false
-
 -- the numbers rise, and the last is below the bound
 abbrev pub are_rising_below : ℕ → List ℕ → Bool
 are_rising_below most [] = true

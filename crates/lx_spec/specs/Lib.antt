@@ -13,6 +13,7 @@ pub mod DictionaryViews
 pub mod FieldViews
 pub mod First
 pub mod Graph
+pub mod IndexViews
 pub mod Invariant
 pub mod LineViews
 pub mod Lines

@@ -21,10 +21,6 @@ pub record Defines (definitions : List Definition) (name : List ℕ) (d : Defini
   pub at : slice_get definitions place ≡ Some d
   pub is : d.name.items ≡ name
 
--- one of the definitions has this name
-abbrev pub is_defined : List Definition → List ℕ → Bool
-is_defined definitions name = list_any (λ d. pointwise nat_eq d.name.items name) definitions
-
 -- The word is one of what the name stands for, where `inner` says what words names match in that.
 abbrev pub DefinedMatches : (List ℕ → List ℕ → Type 0) → List Definition → List ℕ → List ℕ → Type 0
 DefinedMatches inner definitions name word = (d : Definition) × Defines definitions name d × Matches inner (regex_of d.expr) word
@@ -33,10 +29,3 @@ DefinedMatches inner definitions name word = (d : Definition) × Defines definit
 abbrev pub NameMatches : List Definition → ℕ → List ℕ → List ℕ → Type 0
 NameMatches definitions zero name word = ⊥
 NameMatches definitions (suc n) name word = DefinedMatches (NameMatches definitions n) definitions name word
-
--- So many names in a row: the first stands in the expression, each later one in what the one before is defined as;
--- the last is this name.
-pub data Reaches (definitions : List Definition) : Regex → ℕ → List ℕ → Type 0 where
-  stands : (r : Regex) (last : List ℕ) → Contains (names_of r) last → Reaches definitions r 1 last
-  further : (r : Regex) (n : ℕ) (name last : List ℕ) (d : Definition) → Contains (names_of r) name → Defines definitions name d →
-      Reaches definitions (regex_of d.expr) n last → Reaches definitions r (suc n) last

@@ -22,6 +22,7 @@ ghost use Rattle.lx_spec.specs.Invariant.{IsWellFormed};
 use crate::action::{Action, Statement, Value};
 use crate::condition::Condition;
 use crate::dictionary::Dictionary;
+use crate::index::Index;
 use crate::reach::definitions_of;
 use crate::rule::{Kind, Rule, Step};
 use crate::said::{ReadRule, number_or_first};
@@ -238,9 +239,11 @@ fn conditions_from(alloc: Global, states: &[State]) -> Result<Vec<Condition>, Al
 pub(crate) fn spec_of(
     alloc: Global,
     sheet: &Sheet,
+    index: &Index,
     dictionary: Dictionary,
     read: Vec<ReadRule>,
 ) -> Result<Spec, AllocError>
+    requires index { index.now.named.now ≡ sheet.now.names.items }
     requires sheet { IsWellFormed (sheet_view sheet.now) }
     requires dictionary { IsDictionary (map named_view sheet.now.names.items) (dictionary_view dictionary) }
     requires says { AreSaid (map state_view sheet.now.states.items) (map raw_view sheet.now.rules.items) (map said_view read.items) }
@@ -248,7 +251,7 @@ pub(crate) fn spec_of(
     ensures { IfOk result (λ s. AreSpec (ground_of (sheet_view sheet.now) (trees_view dictionary.trees.items)) (map raw_view sheet.now.rules.items) (map said_view read.entry.items) (spec_view s)) }
 {
     let kinds = kinds_of(alloc, &read)?;
-    let definitions = definitions_of(alloc, &sheet.names, dictionary, &read)?;
+    let definitions = definitions_of(alloc, index, dictionary, &read)?;
     let rules = rules_of(alloc, &sheet.states, &kinds, &sheet.rules, read)?;
     let conditions = conditions_from(alloc, &sheet.states)?;
     Ok(Spec {

@@ -90,7 +90,7 @@ fn check_pattern(
 {
     one_reading();
     let mut row = Vec::new(alloc);
-    let complete = push_row(basis.named, &pattern.expr, &mut row)?;
+    let complete = push_row(basis.index, &pattern.expr, &mut row)?;
     let unread = any_marked(&row, &basis.outlook.unread);
     let undefined = any_marked(&row, &basis.outlook.undefined);
     let deep = any_marked(&row, &basis.outlook.deep);

@@ -11,7 +11,7 @@ ghost use Rattle.lx_spec.specs.DictionaryViews.{dictionary_view, AddsTree, IsDic
 
 use crate::fault::SpecFault;
 use crate::graph::Mention;
-use crate::sheet::Named;
+use crate::index::Index;
 use lx_ere::expr::Expr;
 use lx_ere::fault::EreFault;
 use lx_ere::read::read_substitute;
@@ -26,40 +26,21 @@ pub struct Dictionary {
     pub incomplete: Vec<bool>,
 }
 
-fn place_in(named: &[Named], name: &[u8]) -> Option<usize>
-    ensures place { result ≡ position (λ d. pointwise nat_eq d.name.now name.now) named.now }
-    ensures within { IfSome result (λ i. i < length named.now) }
-{
-    named.iter().position(|d| d.name == name)
-}
-
-/// The number of the definition with this name.
-fn number_of(named: &[Named], name: &[u8]) -> Option<usize>
-    ensures number { result ≡ plain.number_of (map named_view named.now) name.now }
-    ensures within { IfSome result (λ i. i < length named.now) }
-{
-    place_in(named, name)
-}
-
 /// Adds the numbers of the definitions that an expression names, and says whether each name in it is defined.
 #[tactic(auto, using(crate::proofs::Rows::row_steps))]
-pub(crate) fn push_row(
-    named: &[Named],
-    expr: &Expr,
-    row: &mut Vec<usize>,
-) -> Result<bool, AllocError>
-    ensures row { OnOk result (row.new.items ≡ row.old.items ++ row_of (map named_view named.now) (regex_of expr.now)) }
-    ensures all { IfOk result (λ all. all ≡ all_defined (map named_view named.now) (regex_of expr.now)) }
+pub(crate) fn push_row(index: &Index, expr: &Expr, row: &mut Vec<usize>) -> Result<bool, AllocError>
+    ensures row { OnOk result (row.new.items ≡ row.old.items ++ row_of (map named_view index.now.named.now) (regex_of expr.now)) }
+    ensures all { IfOk result (λ all. all ≡ all_defined (map named_view index.now.named.now) (regex_of expr.now)) }
 {
     match expr {
         Expr::Nil | Expr::Set(_) => Ok(true),
         Expr::Then(a, b) | Expr::Or(a, b) => {
-            let first = push_row(named, a, row)?;
-            let second = push_row(named, b, row)?;
+            let first = push_row(index, a, row)?;
+            let second = push_row(index, b, row)?;
             Ok(first & second)
         }
-        Expr::Times { body, .. } => push_row(named, body, row),
-        Expr::Name(name) => match number_of(named, name) {
+        Expr::Times { body, .. } => push_row(index, body, row),
+        Expr::Name(name) => match index.number_of(name) {
             Some(number) => {
                 row.push(number)?;
                 Ok(true)
@@ -83,16 +64,16 @@ fn read_tree(alloc: Global, substitute: &[u8]) -> Result<Option<Expr>, AllocErro
 // The numbers of the definitions that a tree names, and whether it names what isn't defined.
 fn row_in(
     alloc: Global,
-    named: &[Named],
+    index: &Index,
     tree: &Option<Expr>,
 ) -> Result<(Vec<usize>, bool), AllocError>
-    ensures row { IfOk result (λ r. r.0.items ≡ plain.row_in (map named_view named.now) (tree_view tree.now)) }
-    ensures incomplete { IfOk result (λ r. r.1 ≡ plain.is_incomplete (map named_view named.now) (tree_view tree.now)) }
+    ensures row { IfOk result (λ r. r.0.items ≡ plain.row_in (map named_view index.now.named.now) (tree_view tree.now)) }
+    ensures incomplete { IfOk result (λ r. r.1 ≡ plain.is_incomplete (map named_view index.now.named.now) (tree_view tree.now)) }
 {
     let mut row = Vec::new(alloc);
     match tree {
         Some(expr) => {
-            let complete = push_row(named, expr, &mut row)?;
+            let complete = push_row(index, expr, &mut row)?;
             Ok((row, !complete))
         }
         None => Ok((row, false)),
@@ -112,20 +93,20 @@ fn push_mentions(i: usize, row: &[usize], mentions: &mut Vec<Mention>) -> Result
 // Adds what definition i reads as and mentions.
 fn with_definition(
     alloc: Global,
-    named: &[Named],
+    index: &Index,
     dictionary: Dictionary,
     i: usize,
 ) -> Result<Dictionary, AllocError>
-    requires { i < length named.now }
-    ensures { IfOk result (λ d. AddsTree (map named_view named.now) i (dictionary_view dictionary) (dictionary_view d)) }
+    requires { i < length index.now.named.now }
+    ensures { IfOk result (λ d. AddsTree (map named_view index.now.named.now) i (dictionary_view dictionary) (dictionary_view d)) }
 {
     let Dictionary {
         mut trees,
         mut mentions,
         mut incomplete,
     } = dictionary;
-    let tree = read_tree(alloc, named[i].substitute)?;
-    let (row, lacks) = row_in(alloc, named, &tree)?;
+    let tree = read_tree(alloc, index.named[i].substitute)?;
+    let (row, lacks) = row_in(alloc, index, &tree)?;
     push_mentions(i, &row, &mut mentions)?;
     incomplete.push(lacks)?;
     trees.push(tree)?;
@@ -137,16 +118,16 @@ fn with_definition(
 }
 
 /// Reads each definition once.
-pub(crate) fn read_dictionary(alloc: Global, named: &[Named]) -> Result<Dictionary, AllocError>
-    ensures { IfOk result (λ d. IsDictionary (map named_view named.now) (dictionary_view d)) }
+pub(crate) fn read_dictionary(alloc: Global, index: &Index) -> Result<Dictionary, AllocError>
+    ensures { IfOk result (λ d. IsDictionary (map named_view index.now.named.now) (dictionary_view d)) }
 {
     let mut dictionary = Dictionary {
         trees: Vec::new(alloc),
         mentions: Vec::new(alloc),
         incomplete: Vec::new(alloc),
     };
-    for i in 0..named.len() {
-        dictionary = with_definition(alloc, named, dictionary, i)?;
+    for i in 0..index.named.len() {
+        dictionary = with_definition(alloc, index, dictionary, i)?;
     }
     Ok(dictionary)
 }

@@ -14,6 +14,7 @@ pub mod definition;
 pub mod dictionary;
 pub mod fault;
 pub mod graph;
+pub mod index;
 pub mod line;
 pub mod outlook;
 pub mod prefix;

@@ -15,18 +15,19 @@ ghost use Rattle.lx_spec.specs.TreeViews.{tree_view, trees_view};
 use crate::definition::Definition;
 use crate::dictionary::{Dictionary, push_row};
 use crate::graph::{Mention, spread};
+use crate::index::Index;
 use crate::said::ReadRule;
 use crate::sheet::Named;
 use lx_ere::expr::Expr;
 use std::alloc::{AllocError, Global};
 
 // The numbers of the definitions that the patterns of rules name.
-fn row_of_all(alloc: Global, named: &[Named], read: &[ReadRule]) -> Result<Vec<usize>, AllocError>
-    ensures { IfOk result (λ row. row.items ≡ flat_map (row_of (map named_view named.now)) (patterns_in (map said_view read.now))) }
+fn row_of_all(alloc: Global, index: &Index, read: &[ReadRule]) -> Result<Vec<usize>, AllocError>
+    ensures { IfOk result (λ row. row.items ≡ flat_map (row_of (map named_view index.now.named.now)) (patterns_in (map said_view read.now))) }
 {
     let mut row = Vec::new(alloc);
     for i in 0..read.len() {
-        push_row(named, &read[i].pattern.expr, &mut row)?;
+        push_row(index, &read[i].pattern.expr, &mut row)?;
     }
     Ok(row)
 }
@@ -61,17 +62,17 @@ fn marks_at(alloc: Global, count: usize, numbers: &[usize]) -> Result<Vec<bool>,
 // Marks each definition that rules reach.
 fn reached_of(
     alloc: Global,
-    named: &[Named],
+    index: &Index,
     dictionary: &Dictionary,
     read: &[ReadRule],
 ) -> Result<Vec<bool>, AllocError>
-    requires { IsDictionary (map named_view named.now) (dictionary_view dictionary.now) }
-    ensures len { IfOk result (λ marks. vec_len marks ≡ length named.now) }
-    ensures reached { IfOk result (λ marks. (i : ℕ) → IsTrue (is_marked marks.items i) ↔ IsReached (map named_view named.now) (trees_view dictionary.now.trees.items) (patterns_in (map said_view read.now)) i) }
+    requires { IsDictionary (map named_view index.now.named.now) (dictionary_view dictionary.now) }
+    ensures len { IfOk result (λ marks. vec_len marks ≡ length index.now.named.now) }
+    ensures reached { IfOk result (λ marks. (i : ℕ) → IsTrue (is_marked marks.items i) ↔ IsReached (map named_view index.now.named.now) (trees_view dictionary.now.trees.items) (patterns_in (map said_view read.now)) i) }
 {
-    let row = row_of_all(alloc, named, read)?;
+    let row = row_of_all(alloc, index, read)?;
     let turned = turned(alloc, &dictionary.mentions)?;
-    let marks = marks_at(alloc, named.len(), &row)?;
+    let marks = marks_at(alloc, index.named.len(), &row)?;
     Ok(spread(&turned, marks))
 }
 
@@ -124,20 +125,20 @@ fn marked_of(
 /// The definitions that rules reach, in the order of the text.
 pub(crate) fn definitions_of(
     alloc: Global,
-    named: &[Named],
+    index: &Index,
     dictionary: Dictionary,
     read: &[ReadRule],
 ) -> Result<Vec<Definition>, AllocError>
-    requires dictionary { IsDictionary (map named_view named.now) (dictionary_view dictionary) }
-    requires readable { (i : ℕ) → IsReached (map named_view named.now) (trees_view dictionary.trees.items) (patterns_in (map said_view read.now)) i → is_marked (unreadable_marks (trees_view dictionary.trees.items)) i ≡ false }
-    ensures definitions { IfOk result (λ v. AreReached (IsReached (map named_view named.now) (trees_view dictionary.trees.items) (patterns_in (map said_view read.now))) 0 (map named_view named.now) (trees_view dictionary.trees.items) (map definition_view v.items)) }
-    ensures few { IfOk result (λ v. vec_len v ≤ length named.now) }
+    requires dictionary { IsDictionary (map named_view index.now.named.now) (dictionary_view dictionary) }
+    requires readable { (i : ℕ) → IsReached (map named_view index.now.named.now) (trees_view dictionary.trees.items) (patterns_in (map said_view read.now)) i → is_marked (unreadable_marks (trees_view dictionary.trees.items)) i ≡ false }
+    ensures definitions { IfOk result (λ v. AreReached (IsReached (map named_view index.now.named.now) (trees_view dictionary.trees.items) (patterns_in (map said_view read.now))) 0 (map named_view index.now.named.now) (trees_view dictionary.trees.items) (map definition_view v.items)) }
+    ensures few { IfOk result (λ v. vec_len v ≤ length index.now.named.now) }
 {
-    let marks = reached_of(alloc, named, &dictionary, read)?;
+    let marks = reached_of(alloc, index, &dictionary, read)?;
     let Dictionary {
         trees,
         mentions: _,
         incomplete: _,
     } = dictionary;
-    marked_of(alloc, named, &marks, trees)
+    marked_of(alloc, index.named, &marks, trees)
 }

@@ -17,6 +17,7 @@ use crate::basis::Basis;
 use crate::build::spec_of;
 use crate::dictionary::{Dictionary, read_dictionary};
 use crate::fault::{Code, SpecFault};
+use crate::index::{Index, index_of};
 use crate::outlook::outlook_of;
 use crate::said::{ReadRule, read_rules};
 use crate::section::read_sections;
@@ -27,20 +28,22 @@ use lx_ere::read::{one_reading, one_substitute};
 use std::alloc::Global;
 
 // What the definitions read as and what the rules say, or the first fault of the rules.
-fn read_sheet<'r>(
+fn read_sheet<'r, 't>(
     alloc: Global,
-    sheet: &'r Sheet,
+    sheet: &'r Sheet<'t>,
+    index: &'r Index<'r, 't>,
 ) -> Result<(Dictionary, Vec<ReadRule<'r>>), SpecFault>
+    requires { index.now.named.now ≡ sheet.now.names.items }
     ensures fault { IfErr result (λ f. f.code ≢ Code.Memory → (trees : List (Option Regex)) × AreTrees (sheet_view sheet.now).names trees × IsFirstFault (ground_of (sheet_view sheet.now) trees) (cases (sheet_view sheet.now).rules) f) }
     ensures dictionary { IfOk result (λ r. IsDictionary (sheet_view sheet.now).names (dictionary_view r.0)) }
     ensures clean { IfOk result (λ r. HoldsOfNone (Holds (ground_of (sheet_view sheet.now) (trees_view r.0.trees.items))) (cases (sheet_view sheet.now).rules)) }
     ensures says { IfOk result (λ r. AreSaid (sheet_view sheet.now).states (sheet_view sheet.now).rules (map said_view r.1.items)) }
 {
-    let dictionary = read_dictionary(alloc, &sheet.names)?;
+    let dictionary = read_dictionary(alloc, index)?;
     let outlook = outlook_of(alloc, &dictionary)?;
     let basis = Basis {
         states: &sheet.states,
-        named: &sheet.names,
+        index,
         dictionary: &dictionary,
         outlook: &outlook,
     };
@@ -64,8 +67,9 @@ pub fn read_spec(alloc: Global, text: &[u8]) -> Result<Spec, SpecFault>
     }
     let sheet = read_sections(alloc, text)?;
     some_pattern_end();
-    let (dictionary, read) = read_sheet(alloc, &sheet)?;
-    let spec = spec_of(alloc, &sheet, dictionary, read)?;
+    let index = index_of(alloc, &sheet.names)?;
+    let (dictionary, read) = read_sheet(alloc, &sheet, &index)?;
+    let spec = spec_of(alloc, &sheet, &index, dictionary, read)?;
     Ok(spec)
 }
 

@@ -5,4 +5,4 @@ use Rattle.lx_spec.proofs.Reading.{ReadSome}
 use Rattle.lx_spec.proofs.dictionary.read_dictionary.Given as goal
 
 abbrev pub invariant-loop-i : goal.invariant-loop-i
-invariant-loop-i l = ReadSome (map named_view l.named) l.i (dictionary_view l.dictionary)
+invariant-loop-i l = ReadSome (map named_view l.index.named.now) l.i (dictionary_view l.dictionary)

@@ -12,11 +12,11 @@ no_name = record { name = record { ref_ptr = (0, 0); now = [] }; substitute = re
 
 pub returns : goal.returns
 returns c =
-    let named = map named_view c.args.named.now in
+    let named = map named_view c.args.index.now.named.now in
     let tree = tree_view c.in_ok-tree.tree in
     record {
-      definition = named_view (get_or c.args.named.now c.args.i no_name);
-      at = at_map named_view c.args.named.now c.args.i no_name c.requires;
+      definition = named_view (get_or c.args.index.now.named.now c.args.i no_name);
+      at = at_map named_view c.args.index.now.named.now c.args.i no_name c.requires;
       tree = tree;
       reads = c.in_ok-tree.ensures;
       trees = ap trees_view c.in_ok-push-2.ensures.items ∙ map_push tree_view c.args.dictionary.trees.items c.in_ok-tree.tree;

@@ -15,12 +15,12 @@ use Rattle.lx_spec.proofs.reach.definitions_of.Goals as goal
 pub marked_of-requires-clause-trees : goal.marked_of-requires-clause-trees
 marked_of-requires-clause-trees c =
     let views = length-map c.args.dictionary.trees.items tree_view in
-    let same = trees-length (map named_view c.args.named.now) (trees_view c.args.dictionary.trees.items) c.requires.dictionary.trees in
-    omega (arith, views, same, length-map c.args.named.now named_view)
+    let same = trees-length (map named_view c.args.index.now.named.now) (trees_view c.args.dictionary.trees.items) c.requires.dictionary.trees in
+    omega (arith, views, same, length-map c.args.index.now.named.now named_view)
 
 pub returns-clause-definitions : goal.returns-clause-definitions
 returns-clause-definitions c =
-    let named = map named_view c.args.named.now in
+    let named = map named_view c.args.index.now.named.now in
     let trees = trees_view c.args.dictionary.trees.items in
     let from = patterns_in (map said_view c.args.read.now) in
     let says : (i : ℕ) → IsTrue (is_marked c.deref.result.now i) ↔ IsReached named trees from i = subst (λ (l : List Bool). (i : ℕ) → IsTrue (is_marked l i) ↔ IsReached named trees from i) (sym c.deref.ensures.value) c.in_ok-marks.ensures.reached in
@@ -29,9 +29,9 @@ returns-clause-definitions c =
 
 pub returns-clause-few : goal.returns-clause-few
 returns-clause-few c =
-    let named = map named_view c.args.named.now in
+    let named = map named_view c.args.index.now.named.now in
     let trees = trees_view c.args.dictionary.trees.items in
-    IfOk-weaker c.marked_of.result (λ v. AreReached (λ j. IsTrue (is_marked c.deref.result.now j)) 0 named trees (map definition_view v.items)) (λ v. vec_len v ≤ length c.args.named.now)
+    IfOk-weaker c.marked_of.result (λ v. AreReached (λ j. IsTrue (is_marked c.deref.result.now j)) 0 named trees (map definition_view v.items)) (λ v. vec_len v ≤ length c.args.index.now.named.now)
     (λ v are.
     let few = reached-few (λ j. IsTrue (is_marked c.deref.result.now j)) 0 named trees (map definition_view v.items) are in
-    omega (arith, few, length-map v.items definition_view, length-map c.args.named.now named_view)) c.marked_of.ensures
+    omega (arith, few, length-map v.items definition_view, length-map c.args.index.now.named.now named_view)) c.marked_of.ensures

@@ -15,23 +15,23 @@ use Rattle.lx_spec.proofs.reach.reached_of.Goals as goal
 
 pub marks_at-requires : goal.marks_at-requires
 marks_at-requires c = λ k less.
-    let named = map named_view c.args.named.now in
+    let named = map named_view c.args.index.now.named.now in
     let row : c.deref-2.result.now ≡ flat_map (row_of named) (patterns_in (map said_view c.args.read.now)) = c.deref-2.ensures.value ∙ c.in_ok-row.ensures in
     let within = rows-within named (patterns_in (map said_view c.args.read.now)) k (subst (λ (l : List ℕ). k < length l) row less) in
     let at : slice_index c.deref-2.result.now k ≡ slice_index (flat_map (row_of named) (patterns_in (map said_view c.args.read.now))) k = ap (λ (l : List ℕ). slice_index l k) row in
-    omega (arith, within, at, length-map c.args.named.now named_view)
+    omega (arith, within, at, length-map c.args.index.now.named.now named_view)
 
 pub spread-requires : goal.spread-requires
 spread-requires c =
-    let named = map named_view c.args.named.now in
+    let named = map named_view c.args.index.now.named.now in
     let known = dictionary_view c.args.dictionary.now in
     let ms : c.deref-3.result.now ≡ map turned c.args.dictionary.now.mentions.items = c.deref-3.ensures.value ∙ c.in_ok-turned.ensures ∙ ap (map turned) c.deref.ensures.value in
-    let count : length known.trees ≡ vec_len c.in_ok-marks.marks = trees-length named known.trees c.requires.trees ∙ length-map c.args.named.now named_view ∙ sym c.in_ok-marks.ensures.len in
+    let count : length known.trees ≡ vec_len c.in_ok-marks.marks = trees-length named known.trees c.requires.trees ∙ length-map c.args.index.now.named.now named_view ∙ sym c.in_ok-marks.ensures.len in
     subst (λ (l : List Mention). AreBelow l (vec_len c.in_ok-marks.marks)) (sym ms) (subst (λ (n : ℕ). AreBelow (map turned c.args.dictionary.now.mentions.items) n) count (turned-below c.args.dictionary.now.mentions.items (length known.trees) (dictionary-below named known c.requires)))
 
 pub returns-clause-reached : goal.returns-clause-reached
 returns-clause-reached c =
-    let named = map named_view c.args.named.now in
+    let named = map named_view c.args.index.now.named.now in
     let known = dictionary_view c.args.dictionary.now in
     let from = patterns_in (map said_view c.args.read.now) in
     let row : c.deref-2.result.now ≡ flat_map (row_of named) from = c.deref-2.ensures.value ∙ c.in_ok-row.ensures in

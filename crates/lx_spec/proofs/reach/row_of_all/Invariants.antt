@@ -7,4 +7,4 @@ use Rattle.lx_spec.specs.SheetViews.{named_view}
 use Rattle.lx_spec.proofs.reach.row_of_all.Given as goal
 
 abbrev pub invariant-loop-i : goal.invariant-loop-i
-invariant-loop-i l = l.row.items ≡ flat_map (row_of (map named_view l.named)) (patterns_in (map said_view (take l.i l.read)))
+invariant-loop-i l = l.row.items ≡ flat_map (row_of (map named_view l.index.named.now)) (patterns_in (map said_view (take l.i l.read)))
