@@ -1,15 +1,16 @@
--- Marks and depths, one mention further.
+-- Who mentions a definition, marks that spread from mentioner to mentioner, and depths, one mention further.
 use Rattle.std.proofs.lemmas.Bool.{eqb-true, eqb-false}
 use Rattle.std.proofs.Math.ListN.{set}
-use Rattle.std.proofs.Common.{[], ◌∷◌, map, replicate, ◌≡◌, ◌≢◌, ◌∙◌, get_or-set_same, get_or-set_other, nat_eq, nat_le, ℕ, zero, suc, ◌+◌, ◌<◌, ◌≤◌, min, max, Bool, true, false, not, cond, ◌||◌, ◌⊎◌, inl, inr, List, length, get_or, refl, sym, ap, subst, arith}
-use mathlib.Core.Bool.{beq}
+use Rattle.std.proofs.Common.{[], ◌∷◌, ◌++◌, map, replicate, ◌≡◌, ◌≢◌, ◌∙◌, ◌↔◌, get_or-set_same, get_or-set_other, nat_eq, nat_le, ℕ, zero, suc, ◌+◌, ◌<◌, ◌≤◌, min, max, Bool, true, false, ◌⊎◌, inl, inr, List, Global, length, length-append, get_or, refl, sym, ap, subst, arith}
 use Rattle.std.specs.Prelude.{slice_index, IsTrue, Contains}
-use Rattle.std.proofs.lemmas.List.Elements.{Contains-get_or}
+use Rattle.std.specs.declared.vec.Vec.{Vec}
+use Rattle.std.proofs.lemmas.List.{length-map, length-set, map-set, get_or-map}
+use Rattle.std.proofs.lemmas.List.Elements.{Contains-get_or, Contains-push, Contains-push_cases, Contains-append_left}
 use Rattle.std.proofs.lemmas.Bool.Decides.{nat_tests}
 use Rattle.std.proofs.lemmas.Bool.{false≢true}
 use borrow.Author.Count.{below_more}
 use Rattle.lx_spec.specs.declared.graph.Mention.{Mention}
-use Rattle.lx_spec.specs.Graph.{nowhere, IsMention, Leads, itself, along, AreLed, StayMarked, AreClosed, is_marked, unmarked, Follow, AreSound, Reach}
+use Rattle.lx_spec.specs.Graph.{nowhere, IsMention, AreBelow, Leads, itself, along, AreMarked, list_at, is_marked, unmarked, Follow, AreSound, Reach}
 
 -- a value at one place, and the others as they were
 pub set_cases : {A : Type 0} (P : ℕ → A → Type 0) (xs : List A) (i : ℕ) (v d : A) → i < length xs → ((q : ℕ) → q ≢ i → P q (get_or xs q d)) → P i v → (q : ℕ) → P q (get_or (set xs i v) q d)
@@ -24,121 +25,190 @@ set_cases {A} P xs i v d less others here q = by (nat_eq q i) refl where
       let value : get_or (set xs i v) q d ≡ get_or xs q d = get_or-set_other xs i q v d other in
       subst (λ (w : A). P q w) (sym value) (others q other)
 
-either : (a b : Bool) (C : Type 0) → IsTrue (a || b) → (IsTrue a → C) → (IsTrue b → C) → C
-either true b C h f g = f refl
-either false b C h f g = g h
+marked-within : (marks : List Bool) (i : ℕ) → IsTrue (is_marked marks i) → i < length marks
+marked-within [] i h = absurd (false≢true h)
+marked-within (m ∷ marks) zero h = omega arith
+marked-within (m ∷ marks) (suc i) h = let l = marked-within marks i h in omega (arith, l)
 
-or-left : (a b : Bool) → IsTrue a → IsTrue (a || b)
-or-left true b h = refl
-or-left false b h = absurd (false≢true h)
+-- the list that was read at a place
+list-read : (lists : List (Vec ℕ Global)) (j : ℕ) (list : Vec ℕ Global) → j < length lists → list ≡ get_or lists j list → list_at lists j ≡ list.items
+list-read lists j list less e = get_or-map (λ (list : Vec ℕ Global). list.items) lists j list [] less ∙ ap (λ (list : Vec ℕ Global). list.items) (sym e)
 
-pub led_one : (ms : List Mention) (bads marks : List Bool) (k : ℕ) (f t : ℕ) → k < length ms → (get_or ms k nowhere).from ≡ f → (get_or ms k nowhere).to ≡ t → f < length marks
-    → AreLed ms bads marks → AreLed ms bads (set marks f (get_or marks f false || get_or marks t false))
-led_one ms bads marks k f t within from to less led = set_cases (λ q b. IsTrue b → Leads ms bads q) marks f (get_or marks f false || get_or marks t false) false less
-    (λ q _ h. led q h)
-    (λ h. either (get_or marks f false) (get_or marks t false) (Leads ms bads f) h (λ a. led f a) (λ b. along f t (record { place = k; within = within; from = from; to = to }) (led t b)))
+-- The lists of those that mention each definition, after some of the mentions.
+pub record Listing (ms : List Mention) (lists : List (Vec ℕ Global)) (n : ℕ) : Type 0 where
+  pub only : (i j : ℕ) → Contains (list_at lists j) i → IsMention ms i j
+  pub all : (k : ℕ) → k < n → Contains (list_at lists (get_or ms k nowhere).to) (get_or ms k nowhere).from
 
-pub stay_one : (old marks : List Bool) (f t : ℕ) → f < length marks → StayMarked old marks → StayMarked old (set marks f (get_or marks f false || get_or marks t false))
-stay_one old marks f t less stay = set_cases (λ q b. IsTrue (get_or old q false) → IsTrue b) marks f (get_or marks f false || get_or marks t false) false less
-    (λ q _ h. stay q h)
-    (λ h. or-left (get_or marks f false) (get_or marks t false) (stay f h))
-
--- writing what stands there changes nothing
-pub same_one : (marks : List Bool) (f : ℕ) (v : Bool) → f < length marks → v ≡ get_or marks f false → (q : ℕ) → get_or (set marks f v) q false ≡ get_or marks q false
-same_one marks f v less e = set_cases (λ q b. b ≡ get_or marks q false) marks f v false less (λ q _. refl) e
-
-pub closed_one : (ms : List Mention) (marks : List Bool) (i f t : ℕ) → (get_or ms i nowhere).from ≡ f → (get_or ms i nowhere).to ≡ t → f < length marks
-    → (get_or marks f false || get_or marks t false) ≡ get_or marks f false
-    → ((k : ℕ) → k < i → IsTrue (is_marked marks (get_or ms k nowhere).to) → IsTrue (is_marked marks (get_or ms k nowhere).from))
-    → (k : ℕ) → k < i + 1 → IsTrue (is_marked (set marks f (get_or marks f false || get_or marks t false)) (get_or ms k nowhere).to) → IsTrue (is_marked (set marks f (get_or marks f false || get_or marks t false)) (get_or ms k nowhere).from)
-closed_one ms marks i f t from to less e old =
-    let v : Bool = get_or marks f false || get_or marks t false in
-    let same : (q : ℕ) → get_or (set marks f v) q false ≡ get_or marks q false = same_one marks f v less e in
-    let back : (q : ℕ) → IsTrue (is_marked marks q) → IsTrue (is_marked (set marks f v) q) = λ q h. same q ∙ h in
-    let forth : (q : ℕ) → IsTrue (is_marked (set marks f v) q) → IsTrue (is_marked marks q) = λ q h. sym (same q) ∙ h in
-    below_more (λ k. IsTrue (is_marked (set marks f v) (get_or ms k nowhere).to) → IsTrue (is_marked (set marks f v) (get_or ms k nowhere).from)) i
-    (λ k less' h. back (get_or ms k nowhere).from (old k less' (forth (get_or ms k nowhere).to h)))
-    (λ h. back (get_or ms i nowhere).from (ap (λ (q : ℕ). get_or marks q false) from ∙ sym e ∙ last (get_or marks f false) (get_or marks t false) (sym (ap (λ (q : ℕ). get_or marks q false) to) ∙ forth (get_or ms i nowhere).to h)))
-  where
-    last : (a b : Bool) → b ≡ true → (a || b) ≡ true
-    last true b h = refl
-    last false b h = h
-
-pub count-kept : (marks : List Bool) (f : ℕ) (b : Bool) → unmarked (set marks f (get_or marks f false || b)) ≤ unmarked marks
-count-kept [] f b = omega arith
-count-kept (true ∷ marks) zero b = omega arith
-count-kept (false ∷ marks) zero true = let h : unmarked marks ≤ suc (unmarked marks) = omega arith in h
-count-kept (false ∷ marks) zero false = let h : suc (unmarked marks) ≤ suc (unmarked marks) = omega arith in h
-count-kept (true ∷ marks) (suc f) b = count-kept marks f b
-count-kept (false ∷ marks) (suc f) b =
-    let h : unmarked (set marks f (get_or marks f false || b)) ≤ unmarked marks = count-kept marks f b in
-    let g : suc (unmarked (set marks f (get_or marks f false || b))) ≤ suc (unmarked marks) = omega (arith, h) in
-    g
-
-pub count-fewer : (marks : List Bool) (f : ℕ) (b : Bool) → f < length marks → get_or marks f false ≡ false → (get_or marks f false || b) ≡ true → unmarked (set marks f (get_or marks f false || b)) < unmarked marks
-count-fewer [] f b less e g = absurd (omega arith)
-count-fewer (true ∷ marks) zero b less e g = cc
-count-fewer (false ∷ marks) zero true less e g = let h : unmarked marks < suc (unmarked marks) = omega arith in h
-count-fewer (false ∷ marks) zero false less e g = cc
-count-fewer (true ∷ marks) (suc f) b less e g = count-fewer marks f b (omega arith) e g
-count-fewer (false ∷ marks) (suc f) b less e g =
-    let h : unmarked (set marks f (get_or marks f false || b)) < unmarked marks = count-fewer marks f b (omega arith) e g in
-    let k : suc (unmarked (set marks f (get_or marks f false || b))) < suc (unmarked marks) = omega (arith, h) in
-    k
-
--- The marks after some mentions of a round that began with other marks, where `changed` says whether one was made.
-pub record Marking (ms : List Mention) (initial marks : List Bool) (changed : Bool) (i : ℕ) : Type 0 where
-  pub led : (bads : List Bool) → AreLed ms bads initial → AreLed ms bads marks
-  pub stay : StayMarked initial marks
-  pub closed : changed ≡ false → (k : ℕ) → k < i → IsTrue (is_marked marks (get_or ms k nowhere).to) → IsTrue (is_marked marks (get_or ms k nowhere).from)
-  pub fewer : changed ≡ true → unmarked marks < unmarked initial
-  pub no_more : unmarked marks ≤ unmarked initial
-
-pub Marking-start : (ms : List Mention) (marks : List Bool) → Marking ms marks marks false 0
-Marking-start ms marks = record { led = λ bads l. l; stay = λ i h. h; closed = λ e k less. absurd (omega arith); fewer = λ e. absurd (false≢true e); no_more = omega arith }
-
-unchanged : (c v a : Bool) → (c || not (beq v a)) ≡ false → (c ≡ false) × (v ≡ a)
-unchanged false true true e = (refl, refl)
-unchanged false false false e = (refl, refl)
-unchanged false true false e = cc
-unchanged false false true e = cc
-unchanged true v a e = cc
-
-changed-cases : (c a b : Bool) → (c || not (beq (a || b) a)) ≡ true → (c ≡ true) ⊎ ((a ≡ false) × ((a || b) ≡ true))
-changed-cases true a b e = inl refl
-changed-cases false true b e = cc
-changed-cases false false true e = inr (refl, refl)
-changed-cases false false false e = cc
-
-marking-more : (ms : List Mention) (initial marks : List Bool) (changed : Bool) (i f t : ℕ) → Marking ms initial marks changed i → i < length ms → (get_or ms i nowhere).from ≡ f → (get_or ms i nowhere).to ≡ t
-    → f < length marks → Marking ms initial (set marks f (get_or marks f false || get_or marks t false)) (changed || not (beq (get_or marks f false || get_or marks t false) (get_or marks f false))) (i + 1)
-marking-more ms initial marks changed i f t m within from to less = record {
-  led = λ bads l. led_one ms bads marks i f t within from to less (m.led bads l);
-  stay = stay_one initial marks f t less m.stay;
-  closed = λ e. let u = unchanged changed (get_or marks f false || get_or marks t false) (get_or marks f false) e in closed_one ms marks i f t from to less u.1 (m.closed u.0);
-  fewer = λ e. fewer (changed-cases changed (get_or marks f false) (get_or marks t false) e);
-  no_more = let h = count-kept marks f (get_or marks t false) in omega (arith, h, m.no_more);
+pub Listing-more : (ms : List Mention) (lists : List (Vec ℕ Global)) (n f t : ℕ) (old new : Vec ℕ Global) → Listing ms lists n → n < length ms → (get_or ms n nowhere).from ≡ f → (get_or ms n nowhere).to ≡ t → t < length lists
+    → old ≡ get_or lists t old → new.items ≡ old.items ++ f ∷ [] → Listing ms (set lists t new) (n + 1)
+Listing-more ms lists n f t old new l within from to less is items = record {
+  only = λ i j. subst (λ (row : List ℕ). Contains row i → IsMention ms i j) (sym (row_is j))
+      (set_cases (λ q row. Contains row i → IsMention ms i q) rows t new.items [] inside (λ q _. l.only i q) (λ c. this i (Contains-push_cases old.items f i (subst (λ (row : List ℕ). Contains row i) items c))) j);
+  all = below_more (λ k. Contains (list_at (set lists t new) (get_or ms k nowhere).to) (get_or ms k nowhere).from) n
+      (λ k before. kept (get_or ms k nowhere).to (get_or ms k nowhere).from (l.all k before))
+      (subst (λ (q : ℕ). Contains (list_at (set lists t new) q) (get_or ms n nowhere).from) (sym to) (subst (λ (i : ℕ). Contains (list_at (set lists t new) t) i) (sym from)
+      (subst (λ (row : List ℕ). Contains row f) (sym (row_is t ∙ get_or-set_same rows t new.items [] inside ∙ items)) (Contains-push old.items f))));
 } where
-  fewer : (changed ≡ true) ⊎ ((get_or marks f false ≡ false) × ((get_or marks f false || get_or marks t false) ≡ true)) → unmarked (set marks f (get_or marks f false || get_or marks t false)) < unmarked initial
-  fewer (inl e) = let h = count-kept marks f (get_or marks t false) in let g = m.fewer e in omega (arith, h, g)
-  fewer (inr (e, g)) = let h = count-fewer marks f (get_or marks t false) less e g in omega (arith, h, m.no_more)
+  rows : List (List ℕ)
+  rows = map (λ (list : Vec ℕ Global). list.items) lists
 
--- one mention further, with what was read at its ends
-pub Marking-more : (ms : List Mention) (initial marks : List Bool) (changed : Bool) (i f t : ℕ) (a b : Bool) → Marking ms initial marks changed i → i < length ms → (get_or ms i nowhere).from ≡ f → (get_or ms i nowhere).to ≡ t
-    → f < length marks → get_or marks f false ≡ a → get_or marks t false ≡ b → Marking ms initial (set marks f (a || b)) (changed || not (beq (a || b) a)) (i + 1)
-Marking-more ms initial marks changed i f t a b m within from to less x y =
-    subst (λ (v : Bool). Marking ms initial (set marks f (a || v)) (changed || not (beq (a || v) a)) (i + 1)) y
-    (subst (λ (u : Bool). Marking ms initial (set marks f (u || get_or marks t false)) (changed || not (beq (u || get_or marks t false) u)) (i + 1)) x (marking-more ms initial marks changed i f t m within from to less))
+  inside : t < length rows
+  inside = omega (arith, less, length-map lists (λ (list : Vec ℕ Global). list.items))
 
-pub Marking-closed : (ms : List Mention) (initial marks : List Bool) (n : ℕ) → Marking ms initial marks false n → length ms ≤ n → AreClosed ms marks
-Marking-closed ms initial marks n m all i j e h =
-    let at : IsTrue (is_marked marks (get_or ms e.place nowhere).to) = ap (λ (q : ℕ). get_or marks q false) e.to ∙ h in
-    sym (ap (λ (q : ℕ). get_or marks q false) e.from) ∙ m.closed refl e.place (let l = e.within in omega arith) at
+  row_is : (j : ℕ) → list_at (set lists t new) j ≡ get_or (set rows t new.items) j []
+  row_is j = ap (λ (r : List (List ℕ)). get_or r j []) (map-set (λ (list : Vec ℕ Global). list.items) lists t new)
 
--- what leads to a mark is marked, where the marks are closed
-pub Leads-marked : (ms : List Mention) (old new : List Bool) (i : ℕ) → StayMarked old new → AreClosed ms new → Leads ms old i → IsTrue (is_marked new i)
-Leads-marked ms old new _ stay closed (itself i h) = stay i h
-Leads-marked ms old new _ stay closed (along i j m l) = closed i j m (Leads-marked ms old new j stay closed l)
+  was : list_at lists t ≡ old.items
+  was = list-read lists t old less is
+
+  this : (i : ℕ) → Contains old.items i ⊎ (f ≡ i) → IsMention ms i t
+  this i (inl c) = l.only i t (subst (λ (row : List ℕ). Contains row i) (sym was) c)
+  this i (inr e) = record { place = n; within = within; from = from ∙ e; to = to }
+
+  kept : (j i : ℕ) → Contains (list_at lists j) i → Contains (list_at (set lists t new) j) i
+  kept j i = subst (λ (row : List ℕ). Contains (list_at lists j) i → Contains row i) (sym (row_is j))
+      (set_cases (λ q row. Contains (list_at lists q) i → Contains row i) rows t new.items [] inside (λ q _ c. c)
+      (λ c. subst (λ (row : List ℕ). Contains row i) (sym items) (Contains-append_left old.items (f ∷ []) i (subst (λ (row : List ℕ). Contains row i) was c))) j)
+
+pub Listing-whole : (ms : List Mention) (lists : List (Vec ℕ Global)) (n : ℕ) → Listing ms lists n → length ms ≤ n → (i j : ℕ) → Contains (list_at lists j) i ↔ IsMention ms i j
+Listing-whole ms lists n l all i j = (
+  l.only i j,
+  λ m. subst (λ (q : ℕ). Contains (list_at lists q) i) m.to (subst (λ (f : ℕ). Contains (list_at lists (get_or ms m.place nowhere).to) f) m.from (l.all m.place (let w = m.within in omega (arith, w)))),
+)
+
+pub mentioner-below : (ms : List Mention) (n i j : ℕ) → AreBelow ms n → IsMention ms i j → i < n
+mentioner-below ms n i j below m = let b = (below m.place m.within).0 in let e = m.from in omega (arith, b, e)
+
+marks-one : (marks : List Bool) (i : ℕ) → i < length marks → is_marked marks i ≡ false → unmarked (set marks i true) + 1 ≡ unmarked marks
+marks-one [] i less e = absurd (omega arith)
+marks-one (true ∷ marks) zero less e = cc
+marks-one (false ∷ marks) zero less e = omega arith
+marks-one (true ∷ marks) (suc i) less e = marks-one marks i (omega arith) e
+marks-one (false ∷ marks) (suc i) less e = let h = marks-one marks i (omega arith) e in omega (arith, h)
+
+module _ (numbers : List ℕ) (old new : List Bool) (before after : List ℕ) (m : AreMarked numbers old new before after) (x : ℕ) where
+  weaker : (i : ℕ) (A : Type 0) → A ⊎ Contains numbers i → A ⊎ Contains (numbers ++ x ∷ []) i
+  weaker i A (inl a) = inl a
+  weaker i A (inr c) = inr (Contains-append_left numbers (x ∷ []) i c)
+
+  stacked : (i : ℕ) → Contains before i ⊎ ((is_marked old i ≡ false) × Contains numbers i) → Contains before i ⊎ ((is_marked old i ≡ false) × Contains (numbers ++ x ∷ []) i)
+  stacked i (inl b) = inl b
+  stacked i (inr (u, c)) = inr (u, Contains-append_left numbers (x ∷ []) i c)
+
+  -- a number more that is marked already
+  pub AreMarked-again : IsTrue (is_marked new x) → AreMarked (numbers ++ x ∷ []) old new before after
+  AreMarked-again h = record {
+    len = m.len;
+    marks = λ i. (λ g. weaker i (IsTrue (is_marked old i)) ((m.marks i).0 g), back i);
+    stack = λ i. (λ c. stacked i ((m.stack i).0 c), under i);
+    each_once = m.each_once;
+  } where
+    back : (i : ℕ) → IsTrue (is_marked old i) ⊎ Contains (numbers ++ x ∷ []) i → IsTrue (is_marked new i)
+    back i (inl a) = (m.marks i).1 (inl a)
+    back i (inr c) = last (Contains-push_cases numbers x i c) where
+      last : Contains numbers i ⊎ (x ≡ i) → IsTrue (is_marked new i)
+      last (inl d) = (m.marks i).1 (inr d)
+      last (inr e) = subst (λ (q : ℕ). IsTrue (is_marked new q)) e h
+
+    under : (i : ℕ) → Contains before i ⊎ ((is_marked old i ≡ false) × Contains (numbers ++ x ∷ []) i) → Contains after i
+    under i (inl b) = (m.stack i).1 (inl b)
+    under i (inr (u, c)) = last (Contains-push_cases numbers x i c) where
+      known : IsTrue (is_marked old i) ⊎ Contains numbers i → Contains after i
+      known (inl a) = absurd (false≢true (sym u ∙ a))
+      known (inr d) = (m.stack i).1 (inr (u, d))
+
+      last : Contains numbers i ⊎ (x ≡ i) → Contains after i
+      last (inl d) = (m.stack i).1 (inr (u, d))
+      last (inr e) = known ((m.marks i).0 (subst (λ (q : ℕ). IsTrue (is_marked new q)) e h))
+
+  -- a number more that isn't marked yet
+  pub AreMarked-new : x < length new → is_marked new x ≡ false → AreMarked (numbers ++ x ∷ []) old (set new x true) before (after ++ x ∷ [])
+  AreMarked-new less u = record {
+    len = length-set new x true ∙ m.len;
+    marks = set_cases (λ i b. IsTrue b ↔ (IsTrue (is_marked old i) ⊎ Contains (numbers ++ x ∷ []) i)) new x true false less
+        (λ i other. (λ g. weaker i (IsTrue (is_marked old i)) ((m.marks i).0 g), back i other))
+        (λ _. inr (Contains-push numbers x), λ _. refl);
+    stack = λ i. (λ c. over i (Contains-push_cases after x i c), under i);
+    each_once = let h = marks-one new x less u in let g = m.each_once in let l = length-append after (x ∷ []) in omega (arith, h, g, l);
+  } where
+    back : (i : ℕ) → i ≢ x → IsTrue (is_marked old i) ⊎ Contains (numbers ++ x ∷ []) i → IsTrue (is_marked new i)
+    back i other (inl a) = (m.marks i).1 (inl a)
+    back i other (inr c) = last (Contains-push_cases numbers x i c) where
+      last : Contains numbers i ⊎ (x ≡ i) → IsTrue (is_marked new i)
+      last (inl d) = (m.marks i).1 (inr d)
+      last (inr e) = absurd (other (sym e))
+
+    never : (b : Bool) → is_marked old x ≡ b → is_marked old x ≡ false
+    never true e = absurd (false≢true (sym u ∙ (m.marks x).1 (inl e)))
+    never false e = e
+
+    over : (i : ℕ) → Contains after i ⊎ (x ≡ i) → Contains before i ⊎ ((is_marked old i ≡ false) × Contains (numbers ++ x ∷ []) i)
+    over i (inl c) = stacked i ((m.stack i).0 c)
+    over i (inr e) = subst (λ (q : ℕ). Contains before q ⊎ ((is_marked old q ≡ false) × Contains (numbers ++ x ∷ []) q)) e (inr (never (is_marked old x) refl, Contains-push numbers x))
+
+    under : (i : ℕ) → Contains before i ⊎ ((is_marked old i ≡ false) × Contains (numbers ++ x ∷ []) i) → Contains (after ++ x ∷ []) i
+    under i (inl b) = Contains-append_left after (x ∷ []) i ((m.stack i).1 (inl b))
+    under i (inr (v, c)) = last (Contains-push_cases numbers x i c) where
+      last : Contains numbers i ⊎ (x ≡ i) → Contains (after ++ x ∷ []) i
+      last (inl d) = Contains-append_left after (x ∷ []) i ((m.stack i).1 (inr (v, d)))
+      last (inr e) = subst (Contains (after ++ x ∷ [])) e (Contains-push after x)
+
+-- the list that was read of the mentioners of a definition
+pub mentioners-read : (ms : List Mention) (lists : List (Vec ℕ Global)) (j : ℕ) (list : Vec ℕ Global) (numbers : List ℕ) → ((i j : ℕ) → Contains (list_at lists j) i ↔ IsMention ms i j)
+    → j < length lists → list ≡ get_or lists j list → numbers ≡ list.items → (i : ℕ) → Contains numbers i ↔ IsMention ms i j
+mentioners-read ms lists j list numbers each less e is i = subst (λ (l : List ℕ). Contains l i ↔ IsMention ms i j) (list-read lists j list less e ∙ sym is) (each i j)
+
+-- The marks while they spread: only a definition on the stack can be marked and have mentioners that aren't.
+pub record Spreading (ms : List Mention) (initial marks : List Bool) (stack : List ℕ) : Type 0 where
+  pub led : (i : ℕ) → IsTrue (is_marked marks i) → Leads ms initial i
+  pub stay : (i : ℕ) → IsTrue (is_marked initial i) → IsTrue (is_marked marks i)
+  pub waits : (i : ℕ) → Contains stack i → IsTrue (is_marked marks i)
+  pub closed : (i j : ℕ) → IsMention ms i j → IsTrue (is_marked marks j) → Contains stack j ⊎ IsTrue (is_marked marks i)
+
+pub Spreading-start : (ms : List Mention) (marks : List Bool) (stack : List ℕ) → ((i : ℕ) → Contains stack i ↔ IsTrue (is_marked marks i)) → Spreading ms marks marks stack
+Spreading-start ms marks stack all = record { led = λ i h. itself i h; stay = λ i h. h; waits = λ i. (all i).0; closed = λ i j m h. inl ((all j).1 h) }
+
+-- the top of the stack is the number of a definition
+pub Spreading-top : (ms : List Mention) (initial marks : List Bool) (rest stack : List ℕ) (j : ℕ) → Spreading ms initial marks stack → stack ≡ rest ++ j ∷ [] → j < length marks
+Spreading-top ms initial marks rest stack j s e = marked-within marks j (s.waits j (subst (λ (l : List ℕ). Contains l j) (sym e) (Contains-push rest j)))
+
+-- the mentioners of the top of the stack were marked
+pub Spreading-more : (ms : List Mention) (initial marks new : List Bool) (rest stack numbers : List ℕ) (j : ℕ) → Spreading ms initial marks (rest ++ j ∷ [])
+    → ((i : ℕ) → Contains numbers i ↔ IsMention ms i j) → AreMarked numbers marks new rest stack → Spreading ms initial new stack
+Spreading-more ms initial marks new rest stack numbers j s each m = record {
+  led = λ i h. led i ((m.marks i).0 h);
+  stay = λ i h. (m.marks i).1 (inl (s.stay i h));
+  waits = λ i c. waits i ((m.stack i).0 c);
+  closed = λ i k e h. closed i k e (is_marked marks k) refl ((m.marks k).0 h);
+} where
+  led : (i : ℕ) → IsTrue (is_marked marks i) ⊎ Contains numbers i → Leads ms initial i
+  led i (inl h) = s.led i h
+  led i (inr c) = along i j ((each i).0 c) (s.led j (s.waits j (Contains-push rest j)))
+
+  waits : (i : ℕ) → Contains rest i ⊎ ((is_marked marks i ≡ false) × Contains numbers i) → IsTrue (is_marked new i)
+  waits i (inl c) = (m.marks i).1 (inl (s.waits i (Contains-append_left rest (j ∷ []) i c)))
+  waits i (inr (u, c)) = (m.marks i).1 (inr c)
+
+  popped : (i k : ℕ) → IsMention ms i k → Contains rest k ⊎ (j ≡ k) → Contains stack k ⊎ IsTrue (is_marked new i)
+  popped i k e (inl c) = inl ((m.stack k).1 (inl c))
+  popped i k e (inr same) = inr ((m.marks i).1 (inr ((each i).1 (subst (IsMention ms i) (sym same) e))))
+
+  before : (i k : ℕ) → IsMention ms i k → Contains (rest ++ j ∷ []) k ⊎ IsTrue (is_marked marks i) → Contains stack k ⊎ IsTrue (is_marked new i)
+  before i k e (inl c) = popped i k e (Contains-push_cases rest j k c)
+  before i k e (inr h) = inr ((m.marks i).1 (inl h))
+
+  closed : (i k : ℕ) → IsMention ms i k → (b : Bool) → is_marked marks k ≡ b → IsTrue (is_marked marks k) ⊎ Contains numbers k → Contains stack k ⊎ IsTrue (is_marked new i)
+  closed i k e true h w = before i k e (s.closed i k e h)
+  closed i k e false u (inl h) = absurd (false≢true (sym u ∙ h))
+  closed i k e false u (inr c) = inl ((m.stack k).1 (inr (u, c)))
+
+-- once the stack is empty, what leads to a mark is marked
+pub Spreading-done : (ms : List Mention) (initial marks : List Bool) (stack : List ℕ) → Spreading ms initial marks stack → length stack ≡ 0 → (i : ℕ) → Leads ms initial i → IsTrue (is_marked marks i)
+Spreading-done ms initial marks stack s none _ (itself i h) = s.stay i h
+Spreading-done ms initial marks stack s none _ (along i j m l) = by (s.closed i j m (Spreading-done ms initial marks stack s none j l)) where
+  by : Contains stack j ⊎ IsTrue (is_marked marks i) → IsTrue (is_marked marks i)
+  by (inl (k, less, e)) = absurd (omega arith)
+  by (inr h) = h
 
 pub sound_one : (ms : List Mention) (ds : List ℕ) (k f t v : ℕ) → k < length ms → (get_or ms k nowhere).from ≡ f → (get_or ms k nowhere).to ≡ t → f < length ds → v ≡ max (slice_index ds f) (min (slice_index ds t) 31 + 1)
     → AreSound (IsMention ms) ds → AreSound (IsMention ms) (set ds f v)
@@ -202,11 +272,6 @@ pub read_at : {A : Type 0} (xs : List A) (i : ℕ) (r d : A) → i < length xs �
 read_at [] i r d less e = absurd (omega arith)
 read_at (x ∷ xs) zero r d less e = sym e
 read_at (x ∷ xs) (suc i) r d less e = read_at xs i r d (omega arith) e
-
--- a round that makes a mark, or is the last one
-pub falls : (old new : List Bool) (was is : Bool) → was ≡ true → (is ≡ true → unmarked new < unmarked old) → unmarked new ≤ unmarked old → unmarked new + cond is 1 0 < unmarked old + cond was 1 0
-falls old new was true e fewer more = let h = fewer refl in let g : ◌≡◌ {A = ℕ} (cond was 1 0) 1 = ap (λ (b : Bool). cond b 1 0) e in omega (arith, h, g)
-falls old new was false e fewer more = let g : ◌≡◌ {A = ℕ} (cond was 1 0) 1 = ap (λ (b : Bool). cond b 1 0) e in omega (arith, more, g)
 
 -- the depths that are 32 or more
 pub deep_marks : (ds : List ℕ) (i : ℕ) → get_or (map (λ d. nat_le 32 d) ds) i false ≡ nat_le 32 (slice_index ds i)

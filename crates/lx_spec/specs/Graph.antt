@@ -1,5 +1,7 @@
 -- Which definition mentions which, by their numbers; what is led to a mark, and how many more names follow in a chain.
-use Rattle.std.specs.Prelude.{◌≡◌, ℕ, zero, suc, ◌<◌, ◌≤◌, Bool, false, true, IsTrue, List, [], ◌∷◌, length, slice_index, slice_index_or}
+use Rattle.std.specs.Prelude.{◌≡◌, ℕ, zero, suc, ◌+◌, ◌<◌, ◌≤◌, ◌↔◌, ◌⊎◌, Bool, false, true, IsTrue, List, [], ◌∷◌, length, map, slice_index, slice_index_or, Contains}
+use Rattle.std.specs.declared.alloc.Global.{Global}
+use Rattle.std.specs.declared.vec.Vec.{Vec}
 use Rattle.lx_spec.specs.declared.graph.Mention.{Mention}
 
 abbrev pub nowhere : Mention
@@ -30,16 +32,16 @@ unmarked [] = 0
 unmarked (true ∷ marks) = unmarked marks
 unmarked (false ∷ marks) = suc (unmarked marks)
 
--- Each new mark is of a definition that leads to an old one.
-abbrev pub AreLed : List Mention → List Bool → List Bool → Type 0
-AreLed mentions old new = (i : ℕ) → IsTrue (is_marked new i) → Leads mentions old i
+-- the list at this place
+abbrev pub list_at : List (Vec ℕ Global) → ℕ → List ℕ
+list_at lists j = slice_index_or (map (λ list. list.items) lists) j []
 
-abbrev pub StayMarked : List Bool → List Bool → Type 0
-StayMarked old new = (i : ℕ) → IsTrue (is_marked old i) → IsTrue (is_marked new i)
-
--- Whatever mentions what is marked is marked.
-abbrev pub AreClosed : List Mention → List Bool → Type 0
-AreClosed mentions marks = (i j : ℕ) → IsMention mentions i j → IsTrue (is_marked marks j) → IsTrue (is_marked marks i)
+-- The definitions with these numbers were marked, and those of them that weren't marked before went onto the stack.
+pub record AreMarked (numbers : List ℕ) (old new : List Bool) (before after : List ℕ) : Type 0 where
+  pub len : length new ≡ length old
+  pub marks : (i : ℕ) → IsTrue (is_marked new i) ↔ (IsTrue (is_marked old i) ⊎ Contains numbers i)
+  pub stack : (i : ℕ) → Contains after i ↔ (Contains before i ⊎ ((is_marked old i ≡ false) × Contains numbers i))
+  pub each_once : unmarked new + length after ≡ unmarked old + length before
 
 -- So many more names follow definition i in a chain.
 abbrev pub Follow : (ℕ → ℕ → Type 0) → ℕ → ℕ → Type 0

@@ -1,6 +1,6 @@
 // Which definitions mention which, by their numbers, and what follows from that.
-ghost use Rattle.std.specs.Prelude.{◌≡◌, ℕ, ◌+◌, ◌<◌, ◌≤◌, ◌↔◌, List, Bool, true, false, length, slice_index, IsTrue, IfOk, vec_len};
-ghost use Rattle.lx_spec.specs.Graph.{IsMention, AreBelow, Leads, AreLed, StayMarked, AreClosed, is_marked, unmarked, Follow, AreSound, Reach};
+ghost use Rattle.std.specs.Prelude.{◌≡◌, ℕ, ◌+◌, ◌<◌, ◌≤◌, ◌↔◌, [], slice_index, Contains, IsTrue, IfOk, OnOk, vec_len};
+ghost use Rattle.lx_spec.specs.Graph.{IsMention, AreBelow, Leads, AreMarked, list_at, is_marked, Follow, AreSound, Reach};
 
 use std::alloc::{AllocError, Global};
 
@@ -14,38 +14,84 @@ pub struct Mention {
 // The most names that are counted behind the first one of a chain.
 const MOST: u8 = 32;
 
-// Marks what mentions what is marked; answers whether a mark was made.
-fn mark_round(mentions: &[Mention], marks: &mut Vec<bool>) -> bool
-    requires { AreBelow mentions.now (vec_len marks.old) }
-    ensures len { vec_len marks.new ≡ vec_len marks.old }
-    ensures led { (bads : List Bool) → AreLed mentions.now bads marks.old.items → AreLed mentions.now bads marks.new.items }
-    ensures stay { StayMarked marks.old.items marks.new.items }
-    ensures closed { result ≡ false → AreClosed mentions.now marks.new.items }
-    ensures no_more { unmarked marks.new.items ≤ unmarked marks.old.items }
-    ensures fewer { result ≡ true → unmarked marks.new.items < unmarked marks.old.items }
+// So many empty lists.
+fn empty_lists(alloc: Global, count: usize) -> Result<Vec<Vec<usize>>, AllocError>
+    ensures len { IfOk result (λ lists. vec_len lists ≡ count) }
+    ensures empty { IfOk result (λ lists. (j : ℕ) → list_at lists.items j ≡ []) }
 {
-    let mut changed = false;
-    for mention in mentions {
-        let before = marks[mention.from];
-        let marked = before | marks[mention.to];
-        marks[mention.from] = marked;
-        changed = changed | (marked != before);
+    let mut lists = Vec::with_capacity(alloc, count)?;
+    for _ in 0..count {
+        lists.push(Vec::new(alloc))?;
     }
-    changed
+    Ok(lists)
+}
+
+// For each definition the list of those that mention it.
+fn mentioners_of(
+    alloc: Global,
+    count: usize,
+    mentions: &[Mention],
+) -> Result<Vec<Vec<usize>>, AllocError>
+    requires { AreBelow mentions.now count }
+    ensures len { IfOk result (λ lists. vec_len lists ≡ count) }
+    ensures each { IfOk result (λ lists. (i j : ℕ) → Contains (list_at lists.items j) i ↔ IsMention mentions.now i j) }
+{
+    let mut mentioners = empty_lists(alloc, count)?;
+    for mention in mentions {
+        mentioners[mention.to].push(mention.from)?;
+    }
+    Ok(mentioners)
+}
+
+// The numbers of the definitions that are marked.
+fn numbers_of(alloc: Global, marks: &[bool]) -> Result<Vec<usize>, AllocError>
+    ensures { IfOk result (λ numbers. (i : ℕ) → Contains numbers.items i ↔ IsTrue (is_marked marks.now i)) }
+{
+    let mut numbers = Vec::new(alloc);
+    for i in 0..marks.len() {
+        if marks[i] {
+            numbers.push(i)?;
+        }
+    }
+    Ok(numbers)
+}
+
+// Marks the definitions with these numbers, and puts those of them that weren't marked onto the stack.
+fn mark_all(
+    numbers: &[usize],
+    marks: &mut Vec<bool>,
+    pending: &mut Vec<usize>,
+) -> Result<(), AllocError>
+    requires { (i : ℕ) → Contains numbers.now i → i < vec_len marks.old }
+    ensures { OnOk result (AreMarked numbers.now marks.old.items marks.new.items pending.old.items pending.new.items) }
+{
+    for number in numbers {
+        if !marks[*number] {
+            marks[*number] = true;
+            pending.push(*number)?;
+        }
+    }
+    Ok(())
 }
 
 /// Marks each definition that leads to one that is marked.
-pub(crate) fn spread(mentions: &[Mention], marks: Vec<bool>) -> Vec<bool>
+pub(crate) fn spread(
+    alloc: Global,
+    mentions: &[Mention],
+    marks: Vec<bool>,
+) -> Result<Vec<bool>, AllocError>
     requires { AreBelow mentions.now (vec_len marks) }
-    ensures len { vec_len result ≡ vec_len marks }
-    ensures led { (i : ℕ) → IsTrue (is_marked result.items i) ↔ Leads mentions.now marks.items i }
+    ensures len { IfOk result (λ m. vec_len m ≡ vec_len marks) }
+    ensures led { IfOk result (λ m. (i : ℕ) → IsTrue (is_marked m.items i) ↔ Leads mentions.now marks.items i) }
 {
+    let mentioners = mentioners_of(alloc, marks.len(), mentions)?;
+    // The marked definitions whose mentioners may still be without a mark.
+    let mut pending = numbers_of(alloc, &marks)?;
     let mut marks = marks;
-    let mut changed = true;
-    while changed {
-        changed = mark_round(mentions, &mut marks);
+    while let Some(number) = pending.pop() {
+        mark_all(&mentioners[number], &mut marks, &mut pending)?;
     }
-    marks
+    Ok(marks)
 }
 
 // One round: each depth is one more at least than those of what the definition mentions.

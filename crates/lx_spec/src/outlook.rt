@@ -46,9 +46,11 @@ pub(crate) fn outlook_of(alloc: Global, dictionary: &Dictionary) -> Result<Outlo
     let incomplete = Vec::from_slice(alloc, &dictionary.incomplete)?;
     let depths = depths_of(alloc, dictionary.trees.len(), &dictionary.mentions)?;
     let deep = deep_of(alloc, &depths)?;
+    let unread = spread(alloc, &dictionary.mentions, unreadable)?;
+    let undefined = spread(alloc, &dictionary.mentions, incomplete)?;
     Ok(Outlook {
-        unread: spread(&dictionary.mentions, unreadable),
-        undefined: spread(&dictionary.mentions, incomplete),
+        unread,
+        undefined,
         deep,
     })
 }

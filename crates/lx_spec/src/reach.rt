@@ -73,7 +73,7 @@ fn reached_of(
     let row = row_of_all(alloc, index, read)?;
     let turned = turned(alloc, &dictionary.mentions)?;
     let marks = marks_at(alloc, index.named.len(), &row)?;
-    Ok(spread(&turned, marks))
+    spread(alloc, &turned, marks)
 }
 
 // Adds definition i where it is marked; the definitions stand in the other order.

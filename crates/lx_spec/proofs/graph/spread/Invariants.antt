@@ -1,14 +1,13 @@
-use Rattle.std.proofs.Common.{◌≡◌, ◌+◌, false, vec_len, cond}
-use Rattle.lx_spec.specs.Graph.{AreLed, StayMarked, AreClosed, unmarked}
+use Rattle.std.proofs.Common.{◌≡◌, ◌+◌, vec_len}
+use Rattle.lx_spec.specs.Graph.{unmarked}
+use Rattle.lx_spec.proofs.Marks.{Spreading}
 use Rattle.lx_spec.proofs.graph.spread.Given as goal
 
-abbrev pub invariant-loop-changed : goal.invariant-loop-changed
-invariant-loop-changed l = record {
+abbrev pub invariant-loop-number : goal.invariant-loop-number
+invariant-loop-number l = record {
   len : vec_len l.marks ≡ vec_len l.fn.marks;
-  led : AreLed l.mentions l.fn.marks.items l.marks.items;
-  stay : StayMarked l.fn.marks.items l.marks.items;
-  closed : l.changed ≡ false → AreClosed l.mentions l.marks.items;
+  spreading : Spreading l.mentions l.fn.marks.items l.marks.items l.pending.items;
 }
 
-abbrev pub decreases-loop-changed : goal.decreases-loop-changed
-decreases-loop-changed l = unmarked l.marks.items + cond l.changed 1 0
+abbrev pub decreases-loop-number : goal.decreases-loop-number
+decreases-loop-number l = unmarked l.marks.items + vec_len l.pending

@@ -29,10 +29,10 @@ returns c =
     let marked : length c.in_ok-unreadable.unreadable.items ≡ length (trees_view c.args.dictionary.now.trees.items) = ap length unreadable ∙ length-map (trees_view c.args.dictionary.now.trees.items) is_unreadable in
     let deep : c.in_ok-deep.deep.items ≡ map (λ d. nat_le 32 d) c.in_ok-depths.depths.items = c.in_ok-deep.ensures ∙ ap (map (λ d. nat_le 32 d)) c.deref-4.ensures.value in
     record {
-      unread = moved c.spread.result.items c.deref-5.result.now c.args.dictionary.now.mentions.items c.in_ok-unreadable.unreadable.items (unreadable_marks (trees_view c.args.dictionary.now.trees.items)) c.deref-5.ensures.value unreadable c.spread.ensures.led;
-      undefined = moved c.spread-2.result.items c.deref-6.result.now c.args.dictionary.now.mentions.items c.in_ok-incomplete.incomplete.items c.args.dictionary.now.incomplete.items c.deref-6.ensures.value incomplete c.spread-2.ensures.led;
+      unread = moved c.in_ok-unread.unread.items c.deref-5.result.now c.args.dictionary.now.mentions.items c.in_ok-unreadable.unreadable.items (unreadable_marks (trees_view c.args.dictionary.now.trees.items)) c.deref-5.ensures.value unreadable c.in_ok-unread.ensures.led;
+      undefined = moved c.in_ok-undefined.undefined.items c.deref-6.result.now c.args.dictionary.now.mentions.items c.in_ok-incomplete.incomplete.items c.args.dictionary.now.incomplete.items c.deref-6.ensures.value incomplete c.in_ok-undefined.ensures.led;
       deep = deep_is c.in_ok-deep.deep.items c.in_ok-depths.depths.items c.deref-3.result.now c.args.dictionary.now.mentions.items c.deref-3.ensures.value deep c.in_ok-depths.ensures.depths;
-      unread_len = omega (arith, c.spread.ensures.len, marked);
-      undefined_len = omega (arith, c.spread-2.ensures.len, ap length incomplete, count, c.requires.same);
+      unread_len = let h = c.in_ok-unread.ensures.len in omega (arith, h, marked);
+      undefined_len = let h = c.in_ok-undefined.ensures.len in omega (arith, h, ap length incomplete, count, c.requires.same);
       deep_len = ap length deep ∙ length-map c.in_ok-depths.depths.items (λ d. nat_le 32 d) ∙ (let h = c.in_ok-depths.ensures.len in omega (arith, h, count));
     }

@@ -2,10 +2,11 @@ use Rattle.std.proofs.Common.{◌≡◌, ◌∙◌, ◌<◌, ◌↔◌, ℕ, Lis
 use Rattle.std.specs.Prelude.{IsTrue, Contains, slice_index}
 use Rattle.std.specs.List.{flat_map}
 use Rattle.std.proofs.lemmas.List.{length-map}
+use Rattle.std.proofs.lemmas.Result.{IfOk-weaker}
 use Rattle.lx_spec.specs.Dictionary.{row_of, mentions_of}
 use Rattle.lx_spec.specs.DictionaryViews.{dictionary_view}
-use Rattle.lx_spec.specs.Graph.{AreBelow, is_marked}
-use Rattle.lx_spec.specs.Outcome.{patterns_in}
+use Rattle.lx_spec.specs.Graph.{AreBelow, Leads, is_marked}
+use Rattle.lx_spec.specs.Outcome.{IsReached, patterns_in}
 use Rattle.lx_spec.specs.SaidViews.{said_view}
 use Rattle.lx_spec.specs.SheetViews.{named_view}
 use Rattle.lx_spec.specs.declared.graph.Mention.{Mention}
@@ -37,4 +38,7 @@ returns-clause-reached c =
     let row : c.deref-2.result.now ≡ flat_map (row_of named) from = c.deref-2.ensures.value ∙ c.in_ok-row.ensures in
     let ms : c.deref-3.result.now ≡ map turned (mentions_of named known.trees) = c.deref-3.ensures.value ∙ c.in_ok-turned.ensures ∙ ap (map turned) (c.deref.ensures.value ∙ c.requires.mentions) in
     let set : (i : ℕ) → IsTrue (is_marked c.in_ok-marks.marks.items i) ↔ Contains (flat_map (row_of named) from) i = subst (λ (l : List ℕ). (i : ℕ) → IsTrue (is_marked c.in_ok-marks.marks.items i) ↔ Contains l i) row c.in_ok-marks.ensures.set in
-    led-is_reached named known.trees from c.in_ok-marks.marks.items set c.deref-3.result.now ms c.spread.result.items c.spread.ensures.led
+    IfOk-weaker c.spread.result
+    (λ v. (i : ℕ) → IsTrue (is_marked v.items i) ↔ Leads c.deref-3.result.now c.in_ok-marks.marks.items i)
+    (λ v. (i : ℕ) → IsTrue (is_marked v.items i) ↔ IsReached named known.trees from i)
+    (λ v. led-is_reached named known.trees from c.in_ok-marks.marks.items set c.deref-3.result.now ms v.items) c.spread.ensures.led
