@@ -1,5 +1,5 @@
 -- The lines of an action: the shortest run at whose end no comment is open and as many braces at least are closed as opened.
-use Rattle.std.specs.Prelude.{◌≡◌, ℕ, ◌+◌, ◌<◌, ◌≤◌, Bool, true, false, ◌&&◌, nat_eq, nat_le, if◌then◌else◌, List, [], ◌∷◌, length, take}
+use Rattle.std.specs.Prelude.{ℕ, ◌+◌, Bool, true, false, ◌&&◌, nat_eq, nat_le, if◌then◌else◌, List, [], ◌∷◌}
 use Rattle.lx_spec.specs.declared.block.Mode.{Mode}
 use Rattle.lx_spec.specs.declared.block.Mode.TheVariants.{Code, Slash, Comment, Star, LineComment, Quoted, Escaped}
 use Rattle.lx_spec.specs.declared.block.Count.{Count}

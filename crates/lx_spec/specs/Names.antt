@@ -1,7 +1,5 @@
 -- What names in braces stand for (XCU `lex`, "Definitions in lex": `{name}`).
-use Rattle.std.specs.Prelude.{◌≡◌, ℕ, zero, suc, Bool, List, [], ◌∷◌, ◌++◌, slice_get, Some, Contains, nat_eq}
-use Rattle.std.specs.List.{list_any}
-use Rattle.std.specs.Cmp.Lexicographic.{pointwise}
+use Rattle.std.specs.Prelude.{◌≡◌, ℕ, zero, suc, List, [], ◌∷◌, ◌++◌, slice_get, Some}
 use Rattle.lx_ere.specs.Regex.{Regex, nil, one_of, then, or, times, named, regex_of}
 use Rattle.lx_ere.specs.Matching.{Matches}
 use Rattle.lx_spec.specs.declared.definition.Definition.{Definition}
