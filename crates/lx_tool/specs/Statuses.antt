@@ -1,5 +1,15 @@
--- The exit statuses of the program.
-use Rattle.std.specs.Prelude.{ℕ}
+-- Why a command is not done, and the exit statuses of the program.
+use Rattle.std.specs.Prelude.{ℕ, ◌≡◌, ◌≢◌, ◌<◌, ◌⊎◌, ⊤, List, ◌∷◌, Any, vec_len}
+use Rattle.std.specs.Borrow.{Bor}
+use Rattle.clap.specs.declared.error.kind.ErrorKind.TheVariants as kind
+use Rattle.clap.specs.Words.{kind_of}
+use Rattle.lx_spec.specs.declared.fault.Code.TheVariants as code
+use Rattle.lx_spec.specs.declared.fault.SpecFault.{SpecFault}
+use Rattle.lx_piece.specs.declared.relaying.RelayFault.{RelayFault}
+use Rattle.lx_piece.specs.declared.relaying.RelayFault.TheVariants as relay
+use Rattle.lx_tool.specs.declared.command_line.RunOrder.{RunOrder}
+use Rattle.lx_tool.specs.declared.printing.RunFault.{RunFault}
+use Rattle.lx_tool.specs.declared.printing.RunFault.TheVariants as run
 use Rattle.lx_tool.specs.declared.program.Failure.{Failure}
 use Rattle.lx_tool.specs.declared.program.Failure.TheVariants.{Specification, Words, TooManyFiles, NotRead, Output, Memory}
 
@@ -11,3 +21,39 @@ status_of TooManyFiles = 2
 status_of (NotRead name) = 3
 status_of Output = 4
 status_of Memory = 5
+
+-- why a listing is not written whole whose relay ended early
+abbrev pub run_fault_of : RelayFault → RunFault
+run_fault_of relay.Reader = run.Reader
+run_fault_of relay.Memory = run.Memory
+
+-- why a command is not done whose listing is not written whole
+abbrev pub failure_of_run : RunFault → Failure
+failure_of_run run.Memory = Memory
+failure_of_run run.Reader = Output
+
+-- A fault of a specification is answered as it is, but where memory was refused.
+abbrev pub AnswersFault : SpecFault → Failure → Type 0
+AnswersFault fault failure = ((fault.code ≡ code.Memory) × (failure ≡ Memory)) ⊎ ((fault.code ≢ code.Memory) × (failure ≡ Specification fault))
+
+-- That memory was refused is told by no other failure than Memory.
+abbrev pub HidesNoMemory : Failure → Type 0
+HidesNoMemory (Specification fault) = fault.code ≢ code.Memory
+HidesNoMemory (Words error) = kind_of error ≢ kind.OutOfMemory
+HidesNoMemory TooManyFiles = ⊤
+HidesNoMemory (NotRead name) = ⊤
+HidesNoMemory Output = ⊤
+HidesNoMemory Memory = ⊤
+
+-- the file with this name is not read, or memory was refused for it
+abbrev pub IsUnread : Bor (List ℕ) → Failure → Type 0
+IsUnread name failure = (failure ≡ NotRead name) ⊎ (failure ≡ Memory)
+
+-- What is known of an order to list files that is not done.
+abbrev pub FailsBy : RunOrder → Failure → Type 0
+FailsBy order (Specification fault) = fault.code ≢ code.Memory
+FailsBy order (Words error) = ⊥
+FailsBy order TooManyFiles = 65536 < vec_len order.files
+FailsBy order (NotRead name) = Any (λ known. known ≡ name) (order.specification ∷ order.files.items)
+FailsBy order Output = ⊤
+FailsBy order Memory = ⊤

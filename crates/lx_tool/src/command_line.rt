@@ -1,6 +1,8 @@
 //! The command line of `lx`.
 
-ghost use Rattle.std.specs.Prelude.{◌<◌, ◌≤◌};
+ghost use Rattle.std.specs.Prelude.{◌≡◌, ◌≢◌, ◌<◌, ◌≤◌, [], IfOk, Ok, Err, codes, length, map, unwrap_or};
+ghost use Rattle.std.specs.Option.{option_map_or};
+ghost use Rattle.clap.specs.Words.{first_value, found_of, kind_of, matched_of, raw_values};
 
 use clap::error::ErrorKind;
 use clap::{Arg, ArgAction, ArgMatches, Command, Error, value_parser};
@@ -43,13 +45,23 @@ pub(crate) enum Refusal {
 }
 
 impl From<AllocError> for Refusal {
+    ghost use Rattle.std.specs.Prelude.{◌≡◌};
+    ghost use Rattle.lx_tool.specs.declared.command_line.Refusal.{Refusal};
+
+    ghost from_gives = { λ _ refusal. refusal ≡ Refusal.Memory };
+
     fn from(_error: AllocError) -> Refusal {
         Refusal::Memory
     }
 }
 
 /// What the words ask for; the first is the program's name.
-pub(crate) fn read_words(alloc: Global, words: &[String]) -> Result<Order<'_>, Refusal> {
+pub(crate) fn read_words(alloc: Global, words: &[String]) -> Result<Order<'_>, Refusal>
+    ensures stored { length words.now ≤ 1 → result ≡ Ok Order.Stored }
+    ensures help { (text : Error) → result ≡ Ok (Order.Help text) → kind_of text ≡ ErrorKind.DisplayHelp }
+    // That memory was refused is no fault of the words.
+    ensures words { (text : Error) → result ≡ Err (Refusal.Words text) → kind_of text ≢ ErrorKind.OutOfMemory }
+{
     if words.len() <= 1 {
         return Ok(Order::Stored);
     }
@@ -95,14 +107,20 @@ fn run_command<'a>(alloc: Global) -> Result<Command<'a>, AllocError> {
         .arg(files)
 }
 
-fn order_of<'a>(alloc: Global, matches: &ArgMatches<'a>) -> Result<Order<'a>, Refusal> {
+fn order_of<'a>(alloc: Global, matches: &ArgMatches<'a>) -> Result<Order<'a>, Refusal>
+    ensures help { (text : Error) → result ≢ Ok (Order.Help text) }
+    ensures words { (text : Error) → result ≢ Err (Refusal.Words text) }
+{
     match matches.subcommand() {
         Some((_, run)) => Ok(Order::Run(run_order_of(alloc, run)?)),
         None => Ok(Order::Stored),
     }
 }
 
-fn run_order_of<'a>(alloc: Global, matches: &ArgMatches<'a>) -> Result<RunOrder<'a>, AllocError> {
+fn run_order_of<'a>(alloc: Global, matches: &ArgMatches<'a>) -> Result<RunOrder<'a>, AllocError>
+    ensures specification { IfOk result (λ order. order.specification.now ≡ unwrap_or (first_value (found_of matches.now) (codes "SPEC")) []) }
+    ensures files { IfOk result (λ order. map (λ name. name.now) order.files.items ≡ option_map_or raw_values (matched_of (found_of matches.now) (codes "FILE")) []) }
+{
     let files = match matches.get_strs("FILE") {
         Some(names) => Vec::from_slice(alloc, names)?,
         None => Vec::new(alloc),

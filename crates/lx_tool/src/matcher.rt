@@ -133,6 +133,10 @@ fn named(
     if depth == 0 {
         return Ok(found);
     }
+    // Names that double would else be gone into twice as often with each, and for nothing.
+    if starts.is_empty() {
+        return Ok(found);
+    }
     for definition in definitions {
         if definition.name.as_slice() == name {
             let further = ends(

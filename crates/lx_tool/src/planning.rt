@@ -36,7 +36,9 @@ pub(crate) fn plan_files(
     requires few_files { vec_len files ≤ 65536 }
     requires some_items { 0 < per_piece }
     requires few_items { per_piece ≤ 4096 }
-    ensures { IfOk result (IsPlanBy spec (map (λ file. file.items) files.items)) }
+    ensures by_rules { IfOk result (IsPlanBy spec (map (λ file. file.items) files.items)) }
+    ensures run { IfOk result (λ plan. plan.run ≡ 1) }
+    ensures pieces { IfOk result (λ plan. plan.per_piece ≡ per_piece) }
 {
     let items = scan_files(alloc, &spec, &files)?;
     let Spec { kinds, .. } = spec;

@@ -21,12 +21,20 @@ pub enum RunFault {
 }
 
 impl From<AllocError> for RunFault {
+    ghost use Rattle.lx_tool.specs.declared.printing.RunFault.{RunFault};
+
+    ghost from_gives = { λ _ fault. fault ≡ RunFault.Memory };
+
     fn from(_error: AllocError) -> Self {
         RunFault::Memory
     }
 }
 
 impl From<RelayFault> for RunFault {
+    ghost use Rattle.lx_tool.specs.Statuses.{run_fault_of};
+
+    ghost from_gives = { λ relayed fault. fault ≡ run_fault_of relayed };
+
     fn from(fault: RelayFault) -> Self {
         match fault {
             RelayFault::Reader => RunFault::Reader,

@@ -1,8 +1,8 @@
 //! The program `lx`, but for the real files and streams.
 
-ghost use Rattle.std.specs.Prelude.{◌≡◌, ◌<◌, ◌≤◌, IfOk, IfErr, vec_len, length};
+ghost use Rattle.std.specs.Prelude.{◌≡◌, ◌<◌, ◌≤◌, [], ◌∷◌, Any, Err, IfOk, IfErr, codes, length, map, vec_len};
 ghost use Rattle.std.specs.Io.KnownBytes.{Keeps};
-ghost use Rattle.lx_tool.specs.Statuses.{status_of};
+ghost use Rattle.lx_tool.specs.Statuses.{FailsBy, HidesNoMemory, IsUnread, status_of};
 
 use crate::command_line::{ITEMS, Order, Refusal, RunOrder, read_words};
 use crate::planning::list_files;
@@ -60,22 +60,29 @@ impl Failure<'_> {
 }
 
 impl From<AllocError> for Failure<'_> {
+    ghost use Rattle.lx_tool.specs.declared.program.Failure.{Failure};
+
+    ghost from_gives = { λ _ failure. failure ≡ Failure.Memory };
+
     fn from(_error: AllocError) -> Self {
         Failure::Memory
     }
 }
 
 impl<T: Drop> From<AllocFailed<T>> for Failure<'_> {
+    ghost use Rattle.lx_tool.specs.declared.program.Failure.{Failure};
+
+    ghost from_gives = { λ _ failure. failure ≡ Failure.Memory };
+
     fn from(_error: AllocFailed<T>) -> Self {
         Failure::Memory
     }
 }
 
 impl From<RunFault> for Failure<'_> {
-    ghost use Rattle.std.specs.Prelude.{◌≤◌};
-    ghost use Rattle.lx_tool.specs.Statuses.{status_of};
+    ghost use Rattle.lx_tool.specs.Statuses.{failure_of_run};
 
-    ghost from_gives = { λ _ failure. 4 ≤ status_of failure };
+    ghost from_gives = { λ fault failure. failure ≡ failure_of_run fault };
 
     fn from(fault: RunFault) -> Self {
         match fault {
@@ -86,6 +93,10 @@ impl From<RunFault> for Failure<'_> {
 }
 
 impl From<SpecFault> for Failure<'_> {
+    ghost use Rattle.lx_tool.specs.Statuses.{AnswersFault};
+
+    ghost from_gives = { λ fault failure. AnswersFault fault failure };
+
     fn from(fault: SpecFault) -> Self {
         match fault.code {
             Code::Memory => Failure::Memory,
@@ -130,7 +141,8 @@ fn obey<'a, S: Sources, O: Write>(
     sources: &mut S,
     out: &mut O,
 ) -> Result<(), Failure<'a>>
-    ensures { IfErr result (λ failure. status_of failure < 4 → Keeps (O.contents out.old) (O.contents out.new)) }
+    ensures refused { IfErr result (λ failure. status_of failure < 4 → Keeps (O.contents out.old) (O.contents out.new)) }
+    ensures memory { IfErr result HidesNoMemory }
 {
     match read_words(alloc, words) {
         Ok(Order::Stored) => list(
@@ -154,7 +166,9 @@ fn list<'a, S: Sources, O: Write>(
     sources: &mut S,
     out: &mut O,
 ) -> Result<(), Failure<'a>>
-    ensures { IfErr result (λ failure. status_of failure < 4 → Keeps (O.contents out.old) (O.contents out.new)) }
+    ensures refused { IfErr result (λ failure. status_of failure < 4 → Keeps (O.contents out.old) (O.contents out.new)) }
+    ensures too_many { 65536 < vec_len order.now.files → result ≡ Err Failure.TooManyFiles }
+    ensures err { IfErr result (FailsBy order.now) }
 {
     if order.files.len() > MOST_FILES {
         return Err(Failure::TooManyFiles);
@@ -175,7 +189,8 @@ fn read_files<'a, S: Sources>(
     sources: &mut S,
     names: &[&'a str],
 ) -> Result<Vec<Vec<u8>>, Failure<'a>>
-    ensures { IfOk result (λ files. vec_len files ≡ length names.now) }
+    ensures ok { IfOk result (λ files. vec_len files ≡ length names.now) }
+    ensures err { IfErr result (λ failure. Any (λ name. IsUnread name failure) names.now) }
 {
     let mut files = Vec::new(alloc);
     for name in names {
@@ -188,7 +203,9 @@ fn read_file<'a, S: Sources>(
     alloc: Global,
     sources: &mut S,
     name: &'a str,
-) -> Result<Vec<u8>, Failure<'a>> {
+) -> Result<Vec<u8>, Failure<'a>>
+    ensures { IfErr result (IsUnread name.entry) }
+{
     match sources.read(alloc, name) {
         Ok(bytes) => Ok(bytes),
         Err(SourceFault::NotRead) => Err(Failure::NotRead(name)),
@@ -197,7 +214,11 @@ fn read_file<'a, S: Sources>(
 }
 
 // The order of the stored run.
-fn stored_order(alloc: Global) -> Result<RunOrder<'static>, AllocError> {
+fn stored_order(alloc: Global) -> Result<RunOrder<'static>, AllocError>
+    ensures per_piece { IfOk result (λ order. order.per_piece ≡ 256) }
+    ensures specification { IfOk result (λ order. order.specification.now ≡ codes "words.l") }
+    ensures files { IfOk result (λ order. map (λ name. name.now) order.files.items ≡ codes "words.txt" ∷ []) }
+{
     Ok(RunOrder {
         per_piece: ITEMS,
         specification: "words.l",

@@ -30,6 +30,36 @@ fn names_nest_32_deep(rt: HostRuntime) -> Result<(), Fail> {
     )
 }
 
+/// A specification in which each name stands for the one before it twice over, and a rule for the last of so many.
+fn doubling_names(alloc: Global, count: u32) -> Result<String, AllocError> {
+    let mut spec = String::from_str(alloc, "N0 a\n")?;
+    for name in 1..count {
+        let half = name.saturating_sub(1);
+        let line = format!(in alloc; "N{name} {{N{half}}}{{N{half}}}\n")?;
+        spec.push_str(line.as_str())?;
+    }
+    let last = count.saturating_sub(1);
+    let rule = format!(in alloc; "%%\n{{N{last}}} return A;\n")?;
+    spec.push_str(rule.as_str())?;
+    Ok(spec)
+}
+
+#[test]
+fn names_that_double_soon_end(rt: HostRuntime) -> Result<(), Fail> {
+    lists(
+        &rt,
+        doubling_names(rt.alloc(), 3)?.as_str(),
+        b"aaaab",
+        "0 T A 0 4 aaaa\n0 E - 4 1 b\n",
+    )?;
+    lists(
+        &rt,
+        doubling_names(rt.alloc(), 32)?.as_str(),
+        b"aaab",
+        "0 E - 0 1 a\n0 E - 1 1 a\n0 E - 2 1 a\n0 E - 3 1 b\n",
+    )
+}
+
 #[test]
 fn reads_511_groups_in_one_another(rt: HostRuntime) -> Result<(), Fail> {
     let mut spec = String::from_str(rt.alloc(), "%%\n")?;
