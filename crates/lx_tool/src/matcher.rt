@@ -25,6 +25,10 @@ pub(crate) fn ends(
     requires { AreWithin text.now starts.now }
     ensures { IfOk result (λ ends. AreEnds (Matches (NameMatches definitions.now depth) (regex_of expr.now)) text.now starts.now ends) }
 {
+    // Names that double and intervals in one another would else be gone into for nothing, many times over.
+    if starts.is_empty() {
+        return Ok(BTreeSet::new(alloc));
+    }
     match expr {
         Expr::Nil => copy_of(starts),
         Expr::Set(set) => behind_byte(alloc, set, text, starts),
@@ -131,10 +135,6 @@ fn named(
 {
     let mut found = BTreeSet::new(alloc);
     if depth == 0 {
-        return Ok(found);
-    }
-    // Names that double would else be gone into twice as often with each, and for nothing.
-    if starts.is_empty() {
         return Ok(found);
     }
     for definition in definitions {

@@ -61,6 +61,16 @@ fn names_that_double_soon_end(rt: HostRuntime) -> Result<(), Fail> {
 }
 
 #[test]
+fn intervals_in_one_another_soon_end(rt: HostRuntime) -> Result<(), Fail> {
+    lists(
+        &rt,
+        "%%\n((((a{255}){255}){255}){255}) return A;\n",
+        b"aab",
+        "0 E - 0 1 a\n0 E - 1 1 a\n0 E - 2 1 b\n",
+    )
+}
+
+#[test]
 fn reads_511_groups_in_one_another(rt: HostRuntime) -> Result<(), Fail> {
     let mut spec = String::from_str(rt.alloc(), "%%\n")?;
     for _open in 0..511 {
