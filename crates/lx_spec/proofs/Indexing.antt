@@ -1,11 +1,11 @@
 -- What a map from names to numbers has at each name, after a number was added.
-use Rattle.std.proofs.Common.{◌≡◌, ◌∙◌, ℕ, ◌+◌, ◌<◌, ◌≤◌, Bool, true, false, not, cond, nat_lt, List, [], ◌∷◌, ◌++◌, length, take, get_or, Option, Ordering, Some, None, refl, ap, sym, subst, arith, add-one}
+use Rattle.std.proofs.Common.{◌≡◌, ◌∙◌, ℕ, suc, ◌+◌, ◌<◌, ◌≤◌, Bool, true, false, not, ◌||◌, cond, nat_lt, List, [], ◌∷◌, ◌++◌, length, take, get_or, Option, Ordering, Some, None, refl, ap, sym, subst, arith, add-one}
 use Rattle.std.specs.Prelude.{is_some}
 use Rattle.std.specs.declared.alloc.Global.{Global}
 use Rattle.std.specs.declared.vec.Vec.{Vec}
 use Rattle.std.specs.BTreeMap.{BTreeMap, UpdatesBy, is_at}
 use Rattle.std.specs.Cmp.Lexicographic.{slice_cmp}
-use Rattle.std.specs.List.{position, position_or_len}
+use Rattle.std.specs.List.{list_any, position, position_or_len}
 use Rattle.std.specs.Map.{IsKeyTest, AreApart, KeepsOthers}
 use Rattle.std.specs.Option.{option_or}
 use Rattle.std.specs.Ordering.{nat_cmp, is_eq, eq_by_cmp}
@@ -108,3 +108,18 @@ pub position-more : {X : Type 0} (p : X → Bool) (xs : List X) (i : ℕ) (d : X
 position-more p xs i d less =
     ap (λ (k : ℕ). position p (take k xs)) (add-one i) ∙ ap (position p) (take-suc xs i d less) ∙ position-push p (take i xs) (get_or xs i d)
     ∙ ap (λ (k : ℕ). option_or (position p (take i xs)) (cond (p (get_or xs i d)) (Some k) None)) (length-take-le i xs (omega (arith, less)))
+
+placed-behind : (b : Bool) (n l : ℕ) (any : Bool) → nat_lt n l ≡ any → nat_lt (cond (not b) (1 + n) 0) (suc l) ≡ (b || any)
+placed-behind true n l any e = let less : nat_lt 0 (suc l) ≡ true = grind (arith, nat_tests) in less
+placed-behind false n l any e = let same : nat_lt (1 + n) (suc l) ≡ nat_lt n l = grind (arith, nat_tests) in same ∙ e
+
+any-placed : {X : Type 0} (p : X → Bool) (xs : List X) → nat_lt (position_or_len p xs) (length xs) ≡ list_any p xs
+any-placed p [] = refl
+any-placed p (x ∷ xs) = placed-behind (p x) (position_or_len p xs) (length xs) (list_any p xs) (any-placed p xs)
+
+-- there is a place exactly where one passes
+pub position-any : {X : Type 0} (p : X → Bool) (xs : List X) → is_some (position p xs) ≡ list_any p xs
+position-any p xs = by (nat_lt (position_or_len p xs) (length xs)) ∙ any-placed p xs where
+  by : (b : Bool) → is_some (cond b (Some (position_or_len p xs)) None) ≡ b
+  by true = refl
+  by false = refl

@@ -23,6 +23,7 @@ use crate::action::{Action, Statement, Value};
 use crate::condition::Condition;
 use crate::dictionary::Dictionary;
 use crate::index::Index;
+use crate::kind_index::{KindIndex, with_name};
 use crate::reach::definitions_of;
 use crate::rule::{Kind, Rule, Step};
 use crate::said::{ReadRule, number_or_first};
@@ -42,40 +43,29 @@ fn returned_by<'t>(statements: &[Statement<'t>]) -> Option<Value<'t>>
     None
 }
 
-fn has_kind(kinds: &[Vec<u8>], text: &[u8]) -> bool
-    ensures { result ≡ list_any (λ k. pointwise nat_eq k.items text.now) kinds.now }
-{
-    kinds.iter().any(|kind| kind.as_slice() == text)
-}
-
-// Adds a kind, where it is a name that isn't there yet.
-fn push_kind(alloc: Global, value: Value, kinds: &mut Vec<Vec<u8>>) -> Result<(), AllocError>
-    ensures kinds { OnOk result (names_view kinds.new.items ≡ plain.with_kind (names_view kinds.old.items) (Some (value_view value.entry))) }
-    ensures one { vec_len kinds.new ≤ vec_len kinds.old + 1 }
+// The kinds with one more behind them, where it is a name that isn't there yet.
+fn with_value(alloc: Global, kinds: KindIndex, value: Value) -> Result<KindIndex, AllocError>
+    ensures kinds { IfOk result (λ new. names_view new.kinds.items ≡ plain.with_kind (names_view kinds.kinds.items) (Some (value_view value.entry))) }
+    ensures one { IfOk result (λ new. vec_len new.kinds ≤ vec_len kinds.kinds + 1) }
 {
     match value {
-        Value::Name(name) => {
-            if !has_kind(kinds, name.text) {
-                kinds.push(Vec::from_slice(alloc, name.text)?)?;
-            }
-            Ok(())
-        }
-        Value::Number(_) => Ok(()),
+        Value::Name(name) => with_name(alloc, kinds, name.text),
+        Value::Number(_) => Ok(kinds),
     }
 }
 
-// Adds the kind that is returned, if one is.
-fn push_returned(
+// The kinds with what is returned, if anything is.
+fn with_returned(
     alloc: Global,
+    kinds: KindIndex,
     returned: Option<Value>,
-    kinds: &mut Vec<Vec<u8>>,
-) -> Result<(), AllocError>
-    ensures kinds { OnOk result (names_view kinds.new.items ≡ plain.with_kind (names_view kinds.old.items) (option_map value_view returned.entry)) }
-    ensures one { vec_len kinds.new ≤ vec_len kinds.old + 1 }
+) -> Result<KindIndex, AllocError>
+    ensures kinds { IfOk result (λ new. names_view new.kinds.items ≡ plain.with_kind (names_view kinds.kinds.items) (option_map value_view returned.entry)) }
+    ensures one { IfOk result (λ new. vec_len new.kinds ≤ vec_len kinds.kinds + 1) }
 {
     match returned {
-        Some(value) => push_kind(alloc, value, kinds),
-        None => Ok(()),
+        Some(value) => with_value(alloc, kinds, value),
+        None => Ok(kinds),
     }
 }
 
@@ -93,29 +83,23 @@ fn own_from<'s, 'r>(read: &'s [ReadRule<'r>], i: usize) -> &'s [Statement<'r>]
 }
 
 // The names that the rules return, in order of first appearance.
-fn kinds_of(alloc: Global, read: &[ReadRule]) -> Result<Vec<Vec<u8>>, AllocError>
-    ensures kinds { IfOk result (λ kinds. names_view kinds.items ≡ plain.kinds_of (map said_view read.now)) }
-    ensures few { IfOk result (λ kinds. vec_len kinds ≤ length read.now) }
+fn kinds_of(alloc: Global, read: &[ReadRule]) -> Result<KindIndex, AllocError>
+    ensures kinds { IfOk result (λ kinds. names_view kinds.kinds.items ≡ plain.kinds_of (map said_view read.now)) }
+    ensures few { IfOk result (λ kinds. vec_len kinds.kinds ≤ length read.now) }
 {
-    let mut kinds = Vec::new(alloc);
+    let mut kinds = KindIndex::new(alloc);
     for i in 0..read.len() {
-        push_returned(alloc, returned_by(own_from(read, i)), &mut kinds)?;
+        kinds = with_returned(alloc, kinds, returned_by(own_from(read, i)))?;
     }
     Ok(kinds)
 }
 
-fn place_of(kinds: &[Vec<u8>], text: &[u8]) -> Option<usize>
-    ensures { result ≡ position (λ k. pointwise nat_eq k.items text.now) kinds.now }
-{
-    kinds.iter().position(|kind| kind.as_slice() == text)
-}
-
-fn kind_of(kinds: &[Vec<u8>], value: Value) -> Kind
-    requires { length kinds.now ≤ 4096 }
-    ensures { result ≡ plain.kind_of (names_view kinds.now) (value_view value.entry) }
+fn kind_of(kinds: &KindIndex, value: Value) -> Kind
+    requires { vec_len kinds.now.kinds ≤ 4096 }
+    ensures { result ≡ plain.kind_of (names_view kinds.now.kinds.items) (value_view value.entry) }
 {
     match value {
-        Value::Name(name) => Kind::Name(place_of(kinds, name.text).unwrap_or(0) as u32),
+        Value::Name(name) => Kind::Name(kinds.place_of(name.text).unwrap_or(0) as u32),
         Value::Number(number) => Kind::Number(number.value),
     }
 }
@@ -124,13 +108,13 @@ fn kind_of(kinds: &[Vec<u8>], value: Value) -> Kind
 fn steps_of(
     alloc: Global,
     states: &[State],
-    kinds: &[Vec<u8>],
+    kinds: &KindIndex,
     statements: &[Statement],
 ) -> Result<Vec<Step>, AllocError>
     requires some { 0 < length states.now }
     requires few { length states.now ≤ 64 }
-    requires kinds { length kinds.now ≤ 4096 }
-    ensures { IfOk result (λ steps. steps.items ≡ plain.steps_of (map state_view states.now) (names_view kinds.now) (statements_view statements.now)) }
+    requires kinds { vec_len kinds.now.kinds ≤ 4096 }
+    ensures { IfOk result (λ steps. steps.items ≡ plain.steps_of (map state_view states.now) (names_view kinds.now.kinds.items) (statements_view statements.now)) }
 {
     let mut steps = Vec::new(alloc);
     for statement in statements {
@@ -153,14 +137,14 @@ fn steps_of(
 fn steps_before(
     alloc: Global,
     states: &[State],
-    kinds: &[Vec<u8>],
+    kinds: &KindIndex,
     action: &Action,
     next: &[Step],
 ) -> Result<Vec<Step>, AllocError>
     requires some { 0 < length states.now }
     requires few { length states.now ≤ 64 }
-    requires kinds { length kinds.now ≤ 4096 }
-    ensures { IfOk result (λ steps. steps.items ≡ steps_before (map state_view states.now) (names_view kinds.now) (action_view action.now) next.now) }
+    requires kinds { vec_len kinds.now.kinds ≤ 4096 }
+    ensures { IfOk result (λ steps. steps.items ≡ steps_before (map state_view states.now) (names_view kinds.now.kinds.items) (action_view action.now) next.now) }
 {
     match action {
         Action::Shared => Vec::from_slice(alloc, next),
@@ -198,15 +182,15 @@ fn rule_of(line: u32, rule: ReadRule, action: Vec<Step>) -> Rule
 fn rules_of(
     alloc: Global,
     states: &[State],
-    kinds: &[Vec<u8>],
+    kinds: &KindIndex,
     raws: &[RawRule],
     read: Vec<ReadRule>,
 ) -> Result<Vec<Rule>, AllocError>
     requires some { 0 < length states.now }
     requires few { length states.now ≤ 64 }
-    requires kinds { length kinds.now ≤ 4096 }
+    requires kinds { vec_len kinds.now.kinds ≤ 4096 }
     requires same { vec_len read ≡ length raws.now }
-    ensures { IfOk result (λ rules. map rule_view rules.items ≡ plain.rules_of (map state_view states.now) (names_view kinds.now) (map raw_view raws.now) (map said_view read.entry.items)) }
+    ensures { IfOk result (λ rules. map rule_view rules.items ≡ plain.rules_of (map state_view states.now) (names_view kinds.now.kinds.items) (map raw_view raws.now) (map said_view read.entry.items)) }
 {
     let mut read = read;
     let mut rules = Vec::new(alloc);
@@ -254,6 +238,7 @@ pub(crate) fn spec_of(
     let definitions = definitions_of(alloc, index, dictionary, &read)?;
     let rules = rules_of(alloc, &sheet.states, &kinds, &sheet.rules, read)?;
     let conditions = conditions_from(alloc, &sheet.states)?;
+    let KindIndex { kinds, numbers: _ } = kinds;
     Ok(Spec {
         conditions,
         definitions,

@@ -27,8 +27,8 @@ impl Index<'_, '_> {
     }
 }
 
-// Adds the number of a definition, where no other one before it has its name.
-fn add_number(
+/// Adds the number of a name, where the name has none yet.
+pub(crate) fn add_number(
     alloc: Global,
     numbers: &mut BTreeMap<Vec<u8>, usize>,
     name: &[u8],

@@ -15,6 +15,7 @@ pub mod dictionary;
 pub mod fault;
 pub mod graph;
 pub mod index;
+pub mod kind_index;
 pub mod line;
 pub mod outlook;
 pub mod prefix;

@@ -8,10 +8,9 @@ use Rattle.lx_spec.specs.RuleViews.{names_view}
 use Rattle.lx_spec.specs.Outcome as plain
 use Rattle.lx_spec.specs.declared.action.Value.{Value}
 use Rattle.lx_spec.specs.declared.rule.Kind.TheVariants as kind
-use Rattle.lx_spec.proofs.Rows.{position-map}
 use Rattle.lx_spec.proofs.build.kind_of.Goals as goal
 
 pub returns-in-Name : goal.returns-in-Name
 returns-in-Name c =
-    ap (λ (n : ℕ). kind.Name n) (c.unwrap_or.ensures ∙ ap (λ (o : Option ℕ). unwrap_or o 0) (c.place_of.ensures ∙ sym (position-map (λ (k : List ℕ). pointwise nat_eq k c.in-Name.name.text.now) (λ (k : Vec ℕ Global). k.items) c.args.kinds.now)))
-    ∙ sym (ap (λ (v : Value). plain.kind_of (names_view c.args.kinds.now) (value_view v)) c.in-Name.is)
+    ap (λ (n : ℕ). kind.Name n) (c.unwrap_or.ensures ∙ ap (λ (o : Option ℕ). unwrap_or o 0) c.place_of.ensures)
+    ∙ sym (ap (λ (v : Value). plain.kind_of (names_view c.args.kinds.now.kinds.items) (value_view v)) c.in-Name.is)

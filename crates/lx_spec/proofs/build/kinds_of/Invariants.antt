@@ -6,6 +6,6 @@ use Rattle.lx_spec.proofs.build.kinds_of.Given as goal
 
 abbrev pub invariant-loop-i : goal.invariant-loop-i
 invariant-loop-i l = record {
-  kinds : plain.kinds_behind (names_view l.kinds.items) (plain.statements_in (map said_view (drop l.i l.read))) ≡ plain.kinds_of (map said_view l.read);
-  few : vec_len l.kinds ≤ l.i;
+  kinds : plain.kinds_behind (names_view l.kinds.kinds.items) (plain.statements_in (map said_view (drop l.i l.read))) ≡ plain.kinds_of (map said_view l.read);
+  few : vec_len l.kinds.kinds ≤ l.i;
 }

@@ -19,7 +19,7 @@ pub loop-rule-preserved : goal.loop-rule-preserved
 loop-rule-preserved c =
     let m = vec_len c.pop.new.self in
     let S = map state_view c.args.states.now in
-    let K = names_view c.args.kinds.now in
+    let K = names_view c.args.kinds.now.kinds.items in
     let all = c.args.read.items in
     let rule = c.in-Some.rule in
     let more : vec_len c.loop-rule.read ≡ suc m = sym c.in-Some.ensures.cases ∙ add-one m in

@@ -7,5 +7,5 @@ use Rattle.lx_spec.proofs.build.steps_of.Given as goal
 
 abbrev pub invariant-loop-statement : goal.invariant-loop-statement
 invariant-loop-statement l =
-    l.steps.items ++ plain.steps_of (map state_view l.states) (names_view l.kinds) (map statement_view (drop l.statement-index l.statements))
-    ≡ plain.steps_of (map state_view l.states) (names_view l.kinds) (map statement_view l.statements)
+    l.steps.items ++ plain.steps_of (map state_view l.states) (names_view l.kinds.kinds.items) (map statement_view (drop l.statement-index l.statements))
+    ≡ plain.steps_of (map state_view l.states) (names_view l.kinds.kinds.items) (map statement_view l.statements)
