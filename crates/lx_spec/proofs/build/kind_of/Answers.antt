@@ -1,8 +1,5 @@
-use Rattle.std.proofs.Common.{◌∙◌, nat_eq, List, ℕ, Option, ap, sym}
+use Rattle.std.proofs.Common.{◌∙◌, ℕ, Option, ap, sym}
 use Rattle.std.specs.Prelude.{unwrap_or}
-use Rattle.std.specs.Cmp.Lexicographic.{pointwise}
-use Rattle.std.specs.declared.alloc.Global.{Global}
-use Rattle.std.specs.declared.vec.Vec.{Vec}
 use Rattle.lx_spec.specs.ActionViews.{value_view}
 use Rattle.lx_spec.specs.RuleViews.{names_view}
 use Rattle.lx_spec.specs.Outcome as plain
