@@ -3,14 +3,14 @@ use Rattle.std.specs.Prelude.{ℕ, ◌+◌, Bool, true, false, not, ◌&&◌, na
 use Rattle.std.specs.List.{list_all, list_any, flat_map}
 use Rattle.std.specs.Option.{option_map}
 use Rattle.std.specs.Cmp.Lexicographic.{pointwise}
+use Rattle.lx_spec.specs.Plain.{StartCondition, PlainDefinition, PlainRule}
 use Rattle.lx_spec.specs.Bytes.{is_identifier}
 use Rattle.lx_spec.specs.declared.rule.Kind.{Kind}
 use Rattle.lx_spec.specs.declared.rule.Kind.TheVariants.{Name, Number}
 use Rattle.lx_spec.specs.declared.rule.Step.{Step}
 use Rattle.lx_spec.specs.declared.rule.Step.TheVariants.{Echo, Begin, Return}
 use Rattle.lx_spec.specs.declared.rule.Rule.{Rule}
-use Rattle.lx_spec.specs.Sections.{State, Named, Sheet}
-use Rattle.lx_spec.specs.Outcome.{PlainRule, PlainDefinition}
+use Rattle.lx_spec.specs.Sections.{RawDefinition, ParsedSections}
 
 -- no two of the names are the same
 abbrev pub are_distinct : List (List ℕ) → Bool
@@ -22,21 +22,21 @@ abbrev pub initial_letters : List ℕ
 initial_letters = 73 ∷ 78 ∷ 73 ∷ 84 ∷ 73 ∷ 65 ∷ 76 ∷ []
 
 -- the first condition is INITIAL, which isn't exclusive
-abbrev pub begins_initial : List State → Bool
+abbrev pub begins_initial : List StartCondition → Bool
 begins_initial [] = false
 begins_initial (s ∷ more) = pointwise nat_eq s.name initial_letters && not s.exclusive
 
 -- the first condition is INITIAL, and no two have the same name
-unfoldable pub are_states : List State → Bool
-are_states states = begins_initial states && are_distinct (map (λ s. s.name) states)
+unfoldable pub are_start_conditions : List StartCondition → Bool
+are_start_conditions start_conditions = begins_initial start_conditions && are_distinct (map (λ s. s.name) start_conditions)
 
-abbrev pub are_named : List Named → Bool
-are_named named = are_distinct (map (λ d. d.name) named)
+abbrev pub are_raw_definitions : List RawDefinition → Bool
+are_raw_definitions raw_definitions = are_distinct (map (λ d. d.name) raw_definitions)
 
--- The conditions and the definitions of a sheet have distinct names, and INITIAL is the first condition.
-pub record IsWellFormed (sheet : Sheet) : Type 0 where
-  pub states : IsTrue (are_states sheet.states)
-  pub named : IsTrue (are_named sheet.names)
+-- The conditions and the definitions of the sections have distinct names, and INITIAL is the first condition.
+pub record IsWellFormed (sections : ParsedSections) : Type 0 where
+  pub start_conditions : IsTrue (are_start_conditions sections.start_conditions)
+  pub definitions : IsTrue (are_raw_definitions sections.definitions)
 
 -- no two definitions have the same name
 unfoldable pub are_definitions : List PlainDefinition → Bool

@@ -3,8 +3,8 @@ use Rattle.std.specs.Prelude.{ℕ, zero, suc, Bool, true, false, nat_eq, if◌th
 use Rattle.std.specs.List.{list_all}
 use Rattle.std.specs.Cmp.Lexicographic.{pointwise}
 use Rattle.lx_ere.specs.Regex.{Regex}
+use Rattle.lx_spec.specs.Plain.{PlainDefinition}
 use Rattle.lx_spec.specs.Names.{names_of}
-use Rattle.lx_spec.specs.Outcome.{PlainDefinition}
 
 -- what the first definition with this name stands for
 abbrev pub tree_named : List PlainDefinition → List ℕ → Option Regex
