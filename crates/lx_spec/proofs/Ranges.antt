@@ -10,8 +10,8 @@ use Rattle.lx_spec.specs.Sections.{RawDefinition, RawRule}
 use Rattle.lx_spec.specs.views.Actions.{value_view, statement_view, statements_view, action_view}
 use Rattle.lx_spec.specs.Outcome.{ResolvedRule, AreResolved, AreReached, none, reached, passed, patterns_in, actions_in, first_own, statements_in, returned_by, with_kind, kinds_behind, kinds_of, steps_of, rules_of}
 use Rattle.lx_spec.specs.Invariant.{are_distinct, are_raw_definitions, are_definitions, are_steps, are_conditions, is_rule, are_kinds, is_number}
-use Rattle.lx_ere.specs.Regex.{Regex, regex_of}
-use Rattle.lx_spec.specs.views.Rules.{rule_view, expressions_view}
+use Rattle.lx_ere.specs.Regex.{Regex}
+use Rattle.lx_spec.specs.Nesting.{expressions_of}
 use Rattle.lx_spec.specs.views.ResolvedRules.{resolved_view}
 use Rattle.lx_spec.specs.views.Sections.{raw_rule_view}
 use Rattle.lx_spec.specs.declared.returned_value.Value.{Value as CodeValue}
@@ -22,9 +22,7 @@ use Rattle.lx_spec.specs.declared.action.Action.{Action as CodeAction}
 use Rattle.lx_spec.specs.declared.action.Action.TheVariants.{Shared, Own}
 use Rattle.lx_spec.specs.declared.resolved_rule.ResolvedRule.{ResolvedRule as CodeRule}
 use Rattle.lx_spec.specs.declared.parsed_sections.RawRule.{RawRule as CodeRaw}
-use Rattle.lx_spec.specs.declared.rule.Rule.{Rule}
 use Rattle.lx_spec.proofs.Conjunctions.{both, left-of, right-of}
-use Rattle.lx_spec.proofs.Rows.{list_all-map}
 use Rattle.lx_spec.proofs.Listed.{conditions-listed}
 use Rattle.lx_spec.proofs.Distinct.{or-left, or-right, not-true}
 use Rattle.lx_spec.proofs.Returned.{is_value, is_statement, are_statements, is_found, steps-range, returned-found, kinds-distinct, kinds-identifiers, kinds-in-order}
@@ -54,12 +52,8 @@ lists-are : (resolved : List CodeRule) → IsTrue (list_all are_statements (stat
 lists-are [] = refl
 lists-are (r ∷ resolved) = both (are_statements (first_own (actions_in (map resolved_view (r ∷ resolved))))) (list_all are_statements (statements_in (map resolved_view resolved))) (own-are (r ∷ resolved)) (lists-are resolved)
 
--- what `is_rule` says, without where the rule lies in memory
-abbrev is_plain : ℕ → ℕ → PlainRule → Bool
-is_plain conditions kinds rule = nat_lt 0 rule.line && (are_steps conditions kinds rule.steps && are_conditions conditions rule.conditions)
-
 plain-range : (start_conditions : List StartCondition) (raws : List CodeRaw) (resolved : List CodeRule) (kinds all : List (List ℕ)) → 0 < length start_conditions → AreResolved start_conditions (map raw_rule_view raws) (map resolved_view resolved) →
-    all ≡ kinds_behind kinds (statements_in (map resolved_view resolved)) → IsTrue (list_all (is_plain (length start_conditions) (length all)) (rules_of start_conditions all (map raw_rule_view raws) (map resolved_view resolved)))
+    all ≡ kinds_behind kinds (statements_in (map resolved_view resolved)) → IsTrue (list_all (is_rule (length start_conditions) (length all)) (rules_of start_conditions all (map raw_rule_view raws) (map resolved_view resolved)))
 plain-range start_conditions [] [] kinds all some are e = refl
 plain-range start_conditions [] (r ∷ resolved) kinds all some are e = absurd are
 plain-range start_conditions (raw ∷ raws) [] kinds all some are e = absurd are
@@ -74,12 +68,11 @@ plain-range start_conditions (raw ∷ raws) (r ∷ resolved) kinds all some are 
     (both (nat_lt 0 raw.line) _ line (both (are_steps (length start_conditions) (length all) (steps_of start_conditions all ss)) _ steps listed))
     (plain-range start_conditions raws resolved (with_kind kinds (returned_by ss)) all some are.1 e)
 
-pub rules-in-range : (start_conditions : List StartCondition) (raws : List CodeRaw) (resolved : List CodeRule) (rules : List Rule) (c k : ℕ) → c ≡ length start_conditions → k ≡ length (kinds_of (map resolved_view resolved)) → 0 < length start_conditions →
-    AreResolved start_conditions (map raw_rule_view raws) (map resolved_view resolved) → map rule_view rules ≡ rules_of start_conditions (kinds_of (map resolved_view resolved)) (map raw_rule_view raws) (map resolved_view resolved) → IsTrue (list_all (is_rule c k) rules)
-rules-in-range start_conditions raws resolved rules c k cs ks some are e =
-    subst (λ (n : ℕ). IsTrue (list_all (is_rule n k) rules)) (sym cs) (subst (λ (n : ℕ). IsTrue (list_all (is_rule (length start_conditions) n) rules)) (sym ks)
-    (subst IsTrue (list_all-map (is_plain (length start_conditions) (length (kinds_of (map resolved_view resolved)))) rule_view rules)
-    (subst (λ (l : List PlainRule). IsTrue (list_all (is_plain (length start_conditions) (length (kinds_of (map resolved_view resolved)))) l)) (sym e) (plain-range start_conditions raws resolved [] (kinds_of (map resolved_view resolved)) some are refl))))
+pub rules-in-range : (start_conditions : List StartCondition) (raws : List CodeRaw) (resolved : List CodeRule) (conditions : List StartCondition) (kinds : List (List ℕ)) (rules : List PlainRule) → conditions ≡ start_conditions → kinds ≡ kinds_of (map resolved_view resolved) → 0 < length start_conditions →
+    AreResolved start_conditions (map raw_rule_view raws) (map resolved_view resolved) → rules ≡ rules_of start_conditions (kinds_of (map resolved_view resolved)) (map raw_rule_view raws) (map resolved_view resolved) → IsTrue (list_all (is_rule (length conditions) (length kinds)) rules)
+rules-in-range start_conditions raws resolved conditions kinds rules cs ks some are e =
+    subst (λ (l : List StartCondition). IsTrue (list_all (is_rule (length l) (length kinds)) rules)) (sym cs) (subst (λ (l : List (List ℕ)). IsTrue (list_all (is_rule (length start_conditions) (length l)) rules)) (sym ks)
+    (subst (λ (l : List PlainRule). IsTrue (list_all (is_rule (length start_conditions) (length (kinds_of (map resolved_view resolved)))) l)) (sym e) (plain-range start_conditions raws resolved [] (kinds_of (map resolved_view resolved)) some are refl)))
 
 number-is : (n : ℕ) (o : Option ℕ) → o ≡ Some n → IsTrue (is_number n o)
 number-is n o e = subst (λ (x : Option ℕ). IsTrue (is_number n x)) (sym e) (let t : nat_eq n n ≡ true = grind (arith, nat_tests) in t)
@@ -100,12 +93,8 @@ rules-length start_conditions kinds [] (s ∷ resolved) are = absurd are
 rules-length start_conditions kinds (raw ∷ raws) [] are = absurd are
 rules-length start_conditions kinds (raw ∷ raws) (s ∷ resolved) are = ap suc (rules-length start_conditions kinds raws resolved are.1)
 
-pub same-expressions : (start_conditions : List StartCondition) (kinds : List (List ℕ)) (raws : List RawRule) (resolved : List ResolvedRule) (rules : List Rule) → AreResolved start_conditions raws resolved → map rule_view rules ≡ rules_of start_conditions kinds raws resolved → expressions_view rules ≡ patterns_in resolved
-same-expressions start_conditions kinds raws resolved rules are e = trees rules ∙ ap (map (λ (r : PlainRule). r.reading.tree)) e ∙ resolves raws resolved are where
-  trees : (rules : List Rule) → expressions_view rules ≡ map (λ (r : PlainRule). r.reading.tree) (map rule_view rules)
-  trees [] = refl
-  trees (r ∷ rules) = ap (λ (l : List Regex). regex_of r.pattern.expr ∷ l) (trees rules)
-
+pub same-expressions : (start_conditions : List StartCondition) (kinds : List (List ℕ)) (raws : List RawRule) (resolved : List ResolvedRule) (rules : List PlainRule) → AreResolved start_conditions raws resolved → rules ≡ rules_of start_conditions kinds raws resolved → expressions_of rules ≡ patterns_in resolved
+same-expressions start_conditions kinds raws resolved rules are e = ap expressions_of e ∙ resolves raws resolved are where
   resolves : (raws : List RawRule) (resolved : List ResolvedRule) → AreResolved start_conditions raws resolved → map (λ (r : PlainRule). r.reading.tree) (rules_of start_conditions kinds raws resolved) ≡ patterns_in resolved
   resolves [] [] are = refl
   resolves [] (s ∷ resolved) are = absurd are

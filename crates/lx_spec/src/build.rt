@@ -15,7 +15,7 @@ ghost use Rattle.lx_spec.specs.views.Specs.{spec_view};
 ghost use Rattle.lx_spec.specs.views.Trees.{trees_view};
 ghost use Rattle.lx_spec.specs.Verdict.{Holds, cases};
 ghost use Rattle.lx_spec.specs.Whole.{symbols_of};
-ghost use Rattle.lx_spec.specs.Invariant.{IsWellFormed};
+ghost use Rattle.lx_spec.specs.Invariant.{AreWellFormed};
 
 use crate::action::{Action, Statement};
 use crate::condition::Condition;
@@ -236,7 +236,7 @@ pub(crate) fn spec_of(
     resolved: Vec<ResolvedRule>,
 ) -> Result<Spec, AllocError>
     requires index { index.now.definitions.now ≡ sections.now.definitions.items }
-    requires sections { IsWellFormed (sections_view sections.now) }
+    requires sections { AreWellFormed (sections_view sections.now) }
     requires dictionary { IsDictionary (map raw_definition_view sections.now.definitions.items) (dictionary_view dictionary) }
     requires resolves { AreResolved (map start_condition_view sections.now.start_conditions.items) (map raw_rule_view sections.now.rules.items) (map resolved_view resolved.items) }
     requires clean { HoldsOfNone (Holds (symbols_of (sections_view sections.now) (trees_view dictionary.trees.items))) (cases (map raw_rule_view sections.now.rules.items)) }

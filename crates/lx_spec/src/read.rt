@@ -6,6 +6,7 @@ ghost use Rattle.lx_spec.specs.Dictionary.{AreTrees};
 ghost use Rattle.lx_spec.specs.views.Dictionaries.{dictionary_view, IsDictionary};
 ghost use Rattle.lx_spec.specs.Faults.{out_of_memory};
 ghost use Rattle.lx_spec.specs.First.{HoldsOfNone};
+ghost use Rattle.lx_spec.specs.Invariant.{IsWellFormed};
 ghost use Rattle.lx_spec.specs.Outcome.{AreResolved};
 ghost use Rattle.lx_spec.specs.RuleLines.{EndsPatterns};
 ghost use Rattle.lx_spec.specs.views.ResolvedRules.{resolved_view};
@@ -94,3 +95,8 @@ pub fn one_verdict()
     one_reading();
     one_substitute();
 }
+
+/// A law: what every specification keeps, over its plain values.
+pub fn specs_are_well_formed()
+    ensures { (spec : Spec) → IsWellFormed (spec_view spec) }
+{}

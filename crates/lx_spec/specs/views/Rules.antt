@@ -3,7 +3,7 @@ use Rattle.std.specs.Prelude.{ℕ, List, map}
 use Rattle.std.specs.Option.{option_map}
 use Rattle.std.specs.declared.alloc.Global.{Global}
 use Rattle.std.specs.declared.vec.Vec.{Vec}
-use Rattle.lx_ere.specs.Regex.{Regex, regex_of, reading_of}
+use Rattle.lx_ere.specs.Regex.{regex_of, reading_of}
 use Rattle.lx_spec.specs.Plain.{PlainDefinition, PlainRule}
 use Rattle.lx_spec.specs.declared.definition.Definition.{Definition}
 use Rattle.lx_spec.specs.declared.rule.Rule.{Rule}
@@ -17,7 +17,3 @@ definition_view d = record { name = d.name.items; tree = regex_of d.expr }
 -- the names of kinds
 abbrev pub names_view : List (Vec ℕ Global) → List (List ℕ)
 names_view kinds = map (λ k. k.items) kinds
-
--- the expressions of some rules
-abbrev pub expressions_view : List Rule → List Regex
-expressions_view rules = map (λ r. regex_of r.pattern.expr) rules

@@ -8,10 +8,10 @@ use Rattle.lx_spec.specs.views.DefinitionFaults.{AreDefinitionFaults}
 use Rattle.lx_spec.specs.declared.symbol_table.SymbolTable.{SymbolTable as CodeTable}
 
 abbrev pub symbols_view : CodeTable → SymbolTable
-symbols_view b = record { start_conditions = map start_condition_view b.start_conditions.now; definitions = map raw_definition_view b.index.now.definitions.now; trees = trees_view b.dictionary.now.trees.items }
+symbols_view table = record { start_conditions = map start_condition_view table.start_conditions.now; definitions = map raw_definition_view table.index.now.definitions.now; trees = trees_view table.dictionary.now.trees.items }
 
 -- The dictionary is that of the definitions, and the faults are those of the dictionary; INITIAL is declared.
-pub record IsSymbolTable (b : CodeTable) : Type 0 where
-  pub dictionary : IsDictionary (map raw_definition_view b.index.now.definitions.now) (dictionary_view b.dictionary.now)
-  pub faults : AreDefinitionFaults (dictionary_view b.dictionary.now) b.faults.now
-  pub initial : 0 < length b.start_conditions.now
+pub record IsSymbolTable (table : CodeTable) : Type 0 where
+  pub dictionary : IsDictionary (map raw_definition_view table.index.now.definitions.now) (dictionary_view table.dictionary.now)
+  pub faults : AreDefinitionFaults (dictionary_view table.dictionary.now) table.faults.now
+  pub initial : 0 < length table.start_conditions.now

@@ -1,7 +1,5 @@
 use Rattle.std.proofs.Common.{◌≡◌, ◌∙◌, ℕ, List, length, map, ap, sym, subst, arith}
 use Rattle.std.specs.Prelude.{IsTrue}
-use Rattle.std.specs.declared.alloc.Global.{Global}
-use Rattle.std.specs.declared.vec.Vec.{Vec}
 use Rattle.std.proofs.lemmas.List.{length-map}
 use Rattle.lx_ere.specs.Regex.{Regex}
 use Rattle.lx_spec.specs.Plain.{StartCondition}
@@ -78,7 +76,6 @@ invariant_of-result c =
     let definitions = map definition_view c.in_ok-definitions.definitions.items in
     let count : length c.in_ok-conditions.conditions.items ≡ length sections.start_conditions = sym (length-map c.in_ok-conditions.conditions.items condition_view) ∙ ap length (conditions-are c) in
     let start_conditions-count : length sections.start_conditions ≡ length c.args.sections.now.start_conditions.items = length-map c.args.sections.now.start_conditions.items start_condition_view in
-    let kinds-count : length c.in_ok-kinds.kinds.kinds.items ≡ length (kinds_of resolved) = sym (length-map c.in_ok-kinds.kinds.kinds.items (λ (k : Vec ℕ Global). k.items)) ∙ ap length (kinds-are-those c) in
     let rules-count : length c.in_ok-rules.rules.items ≡ length sections.rules =
     sym (length-map c.in_ok-rules.rules.items rule_view) ∙ ap length (rules-are c) ∙ rules-length sections.start_conditions (kinds_of resolved) sections.rules resolved c.requires.resolves in
     let raws-count : length sections.rules ≡ length c.args.sections.now.rules.items = length-map c.args.sections.now.rules.items raw_rule_view in
@@ -87,12 +84,12 @@ invariant_of-result c =
       few_conditions = omega (arith, count, start_conditions-count, few);
       initial_first = subst (λ (l : List StartCondition). IsTrue (are_start_conditions l)) (sym (conditions-are c)) c.requires.sections.start_conditions;
       distinct = definitions-distinct (IsReached table.definitions table.trees (patterns_in resolved)) 0 table.definitions table.trees definitions (definitions-are c) c.requires.sections.definitions;
-      nested = subst (λ (l : List Regex). IsTrue (are_nested definitions l)) (sym (same-expressions sections.start_conditions (kinds_of resolved) sections.rules resolved c.in_ok-rules.rules.items c.requires.resolves (rules-are c)))
+      nested = subst (λ (l : List Regex). IsTrue (are_nested definitions l)) (sym (same-expressions sections.start_conditions (kinds_of resolved) sections.rules resolved (map rule_view c.in_ok-rules.rules.items) c.requires.resolves (rules-are c)))
           (nested table sections.rules resolved definitions c.requires.clean c.requires.resolves (definitions-are c));
       kinds_in_order = kinds-are sections.start_conditions sections.rules c.args.resolved.items (names_view c.in_ok-kinds.kinds.kinds.items) (map rule_view c.in_ok-rules.rules.items) (sym same) (kinds-are-those c) (rules-are c);
       few_definitions = omega (arith, c.in_ok-definitions.ensures.few, ap length c.requires.index, few-names);
       few_rules = omega (arith, rules-count, raws-count, few-rules);
-      rules_in_range = rules-in-range sections.start_conditions c.args.sections.now.rules.items c.args.resolved.items c.in_ok-rules.rules.items (length c.in_ok-conditions.conditions.items) (length c.in_ok-kinds.kinds.kinds.items) count kinds-count (omega (arith, start_conditions-count, some)) c.requires.resolves (rules-are c);
+      rules_in_range = rules-in-range sections.start_conditions c.args.sections.now.rules.items c.args.resolved.items (map condition_view c.in_ok-conditions.conditions.items) (names_view c.in_ok-kinds.kinds.kinds.items) (map rule_view c.in_ok-rules.rules.items) (conditions-are c) (kinds-are-those c) (omega (arith, start_conditions-count, some)) c.requires.resolves (rules-are c);
     }
 
 pub returns : goal.returns
