@@ -28,8 +28,6 @@ pub mod section;
 pub mod sheet;
 pub mod small;
 pub mod spec;
-#[cfg(test)]
-mod tests;
 pub mod word;
 
 pub use crate::condition::Condition;

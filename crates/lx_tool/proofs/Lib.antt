@@ -15,5 +15,4 @@ pub mod Runs
 pub mod SetLemmas
 pub mod SourceLemmas
 pub mod Steps
-pub mod TestPieces
 pub mod Weights
