@@ -16,3 +16,4 @@ pub mod SetLemmas
 pub mod SourceLemmas
 pub mod Steps
 pub mod Weights
+pub mod WholeLines
