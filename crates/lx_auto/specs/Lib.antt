@@ -1,0 +1,5 @@
+pub mod Unfolded
+pub mod WrittenOut
+pub mod Counts
+pub mod Trimmed
+pub mod Nodes

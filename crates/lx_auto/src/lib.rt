@@ -1,0 +1,5 @@
+//! Automata of specifications: positions, subset construction, and states merged to the fewest
+//! (McNaughton and Yamada 1960, Glushkov 1961, Rabin and Scott 1959).
+#![tactic(auto)]
+
+mod fault;
