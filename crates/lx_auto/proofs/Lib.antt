@@ -1,0 +1,5 @@
+pub mod Words
+pub mod Prefixes
+pub mod Matched
+pub mod Passes
+pub mod RuleReached

@@ -3,3 +3,7 @@ pub mod WrittenOut
 pub mod Counts
 pub mod Trimmed
 pub mod Nodes
+pub mod Positions
+pub mod Starts
+pub mod PositionSets
+pub mod RuleReach
