@@ -3,3 +3,5 @@ pub mod Prefixes
 pub mod Matched
 pub mod Passes
 pub mod RuleReached
+pub mod Ranges
+pub mod SetStepped

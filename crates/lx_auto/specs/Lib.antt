@@ -7,3 +7,4 @@ pub mod Positions
 pub mod Starts
 pub mod PositionSets
 pub mod RuleReach
+pub mod SetSteps
