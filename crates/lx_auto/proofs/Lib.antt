@@ -3,5 +3,7 @@ pub mod Prefixes
 pub mod Matched
 pub mod Passes
 pub mod RuleReached
+pub mod FlagLemmas
+pub mod Passed
 pub mod Ranges
 pub mod SetStepped

@@ -8,3 +8,5 @@ pub mod Starts
 pub mod PositionSets
 pub mod RuleReach
 pub mod SetSteps
+pub mod Marking
+pub mod Passing
