@@ -5,5 +5,6 @@ pub mod Passes
 pub mod RuleReached
 pub mod FlagLemmas
 pub mod Passed
+pub mod Readable
 pub mod Ranges
 pub mod SetStepped
