@@ -1,10 +1,10 @@
 -- The passes over the nodes come to what stands in Passing.
-use Rattle.std.proofs.Common.{◌≡◌, ◌≢◌, ℕ, zero, suc, ◌+◌, ◌-◌, ◌≤◌, ◌<◌, ◌⊎◌, ◌↔◌, inl, inr, Bool, true, false, ◌&&◌, ◌||◌, List, [], ◌∷◌, ◌++◌, length, refl, sym, ◌∙◌, ap, ap₂, subst, arith, append_assoc}
+use Rattle.std.proofs.Common.{◌≡◌, ℕ, ◌+◌, ◌-◌, ◌<◌, Bool, true, false, ◌&&◌, ◌||◌, List, [], ◌∷◌, ◌++◌, length, refl, sym, ◌∙◌, ap, ap₂, subst, arith, append_assoc}
 use Rattle.std.proofs.lemmas.List.{reverse-append, length-reverse}
 use Rattle.std.specs.Prelude.{reverse, slice_set}
 use Rattle.lx_auto.specs.Unfolded.{Unfolded, empty, leaf, cat, alt, opt, plus, position_count, nullable}
-use Rattle.lx_auto.specs.Nodes.{PlainNode, leaf_node, cat_node, alt_node, opt_node, plus_node, nodes_of}
-use Rattle.lx_auto.specs.Marking.{flag, left_of, null_of, nulls_from, behind_node, end_of, ends_from, told_by, read_at, reads_from}
+use Rattle.lx_auto.specs.Nodes.{PlainNode, cat_node, alt_node, opt_node, plus_node, nodes_of}
+use Rattle.lx_auto.specs.Marking.{flag, left_of, nulls_from, ends_from, reads_from}
 use Rattle.lx_auto.specs.Passing.{IsSolid, node_count, null_list, ended, end_list, NullsAt, EndsAt, read_list}
 use Rattle.lx_auto.proofs.FlagLemmas.{flag_left, flag_right, length_joined}
 
@@ -93,11 +93,11 @@ nulls_pass (cat a b) more xs s =
     let m = some_nodes b s.1 in
     let all = (xs ++ null_list a) ++ null_list b in
     let here : nulls_from (cat_node (node_count b) ∷ more) all ≡ nulls_from more (all ++ (nullable a && nullable b) ∷ []) =
-      ap (λ f. nulls_from more (all ++ f ∷ []))
-      (ap₂ (λ f g. f && g)
-        (flag_left (xs ++ null_list a) (null_list b) (left_of (length all) (node_count b)) (let p = some_nodes a s.0 in omega arith)
-         ∙ null_last xs a (left_of (length all) (node_count b)) s.0 (omega arith))
-        (null_last (xs ++ null_list a) b (length all - 1) s.1 (omega arith))) in
+    ap (λ f. nulls_from more (all ++ f ∷ []))
+    (ap₂ (λ f g. f && g)
+    (flag_left (xs ++ null_list a) (null_list b) (left_of (length all) (node_count b)) (let p = some_nodes a s.0 in omega arith)
+    ∙ null_last xs a (left_of (length all) (node_count b)) s.0 (omega arith))
+    (null_last (xs ++ null_list a) b (length all - 1) s.1 (omega arith))) in
     ap (λ l. nulls_from l xs) (append_assoc (nodes_of a) (nodes_of b ++ cat_node (node_count b) ∷ []) more)
     ∙ nulls_pass a ((nodes_of b ++ cat_node (node_count b) ∷ []) ++ more) xs s.0
     ∙ ap (λ l. nulls_from l (xs ++ null_list a)) (append_assoc (nodes_of b) (cat_node (node_count b) ∷ []) more)
@@ -110,11 +110,11 @@ nulls_pass (alt a b) more xs s =
     let m = some_nodes b s.1 in
     let all = (xs ++ null_list a) ++ null_list b in
     let here : nulls_from (alt_node (node_count b) ∷ more) all ≡ nulls_from more (all ++ (nullable a || nullable b) ∷ []) =
-      ap (λ f. nulls_from more (all ++ f ∷ []))
-      (ap₂ (λ f g. f || g)
-        (flag_left (xs ++ null_list a) (null_list b) (left_of (length all) (node_count b)) (let p = some_nodes a s.0 in omega arith)
-         ∙ null_last xs a (left_of (length all) (node_count b)) s.0 (omega arith))
-        (null_last (xs ++ null_list a) b (length all - 1) s.1 (omega arith))) in
+    ap (λ f. nulls_from more (all ++ f ∷ []))
+    (ap₂ (λ f g. f || g)
+    (flag_left (xs ++ null_list a) (null_list b) (left_of (length all) (node_count b)) (let p = some_nodes a s.0 in omega arith)
+    ∙ null_last xs a (left_of (length all) (node_count b)) s.0 (omega arith))
+    (null_last (xs ++ null_list a) b (length all - 1) s.1 (omega arith))) in
     ap (λ l. nulls_from l xs) (append_assoc (nodes_of a) (nodes_of b ++ alt_node (node_count b) ∷ []) more)
     ∙ nulls_pass a ((nodes_of b ++ alt_node (node_count b) ∷ []) ++ more) xs s.0
     ∙ ap (λ l. nulls_from l (xs ++ null_list a)) (append_assoc (nodes_of b) (alt_node (node_count b) ∷ []) more)
@@ -142,30 +142,32 @@ nulls_at (cat a b) xs ys nulls o s h n =
     let top = nullable a && nullable b in
     let pa = some_nodes a s.0 in let pb = some_nodes b s.1 in
     let of_a : nulls ≡ xs ++ (null_list a ++ ((null_list b ++ top ∷ []) ++ ys)) =
-      h ∙ ap (λ l. xs ++ l) (append_assoc (null_list a) (null_list b ++ top ∷ []) ys) in
+    h ∙ ap (λ l. xs ++ l) (append_assoc (null_list a) (null_list b ++ top ∷ []) ys) in
     let of_b : nulls ≡ (xs ++ null_list a) ++ (null_list b ++ (top ∷ ys)) =
-      of_a ∙ sym (append_assoc xs (null_list a) ((null_list b ++ top ∷ []) ++ ys))
-      ∙ ap (λ l. (xs ++ null_list a) ++ l) (append_assoc (null_list b) (top ∷ []) ys) in
-    let behind : nulls ≡ ((xs ++ null_list a) ++ null_list b) ++ (top ∷ ys) = of_b ∙ sym (append_assoc (xs ++ null_list a) (null_list b) (top ∷ ys)) in
-    (nulls_at a xs ((null_list b ++ top ∷ []) ++ ys) nulls o s.0 of_a n,
-     nulls_at b (xs ++ null_list a) (top ∷ ys) nulls (o + node_count a) s.1 of_b (omega arith),
-     ap (λ l. flag l (o + node_count a - 1)) of_b
-     ∙ flag_left (xs ++ null_list a) (null_list b ++ (top ∷ ys)) (o + node_count a - 1) (omega arith)
-     ∙ null_last xs a (o + node_count a - 1) s.0 (omega arith),
-     ap (λ l. flag l (o + node_count a + node_count b - 1)) behind
-     ∙ flag_left ((xs ++ null_list a) ++ null_list b) (top ∷ ys) (o + node_count a + node_count b - 1) (omega arith)
-     ∙ null_last (xs ++ null_list a) b (o + node_count a + node_count b - 1) s.1 (omega arith))
+    of_a ∙ sym (append_assoc xs (null_list a) ((null_list b ++ top ∷ []) ++ ys))
+    ∙ ap (λ l. (xs ++ null_list a) ++ l) (append_assoc (null_list b) (top ∷ []) ys) in
+    let behind : nulls ≡ ((xs ++ null_list a) ++ null_list b) ++ (top ∷ ys) = of_b ∙ sym (append_assoc (xs ++ null_list a) (null_list b) (top ∷ ys)) in (
+      nulls_at a xs ((null_list b ++ top ∷ []) ++ ys) nulls o s.0 of_a n,
+      nulls_at b (xs ++ null_list a) (top ∷ ys) nulls (o + node_count a) s.1 of_b (omega arith),
+      ap (λ l. flag l (o + node_count a - 1)) of_b
+          ∙ flag_left (xs ++ null_list a) (null_list b ++ (top ∷ ys)) (o + node_count a - 1) (omega arith)
+          ∙ null_last xs a (o + node_count a - 1) s.0 (omega arith),
+      ap (λ l. flag l (o + node_count a + node_count b - 1)) behind
+          ∙ flag_left ((xs ++ null_list a) ++ null_list b) (top ∷ ys) (o + node_count a + node_count b - 1) (omega arith)
+          ∙ null_last (xs ++ null_list a) b (o + node_count a + node_count b - 1) s.1 (omega arith),
+    )
 nulls_at (alt a b) xs ys nulls o s h n =
     let x = null_length a in let y = null_length b in
     let v = length_joined xs (null_list a) in let u = length_joined (xs ++ null_list a) (null_list b) in
     let top = nullable a || nullable b in
     let of_a : nulls ≡ xs ++ (null_list a ++ ((null_list b ++ top ∷ []) ++ ys)) =
-      h ∙ ap (λ l. xs ++ l) (append_assoc (null_list a) (null_list b ++ top ∷ []) ys) in
+    h ∙ ap (λ l. xs ++ l) (append_assoc (null_list a) (null_list b ++ top ∷ []) ys) in
     let of_b : nulls ≡ (xs ++ null_list a) ++ (null_list b ++ (top ∷ ys)) =
-      of_a ∙ sym (append_assoc xs (null_list a) ((null_list b ++ top ∷ []) ++ ys))
-      ∙ ap (λ l. (xs ++ null_list a) ++ l) (append_assoc (null_list b) (top ∷ []) ys) in
-    (nulls_at a xs ((null_list b ++ top ∷ []) ++ ys) nulls o s.0 of_a n,
-     nulls_at b (xs ++ null_list a) (top ∷ ys) nulls (o + node_count a) s.1 of_b (omega arith))
+    of_a ∙ sym (append_assoc xs (null_list a) ((null_list b ++ top ∷ []) ++ ys))
+    ∙ ap (λ l. (xs ++ null_list a) ++ l) (append_assoc (null_list b) (top ∷ []) ys) in (
+      nulls_at a xs ((null_list b ++ top ∷ []) ++ ys) nulls o s.0 of_a n,
+      nulls_at b (xs ++ null_list a) (top ∷ ys) nulls (o + node_count a) s.1 of_b (omega arith),
+    )
 nulls_at (opt a) xs ys nulls o s h n =
     nulls_at a xs (true ∷ ys) nulls o s (h ∙ ap (λ l. xs ++ l) (append_assoc (null_list a) (true ∷ []) ys)) n
 nulls_at (plus a) xs ys nulls o s h n =
@@ -178,7 +180,7 @@ reversed_two : (xs : List PlainNode) (c : PlainNode) (rest : List PlainNode) →
 reversed_two xs c rest = ap (λ l. l ++ rest) (reverse-append xs (c ∷ []))
 
 reversed_three : (xs ys : List PlainNode) (c : PlainNode) (rest : List PlainNode) →
-  reverse (xs ++ (ys ++ c ∷ [])) ++ rest ≡ c ∷ (reverse ys ++ (reverse xs ++ rest))
+    reverse (xs ++ (ys ++ c ∷ [])) ++ rest ≡ c ∷ (reverse ys ++ (reverse xs ++ rest))
 reversed_three xs ys c rest =
     ap (λ l. l ++ rest) (reverse-append xs (ys ++ c ∷ []) ∙ ap (λ l. l ++ reverse xs) (reverse-append ys (c ∷ [])))
     ∙ ap (λ l. c ∷ l) (append_assoc (reverse ys) (reverse xs) rest)
@@ -220,7 +222,7 @@ module _ (marks : List Bool) where
 
   -- upwards: where a marked position can stand last
   pub ends_pass : (nulls : List Bool) (e : Unfolded) (more : List PlainNode) (xs : List Bool) (p o : ℕ) → IsSolid e → o ≡ length xs → NullsAt nulls o e →
-    ends_from nulls marks p (nodes_of e ++ more) xs ≡ ends_from nulls marks (p + position_count e) more (xs ++ end_list marks e p)
+      ends_from nulls marks p (nodes_of e ++ more) xs ≡ ends_from nulls marks (p + position_count e) more (xs ++ end_list marks e p)
   ends_pass nulls empty more xs p o s n at = absurd s
   ends_pass nulls (leaf b) more xs p o s n at = refl
   ends_pass nulls (cat a b) more xs p o s n at =
@@ -232,18 +234,18 @@ module _ (marks : List Bool) where
       let q = p + position_count a + position_count b in
       let right : flag all (length all - 1) ≡ ended marks b (p + position_count a) = end_last (xs ++ A) b (p + position_count a) (length all - 1) s.1 (omega arith) in
       let left : flag all (left_of (length all) (node_count b)) ≡ ended marks a p =
-        flag_left (xs ++ A) B (left_of (length all) (node_count b)) (omega arith) ∙ end_last xs a p (left_of (length all) (node_count b)) s.0 (omega arith) in
+      flag_left (xs ++ A) B (left_of (length all) (node_count b)) (omega arith) ∙ end_last xs a p (left_of (length all) (node_count b)) s.0 (omega arith) in
       let null : flag nulls (length all - 1) ≡ nullable b =
-        ap (λ i. flag nulls i) (let i : length all - 1 ≡ o + node_count a + node_count b - 1 = omega arith in i) ∙ at.3 in
+      ap (λ i. flag nulls i) (let i : length all - 1 ≡ o + node_count a + node_count b - 1 = omega arith in i) ∙ at.3 in
       let here : ends_from nulls marks q (cat_node (node_count b) ∷ more) all ≡ ends_from nulls marks q more (all ++ ended marks (cat a b) p ∷ []) =
-        ap (λ f. ends_from nulls marks q more (all ++ f ∷ [])) (ap₂ (λ f g. f || g) right (ap₂ (λ f g. f && g) left null)) in
+      ap (λ f. ends_from nulls marks q more (all ++ f ∷ [])) (ap₂ (λ f g. f || g) right (ap₂ (λ f g. f && g) left null)) in
       ap (λ l. ends_from nulls marks p l xs) (append_assoc (nodes_of a) (nodes_of b ++ cat_node (node_count b) ∷ []) more)
       ∙ ends_pass nulls a ((nodes_of b ++ cat_node (node_count b) ∷ []) ++ more) xs p o s.0 n at.0
       ∙ ap (λ l. ends_from nulls marks (p + position_count a) l (xs ++ A)) (append_assoc (nodes_of b) (cat_node (node_count b) ∷ []) more)
       ∙ ends_pass nulls b (cat_node (node_count b) ∷ more) (xs ++ A) (p + position_count a) (o + node_count a) s.1 (omega arith) at.1
       ∙ here
       ∙ ap₂ (λ k l. ends_from nulls marks k more l) (let k : q ≡ p + (position_count a + position_count b) = omega arith in k)
-        (sym (regroup xs A B (ended marks (cat a b) p)))
+      (sym (regroup xs A B (ended marks (cat a b) p)))
   ends_pass nulls (alt a b) more xs p o s n at =
       let x = end_length a p in let y = end_length b (p + position_count a) in
       let A = end_list marks a p in let B = end_list marks b (p + position_count a) in
@@ -253,29 +255,29 @@ module _ (marks : List Bool) where
       let q = p + position_count a + position_count b in
       let right : flag all (length all - 1) ≡ ended marks b (p + position_count a) = end_last (xs ++ A) b (p + position_count a) (length all - 1) s.1 (omega arith) in
       let left : flag all (left_of (length all) (node_count b)) ≡ ended marks a p =
-        flag_left (xs ++ A) B (left_of (length all) (node_count b)) (omega arith) ∙ end_last xs a p (left_of (length all) (node_count b)) s.0 (omega arith) in
+      flag_left (xs ++ A) B (left_of (length all) (node_count b)) (omega arith) ∙ end_last xs a p (left_of (length all) (node_count b)) s.0 (omega arith) in
       let here : ends_from nulls marks q (alt_node (node_count b) ∷ more) all ≡ ends_from nulls marks q more (all ++ ended marks (alt a b) p ∷ []) =
-        ap (λ f. ends_from nulls marks q more (all ++ f ∷ [])) (ap₂ (λ f g. f || g) left right) in
+      ap (λ f. ends_from nulls marks q more (all ++ f ∷ [])) (ap₂ (λ f g. f || g) left right) in
       ap (λ l. ends_from nulls marks p l xs) (append_assoc (nodes_of a) (nodes_of b ++ alt_node (node_count b) ∷ []) more)
       ∙ ends_pass nulls a ((nodes_of b ++ alt_node (node_count b) ∷ []) ++ more) xs p o s.0 n at.0
       ∙ ap (λ l. ends_from nulls marks (p + position_count a) l (xs ++ A)) (append_assoc (nodes_of b) (alt_node (node_count b) ∷ []) more)
       ∙ ends_pass nulls b (alt_node (node_count b) ∷ more) (xs ++ A) (p + position_count a) (o + node_count a) s.1 (omega arith) at.1
       ∙ here
       ∙ ap₂ (λ k l. ends_from nulls marks k more l) (let k : q ≡ p + (position_count a + position_count b) = omega arith in k)
-        (sym (regroup xs A B (ended marks (alt a b) p)))
+      (sym (regroup xs A B (ended marks (alt a b) p)))
   ends_pass nulls (opt a) more xs p o s n at =
       let x = end_length a p in let v = length_joined xs (end_list marks a p) in let pa = some_nodes a s in
       ap (λ l. ends_from nulls marks p l xs) (append_assoc (nodes_of a) (opt_node ∷ []) more)
       ∙ ends_pass nulls a (opt_node ∷ more) xs p o s n at
       ∙ ap (λ f. ends_from nulls marks (p + position_count a) more ((xs ++ end_list marks a p) ++ f ∷ []))
-        (end_last xs a p (length (xs ++ end_list marks a p) - 1) s (omega arith))
+      (end_last xs a p (length (xs ++ end_list marks a p) - 1) s (omega arith))
       ∙ ap (λ l. ends_from nulls marks (p + position_count a) more l) (append_assoc xs (end_list marks a p) (ended marks a p ∷ []))
   ends_pass nulls (plus a) more xs p o s n at =
       let x = end_length a p in let v = length_joined xs (end_list marks a p) in let pa = some_nodes a s in
       ap (λ l. ends_from nulls marks p l xs) (append_assoc (nodes_of a) (plus_node ∷ []) more)
       ∙ ends_pass nulls a (plus_node ∷ more) xs p o s n at
       ∙ ap (λ f. ends_from nulls marks (p + position_count a) more ((xs ++ end_list marks a p) ++ f ∷ []))
-        (end_last xs a p (length (xs ++ end_list marks a p) - 1) s (omega arith))
+      (end_last xs a p (length (xs ++ end_list marks a p) - 1) s (omega arith))
       ∙ ap (λ l. ends_from nulls marks (p + position_count a) more l) (append_assoc xs (end_list marks a p) (ended marks a p ∷ []))
 
   -- the flags of ends, part by part
@@ -290,12 +292,13 @@ module _ (marks : List Bool) where
       let pa = some_nodes a s.0 in
       let of_a : ends ≡ xs ++ (A ++ ((B ++ top ∷ []) ++ ys)) = h ∙ ap (λ l. xs ++ l) (append_assoc A (B ++ top ∷ []) ys) in
       let of_b : ends ≡ (xs ++ A) ++ (B ++ (top ∷ ys)) =
-        of_a ∙ sym (append_assoc xs A ((B ++ top ∷ []) ++ ys)) ∙ ap (λ l. (xs ++ A) ++ l) (append_assoc B (top ∷ []) ys) in
-      (ends_at a xs ((B ++ top ∷ []) ++ ys) ends o p s.0 of_a n,
-       ends_at b (xs ++ A) (top ∷ ys) ends (o + node_count a) (p + position_count a) s.1 of_b (omega arith),
-       ap (λ l. flag l (o + node_count a - 1)) of_b
-       ∙ flag_left (xs ++ A) (B ++ (top ∷ ys)) (o + node_count a - 1) (omega arith)
-       ∙ end_last xs a p (o + node_count a - 1) s.0 (omega arith))
+      of_a ∙ sym (append_assoc xs A ((B ++ top ∷ []) ++ ys)) ∙ ap (λ l. (xs ++ A) ++ l) (append_assoc B (top ∷ []) ys) in (
+        ends_at a xs ((B ++ top ∷ []) ++ ys) ends o p s.0 of_a n,
+        ends_at b (xs ++ A) (top ∷ ys) ends (o + node_count a) (p + position_count a) s.1 of_b (omega arith),
+        ap (λ l. flag l (o + node_count a - 1)) of_b
+            ∙ flag_left (xs ++ A) (B ++ (top ∷ ys)) (o + node_count a - 1) (omega arith)
+            ∙ end_last xs a p (o + node_count a - 1) s.0 (omega arith),
+      )
   ends_at (alt a b) xs ys ends o p s h n =
       let x = end_length a p in let y = end_length b (p + position_count a) in
       let A = end_list marks a p in let B = end_list marks b (p + position_count a) in
@@ -303,23 +306,25 @@ module _ (marks : List Bool) where
       let top = ended marks (alt a b) p in
       let of_a : ends ≡ xs ++ (A ++ ((B ++ top ∷ []) ++ ys)) = h ∙ ap (λ l. xs ++ l) (append_assoc A (B ++ top ∷ []) ys) in
       let of_b : ends ≡ (xs ++ A) ++ (B ++ (top ∷ ys)) =
-        of_a ∙ sym (append_assoc xs A ((B ++ top ∷ []) ++ ys)) ∙ ap (λ l. (xs ++ A) ++ l) (append_assoc B (top ∷ []) ys) in
-      (ends_at a xs ((B ++ top ∷ []) ++ ys) ends o p s.0 of_a n,
-       ends_at b (xs ++ A) (top ∷ ys) ends (o + node_count a) (p + position_count a) s.1 of_b (omega arith))
+      of_a ∙ sym (append_assoc xs A ((B ++ top ∷ []) ++ ys)) ∙ ap (λ l. (xs ++ A) ++ l) (append_assoc B (top ∷ []) ys) in (
+        ends_at a xs ((B ++ top ∷ []) ++ ys) ends o p s.0 of_a n,
+        ends_at b (xs ++ A) (top ∷ ys) ends (o + node_count a) (p + position_count a) s.1 of_b (omega arith),
+      )
   ends_at (opt a) xs ys ends o p s h n =
       ends_at a xs (ended marks a p ∷ ys) ends o p s (h ∙ ap (λ l. xs ++ l) (append_assoc (end_list marks a p) (ended marks a p ∷ []) ys)) n
   ends_at (plus a) xs ys ends o p s h n =
       let x = end_length a p in let v = length_joined xs (end_list marks a p) in let pa = some_nodes a s in
-      let of_a : ends ≡ xs ++ (end_list marks a p ++ (ended marks a p ∷ ys)) = h ∙ ap (λ l. xs ++ l) (append_assoc (end_list marks a p) (ended marks a p ∷ []) ys) in
-      (ends_at a xs (ended marks a p ∷ ys) ends o p s of_a n,
-       ap (λ l. flag l (o + node_count a - 1)) (of_a ∙ sym (append_assoc xs (end_list marks a p) (ended marks a p ∷ ys)))
-       ∙ flag_left (xs ++ end_list marks a p) (ended marks a p ∷ ys) (o + node_count a - 1) (omega arith)
-       ∙ end_last xs a p (o + node_count a - 1) s (omega arith))
+      let of_a : ends ≡ xs ++ (end_list marks a p ++ (ended marks a p ∷ ys)) = h ∙ ap (λ l. xs ++ l) (append_assoc (end_list marks a p) (ended marks a p ∷ []) ys) in (
+        ends_at a xs (ended marks a p ∷ ys) ends o p s of_a n,
+        ap (λ l. flag l (o + node_count a - 1)) (of_a ∙ sym (append_assoc xs (end_list marks a p) (ended marks a p ∷ ys)))
+            ∙ flag_left (xs ++ end_list marks a p) (ended marks a p ∷ ys) (o + node_count a - 1) (omega arith)
+            ∙ end_last xs a p (o + node_count a - 1) s (omega arith),
+      )
 
   -- downwards: what can be read
   pub reads_pass : (nulls ends : List Bool) (e : Unfolded) (rest : List PlainNode) (f : Bool) (stack : List Bool) (p k : ℕ) (reads : List Bool) → IsSolid e →
-    k ≡ p + position_count e → NullsAt nulls (length rest) e → EndsAt marks ends (length rest) e p →
-    reads_from nulls ends (reverse (nodes_of e) ++ rest) (f ∷ stack) k reads ≡ reads_from nulls ends rest stack p (read_list marks e f p reads)
+      k ≡ p + position_count e → NullsAt nulls (length rest) e → EndsAt marks ends (length rest) e p →
+      reads_from nulls ends (reverse (nodes_of e) ++ rest) (f ∷ stack) k reads ≡ reads_from nulls ends rest stack p (read_list marks e f p reads)
   reads_pass nulls ends empty rest f stack p k reads s n nat eat = absurd s
   reads_pass nulls ends (leaf b) rest f stack p k reads s n nat eat =
       ap (λ q. reads_from nulls ends rest stack q (slice_set reads q f)) (let q : k - 1 ≡ p = omega arith in q)
@@ -336,7 +341,7 @@ module _ (marks : List Bool) where
       let gh : g ≡ h = ap (λ i. (f && flag nulls i) || flag ends i) at ∙ ap₂ (λ u v. (f && u) || v) nat.2 eat.2 in
       let nb : NullsAt nulls (length after) b = subst (λ o. NullsAt nulls o b) (let o : length rest + node_count a ≡ length after = omega arith in o) nat.1 in
       let eb : EndsAt marks ends (length after) b (p + position_count a) =
-        subst (λ o. EndsAt marks ends o b (p + position_count a)) (let o : length rest + node_count a ≡ length after = omega arith in o) eat.1 in
+      subst (λ o. EndsAt marks ends o b (p + position_count a)) (let o : length rest + node_count a ≡ length after = omega arith in o) eat.1 in
       ap (λ l. reads_from nulls ends l (f ∷ stack) k reads) (reversed_three (nodes_of a) (nodes_of b) top rest)
       ∙ ap (λ x. reads_from nulls ends (reverse (nodes_of b) ++ after) (x ∷ f ∷ stack) k reads) gh
       ∙ reads_pass nulls ends b after h (f ∷ stack) (p + position_count a) k reads s.1 (omega arith) nb eb
@@ -348,7 +353,7 @@ module _ (marks : List Bool) where
       let ra = length_reversed (nodes_of a) in
       let nb : NullsAt nulls (length after) b = subst (λ o. NullsAt nulls o b) (let o : length rest + node_count a ≡ length after = omega arith in o) nat.1 in
       let eb : EndsAt marks ends (length after) b (p + position_count a) =
-        subst (λ o. EndsAt marks ends o b (p + position_count a)) (let o : length rest + node_count a ≡ length after = omega arith in o) eat.1 in
+      subst (λ o. EndsAt marks ends o b (p + position_count a)) (let o : length rest + node_count a ≡ length after = omega arith in o) eat.1 in
       ap (λ l. reads_from nulls ends l (f ∷ stack) k reads) (reversed_three (nodes_of a) (nodes_of b) top rest)
       ∙ reads_pass nulls ends b after f (f ∷ stack) (p + position_count a) k reads s.1 (omega arith) nb eb
       ∙ reads_pass nulls ends a rest f stack p (p + position_count a) (read_list marks b f (p + position_count a) reads) s.0 refl nat.0 eat.0

@@ -1,9 +1,9 @@
 -- The passes say where a set of positions can end, and what can be read next.
-use Rattle.std.proofs.Common.{◌≡◌, ◌≢◌, ℕ, zero, suc, ◌+◌, ◌-◌, ◌≤◌, ◌<◌, ◌⊎◌, ◌↔◌, inl, inr, Bool, true, false, ◌&&◌, ◌||◌, List, [], ◌∷◌, ◌++◌, length, refl, sym, ◌∙◌, ap, ap₂, subst, arith}
+use Rattle.std.proofs.Common.{◌≡◌, ℕ, ◌+◌, ◌≤◌, ◌<◌, ◌⊎◌, ◌↔◌, inl, inr, Bool, true, ◌&&◌, ◌||◌, List, length, refl, sym, ◌∙◌, ap, subst, arith}
 use Rattle.std.proofs.lemmas.Bool.{cases_lt}
 use Rattle.std.specs.Prelude.{slice_set}
 use Rattle.lx_auto.specs.Unfolded.{Unfolded, empty, leaf, cat, alt, opt, plus, position_count, nullable}
-use Rattle.lx_auto.specs.Positions.{First, Last, Follow, CanEnd, CanRead}
+use Rattle.lx_auto.specs.Positions.{CanEnd, CanRead}
 use Rattle.lx_auto.specs.Marking.{flag}
 use Rattle.lx_auto.specs.Passing.{ended, read_list}
 use Rattle.lx_auto.proofs.Words.{and_true, or_true, or_left, or_right, in_first, in_follow}
@@ -20,8 +20,9 @@ read_along M E F f e k q c = elim c [ inl x ↦ inl (f x.0, x.1) | inr x ↦ inr
 -- what can be read lies in the range of the expression
 pub in_read : (M : ℕ → Type 0) (E : Type 0) (e : Unfolded) (k q : ℕ) → CanRead M E e k q → (k ≤ q) × (q < k + position_count e)
 in_read M E e k q c = elim c [
-    inl x ↦ in_first e k q x.1
-  | inr x ↦ let r = in_follow e k x.0 q x.2 in (r.2, r.3) ]
+  | inl x ↦ in_first e k q x.1
+  | inr x ↦ let r = in_follow e k x.0 q x.2 in (r.2, r.3)
+]
 
 module _ (marks : List Bool) where
   Marked : ℕ → Type 0
@@ -32,20 +33,25 @@ module _ (marks : List Bool) where
   ended_means (leaf b) p = ((λ t. (p, t, refl)), (λ c. subst (λ q. flag marks q ≡ true) c.2 c.1))
   ended_means (cat a b) p =
       let x = ended_means a p in
-      let y = ended_means b (p + position_count a) in
-      ((λ t. (end_of_cat (λ q. flag marks q ≡ true) a b p).1 (elim (or_true (ended marks b (p + position_count a)) (ended marks a p && nullable b) t) [
-            inl u ↦ inl (y.0 u)
-          | inr u ↦ let v = and_true (ended marks a p) (nullable b) u in inr (v.1, x.0 v.0) ])),
-       (λ c. elim ((end_of_cat (λ q. flag marks q ≡ true) a b p).0 c) [
-            inl u ↦ or_left (ended marks b (p + position_count a)) (ended marks a p && nullable b) (y.1 u)
-          | inr u ↦ or_right (ended marks b (p + position_count a)) (ended marks a p && nullable b) (both_true (ended marks a p) (nullable b) (x.1 u.1) u.0) ]))
+      let y = ended_means b (p + position_count a) in (
+        (λ t. (end_of_cat (λ q. flag marks q ≡ true) a b p).1 (elim (or_true (ended marks b (p + position_count a)) (ended marks a p && nullable b) t) [
+          | inl u ↦ inl (y.0 u)
+          | inr u ↦ let v = and_true (ended marks a p) (nullable b) u in inr (v.1, x.0 v.0)
+        ])),
+        (λ c. elim ((end_of_cat (λ q. flag marks q ≡ true) a b p).0 c) [
+          | inl u ↦ or_left (ended marks b (p + position_count a)) (ended marks a p && nullable b) (y.1 u)
+          | inr u ↦ or_right (ended marks b (p + position_count a)) (ended marks a p && nullable b) (both_true (ended marks a p) (nullable b) (x.1 u.1) u.0)
+        ]),
+      )
   ended_means (alt a b) p =
       let x = ended_means a p in
-      let y = ended_means b (p + position_count a) in
-      ((λ t. (end_of_alt (λ q. flag marks q ≡ true) a b p).1 (elim (or_true (ended marks a p) (ended marks b (p + position_count a)) t) [ inl u ↦ inl (x.0 u) | inr u ↦ inr (y.0 u) ])),
-       (λ c. elim ((end_of_alt (λ q. flag marks q ≡ true) a b p).0 c) [
-            inl u ↦ or_left (ended marks a p) (ended marks b (p + position_count a)) (x.1 u)
-          | inr u ↦ or_right (ended marks a p) (ended marks b (p + position_count a)) (y.1 u) ]))
+      let y = ended_means b (p + position_count a) in (
+        (λ t. (end_of_alt (λ q. flag marks q ≡ true) a b p).1 (elim (or_true (ended marks a p) (ended marks b (p + position_count a)) t) [ inl u ↦ inl (x.0 u) | inr u ↦ inr (y.0 u) ])),
+        (λ c. elim ((end_of_alt (λ q. flag marks q ≡ true) a b p).0 c) [
+          | inl u ↦ or_left (ended marks a p) (ended marks b (p + position_count a)) (x.1 u)
+          | inr u ↦ or_right (ended marks a p) (ended marks b (p + position_count a)) (y.1 u)
+        ]),
+      )
   ended_means (opt a) p = ended_means a p
   ended_means (plus a) p = ended_means a p
 
@@ -62,7 +68,7 @@ module _ (marks : List Bool) where
 
   -- flags outside the expression's range stay
   pub reads_apart : (e : Unfolded) (f : Bool) (p : ℕ) (reads : List Bool) (q : ℕ) → (q < p) ⊎ (p + position_count e ≤ q) →
-    flag (read_list marks e f p reads) q ≡ flag reads q
+      flag (read_list marks e f p reads) q ≡ flag reads q
   reads_apart empty f p reads q h = refl
   reads_apart (leaf b) f p reads q h = flag_set_other reads p q f (elim h [ inl l ↦ (λ e. absurd (omega arith)) | inr l ↦ (λ e. absurd (omega arith)) ])
   reads_apart (cat a b) f p reads q h =
@@ -77,7 +83,7 @@ module _ (marks : List Bool) where
 
   -- flags in its range say what can be read
   pub reads_mean : (e : Unfolded) (f : Bool) (p : ℕ) (reads : List Bool) (q : ℕ) → p + position_count e ≤ length reads → p ≤ q → q < p + position_count e →
-    (flag (read_list marks e f p reads) q ≡ true) ↔ CanRead (λ r. flag marks r ≡ true) (f ≡ true) e p q
+      (flag (read_list marks e f p reads) q ≡ true) ↔ CanRead (λ r. flag marks r ≡ true) (f ≡ true) e p q
   reads_mean empty f p reads q long low high = absurd (omega arith)
   reads_mean (leaf b) f p reads q long low high =
       let same : q ≡ p = omega arith in
@@ -91,44 +97,56 @@ module _ (marks : List Bool) where
       let len = reads_length b g k reads in
       let why : Type 0 = ((f ≡ true) × (nullable a ≡ true)) ⊎ CanEnd M a p in
       let into : g ≡ true → why = λ u. elim (or_true (f && nullable a) (ended marks a p) u) [
-            inl v ↦ inl (and_true f (nullable a) v)
-          | inr v ↦ inr ((ended_means a p).0 v) ] in
+        | inl v ↦ inl (and_true f (nullable a) v)
+        | inr v ↦ inr ((ended_means a p).0 v)
+      ] in
       let from : why → g ≡ true = λ u. elim u [
-            inl v ↦ or_left (f && nullable a) (ended marks a p) (both_true f (nullable a) v.0 v.1)
-          | inr v ↦ or_right (f && nullable a) (ended marks a p) ((ended_means a p).1 v) ] in
+        | inl v ↦ or_left (f && nullable a) (ended marks a p) (both_true f (nullable a) v.0 v.1)
+        | inr v ↦ or_right (f && nullable a) (ended marks a p) ((ended_means a p).1 v)
+      ] in
       elim (cases_lt q k) [
-          inl l ↦
-            let x = reads_mean a f p inner q (omega arith) low l in
-            ((λ t. (read_in_cat M a b p (f ≡ true) q).1 (inl (x.0 t))),
-             (λ c. elim ((read_in_cat M a b p (f ≡ true) q).0 c) [
-                inl v ↦ x.1 v
-              | inr v ↦ let r = in_read M why b k q v in absurd (omega arith) ]))
+        | inl l ↦
+            let x = reads_mean a f p inner q (omega arith) low l in (
+              (λ t. (read_in_cat M a b p (f ≡ true) q).1 (inl (x.0 t))),
+              (λ c. elim ((read_in_cat M a b p (f ≡ true) q).0 c) [
+                | inl v ↦ x.1 v
+                | inr v ↦ let r = in_read M why b k q v in absurd (omega arith)
+              ]),
+            )
         | inr l ↦
             let same = reads_apart a f p inner q (inr l) in
-            let y = reads_mean b g k reads q (omega arith) l (omega arith) in
-            ((λ t. (read_in_cat M a b p (f ≡ true) q).1 (inr (read_along M (g ≡ true) why into b k q (y.0 (sym same ∙ t))))),
-             (λ c. elim ((read_in_cat M a b p (f ≡ true) q).0 c) [
-                inl v ↦ let r = in_read M (f ≡ true) a p q v in absurd (omega arith)
-              | inr v ↦ same ∙ y.1 (read_along M why (g ≡ true) from b k q v) ])) ]
+            let y = reads_mean b g k reads q (omega arith) l (omega arith) in (
+              (λ t. (read_in_cat M a b p (f ≡ true) q).1 (inr (read_along M (g ≡ true) why into b k q (y.0 (sym same ∙ t))))),
+              (λ c. elim ((read_in_cat M a b p (f ≡ true) q).0 c) [
+                | inl v ↦ let r = in_read M (f ≡ true) a p q v in absurd (omega arith)
+                | inr v ↦ same ∙ y.1 (read_along M why (g ≡ true) from b k q v)
+              ]),
+            )
+      ]
   reads_mean (alt a b) f p reads q long low high =
       let M : ℕ → Type 0 = λ r. flag marks r ≡ true in
       let k = p + position_count a in
       let inner = read_list marks b f k reads in
       let len = reads_length b f k reads in
       elim (cases_lt q k) [
-          inl l ↦
-            let x = reads_mean a f p inner q (omega arith) low l in
-            ((λ t. (read_in_alt M a b p (f ≡ true) q).1 (inl (x.0 t))),
-             (λ c. elim ((read_in_alt M a b p (f ≡ true) q).0 c) [
-                inl v ↦ x.1 v
-              | inr v ↦ let r = in_read M (f ≡ true) b k q v in absurd (omega arith) ]))
+        | inl l ↦
+            let x = reads_mean a f p inner q (omega arith) low l in (
+              (λ t. (read_in_alt M a b p (f ≡ true) q).1 (inl (x.0 t))),
+              (λ c. elim ((read_in_alt M a b p (f ≡ true) q).0 c) [
+                | inl v ↦ x.1 v
+                | inr v ↦ let r = in_read M (f ≡ true) b k q v in absurd (omega arith)
+              ]),
+            )
         | inr l ↦
             let same = reads_apart a f p inner q (inr l) in
-            let y = reads_mean b f k reads q (omega arith) l (omega arith) in
-            ((λ t. (read_in_alt M a b p (f ≡ true) q).1 (inr (y.0 (sym same ∙ t)))),
-             (λ c. elim ((read_in_alt M a b p (f ≡ true) q).0 c) [
-                inl v ↦ let r = in_read M (f ≡ true) a p q v in absurd (omega arith)
-              | inr v ↦ same ∙ y.1 v ])) ]
+            let y = reads_mean b f k reads q (omega arith) l (omega arith) in (
+              (λ t. (read_in_alt M a b p (f ≡ true) q).1 (inr (y.0 (sym same ∙ t)))),
+              (λ c. elim ((read_in_alt M a b p (f ≡ true) q).0 c) [
+                | inl v ↦ let r = in_read M (f ≡ true) a p q v in absurd (omega arith)
+                | inr v ↦ same ∙ y.1 v
+              ]),
+            )
+      ]
   reads_mean (opt a) f p reads q long low high = reads_mean a f p reads q long low high
   reads_mean (plus a) f p reads q long low high =
       let M : ℕ → Type 0 = λ r. flag marks r ≡ true in
@@ -136,6 +154,7 @@ module _ (marks : List Bool) where
       let why : Type 0 = (f ≡ true) ⊎ CanEnd M a p in
       let into : g ≡ true → why = λ u. elim (or_true f (ended marks a p) u) [ inl v ↦ inl v | inr v ↦ inr ((ended_means a p).0 v) ] in
       let from : why → g ≡ true = λ u. elim u [ inl v ↦ or_left f (ended marks a p) v | inr v ↦ or_right f (ended marks a p) ((ended_means a p).1 v) ] in
-      let x = reads_mean a g p reads q long low high in
-      ((λ t. (read_in_plus M a a p (f ≡ true) q).1 (read_along M (g ≡ true) why into a p q (x.0 t))),
-       (λ c. x.1 (read_along M why (g ≡ true) from a p q ((read_in_plus M a a p (f ≡ true) q).0 c))))
+      let x = reads_mean a g p reads q long low high in (
+        (λ t. (read_in_plus M a a p (f ≡ true) q).1 (read_along M (g ≡ true) why into a p q (x.0 t))),
+        (λ c. x.1 (read_along M why (g ≡ true) from a p q ((read_in_plus M a a p (f ≡ true) q).0 c))),
+      )

@@ -10,3 +10,4 @@ pub mod RuleReach
 pub mod SetSteps
 pub mod Marking
 pub mod Passing
+pub mod NodeViews

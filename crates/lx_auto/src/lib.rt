@@ -3,3 +3,5 @@
 #![tactic(auto)]
 
 mod fault;
+mod marking;
+mod node;
