@@ -6,5 +6,9 @@ pub mod RuleReached
 pub mod FlagLemmas
 pub mod Passed
 pub mod Readable
+pub mod Solid
+pub mod RuleRead
 pub mod Ranges
 pub mod SetStepped
+pub mod Followed
+pub mod StepAll

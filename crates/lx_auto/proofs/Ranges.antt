@@ -9,11 +9,9 @@ use Rattle.lx_auto.specs.Positions.{First}
 use Rattle.lx_auto.specs.Counts.{newline_count}
 use Rattle.lx_auto.specs.PositionSets.{NumberedRule, newline_of, size_of, numbered, HasRuleByte}
 use Rattle.lx_auto.specs.RuleReach.{RuleFollow, FinalWithEnd, IsFinal, IsReachedInRule}
+use Rattle.lx_auto.specs.Following.{InRange, AreNumbered}
 use Rattle.lx_auto.proofs.Words.{in_first, in_last, in_follow}
 use Rattle.lx_auto.proofs.RuleReached.{in_bytes, in_reached}
-
-abbrev pub InRange : NumberedRule → ℕ → Type 0
-InRange r q = (r.base ≤ q) × (q < r.base + size_of r)
 
 newline_in : (r : NumberedRule) (q : ℕ) → IsTrue r.rule.reading.line_end → q ≡ newline_of r → InRange r q
 newline_in r q e s = let one : newline_count r.rule.reading.line_end ≡ 1 = ap newline_count e in (omega arith, omega arith)

@@ -9,7 +9,8 @@ use Rattle.lx_auto.specs.PositionSets.{NumberedRule, numbered, HasRuleByte, CanH
 use Rattle.lx_auto.specs.RuleReach.{RuleFollow, IsFinal, IsReachedInRule, MatchesWhole}
 use Rattle.lx_auto.specs.SetSteps.{HasSomeByte, IsFirstAt, FollowsSet, IsMatchedBy, IsSetOf}
 use Rattle.lx_auto.proofs.RuleReached.{first_reached, none_reached, next_reached, matches_final, prefix_reached, reached_prefix}
-use Rattle.lx_auto.proofs.Ranges.{InRange, bytes_in, follow_in, first_in, final_in, reached_in, same_rule}
+use Rattle.lx_auto.specs.Following.{InRange}
+use Rattle.lx_auto.proofs.Ranges.{bytes_in, follow_in, first_in, final_in, reached_in, same_rule}
 
 module _ (spec : PlainSpec) (tree_of : Regex → Unfolded) (base : ℕ) (plain : List PlainRule) where
   rules : List NumberedRule

@@ -11,3 +11,6 @@ pub mod SetSteps
 pub mod Marking
 pub mod Passing
 pub mod NodeViews
+pub mod RuleParts
+pub mod Following
+pub mod Members

@@ -1,5 +1,5 @@
 -- What the passes over the nodes of an expression come to.
-use Rattle.std.specs.Prelude.{◌≡◌, ℕ, ◌+◌, ◌-◌, Bool, true, false, ◌&&◌, ◌||◌, List, [], ◌∷◌, ◌++◌, length, slice_set}
+use Rattle.std.specs.Prelude.{◌≡◌, ◌⊎◌, ℕ, ◌+◌, ◌-◌, Bool, true, false, ◌&&◌, ◌||◌, List, [], ◌∷◌, ◌++◌, length, slice_set}
 use Rattle.lx_auto.specs.Unfolded.{Unfolded, empty, leaf, cat, alt, opt, plus, position_count, nullable}
 use Rattle.lx_auto.specs.Nodes.{nodes_of}
 use Rattle.lx_auto.specs.Marking.{flag}
@@ -72,3 +72,7 @@ read_list marks (cat a b) f p reads =
 read_list marks (alt a b) f p reads = read_list marks a f p (read_list marks b f (p + position_count a) reads)
 read_list marks (opt a) f p reads = read_list marks a f p reads
 read_list marks (plus a) f p reads = read_list marks a (f || ended marks a p) p reads
+
+-- the expression is empty, or solid
+abbrev pub IsTrim : Unfolded → Type 0
+IsTrim e = (e ≡ empty) ⊎ IsSolid e

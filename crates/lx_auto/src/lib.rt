@@ -5,3 +5,6 @@
 mod fault;
 mod marking;
 mod node;
+mod rule_part;
+mod rule_steps;
+mod set_steps;

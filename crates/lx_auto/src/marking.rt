@@ -1,5 +1,5 @@
 // Where a set of positions can end in an expression, and which positions can be read next: two passes over its nodes.
-ghost use Rattle.std.specs.Prelude.{◌≡◌, ◌<◌, ◌^◌, ◌∷◌, [], IfOk, OnOk, replicate, reverse, false};
+ghost use Rattle.std.specs.Prelude.{◌≡◌, ◌<◌, ◌^◌, ◌∷◌, [], IfOk, OnOk, reverse, slice_set, length};
 ghost use Rattle.lx_auto.specs.Marking as plain;
 ghost use Rattle.lx_auto.specs.Marking.{null_of, nulls_from, end_of, ends_from, behind_node, before_node, first_flag, other_flags, told_by, read_at, reads_from};
 ghost use Rattle.lx_auto.specs.NodeViews.{node_view, nodes_view};
@@ -7,12 +7,22 @@ ghost use Rattle.lx_auto.specs.NodeViews.{node_view, nodes_view};
 use crate::node::Node;
 use std::alloc::{AllocError, Global};
 
-// The flag at a place, and false past the end.
+/// The flag at a place, and false past the end.
 #[inline(always)]
-fn flag(flags: &[bool], i: usize) -> bool
+pub(crate) fn flag(flags: &[bool], i: usize) -> bool
     ensures { result ≡ plain.flag flags.now i }
 {
     i < flags.len() && flags[i]
+}
+
+/// Sets the flag at a place, and none past the end.
+pub(crate) fn set_flag(flags: &mut Vec<bool>, i: usize, flag: bool)
+    ensures set { flags.new.items ≡ slice_set flags.old.items i flag }
+    ensures long { length flags.new.items ≡ length flags.old.items }
+{
+    if i < flags.len() {
+        flags[i] = flag;
+    }
 }
 
 // Where the left child of a node stands that has `before` nodes before it, and `right` of them in its right child.
@@ -63,7 +73,7 @@ fn can_end(nulls: &[bool], marks: &[bool], position: usize, node: &Node, ends: &
 
 // The next position behind a node.
 fn behind(node: &Node, position: usize) -> usize
-    requires { position < 18446744073709551615 }
+    requires { position < 2 ^ 63 }
     ensures { result ≡ behind_node (node_view node.now) position }
 {
     match *node {
@@ -72,17 +82,19 @@ fn behind(node: &Node, position: usize) -> usize
     }
 }
 
-/// For each node whether a word whose last position is marked can end there.
+/// For each node whether a word whose last position is marked can end there; the first position is `first`.
 pub(crate) fn ends_of(
     alloc: Global,
     nodes: &[Node],
     nulls: &[bool],
     marks: &[bool],
+    first: usize,
 ) -> Result<Vec<bool>, AllocError>
-    ensures { IfOk result (λ ends. ends.items ≡ ends_from nulls.now marks.now 0 (nodes_view nodes.now) []) }
+    requires { first < 65536 }
+    ensures { IfOk result (λ ends. ends.items ≡ ends_from nulls.now marks.now first (nodes_view nodes.now) []) }
 {
     let mut ends = Vec::new(alloc);
-    let mut position = 0;
+    let mut position = first;
     for node in nodes {
         ends.push(can_end(nulls, marks, position, node, &ends))?;
         position = behind(node, position);
@@ -141,38 +153,38 @@ fn before(node: &Node, position: usize) -> usize
 
 // A leaf that may be entered can be read.
 fn read(node: &Node, position: usize, entered: bool, reads: &mut Vec<bool>)
-    ensures { reads.new.items ≡ read_at (node_view node.now) position entered reads.old.items }
+    ensures set { reads.new.items ≡ read_at (node_view node.now) position entered reads.old.items }
+    ensures long { length reads.new.items ≡ length reads.old.items }
 {
     if let Node::Leaf(_) = *node {
-        let own = position.saturating_sub(1);
-        if own < reads.len() {
-            reads[own] = entered;
-        }
+        set_flag(reads, position.saturating_sub(1), entered);
     }
 }
 
-/// For each of `count` positions whether it can be read next: behind a marked one, or at the begin of the expression where that is entered.
-pub(crate) fn reads_of(
+/// Sets for each position of an expression whether it can be read next: behind a marked one, or at the begin of the expression where
+/// that is entered. The position behind its last one is `end`.
+pub(crate) fn mark_reads(
     alloc: Global,
     nodes: &[Node],
     nulls: &[bool],
     ends: &[bool],
     entered: bool,
-    count: usize,
-) -> Result<Vec<bool>, AllocError>
-    ensures { IfOk result (λ reads. reads.items ≡ reads_from nulls.now ends.now (reverse (nodes_view nodes.now)) (entered ∷ []) count (replicate count false)) }
+    end: usize,
+    reads: &mut Vec<bool>,
+) -> Result<(), AllocError>
+    ensures long { OnOk result (length reads.new.items ≡ length reads.old.items) }
+    ensures set { OnOk result (reads.new.items ≡ reads_from nulls.now ends.now (reverse (nodes_view nodes.now)) (entered ∷ []) end reads.old.items) }
 {
-    let mut reads = vec![in alloc; false; count]?;
     let mut stack = vec![in alloc; entered]?;
-    let mut position = count;
+    let mut position = end;
     let mut rest = nodes.len();
     'down: while 0 < rest {
         rest -= 1;
         let node = &nodes[rest];
         let own = pop_flag(&mut stack);
-        read(node, position, own, &mut reads);
+        read(node, position, own, reads);
         tell(nulls, ends, node, rest, own, &mut stack)?;
         position = before(node, position);
     }
-    Ok(reads)
+    Ok(())
 }
