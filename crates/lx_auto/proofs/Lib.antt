@@ -12,3 +12,5 @@ pub mod Ranges
 pub mod SetStepped
 pub mod Followed
 pub mod StepAll
+pub mod Membership
+pub mod SetFollowed

@@ -1,6 +1,6 @@
 -- From the positions that are marked to those that can be read next, rule by rule.
 use Rattle.std.specs.Prelude.{◌≡◌, ℕ, zero, suc, ◌+◌, ◌<◌, ◌≤◌, ◌↔◌, ◌⊎◌, Bool, true, false, List, [], ◌∷◌, length, slice_get, Option, Some, None, MatchOption}
-use Rattle.lx_spec.specs.Outcome.{PlainSpec}
+use Rattle.lx_spec.specs.Outcome.{PlainRule, PlainSpec}
 use Rattle.lx_auto.specs.Unfolded.{position_count}
 use Rattle.lx_auto.specs.Positions.{First}
 use Rattle.lx_auto.specs.Starts.{IsActiveAt}
@@ -66,3 +66,7 @@ IsFirstMatchedBelow rules marks n found =
 abbrev pub first_or : Option ℕ → ℕ → Option ℕ
 first_or None n = Some n
 first_or (Some i) n = Some i
+
+-- the flags say which rules are active at the start
+pub record AreActive (spec : PlainSpec) (condition : ℕ) (begin : Bool) (active : List Bool) : Type 0 where
+  pub each : (i : ℕ) (rule : PlainRule) → slice_get spec.rules i ≡ Some rule → (flag active i ≡ true) ↔ IsActiveAt spec rule condition begin

@@ -14,3 +14,5 @@ pub mod NodeViews
 pub mod RuleParts
 pub mod Following
 pub mod Members
+pub mod Sets
+pub mod Leaves

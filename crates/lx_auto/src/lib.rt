@@ -3,6 +3,7 @@
 #![tactic(auto)]
 
 mod fault;
+mod follow;
 mod marking;
 mod node;
 mod rule_part;

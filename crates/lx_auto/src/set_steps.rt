@@ -61,6 +61,15 @@ pub(crate) fn step_rules(
     Ok(found)
 }
 
+/// So many flags, none of them set.
+pub(crate) fn clear_flags(alloc: Global, total: usize) -> Result<Vec<bool>, AllocError>
+    ensures long { IfOk result (λ flags. length flags.items ≡ total) }
+    ensures clear { IfOk result (λ flags. (q : ℕ) → plain.flag flags.items q ≡ false) }
+{
+    let flags = vec![in alloc; false; total]?;
+    Ok(flags)
+}
+
 /// The flags of a set of positions, all of them below the total.
 pub(crate) fn marks_of(alloc: Global, total: usize, set: &[u32]) -> Result<Vec<bool>, AllocError>
     ensures long { IfOk result (λ marks. length marks.items ≡ total) }

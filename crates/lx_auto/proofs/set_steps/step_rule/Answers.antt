@@ -10,9 +10,10 @@ pub returns-then-not-is_touched-clause-matched : goal.returns-then-not-is_touche
 returns-then-not-is_touched-clause-matched c = λ r part.
     let b = part.base in
     let k = part.count in
-    let none = c.is_touched.ensures c.if-not-is_touched.true in
-    ((λ x. absurd (cc)),
-     (λ e. absurd (untouched_ends r c.args.marks.now (λ q low high. none q (omega arith) (omega arith)) e)))
+    let none = c.is_touched.ensures c.if-not-is_touched.true in (
+      (λ x. absurd (cc)),
+      (λ e. absurd (untouched_ends r c.args.marks.now (λ q low high. none q (omega arith) (omega arith)) e)),
+    )
 
 pub returns-then-not-is_touched-clause-reads : goal.returns-then-not-is_touched-clause-reads
 returns-then-not-is_touched-clause-reads c = λ r part room.

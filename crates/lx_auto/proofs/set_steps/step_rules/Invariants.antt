@@ -10,7 +10,7 @@ abbrev pub invariant-loop-i : goal.invariant-loop-i
 invariant-loop-i l = record {
   long : length l.reads.items ≡ length l.fn.reads.items;
   reads : (spec : PlainSpec) (rules : List NumberedRule) → AreNumbered spec rules → ArePartsOf l.parts rules (length l.fn.reads.items) →
-    ((q : ℕ) → flag l.fn.reads.items q ≡ false) → AreReadBelow (FollowsMarked l.marks) rules l.i l.reads.items;
+      ((q : ℕ) → flag l.fn.reads.items q ≡ false) → AreReadBelow (FollowsMarked l.marks) rules l.i l.reads.items;
   matched : (spec : PlainSpec) (rules : List NumberedRule) → AreNumbered spec rules → ArePartsOf l.parts rules (length l.fn.reads.items) →
-    IsFirstMatchedBelow rules l.marks l.i l.found;
+      IsFirstMatchedBelow rules l.marks l.i l.found;
 }

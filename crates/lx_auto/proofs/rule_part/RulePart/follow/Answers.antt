@@ -12,7 +12,7 @@ returns-clause-ended c = λ r part.
     let e = c.as_slice-ends.ensures.value ∙ c.in_ok-at_nodes.ensures in
     let same = c.flag.ensures ∙ ap (λ i. flag c.as_slice-ends.result.now i) c.saturating_sub.ensures in
     let means = rule_ended r (nodes_view c.as_slice-nodes.result.now) c.as_slice-nulls.result.now c.args.marks.now c.as_slice-ends.result.now
-      self.base part.trim n m part.base e in
+    self.base part.trim n m part.base e in
     ((λ x. means.0 (sym same ∙ x)), (λ x. same ∙ means.1 x))
 
 pub returns-clause-reads : goal.returns-clause-reads

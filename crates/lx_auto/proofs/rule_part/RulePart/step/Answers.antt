@@ -41,4 +41,4 @@ returns-clause-reads c = λ r part room.
     let set = c.set_flag.ensures.set ∙ ap (λ i. slice_set c.follow.new.reads.items i c.in_ok-ended.ended) at in
     subst (λ l. ReadsRule (FollowsMarked c.args.marks.now) r c.args.reads.now.items l) (sym set)
     (follow_end r c.args.marks.now c.args.reads.now.items c.follow.new.reads.items c.in_ok-ended.ended is (c.in_ok-ended.ensures.reads r part within)
-      (omega arith) (c.in_ok-ended.ensures.ended r part))
+    (omega arith) (c.in_ok-ended.ensures.ended r part))
