@@ -8,4 +8,6 @@ mod marking;
 mod node;
 mod rule_part;
 mod rule_steps;
+mod numbering;
 mod set_steps;
+mod set_table;
