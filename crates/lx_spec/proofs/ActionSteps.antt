@@ -4,7 +4,7 @@ use Rattle.std.proofs.lemmas.List.{append-nil, drop-drop, take_rest}
 use Rattle.lx_spec.specs.ActionWords.{Word, letters, byte, bar, semicolon, open_brace, close_brace, open_group, close_group, AreWords}
 use Rattle.lx_spec.specs.Actions.{Statement, Turn, finished, opens, closes, states, no_statement, turn_at, AreStatements, none, opened, closed, stated, Action, own, IsAction, a_bar, some_statements, is_bar}
 use Rattle.lx_spec.specs.declared.word.Word.{Word as CodeWord}
-use Rattle.lx_spec.specs.WordViews.{words_view}
+use Rattle.lx_spec.specs.views.Words.{words_view}
 use Rattle.lx_spec.proofs.WordSteps.{one_words}
 
 in_finished : (d : ℕ) (ws : List Word) (ss : List Statement) → AreStatements d ws ss → turn_at ws ≡ finished → (d ≡ 0) × (ss ≡ [])

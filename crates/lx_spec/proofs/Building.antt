@@ -2,13 +2,14 @@
 use Rattle.std.proofs.Common.{◌≡◌, ◌∙◌, ℕ, zero, suc, ◌-◌, ◌<◌, List, [], ◌∷◌, ◌++◌, length, map, take, drop, get_or, Some, refl, ap, sym, subst, arith}
 use Rattle.std.specs.Prelude.{slice_get, reverse}
 use Rattle.std.proofs.lemmas.List.{reverse-append}
-use Rattle.lx_spec.specs.Sections.{State, RawRule}
+use Rattle.lx_spec.specs.Plain.{StartCondition, PlainRule}
+use Rattle.lx_spec.specs.Sections.{RawRule}
 use Rattle.lx_spec.specs.Actions.{Action, shared, own}
-use Rattle.lx_spec.specs.Outcome.{Said, PlainRule, actions_in, first_own, steps_of, rules_of, with_kind, returned_by, kinds_behind, statements_in}
-use Rattle.lx_spec.specs.BuildViews.{steps_at_end, steps_before}
-use Rattle.lx_spec.specs.RuleViews.{rule_view}
-use Rattle.lx_spec.specs.SaidViews.{said_view}
-use Rattle.lx_spec.specs.declared.said.ReadRule.{ReadRule}
+use Rattle.lx_spec.specs.Outcome.{ResolvedRule, actions_in, first_own, steps_of, rules_of, with_kind, returned_by, kinds_behind, statements_in}
+use Rattle.lx_spec.specs.views.Steps.{steps_at_end, steps_before}
+use Rattle.lx_spec.specs.views.Rules.{rule_view}
+use Rattle.lx_spec.specs.views.ResolvedRules.{resolved_view}
+use Rattle.lx_spec.specs.declared.resolved_rule.ResolvedRule.{ResolvedRule as CodeRule}
 use Rattle.lx_spec.specs.declared.rule.Rule.{Rule}
 use Rattle.lx_spec.specs.declared.rule.Step.{Step}
 
@@ -26,9 +27,9 @@ end-push [] r = refl
 end-push (x ∷ []) r = refl
 end-push (x ∷ y ∷ rules) r = end-push (y ∷ rules) r
 
-pub before-is : (states : List State) (kinds : List (List ℕ)) (a : Action) (actions : List Action) (next : List Step) → next ≡ steps_of states kinds (first_own actions) → steps_before states kinds a next ≡ steps_of states kinds (first_own (a ∷ actions))
-before-is states kinds shared actions next e = e
-before-is states kinds (own ss) actions next e = refl
+pub before-is : (start_conditions : List StartCondition) (kinds : List (List ℕ)) (a : Action) (actions : List Action) (next : List Step) → next ≡ steps_of start_conditions kinds (first_own actions) → steps_before start_conditions kinds a next ≡ steps_of start_conditions kinds (first_own (a ∷ actions))
+before-is start_conditions kinds shared actions next e = e
+before-is start_conditions kinds (own ss) actions next e = refl
 
 -- what stands from place i on, where an element stands there
 pub drop-item : {X : Type 0} (xs : List X) (i : ℕ) (d : X) → i < length xs → drop i xs ≡ get_or xs i d ∷ drop (suc i) xs
@@ -57,18 +58,18 @@ pub reverse-push : {X : Type 0} (xs : List X) (x : X) → reverse (xs ++ x ∷ [
 reverse-push xs x = reverse-append xs (x ∷ [])
 
 -- one more rule before those from place n + 1 on
-pub rules-more : (states : List State) (kinds : List (List ℕ)) (raws : List RawRule) (saids : List Said) (raw : RawRule) (s : Said) (raw-rest : List RawRule) (said-rest : List Said) (rule : PlainRule) (rules : List PlainRule) →
-    raws ≡ raw ∷ raw-rest → saids ≡ s ∷ said-rest → rules ≡ rules_of states kinds raw-rest said-rest →
-    rule ≡ record { line = raw.line; conditions = s.conditions; reading = s.reading; steps = steps_of states kinds (first_own (actions_in (s ∷ said-rest))) } →
-    rule ∷ rules ≡ rules_of states kinds raws saids
-rules-more states kinds raws saids raw s raw-rest said-rest rule rules e f g h =
-    ap (λ (r : PlainRule). r ∷ rules) h ∙ ap (λ (l : List PlainRule). record { line = raw.line; conditions = s.conditions; reading = s.reading; steps = steps_of states kinds (first_own (actions_in (s ∷ said-rest))) } ∷ l) g
-    ∙ ap (λ (l : List RawRule). rules_of states kinds l (s ∷ said-rest)) (sym e) ∙ ap (λ (l : List Said). rules_of states kinds raws l) (sym f)
+pub rules-more : (start_conditions : List StartCondition) (kinds : List (List ℕ)) (raws : List RawRule) (resolved : List ResolvedRule) (raw : RawRule) (s : ResolvedRule) (raw-rest : List RawRule) (resolved-rest : List ResolvedRule) (rule : PlainRule) (rules : List PlainRule) →
+    raws ≡ raw ∷ raw-rest → resolved ≡ s ∷ resolved-rest → rules ≡ rules_of start_conditions kinds raw-rest resolved-rest →
+    rule ≡ record { line = raw.line; conditions = s.conditions; reading = s.reading; steps = steps_of start_conditions kinds (first_own (actions_in (s ∷ resolved-rest))) } →
+    rule ∷ rules ≡ rules_of start_conditions kinds raws resolved
+rules-more start_conditions kinds raws resolved raw s raw-rest resolved-rest rule rules e f g h =
+    ap (λ (r : PlainRule). r ∷ rules) h ∙ ap (λ (l : List PlainRule). record { line = raw.line; conditions = s.conditions; reading = s.reading; steps = steps_of start_conditions kinds (first_own (actions_in (s ∷ resolved-rest))) } ∷ l) g
+    ∙ ap (λ (l : List RawRule). rules_of start_conditions kinds l (s ∷ resolved-rest)) (sym e) ∙ ap (λ (l : List ResolvedRule). rules_of start_conditions kinds raws l) (sym f)
 
 -- one more rule whose kind was added
-pub kinds-next : (read : List ReadRule) (i : ℕ) (old new : List (List ℕ)) (all : List (List ℕ)) → i < length read →
-    new ≡ with_kind old (returned_by (first_own (actions_in (map said_view (drop i read))))) →
-    kinds_behind old (statements_in (map said_view (drop i read))) ≡ all → kinds_behind new (statements_in (map said_view (drop (suc i) read))) ≡ all
+pub kinds-next : (resolved : List CodeRule) (i : ℕ) (old new : List (List ℕ)) (all : List (List ℕ)) → i < length resolved →
+    new ≡ with_kind old (returned_by (first_own (actions_in (map resolved_view (drop i resolved))))) →
+    kinds_behind old (statements_in (map resolved_view (drop i resolved))) ≡ all → kinds_behind new (statements_in (map resolved_view (drop (suc i) resolved))) ≡ all
 kinds-next [] i old new all less e f = absurd (omega arith)
-kinds-next (r ∷ read) zero old new all less e f = ap (λ (k : List (List ℕ)). kinds_behind k (statements_in (map said_view read))) e ∙ f
-kinds-next (r ∷ read) (suc i) old new all less e f = kinds-next read i old new all (omega arith) e f
+kinds-next (r ∷ resolved) zero old new all less e f = ap (λ (k : List (List ℕ)). kinds_behind k (statements_in (map resolved_view resolved))) e ∙ f
+kinds-next (r ∷ resolved) (suc i) old new all less e f = kinds-next resolved i old new all (omega arith) e f

@@ -3,7 +3,7 @@ use Rattle.std.proofs.Common.{◌≡◌, ℕ, suc, ◌+◌, ◌-◌, ◌≤◌, 
 use Rattle.std.proofs.lemmas.Bool.Decides.{nat_tests}
 use Rattle.lx_spec.specs.Sections.{RawRule}
 use Rattle.lx_spec.specs.First.{IsFirst, here, later, HoldsOfNone}
-use Rattle.lx_spec.specs.Verdict.{Ground, Case, Cause, Holds, IsCase, IsFirstFault, case_of, cases, cases_of, is_empty, fault_of}
+use Rattle.lx_spec.specs.Verdict.{SymbolTable, Case, Cause, Holds, IsCase, IsFirstFault, case_of, cases, cases_of, is_empty, fault_of}
 use Rattle.lx_spec.specs.declared.fault.SpecFault.{SpecFault}
 
 pub none-append : {A : Type 0} (P : A → Type 0) (xs ys : List A) → HoldsOfNone P xs → HoldsOfNone P ys → HoldsOfNone P (xs ++ ys)
@@ -18,28 +18,28 @@ pub first-behind : {A : Type 0} (P : A → Type 0) (xs ys : List A) (a : A) → 
 first-behind P [] ys a n f = f
 first-behind P (x ∷ xs) ys a n f = later x (xs ++ ys) a n.0 (first-behind P xs ys a n.1 f)
 
-pub fault-front : (g : Ground) (xs ys : List Case) (f : SpecFault) → IsFirstFault g xs f → IsFirstFault g (xs ++ ys) f
-fault-front g xs ys f e = record { case = e.case; first = first-front (Holds g) xs ys e.case e.first; is = e.is }
+pub fault-front : (table : SymbolTable) (xs ys : List Case) (f : SpecFault) → IsFirstFault table xs f → IsFirstFault table (xs ++ ys) f
+fault-front table xs ys f e = record { case = e.case; first = first-front (Holds table) xs ys e.case e.first; is = e.is }
 
-pub fault-behind : (g : Ground) (xs ys : List Case) (f : SpecFault) → HoldsOfNone (Holds g) xs → IsFirstFault g ys f → IsFirstFault g (xs ++ ys) f
-fault-behind g xs ys f n e = record { case = e.case; first = first-behind (Holds g) xs ys e.case n e.first; is = e.is }
+pub fault-behind : (table : SymbolTable) (xs ys : List Case) (f : SpecFault) → HoldsOfNone (Holds table) xs → IsFirstFault table ys f → IsFirstFault table (xs ++ ys) f
+fault-behind table xs ys f n e = record { case = e.case; first = first-behind (Holds table) xs ys e.case n e.first; is = e.is }
 
 -- a case that holds, and the first of them
-pub fault-here : (g : Ground) (rule : RawRule) (is_last : Bool) (cause : Cause) (more : List Case) → IsCase g (case_of rule is_last cause) cause → IsFirstFault g (case_of rule is_last cause ∷ more) (fault_of (case_of rule is_last cause))
-fault-here g rule is_last cause more h = record { case = case_of rule is_last cause; first = here (case_of rule is_last cause) more h; is = refl }
+pub fault-here : (table : SymbolTable) (rule : RawRule) (is_last : Bool) (cause : Cause) (more : List Case) → IsCase table (case_of rule is_last cause) cause → IsFirstFault table (case_of rule is_last cause ∷ more) (fault_of (case_of rule is_last cause))
+fault-here table rule is_last cause more h = record { case = case_of rule is_last cause; first = here (case_of rule is_last cause) more h; is = refl }
 
 -- What is answered of the first list is answered of the second.
-pub record Answers (g : Ground) (rest whole : List Case) : Type 0 where
-  pub none : HoldsOfNone (Holds g) rest → HoldsOfNone (Holds g) whole
-  pub fault : (f : SpecFault) → IsFirstFault g rest f → IsFirstFault g whole f
+pub record Answers (table : SymbolTable) (rest whole : List Case) : Type 0 where
+  pub none : HoldsOfNone (Holds table) rest → HoldsOfNone (Holds table) whole
+  pub fault : (f : SpecFault) → IsFirstFault table rest f → IsFirstFault table whole f
 
-pub Answers-start : (g : Ground) (whole : List Case) → Answers g whole whole
-Answers-start g whole = record { none = λ n. n; fault = λ f e. e }
+pub Answers-start : (table : SymbolTable) (whole : List Case) → Answers table whole whole
+Answers-start table whole = record { none = λ n. n; fault = λ f e. e }
 
-pub Answers-behind : (g : Ground) (front rest whole : List Case) → HoldsOfNone (Holds g) front → Answers g (front ++ rest) whole → Answers g rest whole
-Answers-behind g front rest whole n a = record {
-  none = λ m. a.none (none-append (Holds g) front rest n m);
-  fault = λ f e. a.fault f (fault-behind g front rest f n e);
+pub Answers-behind : (table : SymbolTable) (front rest whole : List Case) → HoldsOfNone (Holds table) front → Answers table (front ++ rest) whole → Answers table rest whole
+Answers-behind table front rest whole n a = record {
+  none = λ m. a.none (none-append (Holds table) front rest n m);
+  fault = λ f e. a.fault f (fault-behind table front rest f n e);
 }
 
 module _ {Raw : Type 0} (view : Raw → RawRule) where
@@ -57,13 +57,13 @@ module _ {Raw : Type 0} (view : Raw → RawRule) where
       ∙ ap (λ (b : Bool). cases_of (view rule) b ++ cases (map view (drop (i + 1) rules))) (is_empty-drop rules (i + 1) (omega arith) (drop (i + 1) rules) refl)
 
   -- a rule without a fault
-  pub clean-at : (g : Ground) (rules : List Raw) (i : ℕ) (r : Raw) (whole : List Case) → i < length rules → Answers g (cases (map view (drop i rules))) whole
-      → HoldsOfNone (Holds g) (cases_of (view (get_or rules i r)) (nat_eq (i + 1) (length rules))) → Answers g (cases (map view (drop (i + 1) rules))) whole
-  clean-at g rules i r whole less a n =
-      Answers-behind g (cases_of (view (get_or rules i r)) (nat_eq (i + 1) (length rules))) (cases (map view (drop (i + 1) rules))) whole n (subst (λ (cs : List Case). Answers g cs whole) (cases-step rules i r less) a)
+  pub clean-at : (table : SymbolTable) (rules : List Raw) (i : ℕ) (r : Raw) (whole : List Case) → i < length rules → Answers table (cases (map view (drop i rules))) whole
+      → HoldsOfNone (Holds table) (cases_of (view (get_or rules i r)) (nat_eq (i + 1) (length rules))) → Answers table (cases (map view (drop (i + 1) rules))) whole
+  clean-at table rules i r whole less a n =
+      Answers-behind table (cases_of (view (get_or rules i r)) (nat_eq (i + 1) (length rules))) (cases (map view (drop (i + 1) rules))) whole n (subst (λ (cs : List Case). Answers table cs whole) (cases-step rules i r less) a)
 
   -- a rule with a fault
-  pub fault-at : (g : Ground) (rules : List Raw) (i : ℕ) (r : Raw) (whole : List Case) (f : SpecFault) → i < length rules → Answers g (cases (map view (drop i rules))) whole
-      → IsFirstFault g (cases_of (view (get_or rules i r)) (nat_eq (i + 1) (length rules))) f → IsFirstFault g whole f
-  fault-at g rules i r whole f less a e =
-      a.fault f (subst (λ (cs : List Case). IsFirstFault g cs f) (sym (cases-step rules i r less)) (fault-front g (cases_of (view (get_or rules i r)) (nat_eq (i + 1) (length rules))) (cases (map view (drop (i + 1) rules))) f e))
+  pub fault-at : (table : SymbolTable) (rules : List Raw) (i : ℕ) (r : Raw) (whole : List Case) (f : SpecFault) → i < length rules → Answers table (cases (map view (drop i rules))) whole
+      → IsFirstFault table (cases_of (view (get_or rules i r)) (nat_eq (i + 1) (length rules))) f → IsFirstFault table whole f
+  fault-at table rules i r whole f less a e =
+      a.fault f (subst (λ (cs : List Case). IsFirstFault table cs f) (sym (cases-step rules i r less)) (fault-front table (cases_of (view (get_or rules i r)) (nat_eq (i + 1) (length rules))) (cases (map view (drop (i + 1) rules))) f e))

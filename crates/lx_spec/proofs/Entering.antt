@@ -3,12 +3,12 @@ use Rattle.std.proofs.Common.{◌≡◌, ℕ, ◌+◌, ◌∙◌, true, cond, Li
 use Rattle.lx_spec.specs.Blocks.{start, with_line, is_closed}
 use Rattle.lx_spec.specs.RuleLines as rule_line
 use Rattle.lx_spec.specs.RuleLines.{Prefix, RuleLine, rule_line_of}
-use Rattle.lx_spec.specs.Sections.{RawRule, Sheet, Place, rules, rules_group, action, rule, entries, entries_behind, sheet_behind, with_entries, Goes}
+use Rattle.lx_spec.specs.Sections.{RawRule, ParsedSections, Place, rules, rules_group, action, rule, entries, entries_behind, sections_behind, with_entries, Goes}
 use Rattle.lx_spec.specs.declared.block.Count.{Count}
 use Rattle.lx_spec.specs.declared.fault.SpecFault.{SpecFault}
 
-pub rule_begun : (ends : List ℕ → ℕ) (before : Sheet) (n : ℕ) (line : List ℕ) (prefix : Prefix) (pattern text : List ℕ) (rest : List (List ℕ)) → rule_line.begins_rule prefix pattern text ≡ rule_line_of ends line
-    → with_entries before (entries_behind ends (record { line = n; prefix = prefix; pattern = pattern; action = text }) (with_line start text) (n + 1) rest) ≡ sheet_behind ends before rules n (line ∷ rest)
+pub rule_begun : (ends : List ℕ → ℕ) (before : ParsedSections) (n : ℕ) (line : List ℕ) (prefix : Prefix) (pattern text : List ℕ) (rest : List (List ℕ)) → rule_line.begins_rule prefix pattern text ≡ rule_line_of ends line
+    → with_entries before (entries_behind ends (record { line = n; prefix = prefix; pattern = pattern; action = text }) (with_line start text) (n + 1) rest) ≡ sections_behind ends before rules n (line ∷ rest)
 rule_begun ends before n line prefix pattern text rest e = ap (λ (r : RuleLine). with_entries before (elim r [
   | rule_line.skipped ↦ entries ends rules (n + 1) rest
   | rule_line.opens_group ↦ entries ends (rules_group n) (n + 1) rest
@@ -18,10 +18,10 @@ rule_begun ends before n line prefix pattern text rest e = ap (λ (r : RuleLine)
       (entries ends (action (record { line = n; prefix = prefix'; pattern = pattern'; action = text' }) (with_line start text')) (n + 1) rest)
 ])) e
 
-pub Goes-same : {X : Type 0} (ends : List ℕ → ℕ) (view : X → Sheet × Option Place) (n : ℕ) (rest : List (List ℕ)) (r : Result X SpecFault) (a b : Result Sheet SpecFault) → b ≡ a → Goes ends view n rest r b → Goes ends view n rest r a
+pub Goes-same : {X : Type 0} (ends : List ℕ → ℕ) (view : X → ParsedSections × Option Place) (n : ℕ) (rest : List (List ℕ)) (r : Result X SpecFault) (a b : Result ParsedSections SpecFault) → b ≡ a → Goes ends view n rest r b → Goes ends view n rest r a
 Goes-same ends view n rest r a b e = subst (λ x. Goes ends view n rest r x) e
 
-pub behind-same : (ends : List ℕ → ℕ) (before : Sheet) (raw raw' : RawRule) (count count' : Count) (n : ℕ) (rest : List (List ℕ)) → raw ≡ raw' → count ≡ count'
+pub behind-same : (ends : List ℕ → ℕ) (before : ParsedSections) (raw raw' : RawRule) (count count' : Count) (n : ℕ) (rest : List (List ℕ)) → raw ≡ raw' → count ≡ count'
     → with_entries before (entries_behind ends raw count n rest) ≡ with_entries before (entries_behind ends raw' count' n rest)
 behind-same ends before raw raw' count count' n rest e f =
     ap (λ (r : RawRule). with_entries before (entries_behind ends r count n rest)) e ∙ ap (λ (k : Count). with_entries before (entries_behind ends raw' k n rest)) f

@@ -19,7 +19,7 @@ use Rattle.std.proofs.lemmas.List.Folds.{position_or_len_push}
 use Rattle.std.proofs.lemmas.List.Sums.{prefix_len-le-length}
 use Rattle.std.proofs.lemmas.Map.Text.{is_eq-slice_cmp}
 use Rattle.std.proofs.lemmas.Slice.Eq.{bytes_eq-Decides}
-use Rattle.lx_spec.specs.IndexViews.{number_at}
+use Rattle.lx_spec.specs.views.NameTables.{number_at}
 
 -- names are compared by their bytes
 abbrev names_cmp : Vec ℕ Global → Vec ℕ Global → Ordering

@@ -10,7 +10,9 @@ pub mod EscapeSteps
 pub mod Fields
 pub mod Indexing
 pub mod Listed
+pub mod MarkedRules
 pub mod Marks
+pub mod MemoryFaults
 pub mod Nested
 pub mod Numbers
 pub mod OneSpec
@@ -18,10 +20,9 @@ pub mod OneVerdict
 pub mod Ranges
 pub mod Reached
 pub mod Reading
+pub mod Resolving
 pub mod Returned
 pub mod Rows
-pub mod Ruling
-pub mod Saying
 pub mod WellFormed
 pub mod WordSteps
 pub mod Words

@@ -9,14 +9,15 @@ use Rattle.std.proofs.lemmas.Bool.Decides.{nat_tests}
 use Rattle.std.proofs.lemmas.List.{length-map}
 use Rattle.std.proofs.lemmas.List.Elements.{Contains-append_left, Contains-append_right}
 use Rattle.lx_ere.specs.Regex.{Regex}
+use Rattle.lx_spec.specs.Plain.{PlainDefinition}
 use Rattle.lx_spec.specs.Names.{names_of}
 use Rattle.lx_spec.specs.Nesting.{tree_named, holds_of, is_no_name, is_within, are_nested}
-use Rattle.lx_spec.specs.Sections.{Named, RawRule}
+use Rattle.lx_spec.specs.Sections.{RawDefinition, RawRule}
 use Rattle.lx_spec.specs.Dictionary.{number_of, row_of, all_defined, mention_of, mentions_in, mentions_from, mentions_of, is_incomplete, incomplete_marks}
 use Rattle.lx_spec.specs.First.{HoldsOfNone}
 use Rattle.lx_spec.specs.Graph.{nowhere, IsMention, Follow, is_marked}
-use Rattle.lx_spec.specs.Outcome.{PlainDefinition, IsReached, named_in, mentioned, AreReached, none, reached, passed, Said, AreSaid, patterns_in}
-use Rattle.lx_spec.specs.Verdict.{Ground, Holds, cases}
+use Rattle.lx_spec.specs.Outcome.{IsReached, named_in, mentioned, AreReached, none, reached, passed, ResolvedRule, AreResolved, patterns_in}
+use Rattle.lx_spec.specs.Verdict.{SymbolTable, Holds, cases}
 use Rattle.lx_spec.specs.declared.graph.Mention.{Mention}
 use Rattle.lx_spec.proofs.Marks.{read_at}
 use Rattle.lx_spec.proofs.Words.{pick_first, pick_second}
@@ -55,31 +56,31 @@ place-later p x xs j e h = by (nat_lt n (length xs)) refl where
       cc
 
 -- a name that is defined finds the tree of its definition, where that is reached
-pub tree-found : (R : ℕ → Type 0) (i : ℕ) (named : List Named) (trees : List (Option Regex)) (ds : List PlainDefinition) (name : List ℕ) (j : ℕ)
-    → AreReached R i named trees ds → number_of named name ≡ Some j → R (i + j) → (u : Regex) × (tree_named ds name ≡ Some u) × (slice_get trees j ≡ Some (Some u))
+pub tree-found : (R : ℕ → Type 0) (i : ℕ) (raw_definitions : List RawDefinition) (trees : List (Option Regex)) (ds : List PlainDefinition) (name : List ℕ) (j : ℕ)
+    → AreReached R i raw_definitions trees ds → number_of raw_definitions name ≡ Some j → R (i + j) → (u : Regex) × (tree_named ds name ≡ Some u) × (slice_get trees j ≡ Some (Some u))
 tree-found R _ _ _ _ name j (none i) e r = cc
-tree-found R _ _ _ _ name j (reached i d tree named trees ds r0 are) e r = by (pointwise nat_eq d.name name) refl (λ k at q. tree-found R (suc i) named trees ds name k are at q) where
-  by : (b : Bool) → pointwise nat_eq d.name name ≡ b → ((k : ℕ) → number_of named name ≡ Some k → R (suc i + k) → (u : Regex) × (tree_named ds name ≡ Some u) × (slice_get trees k ≡ Some (Some u)))
+tree-found R _ _ _ _ name j (reached i d tree raw_definitions trees ds r0 are) e r = by (pointwise nat_eq d.name name) refl (λ k at q. tree-found R (suc i) raw_definitions trees ds name k are at q) where
+  by : (b : Bool) → pointwise nat_eq d.name name ≡ b → ((k : ℕ) → number_of raw_definitions name ≡ Some k → R (suc i + k) → (u : Regex) × (tree_named ds name ≡ Some u) × (slice_get trees k ≡ Some (Some u)))
       → (u : Regex) × (tree_named (record { name = d.name; tree = tree } ∷ ds) name ≡ Some u) × (slice_get (Some tree ∷ trees) j ≡ Some (Some u))
   by true b more =
-      let first = place-first (λ (x : Named). pointwise nat_eq x.name name) d named j b e in
+      let first = place-first (λ (x : RawDefinition). pointwise nat_eq x.name name) d raw_definitions j b e in
       (tree, pick_first _ _ b, ap (slice_get (Some tree ∷ trees)) first)
   by false b more =
-      let w = place-later (λ (x : Named). pointwise nat_eq x.name name) d named j b e in
+      let w = place-later (λ (x : RawDefinition). pointwise nat_eq x.name name) d raw_definitions j b e in
       let k : ℕ = w.0 in
       let is : j ≡ suc k = w.1 in
       let same : i + j ≡ suc i + k = omega arith in
       let v = more k w.2 (subst R same r) in
       (v.0, pick_second _ _ b ∙ v.1, ap (slice_get (Some tree ∷ trees)) is ∙ v.2)
-tree-found R _ _ _ _ name j (passed i d t named trees ds never are) e r = by (pointwise nat_eq d.name name) refl (λ k at q. tree-found R (suc i) named trees ds name k are at q) where
-  by : (b : Bool) → pointwise nat_eq d.name name ≡ b → ((k : ℕ) → number_of named name ≡ Some k → R (suc i + k) → (u : Regex) × (tree_named ds name ≡ Some u) × (slice_get trees k ≡ Some (Some u)))
+tree-found R _ _ _ _ name j (passed i d t raw_definitions trees ds never are) e r = by (pointwise nat_eq d.name name) refl (λ k at q. tree-found R (suc i) raw_definitions trees ds name k are at q) where
+  by : (b : Bool) → pointwise nat_eq d.name name ≡ b → ((k : ℕ) → number_of raw_definitions name ≡ Some k → R (suc i + k) → (u : Regex) × (tree_named ds name ≡ Some u) × (slice_get trees k ≡ Some (Some u)))
       → (u : Regex) × (tree_named ds name ≡ Some u) × (slice_get (t ∷ trees) j ≡ Some (Some u))
   by true b more =
-      let first = place-first (λ (x : Named). pointwise nat_eq x.name name) d named j b e in
+      let first = place-first (λ (x : RawDefinition). pointwise nat_eq x.name name) d raw_definitions j b e in
       let same : i + j ≡ i = omega arith in
       absurd (never (subst R same r))
   by false b more =
-      let w = place-later (λ (x : Named). pointwise nat_eq x.name name) d named j b e in
+      let w = place-later (λ (x : RawDefinition). pointwise nat_eq x.name name) d raw_definitions j b e in
       let k : ℕ = w.0 in
       let is : j ≡ suc k = w.1 in
       let same : i + j ≡ suc i + k = omega arith in
@@ -90,27 +91,27 @@ contains-map : {X Y : Type 0} (f : X → Y) (xs : List X) (x : X) → Contains x
 contains-map f xs x (k, less, e) = (k, omega (arith, length-map xs f), get_or-map f xs k x ∙ ap f e)
 
 -- what stands in the row of a definition is mentioned by it
-mention-in : (named : List Named) (i : ℕ) (trees : List (Option Regex)) (j : ℕ) (u : Regex) (k : ℕ) → slice_get trees j ≡ Some (Some u) → Contains (row_of named u) k → Contains (mentions_from named i trees) (mention_of (i + j) k)
-mention-in named i [] j u k at in_row = cc
-mention-in named i (t ∷ trees) zero u k at in_row =
+mention-in : (raw_definitions : List RawDefinition) (i : ℕ) (trees : List (Option Regex)) (j : ℕ) (u : Regex) (k : ℕ) → slice_get trees j ≡ Some (Some u) → Contains (row_of raw_definitions u) k → Contains (mentions_from raw_definitions i trees) (mention_of (i + j) k)
+mention-in raw_definitions i [] j u k at in_row = cc
+mention-in raw_definitions i (t ∷ trees) zero u k at in_row =
     let same : t ≡ Some u = cc in
     let here : i ≡ i + 0 = omega arith in
-    Contains-append_left (mentions_in named i t) (mentions_from named (suc i) trees) (mention_of (i + 0) k)
-    (subst (λ (o : Option Regex). Contains (mentions_in named i o) (mention_of (i + 0) k)) (sym same) (subst (λ (n : ℕ). Contains (mentions_in named i (Some u)) (mention_of n k)) here (contains-map (mention_of i) (row_of named u) k in_row)))
-mention-in named i (t ∷ trees) (suc j) u k at in_row =
+    Contains-append_left (mentions_in raw_definitions i t) (mentions_from raw_definitions (suc i) trees) (mention_of (i + 0) k)
+    (subst (λ (o : Option Regex). Contains (mentions_in raw_definitions i o) (mention_of (i + 0) k)) (sym same) (subst (λ (n : ℕ). Contains (mentions_in raw_definitions i (Some u)) (mention_of n k)) here (contains-map (mention_of i) (row_of raw_definitions u) k in_row)))
+mention-in raw_definitions i (t ∷ trees) (suc j) u k at in_row =
     let there : suc i + j ≡ i + suc j = omega arith in
-    Contains-append_right (mentions_in named i t) (mentions_from named (suc i) trees) (mention_of (i + suc j) k)
-    (subst (λ (n : ℕ). Contains (mentions_from named (suc i) trees) (mention_of n k)) there (mention-in named (suc i) trees j u k at in_row))
+    Contains-append_right (mentions_in raw_definitions i t) (mentions_from raw_definitions (suc i) trees) (mention_of (i + suc j) k)
+    (subst (λ (n : ℕ). Contains (mentions_from raw_definitions (suc i) trees) (mention_of n k)) there (mention-in raw_definitions (suc i) trees j u k at in_row))
 
 is-mention : (ms : List Mention) (i j : ℕ) → Contains ms (mention_of i j) → IsMention ms i j
 is-mention ms i j (k, less, e) =
     let same : get_or ms k nowhere ≡ mention_of i j = read_at ms k (mention_of i j) nowhere less (sym e) in
     record { place = k; within = less; from = ap (λ (m : Mention). m.from) same; to = ap (λ (m : Mention). m.to) same }
 
-pub row-mention : (named : List Named) (trees : List (Option Regex)) (j : ℕ) (u : Regex) (k : ℕ) → slice_get trees j ≡ Some (Some u) → Contains (row_of named u) k → IsMention (mentions_of named trees) j k
-row-mention named trees j u k at in_row =
+pub row-mention : (raw_definitions : List RawDefinition) (trees : List (Option Regex)) (j : ℕ) (u : Regex) (k : ℕ) → slice_get trees j ≡ Some (Some u) → Contains (row_of raw_definitions u) k → IsMention (mentions_of raw_definitions trees) j k
+row-mention raw_definitions trees j u k at in_row =
     let same : 0 + j ≡ j = omega arith in
-    is-mention (mentions_of named trees) j k (subst (λ (n : ℕ). Contains (mentions_of named trees) (mention_of n k)) same (mention-in named 0 trees j u k at in_row))
+    is-mention (mentions_of raw_definitions trees) j k (subst (λ (n : ℕ). Contains (mentions_of raw_definitions trees) (mention_of n k)) same (mention-in raw_definitions 0 trees j u k at in_row))
 
 mark-of : {X : Type 0} (f : X → Bool) (xs : List X) (i : ℕ) (x : X) → slice_get xs i ≡ Some x → is_marked (map f xs) i ≡ f x
 mark-of f [] i x e = cc
@@ -121,48 +122,48 @@ not-false : (b : Bool) → not b ≡ false → b ≡ true
 not-false true e = refl
 not-false false e = cc
 
-complete-at : (named : List Named) (trees : List (Option Regex)) (j : ℕ) (u : Regex) → slice_get trees j ≡ Some (Some u) → is_marked (incomplete_marks named trees) j ≡ false → all_defined named u ≡ true
-complete-at named trees j u at e = not-false (all_defined named u) (sym (mark-of (is_incomplete named) trees j (Some u) at) ∙ e)
+complete-at : (raw_definitions : List RawDefinition) (trees : List (Option Regex)) (j : ℕ) (u : Regex) → slice_get trees j ≡ Some (Some u) → is_marked (incomplete_marks raw_definitions trees) j ≡ false → all_defined raw_definitions u ≡ true
+complete-at raw_definitions trees j u at e = not-false (all_defined raw_definitions u) (sym (mark-of (is_incomplete raw_definitions) trees j (Some u) at) ∙ e)
 
 -- names that are defined, each of which finds a tree of which something holds
-names-hold : (named : List Named) (ds : List PlainDefinition) (p : Regex → Bool) (names : List (List ℕ)) → IsTrue (list_all (λ name. is_some (number_of named name)) names)
-    → ((name : List ℕ) (j : ℕ) → number_of named name ≡ Some j → Contains (filter_map (number_of named) names) j → IsTrue (holds_of p (tree_named ds name))) → IsTrue (list_all (λ name. holds_of p (tree_named ds name)) names)
-names-hold named ds p [] defined each = refl
-names-hold named ds p (name ∷ names) defined each =
-    by (number_of named name) refl (names-hold named ds p names (right-of (is_some (number_of named name)) (list_all (λ n. is_some (number_of named n)) names) defined)) (left-of (is_some (number_of named name)) (list_all (λ n. is_some (number_of named n)) names) defined)
+names-hold : (raw_definitions : List RawDefinition) (ds : List PlainDefinition) (p : Regex → Bool) (names : List (List ℕ)) → IsTrue (list_all (λ name. is_some (number_of raw_definitions name)) names)
+    → ((name : List ℕ) (j : ℕ) → number_of raw_definitions name ≡ Some j → Contains (filter_map (number_of raw_definitions) names) j → IsTrue (holds_of p (tree_named ds name))) → IsTrue (list_all (λ name. holds_of p (tree_named ds name)) names)
+names-hold raw_definitions ds p [] defined each = refl
+names-hold raw_definitions ds p (name ∷ names) defined each =
+    by (number_of raw_definitions name) refl (names-hold raw_definitions ds p names (right-of (is_some (number_of raw_definitions name)) (list_all (λ n. is_some (number_of raw_definitions n)) names) defined)) (left-of (is_some (number_of raw_definitions name)) (list_all (λ n. is_some (number_of raw_definitions n)) names) defined)
   where
     Each : List ℕ → Type 0
-    Each numbers = (n : List ℕ) (j : ℕ) → number_of named n ≡ Some j → Contains numbers j → IsTrue (holds_of p (tree_named ds n))
+    Each numbers = (n : List ℕ) (j : ℕ) → number_of raw_definitions n ≡ Some j → Contains numbers j → IsTrue (holds_of p (tree_named ds n))
 
-    by : (o : Option ℕ) → number_of named name ≡ o → (Each (filter_map (number_of named) names) → IsTrue (list_all (λ n. holds_of p (tree_named ds n)) names)) → IsTrue (is_some (number_of named name))
+    by : (o : Option ℕ) → number_of raw_definitions name ≡ o → (Each (filter_map (number_of raw_definitions) names) → IsTrue (list_all (λ n. holds_of p (tree_named ds n)) names)) → IsTrue (is_some (number_of raw_definitions name))
         → IsTrue (list_all (λ n. holds_of p (tree_named ds n)) (name ∷ names))
     by None e more is = absurd (false≢true (sym (ap is_some e) ∙ is))
     by (Some j) e more is =
-        let front : filter_map (number_of named) (name ∷ names) ≡ j ∷ filter_map (number_of named) names = ap (λ (o : Option ℕ). cons_option o (filter_map (number_of named) names)) e in
-        let all = subst (λ (l : List ℕ). (n : List ℕ) (k : ℕ) → number_of named n ≡ Some k → Contains l k → IsTrue (holds_of p (tree_named ds n))) front each in
-        both (holds_of p (tree_named ds name)) (list_all (λ n. holds_of p (tree_named ds n)) names) (all name j e (Contains-append_left (j ∷ []) (filter_map (number_of named) names) j (0, omega arith, refl)))
-        (more (λ n k at in_row. all n k at (Contains-append_right (j ∷ []) (filter_map (number_of named) names) k in_row)))
+        let front : filter_map (number_of raw_definitions) (name ∷ names) ≡ j ∷ filter_map (number_of raw_definitions) names = ap (λ (o : Option ℕ). cons_option o (filter_map (number_of raw_definitions) names)) e in
+        let all = subst (λ (l : List ℕ). (n : List ℕ) (k : ℕ) → number_of raw_definitions n ≡ Some k → Contains l k → IsTrue (holds_of p (tree_named ds n))) front each in
+        both (holds_of p (tree_named ds name)) (list_all (λ n. holds_of p (tree_named ds n)) names) (all name j e (Contains-append_left (j ∷ []) (filter_map (number_of raw_definitions) names) j (0, omega arith, refl)))
+        (more (λ n k at in_row. all n k at (Contains-append_right (j ∷ []) (filter_map (number_of raw_definitions) names) k in_row)))
 
-no-names : (named : List Named) (names : List (List ℕ)) → IsTrue (list_all (λ name. is_some (number_of named name)) names) → ((j : ℕ) → Contains (filter_map (number_of named) names) j → ⊥) → IsTrue (is_no_name names)
-no-names named [] defined never = refl
-no-names named (name ∷ names) defined never = by (number_of named name) refl (left-of (is_some (number_of named name)) (list_all (λ n. is_some (number_of named n)) names) defined) where
-  by : (o : Option ℕ) → number_of named name ≡ o → IsTrue (is_some (number_of named name)) → IsTrue (is_no_name (name ∷ names))
+no-names : (raw_definitions : List RawDefinition) (names : List (List ℕ)) → IsTrue (list_all (λ name. is_some (number_of raw_definitions name)) names) → ((j : ℕ) → Contains (filter_map (number_of raw_definitions) names) j → ⊥) → IsTrue (is_no_name names)
+no-names raw_definitions [] defined never = refl
+no-names raw_definitions (name ∷ names) defined never = by (number_of raw_definitions name) refl (left-of (is_some (number_of raw_definitions name)) (list_all (λ n. is_some (number_of raw_definitions n)) names) defined) where
+  by : (o : Option ℕ) → number_of raw_definitions name ≡ o → IsTrue (is_some (number_of raw_definitions name)) → IsTrue (is_no_name (name ∷ names))
   by None e is = absurd (false≢true (sym (ap is_some e) ∙ is))
   by (Some j) e is =
-      let front : filter_map (number_of named) (name ∷ names) ≡ j ∷ filter_map (number_of named) names = ap (λ (o : Option ℕ). cons_option o (filter_map (number_of named) names)) e in
-      absurd (never j (subst (λ (l : List ℕ). Contains l j) (sym front) (Contains-append_left (j ∷ []) (filter_map (number_of named) names) j (0, omega arith, refl))))
+      let front : filter_map (number_of raw_definitions) (name ∷ names) ≡ j ∷ filter_map (number_of raw_definitions) names = ap (λ (o : Option ℕ). cons_option o (filter_map (number_of raw_definitions) names)) e in
+      absurd (never j (subst (λ (l : List ℕ). Contains l j) (sym front) (Contains-append_left (j ∷ []) (filter_map (number_of raw_definitions) names) j (0, omega arith, refl))))
 
-module _ (named : List Named) (trees : List (Option Regex)) (from : List Regex) (ds : List PlainDefinition) (are : AreReached (IsReached named trees from) 0 named trees ds)
-    (complete : (i : ℕ) → IsReached named trees from i → is_marked (incomplete_marks named trees) i ≡ false) where
+module _ (raw_definitions : List RawDefinition) (trees : List (Option Regex)) (from : List Regex) (ds : List PlainDefinition) (are : AreReached (IsReached raw_definitions trees from) 0 raw_definitions trees ds)
+    (complete : (i : ℕ) → IsReached raw_definitions trees from i → is_marked (incomplete_marks raw_definitions trees) i ≡ false) where
   -- an expression whose names are defined and reached, and behind which not so many stand in a row
-  pub within : (n : ℕ) (tree : Regex) → all_defined named tree ≡ true → ((j : ℕ) → Contains (row_of named tree) j → IsReached named trees from j)
-      → ((j : ℕ) → Contains (row_of named tree) j → Follow (IsMention (mentions_of named trees)) n j → ⊥) → IsTrue (is_within n ds tree)
-  within zero tree defined reach never = no-names named (names_of tree) defined (λ j at. never j at tt)
-  within (suc n) tree defined reach never = names-hold named ds (is_within n ds) (names_of tree) defined (λ name j at in_row.
+  pub within : (n : ℕ) (tree : Regex) → all_defined raw_definitions tree ≡ true → ((j : ℕ) → Contains (row_of raw_definitions tree) j → IsReached raw_definitions trees from j)
+      → ((j : ℕ) → Contains (row_of raw_definitions tree) j → Follow (IsMention (mentions_of raw_definitions trees)) n j → ⊥) → IsTrue (is_within n ds tree)
+  within zero tree defined reach never = no-names raw_definitions (names_of tree) defined (λ j at. never j at tt)
+  within (suc n) tree defined reach never = names-hold raw_definitions ds (is_within n ds) (names_of tree) defined (λ name j at in_row.
       let same : j ≡ 0 + j = omega arith in
-      let w = tree-found (IsReached named trees from) 0 named trees ds name j are at (subst (IsReached named trees from) same (reach j in_row)) in
+      let w = tree-found (IsReached raw_definitions trees from) 0 raw_definitions trees ds name j are at (subst (IsReached raw_definitions trees from) same (reach j in_row)) in
       ap (holds_of (is_within n ds)) w.1
-      ∙ within n w.0 (complete-at named trees j w.0 w.2 (complete j (reach j in_row))) (λ k k_in. mentioned j k (reach j in_row) (row-mention named trees j w.0 k w.2 k_in)) (λ k k_in f. never j in_row (k, row-mention named trees j w.0 k w.2 k_in, f)))
+      ∙ within n w.0 (complete-at raw_definitions trees j w.0 w.2 (complete j (reach j in_row))) (λ k k_in. mentioned j k (reach j in_row) (row-mention raw_definitions trees j w.0 k w.2 k_in)) (λ k k_in f. never j in_row (k, row-mention raw_definitions trees j w.0 k w.2 k_in, f)))
 
 all-hold : {X : Type 0} (p : X → Bool) (xs : List X) → ((x : X) → Contains xs x → IsTrue (p x)) → IsTrue (list_all p xs)
 all-hold p [] each = refl
@@ -173,9 +174,9 @@ not-false_then true never = refl
 not-false_then false never = absurd (never refl)
 
 -- In an accepted specification each name is defined, and at most 32 stand in a row.
-pub nested : (g : Ground) (raws : List RawRule) (saids : List Said) (ds : List PlainDefinition) → HoldsOfNone (Holds g) (cases raws) → AreSaid g.states raws saids
-    → AreReached (IsReached g.named g.trees (patterns_in saids)) 0 g.named g.trees ds → IsTrue (are_nested ds (patterns_in saids))
+pub nested : (table : SymbolTable) (raws : List RawRule) (resolved : List ResolvedRule) (ds : List PlainDefinition) → HoldsOfNone (Holds table) (cases raws) → AreResolved table.start_conditions raws resolved
+    → AreReached (IsReached table.definitions table.trees (patterns_in resolved)) 0 table.definitions table.trees ds → IsTrue (are_nested ds (patterns_in resolved))
 unfolding are_nested
-nested g raws saids ds clean said are = all-hold (is_within 32 ds) (patterns_in saids) (λ tree at.
-    let safe = safe-patterns g raws saids clean said tree at in
-    within g.named g.trees (patterns_in saids) ds are (reached-complete g raws saids clean said) 32 tree (not-false_then (all_defined g.named tree) (λ e. safe.undefined (inl e))) (λ j in_row. named_in tree j at in_row) (λ j in_row f. safe.deep (j, in_row, f)))
+nested table raws resolved ds clean resolves are = all-hold (is_within 32 ds) (patterns_in resolved) (λ tree at.
+    let safe = safe-patterns table raws resolved clean resolves tree at in
+    within table.definitions table.trees (patterns_in resolved) ds are (reached-complete table raws resolved clean resolves) 32 tree (not-false_then (all_defined table.definitions tree) (λ e. safe.undefined (inl e))) (λ j in_row. named_in tree j at in_row) (λ j in_row f. safe.too_deep (j, in_row, f)))

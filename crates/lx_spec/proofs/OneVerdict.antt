@@ -2,12 +2,13 @@
 use Rattle.std.proofs.Common.{◌≡◌, ◌∙◌, ℕ, List, Option, Ok, Err, Result, refl, ap, sym, subst, arith}
 use Rattle.lx_ere.specs.Regex.{Regex, Reading}
 use Rattle.lx_ere.specs.Pattern.{IsPattern, IsSubstitute}
+use Rattle.lx_spec.specs.Plain.{PlainSpec}
 use Rattle.lx_spec.specs.First.{IsFirst, here, later, HoldsOfNone}
-use Rattle.lx_spec.specs.Sections.{Sheet}
+use Rattle.lx_spec.specs.Sections.{ParsedSections}
 use Rattle.lx_spec.specs.Dictionary.{AreTrees}
-use Rattle.lx_spec.specs.Outcome.{Said, AreSaid, PlainSpec, AreSpec}
-use Rattle.lx_spec.specs.Verdict.{Ground, Case, Holds, IsFirstFault, cases, fault_of}
-use Rattle.lx_spec.specs.Whole.{ground_of, IsFault, too_long, in_sections, in_rules, IsRead}
+use Rattle.lx_spec.specs.Outcome.{ResolvedRule, AreResolved, AreSpec}
+use Rattle.lx_spec.specs.Verdict.{SymbolTable, Case, Holds, IsFirstFault, cases, fault_of}
+use Rattle.lx_spec.specs.Whole.{symbols_of, IsFault, too_long, in_sections, in_rules, IsRead}
 use Rattle.lx_spec.specs.declared.fault.SpecFault.{SpecFault}
 use Rattle.lx_spec.proofs.OneSpec.{one_trees, one_spec}
 
@@ -21,54 +22,54 @@ none-first : {A : Type 0} (P : A → Type 0) (list : List A) (a : A) → HoldsOf
 none-first P _ _ none (here a more p) = none.0 p
 none-first P _ _ none (later b more a never f) = none-first P more a none.1 f
 
-one-fault-of : (g : Ground) (list : List Case) (e f : SpecFault) → IsFirstFault g list e → IsFirstFault g list f → e ≡ f
-one-fault-of g list e f a b = a.is ∙ ap fault_of (one-first (Holds g) list a.case b.case a.first b.first) ∙ sym b.is
+one-fault-of : (table : SymbolTable) (list : List Case) (e f : SpecFault) → IsFirstFault table list e → IsFirstFault table list f → e ≡ f
+one-fault-of table list e f a b = a.is ∙ ap fault_of (one-first (Holds table) list a.case b.case a.first b.first) ∙ sym b.is
 
 module _ (one_substitute : (text : List ℕ) (r s : Regex) → IsSubstitute text r → IsSubstitute text s → r ≡ s) where
-  -- what is said over the trees of a sheet is said over any others
-  moved : (R : Sheet → List (Option Regex) → Type 0) (sheet other : Sheet) (trees others : List (Option Regex)) → other ≡ sheet → AreTrees sheet.names trees → AreTrees other.names others → R other others → R sheet trees
-  moved R sheet other trees others same read read_too r =
-      let there = subst (λ (s : Sheet). AreTrees s.names others) same read_too in
-      subst (R sheet) (one_trees one_substitute sheet.names others trees there read) (subst (λ (s : Sheet). R s others) same r)
+  -- what is said over the trees of the sections is said over any others
+  moved : (R : ParsedSections → List (Option Regex) → Type 0) (sections other : ParsedSections) (trees others : List (Option Regex)) → other ≡ sections → AreTrees sections.definitions trees → AreTrees other.definitions others → R other others → R sections trees
+  moved R sections other trees others same read read_too r =
+      let there = subst (λ (s : ParsedSections). AreTrees s.definitions others) same read_too in
+      subst (R sections) (one_trees one_substitute sections.definitions others trees there read) (subst (λ (s : ParsedSections). R s others) same r)
 
-  one-rules : (sheet other : Sheet) (trees others : List (Option Regex)) (e f : SpecFault) → other ≡ sheet → AreTrees sheet.names trees → AreTrees other.names others →
-      IsFirstFault (ground_of sheet trees) (cases sheet.rules) e → IsFirstFault (ground_of other others) (cases other.rules) f → e ≡ f
-  one-rules sheet other trees others e f same read read_too a b =
-      one-fault-of (ground_of sheet trees) (cases sheet.rules) e f a (moved (λ s ts. IsFirstFault (ground_of s ts) (cases s.rules) f) sheet other trees others same read read_too b)
+  one-rules : (sections other : ParsedSections) (trees others : List (Option Regex)) (e f : SpecFault) → other ≡ sections → AreTrees sections.definitions trees → AreTrees other.definitions others →
+      IsFirstFault (symbols_of sections trees) (cases sections.rules) e → IsFirstFault (symbols_of other others) (cases other.rules) f → e ≡ f
+  one-rules sections other trees others e f same read read_too a b =
+      one-fault-of (symbols_of sections trees) (cases sections.rules) e f a (moved (λ s ts. IsFirstFault (symbols_of s ts) (cases s.rules) f) sections other trees others same read read_too b)
 
   pub one-fault : (ends : List ℕ → ℕ) (text : List ℕ) (e f : SpecFault) → IsFault ends text e → IsFault ends text f → e ≡ f
   one-fault ends text _ _ (too_long a) (too_long b) = refl
   one-fault ends text _ _ (too_long a) (in_sections f short is) = absurd (omega arith)
-  one-fault ends text _ _ (too_long a) (in_rules sheet trees f short is read first) = absurd (omega arith)
+  one-fault ends text _ _ (too_long a) (in_rules sections trees f short is read first) = absurd (omega arith)
   one-fault ends text _ _ (in_sections e short is) (too_long b) = absurd (omega arith)
-  one-fault ends text _ _ (in_sections e short is) (in_sections f short_too is_too) = let same : ◌≡◌ {A = Result Sheet SpecFault} (Err e) (Err f) = sym is ∙ is_too in cc
-  one-fault ends text _ _ (in_sections e short is) (in_rules sheet trees f short_too is_too read first) = let no : ◌≡◌ {A = Result Sheet SpecFault} (Err e) (Ok sheet) = sym is ∙ is_too in cc
-  one-fault ends text _ _ (in_rules sheet trees e short is read first) (too_long b) = absurd (omega arith)
-  one-fault ends text _ _ (in_rules sheet trees e short is read first) (in_sections f short_too is_too) = let no : ◌≡◌ {A = Result Sheet SpecFault} (Ok sheet) (Err f) = sym is ∙ is_too in cc
-  one-fault ends text _ _ (in_rules sheet trees e short is read first) (in_rules other others f short_too is_too read_too first_too) =
-      let oks : ◌≡◌ {A = Result Sheet SpecFault} (Ok other) (Ok sheet) = sym is_too ∙ is in
-      let same : other ≡ sheet = cc in
-      one-rules sheet other trees others e f same read read_too first first_too
+  one-fault ends text _ _ (in_sections e short is) (in_sections f short_too is_too) = let same : ◌≡◌ {A = Result ParsedSections SpecFault} (Err e) (Err f) = sym is ∙ is_too in cc
+  one-fault ends text _ _ (in_sections e short is) (in_rules sections trees f short_too is_too read first) = let no : ◌≡◌ {A = Result ParsedSections SpecFault} (Err e) (Ok sections) = sym is ∙ is_too in cc
+  one-fault ends text _ _ (in_rules sections trees e short is read first) (too_long b) = absurd (omega arith)
+  one-fault ends text _ _ (in_rules sections trees e short is read first) (in_sections f short_too is_too) = let no : ◌≡◌ {A = Result ParsedSections SpecFault} (Ok sections) (Err f) = sym is ∙ is_too in cc
+  one-fault ends text _ _ (in_rules sections trees e short is read first) (in_rules other others f short_too is_too read_too first_too) =
+      let oks : ◌≡◌ {A = Result ParsedSections SpecFault} (Ok other) (Ok sections) = sym is_too ∙ is in
+      let same : other ≡ sections = cc in
+      one-rules sections other trees others e f same read read_too first first_too
 
   pub no-fault : (ends : List ℕ → ℕ) (text : List ℕ) (spec : PlainSpec) (f : SpecFault) → IsRead ends text spec → IsFault ends text f → ⊥
   no-fault ends text spec _ r (too_long b) = let short = r.short in omega (arith, short)
-  no-fault ends text spec _ r (in_sections f short is) = let no : ◌≡◌ {A = Result Sheet SpecFault} (Ok r.sheet) (Err f) = sym r.sections ∙ is in cc
-  no-fault ends text spec _ r (in_rules sheet trees f short is read first) =
-      let oks : ◌≡◌ {A = Result Sheet SpecFault} (Ok sheet) (Ok r.sheet) = sym is ∙ r.sections in
-      let same : sheet ≡ r.sheet = cc in
-      let there = moved (λ s ts. IsFirstFault (ground_of s ts) (cases s.rules) f) r.sheet sheet r.trees trees same r.read read first in
-      none-first (Holds (ground_of r.sheet r.trees)) (cases r.sheet.rules) there.case r.clean there.first
+  no-fault ends text spec _ r (in_sections f short is) = let no : ◌≡◌ {A = Result ParsedSections SpecFault} (Ok r.sections) (Err f) = sym r.parsed ∙ is in cc
+  no-fault ends text spec _ r (in_rules sections trees f short is read first) =
+      let oks : ◌≡◌ {A = Result ParsedSections SpecFault} (Ok sections) (Ok r.sections) = sym is ∙ r.parsed in
+      let same : sections ≡ r.sections = cc in
+      let there = moved (λ s ts. IsFirstFault (symbols_of s ts) (cases s.rules) f) r.sections sections r.trees trees same r.read read first in
+      none-first (Holds (symbols_of r.sections r.trees)) (cases r.sections.rules) there.case r.clean there.first
 
--- what the rules of a sheet say of a specification
-record IsSpecOf (spec : PlainSpec) (sheet : Sheet) (trees : List (Option Regex)) : Type 0 where
-  saids : List Said
-  says : AreSaid sheet.states sheet.rules saids
-  is : AreSpec (ground_of sheet trees) sheet.rules saids spec
+-- what the rules of the sections say of a specification
+record IsSpecOf (spec : PlainSpec) (sections : ParsedSections) (trees : List (Option Regex)) : Type 0 where
+  resolved : List ResolvedRule
+  resolves : AreResolved sections.start_conditions sections.rules resolved
+  is : AreSpec (symbols_of sections trees) sections.rules resolved spec
 
 pub one-read : (one_substitute : (text : List ℕ) (r s : Regex) → IsSubstitute text r → IsSubstitute text s → r ≡ s) (one_reading : (text : List ℕ) (r s : Reading) → IsPattern text r → IsPattern text s → r ≡ s)
     (ends : List ℕ → ℕ) (text : List ℕ) (s t : PlainSpec) → IsRead ends text s → IsRead ends text t → s ≡ t
 one-read one_substitute one_reading ends text s t a b =
-    let oks : ◌≡◌ {A = Result Sheet SpecFault} (Ok b.sheet) (Ok a.sheet) = sym b.sections ∙ a.sections in
-    let same : b.sheet ≡ a.sheet = cc in
-    let there = moved one_substitute (IsSpecOf t) a.sheet b.sheet a.trees b.trees same a.read b.read (record { saids = b.saids; says = b.says; is = b.is }) in
-    one_spec one_substitute one_reading a.sheet.states a.sheet.names a.sheet.rules a.trees a.trees a.saids there.saids s t a.read a.read a.says there.says a.is there.is
+    let oks : ◌≡◌ {A = Result ParsedSections SpecFault} (Ok b.sections) (Ok a.sections) = sym b.parsed ∙ a.parsed in
+    let same : b.sections ≡ a.sections = cc in
+    let there = moved one_substitute (IsSpecOf t) a.sections b.sections a.trees b.trees same a.read b.read (record { resolved = b.resolved; resolves = b.resolves; is = b.is }) in
+    one_spec one_substitute one_reading a.sections.start_conditions a.sections.definitions a.sections.rules a.trees a.trees a.resolved there.resolved s t a.read a.read a.resolves there.resolves a.is there.is

@@ -5,10 +5,11 @@ use Rattle.std.specs.List.{list_all, list_any, position, position_or_len, flat_m
 use Rattle.std.specs.Cmp.Lexicographic.{pointwise}
 use Rattle.std.proofs.lemmas.List.{append-nil, length-append}
 use Rattle.std.proofs.lemmas.Bool.Decides.{nat_tests}
+use Rattle.lx_spec.specs.Plain.{StartCondition, PlainRule}
 use Rattle.lx_spec.specs.Bytes.{is_identifier}
-use Rattle.lx_spec.specs.Sections.{State, RawRule}
+use Rattle.lx_spec.specs.Sections.{RawRule}
 use Rattle.lx_spec.specs.Actions.{Value, name, number, Statement, nothing, echo, begin, return}
-use Rattle.lx_spec.specs.Outcome.{Said, PlainRule, actions_in, first_own, statements_in, returned_by, with_kind, kinds_behind, kind_of, steps_of, rules_of, number_or_first}
+use Rattle.lx_spec.specs.Outcome.{ResolvedRule, actions_in, first_own, statements_in, returned_by, with_kind, kinds_behind, kind_of, steps_of, rules_of, number_or_first}
 use Rattle.lx_spec.specs.Invariant.{are_distinct, is_kind, are_steps, returned_names, next_number}
 use Rattle.lx_spec.proofs.Conjunctions.{both, left-of, right-of, all-push}
 use Rattle.lx_spec.proofs.Distinct.{distinct-push, same-name-is}
@@ -111,11 +112,11 @@ position-below p xs some = by (nat_lt (position_or_len p xs) (length xs)) refl w
   by true e = grind (arith, nat_tests)
   by false e = some
 
-number-below : (states : List State) (text : List ℕ) → 0 < length states → number_or_first states text < length states
-number-below states text some = by (pointwise nat_eq text (48 ∷ [])) where
-  by : (b : Bool) → unwrap_or (cond b (Some 0) (position (λ s. pointwise nat_eq s.name text) states)) 0 < length states
+number-below : (start_conditions : List StartCondition) (text : List ℕ) → 0 < length start_conditions → number_or_first start_conditions text < length start_conditions
+number-below start_conditions text some = by (pointwise nat_eq text (48 ∷ [])) where
+  by : (b : Bool) → unwrap_or (cond b (Some 0) (position (λ s. pointwise nat_eq s.name text) start_conditions)) 0 < length start_conditions
   by true = some
-  by false = position-below (λ s. pointwise nat_eq s.name text) states some
+  by false = position-below (λ s. pointwise nat_eq s.name text) start_conditions some
 
 kind-range : (kinds : List (List ℕ)) (v : Value) → IsTrue (is_value v) → ((text : List ℕ) → v ≡ name text → is_found kinds text ≡ true) → IsTrue (is_kind (length kinds) (kind_of kinds v))
 kind-range kinds (number n) is found = is
@@ -124,16 +125,16 @@ kind-range kinds (name text) is found =
     let below = position-below (λ k. pointwise nat_eq k text) kinds some in
     let t : nat_lt (unwrap_or (position (λ k. pointwise nat_eq k text) kinds) 0) (length kinds) ≡ true = grind (arith, nat_tests) in t
 
-pub steps-range : (states : List State) (kinds : List (List ℕ)) (ss : List Statement) → 0 < length states → IsTrue (are_statements ss) → ((text : List ℕ) → returned_by ss ≡ Some (name text) → is_found kinds text ≡ true) →
-    IsTrue (are_steps (length states) (length kinds) (steps_of states kinds ss))
-steps-range states kinds [] some are found = refl
-steps-range states kinds (nothing ∷ ss) some are found = steps-range states kinds ss some are found
-steps-range states kinds (echo ∷ ss) some are found = steps-range states kinds ss some are found
-steps-range states kinds (begin c ∷ ss) some are found =
-    let below = number-below states c some in
-    both (nat_lt (number_or_first states c) (length states)) (are_steps (length states) (length kinds) (steps_of states kinds ss)) (let t : nat_lt (number_or_first states c) (length states) ≡ true = grind (arith, nat_tests) in t)
-    (steps-range states kinds ss some are found)
-steps-range states kinds (return v ∷ ss) some are found = kind-range kinds v (left-of (is_value v) (are_statements ss) are) (λ text e. found text (ap (λ (w : Value). Some w) e))
+pub steps-range : (start_conditions : List StartCondition) (kinds : List (List ℕ)) (ss : List Statement) → 0 < length start_conditions → IsTrue (are_statements ss) → ((text : List ℕ) → returned_by ss ≡ Some (name text) → is_found kinds text ≡ true) →
+    IsTrue (are_steps (length start_conditions) (length kinds) (steps_of start_conditions kinds ss))
+steps-range start_conditions kinds [] some are found = refl
+steps-range start_conditions kinds (nothing ∷ ss) some are found = steps-range start_conditions kinds ss some are found
+steps-range start_conditions kinds (echo ∷ ss) some are found = steps-range start_conditions kinds ss some are found
+steps-range start_conditions kinds (begin c ∷ ss) some are found =
+    let below = number-below start_conditions c some in
+    both (nat_lt (number_or_first start_conditions c) (length start_conditions)) (are_steps (length start_conditions) (length kinds) (steps_of start_conditions kinds ss)) (let t : nat_lt (number_or_first start_conditions c) (length start_conditions) ≡ true = grind (arith, nat_tests) in t)
+    (steps-range start_conditions kinds ss some are found)
+steps-range start_conditions kinds (return v ∷ ss) some are found = kind-range kinds v (left-of (is_value v) (are_statements ss) are) (λ text e. found text (ap (λ (w : Value). Some w) e))
 
 pushed-found : (kinds : List (List ℕ)) (text : List ℕ) → is_found (kinds ++ text ∷ []) text ≡ true
 pushed-found [] text = ap (λ (b : Bool). b || false) (same-name-is text text refl)
@@ -168,13 +169,13 @@ numbers_in kinds None = []
 numbers_in kinds (Some (number n)) = []
 numbers_in kinds (Some (name text)) = unwrap_or (position (λ k. pointwise nat_eq k text) kinds) 0 ∷ []
 
-names-in : (states : List State) (kinds : List (List ℕ)) (ss : List Statement) → returned_names (steps_of states kinds ss) ≡ numbers_in kinds (returned_by ss)
-names-in states kinds [] = refl
-names-in states kinds (nothing ∷ ss) = names-in states kinds ss
-names-in states kinds (echo ∷ ss) = names-in states kinds ss
-names-in states kinds (begin c ∷ ss) = names-in states kinds ss
-names-in states kinds (return (name text) ∷ ss) = refl
-names-in states kinds (return (number n) ∷ ss) = refl
+names-in : (start_conditions : List StartCondition) (kinds : List (List ℕ)) (ss : List Statement) → returned_names (steps_of start_conditions kinds ss) ≡ numbers_in kinds (returned_by ss)
+names-in start_conditions kinds [] = refl
+names-in start_conditions kinds (nothing ∷ ss) = names-in start_conditions kinds ss
+names-in start_conditions kinds (echo ∷ ss) = names-in start_conditions kinds ss
+names-in start_conditions kinds (begin c ∷ ss) = names-in start_conditions kinds ss
+names-in start_conditions kinds (return (name text) ∷ ss) = refl
+names-in start_conditions kinds (return (number n) ∷ ss) = refl
 
 next-one : (kinds more : List (List ℕ)) (o : Option Value) (all : List (List ℕ)) (rest : List ℕ) → all ≡ with_kind kinds o ++ more →
     next_number (length kinds) (numbers_in all o ++ rest) ≡ next_number (length (with_kind kinds o)) rest
@@ -206,15 +207,15 @@ next-one kinds more (Some (name text)) all rest e = by (is_found kinds text) ref
       ∙ ap (λ (b : Bool). cond b (next_number (length kinds + 1) rest) None) yes ∙ ap (λ (n : ℕ). next_number n rest) (sym (length-append kinds (text ∷ [])))
 
 -- the kinds appear in order
-pub kinds-in-order : (states : List State) (raws : List RawRule) (saids : List Said) (kinds all : List (List ℕ)) → length raws ≡ length saids → all ≡ kinds_behind kinds (statements_in saids) →
-    next_number (length kinds) (flat_map (λ (r : PlainRule). returned_names r.steps) (rules_of states all raws saids)) ≡ Some (length all)
-kinds-in-order states [] [] kinds all len e = ap (λ (l : List (List ℕ)). Some (length l)) (sym e)
-kinds-in-order states [] (s ∷ saids) kinds all len e = absurd (omega arith)
-kinds-in-order states (raw ∷ raws) [] kinds all len e = absurd (omega arith)
-kinds-in-order states (raw ∷ raws) (s ∷ saids) kinds all len e =
-    let ss = first_own (actions_in (s ∷ saids)) in
-    let rest = flat_map (λ (r : PlainRule). returned_names r.steps) (rules_of states all raws saids) in
-    let more = kinds-more (statements_in saids) (with_kind kinds (returned_by ss)) in
-    ap (λ (l : List ℕ). next_number (length kinds) (l ++ rest)) (names-in states all ss)
+pub kinds-in-order : (start_conditions : List StartCondition) (raws : List RawRule) (resolved : List ResolvedRule) (kinds all : List (List ℕ)) → length raws ≡ length resolved → all ≡ kinds_behind kinds (statements_in resolved) →
+    next_number (length kinds) (flat_map (λ (r : PlainRule). returned_names r.steps) (rules_of start_conditions all raws resolved)) ≡ Some (length all)
+kinds-in-order start_conditions [] [] kinds all len e = ap (λ (l : List (List ℕ)). Some (length l)) (sym e)
+kinds-in-order start_conditions [] (s ∷ resolved) kinds all len e = absurd (omega arith)
+kinds-in-order start_conditions (raw ∷ raws) [] kinds all len e = absurd (omega arith)
+kinds-in-order start_conditions (raw ∷ raws) (s ∷ resolved) kinds all len e =
+    let ss = first_own (actions_in (s ∷ resolved)) in
+    let rest = flat_map (λ (r : PlainRule). returned_names r.steps) (rules_of start_conditions all raws resolved) in
+    let more = kinds-more (statements_in resolved) (with_kind kinds (returned_by ss)) in
+    ap (λ (l : List ℕ). next_number (length kinds) (l ++ rest)) (names-in start_conditions all ss)
     ∙ next-one kinds more.0 (returned_by ss) all rest (e ∙ more.1)
-    ∙ kinds-in-order states raws saids (with_kind kinds (returned_by ss)) all (omega (arith, len)) e
+    ∙ kinds-in-order start_conditions raws resolved (with_kind kinds (returned_by ss)) all (omega (arith, len)) e

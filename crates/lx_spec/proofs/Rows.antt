@@ -5,7 +5,7 @@ use Rattle.std.specs.List.{position, position_or_len, prefix_len, filter_map, li
 use Rattle.std.proofs.lemmas.List.{length-map}
 use Rattle.lx_ere.specs.Regex.{Regex}
 use Rattle.lx_spec.specs.Names.{names_of}
-use Rattle.lx_spec.specs.Sections.{Named}
+use Rattle.lx_spec.specs.Sections.{RawDefinition}
 use Rattle.lx_spec.specs.Dictionary.{number_of, row_of}
 use Rattle.std.proofs.lemmas.List.Elements.{filter_map-append}
 use Rattle.std.proofs.lemmas.List.Folds.{list_all-append}
@@ -24,10 +24,10 @@ pub ruleset place_steps = (position-map)
 pub ruleset row_steps = (filter_map-append, list_all-append)
 
 -- the row of two expressions, one after the other
-pub row-joined : (named : List Named) (a b : Regex) (names : List (List ℕ)) (old mid new : List ℕ) → names ≡ names_of a ++ names_of b → mid ≡ old ++ row_of named a → new ≡ mid ++ row_of named b → new ≡ old ++ filter_map (number_of named) names
-row-joined named a b names old mid new e f g =
-    g ∙ ap (λ (l : List ℕ). l ++ row_of named b) f ∙ append_assoc old (row_of named a) (row_of named b)
-    ∙ ap (λ (l : List ℕ). old ++ l) (sym (filter_map-append (number_of named) (names_of a) (names_of b))) ∙ ap (λ (l : List (List ℕ)). old ++ filter_map (number_of named) l) (sym e)
+pub row-joined : (raw_definitions : List RawDefinition) (a b : Regex) (names : List (List ℕ)) (old mid new : List ℕ) → names ≡ names_of a ++ names_of b → mid ≡ old ++ row_of raw_definitions a → new ≡ mid ++ row_of raw_definitions b → new ≡ old ++ filter_map (number_of raw_definitions) names
+row-joined raw_definitions a b names old mid new e f g =
+    g ∙ ap (λ (l : List ℕ). l ++ row_of raw_definitions b) f ∙ append_assoc old (row_of raw_definitions a) (row_of raw_definitions b)
+    ∙ ap (λ (l : List ℕ). old ++ l) (sym (filter_map-append (number_of raw_definitions) (names_of a) (names_of b))) ∙ ap (λ (l : List (List ℕ)). old ++ filter_map (number_of raw_definitions) l) (sym e)
 
 -- an element of a list seen through a view
 pub at_map : {X Y : Type 0} (f : X → Y) (xs : List X) (i : ℕ) (d : X) → i < length xs → slice_get (map f xs) i ≡ Some (f (get_or xs i d))

@@ -1,48 +1,46 @@
 -- Which rule a scanner chooses, and for how much of the text (XCU `lex`, "Rules in lex").
 use Rattle.std.specs.Prelude.{◌≡◌, ℕ, ◌+◌, ◌<◌, ◌≤◌, ◌⊎◌, Bool, false, IsTrue, if◌then◌else◌, List, Option, Some, MatchOption, Contains, slice_get, length, take}
 use Rattle.std.specs.Option.{option_map}
-use Rattle.lx_ere.specs.Regex.{regex_of}
 use Rattle.lx_ere.specs.Matching.{Matches}
 use Rattle.lx_spec.specs.Names.{NameMatches}
-use Rattle.lx_spec.specs.declared.rule.Rule.{Rule}
-use Rattle.lx_spec.specs.declared.spec.Spec.{Spec}
+use Rattle.lx_spec.specs.Plain.{PlainRule, PlainSpec}
 
 -- A rule with a list of conditions is active in those, and a rule without one in each condition that isn't exclusive.
-abbrev pub IsActive : Spec → Rule → ℕ → Type 0
+abbrev pub IsActive : PlainSpec → PlainRule → ℕ → Type 0
 IsActive spec rule condition =
-    MatchOption rule.conditions (option_map (λ c. c.exclusive) (slice_get spec.conditions.items condition) ≡ Some false) (λ list. Contains list.items condition)
+    MatchOption rule.conditions (option_map (λ c. c.exclusive) (slice_get spec.conditions condition) ≡ Some false) (λ list. Contains list condition)
 
 -- what words a name of the specification matches: names are nested at most 32 deep
-unfoldable pub SpecNames : Spec → List ℕ → List ℕ → Type 0
-SpecNames spec = NameMatches spec.definitions.items 32
+unfoldable pub SpecNames : PlainSpec → List ℕ → List ℕ → Type 0
+SpecNames spec = NameMatches spec.definitions 32
 
 -- The rule fits the first n bytes of the text under the condition, where `begin` says that the text stands at line begin.
-pub record Fits (spec : Spec) (rule : Rule) (condition : ℕ) (begin : Bool) (text : List ℕ) (n : ℕ) : Type 0 where
+pub record Fits (spec : PlainSpec) (rule : PlainRule) (condition : ℕ) (begin : Bool) (text : List ℕ) (n : ℕ) : Type 0 where
   pub active : IsActive spec rule condition
-  pub line_begin : IsTrue rule.pattern.line_begin → IsTrue begin
+  pub line_begin : IsTrue rule.reading.line_begin → IsTrue begin
   pub not_empty : 0 < n
   pub within : n ≤ length text
-  pub matches : Matches (SpecNames spec) (regex_of rule.pattern.expr) (take n text)
-  pub line_end : IsTrue rule.pattern.line_end → slice_get text n ≡ Some 10
+  pub matches : Matches (SpecNames spec) rule.reading.tree (take n text)
+  pub line_end : IsTrue rule.reading.line_end → slice_get text n ≡ Some 10
 
 -- how far a fit of n bytes reaches: with `$` the newline counts
-abbrev pub reach : Rule → ℕ → ℕ
-reach rule n = if rule.pattern.line_end then n + 1 else n
+abbrev pub reach : PlainRule → ℕ → ℕ
+reach rule n = if rule.reading.line_end then n + 1 else n
 
 -- No rule fits any bytes at the front of the text.
-abbrev pub NothingFits : Spec → ℕ → Bool → List ℕ → Type 0
+abbrev pub NothingFits : PlainSpec → ℕ → Bool → List ℕ → Type 0
 NothingFits spec condition begin text =
-    (j : ℕ) (rule : Rule) (n : ℕ) → slice_get spec.rules.items j ≡ Some rule → Fits spec rule condition begin text n → ⊥
+    (j : ℕ) (rule : PlainRule) (n : ℕ) → slice_get spec.rules j ≡ Some rule → Fits spec rule condition begin text n → ⊥
 
 -- Of all that fits, the greatest reach, and then the earliest rule: number i, with n bytes.
-pub record IsChosen (spec : Spec) (condition : ℕ) (begin : Bool) (text : List ℕ) (i n : ℕ) : Type 0 where
-  pub rule : Rule
-  pub at : slice_get spec.rules.items i ≡ Some rule
+pub record IsChosen (spec : PlainSpec) (condition : ℕ) (begin : Bool) (text : List ℕ) (i n : ℕ) : Type 0 where
+  pub rule : PlainRule
+  pub at : slice_get spec.rules i ≡ Some rule
   pub fits : Fits spec rule condition begin text n
-  pub longest : (j : ℕ) (other : Rule) (m : ℕ) → slice_get spec.rules.items j ≡ Some other → Fits spec other condition begin text m →
+  pub longest : (j : ℕ) (other : PlainRule) (m : ℕ) → slice_get spec.rules j ≡ Some other → Fits spec other condition begin text m →
       (reach other m < reach rule n) ⊎ ((reach other m ≡ reach rule n) × (i ≤ j))
 
 -- The choice is a rule's number and a number of bytes, or nothing where nothing fits.
-abbrev pub IsChoice : Spec → ℕ → Bool → List ℕ → Option (ℕ × ℕ) → Type 0
+abbrev pub IsChoice : PlainSpec → ℕ → Bool → List ℕ → Option (ℕ × ℕ) → Type 0
 IsChoice spec condition begin text choice =
     MatchOption choice (NothingFits spec condition begin text) (λ found. IsChosen spec condition begin text found.0 found.1)

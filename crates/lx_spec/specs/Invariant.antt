@@ -1,16 +1,15 @@
 -- What every specification keeps of its conditions, kinds and rules.
-use Rattle.std.specs.Prelude.{ℕ, ◌+◌, Bool, true, false, not, ◌&&◌, nat_lt, nat_eq, if◌then◌else◌, List, [], ◌∷◌, length, map, Option, Some, None, IsTrue}
+use Rattle.std.specs.Prelude.{ℕ, ◌+◌, ◌<◌, ◌≤◌, Bool, true, false, not, ◌&&◌, nat_lt, nat_eq, if◌then◌else◌, List, [], ◌∷◌, length, map, Option, Some, None, IsTrue}
 use Rattle.std.specs.List.{list_all, list_any, flat_map}
-use Rattle.std.specs.Option.{option_map}
 use Rattle.std.specs.Cmp.Lexicographic.{pointwise}
+use Rattle.lx_spec.specs.Plain.{StartCondition, PlainDefinition, PlainRule, PlainSpec}
 use Rattle.lx_spec.specs.Bytes.{is_identifier}
+use Rattle.lx_spec.specs.Nesting.{are_nested, expressions_of}
 use Rattle.lx_spec.specs.declared.rule.Kind.{Kind}
 use Rattle.lx_spec.specs.declared.rule.Kind.TheVariants.{Name, Number}
 use Rattle.lx_spec.specs.declared.rule.Step.{Step}
 use Rattle.lx_spec.specs.declared.rule.Step.TheVariants.{Echo, Begin, Return}
-use Rattle.lx_spec.specs.declared.rule.Rule.{Rule}
-use Rattle.lx_spec.specs.Sections.{State, Named, Sheet}
-use Rattle.lx_spec.specs.Outcome.{PlainRule, PlainDefinition}
+use Rattle.lx_spec.specs.Sections.{RawDefinition, ParsedSections}
 
 -- no two of the names are the same
 abbrev pub are_distinct : List (List ℕ) → Bool
@@ -22,21 +21,21 @@ abbrev pub initial_letters : List ℕ
 initial_letters = 73 ∷ 78 ∷ 73 ∷ 84 ∷ 73 ∷ 65 ∷ 76 ∷ []
 
 -- the first condition is INITIAL, which isn't exclusive
-abbrev pub begins_initial : List State → Bool
+abbrev pub begins_initial : List StartCondition → Bool
 begins_initial [] = false
 begins_initial (s ∷ more) = pointwise nat_eq s.name initial_letters && not s.exclusive
 
 -- the first condition is INITIAL, and no two have the same name
-unfoldable pub are_states : List State → Bool
-are_states states = begins_initial states && are_distinct (map (λ s. s.name) states)
+unfoldable pub are_start_conditions : List StartCondition → Bool
+are_start_conditions start_conditions = begins_initial start_conditions && are_distinct (map (λ s. s.name) start_conditions)
 
-abbrev pub are_named : List Named → Bool
-are_named named = are_distinct (map (λ d. d.name) named)
+abbrev pub are_raw_definitions : List RawDefinition → Bool
+are_raw_definitions raw_definitions = are_distinct (map (λ d. d.name) raw_definitions)
 
--- The conditions and the definitions of a sheet have distinct names, and INITIAL is the first condition.
-pub record IsWellFormed (sheet : Sheet) : Type 0 where
-  pub states : IsTrue (are_states sheet.states)
-  pub named : IsTrue (are_named sheet.names)
+-- The conditions and the definitions of the sections have distinct names, and INITIAL is the first condition.
+pub record AreWellFormed (sections : ParsedSections) : Type 0 where
+  pub start_conditions : IsTrue (are_start_conditions sections.start_conditions)
+  pub definitions : IsTrue (are_raw_definitions sections.definitions)
 
 -- no two definitions have the same name
 unfoldable pub are_definitions : List PlainDefinition → Bool
@@ -66,9 +65,8 @@ are_conditions most None = true
 are_conditions most (Some list) = are_rising_below most list
 
 -- what a rule says names conditions and kinds that are there, and its line counts from 1
-abbrev pub is_rule : ℕ → ℕ → Rule → Bool
-is_rule conditions kinds rule =
-    nat_lt 0 rule.line && (are_steps conditions kinds rule.action.items && are_conditions conditions (option_map (λ list. list.items) rule.conditions))
+abbrev pub is_rule : ℕ → ℕ → PlainRule → Bool
+is_rule conditions kinds rule = nat_lt 0 rule.line && (are_steps conditions kinds rule.steps && are_conditions conditions rule.conditions)
 
 -- the names that the steps return, by their numbers
 abbrev pub returned_names : List Step → List ℕ
@@ -91,3 +89,16 @@ is_number n (Some k) = nat_eq k n
 unfoldable pub are_kinds : List (List ℕ) → List PlainRule → Bool
 are_kinds kinds rules =
     list_all is_identifier kinds && (are_distinct kinds && is_number (length kinds) (next_number 0 (flat_map (λ r. returned_names r.steps) rules)))
+
+-- What every specification keeps: the limits, INITIAL first, distinct names, names that are defined and at most 32 deep, kinds in
+-- order of first appearance, and rules that name conditions and kinds that are there.
+pub record IsWellFormed (spec : PlainSpec) : Type 0 where
+  pub some_conditions : 0 < length spec.conditions
+  pub few_conditions : length spec.conditions ≤ 64
+  pub few_definitions : length spec.definitions ≤ 1024
+  pub few_rules : length spec.rules ≤ 4096
+  pub initial_first : IsTrue (are_start_conditions spec.conditions)
+  pub distinct : IsTrue (are_definitions spec.definitions)
+  pub nested : IsTrue (are_nested spec.definitions (expressions_of spec.rules))
+  pub kinds_in_order : IsTrue (are_kinds spec.kinds spec.rules)
+  pub rules_in_range : IsTrue (list_all (is_rule (length spec.conditions) (length spec.kinds)) spec.rules)

@@ -1,8 +1,8 @@
 -- What names in braces stand for (XCU `lex`, "Definitions in lex": `{name}`).
 use Rattle.std.specs.Prelude.{◌≡◌, ℕ, zero, suc, List, [], ◌∷◌, ◌++◌, slice_get, Some}
-use Rattle.lx_ere.specs.Regex.{Regex, nil, one_of, then, or, times, named, regex_of}
+use Rattle.lx_ere.specs.Regex.{Regex, nil, one_of, then, or, times, named}
 use Rattle.lx_ere.specs.Matching.{Matches}
-use Rattle.lx_spec.specs.declared.definition.Definition.{Definition}
+use Rattle.lx_spec.specs.Plain.{PlainDefinition}
 
 -- the names that stand in an expression, from left to right, as often as they stand there
 abbrev pub names_of : Regex → List (List ℕ)
@@ -14,16 +14,16 @@ names_of (times body low high) = names_of body
 names_of (named name) = name ∷ []
 
 -- the definition is one of the list, and has this name
-pub record Defines (definitions : List Definition) (name : List ℕ) (d : Definition) : Type 0 where
+pub record Defines (definitions : List PlainDefinition) (name : List ℕ) (d : PlainDefinition) : Type 0 where
   pub place : ℕ
   pub at : slice_get definitions place ≡ Some d
-  pub is : d.name.items ≡ name
+  pub is : d.name ≡ name
 
 -- The word is one of what the name stands for, where `inner` says what words names match in that.
-abbrev pub DefinedMatches : (List ℕ → List ℕ → Type 0) → List Definition → List ℕ → List ℕ → Type 0
-DefinedMatches inner definitions name word = (d : Definition) × Defines definitions name d × Matches inner (regex_of d.expr) word
+abbrev pub DefinedMatches : (List ℕ → List ℕ → Type 0) → List PlainDefinition → List ℕ → List ℕ → Type 0
+DefinedMatches inner definitions name word = (d : PlainDefinition) × Defines definitions name d × Matches inner d.tree word
 
 -- what words a name matches, names unfolded at most n deep
-abbrev pub NameMatches : List Definition → ℕ → List ℕ → List ℕ → Type 0
+abbrev pub NameMatches : List PlainDefinition → ℕ → List ℕ → List ℕ → Type 0
 NameMatches definitions zero name word = ⊥
 NameMatches definitions (suc n) name word = DefinedMatches (NameMatches definitions n) definitions name word

@@ -1,10 +1,10 @@
 -- How deep the names of a specification are nested (XCU `lex`, "Definitions in lex").
-use Rattle.std.specs.Prelude.{ℕ, zero, suc, Bool, true, false, nat_eq, if◌then◌else◌, List, [], ◌∷◌, Option, Some, None}
+use Rattle.std.specs.Prelude.{ℕ, zero, suc, Bool, true, false, nat_eq, if◌then◌else◌, List, [], ◌∷◌, map, Option, Some, None}
 use Rattle.std.specs.List.{list_all}
 use Rattle.std.specs.Cmp.Lexicographic.{pointwise}
 use Rattle.lx_ere.specs.Regex.{Regex}
+use Rattle.lx_spec.specs.Plain.{PlainDefinition, PlainRule}
 use Rattle.lx_spec.specs.Names.{names_of}
-use Rattle.lx_spec.specs.Outcome.{PlainDefinition}
 
 -- what the first definition with this name stands for
 abbrev pub tree_named : List PlainDefinition → List ℕ → Option Regex
@@ -23,6 +23,10 @@ is_no_name (name ∷ names) = false
 abbrev pub is_within : ℕ → List PlainDefinition → Regex → Bool
 is_within zero definitions tree = is_no_name (names_of tree)
 is_within (suc n) definitions tree = list_all (λ name. holds_of (is_within n definitions) (tree_named definitions name)) (names_of tree)
+
+-- the expressions of the patterns of some rules
+abbrev pub expressions_of : List PlainRule → List Regex
+expressions_of rules = map (λ r. r.reading.tree) rules
 
 -- the names in all expressions are defined, and at most 32 stand in a row
 unfoldable pub are_nested : List PlainDefinition → List Regex → Bool

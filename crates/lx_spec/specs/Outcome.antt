@@ -4,20 +4,21 @@ use Rattle.std.specs.List.{list_any, position}
 use Rattle.std.specs.Cmp.Lexicographic.{pointwise}
 use Rattle.lx_ere.specs.Regex.{Regex, Reading}
 use Rattle.lx_ere.specs.Pattern.{IsPattern}
-use Rattle.lx_spec.specs.Sections.{State, Named, RawRule}
+use Rattle.lx_spec.specs.Plain.{StartCondition, PlainDefinition, PlainRule, PlainSpec}
+use Rattle.lx_spec.specs.Sections.{RawDefinition, RawRule}
 use Rattle.lx_spec.specs.RuleLines.{Prefix, absent, unclosed, listed}
 use Rattle.lx_spec.specs.Actions.{Value, name, number, Statement, nothing, echo, begin, return, Action, shared, own, IsAction}
 use Rattle.lx_spec.specs.Dictionary.{row_of, mentions_of}
 use Rattle.lx_spec.specs.Graph.{IsMention}
-use Rattle.lx_spec.specs.Verdict.{Ground, condition_number, fields_of}
+use Rattle.lx_spec.specs.Verdict.{SymbolTable, condition_number, fields_of}
 use Rattle.lx_spec.specs.declared.rule.Kind.{Kind}
 use Rattle.lx_spec.specs.declared.rule.Kind.TheVariants as kind
 use Rattle.lx_spec.specs.declared.rule.Step.{Step}
 use Rattle.lx_spec.specs.declared.rule.Step.TheVariants as step
 
 -- the number of a condition that is declared
-abbrev pub number_or_first : List State → List ℕ → ℕ
-number_or_first states text = unwrap_or (condition_number states text) 0
+abbrev pub number_or_first : List StartCondition → List ℕ → ℕ
+number_or_first start_conditions text = unwrap_or (condition_number start_conditions text) 0
 
 -- so many numbers from this one on
 abbrev pub numbers_from : ℕ → ℕ → List ℕ
@@ -28,31 +29,31 @@ abbrev pub contains_number : List ℕ → ℕ → Bool
 contains_number numbers c = list_any (λ k. nat_eq k c) numbers
 
 -- the numbers of the conditions that the names mean, rising
-abbrev pub named_conditions : List State → List (List ℕ) → List ℕ
-named_conditions states names = filter (contains_number (map (number_or_first states) names)) (numbers_from 0 (length states))
+abbrev pub named_conditions : List StartCondition → List (List ℕ) → List ℕ
+named_conditions start_conditions names = filter (contains_number (map (number_or_first start_conditions) names)) (numbers_from 0 (length start_conditions))
 
-abbrev pub conditions_of : List State → Prefix → Option (List ℕ)
-conditions_of states absent = None
-conditions_of states unclosed = None
-conditions_of states (listed text) = Some (named_conditions states (fields_of text))
+abbrev pub conditions_of : List StartCondition → Prefix → Option (List ℕ)
+conditions_of start_conditions absent = None
+conditions_of start_conditions unclosed = None
+conditions_of start_conditions (listed text) = Some (named_conditions start_conditions (fields_of text))
 
 -- what a rule says: its conditions, its pattern and its action
-pub record Said : Type 0 where
+pub record ResolvedRule : Type 0 where
   pub conditions : Option (List ℕ)
   pub reading : Reading
   pub action : Action
 
-pub record IsSaid (states : List State) (raw : RawRule) (s : Said) : Type 0 where
-  pub conditions : s.conditions ≡ conditions_of states raw.prefix
+pub record IsResolved (start_conditions : List StartCondition) (raw : RawRule) (s : ResolvedRule) : Type 0 where
+  pub conditions : s.conditions ≡ conditions_of start_conditions raw.prefix
   pub reading : IsPattern raw.pattern s.reading
   pub action : IsAction raw.action s.action
 
 -- what each of the rules says
-abbrev pub AreSaid : List State → List RawRule → List Said → Type 0
-AreSaid states [] [] = Unit {0}
-AreSaid states [] (s ∷ saids) = ⊥
-AreSaid states (raw ∷ raws) [] = ⊥
-AreSaid states (raw ∷ raws) (s ∷ saids) = IsSaid states raw s × AreSaid states raws saids
+abbrev pub AreResolved : List StartCondition → List RawRule → List ResolvedRule → Type 0
+AreResolved start_conditions [] [] = Unit {0}
+AreResolved start_conditions [] (s ∷ resolved) = ⊥
+AreResolved start_conditions (raw ∷ raws) [] = ⊥
+AreResolved start_conditions (raw ∷ raws) (s ∷ resolved) = IsResolved start_conditions raw s × AreResolved start_conditions raws resolved
 
 -- what the first return of some statements returns
 abbrev pub returned_by : List Statement → Option Value
@@ -74,79 +75,60 @@ first_own [] = []
 first_own (shared ∷ actions) = first_own actions
 first_own (own ss ∷ actions) = ss
 
-abbrev pub actions_in : List Said → List Action
-actions_in saids = map (λ s. s.action) saids
+abbrev pub actions_in : List ResolvedRule → List Action
+actions_in resolved = map (λ s. s.action) resolved
 
 -- the statements of each rule: those of its own action, or of the next rule's
-abbrev pub statements_in : List Said → List (List Statement)
+abbrev pub statements_in : List ResolvedRule → List (List Statement)
 statements_in [] = []
-statements_in (s ∷ saids) = first_own (actions_in (s ∷ saids)) ∷ statements_in saids
+statements_in (s ∷ resolved) = first_own (actions_in (s ∷ resolved)) ∷ statements_in resolved
 
 -- the names that rules return, each once, in order of first appearance behind those before
 abbrev pub kinds_behind : List (List ℕ) → List (List Statement) → List (List ℕ)
 kinds_behind kinds [] = kinds
 kinds_behind kinds (ss ∷ lists) = kinds_behind (with_kind kinds (returned_by ss)) lists
 
-abbrev pub kinds_of : List Said → List (List ℕ)
-kinds_of saids = kinds_behind [] (statements_in saids)
+abbrev pub kinds_of : List ResolvedRule → List (List ℕ)
+kinds_of resolved = kinds_behind [] (statements_in resolved)
 
 abbrev pub kind_of : List (List ℕ) → Value → Kind
 kind_of kinds (name text) = kind.Name (unwrap_or (position (λ k. pointwise nat_eq k text) kinds) 0)
 kind_of kinds (number n) = kind.Number n
 
 -- the steps of some statements, up to and with the first return
-abbrev pub steps_of : List State → List (List ℕ) → List Statement → List Step
-steps_of states kinds [] = []
-steps_of states kinds (nothing ∷ ss) = steps_of states kinds ss
-steps_of states kinds (echo ∷ ss) = step.Echo ∷ steps_of states kinds ss
-steps_of states kinds (begin c ∷ ss) = step.Begin (number_or_first states c) ∷ steps_of states kinds ss
-steps_of states kinds (return v ∷ ss) = step.Return (kind_of kinds v) ∷ []
-
--- a rule of a specification
-pub record PlainRule : Type 0 where
-  pub line : ℕ
-  pub conditions : Option (List ℕ)
-  pub reading : Reading
-  pub steps : List Step
+abbrev pub steps_of : List StartCondition → List (List ℕ) → List Statement → List Step
+steps_of start_conditions kinds [] = []
+steps_of start_conditions kinds (nothing ∷ ss) = steps_of start_conditions kinds ss
+steps_of start_conditions kinds (echo ∷ ss) = step.Echo ∷ steps_of start_conditions kinds ss
+steps_of start_conditions kinds (begin c ∷ ss) = step.Begin (number_or_first start_conditions c) ∷ steps_of start_conditions kinds ss
+steps_of start_conditions kinds (return v ∷ ss) = step.Return (kind_of kinds v) ∷ []
 
 -- the rules, each with the steps of its own action or of the next rule's
-abbrev pub rules_of : List State → List (List ℕ) → List RawRule → List Said → List PlainRule
-rules_of states kinds [] saids = []
-rules_of states kinds (raw ∷ raws) [] = []
-rules_of states kinds (raw ∷ raws) (s ∷ saids) =
-    record { line = raw.line; conditions = s.conditions; reading = s.reading; steps = steps_of states kinds (first_own (actions_in (s ∷ saids))) } ∷ rules_of states kinds raws saids
-
--- a definition of a specification
-pub record PlainDefinition : Type 0 where
-  pub name : List ℕ
-  pub tree : Regex
+abbrev pub rules_of : List StartCondition → List (List ℕ) → List RawRule → List ResolvedRule → List PlainRule
+rules_of start_conditions kinds [] resolved = []
+rules_of start_conditions kinds (raw ∷ raws) [] = []
+rules_of start_conditions kinds (raw ∷ raws) (s ∷ resolved) =
+    record { line = raw.line; conditions = s.conditions; reading = s.reading; steps = steps_of start_conditions kinds (first_own (actions_in (s ∷ resolved))) } ∷ rules_of start_conditions kinds raws resolved
 
 -- One of the expressions names the definition, or names one from which mentions lead to it.
-pub data IsReached (named : List Named) (trees : List (Option Regex)) (from : List Regex) : ℕ → Type 0 where
-  named_in : (tree : Regex) (j : ℕ) → Contains from tree → Contains (row_of named tree) j → IsReached named trees from j
-  mentioned : (i j : ℕ) → IsReached named trees from i → IsMention (mentions_of named trees) i j → IsReached named trees from j
+pub data IsReached (raw_definitions : List RawDefinition) (trees : List (Option Regex)) (from : List Regex) : ℕ → Type 0 where
+  named_in : (tree : Regex) (j : ℕ) → Contains from tree → Contains (row_of raw_definitions tree) j → IsReached raw_definitions trees from j
+  mentioned : (i j : ℕ) → IsReached raw_definitions trees from i → IsMention (mentions_of raw_definitions trees) i j → IsReached raw_definitions trees from j
 
 -- The definitions from number i on that are reached and have a reading, in order.
-pub data AreReached (Reached : ℕ → Type 0) : ℕ → List Named → List (Option Regex) → List PlainDefinition → Type 0 where
+pub data AreReached (Reached : ℕ → Type 0) : ℕ → List RawDefinition → List (Option Regex) → List PlainDefinition → Type 0 where
   none : (i : ℕ) → AreReached Reached i [] [] []
-  reached : (i : ℕ) (d : Named) (tree : Regex) (named : List Named) (trees : List (Option Regex)) (definitions : List PlainDefinition) → Reached i →
-      AreReached Reached (suc i) named trees definitions → AreReached Reached i (d ∷ named) (Some tree ∷ trees) (record { name = d.name; tree = tree } ∷ definitions)
-  passed : (i : ℕ) (d : Named) (t : Option Regex) (named : List Named) (trees : List (Option Regex)) (definitions : List PlainDefinition) → (Reached i → ⊥) →
-      AreReached Reached (suc i) named trees definitions → AreReached Reached i (d ∷ named) (t ∷ trees) definitions
+  reached : (i : ℕ) (d : RawDefinition) (tree : Regex) (raw_definitions : List RawDefinition) (trees : List (Option Regex)) (definitions : List PlainDefinition) → Reached i →
+      AreReached Reached (suc i) raw_definitions trees definitions → AreReached Reached i (d ∷ raw_definitions) (Some tree ∷ trees) (record { name = d.name; tree = tree } ∷ definitions)
+  passed : (i : ℕ) (d : RawDefinition) (t : Option Regex) (raw_definitions : List RawDefinition) (trees : List (Option Regex)) (definitions : List PlainDefinition) → (Reached i → ⊥) →
+      AreReached Reached (suc i) raw_definitions trees definitions → AreReached Reached i (d ∷ raw_definitions) (t ∷ trees) definitions
 
-abbrev pub patterns_in : List Said → List Regex
-patterns_in saids = map (λ s. s.reading.tree) saids
-
--- a specification
-pub record PlainSpec : Type 0 where
-  pub conditions : List State
-  pub definitions : List PlainDefinition
-  pub kinds : List (List ℕ)
-  pub rules : List PlainRule
+abbrev pub patterns_in : List ResolvedRule → List Regex
+patterns_in resolved = map (λ s. s.reading.tree) resolved
 
 -- The specification that rules say which stand on these conditions and definitions.
-pub record AreSpec (g : Ground) (raws : List RawRule) (saids : List Said) (spec : PlainSpec) : Type 0 where
-  pub conditions : spec.conditions ≡ g.states
-  pub definitions : AreReached (IsReached g.named g.trees (patterns_in saids)) 0 g.named g.trees spec.definitions
-  pub kinds : spec.kinds ≡ kinds_of saids
-  pub rules : spec.rules ≡ rules_of g.states (kinds_of saids) raws saids
+pub record AreSpec (table : SymbolTable) (raws : List RawRule) (resolved : List ResolvedRule) (spec : PlainSpec) : Type 0 where
+  pub conditions : spec.conditions ≡ table.start_conditions
+  pub definitions : AreReached (IsReached table.definitions table.trees (patterns_in resolved)) 0 table.definitions table.trees spec.definitions
+  pub kinds : spec.kinds ≡ kinds_of resolved
+  pub rules : spec.rules ≡ rules_of table.start_conditions (kinds_of resolved) raws resolved

@@ -2,13 +2,14 @@
 use Rattle.std.specs.Prelude.{◌≡◌, ◌≢◌, ℕ, ◌+◌, Bool, true, false, nat_eq, nat_lt, if◌then◌else◌, List, [], ◌∷◌, ◌++◌, length, Option, Some, None, Result, Ok, Err}
 use Rattle.std.specs.List.{list_any}
 use Rattle.std.specs.Cmp.Lexicographic.{pointwise}
+use Rattle.lx_spec.specs.Plain.{StartCondition}
 use Rattle.lx_spec.specs.Bytes.{lines, begins_with, has_pair}
 use Rattle.lx_spec.specs.Blocks.{start, with_line, is_closed}
+use Rattle.lx_spec.specs.Faults.{fault, out_of_memory}
 use Rattle.lx_spec.specs.Lines.{line_of, skipped, opens_comment, opens_group, rules_begin, declares, defines, no_form}
 use Rattle.lx_spec.specs.RuleLines as rule_line
 use Rattle.lx_spec.specs.RuleLines.{Prefix, rule_line_of}
 use Rattle.lx_spec.specs.declared.block.Count.{Count}
-use Rattle.lx_spec.specs.declared.fault.Code.{Code}
 use Rattle.lx_spec.specs.declared.fault.Code.TheVariants as code
 use Rattle.lx_spec.specs.declared.fault.SpecFault.{SpecFault}
 
@@ -81,23 +82,15 @@ abbrev pub entries_behind : (List ℕ → ℕ) → RawRule → Count → ℕ →
 entries_behind ends raw count n rest = if is_closed count then rule raw true ∷ entries ends rules n rest else entries ends (action raw count) n rest
 
 -- a definition as it stands in the text
-pub record Named : Type 0 where
+pub record RawDefinition : Type 0 where
   pub name : List ℕ
   pub substitute : List ℕ
 
--- a start condition
-pub record State : Type 0 where
-  pub name : List ℕ
-  pub exclusive : Bool
-
 -- what the sections say, in order
-pub record Sheet : Type 0 where
-  pub states : List State
-  pub names : List Named
+pub record ParsedSections : Type 0 where
+  pub start_conditions : List StartCondition
+  pub definitions : List RawDefinition
   pub rules : List RawRule
-
-abbrev pub fault : Code → ℕ → SpecFault
-fault c n = record { code = c; line = n }
 
 infixl 10 ◌>>=◌
 abbrev pub ◌>>=◌ : {A B : Type 0} → Result A SpecFault → (A → Result B SpecFault) → Result B SpecFault
@@ -105,66 +98,66 @@ abbrev pub ◌>>=◌ : {A B : Type 0} → Result A SpecFault → (A → Result B
 (Err e) >>= f = Err e
 
 -- one more condition: its name is new, and there is room for it
-abbrev pub with_state : Sheet → ℕ → Bool → List ℕ → Result Sheet SpecFault
-with_state before n exclusive name =
-    if list_any (λ s. pointwise nat_eq s.name name) before.states then Err (fault code.Twice n)
-    else if nat_lt (length before.states) 64 then Ok (record before { states = before.states ++ record { name = name; exclusive = exclusive } ∷ [] })
+abbrev pub with_start_condition : ParsedSections → ℕ → Bool → List ℕ → Result ParsedSections SpecFault
+with_start_condition before n exclusive name =
+    if list_any (λ s. pointwise nat_eq s.name name) before.start_conditions then Err (fault code.Twice n)
+    else if nat_lt (length before.start_conditions) 64 then Ok (record before { start_conditions = before.start_conditions ++ record { name = name; exclusive = exclusive } ∷ [] })
     else Err (fault code.TooMany n)
 
-abbrev pub with_states : Sheet → ℕ → Bool → List (List ℕ) → Result Sheet SpecFault
-with_states before n exclusive [] = Ok before
-with_states before n exclusive (name ∷ names) = with_state before n exclusive name >>= λ d. with_states d n exclusive names
+abbrev pub with_start_conditions : ParsedSections → ℕ → Bool → List (List ℕ) → Result ParsedSections SpecFault
+with_start_conditions before n exclusive [] = Ok before
+with_start_conditions before n exclusive (name ∷ names) = with_start_condition before n exclusive name >>= λ d. with_start_conditions d n exclusive names
 
 -- one more definition: its name is new, and there is room for it
-abbrev pub with_name : Sheet → ℕ → List ℕ → List ℕ → Result Sheet SpecFault
-with_name before n name substitute =
-    if list_any (λ d. pointwise nat_eq d.name name) before.names then Err (fault code.Twice n)
-    else if nat_lt (length before.names) 1024 then Ok (record before { names = before.names ++ record { name = name; substitute = substitute } ∷ [] })
+abbrev pub with_definition : ParsedSections → ℕ → List ℕ → List ℕ → Result ParsedSections SpecFault
+with_definition before n name substitute =
+    if list_any (λ d. pointwise nat_eq d.name name) before.definitions then Err (fault code.Twice n)
+    else if nat_lt (length before.definitions) 1024 then Ok (record before { definitions = before.definitions ++ record { name = name; substitute = substitute } ∷ [] })
     else Err (fault code.TooMany n)
 
 -- one more rule: there is room for it, and its action is closed
-abbrev pub with_rule : Sheet → RawRule → Bool → Result Sheet SpecFault
+abbrev pub with_rule : ParsedSections → RawRule → Bool → Result ParsedSections SpecFault
 with_rule before raw closed =
     if nat_lt (length before.rules) 4096 then (if closed then Ok (record before { rules = before.rules ++ raw ∷ [] }) else Err (fault code.NotClosed raw.line))
     else Err (fault code.TooMany raw.line)
 
 -- one more entry
-abbrev pub with_entry : Sheet → Entry → Result Sheet SpecFault
-with_entry before (conditions n exclusive names) = with_states before n exclusive names
-with_entry before (definition n name substitute) = with_name before n name substitute
+abbrev pub with_entry : ParsedSections → Entry → Result ParsedSections SpecFault
+with_entry before (conditions n exclusive names) = with_start_conditions before n exclusive names
+with_entry before (definition n name substitute) = with_definition before n name substitute
 with_entry before (rule raw closed) = with_rule before raw closed
 with_entry before (formless n) = Err (fault code.NoForm n)
 with_entry before (unclosed n) = Err (fault code.NotClosed n)
 with_entry before endless = Err (fault code.NoRules 0)
 
 -- all entries, or the first fault
-abbrev pub with_entries : Sheet → List Entry → Result Sheet SpecFault
+abbrev pub with_entries : ParsedSections → List Entry → Result ParsedSections SpecFault
 with_entries before [] = Ok before
 with_entries before (entry ∷ more) = with_entry before entry >>= λ d. with_entries d more
 
 -- INITIAL is declared, and nothing else
-abbrev pub first_sheet : Sheet
-first_sheet = record { states = record { name = 73 ∷ 78 ∷ 73 ∷ 84 ∷ 73 ∷ 65 ∷ 76 ∷ []; exclusive = false } ∷ []; names = []; rules = [] }
+abbrev pub only_initial : ParsedSections
+only_initial = record { start_conditions = record { name = 73 ∷ 78 ∷ 73 ∷ 84 ∷ 73 ∷ 65 ∷ 76 ∷ []; exclusive = false } ∷ []; definitions = []; rules = [] }
 
 -- what the lines from number n on say, behind what was said before
-abbrev pub sheet_behind : (List ℕ → ℕ) → Sheet → Place → ℕ → List (List ℕ) → Result Sheet SpecFault
-sheet_behind ends before place n rest = with_entries before (entries ends place n rest)
+abbrev pub sections_behind : (List ℕ → ℕ) → ParsedSections → Place → ℕ → List (List ℕ) → Result ParsedSections SpecFault
+sections_behind ends before place n rest = with_entries before (entries ends place n rest)
 
 -- what the sections of a text say, or their first fault in the order of the text
-abbrev pub sheet_of : (List ℕ → ℕ) → List ℕ → Result Sheet SpecFault
-sheet_of ends text = sheet_behind ends first_sheet definitions 1 (lines text)
+abbrev pub sections_of : (List ℕ → ℕ) → List ℕ → Result ParsedSections SpecFault
+sections_of ends text = sections_behind ends only_initial definitions 1 (lines text)
 
 -- What a function returned, seen by view, is what reading gives, unless memory ran out.
 abbrev pub Gives : {X Y : Type 0} → (X → Y) → Result X SpecFault → Result Y SpecFault → Type 0
 Gives view (Ok x) read = read ≡ Ok (view x)
-Gives view (Err f) read = f.code ≢ code.Memory → read ≡ Err f
+Gives view (Err f) read = f ≢ out_of_memory → read ≡ Err f
 
 -- what is said where a line was taken: no place follows the line that ends the rules
-abbrev pub continued : (List ℕ → ℕ) → Option Place → Sheet → ℕ → List (List ℕ) → Result Sheet SpecFault
+abbrev pub continued : (List ℕ → ℕ) → Option Place → ParsedSections → ℕ → List (List ℕ) → Result ParsedSections SpecFault
 continued ends None before n rest = Ok before
-continued ends (Some place) before n rest = sheet_behind ends before place n rest
+continued ends (Some place) before n rest = sections_behind ends before place n rest
 
 -- What taking a line gave, seen by view, goes on to what reading gives, unless memory ran out.
-abbrev pub Goes : {X : Type 0} → (List ℕ → ℕ) → (X → Sheet × Option Place) → ℕ → List (List ℕ) → Result X SpecFault → Result Sheet SpecFault → Type 0
+abbrev pub Goes : {X : Type 0} → (List ℕ → ℕ) → (X → ParsedSections × Option Place) → ℕ → List (List ℕ) → Result X SpecFault → Result ParsedSections SpecFault → Type 0
 Goes ends view n rest (Ok x) read = read ≡ continued ends (view x).1 (view x).0 (n + 1) rest
-Goes ends view n rest (Err f) read = f.code ≢ code.Memory → read ≡ Err f
+Goes ends view n rest (Err f) read = f ≢ out_of_memory → read ≡ Err f

@@ -4,8 +4,10 @@ use Rattle.std.specs.List.{list_all, position}
 use Rattle.std.specs.Cmp.Lexicographic.{pointwise}
 use Rattle.lx_ere.specs.Regex.{Regex, Reading}
 use Rattle.lx_ere.specs.Pattern.{IsPattern}
+use Rattle.lx_spec.specs.Plain.{StartCondition}
+use Rattle.lx_spec.specs.Faults.{fault, out_of_memory}
 use Rattle.lx_spec.specs.First.{IsFirst, HoldsOfNone}
-use Rattle.lx_spec.specs.Sections.{State, Named, RawRule}
+use Rattle.lx_spec.specs.Sections.{RawDefinition, RawRule}
 use Rattle.lx_spec.specs.RuleLines.{Prefix, absent, unclosed, listed}
 use Rattle.lx_spec.specs.Actions.{Statement, Action, shared, own, IsAction, nothing, echo, begin, return, is_condition_name}
 use Rattle.lx_spec.specs.Dictionary.{row_of, all_defined, mentions_of, unreadable_marks, incomplete_marks}
@@ -39,18 +41,18 @@ is_prefix unclosed = false
 is_prefix (listed text) = list_all is_condition_name (fields_of text)
 
 -- the number of the condition with this name, where 0 is INITIAL
-abbrev pub condition_number : List State → List ℕ → Option ℕ
-condition_number states name = if pointwise nat_eq name (48 ∷ []) then Some 0 else position (λ s. pointwise nat_eq s.name name) states
+abbrev pub condition_number : List StartCondition → List ℕ → Option ℕ
+condition_number start_conditions name = if pointwise nat_eq name (48 ∷ []) then Some 0 else position (λ s. pointwise nat_eq s.name name) start_conditions
 
-abbrev pub are_declared : List State → List (List ℕ) → Bool
-are_declared states names = list_all (λ name. is_some (condition_number states name)) names
+abbrev pub are_declared : List StartCondition → List (List ℕ) → Bool
+are_declared start_conditions names = list_all (λ name. is_some (condition_number start_conditions name)) names
 
 -- a condition that a statement begins is declared
-abbrev pub begin_is_declared : List State → Statement → Bool
-begin_is_declared states nothing = true
-begin_is_declared states echo = true
-begin_is_declared states (begin c) = is_some (condition_number states c)
-begin_is_declared states (return v) = true
+abbrev pub begin_is_declared : List StartCondition → Statement → Bool
+begin_is_declared start_conditions nothing = true
+begin_is_declared start_conditions echo = true
+begin_is_declared start_conditions (begin c) = is_some (condition_number start_conditions c)
+begin_is_declared start_conditions (return v) = true
 
 -- what can be wrong with a rule
 pub data Cause : Type 0 where
@@ -87,35 +89,35 @@ pub record Case : Type 0 where
   pub cause : Cause
 
 -- what the rules stand on: the conditions, the definitions, and what these read as
-pub record Ground : Type 0 where
-  pub states : List State
-  pub named : List Named
+pub record SymbolTable : Type 0 where
+  pub start_conditions : List StartCondition
+  pub definitions : List RawDefinition
   pub trees : List (Option Regex)
 
 -- An expression names a definition that leads to one whose substitute has no reading.
-abbrev pub LeadsUnread : Ground → Regex → Type 0
-LeadsUnread g tree = (j : ℕ) × Contains (row_of g.named tree) j × Leads (mentions_of g.named g.trees) (unreadable_marks g.trees) j
+abbrev pub LeadsUnreadable : SymbolTable → Regex → Type 0
+LeadsUnreadable table tree = (j : ℕ) × Contains (row_of table.definitions tree) j × Leads (mentions_of table.definitions table.trees) (unreadable_marks table.trees) j
 
 -- A name stands in an expression that isn't defined, or in what it leads to.
-abbrev pub LeadsUndefined : Ground → Regex → Type 0
-LeadsUndefined g tree = (all_defined g.named tree ≡ false) ⊎ ((j : ℕ) × Contains (row_of g.named tree) j × Leads (mentions_of g.named g.trees) (incomplete_marks g.named g.trees) j)
+abbrev pub LeadsUndefined : SymbolTable → Regex → Type 0
+LeadsUndefined table tree = (all_defined table.definitions tree ≡ false) ⊎ ((j : ℕ) × Contains (row_of table.definitions tree) j × Leads (mentions_of table.definitions table.trees) (incomplete_marks table.definitions table.trees) j)
 
 -- 33 names stand in a row: one in the expression, and 32 more behind it.
-abbrev pub LeadsDeep : Ground → Regex → Type 0
-LeadsDeep g tree = (j : ℕ) × Contains (row_of g.named tree) j × Follow (IsMention (mentions_of g.named g.trees)) 32 j
+abbrev pub LeadsDeep : SymbolTable → Regex → Type 0
+LeadsDeep table tree = (j : ℕ) × Contains (row_of table.definitions tree) j × Follow (IsMention (mentions_of table.definitions table.trees)) 32 j
 
-abbrev pub IsCase : Ground → Case → Cause → Type 0
-IsCase g case prefix_form = is_prefix case.rule.prefix ≡ false
-IsCase g case prefix_name = are_declared g.states (fields_in case.rule.prefix) ≡ false
-IsCase g case reading = ((r : Reading) → IsPattern case.rule.pattern r → ⊥) ⊎ ((r : Reading) × IsPattern case.rule.pattern r × LeadsUnread g r.tree)
-IsCase g case undefined = (r : Reading) × IsPattern case.rule.pattern r × LeadsUndefined g r.tree
-IsCase g case depth = (r : Reading) × IsPattern case.rule.pattern r × LeadsDeep g r.tree
-IsCase g case action_form = (a : Action) → IsAction case.rule.action a → ⊥
-IsCase g case begin_name = (ss : List Statement) × IsAction case.rule.action (own ss) × (list_all (begin_is_declared g.states) ss ≡ false)
-IsCase g case no_next = IsAction case.rule.action shared × IsTrue case.is_last
+abbrev pub IsCase : SymbolTable → Case → Cause → Type 0
+IsCase table case prefix_form = is_prefix case.rule.prefix ≡ false
+IsCase table case prefix_name = are_declared table.start_conditions (fields_in case.rule.prefix) ≡ false
+IsCase table case reading = ((r : Reading) → IsPattern case.rule.pattern r → ⊥) ⊎ ((r : Reading) × IsPattern case.rule.pattern r × LeadsUnreadable table r.tree)
+IsCase table case undefined = (r : Reading) × IsPattern case.rule.pattern r × LeadsUndefined table r.tree
+IsCase table case depth = (r : Reading) × IsPattern case.rule.pattern r × LeadsDeep table r.tree
+IsCase table case action_form = (a : Action) → IsAction case.rule.action a → ⊥
+IsCase table case begin_name = (ss : List Statement) × IsAction case.rule.action (own ss) × (list_all (begin_is_declared table.start_conditions) ss ≡ false)
+IsCase table case no_next = IsAction case.rule.action shared × IsTrue case.is_last
 
-abbrev pub Holds : Ground → Case → Type 0
-Holds g case = IsCase g case case.cause
+abbrev pub Holds : SymbolTable → Case → Type 0
+Holds table case = IsCase table case case.cause
 
 abbrev pub case_of : RawRule → Bool → Cause → Case
 case_of rule is_last cause = record { rule = rule; is_last = is_last; cause = cause }
@@ -136,15 +138,15 @@ cases [] = []
 cases (rule ∷ rules) = cases_of rule (is_empty rules) ++ cases rules
 
 abbrev pub fault_of : Case → SpecFault
-fault_of case = record { code = code_of case.cause; line = case.rule.line }
+fault_of case = fault (code_of case.cause) case.rule.line
 
 -- It is the fault of the first case that holds.
-pub record IsFirstFault (g : Ground) (list : List Case) (f : SpecFault) : Type 0 where
+pub record IsFirstFault (table : SymbolTable) (list : List Case) (f : SpecFault) : Type 0 where
   pub case : Case
-  pub first : IsFirst (Holds g) list case
+  pub first : IsFirst (Holds table) list case
   pub is : f ≡ fault_of case
 
 -- No case holds of what was read; the fault of the first that holds was answered, unless memory was refused.
-abbrev pub Checked : {X : Type 0} → Ground → List Case → Result X SpecFault → Type 0
-Checked g list (Ok x) = HoldsOfNone (Holds g) list
-Checked g list (Err f) = f.code ≢ code.Memory → IsFirstFault g list f
+abbrev pub Checked : {X : Type 0} → SymbolTable → List Case → Result X SpecFault → Type 0
+Checked table list (Ok x) = HoldsOfNone (Holds table) list
+Checked table list (Err f) = f ≢ out_of_memory → IsFirstFault table list f

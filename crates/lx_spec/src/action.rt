@@ -1,26 +1,19 @@
 // Actions: their statements (XCU `lex`, "Actions in lex").
-ghost use Rattle.std.specs.Prelude.{◌≡◌, ◌+◌, ◌<◌, ◌≤◌, length, drop, IfSome, OnSome, IfOk, MatchOption, List};
+ghost use Rattle.std.specs.Prelude.{◌≡◌, ◌+◌, ◌≤◌, length, drop, IfSome, OnSome, IfOk, MatchOption, List};
 ghost use Rattle.std.specs.List.{list_all};
 ghost use Rattle.std.specs.Option.{option_map};
 ghost use Rattle.lx_spec.specs.Bytes as bytes;
 ghost use Rattle.lx_spec.specs.Actions as plain;
 ghost use Rattle.lx_spec.specs.Actions.{AreStatements, IsAction};
-ghost use Rattle.lx_spec.specs.WordViews.{word_view, words_view};
-ghost use Rattle.lx_spec.specs.ActionViews.{value_view, statement_view, statements_view, action_view};
-ghost use Rattle.lx_spec.specs.TurnViews.{turn_view, TakesWords};
+ghost use Rattle.lx_spec.specs.views.Words.{word_view, words_view};
+ghost use Rattle.lx_spec.specs.views.Actions.{value_view, statement_view, statements_view, action_view};
+ghost use Rattle.lx_spec.specs.views.Turns.{turn_view, TakesWords};
 
 use crate::bytes::{is_digit, is_identifier};
 use crate::constant::decimal_below;
-use crate::small::{Identifier, SmallNumber};
+use crate::returned_value::{Identifier, KindNumber, Value};
 use crate::word::{Word, read_words};
 use std::alloc::{AllocError, Global};
-
-/// What is returned, as it stands in the text.
-#[derive(Clone, Copy)]
-pub enum Value<'a> {
-    Name(Identifier<'a>),
-    Number(SmallNumber),
-}
 
 /// A statement of an action.
 #[derive(Clone, Copy)]
@@ -74,7 +67,7 @@ fn letters_value(text: &[u8]) -> Option<Value<'_>>
         Some(Value::Name(Identifier { text }))
     } else if is_decimal(text) {
         match decimal_below(2147483648, text) {
-            Some(value) => Some(Value::Number(SmallNumber { value })),
+            Some(value) => Some(Value::Number(KindNumber { value })),
             None => None,
         }
     } else {
@@ -87,7 +80,7 @@ fn value_of(word: Word<'_>) -> Option<Value<'_>>
 {
     match word {
         Word::Letters(text) => letters_value(text),
-        Word::Byte(byte) => Some(Value::Number(SmallNumber { value: byte as u32 })),
+        Word::Byte(byte) => Some(Value::Number(KindNumber { value: byte as u32 })),
         _ => None,
     }
 }

@@ -1,33 +1,32 @@
 // The specification that rules without a fault say.
-ghost use Rattle.std.specs.Prelude.{◌≡◌, Some, ℕ, ◌+◌, ◌<◌, ◌≤◌, length, drop, map, IsTrue, IfOk, OnOk, vec_len, nat_eq};
-ghost use Rattle.std.specs.List.{list_all, list_any, position};
+ghost use Rattle.std.specs.Prelude.{◌≡◌, Some, ◌+◌, ◌<◌, ◌≤◌, length, drop, map, IfOk, vec_len};
 ghost use Rattle.std.specs.Option.{option_map};
-ghost use Rattle.std.specs.Cmp.Lexicographic.{pointwise};
-ghost use Rattle.lx_spec.specs.ActionViews.{value_view, statements_view, action_view};
-ghost use Rattle.lx_spec.specs.BuildViews.{steps_at_end, steps_before, with_steps};
-ghost use Rattle.lx_spec.specs.ConditionViews.{condition_view};
-ghost use Rattle.lx_spec.specs.DictionaryViews.{dictionary_view, IsDictionary};
+ghost use Rattle.lx_spec.specs.views.Actions.{value_view, statements_view, action_view};
+ghost use Rattle.lx_spec.specs.views.Steps.{steps_at_end, steps_before, with_steps};
+ghost use Rattle.lx_spec.specs.views.Conditions.{condition_view};
+ghost use Rattle.lx_spec.specs.views.Dictionaries.{dictionary_view, IsDictionary};
 ghost use Rattle.lx_spec.specs.First.{HoldsOfNone};
 ghost use Rattle.lx_spec.specs.Outcome as plain;
-ghost use Rattle.lx_spec.specs.Outcome.{AreSaid, AreSpec};
-ghost use Rattle.lx_spec.specs.RuleViews.{rule_view, names_view};
-ghost use Rattle.lx_spec.specs.SaidViews.{said_view};
-ghost use Rattle.lx_spec.specs.SheetViews.{raw_view, state_view, named_view, sheet_view};
-ghost use Rattle.lx_spec.specs.SpecViews.{spec_view};
-ghost use Rattle.lx_spec.specs.TreeViews.{trees_view};
+ghost use Rattle.lx_spec.specs.Outcome.{AreResolved, AreSpec};
+ghost use Rattle.lx_spec.specs.views.Rules.{rule_view, names_view};
+ghost use Rattle.lx_spec.specs.views.ResolvedRules.{resolved_view};
+ghost use Rattle.lx_spec.specs.views.Sections.{raw_rule_view, start_condition_view, raw_definition_view, sections_view};
+ghost use Rattle.lx_spec.specs.views.Specs.{spec_view};
+ghost use Rattle.lx_spec.specs.views.Trees.{trees_view};
 ghost use Rattle.lx_spec.specs.Verdict.{Holds, cases};
-ghost use Rattle.lx_spec.specs.Whole.{ground_of};
-ghost use Rattle.lx_spec.specs.Invariant.{IsWellFormed};
+ghost use Rattle.lx_spec.specs.Whole.{symbols_of};
+ghost use Rattle.lx_spec.specs.Invariant.{AreWellFormed};
 
-use crate::action::{Action, Statement, Value};
+use crate::action::{Action, Statement};
 use crate::condition::Condition;
+use crate::definition_index::DefinitionIndex;
 use crate::dictionary::Dictionary;
-use crate::index::Index;
 use crate::kind_index::{KindIndex, with_name};
+use crate::parsed_sections::{ParsedSections, RawRule, StartCondition};
 use crate::reach::definitions_of;
+use crate::resolved_rule::{ResolvedRule, number_or_first};
+use crate::returned_value::Value;
 use crate::rule::{Kind, Rule, Step};
-use crate::said::{ReadRule, number_or_first};
-use crate::sheet::{RawRule, Sheet, State};
 use crate::spec::Spec;
 use std::alloc::{AllocError, Global};
 
@@ -70,11 +69,11 @@ fn with_returned(
 }
 
 // The statements of the first action from rule i on that isn't the next rule's.
-fn own_from<'s, 'r>(read: &'s [ReadRule<'r>], i: usize) -> &'s [Statement<'r>]
-    requires { i ≤ length read.now }
-    ensures { statements_view result.now ≡ plain.first_own (plain.actions_in (map said_view (drop i read.now))) }
+fn own_from<'s, 'r>(resolved: &'s [ResolvedRule<'r>], i: usize) -> &'s [Statement<'r>]
+    requires { i ≤ length resolved.now }
+    ensures { statements_view result.now ≡ plain.first_own (plain.actions_in (map resolved_view (drop i resolved.now))) }
 {
-    for rule in &read[i..] {
+    for rule in &resolved[i..] {
         if let Action::Own(statements) = &rule.action {
             return statements;
         }
@@ -83,13 +82,13 @@ fn own_from<'s, 'r>(read: &'s [ReadRule<'r>], i: usize) -> &'s [Statement<'r>]
 }
 
 // The names that the rules return, in order of first appearance.
-fn kinds_of(alloc: Global, read: &[ReadRule]) -> Result<KindIndex, AllocError>
-    ensures kinds { IfOk result (λ kinds. names_view kinds.kinds.items ≡ plain.kinds_of (map said_view read.now)) }
-    ensures few { IfOk result (λ kinds. vec_len kinds.kinds ≤ length read.now) }
+fn kinds_of(alloc: Global, resolved: &[ResolvedRule]) -> Result<KindIndex, AllocError>
+    ensures kinds { IfOk result (λ kinds. names_view kinds.kinds.items ≡ plain.kinds_of (map resolved_view resolved.now)) }
+    ensures few { IfOk result (λ kinds. vec_len kinds.kinds ≤ length resolved.now) }
 {
     let mut kinds = KindIndex::new(alloc);
-    for i in 0..read.len() {
-        kinds = with_returned(alloc, kinds, returned_by(own_from(read, i)))?;
+    for i in 0..resolved.len() {
+        kinds = with_returned(alloc, kinds, returned_by(own_from(resolved, i)))?;
     }
     Ok(kinds)
 }
@@ -107,14 +106,14 @@ fn kind_of(kinds: &KindIndex, value: Value) -> Kind
 // The steps of some statements, up to and with the first return.
 fn steps_of(
     alloc: Global,
-    states: &[State],
+    start_conditions: &[StartCondition],
     kinds: &KindIndex,
     statements: &[Statement],
 ) -> Result<Vec<Step>, AllocError>
-    requires some { 0 < length states.now }
-    requires few { length states.now ≤ 64 }
+    requires some { 0 < length start_conditions.now }
+    requires few { length start_conditions.now ≤ 64 }
     requires kinds { vec_len kinds.now.kinds ≤ 4096 }
-    ensures { IfOk result (λ steps. steps.items ≡ plain.steps_of (map state_view states.now) (names_view kinds.now.kinds.items) (statements_view statements.now)) }
+    ensures { IfOk result (λ steps. steps.items ≡ plain.steps_of (map start_condition_view start_conditions.now) (names_view kinds.now.kinds.items) (statements_view statements.now)) }
 {
     let mut steps = Vec::new(alloc);
     for statement in statements {
@@ -122,7 +121,7 @@ fn steps_of(
             Statement::Nothing => {}
             Statement::Echo => steps.push(Step::Echo)?,
             Statement::Begin(name) => {
-                steps.push(Step::Begin(number_or_first(states, name) as u16))?
+                steps.push(Step::Begin(number_or_first(start_conditions, name) as u16))?
             }
             Statement::Return(value) => {
                 steps.push(Step::Return(kind_of(kinds, *value)))?;
@@ -136,19 +135,19 @@ fn steps_of(
 // The steps of an action, behind which a rule with these steps follows.
 fn steps_before(
     alloc: Global,
-    states: &[State],
+    start_conditions: &[StartCondition],
     kinds: &KindIndex,
     action: &Action,
     next: &[Step],
 ) -> Result<Vec<Step>, AllocError>
-    requires some { 0 < length states.now }
-    requires few { length states.now ≤ 64 }
+    requires some { 0 < length start_conditions.now }
+    requires few { length start_conditions.now ≤ 64 }
     requires kinds { vec_len kinds.now.kinds ≤ 4096 }
-    ensures { IfOk result (λ steps. steps.items ≡ steps_before (map state_view states.now) (names_view kinds.now.kinds.items) (action_view action.now) next.now) }
+    ensures { IfOk result (λ steps. steps.items ≡ steps_before (map start_condition_view start_conditions.now) (names_view kinds.now.kinds.items) (action_view action.now) next.now) }
 {
     match action {
         Action::Shared => Vec::from_slice(alloc, next),
-        Action::Own(statements) => steps_of(alloc, states, kinds, statements),
+        Action::Own(statements) => steps_of(alloc, start_conditions, kinds, statements),
     }
 }
 
@@ -162,10 +161,10 @@ fn last_steps(rules: &[Rule]) -> &[Step]
     }
 }
 
-fn rule_of(line: u32, rule: ReadRule, action: Vec<Step>) -> Rule
-    ensures { rule_view result ≡ with_steps line (said_view rule.entry) action.items }
+fn rule_of(line: u32, rule: ResolvedRule, action: Vec<Step>) -> Rule
+    ensures { rule_view result ≡ with_steps line (resolved_view rule.entry) action.items }
 {
-    let ReadRule {
+    let ResolvedRule {
         conditions,
         pattern,
         action: _,
@@ -181,22 +180,28 @@ fn rule_of(line: u32, rule: ReadRule, action: Vec<Step>) -> Rule
 // The rules, each with its steps.
 fn rules_of(
     alloc: Global,
-    states: &[State],
+    start_conditions: &[StartCondition],
     kinds: &KindIndex,
     raws: &[RawRule],
-    read: Vec<ReadRule>,
+    resolved: Vec<ResolvedRule>,
 ) -> Result<Vec<Rule>, AllocError>
-    requires some { 0 < length states.now }
-    requires few { length states.now ≤ 64 }
+    requires some { 0 < length start_conditions.now }
+    requires few { length start_conditions.now ≤ 64 }
     requires kinds { vec_len kinds.now.kinds ≤ 4096 }
-    requires same { vec_len read ≡ length raws.now }
-    ensures { IfOk result (λ rules. map rule_view rules.items ≡ plain.rules_of (map state_view states.now) (names_view kinds.now.kinds.items) (map raw_view raws.now) (map said_view read.entry.items)) }
+    requires same { vec_len resolved ≡ length raws.now }
+    ensures { IfOk result (λ rules. map rule_view rules.items ≡ plain.rules_of (map start_condition_view start_conditions.now) (names_view kinds.now.kinds.items) (map raw_rule_view raws.now) (map resolved_view resolved.entry.items)) }
 {
-    let mut read = read;
+    let mut resolved = resolved;
     let mut rules = Vec::new(alloc);
-    while let Some(rule) = read.pop() {
-        let line = raws[read.len()].line;
-        let action = steps_before(alloc, states, kinds, &rule.action, last_steps(&rules))?;
+    while let Some(rule) = resolved.pop() {
+        let line = raws[resolved.len()].line;
+        let action = steps_before(
+            alloc,
+            start_conditions,
+            kinds,
+            &rule.action,
+            last_steps(&rules),
+        )?;
         rules.push(rule_of(line, rule, action))?;
     }
     rules.reverse();
@@ -204,40 +209,49 @@ fn rules_of(
 }
 
 // The conditions, in the order in which they are declared.
-fn conditions_from(alloc: Global, states: &[State]) -> Result<Vec<Condition>, AllocError>
-    ensures conditions { IfOk result (λ v. map condition_view v.items ≡ map state_view states.now) }
-    ensures len { IfOk result (λ v. vec_len v ≡ length states.now) }
+fn conditions_from(
+    alloc: Global,
+    start_conditions: &[StartCondition],
+) -> Result<Vec<Condition>, AllocError>
+    ensures conditions { IfOk result (λ v. map condition_view v.items ≡ map start_condition_view start_conditions.now) }
+    ensures len { IfOk result (λ v. vec_len v ≡ length start_conditions.now) }
 {
     let mut conditions = Vec::new(alloc);
-    for state in states {
-        let name = Vec::from_slice(alloc, state.name)?;
+    for start_condition in start_conditions {
+        let name = Vec::from_slice(alloc, start_condition.name)?;
         conditions.push(Condition {
             name,
-            exclusive: state.exclusive,
+            exclusive: start_condition.exclusive,
         })?;
     }
     Ok(conditions)
 }
 
-/// The specification that the rules of a sheet say.
+/// The specification that the rules of the sections say.
 pub(crate) fn spec_of(
     alloc: Global,
-    sheet: &Sheet,
-    index: &Index,
+    sections: &ParsedSections,
+    index: &DefinitionIndex,
     dictionary: Dictionary,
-    read: Vec<ReadRule>,
+    resolved: Vec<ResolvedRule>,
 ) -> Result<Spec, AllocError>
-    requires index { index.now.named.now ≡ sheet.now.names.items }
-    requires sheet { IsWellFormed (sheet_view sheet.now) }
-    requires dictionary { IsDictionary (map named_view sheet.now.names.items) (dictionary_view dictionary) }
-    requires says { AreSaid (map state_view sheet.now.states.items) (map raw_view sheet.now.rules.items) (map said_view read.items) }
-    requires clean { HoldsOfNone (Holds (ground_of (sheet_view sheet.now) (trees_view dictionary.trees.items))) (cases (map raw_view sheet.now.rules.items)) }
-    ensures { IfOk result (λ s. AreSpec (ground_of (sheet_view sheet.now) (trees_view dictionary.trees.items)) (map raw_view sheet.now.rules.items) (map said_view read.entry.items) (spec_view s)) }
+    requires index { index.now.definitions.now ≡ sections.now.definitions.items }
+    requires sections { AreWellFormed (sections_view sections.now) }
+    requires dictionary { IsDictionary (map raw_definition_view sections.now.definitions.items) (dictionary_view dictionary) }
+    requires resolves { AreResolved (map start_condition_view sections.now.start_conditions.items) (map raw_rule_view sections.now.rules.items) (map resolved_view resolved.items) }
+    requires clean { HoldsOfNone (Holds (symbols_of (sections_view sections.now) (trees_view dictionary.trees.items))) (cases (map raw_rule_view sections.now.rules.items)) }
+    ensures { IfOk result (λ s. AreSpec (symbols_of (sections_view sections.now) (trees_view dictionary.trees.items)) (map raw_rule_view sections.now.rules.items) (map resolved_view resolved.entry.items) (spec_view s)) }
 {
-    let kinds = kinds_of(alloc, &read)?;
-    let definitions = definitions_of(alloc, index, dictionary, &read)?;
-    let rules = rules_of(alloc, &sheet.states, &kinds, &sheet.rules, read)?;
-    let conditions = conditions_from(alloc, &sheet.states)?;
+    let kinds = kinds_of(alloc, &resolved)?;
+    let definitions = definitions_of(alloc, index, dictionary, &resolved)?;
+    let rules = rules_of(
+        alloc,
+        &sections.start_conditions,
+        &kinds,
+        &sections.rules,
+        resolved,
+    )?;
+    let conditions = conditions_from(alloc, &sections.start_conditions)?;
     let KindIndex { kinds, numbers: _ } = kinds;
     Ok(Spec {
         conditions,

@@ -1,25 +1,24 @@
 // What can be wrong with a rule, cause by cause in the order in which it is answered.
-ghost use Rattle.std.specs.Prelude.{◌≡◌, ℕ, ◌<◌, ◌↔◌, ◌∷◌, [], length, IfOk, IsTrue, Contains, slice_index, map};
+ghost use Rattle.std.specs.Prelude.{◌≡◌, ◌<◌, ◌∷◌, [], length, IfOk, map};
 ghost use Rattle.std.specs.List.{list_all};
 ghost use Rattle.lx_ere.specs.Regex.{reading_of};
 ghost use Rattle.lx_ere.specs.Pattern.{IsPattern};
 ghost use Rattle.lx_spec.specs.Actions.{IsAction};
-ghost use Rattle.lx_spec.specs.Graph.{is_marked};
-ghost use Rattle.lx_spec.specs.ActionViews.{action_view, statement_view};
-ghost use Rattle.lx_spec.specs.SheetViews.{raw_view, state_view};
-ghost use Rattle.lx_spec.specs.FieldViews.{texts_of};
+ghost use Rattle.lx_spec.specs.views.Actions.{action_view, statement_view};
+ghost use Rattle.lx_spec.specs.views.Sections.{raw_rule_view, start_condition_view};
+ghost use Rattle.lx_spec.specs.views.Fields.{texts_of};
 ghost use Rattle.lx_spec.specs.Verdict as plain;
 ghost use Rattle.lx_spec.specs.Verdict.{Checked, case_of, fields_in, begin_is_declared};
-ghost use Rattle.lx_spec.specs.BasisViews.{ground_view, IsBasis};
+ghost use Rattle.lx_spec.specs.views.SymbolTables.{symbols_view, IsSymbolTable};
 
 use crate::action::{Action, Statement, read_action};
-use crate::basis::Basis;
+use crate::definition_faults::any_marked;
 use crate::dictionary::push_row;
 use crate::fault::{Code, SpecFault};
-use crate::outlook::any_marked;
+use crate::parsed_sections::{RawRule, StartCondition};
 use crate::prefix::{are_condition_names, are_declared, condition_number, read_fields};
 use crate::rule_line::Prefix;
-use crate::sheet::{RawRule, State};
+use crate::symbol_table::SymbolTable;
 use lx_ere::expr::Pattern;
 use lx_ere::fault::EreFault;
 use lx_ere::read::{one_reading, read_pattern};
@@ -28,12 +27,12 @@ use std::alloc::Global;
 /// What the prefix of a rule lists.
 pub(crate) fn read_prefix<'a>(
     alloc: Global,
-    basis: &Basis,
+    symbols: &SymbolTable,
     rule: &RawRule<'a>,
     is_last: bool,
 ) -> Result<Vec<&'a [u8]>, SpecFault>
-    ensures checked { Checked (ground_view basis.now) (case_of (raw_view rule.now) is_last plain.prefix_form ∷ []) result }
-    ensures names { IfOk result (λ names. texts_of names.items ≡ fields_in (raw_view rule.now).prefix) }
+    ensures checked { Checked (symbols_view symbols.now) (case_of (raw_rule_view rule.now) is_last plain.prefix_form ∷ []) result }
+    ensures names { IfOk result (λ names. texts_of names.items ≡ fields_in (raw_rule_view rule.now).prefix) }
 {
     match rule.prefix {
         Prefix::Absent => Ok(Vec::new(alloc)),
@@ -57,16 +56,16 @@ pub(crate) fn read_prefix<'a>(
 
 // The conditions of the prefix are declared.
 pub(crate) fn check_names(
-    basis: &Basis,
+    symbols: &SymbolTable,
     rule: &RawRule,
     names: &[&[u8]],
     is_last: bool,
 ) -> Result<(), SpecFault>
-    requires basis { IsBasis basis.now }
-    requires names { texts_of names.now ≡ fields_in (raw_view rule.now).prefix }
-    ensures { Checked (ground_view basis.now) (case_of (raw_view rule.now) is_last plain.prefix_name ∷ []) result }
+    requires symbols { IsSymbolTable symbols.now }
+    requires names { texts_of names.now ≡ fields_in (raw_rule_view rule.now).prefix }
+    ensures { Checked (symbols_view symbols.now) (case_of (raw_rule_view rule.now) is_last plain.prefix_name ∷ []) result }
 {
-    if are_declared(basis.states, names) {
+    if are_declared(symbols.start_conditions, names) {
         Ok(())
     } else {
         Err(SpecFault {
@@ -79,22 +78,22 @@ pub(crate) fn check_names(
 // The names of the pattern lead to no substitute without a reading, to no name that isn't defined, and along 32 names at most.
 fn check_pattern(
     alloc: Global,
-    basis: &Basis,
+    symbols: &SymbolTable,
     rule: &RawRule,
     pattern: &Pattern,
     is_last: bool,
 ) -> Result<(), SpecFault>
-    requires basis { IsBasis basis.now }
+    requires symbols { IsSymbolTable symbols.now }
     requires reading { IsPattern rule.now.pattern.now (reading_of pattern.now) }
-    ensures { Checked (ground_view basis.now) (case_of (raw_view rule.now) is_last plain.reading ∷ case_of (raw_view rule.now) is_last plain.undefined ∷ case_of (raw_view rule.now) is_last plain.depth ∷ []) result }
+    ensures { Checked (symbols_view symbols.now) (case_of (raw_rule_view rule.now) is_last plain.reading ∷ case_of (raw_rule_view rule.now) is_last plain.undefined ∷ case_of (raw_rule_view rule.now) is_last plain.depth ∷ []) result }
 {
     one_reading();
     let mut row = Vec::new(alloc);
-    let complete = push_row(basis.index, &pattern.expr, &mut row)?;
-    let unread = any_marked(&row, &basis.outlook.unread);
-    let undefined = any_marked(&row, &basis.outlook.undefined);
-    let deep = any_marked(&row, &basis.outlook.deep);
-    if unread {
+    let complete = push_row(symbols.index, &pattern.expr, &mut row)?;
+    let unreadable = any_marked(&row, &symbols.faults.unreadable);
+    let undefined = any_marked(&row, &symbols.faults.undefined);
+    let too_deep = any_marked(&row, &symbols.faults.too_deep);
+    if unreadable {
         return Err(SpecFault {
             code: Code::NoReading,
             line: rule.line,
@@ -106,7 +105,7 @@ fn check_pattern(
             line: rule.line,
         });
     }
-    if deep {
+    if too_deep {
         return Err(SpecFault {
             code: Code::TooDeep,
             line: rule.line,
@@ -118,17 +117,17 @@ fn check_pattern(
 // The pattern, with what it reaches.
 pub(crate) fn read_expression(
     alloc: Global,
-    basis: &Basis,
+    symbols: &SymbolTable,
     rule: &RawRule,
     is_last: bool,
 ) -> Result<Pattern, SpecFault>
-    requires { IsBasis basis.now }
-    ensures checked { Checked (ground_view basis.now) (case_of (raw_view rule.now) is_last plain.reading ∷ case_of (raw_view rule.now) is_last plain.undefined ∷ case_of (raw_view rule.now) is_last plain.depth ∷ []) result }
+    requires { IsSymbolTable symbols.now }
+    ensures checked { Checked (symbols_view symbols.now) (case_of (raw_rule_view rule.now) is_last plain.reading ∷ case_of (raw_rule_view rule.now) is_last plain.undefined ∷ case_of (raw_rule_view rule.now) is_last plain.depth ∷ []) result }
     ensures reading { IfOk result (λ p. IsPattern rule.now.pattern.now (reading_of p)) }
 {
     match read_pattern(alloc, rule.pattern) {
         Ok(pattern) => {
-            check_pattern(alloc, basis, rule, &pattern, is_last)?;
+            check_pattern(alloc, symbols, rule, &pattern, is_last)?;
             Ok(pattern)
         }
         Err(EreFault::NoReading) => Err(SpecFault {
@@ -145,11 +144,11 @@ pub(crate) fn read_expression(
 // The action has a form.
 pub(crate) fn read_whole_action<'r>(
     alloc: Global,
-    basis: &Basis,
+    symbols: &SymbolTable,
     rule: &'r RawRule,
     is_last: bool,
 ) -> Result<Action<'r>, SpecFault>
-    ensures checked { Checked (ground_view basis.now) (case_of (raw_view rule.now) is_last plain.action_form ∷ []) result }
+    ensures checked { Checked (symbols_view symbols.now) (case_of (raw_rule_view rule.now) is_last plain.action_form ∷ []) result }
     ensures action { IfOk result (λ a. IsAction rule.now.action.items (action_view a)) }
 {
     match read_action(alloc, &rule.action)? {
@@ -161,38 +160,40 @@ pub(crate) fn read_whole_action<'r>(
     }
 }
 
-fn begins_declared(states: &[State], statement: Statement) -> bool
-    requires { 0 < length states.now }
-    ensures { result ≡ begin_is_declared (map state_view states.now) (statement_view statement.entry) }
+fn begins_declared(start_conditions: &[StartCondition], statement: Statement) -> bool
+    requires { 0 < length start_conditions.now }
+    ensures { result ≡ begin_is_declared (map start_condition_view start_conditions.now) (statement_view statement.entry) }
 {
     match statement {
-        Statement::Begin(name) => condition_number(states, name).is_some(),
+        Statement::Begin(name) => condition_number(start_conditions, name).is_some(),
         _ => true,
     }
 }
 
-fn all_begin_declared(states: &[State], statements: &[Statement]) -> bool
-    requires { 0 < length states.now }
-    ensures { result ≡ list_all (λ s. begin_is_declared (map state_view states.now) (statement_view s)) statements.now }
+fn all_begin_declared(start_conditions: &[StartCondition], statements: &[Statement]) -> bool
+    requires { 0 < length start_conditions.now }
+    ensures { result ≡ list_all (λ s. begin_is_declared (map start_condition_view start_conditions.now) (statement_view s)) statements.now }
 {
-    statements.iter().all(|s| begins_declared(states, *s))
+    statements
+        .iter()
+        .all(|s| begins_declared(start_conditions, *s))
 }
 
 // The conditions that the action begins are declared.
 pub(crate) fn check_begins(
-    basis: &Basis,
+    symbols: &SymbolTable,
     rule: &RawRule,
     action: &Action,
     is_last: bool,
 ) -> Result<(), SpecFault>
-    requires basis { IsBasis basis.now }
+    requires symbols { IsSymbolTable symbols.now }
     requires action { IsAction rule.now.action.items (action_view action.now) }
-    ensures { Checked (ground_view basis.now) (case_of (raw_view rule.now) is_last plain.begin_name ∷ []) result }
+    ensures { Checked (symbols_view symbols.now) (case_of (raw_rule_view rule.now) is_last plain.begin_name ∷ []) result }
 {
     match action {
         Action::Shared => Ok(()),
         Action::Own(statements) => {
-            if all_begin_declared(basis.states, statements) {
+            if all_begin_declared(symbols.start_conditions, statements) {
                 Ok(())
             } else {
                 Err(SpecFault {
@@ -206,13 +207,13 @@ pub(crate) fn check_begins(
 
 // A rule follows one whose action is that of the next.
 pub(crate) fn check_next(
-    basis: &Basis,
+    symbols: &SymbolTable,
     rule: &RawRule,
     action: &Action,
     is_last: bool,
 ) -> Result<(), SpecFault>
     requires { IsAction rule.now.action.items (action_view action.now) }
-    ensures { Checked (ground_view basis.now) (case_of (raw_view rule.now) is_last plain.no_next ∷ []) result }
+    ensures { Checked (symbols_view symbols.now) (case_of (raw_rule_view rule.now) is_last plain.no_next ∷ []) result }
 {
     match action {
         Action::Shared => if is_last {

@@ -1,17 +1,14 @@
 // What the definitions read as, and which mentions which.
-ghost use Rattle.std.specs.Prelude.{◌≡◌, ℕ, ◌+◌, ◌<◌, ◌≤◌, ◌∷◌, ◌++◌, [], List, Bool, Some, None, Ok, Err, not, map, length, take, nat_eq, IfOk, IfSome, OnOk, IfErr, vec_len};
-ghost use Rattle.std.specs.List.{position};
-ghost use Rattle.std.specs.Cmp.Lexicographic.{pointwise};
+ghost use Rattle.std.specs.Prelude.{◌≡◌, ◌<◌, ◌++◌, Some, None, Ok, Err, map, length, IfOk, OnOk};
 ghost use Rattle.lx_ere.specs.Regex.{regex_of};
 ghost use Rattle.lx_spec.specs.Dictionary as plain;
 ghost use Rattle.lx_spec.specs.Dictionary.{row_of, all_defined};
-ghost use Rattle.lx_spec.specs.SheetViews.{named_view};
-ghost use Rattle.lx_spec.specs.TreeViews.{tree_view};
-ghost use Rattle.lx_spec.specs.DictionaryViews.{dictionary_view, AddsTree, IsDictionary};
+ghost use Rattle.lx_spec.specs.views.Sections.{raw_definition_view};
+ghost use Rattle.lx_spec.specs.views.Trees.{tree_view};
+ghost use Rattle.lx_spec.specs.views.Dictionaries.{dictionary_view, AddsTree, IsDictionary};
 
-use crate::fault::SpecFault;
+use crate::definition_index::DefinitionIndex;
 use crate::graph::Mention;
-use crate::index::Index;
 use lx_ere::expr::Expr;
 use lx_ere::fault::EreFault;
 use lx_ere::read::read_substitute;
@@ -28,9 +25,13 @@ pub struct Dictionary {
 
 /// Adds the numbers of the definitions that an expression names, and says whether each name in it is defined.
 #[tactic(auto, using(crate::proofs::Rows::row_steps))]
-pub(crate) fn push_row(index: &Index, expr: &Expr, row: &mut Vec<usize>) -> Result<bool, AllocError>
-    ensures row { OnOk result (row.new.items ≡ row.old.items ++ row_of (map named_view index.now.named.now) (regex_of expr.now)) }
-    ensures all { IfOk result (λ all. all ≡ all_defined (map named_view index.now.named.now) (regex_of expr.now)) }
+pub(crate) fn push_row(
+    index: &DefinitionIndex,
+    expr: &Expr,
+    row: &mut Vec<usize>,
+) -> Result<bool, AllocError>
+    ensures row { OnOk result (row.new.items ≡ row.old.items ++ row_of (map raw_definition_view index.now.definitions.now) (regex_of expr.now)) }
+    ensures all { IfOk result (λ all. all ≡ all_defined (map raw_definition_view index.now.definitions.now) (regex_of expr.now)) }
 {
     match expr {
         Expr::Nil | Expr::Set(_) => Ok(true),
@@ -64,11 +65,11 @@ fn read_tree(alloc: Global, substitute: &[u8]) -> Result<Option<Expr>, AllocErro
 // The numbers of the definitions that a tree names, and whether it names what isn't defined.
 fn row_in(
     alloc: Global,
-    index: &Index,
+    index: &DefinitionIndex,
     tree: &Option<Expr>,
 ) -> Result<(Vec<usize>, bool), AllocError>
-    ensures row { IfOk result (λ r. r.0.items ≡ plain.row_in (map named_view index.now.named.now) (tree_view tree.now)) }
-    ensures incomplete { IfOk result (λ r. r.1 ≡ plain.is_incomplete (map named_view index.now.named.now) (tree_view tree.now)) }
+    ensures row { IfOk result (λ r. r.0.items ≡ plain.row_in (map raw_definition_view index.now.definitions.now) (tree_view tree.now)) }
+    ensures incomplete { IfOk result (λ r. r.1 ≡ plain.is_incomplete (map raw_definition_view index.now.definitions.now) (tree_view tree.now)) }
 {
     let mut row = Vec::new(alloc);
     match tree {
@@ -93,19 +94,19 @@ fn push_mentions(i: usize, row: &[usize], mentions: &mut Vec<Mention>) -> Result
 // Adds what definition i reads as and mentions.
 fn with_definition(
     alloc: Global,
-    index: &Index,
+    index: &DefinitionIndex,
     dictionary: Dictionary,
     i: usize,
 ) -> Result<Dictionary, AllocError>
-    requires { i < length index.now.named.now }
-    ensures { IfOk result (λ d. AddsTree (map named_view index.now.named.now) i (dictionary_view dictionary) (dictionary_view d)) }
+    requires { i < length index.now.definitions.now }
+    ensures { IfOk result (λ d. AddsTree (map raw_definition_view index.now.definitions.now) i (dictionary_view dictionary) (dictionary_view d)) }
 {
     let Dictionary {
         mut trees,
         mut mentions,
         mut incomplete,
     } = dictionary;
-    let tree = read_tree(alloc, index.named[i].substitute)?;
+    let tree = read_tree(alloc, index.definitions[i].substitute)?;
     let (row, lacks) = row_in(alloc, index, &tree)?;
     push_mentions(i, &row, &mut mentions)?;
     incomplete.push(lacks)?;
@@ -118,15 +119,18 @@ fn with_definition(
 }
 
 /// Reads each definition once.
-pub(crate) fn read_dictionary(alloc: Global, index: &Index) -> Result<Dictionary, AllocError>
-    ensures { IfOk result (λ d. IsDictionary (map named_view index.now.named.now) (dictionary_view d)) }
+pub(crate) fn read_dictionary(
+    alloc: Global,
+    index: &DefinitionIndex,
+) -> Result<Dictionary, AllocError>
+    ensures { IfOk result (λ d. IsDictionary (map raw_definition_view index.now.definitions.now) (dictionary_view d)) }
 {
     let mut dictionary = Dictionary {
         trees: Vec::new(alloc),
         mentions: Vec::new(alloc),
         incomplete: Vec::new(alloc),
     };
-    for i in 0..index.named.len() {
+    for i in 0..index.definitions.len() {
         dictionary = with_definition(alloc, index, dictionary, i)?;
     }
     Ok(dictionary)

@@ -1,6 +1,6 @@
 // Why a specification isn't read.
 ghost use Rattle.std.specs.Prelude.{◌≡◌};
-ghost use Rattle.lx_spec.specs.declared.fault.Code.TheVariants.{Memory};
+ghost use Rattle.lx_spec.specs.Faults.{out_of_memory};
 
 use std::alloc::{AllocError, AllocFailed};
 use thiserror::Error;
@@ -58,7 +58,7 @@ pub struct SpecFault {
 }
 
 impl From<AllocError> for SpecFault {
-    ghost from_gives = { λ _ e. e.code ≡ Memory };
+    ghost from_gives = { λ _ e. e ≡ out_of_memory };
 
     fn from(_e: AllocError) -> SpecFault {
         SpecFault {
@@ -69,7 +69,7 @@ impl From<AllocError> for SpecFault {
 }
 
 impl<T: Drop> From<AllocFailed<T>> for SpecFault {
-    ghost from_gives = { λ _ e. e.code ≡ Memory };
+    ghost from_gives = { λ _ e. e ≡ out_of_memory };
 
     fn from(_e: AllocFailed<T>) -> SpecFault {
         SpecFault {

@@ -3,11 +3,11 @@ ghost use Rattle.std.specs.Prelude.{◌≡◌, ◌+◌, ◌≤◌, ℕ, List, []
 ghost use Rattle.std.specs.Cmp.Lexicographic.{pointwise};
 ghost use Rattle.std.specs.List.{position};
 ghost use Rattle.lx_spec.specs.Actions.{name};
-ghost use Rattle.lx_spec.specs.IndexViews.{number_at};
+ghost use Rattle.lx_spec.specs.views.NameTables.{number_at};
 ghost use Rattle.lx_spec.specs.Outcome.{with_kind};
-ghost use Rattle.lx_spec.specs.RuleViews.{names_view};
+ghost use Rattle.lx_spec.specs.views.Rules.{names_view};
 
-use crate::index::add_number;
+use crate::name_table::add_number;
 use std::alloc::{AllocError, Global};
 use std::collections::BTreeMap;
 

@@ -3,7 +3,6 @@
 #![tactic(auto)]
 
 pub mod action;
-pub mod basis;
 pub mod block;
 pub mod build;
 pub mod bytes;
@@ -11,23 +10,25 @@ pub mod check;
 pub mod condition;
 pub mod constant;
 pub mod definition;
+pub mod definition_faults;
+pub mod definition_index;
 pub mod dictionary;
 pub mod fault;
 pub mod graph;
-pub mod index;
 pub mod kind_index;
 pub mod line;
-pub mod outlook;
+pub mod name_table;
+pub mod parsed_sections;
 pub mod prefix;
 pub mod reach;
 pub mod read;
+pub mod resolved_rule;
+pub mod returned_value;
 pub mod rule;
 pub mod rule_line;
-pub mod said;
 pub mod section;
-pub mod sheet;
-pub mod small;
 pub mod spec;
+pub mod symbol_table;
 #[cfg(test)]
 mod tests;
 pub mod word;

@@ -4,7 +4,7 @@ ghost use Rattle.std.specs.List.{list_all, prefix_len};
 ghost use Rattle.std.specs.Option.{option_map};
 ghost use Rattle.lx_spec.specs.Bytes as bytes;
 ghost use Rattle.lx_spec.specs.Lines as plain;
-ghost use Rattle.lx_spec.specs.LineViews.{line_view};
+ghost use Rattle.lx_spec.specs.views.Lines.{line_view};
 
 use crate::bytes::{
     alphanumeric_len, begins_with, blanks_len, has_pair, is_blank, is_digit, is_identifier,

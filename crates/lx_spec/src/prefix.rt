@@ -1,14 +1,14 @@
 // The conditions that a rule names (XCU `lex`, "Regular Expressions in lex": `<state>`).
-ghost use Rattle.std.specs.Prelude.{◌≡◌, ℕ, ◌<◌, ◌≤◌, ◌++◌, ◌∷◌, [], MatchOption, List, length, map, nat_eq, is_some, IfOk, IfSome};
+ghost use Rattle.std.specs.Prelude.{◌≡◌, ◌<◌, ◌≤◌, ◌∷◌, [], MatchOption, length, map, nat_eq, is_some, IfOk, IfSome};
 ghost use Rattle.std.specs.List.{list_all, prefix_len, position};
 ghost use Rattle.std.specs.Cmp.Lexicographic.{pointwise};
 ghost use Rattle.lx_spec.specs.Actions.{is_condition_name as names_condition};
 ghost use Rattle.lx_spec.specs.Verdict as plain;
-ghost use Rattle.lx_spec.specs.SheetViews.{state_view};
-ghost use Rattle.lx_spec.specs.FieldViews.{texts_of};
+ghost use Rattle.lx_spec.specs.views.Sections.{start_condition_view};
+ghost use Rattle.lx_spec.specs.views.Fields.{texts_of};
 
 use crate::action::is_condition_name;
-use crate::sheet::State;
+use crate::parsed_sections::StartCondition;
 use std::alloc::{AllocError, Global};
 
 fn field_len(text: &[u8]) -> usize
@@ -52,11 +52,11 @@ pub(crate) fn are_condition_names(fields: &[&[u8]]) -> bool
     fields.iter().all(|f| is_condition_name(*f))
 }
 
-fn place_in(states: &[State], name: &[u8]) -> Option<usize>
-    ensures place { result ≡ position (λ s. pointwise nat_eq s.name.now name.now) states.now }
-    ensures within { IfSome result (λ i. i < length states.now) }
+fn place_in(start_conditions: &[StartCondition], name: &[u8]) -> Option<usize>
+    ensures place { result ≡ position (λ s. pointwise nat_eq s.name.now name.now) start_conditions.now }
+    ensures within { IfSome result (λ i. i < length start_conditions.now) }
 {
-    states.iter().position(|s| s.name == name)
+    start_conditions.iter().position(|s| s.name == name)
 }
 
 fn is_zero(name: &[u8]) -> bool
@@ -66,29 +66,31 @@ fn is_zero(name: &[u8]) -> bool
 }
 
 /// The number of the condition with this name, where `0` is `INITIAL`.
-pub(crate) fn condition_number(states: &[State], name: &[u8]) -> Option<usize>
-    requires { 0 < length states.now }
-    ensures number { result ≡ plain.condition_number (map state_view states.now) name.now }
-    ensures within { IfSome result (λ i. i < length states.now) }
+pub(crate) fn condition_number(start_conditions: &[StartCondition], name: &[u8]) -> Option<usize>
+    requires { 0 < length start_conditions.now }
+    ensures number { result ≡ plain.condition_number (map start_condition_view start_conditions.now) name.now }
+    ensures within { IfSome result (λ i. i < length start_conditions.now) }
 {
     if is_zero(name) {
         Some(0)
     } else {
-        place_in(states, name)
+        place_in(start_conditions, name)
     }
 }
 
-fn is_declared(states: &[State], name: &[u8]) -> bool
-    requires { 0 < length states.now }
-    ensures { result ≡ is_some (plain.condition_number (map state_view states.now) name.now) }
+fn is_declared(start_conditions: &[StartCondition], name: &[u8]) -> bool
+    requires { 0 < length start_conditions.now }
+    ensures { result ≡ is_some (plain.condition_number (map start_condition_view start_conditions.now) name.now) }
 {
-    condition_number(states, name).is_some()
+    condition_number(start_conditions, name).is_some()
 }
 
 /// Whether each of the texts names a condition that is declared.
-pub(crate) fn are_declared(states: &[State], names: &[&[u8]]) -> bool
-    requires { 0 < length states.now }
-    ensures { result ≡ list_all (λ f. is_some (plain.condition_number (map state_view states.now) f.now)) names.now }
+pub(crate) fn are_declared(start_conditions: &[StartCondition], names: &[&[u8]]) -> bool
+    requires { 0 < length start_conditions.now }
+    ensures { result ≡ list_all (λ f. is_some (plain.condition_number (map start_condition_view start_conditions.now) f.now)) names.now }
 {
-    names.iter().all(|name| is_declared(states, *name))
+    names
+        .iter()
+        .all(|name| is_declared(start_conditions, *name))
 }

@@ -3,31 +3,35 @@ ghost use Rattle.std.specs.Prelude.{◌≡◌, ℕ, suc, ◌<◌, ◌≤◌, ◌
 ghost use Rattle.std.specs.List.{flat_map};
 ghost use Rattle.lx_ere.specs.Regex.{Regex};
 ghost use Rattle.lx_spec.specs.Dictionary.{row_of, mention_of, is_unreadable, unreadable_marks};
-ghost use Rattle.lx_spec.specs.DictionaryViews.{dictionary_view, IsDictionary};
+ghost use Rattle.lx_spec.specs.views.Dictionaries.{dictionary_view, IsDictionary};
 ghost use Rattle.lx_spec.specs.Graph.{is_marked};
 ghost use Rattle.lx_spec.specs.Outcome.{IsReached, AreReached, patterns_in};
-ghost use Rattle.lx_spec.specs.RuleViews.{definition_view};
-ghost use Rattle.lx_spec.specs.SaidViews.{said_view};
+ghost use Rattle.lx_spec.specs.views.Rules.{definition_view};
+ghost use Rattle.lx_spec.specs.views.ResolvedRules.{resolved_view};
 ghost use Rattle.lx_spec.specs.Sections as plain;
-ghost use Rattle.lx_spec.specs.SheetViews.{named_view};
-ghost use Rattle.lx_spec.specs.TreeViews.{tree_view, trees_view};
+ghost use Rattle.lx_spec.specs.views.Sections.{raw_definition_view};
+ghost use Rattle.lx_spec.specs.views.Trees.{tree_view, trees_view};
 
 use crate::definition::Definition;
+use crate::definition_index::DefinitionIndex;
 use crate::dictionary::{Dictionary, push_row};
 use crate::graph::{Mention, spread};
-use crate::index::Index;
-use crate::said::ReadRule;
-use crate::sheet::Named;
+use crate::parsed_sections::RawDefinition;
+use crate::resolved_rule::ResolvedRule;
 use lx_ere::expr::Expr;
 use std::alloc::{AllocError, Global};
 
 // The numbers of the definitions that the patterns of rules name.
-fn row_of_all(alloc: Global, index: &Index, read: &[ReadRule]) -> Result<Vec<usize>, AllocError>
-    ensures { IfOk result (λ row. row.items ≡ flat_map (row_of (map named_view index.now.named.now)) (patterns_in (map said_view read.now))) }
+fn row_of_all(
+    alloc: Global,
+    index: &DefinitionIndex,
+    resolved: &[ResolvedRule],
+) -> Result<Vec<usize>, AllocError>
+    ensures { IfOk result (λ row. row.items ≡ flat_map (row_of (map raw_definition_view index.now.definitions.now)) (patterns_in (map resolved_view resolved.now))) }
 {
     let mut row = Vec::new(alloc);
-    for i in 0..read.len() {
-        push_row(index, &read[i].pattern.expr, &mut row)?;
+    for i in 0..resolved.len() {
+        push_row(index, &resolved[i].pattern.expr, &mut row)?;
     }
     Ok(row)
 }
@@ -62,39 +66,39 @@ fn marks_at(alloc: Global, count: usize, numbers: &[usize]) -> Result<Vec<bool>,
 // Marks each definition that rules reach.
 fn reached_of(
     alloc: Global,
-    index: &Index,
+    index: &DefinitionIndex,
     dictionary: &Dictionary,
-    read: &[ReadRule],
+    resolved: &[ResolvedRule],
 ) -> Result<Vec<bool>, AllocError>
-    requires { IsDictionary (map named_view index.now.named.now) (dictionary_view dictionary.now) }
-    ensures len { IfOk result (λ marks. vec_len marks ≡ length index.now.named.now) }
-    ensures reached { IfOk result (λ marks. (i : ℕ) → IsTrue (is_marked marks.items i) ↔ IsReached (map named_view index.now.named.now) (trees_view dictionary.now.trees.items) (patterns_in (map said_view read.now)) i) }
+    requires { IsDictionary (map raw_definition_view index.now.definitions.now) (dictionary_view dictionary.now) }
+    ensures len { IfOk result (λ marks. vec_len marks ≡ length index.now.definitions.now) }
+    ensures reached { IfOk result (λ marks. (i : ℕ) → IsTrue (is_marked marks.items i) ↔ IsReached (map raw_definition_view index.now.definitions.now) (trees_view dictionary.now.trees.items) (patterns_in (map resolved_view resolved.now)) i) }
 {
-    let row = row_of_all(alloc, index, read)?;
+    let row = row_of_all(alloc, index, resolved)?;
     let turned = turned(alloc, &dictionary.mentions)?;
-    let marks = marks_at(alloc, index.named.len(), &row)?;
+    let marks = marks_at(alloc, index.definitions.len(), &row)?;
     spread(alloc, &turned, marks)
 }
 
 // Adds definition i where it is marked; the definitions stand in the other order.
 fn push_marked(
     alloc: Global,
-    named: &[Named],
+    raw_definitions: &[RawDefinition],
     marks: &[bool],
     i: usize,
     tree: Option<Expr>,
     backwards: &mut Vec<Definition>,
 ) -> Result<(), AllocError>
-    requires named { i < length named.now }
+    requires raw_definitions { i < length raw_definitions.now }
     requires marks { i < length marks.now }
     requires readable { IsTrue (is_marked marks.now i) → is_unreadable (tree_view tree) ≡ false }
-    ensures { OnOk result ((d : plain.Named) → slice_get (map named_view named.now) i ≡ Some d → (more : List plain.Named) (trees : List (Option Regex)) →
+    ensures { OnOk result ((d : plain.RawDefinition) → slice_get (map raw_definition_view raw_definitions.now) i ≡ Some d → (more : List plain.RawDefinition) (trees : List (Option Regex)) →
         AreReached (λ j. IsTrue (is_marked marks.now j)) (suc i) more trees (map definition_view (reverse backwards.old.items)) →
         AreReached (λ j. IsTrue (is_marked marks.now j)) i (d ∷ more) (tree_view tree ∷ trees) (map definition_view (reverse backwards.new.items))) }
 {
     if marks[i] {
         if let Some(expr) = tree {
-            let name = Vec::from_slice(alloc, named[i].name)?;
+            let name = Vec::from_slice(alloc, raw_definitions[i].name)?;
             backwards.push(Definition { name, expr })?;
         }
     }
@@ -104,19 +108,26 @@ fn push_marked(
 // The definitions that are marked, in the order of the text.
 fn marked_of(
     alloc: Global,
-    named: &[Named],
+    raw_definitions: &[RawDefinition],
     marks: &[bool],
     trees: Vec<Option<Expr>>,
 ) -> Result<Vec<Definition>, AllocError>
-    requires trees { vec_len trees ≡ length named.now }
-    requires marks { length marks.now ≡ length named.now }
+    requires trees { vec_len trees ≡ length raw_definitions.now }
+    requires marks { length marks.now ≡ length raw_definitions.now }
     requires readable { (i : ℕ) → IsTrue (is_marked marks.now i) → is_marked (unreadable_marks (trees_view trees.items)) i ≡ false }
-    ensures { IfOk result (λ v. AreReached (λ j. IsTrue (is_marked marks.now j)) 0 (map named_view named.now) (trees_view trees.items) (map definition_view v.items)) }
+    ensures { IfOk result (λ v. AreReached (λ j. IsTrue (is_marked marks.now j)) 0 (map raw_definition_view raw_definitions.now) (trees_view trees.items) (map definition_view v.items)) }
 {
     let mut rest = trees;
     let mut definitions = Vec::new(alloc);
     while let Some(tree) = rest.pop() {
-        push_marked(alloc, named, marks, rest.len(), tree, &mut definitions)?;
+        push_marked(
+            alloc,
+            raw_definitions,
+            marks,
+            rest.len(),
+            tree,
+            &mut definitions,
+        )?;
     }
     definitions.reverse();
     Ok(definitions)
@@ -125,20 +136,20 @@ fn marked_of(
 /// The definitions that rules reach, in the order of the text.
 pub(crate) fn definitions_of(
     alloc: Global,
-    index: &Index,
+    index: &DefinitionIndex,
     dictionary: Dictionary,
-    read: &[ReadRule],
+    resolved: &[ResolvedRule],
 ) -> Result<Vec<Definition>, AllocError>
-    requires dictionary { IsDictionary (map named_view index.now.named.now) (dictionary_view dictionary) }
-    requires readable { (i : ℕ) → IsReached (map named_view index.now.named.now) (trees_view dictionary.trees.items) (patterns_in (map said_view read.now)) i → is_marked (unreadable_marks (trees_view dictionary.trees.items)) i ≡ false }
-    ensures definitions { IfOk result (λ v. AreReached (IsReached (map named_view index.now.named.now) (trees_view dictionary.trees.items) (patterns_in (map said_view read.now))) 0 (map named_view index.now.named.now) (trees_view dictionary.trees.items) (map definition_view v.items)) }
-    ensures few { IfOk result (λ v. vec_len v ≤ length index.now.named.now) }
+    requires dictionary { IsDictionary (map raw_definition_view index.now.definitions.now) (dictionary_view dictionary) }
+    requires readable { (i : ℕ) → IsReached (map raw_definition_view index.now.definitions.now) (trees_view dictionary.trees.items) (patterns_in (map resolved_view resolved.now)) i → is_marked (unreadable_marks (trees_view dictionary.trees.items)) i ≡ false }
+    ensures definitions { IfOk result (λ v. AreReached (IsReached (map raw_definition_view index.now.definitions.now) (trees_view dictionary.trees.items) (patterns_in (map resolved_view resolved.now))) 0 (map raw_definition_view index.now.definitions.now) (trees_view dictionary.trees.items) (map definition_view v.items)) }
+    ensures few { IfOk result (λ v. vec_len v ≤ length index.now.definitions.now) }
 {
-    let marks = reached_of(alloc, index, &dictionary, read)?;
+    let marks = reached_of(alloc, index, &dictionary, resolved)?;
     let Dictionary {
         trees,
         mentions: _,
         incomplete: _,
     } = dictionary;
-    marked_of(alloc, index.named, &marks, trees)
+    marked_of(alloc, index.definitions, &marks, trees)
 }

@@ -1,75 +1,79 @@
 // Specifications, read whole.
 ghost use Rattle.std.specs.Prelude.{◌≡◌, ◌≢◌, ℕ, List, Option, map, IfOk, IfErr};
 ghost use Rattle.lx_ere.specs.Regex.{Regex};
+ghost use Rattle.lx_spec.specs.Plain.{PlainSpec};
 ghost use Rattle.lx_spec.specs.Dictionary.{AreTrees};
-ghost use Rattle.lx_spec.specs.DictionaryViews.{dictionary_view, IsDictionary};
+ghost use Rattle.lx_spec.specs.views.Dictionaries.{dictionary_view, IsDictionary};
+ghost use Rattle.lx_spec.specs.Faults.{out_of_memory};
 ghost use Rattle.lx_spec.specs.First.{HoldsOfNone};
-ghost use Rattle.lx_spec.specs.Outcome.{AreSaid, PlainSpec};
+ghost use Rattle.lx_spec.specs.Invariant.{IsWellFormed};
+ghost use Rattle.lx_spec.specs.Outcome.{AreResolved};
 ghost use Rattle.lx_spec.specs.RuleLines.{EndsPatterns};
-ghost use Rattle.lx_spec.specs.SaidViews.{said_view};
-ghost use Rattle.lx_spec.specs.SheetViews.{sheet_view};
-ghost use Rattle.lx_spec.specs.SpecViews.{spec_view};
-ghost use Rattle.lx_spec.specs.TreeViews.{trees_view};
+ghost use Rattle.lx_spec.specs.views.ResolvedRules.{resolved_view};
+ghost use Rattle.lx_spec.specs.views.Sections.{sections_view};
+ghost use Rattle.lx_spec.specs.views.Specs.{spec_view};
+ghost use Rattle.lx_spec.specs.views.Trees.{trees_view};
 ghost use Rattle.lx_spec.specs.Verdict.{Holds, IsFirstFault, cases};
-ghost use Rattle.lx_spec.specs.Whole.{IsFault, IsRead, ground_of};
+ghost use Rattle.lx_spec.specs.Whole.{IsFault, IsRead, symbols_of};
 
-use crate::basis::Basis;
 use crate::build::spec_of;
+use crate::definition_faults::definition_faults_of;
+use crate::definition_index::{DefinitionIndex, definition_index_of};
 use crate::dictionary::{Dictionary, read_dictionary};
 use crate::fault::{Code, SpecFault};
-use crate::index::{Index, index_of};
-use crate::outlook::outlook_of;
-use crate::said::{ReadRule, read_rules};
+use crate::parsed_sections::ParsedSections;
+use crate::resolved_rule::{ResolvedRule, resolve_rules};
 use crate::section::read_sections;
-use crate::sheet::Sheet;
 use crate::spec::Spec;
+use crate::symbol_table::SymbolTable;
 use lx_ere::extent::{one_pattern_end, some_pattern_end};
 use lx_ere::read::{one_reading, one_substitute};
 use std::alloc::Global;
 
 // What the definitions read as and what the rules say, or the first fault of the rules.
-fn read_sheet<'r, 't>(
+fn resolve_sections<'r, 't>(
     alloc: Global,
-    sheet: &'r Sheet<'t>,
-    index: &'r Index<'r, 't>,
-) -> Result<(Dictionary, Vec<ReadRule<'r>>), SpecFault>
-    requires { index.now.named.now ≡ sheet.now.names.items }
-    ensures fault { IfErr result (λ f. f.code ≢ Code.Memory → (trees : List (Option Regex)) × AreTrees (sheet_view sheet.now).names trees × IsFirstFault (ground_of (sheet_view sheet.now) trees) (cases (sheet_view sheet.now).rules) f) }
-    ensures dictionary { IfOk result (λ r. IsDictionary (sheet_view sheet.now).names (dictionary_view r.0)) }
-    ensures clean { IfOk result (λ r. HoldsOfNone (Holds (ground_of (sheet_view sheet.now) (trees_view r.0.trees.items))) (cases (sheet_view sheet.now).rules)) }
-    ensures says { IfOk result (λ r. AreSaid (sheet_view sheet.now).states (sheet_view sheet.now).rules (map said_view r.1.items)) }
+    sections: &'r ParsedSections<'t>,
+    index: &'r DefinitionIndex<'r, 't>,
+) -> Result<(Dictionary, Vec<ResolvedRule<'r>>), SpecFault>
+    requires { index.now.definitions.now ≡ sections.now.definitions.items }
+    ensures fault { IfErr result (λ f. f ≢ out_of_memory → (trees : List (Option Regex)) × AreTrees (sections_view sections.now).definitions trees × IsFirstFault (symbols_of (sections_view sections.now) trees) (cases (sections_view sections.now).rules) f) }
+    ensures dictionary { IfOk result (λ r. IsDictionary (sections_view sections.now).definitions (dictionary_view r.0)) }
+    ensures clean { IfOk result (λ r. HoldsOfNone (Holds (symbols_of (sections_view sections.now) (trees_view r.0.trees.items))) (cases (sections_view sections.now).rules)) }
+    ensures resolves { IfOk result (λ r. AreResolved (sections_view sections.now).start_conditions (sections_view sections.now).rules (map resolved_view r.1.items)) }
 {
     let dictionary = read_dictionary(alloc, index)?;
-    let outlook = outlook_of(alloc, &dictionary)?;
-    let basis = Basis {
-        states: &sheet.states,
+    let faults = definition_faults_of(alloc, &dictionary)?;
+    let symbols = SymbolTable {
+        start_conditions: &sections.start_conditions,
         index,
         dictionary: &dictionary,
-        outlook: &outlook,
+        faults: &faults,
     };
-    let read = read_rules(alloc, &basis, &sheet.rules)?;
-    Ok((dictionary, read))
+    let resolved = resolve_rules(alloc, &symbols, &sections.rules)?;
+    Ok((dictionary, resolved))
 }
 
 /// Reads a specification of `lex` (XCU `lex`, "Input Files"): what its sections declare, and what each of its rules says.
 ///
 /// It fails with the first fault of the text: those of the sections come first, in the order of the text, and then those of the
-/// rules, rule by rule. It fails with [`Code::Memory`] where memory was refused.
+/// rules, rule by rule. It fails with [`Code::Memory`], at line 0, where memory was refused.
 pub fn read_spec(alloc: Global, text: &[u8]) -> Result<Spec, SpecFault>
     ensures fault { (ends : List ℕ → ℕ) → EndsPatterns ends → IfErr result (λ f. f.code ≢ Code.Memory → IsFault ends text.now f) }
+    ensures memory { IfErr result (λ f. f.code ≡ Code.Memory → f.line ≡ 0) }
     ensures spec { (ends : List ℕ → ℕ) → EndsPatterns ends → IfOk result (λ s. IsRead ends text.now (spec_view s)) }
 {
+    some_pattern_end();
     if text.len() > 1048576 {
         return Err(SpecFault {
             code: Code::TooLong,
             line: 0,
         });
     }
-    let sheet = read_sections(alloc, text)?;
-    some_pattern_end();
-    let index = index_of(alloc, &sheet.names)?;
-    let (dictionary, read) = read_sheet(alloc, &sheet, &index)?;
-    let spec = spec_of(alloc, &sheet, &index, dictionary, read)?;
+    let sections = read_sections(alloc, text)?;
+    let index = definition_index_of(alloc, &sections.definitions)?;
+    let (dictionary, resolved) = resolve_sections(alloc, &sections, &index)?;
+    let spec = spec_of(alloc, &sections, &index, dictionary, resolved)?;
     Ok(spec)
 }
 
@@ -91,3 +95,8 @@ pub fn one_verdict()
     one_reading();
     one_substitute();
 }
+
+/// A law: what every specification keeps, over its plain values.
+pub fn specs_are_well_formed()
+    ensures { (spec : Spec) → IsWellFormed (spec_view spec) }
+{}

@@ -2,7 +2,7 @@
 ghost use Rattle.std.specs.Prelude.{◌≡◌, ℕ, ◌≤◌, List, length};
 ghost use Rattle.std.specs.List.{prefix_len};
 ghost use Rattle.lx_spec.specs.RuleLines as plain;
-ghost use Rattle.lx_spec.specs.RuleLineViews.{prefix_view, rule_line_view};
+ghost use Rattle.lx_spec.specs.views.RuleLines.{prefix_view, rule_line_view};
 
 use crate::bytes::{begins_with, blanks_len, is_blank};
 use lx_ere::extent::{one_pattern_end, pattern_end};

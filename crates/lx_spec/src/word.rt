@@ -5,8 +5,8 @@ ghost use Rattle.std.specs.Option.{option_map};
 ghost use Rattle.lx_spec.specs.Bytes as bytes;
 ghost use Rattle.lx_spec.specs.ActionWords as plain;
 ghost use Rattle.lx_spec.specs.ActionWords.{AreWords};
-ghost use Rattle.lx_spec.specs.WordViews.{word_view, words_view};
-ghost use Rattle.lx_spec.specs.PieceViews.{piece_view, LeavesLess};
+ghost use Rattle.lx_spec.specs.views.Words.{word_view, words_view};
+ghost use Rattle.lx_spec.specs.views.Pieces.{piece_view, LeavesLess};
 
 use crate::bytes::{begins_with, is_blank, is_word_byte, word_len};
 use crate::constant::constant_at;

@@ -16,4 +16,5 @@ pub mod SetLemmas
 pub mod SourceLemmas
 pub mod Steps
 pub mod TestPieces
+pub mod Viewed
 pub mod Weights

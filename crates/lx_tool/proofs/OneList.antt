@@ -2,9 +2,8 @@
 use Rattle.std.proofs.Common.{◌≡◌, ℕ, ◌+◌, ◌<◌, ◌≤◌, inl, inr, Bool, true, false, List, [], ◌∷◌, Option, Some, None, length, drop, refl, sym, ap, ap₂, subst, ◌∙◌, arith, if◌then◌else◌}
 use Rattle.std.specs.Prelude.{slice_get, flat_map}
 use Rattle.std.specs.Option.{option_map}
-use Rattle.lx_spec.specs.declared.rule.Rule.{Rule}
 use Rattle.lx_spec.specs.declared.rule.Step.{Step}
-use Rattle.lx_spec.specs.declared.spec.Spec.{Spec}
+use Rattle.lx_spec.specs.Plain.{PlainRule, PlainSpec}
 use Rattle.lx_spec.specs.Choice.{IsChoice, IsChosen, reach}
 use Rattle.lx_piece.specs.declared.item.Item.{Item}
 use Rattle.lx_tool.specs.declared.scanner.Place.{Place}
@@ -16,7 +15,7 @@ same_length : (b : Bool) (m n : ℕ) → (if b then m + 1 else m) ≡ (if b then
 same_length true m n e = omega (arith, e)
 same_length false m n e = e
 
-chosen_one : (spec : Spec) (condition : ℕ) (begin : Bool) (text : List ℕ) (i n j m : ℕ) → IsChosen spec condition begin text i n → IsChosen spec condition begin text j m → (i ≡ j) × (n ≡ m)
+chosen_one : (spec : PlainSpec) (condition : ℕ) (begin : Bool) (text : List ℕ) (i n j m : ℕ) → IsChosen spec condition begin text i n → IsChosen spec condition begin text j m → (i ≡ j) × (n ≡ m)
 chosen_one spec condition begin text i n j m a b =
     let one = a.longest j (b.rule) m (b.at) (b.fits) in
     let other = b.longest i (a.rule) n (a.at) (a.fits) in
@@ -26,14 +25,14 @@ chosen_one spec condition begin text i n j m a b =
     ] in
     let back : j ≤ i = elim other as (λ _. j ≤ i) [ inl more ↦ absurd (omega (arith, more, equal.0)) | inr same ↦ same.1 ] in
     let place : i ≡ j = (let forth : i ≤ j = equal.1 in omega arith) in
-    let at : slice_get spec.rules.items j ≡ Some (a.rule) = subst (λ (k : ℕ). slice_get spec.rules.items k ≡ Some (a.rule)) place (a.at) in
-    let there : slice_get spec.rules.items j ≡ Some (b.rule) = b.at in
+    let at : slice_get spec.rules j ≡ Some (a.rule) = subst (λ (k : ℕ). slice_get spec.rules k ≡ Some (a.rule)) place (a.at) in
+    let there : slice_get spec.rules j ≡ Some (b.rule) = b.at in
     let rule : b.rule ≡ a.rule = cc in
-    let reaches : reach (a.rule) m ≡ reach (a.rule) n = subst (λ (r : Rule). reach r m ≡ reach (a.rule) n) rule (equal.0) in
-    (place, sym (same_length (a.rule).pattern.line_end m n reaches))
+    let reaches : reach (a.rule) m ≡ reach (a.rule) n = subst (λ (r : PlainRule). reach r m ≡ reach (a.rule) n) rule (equal.0) in
+    (place, sym (same_length (a.rule).reading.line_end m n reaches))
 
 -- one choice
-pub choice_one : (spec : Spec) (condition : ℕ) (begin : Bool) (text : List ℕ) (x y : Option (ℕ × ℕ)) → IsChoice spec condition begin text x → IsChoice spec condition begin text y → x ≡ y
+pub choice_one : (spec : PlainSpec) (condition : ℕ) (begin : Bool) (text : List ℕ) (x y : Option (ℕ × ℕ)) → IsChoice spec condition begin text x → IsChoice spec condition begin text y → x ≡ y
 choice_one spec condition begin text None None a b = refl
 choice_one spec condition begin text None (Some g) a b = absurd (a (g.0) (b.rule) (g.1) (b.at) (b.fits))
 choice_one spec condition begin text (Some f) None a b = absurd (b (f.0) (a.rule) (f.1) (a.at) (a.fits))
@@ -73,7 +72,7 @@ module _ (Chooses : ℕ → Bool → List ℕ → Option (ℕ × ℕ) → Type 0
       let rest : Run Chooses actions text (place_after actions text from m) ns to' = subst (λ (x : Match). Run Chooses actions text (place_after actions text from x) ns to') (sym same) (b.1) in
       ap₂ (λ (x : Match) (xs : List Match). x ∷ xs) same (run_one actions text ms ns (place_after actions text from m) to to' (a.1) rest e f)
 
-pub items_one : (spec : Spec) (text : List ℕ) (xs ys : List Item) → AreItemsBy spec text xs → AreItemsBy spec text ys → xs ≡ ys
+pub items_one : (spec : PlainSpec) (text : List ℕ) (xs ys : List Item) → AreItemsBy spec text xs → AreItemsBy spec text ys → xs ≡ ys
 items_one spec text xs ys a b =
     let same : a.matches ≡ b.matches = run_one (IsChoice spec) (choice_one spec) (actions_of spec) text a.matches b.matches first_place a.end b.end a.run b.run a.whole b.whole in
     a.items_are ∙ ap (λ ms. flat_map (items_of_match (actions_of spec)) ms) same ∙ sym b.items_are

@@ -4,13 +4,13 @@ use Rattle.std.specs.Prelude.{slice_index_or}
 use Rattle.std.proofs.Math.ListN.{get_or-append}
 use Rattle.std.proofs.Math.Seq.{get_or-append_seam}
 use Rattle.std.proofs.lemmas.Bool.{cases_lt}
-use Rattle.lx_spec.specs.declared.spec.Spec.{Spec}
+use Rattle.lx_spec.specs.Plain.{PlainSpec}
 use Rattle.lx_piece.specs.declared.item.Item.{Item}
 use Rattle.lx_piece.specs.Items.{IsItemOf}
 use Rattle.lx_tool.specs.Items.{AreItemsBy}
-use Rattle.lx_tool.specs.Planning.{AreScanned, kinds_of}
+use Rattle.lx_tool.specs.Planning.{AreScanned}
 
-pub scanned_more : (spec : Spec) (texts : List (List ℕ)) (lists : List (List Item)) (text : List ℕ) (list : List Item) → AreScanned spec texts lists → AreItemsBy spec text list → All (IsItemOf (kinds_of spec) text) list →
+pub scanned_more : (spec : PlainSpec) (texts : List (List ℕ)) (lists : List (List Item)) (text : List ℕ) (list : List Item) → AreScanned spec texts lists → AreItemsBy spec text list → All (IsItemOf spec.kinds text) list →
     AreScanned spec (texts ++ text ∷ []) (lists ++ list ∷ [])
 scanned_more spec texts lists text list s items placed = record {
   long = rw (length-append lists (list ∷ []), length-append texts (text ∷ [])) (ap (λ (n : ℕ). n + 1) s.long);
@@ -22,7 +22,7 @@ scanned_more spec texts lists text list s items placed = record {
     Holds file = AreItemsBy spec (slice_index_or (texts ++ text ∷ []) file []) (slice_index_or (lists ++ list ∷ []) file [])
 
     Placed : ℕ → Type 0
-    Placed file = All (IsItemOf (kinds_of spec) (slice_index_or (texts ++ text ∷ []) file [])) (slice_index_or (lists ++ list ∷ []) file [])
+    Placed file = All (IsItemOf spec.kinds (slice_index_or (texts ++ text ∷ []) file [])) (slice_index_or (lists ++ list ∷ []) file [])
 
     here : (file : ℕ) → file < length (texts ++ text ∷ []) → length texts ≤ file → file ≡ length texts
     here file h above = let n : length (texts ++ text ∷ []) ≡ length texts + 1 = length-append texts (text ∷ []) in omega arith

@@ -1,6 +1,6 @@
 -- What the steps of a rule lead to: a condition and kinds that are there, and the place behind a match.
 use Rattle.std.proofs.Common.{◌≡◌, ℕ, zero, suc, ◌+◌, ◌-◌, ◌<◌, ◌≤◌, Bool, true, ◌&&◌, nat_eq, nat_lt, List, [], ◌∷◌, Option, Some, None, length, drop, map, All, refl, sym, ap, subst, arith, ltb-true, length-drop}
-use Rattle.std.specs.Prelude.{slice_get, slice_index, slice_index_or}
+use Rattle.std.specs.Prelude.{IsTrue, slice_get, slice_index, slice_index_or}
 use Rattle.std.specs.List.{list_all}
 use Rattle.std.specs.Option.{option_map, ForSome}
 use Rattle.std.proofs.lemmas.Bool.{and_parts, true≢false}
@@ -8,10 +8,9 @@ use Rattle.std.proofs.lemmas.List.Elements.{All-nil, All-cons}
 use Rattle.std.proofs.lemmas.Option.{slice_get_within}
 use Rattle.lx_spec.specs.declared.rule.Kind.{Kind}
 use Rattle.lx_spec.specs.declared.rule.Kind.TheVariants.{Name, Number}
-use Rattle.lx_spec.specs.declared.rule.Rule.{Rule}
 use Rattle.lx_spec.specs.declared.rule.Step.{Step}
 use Rattle.lx_spec.specs.declared.rule.Step.TheVariants.{Echo, Begin, Return}
-use Rattle.lx_spec.specs.declared.spec.Spec.{Spec}
+use Rattle.lx_spec.specs.Plain.{PlainRule, PlainSpec}
 use Rattle.lx_spec.specs.Choice.{IsChoice}
 use Rattle.lx_spec.specs.Invariant.{are_steps, is_kind, is_rule, are_conditions}
 use Rattle.lx_piece.specs.Items.{IsItemOf, IsKindAmong}
@@ -51,9 +50,9 @@ all_at test [] i x h at = absurd (let e : None ≡ Some x = at in cc)
 all_at test (y ∷ ys) zero x h at = let e : y ≡ x = cc in rw (← e) ((and_parts (test y) (list_all test ys) h).0)
 all_at test (y ∷ ys) (suc i) x h at = all_at test ys i x ((and_parts (test y) (list_all test ys) h).1) at
 
-action_at : (rules : List Rule) (i : ℕ) (rule : Rule) → slice_get rules i ≡ Some rule → slice_index_or (map (λ r. r.action.items) rules) i [] ≡ rule.action.items
+pub action_at : (rules : List PlainRule) (i : ℕ) (rule : PlainRule) → slice_get rules i ≡ Some rule → slice_index_or (map (λ r. r.steps) rules) i [] ≡ rule.steps
 action_at [] i rule at = absurd (let e : None ≡ Some rule = at in cc)
-action_at (r ∷ rules) zero rule at = let e : r ≡ rule = cc in ap (λ (x : Rule). x.action.items) e
+action_at (r ∷ rules) zero rule at = let e : r ≡ rule = cc in ap (λ (x : PlainRule). x.steps) e
 action_at (r ∷ rules) (suc i) rule at = action_at rules i rule at
 
 there_is : {X : Type 0} (xs : List X) (i : ℕ) → i < length xs → (x : X) × (slice_get xs i ≡ Some x)
@@ -61,33 +60,33 @@ there_is [] i h = absurd (omega arith)
 there_is (x ∷ xs) zero h = (x, refl)
 there_is (x ∷ xs) (suc i) h = there_is xs i (omega arith)
 
-pub steps_known : (spec : Spec) (rule : Option ℕ) → ForSome rule (λ i. i < length spec.rules.items) → are_steps (length spec.conditions.items) (length spec.kinds.items) (steps_of (actions_of spec) rule) ≡ true
-steps_known spec None h = refl
-steps_known spec (Some i) h =
-    let found = there_is (spec.rules.items) i (h i refl) in
-    let in_range : is_rule (length spec.conditions.items) (length spec.kinds.items) (found.0) ≡ true = all_at (is_rule (length spec.conditions.items) (length spec.kinds.items)) (spec.rules.items) i (found.0) (spec.rules_in_range) (found.1) in
-    let parts = and_parts (nat_lt 0 (found.0).line) (are_steps (length spec.conditions.items) (length spec.kinds.items) (found.0).action.items && are_conditions (length spec.conditions.items) (option_map (λ list. list.items) (found.0).conditions)) in_range in
-    rw (action_at (spec.rules.items) i (found.0) (found.1)) ((and_parts (are_steps (length spec.conditions.items) (length spec.kinds.items) (found.0).action.items) _ (parts.1)).0)
+pub steps_known : (spec : PlainSpec) (rule : Option ℕ) → IsTrue (list_all (is_rule (length spec.conditions) (length spec.kinds)) spec.rules) → ForSome rule (λ i. i < length spec.rules) → are_steps (length spec.conditions) (length spec.kinds) (steps_of (actions_of spec) rule) ≡ true
+steps_known spec None in_range h = refl
+steps_known spec (Some i) in_range h =
+    let found = there_is spec.rules i (h i refl) in
+    let this : is_rule (length spec.conditions) (length spec.kinds) (found.0) ≡ true = all_at (is_rule (length spec.conditions) (length spec.kinds)) spec.rules i (found.0) in_range (found.1) in
+    let parts = and_parts (nat_lt 0 (found.0).line) (are_steps (length spec.conditions) (length spec.kinds) (found.0).steps && are_conditions (length spec.conditions) (found.0).conditions) this in
+    rw (action_at spec.rules i (found.0) (found.1)) ((and_parts (are_steps (length spec.conditions) (length spec.kinds) (found.0).steps) _ (parts.1)).0)
 
 -- ---- a choice, and where it leads
-pub goes_on : (spec : Spec) (text : List ℕ) (place : Place) (rule : Option ℕ) (len condition : ℕ) → place.offset < length text → place.condition < length spec.conditions.items →
+pub goes_on : (spec : PlainSpec) (in_range : IsTrue (list_all (is_rule (length spec.conditions) (length spec.kinds)) spec.rules)) (text : List ℕ) (place : Place) (rule : Option ℕ) (len condition : ℕ) → place.offset < length text → place.condition < length spec.conditions →
     IsChoice spec place.condition place.at_line_begin (drop place.offset text) (option_map (λ i. (i, len)) rule) → (rule ≡ None → len ≡ 1) → condition ≡ condition_after (steps_of (actions_of spec) rule) place.condition →
     GoesOn spec text place (record { rule = rule; start = place.offset; len = len }) (record { offset = place.offset + len; condition = condition; at_line_begin = nat_eq (slice_index text (place.offset + len - 1)) 10 })
-goes_on spec text place rule len condition more known choice alone is =
-    let there : ForSome rule (λ i. i < length spec.rules.items) = rule_there rule choice in
+goes_on spec in_range text place rule len condition more known choice alone is =
+    let there : ForSome rule (λ i. i < length spec.rules) = rule_there rule choice in
     let taken : (0 < len) × (place.offset + len ≤ length text) = takes rule choice alone in
     record {
       is_next = record { more = more; start = refl; choice = choice; alone = alone };
       after = ap (λ (c : ℕ). record { offset = place.offset + len; condition = c; at_line_begin = nat_eq (slice_index text (place.offset + len - 1)) 10 }) is;
       further = let h : 0 < len = taken.0 in omega arith;
       within = taken.1;
-      known = rw is (condition_known (steps_of (actions_of spec) rule) (place.condition) (length spec.conditions.items) (length spec.kinds.items) known (steps_known spec rule there));
+      known = rw is (condition_known (steps_of (actions_of spec) rule) (place.condition) (length spec.conditions) (length spec.kinds) known (steps_known spec rule in_range there));
       rule = there;
     }
   where
-    rule_there : (rule : Option ℕ) → IsChoice spec place.condition place.at_line_begin (drop place.offset text) (option_map (λ i. (i, len)) rule) → ForSome rule (λ i. i < length spec.rules.items)
+    rule_there : (rule : Option ℕ) → IsChoice spec place.condition place.at_line_begin (drop place.offset text) (option_map (λ i. (i, len)) rule) → ForSome rule (λ i. i < length spec.rules)
     rule_there None choice = λ i e. absurd (let f : None ≡ Some i = e in cc)
-    rule_there (Some i) choice = λ j e. let f : i ≡ j = cc in subst (λ k. k < length spec.rules.items) f (slice_get_within (spec.rules.items) i (choice.rule) (choice.at))
+    rule_there (Some i) choice = λ j e. let f : i ≡ j = cc in subst (λ k. k < length spec.rules) f (slice_get_within (spec.rules) i (choice.rule) (choice.at))
 
     takes : (rule : Option ℕ) → IsChoice spec place.condition place.at_line_begin (drop place.offset text) (option_map (λ i. (i, len)) rule) → (rule ≡ None → len ≡ 1) → (0 < len) × (place.offset + len ≤ length text)
     takes None choice alone = let e : len ≡ 1 = alone refl in (omega arith, omega arith)
@@ -98,7 +97,7 @@ goes_on spec text place rule len condition more known choice alone is =
         (fits.not_empty, omega arith)
 
 -- a match that was found lies in the text
-pub match_within : (spec : Spec) (text : List ℕ) (place : Place) (m : Match) (next : Place) → GoesOn spec text place m next → m.start + m.len ≤ length text
+pub match_within : (spec : PlainSpec) (text : List ℕ) (place : Place) (m : Match) (next : Place) → GoesOn spec text place m next → m.start + m.len ≤ length text
 match_within spec text place m next goes =
     let behind : next.offset ≡ place.offset + m.len = ap (λ (p : Place). p.offset) goes.after in
     let start : m.start ≡ place.offset = goes.is_next.start in

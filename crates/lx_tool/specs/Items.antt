@@ -4,8 +4,8 @@ use Rattle.std.specs.Prelude.{◌≡◌, ℕ, ◌+◌, ◌-◌, ◌<◌, ◌≤�
 use Rattle.std.specs.Option.{option_map, ForSome}
 use Rattle.lx_spec.specs.declared.rule.Step.{Step}
 use Rattle.lx_spec.specs.declared.rule.Step.TheVariants.{Echo, Begin, Return}
-use Rattle.lx_spec.specs.declared.spec.Spec.{Spec}
 use Rattle.lx_spec.specs.Choice.{IsChoice}
+use Rattle.lx_spec.specs.Plain.{PlainSpec}
 use Rattle.lx_piece.specs.declared.item.Item.{Item}
 use Rattle.lx_piece.specs.declared.item.Item.TheVariants as item
 use Rattle.lx_tool.specs.declared.scanner.Place.{Place}
@@ -66,18 +66,18 @@ pub record AreItems (Chooses : ℕ → Bool → List ℕ → Option (ℕ × ℕ)
   pub items_are : items ≡ flat_map (items_of_match actions) matches
 
 -- what each rule does
-abbrev pub actions_of : Spec → List (List Step)
-actions_of spec = map (λ rule. rule.action.items) spec.rules.items
+abbrev pub actions_of : PlainSpec → List (List Step)
+actions_of spec = map (λ rule. rule.steps) spec.rules
 
 -- the items of the text by the rules of the specification
-abbrev pub AreItemsBy : Spec → List ℕ → List Item → Type 0
+abbrev pub AreItemsBy : PlainSpec → List ℕ → List Item → Type 0
 AreItemsBy spec text items = AreItems (IsChoice spec) (actions_of spec) text items
 
 -- by the rules of the specification this match is found at a place, and the next place is behind it
-pub record GoesOn (spec : Spec) (text : List ℕ) (place : Place) (m : Match) (next : Place) : Type 0 where
+pub record GoesOn (spec : PlainSpec) (text : List ℕ) (place : Place) (m : Match) (next : Place) : Type 0 where
   pub is_next : IsNext (IsChoice spec) text place m
   pub after : next ≡ place_after (actions_of spec) text place m
   pub further : place.offset < next.offset
   pub within : next.offset ≤ length text
-  pub known : next.condition < length spec.conditions.items
-  pub rule : ForSome m.rule (λ i. i < length spec.rules.items)
+  pub known : next.condition < length spec.conditions
+  pub rule : ForSome m.rule (λ i. i < length spec.rules)

@@ -6,6 +6,8 @@ ghost use Rattle.std.specs.BTreeSet.{contains};
 ghost use Rattle.lx_ere.specs.Regex.{regex_of};
 ghost use Rattle.lx_ere.specs.Matching.{Matches};
 ghost use Rattle.lx_spec.specs.Choice.{IsActive, IsChoice, SpecNames, reach};
+ghost use Rattle.lx_spec.specs.views.Rules.{rule_view};
+ghost use Rattle.lx_spec.specs.views.Specs.{spec_view};
 ghost use Rattle.lx_tool.specs.Longest.{IsLongest};
 ghost use Rattle.lx_tool.specs.Places.{AreLengths};
 
@@ -21,8 +23,8 @@ const NESTING: u8 = 32;
 
 /// Whether the rule is active in the condition.
 pub(crate) fn is_active(spec: &Spec, rule: &Rule, condition: u16) -> bool
-    requires { condition < length spec.now.conditions.items }
-    ensures { IsTrue result ↔ IsActive spec.now rule.now condition }
+    requires { condition < length (spec_view spec.now).conditions }
+    ensures { IsTrue result ↔ IsActive (spec_view spec.now) (rule_view rule.now) condition }
 {
     match &rule.conditions {
         Some(list) => list.contains(&condition),
@@ -46,7 +48,7 @@ fn lengths(
     expr: &Expr,
     text: &[u8],
 ) -> Result<BTreeSet<usize>, AllocError>
-    ensures { IfOk result (λ found. AreLengths (Matches (SpecNames spec.now) (regex_of expr.now)) text.now found) }
+    ensures { IfOk result (λ found. AreLengths (Matches (SpecNames (spec_view spec.now)) (regex_of expr.now)) text.now found) }
 {
     let front = front(alloc)?;
     ends(alloc, &spec.definitions, NESTING, expr, text, &front)
@@ -54,15 +56,15 @@ fn lengths(
 
 // Whether a fit of the rule may begin here: under this condition, where a line begins or not.
 fn may_begin(spec: &Spec, rule: &Rule, condition: u16, begin: bool) -> bool
-    requires { condition < length spec.now.conditions.items }
-    ensures { IsTrue result ↔ (IsActive spec.now rule.now condition × (IsTrue rule.now.pattern.line_begin → IsTrue begin)) }
+    requires { condition < length (spec_view spec.now).conditions }
+    ensures { IsTrue result ↔ (IsActive (spec_view spec.now) (rule_view rule.now) condition × (IsTrue (rule_view rule.now).reading.line_begin → IsTrue begin)) }
 {
     is_active(spec, rule, condition) && (begin || !rule.pattern.line_begin)
 }
 
 // Whether a fit of the rule may end behind n bytes.
 fn may_end(rule: &Rule, text: &[u8], n: usize) -> bool
-    ensures { IsTrue result ↔ ((0 < n) × (IsTrue rule.now.pattern.line_end → slice_get text.now n ≡ Some 10)) }
+    ensures { IsTrue result ↔ ((0 < n) × (IsTrue (rule_view rule.now).reading.line_end → slice_get text.now n ≡ Some 10)) }
 {
     n > 0 && (!rule.pattern.line_end || text.get(n) == Some(&b'\n'))
 }
@@ -76,8 +78,8 @@ pub(crate) fn longest(
     begin: bool,
     text: &[u8],
 ) -> Result<Option<usize>, AllocError>
-    requires { condition < length spec.now.conditions.items }
-    ensures { IfOk result (IsLongest spec.now rule.now condition begin text.now) }
+    requires { condition < length (spec_view spec.now).conditions }
+    ensures { IfOk result (IsLongest (spec_view spec.now) (rule_view rule.now) condition begin text.now) }
 {
     if !may_begin(spec, rule, condition, begin) {
         return Ok(None);
@@ -94,7 +96,7 @@ pub(crate) fn longest(
 // How far a fit of n bytes reaches: where the pattern ends with `$` the newline counts.
 fn reach_of(rule: &Rule, n: usize) -> usize
     requires { n + 1 < 2 ^ 64 }
-    ensures { result ≡ reach rule.now n }
+    ensures { result ≡ reach (rule_view rule.now) n }
 {
     if rule.pattern.line_end { n + 1 } else { n }
 }
@@ -107,8 +109,8 @@ pub(crate) fn choose(
     begin: bool,
     text: &[u8],
 ) -> Result<Option<(u16, usize)>, AllocError>
-    requires { condition < length spec.now.conditions.items }
-    ensures { IfOk result (IsChoice spec.now condition begin text.now) }
+    requires { condition < length (spec_view spec.now).conditions }
+    ensures { IfOk result (IsChoice (spec_view spec.now) condition begin text.now) }
 {
     let mut best = None;
     let mut best_reach = 0;

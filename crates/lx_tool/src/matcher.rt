@@ -1,9 +1,10 @@
 //! The plain matcher: from sets of places, the places to which the words of an expression lead.
 
-ghost use Rattle.std.specs.Prelude.{◌≡◌, IfOk};
+ghost use Rattle.std.specs.Prelude.{◌≡◌, IfOk, map};
 ghost use Rattle.lx_ere.specs.Regex.{regex_of};
 ghost use Rattle.lx_ere.specs.Matching.{Matches, Repeats};
 ghost use Rattle.lx_spec.specs.Names.{NameMatches};
+ghost use Rattle.lx_spec.specs.views.Rules.{definition_view};
 ghost use Rattle.lx_tool.specs.Places.{AreEnds, AreWithin, AnyNumber, AtMost};
 
 use crate::places::{add_new, behind_byte, copy_of};
@@ -23,7 +24,7 @@ pub(crate) fn ends(
     starts: &BTreeSet<usize>,
 ) -> Result<BTreeSet<usize>, AllocError>
     requires { AreWithin text.now starts.now }
-    ensures { IfOk result (λ ends. AreEnds (Matches (NameMatches definitions.now depth) (regex_of expr.now)) text.now starts.now ends) }
+    ensures { IfOk result (λ ends. AreEnds (Matches (NameMatches (map definition_view definitions.now) depth) (regex_of expr.now)) text.now starts.now ends) }
 {
     // Names that double and intervals in one another would else be gone into for nothing, many times over.
     if starts.is_empty() {
@@ -66,7 +67,7 @@ fn exactly(
     starts: &BTreeSet<usize>,
 ) -> Result<BTreeSet<usize>, AllocError>
     requires { AreWithin text.now starts.now }
-    ensures { IfOk result (λ ends. AreEnds (Repeats (Matches (NameMatches definitions.now depth) (regex_of body.now)) count) text.now starts.now ends) }
+    ensures { IfOk result (λ ends. AreEnds (Repeats (Matches (NameMatches (map definition_view definitions.now) depth) (regex_of body.now)) count) text.now starts.now ends) }
 {
     let mut places = copy_of(starts)?;
     for _round in 0..count {
@@ -87,7 +88,7 @@ fn at_most(
     starts: &BTreeSet<usize>,
 ) -> Result<BTreeSet<usize>, AllocError>
     requires { AreWithin text.now starts.now }
-    ensures { IfOk result (λ ends. AreEnds (AtMost (Matches (NameMatches definitions.now depth) (regex_of body.now)) most) text.now starts.now ends) }
+    ensures { IfOk result (λ ends. AreEnds (AtMost (Matches (NameMatches (map definition_view definitions.now) depth) (regex_of body.now)) most) text.now starts.now ends) }
 {
     let mut reached = copy_of(starts)?;
     let mut places = copy_of(starts)?;
@@ -109,7 +110,7 @@ fn any_number(
     starts: &BTreeSet<usize>,
 ) -> Result<BTreeSet<usize>, AllocError>
     requires { AreWithin text.now starts.now }
-    ensures { IfOk result (λ ends. AreEnds (AnyNumber (Matches (NameMatches definitions.now depth) (regex_of body.now))) text.now starts.now ends) }
+    ensures { IfOk result (λ ends. AreEnds (AnyNumber (Matches (NameMatches (map definition_view definitions.now) depth) (regex_of body.now))) text.now starts.now ends) }
 {
     let mut reached = copy_of(starts)?;
     let mut fresh = copy_of(starts)?;
@@ -131,7 +132,7 @@ fn named(
     starts: &BTreeSet<usize>,
 ) -> Result<BTreeSet<usize>, AllocError>
     requires { AreWithin text.now starts.now }
-    ensures { IfOk result (λ ends. AreEnds (NameMatches definitions.now depth name.now) text.now starts.now ends) }
+    ensures { IfOk result (λ ends. AreEnds (NameMatches (map definition_view definitions.now) depth name.now) text.now starts.now ends) }
 {
     let mut found = BTreeSet::new(alloc);
     if depth == 0 {

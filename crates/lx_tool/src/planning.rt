@@ -2,6 +2,7 @@
 
 ghost use Rattle.std.specs.Prelude.{◌≡◌, ◌<◌, ◌≤◌, ◌⊎◌, IfOk, OnOk, OnErr, map, vec_len};
 ghost use Rattle.std.specs.Io.KnownBytes.{Keeps};
+ghost use Rattle.lx_spec.specs.views.Specs.{spec_view};
 ghost use Rattle.lx_tool.specs.Planning.{AreScanned, IsPlanBy, ListsBy, ListsPrefixBy};
 
 use crate::printing::{RunFault, print_listing};
@@ -16,7 +17,7 @@ const RUN: u64 = 1;
 
 // The items of each file.
 fn scan_files(alloc: Global, spec: &Spec, files: &[Vec<u8>]) -> Result<Vec<Vec<Item>>, AllocError>
-    ensures { IfOk result (λ lists. AreScanned spec.now (map (λ file. file.items) files.now) (map (λ list. list.items) lists.items)) }
+    ensures { IfOk result (λ lists. AreScanned (spec_view spec.now) (map (λ file. file.items) files.now) (map (λ list. list.items) lists.items)) }
 {
     let mut lists = Vec::new(alloc);
     for file in files {
@@ -36,7 +37,7 @@ pub(crate) fn plan_files(
     requires few_files { vec_len files ≤ 65536 }
     requires some_items { 0 < per_piece }
     requires few_items { per_piece ≤ 4096 }
-    ensures by_rules { IfOk result (IsPlanBy spec (map (λ file. file.items) files.items)) }
+    ensures by_rules { IfOk result (IsPlanBy (spec_view spec) (map (λ file. file.items) files.items)) }
     ensures run { IfOk result (λ plan. plan.run ≡ 1) }
     ensures pieces { IfOk result (λ plan. plan.per_piece ≡ per_piece) }
 {
@@ -58,8 +59,8 @@ pub fn list_files<W: Write>(
     requires few_files { vec_len files ≤ 65536 }
     requires some_items { 0 < per_piece }
     requires few_items { per_piece ≤ 4096 }
-    ensures ok { OnOk result (ListsBy spec (map (λ file. file.items) files.items) (W.contents out.old) (W.contents out.new)) }
-    ensures err { OnErr result (Keeps (W.contents out.old) (W.contents out.new) ⊎ ListsPrefixBy spec (map (λ file. file.items) files.items) (W.contents out.old) (W.contents out.new)) }
+    ensures ok { OnOk result (ListsBy (spec_view spec) (map (λ file. file.items) files.items) (W.contents out.old) (W.contents out.new)) }
+    ensures err { OnErr result (Keeps (W.contents out.old) (W.contents out.new) ⊎ ListsPrefixBy (spec_view spec) (map (λ file. file.items) files.items) (W.contents out.old) (W.contents out.new)) }
 {
     let plan = plan_files(alloc, spec, files, per_piece)?;
     print_listing(alloc, &plan, out)

@@ -1,7 +1,9 @@
 //! The plain scanner: the items of a text, match by match.
 
-ghost use Rattle.std.specs.Prelude.{◌≡◌, ◌<◌, ◌≤◌, ◌++◌, length, IfOk, IfSome, OnOk, MatchOption, All, map, List, ℕ};
+ghost use Rattle.std.specs.Prelude.{◌≡◌, ◌<◌, ◌≤◌, ◌++◌, length, IfOk, OnOk, MatchOption, All, List, ℕ};
 ghost use Rattle.std.specs.Option.{ForSome};
+ghost use Rattle.lx_spec.specs.Plain.{PlainSpec};
+ghost use Rattle.lx_spec.specs.views.Specs.{spec_view};
 ghost use Rattle.lx_piece.specs.Items.{IsItemOf};
 ghost use Rattle.lx_tool.specs.Items.{AreItemsBy, GoesOn, actions_of, condition_after, items_of_steps, steps_of};
 
@@ -29,8 +31,8 @@ pub(crate) struct Match {
 
 // What is done where a rule matches, or none: a byte that no rule matches is echoed.
 fn steps_of_rule(spec: &Spec, rule: Option<u16>) -> &[Step]
-    requires { ForSome rule (λ i. i < length spec.now.rules.items) }
-    ensures { result.now ≡ steps_of (actions_of spec.now) rule }
+    requires { ForSome rule (λ i. i < length (spec_view spec.now).rules) }
+    ensures { result.now ≡ steps_of (actions_of (spec_view spec.now)) rule }
 {
     match rule {
         Some(rule) => spec.rules[rule as usize].action.as_slice(),
@@ -59,8 +61,8 @@ pub(crate) fn next_match(
     place: Place,
 ) -> Result<Option<(Match, Place)>, AllocError>
     requires within { place.offset ≤ length text.now }
-    requires known { place.condition < length spec.now.conditions.items }
-    ensures { IfOk result (λ found. MatchOption found (place.offset ≡ length text.now) (λ f. GoesOn spec.now text.now place f.0 f.1)) }
+    requires known { place.condition < length (spec_view spec.now).conditions }
+    ensures { IfOk result (λ found. MatchOption found (place.offset ≡ length text.now) (λ f. GoesOn (spec_view spec.now) text.now place f.0 f.1)) }
 {
     if place.offset == text.len() {
         return Ok(None);
@@ -118,8 +120,8 @@ fn push_items(
 
 /// The items of the text by the rules of the specification. They lie in the text, and name kinds that are there.
 pub(crate) fn scan(alloc: Global, spec: &Spec, text: &[u8]) -> Result<Vec<Item>, AllocError>
-    ensures items { IfOk result (λ items. AreItemsBy spec.now text.now items.items) }
-    ensures placed { IfOk result (λ items. All (IsItemOf (map (λ name. name.items) spec.now.kinds.items) text.now) items.items) }
+    ensures items { IfOk result (λ items. AreItemsBy (spec_view spec.now) text.now items.items) }
+    ensures placed { IfOk result (λ items. All (IsItemOf (spec_view spec.now).kinds text.now) items.items) }
 {
     let mut items = Vec::new(alloc);
     let mut place = Place {
@@ -141,5 +143,5 @@ pub(crate) fn scan(alloc: Global, spec: &Spec, text: &[u8]) -> Result<Vec<Item>,
 
 /// A law: by the rules of a specification a text has one list of items.
 pub fn one_list_of_items()
-    ensures { (spec : Spec) (text : List ℕ) (xs ys : List Item) → AreItemsBy spec text xs → AreItemsBy spec text ys → xs ≡ ys }
+    ensures { (spec : PlainSpec) (text : List ℕ) (xs ys : List Item) → AreItemsBy spec text xs → AreItemsBy spec text ys → xs ≡ ys }
 {}

@@ -2,8 +2,8 @@ use Rattle.std.proofs.Common.{◌≡◌, ◌∙◌, true, false, List, ap, sym, 
 use Rattle.lx_spec.specs.Actions as plain
 use Rattle.lx_spec.specs.ActionWords.{AreWords}
 use Rattle.lx_spec.specs.declared.word.Word.{Word}
-use Rattle.lx_spec.specs.WordViews.{words_view}
-use Rattle.lx_spec.specs.ActionViews.{statements_view}
+use Rattle.lx_spec.specs.views.Words.{words_view}
+use Rattle.lx_spec.specs.views.Actions.{statements_view}
 use Rattle.lx_spec.proofs.ActionSteps.{bar-is, no_action}
 use Rattle.lx_spec.proofs.action.read_action.Goals as goal
 

@@ -1,8 +1,8 @@
 use Rattle.std.proofs.Common.{◌≡◌, ◌∙◌, ◌+◌, ◌<◌, [], ◌∷◌, ◌++◌, drop, ap, sym, subst, arith, ℕ}
 use Rattle.std.proofs.lemmas.List.{map_push}
 use Rattle.lx_spec.specs.Actions as plain
-use Rattle.lx_spec.specs.WordViews.{words_view}
-use Rattle.lx_spec.specs.ActionViews.{statement_view, statements_view}
+use Rattle.lx_spec.specs.views.Words.{words_view}
+use Rattle.lx_spec.specs.views.Actions.{statement_view, statements_view}
 use Rattle.lx_spec.proofs.ActionSteps.{Stated, Stated-opens, Stated-closes, Stated-unopened, Stated-states, Stated-end, Stated-unclosed, Stated-none, turn-opens, turn-closes, turn-states, turn-other}
 use Rattle.lx_spec.proofs.action.read_statements.Goals as goal
 

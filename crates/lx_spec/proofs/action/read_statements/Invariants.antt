@@ -1,6 +1,6 @@
 use Rattle.std.proofs.Common.{◌-◌, ◌≤◌, length, drop}
-use Rattle.lx_spec.specs.WordViews.{words_view}
-use Rattle.lx_spec.specs.ActionViews.{statements_view}
+use Rattle.lx_spec.specs.views.Words.{words_view}
+use Rattle.lx_spec.specs.views.Actions.{statements_view}
 use Rattle.lx_spec.proofs.ActionSteps.{Stated}
 use Rattle.lx_spec.proofs.action.read_statements.Given as goal
 

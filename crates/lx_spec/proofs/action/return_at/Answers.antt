@@ -1,8 +1,8 @@
 use Rattle.std.proofs.Common.{◌∙◌, List, Option, Some, ap, sym}
 use Rattle.lx_spec.specs.Actions as plain
 use Rattle.lx_spec.specs.ActionWords.{Word}
-use Rattle.lx_spec.specs.WordViews.{word_view}
-use Rattle.lx_spec.specs.ActionViews.{statement_view}
+use Rattle.lx_spec.specs.views.Words.{word_view}
+use Rattle.lx_spec.specs.views.Actions.{statement_view}
 use Rattle.lx_spec.proofs.ActionSteps.{words-further, words-rest}
 use Rattle.lx_spec.proofs.action.return_at.Goals as goal
 

@@ -1,5 +1,5 @@
 use Rattle.std.proofs.Common.{◌≡◌, map, drop}
-use Rattle.lx_spec.specs.ActionViews.{statement_view}
+use Rattle.lx_spec.specs.views.Actions.{statement_view}
 use Rattle.lx_spec.specs.Outcome as plain
 use Rattle.lx_spec.proofs.build.returned_by.Given as goal
 

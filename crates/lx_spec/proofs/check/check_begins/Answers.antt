@@ -2,11 +2,11 @@ use Rattle.std.proofs.Common.{◌≡◌, ◌∙◌, [], ap, sym, subst, List, Bo
 use Rattle.std.specs.List.{list_all}
 use Rattle.std.proofs.lemmas.Bool.{false≢true}
 use Rattle.lx_spec.specs.Actions as actions
-use Rattle.lx_spec.specs.ActionViews.{action_view, statement_view, statements_view}
+use Rattle.lx_spec.specs.views.Actions.{action_view, statement_view, statements_view}
 use Rattle.lx_spec.specs.declared.action.Statement.{Statement}
-use Rattle.lx_spec.specs.SheetViews.{raw_view}
+use Rattle.lx_spec.specs.views.Sections.{raw_rule_view}
 use Rattle.lx_spec.specs.Verdict.{begin_name, begin_is_declared}
-use Rattle.lx_spec.specs.BasisViews.{ground_view}
+use Rattle.lx_spec.specs.views.SymbolTables.{symbols_view}
 use Rattle.lx_spec.proofs.ActionSteps.{one_action}
 use Rattle.lx_spec.proofs.Rows.{list_all-map}
 use Rattle.lx_spec.proofs.Checking.{fault-here}
@@ -20,7 +20,7 @@ returns-in-Shared c = (λ h. let e = one_action c.args.rule.now.action.items (ac
 
 pub returns-then-all_begin_declared : goal.returns-then-all_begin_declared
 returns-then-all_begin_declared c =
-    let p : actions.Statement → Bool = begin_is_declared (ground_view c.args.basis.now).states in
+    let p : actions.Statement → Bool = begin_is_declared (symbols_view c.args.symbols.now).start_conditions in
     let all : list_all p (statements_view c.in-Own.statements.items) ≡ true =
     list_all-map p statement_view c.in-Own.statements.items ∙ ap (list_all (λ (s : Statement). p (statement_view s))) (sym c.deref.ensures.value) ∙ sym c.all_begin_declared.ensures ∙ c.if-all_begin_declared.true in (
       λ h.
@@ -31,8 +31,8 @@ returns-then-all_begin_declared c =
 
 pub returns-else-all_begin_declared : goal.returns-else-all_begin_declared
 returns-else-all_begin_declared c =
-    let p : actions.Statement → Bool = begin_is_declared (ground_view c.args.basis.now).states in
+    let p : actions.Statement → Bool = begin_is_declared (symbols_view c.args.symbols.now).start_conditions in
     let all : list_all p (statements_view c.in-Own.statements.items) ≡ false =
     list_all-map p statement_view c.in-Own.statements.items ∙ ap (list_all (λ (s : Statement). p (statement_view s))) (sym c.deref.ensures.value) ∙ sym c.all_begin_declared.ensures ∙ c.if-all_begin_declared.false in
-    λ _. fault-here (ground_view c.args.basis.now) (raw_view c.args.rule.now) c.args.is_last begin_name []
+    λ _. fault-here (symbols_view c.args.symbols.now) (raw_rule_view c.args.rule.now) c.args.is_last begin_name []
     (statements_view c.in-Own.statements.items, subst (actions.IsAction c.args.rule.now.action.items) (ap action_view c.in-Own.is) c.requires.action, all)

@@ -1,9 +1,9 @@
 use Rattle.std.proofs.Common.{◌≡◌, ◌∙◌, [], ap, sym, subst, List}
 use Rattle.lx_spec.specs.Actions as actions
-use Rattle.lx_spec.specs.ActionViews.{action_view}
-use Rattle.lx_spec.specs.SheetViews.{raw_view}
+use Rattle.lx_spec.specs.views.Actions.{action_view}
+use Rattle.lx_spec.specs.views.Sections.{raw_rule_view}
 use Rattle.lx_spec.specs.Verdict.{no_next}
-use Rattle.lx_spec.specs.BasisViews.{ground_view}
+use Rattle.lx_spec.specs.views.SymbolTables.{symbols_view}
 use Rattle.lx_spec.proofs.ActionSteps.{one_action}
 use Rattle.lx_spec.proofs.Checking.{fault-here}
 use Rattle.lx_spec.proofs.check.check_next.Goals as goal
@@ -12,7 +12,7 @@ apart : (a : actions.Action) (ss : List actions.Statement) → a ≡ actions.own
 apart a ss e f = let both : actions.own ss ≡ actions.shared = sym e ∙ f in cc
 
 pub returns-then-is_last : goal.returns-then-is_last
-returns-then-is_last c = λ _. fault-here (ground_view c.args.basis.now) (raw_view c.args.rule.now) c.args.is_last no_next []
+returns-then-is_last c = λ _. fault-here (symbols_view c.args.symbols.now) (raw_rule_view c.args.rule.now) c.args.is_last no_next []
     (subst (actions.IsAction c.args.rule.now.action.items) (ap action_view c.in-Shared.is) c.requires, c.if-is_last.true)
 
 pub returns-in-Own : goal.returns-in-Own

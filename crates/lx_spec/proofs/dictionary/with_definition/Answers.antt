@@ -1,22 +1,22 @@
 use Rattle.std.proofs.Common.{◌∙◌, ◌++◌, ◌∷◌, [], List, ℕ, Bool, map, ap, get_or}
 use Rattle.std.proofs.lemmas.List.{map_push}
-use Rattle.lx_spec.specs.SheetViews.{named_view}
-use Rattle.lx_spec.specs.TreeViews.{tree_view, trees_view}
+use Rattle.lx_spec.specs.views.Sections.{raw_definition_view}
+use Rattle.lx_spec.specs.views.Trees.{tree_view, trees_view}
 use Rattle.lx_spec.specs.Dictionary.{mention_of}
-use Rattle.lx_spec.specs.declared.sheet.Named.{Named as CodeNamed}
+use Rattle.lx_spec.specs.declared.parsed_sections.RawDefinition.{RawDefinition as CodeDefinition}
 use Rattle.lx_spec.proofs.Rows.{at_map}
 use Rattle.lx_spec.proofs.dictionary.with_definition.Goals as goal
 
-abbrev no_name : CodeNamed
+abbrev no_name : CodeDefinition
 no_name = record { name = record { ref_ptr = (0, 0); now = [] }; substitute = record { ref_ptr = (0, 0); now = [] } }
 
 pub returns : goal.returns
 returns c =
-    let named = map named_view c.args.index.now.named.now in
+    let raw_definitions = map raw_definition_view c.args.index.now.definitions.now in
     let tree = tree_view c.in_ok-tree.tree in
     record {
-      definition = named_view (get_or c.args.index.now.named.now c.args.i no_name);
-      at = at_map named_view c.args.index.now.named.now c.args.i no_name c.requires;
+      definition = raw_definition_view (get_or c.args.index.now.definitions.now c.args.i no_name);
+      at = at_map raw_definition_view c.args.index.now.definitions.now c.args.i no_name c.requires;
       tree = tree;
       reads = c.in_ok-tree.ensures;
       trees = ap trees_view c.in_ok-push-2.ensures.items ∙ map_push tree_view c.args.dictionary.trees.items c.in_ok-tree.tree;

@@ -2,7 +2,7 @@ use Rattle.std.proofs.Common.{◌≡◌, ◌∙◌, ◌++◌, ◌∷◌, [], Lis
 use Rattle.std.proofs.lemmas.List.{map_push}
 use denote.Ref.{Bor}
 use Rattle.lx_spec.specs.Verdict as plain
-use Rattle.lx_spec.specs.FieldViews.{texts_of}
+use Rattle.lx_spec.specs.views.Fields.{texts_of}
 use Rattle.lx_spec.proofs.prefix.read_fields.Goals as goal
 
 pub fields-preserved : goal.fields-preserved

@@ -1,6 +1,6 @@
 use Rattle.std.proofs.Common.{◌≡◌, ◌++◌, length}
 use Rattle.lx_spec.specs.Verdict as plain
-use Rattle.lx_spec.specs.FieldViews.{texts_of}
+use Rattle.lx_spec.specs.views.Fields.{texts_of}
 use Rattle.lx_spec.proofs.prefix.read_fields.Given as goal
 
 abbrev pub invariant-fields : goal.invariant-fields

@@ -1,6 +1,6 @@
 use Rattle.std.proofs.Common.{◌∙◌, ℕ, ap}
 use Rattle.lx_spec.specs.RuleLines as plain
-use Rattle.lx_spec.specs.RuleLineViews.{prefix_view}
+use Rattle.lx_spec.specs.views.RuleLines.{prefix_view}
 use Rattle.lx_spec.proofs.rule_line.rule_begins.Goals as goal
 
 pub returns : goal.returns

@@ -1,6 +1,6 @@
 use Rattle.std.proofs.Common.{◌≡◌, [], ◌∷◌, ◌++◌, ◌∙◌, ap, sym, subst}
 use Rattle.std.proofs.lemmas.List.{map_push}
-use Rattle.lx_spec.specs.WordViews.{word_view, words_view}
+use Rattle.lx_spec.specs.views.Words.{word_view, words_view}
 use Rattle.lx_spec.proofs.WordSteps.{Reached, Reached-passed, Reached-word, Reached-end}
 use Rattle.lx_spec.proofs.word.read_words.Goals as goal
 

@@ -1,5 +1,5 @@
 use Rattle.std.proofs.Common.{length}
-use Rattle.lx_spec.specs.WordViews.{words_view}
+use Rattle.lx_spec.specs.views.Words.{words_view}
 use Rattle.lx_spec.proofs.WordSteps.{Reached}
 use Rattle.lx_spec.proofs.word.read_words.Given as goal
 

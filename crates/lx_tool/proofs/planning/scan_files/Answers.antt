@@ -1,5 +1,6 @@
 use Rattle.std.proofs.Common.{◌≡◌, ◌+◌, ◌++◌, ◌∷◌, [], List, ℕ, Vec, Global, map, take, sym, ap, ◌∙◌}
 use Rattle.std.proofs.lemmas.List.{take_more, map-append}
+use Rattle.lx_spec.specs.views.Specs.{spec_view}
 use Rattle.lx_piece.specs.declared.item.Item.{Item}
 use Rattle.lx_tool.proofs.PlanLemmas.{scanned_more}
 use Rattle.lx_tool.proofs.planning.scan_files.Goals as goal
@@ -16,5 +17,5 @@ loop-file-preserved c =
     = ap texts_of files ∙ map-append (λ (f : Vec ℕ Global). f.items) before (file ∷ []) in
     let lists : lists_of c.push.new.self.items ≡ lists_of c.loop-file.lists.items ++ c.in_ok-scan.field-0.items ∷ []
     = ap lists_of c.in_ok-push.ensures.items ∙ map-append (λ (l : Vec Item Global). l.items) c.loop-file.lists.items (c.in_ok-scan.field-0 ∷ []) in
-    rw (texts, lists) (scanned_more c.args.spec.now (texts_of before) (lists_of c.loop-file.lists.items) file.items c.in_ok-scan.field-0.items c.loop-file.invariant
+    rw (texts, lists) (scanned_more (spec_view c.args.spec.now) (texts_of before) (lists_of c.loop-file.lists.items) file.items c.in_ok-scan.field-0.items c.loop-file.invariant
     (rw c.deref.ensures.value at c.in_ok-scan.ensures.items) (rw c.deref.ensures.value at c.in_ok-scan.ensures.placed))

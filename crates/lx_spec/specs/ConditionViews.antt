@@ -1,6 +1,0 @@
--- The conditions of a specification, without where they lie in memory.
-use Rattle.lx_spec.specs.Sections.{State}
-use Rattle.lx_spec.specs.declared.condition.Condition.{Condition}
-
-abbrev pub condition_view : Condition → State
-condition_view c = record { name = c.name.items; exclusive = c.exclusive }

@@ -1,0 +1,13 @@
+-- Where a line stands, in the code, without where it lies in memory.
+use Rattle.lx_spec.specs.Sections as plain
+use Rattle.lx_spec.specs.views.Sections.{raw_rule_view}
+use Rattle.lx_spec.specs.declared.section.Place.{Place}
+use Rattle.lx_spec.specs.declared.section.Place.TheVariants.{Definitions, Comment, Group, Rules, RulesGroup, Action}
+
+abbrev pub place_view : Place → plain.Place
+place_view Definitions = plain.definitions
+place_view (Comment since) = plain.comment since
+place_view (Group since) = plain.group since
+place_view Rules = plain.rules
+place_view (RulesGroup since) = plain.rules_group since
+place_view (Action begun) = plain.action (raw_rule_view begun.rule) begun.count

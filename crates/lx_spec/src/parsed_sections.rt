@@ -1,0 +1,50 @@
+// What the sections say, entry by entry.
+ghost use Rattle.std.specs.Prelude.{◌<◌, ◌≤◌, length};
+
+use crate::block::Count;
+use crate::rule_line::Prefix;
+
+/// A start condition.
+#[derive(Drop)]
+pub struct StartCondition<'a> {
+    pub name: &'a [u8],
+    pub exclusive: bool,
+}
+
+/// A name, and the text that it stands for.
+#[derive(Drop)]
+pub struct RawDefinition<'a> {
+    pub name: &'a [u8],
+    pub substitute: &'a [u8],
+}
+
+/// A rule as it stands in the text. The lines of its action are joined by LF.
+#[derive(Drop)]
+pub struct RawRule<'a> {
+    pub line: u32,
+    pub prefix: Prefix<'a>,
+    pub pattern: &'a [u8],
+    pub action: Vec<u8>,
+    pub ghost counted: { 0 < line },
+}
+
+/// A rule whose action goes on, with the braces of the lines so far.
+#[derive(Drop)]
+pub struct OpenRule<'a> {
+    pub rule: RawRule<'a>,
+    pub count: Count,
+    pub ghost opened: { count.opened ≤ length rule.action.items },
+    pub ghost closed: { count.closed ≤ length rule.action.items },
+}
+
+/// What the sections say, in order.
+#[derive(Drop)]
+pub struct ParsedSections<'a> {
+    pub start_conditions: Vec<StartCondition<'a>>,
+    pub definitions: Vec<RawDefinition<'a>>,
+    pub rules: Vec<RawRule<'a>>,
+    pub ghost some_start_conditions: { 0 < length start_conditions.items },
+    pub ghost few_start_conditions: { length start_conditions.items ≤ 64 },
+    pub ghost few_definitions: { length definitions.items ≤ 1024 },
+    pub ghost few_rules: { length rules.items ≤ 4096 },
+}

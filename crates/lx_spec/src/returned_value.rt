@@ -1,0 +1,24 @@
+// What actions return (XCU `lex`, "Actions in lex": `return`).
+ghost use Rattle.std.specs.Prelude.{◌<◌, IsTrue};
+ghost use Rattle.lx_spec.specs.Bytes.{is_identifier};
+
+/// A number below 2,147,483,648.
+#[derive(Clone, Copy)]
+pub struct KindNumber {
+    pub value: u32,
+    pub ghost below: { value < 2147483648 },
+}
+
+/// An identifier.
+#[derive(Clone, Copy)]
+pub struct Identifier<'a> {
+    pub text: &'a [u8],
+    pub ghost named: { IsTrue (is_identifier text.now) },
+}
+
+/// What is returned, as it stands in the text.
+#[derive(Clone, Copy)]
+pub enum Value<'a> {
+    Name(Identifier<'a>),
+    Number(KindNumber),
+}
