@@ -16,3 +16,4 @@ pub mod Membership
 pub mod SetFollowed
 pub mod SetLists
 pub mod Numbered
+pub mod Reached

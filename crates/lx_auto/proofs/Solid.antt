@@ -1,7 +1,7 @@
 -- A trimmed expression is empty, or has nowhere in it a part that is empty.
 use Rattle.std.proofs.Common.{◌≡◌, ℕ, zero, suc, ◌⊎◌, inl, inr, Bool, true, false, List, Option, Some, None, refl}
 use Rattle.lx_ere.specs.Regex.{Regex, nil, one_of, then, or, times, named}
-use Rattle.lx_spec.specs.Outcome.{PlainDefinition}
+use Rattle.lx_spec.specs.Plain.{PlainDefinition}
 use Rattle.lx_spec.specs.Nesting.{tree_named}
 use Rattle.lx_auto.specs.Unfolded.{Unfolded, empty, leaf, cat, alt, opt, plus, nullable}
 use Rattle.lx_auto.specs.Trimmed.{opt_unless, opt_of, plus_of, cat_of, alt_of, trimmed_counted, trimmed_unbounded, trimmed_repeated, trimmed, trimmed_if_defined, trimmed_name, trimmed_pattern}

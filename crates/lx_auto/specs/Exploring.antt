@@ -1,6 +1,6 @@
 -- What is known while position sets are reached one after the other (Rabin and Scott 1959: the subset construction).
 use Rattle.std.specs.Prelude.{◌≡◌, ◌≢◌, ℕ, ◌+◌, ◌*◌, ◌<◌, ◌≤◌, ◌⊎◌, Bool, true, false, List, [], ◌∷◌, length, filter, slice_index, slice_index_or, Option, Some, None}
-use Rattle.lx_spec.specs.Outcome.{PlainSpec}
+use Rattle.lx_spec.specs.Plain.{PlainSpec}
 use Rattle.lx_auto.specs.PositionSets.{NumberedRule, StartAndWord}
 use Rattle.lx_auto.specs.SetSteps.{IsSetOf, IsRising}
 use Rattle.lx_auto.specs.Sets.{AreFollowing, AreFirst, IsEarliestMatched}
