@@ -200,3 +200,25 @@ more_sets spec rules xs set limit are is long fresh = record {
       inl k ↦ let hi : i < length xs = omega arith in λ e. are.distinct i j lt k (sym (lists_at xs set i hi) ∙ e ∙ lists_at xs set j k)
     | inr k ↦ let n : j ≡ length xs = omega arith in let hi : i < length xs = omega arith in
               λ e. fresh i hi (sym (lists_at xs set i hi) ∙ e ∙ ap (λ x. get_or (lists_with xs set) x []) n ∙ lists_last xs set) ] }
+
+-- after a target was added
+pub reached_added : (spec : PlainSpec) (rules : List NumberedRule) (old new : List Positions) (set : List ℕ) → AreReachedSets spec rules old → GoesOn old new set →
+  (set ≢ [] → IsReachedSet spec rules set) → (length new ≡ length old) ⊎ ((set ≢ []) × ((i : ℕ) → i < length old → set_of old i ≢ set)) → AreReachedSets spec rules new
+reached_added spec rules old new set are on is fresh = elim fresh [
+    inl same ↦ record {
+      reached = λ i h. let l : i < length old = omega arith in subst (λ s. IsReachedSet spec rules s) (sym (on.kept i l)) (are.reached i l);
+      distinct = λ i j lt h.
+        let lj : j < length old = omega arith in
+        let li : i < length old = omega arith in
+        λ e. are.distinct i j lt lj (sym (on.kept i li) ∙ e ∙ on.kept j lj) }
+  | inr new_one ↦ reached_after spec rules old new set are on (is new_one.0) (inr new_one.1) ]
+
+pub row_full : (spec : PlainSpec) (rules : List NumberedRule) (leaves : List PlainLeaf) (reps : List ℕ) (sets : List Positions) (targets : List (Option ℕ)) (state class : ℕ) →
+  class ≡ length reps → HaveSteps spec rules leaves reps sets targets (state * length reps + class) → HaveSteps spec rules leaves reps sets targets ((state + 1) * length reps)
+row_full spec rules leaves reps sets targets state class e have =
+    let r : (state + 1) * length reps ≡ state * length reps + length reps = suc_row state (length reps) in
+    let n : state * length reps + class ≡ (state + 1) * length reps = omega arith in
+    subst (λ n. HaveSteps spec rules leaves reps sets targets n) n have
+  where
+    suc_row : (a b : ℕ) → (a + 1) * b ≡ a * b + b
+    suc_row a b = grind arith

@@ -1,10 +1,12 @@
 -- What is known while position sets are reached one after the other (Rabin and Scott 1959: the subset construction).
-use Rattle.std.specs.Prelude.{◌≡◌, ◌≢◌, ℕ, ◌+◌, ◌*◌, ◌<◌, ◌≤◌, ◌⊎◌, Bool, true, false, List, [], ◌∷◌, length, filter, slice_index, slice_index_or, Option, Some, None}
+use Rattle.std.specs.Prelude.{◌≡◌, ◌≢◌, ℕ, ◌+◌, ◌*◌, ◌<◌, ◌≤◌, ◌⊎◌, Bool, true, false, List, [], ◌∷◌, ◌++◌, length, filter, slice_index, slice_index_or, Option, Some, None}
+use Rattle.lx_ere.specs.Regex.{Regex}
 use Rattle.lx_spec.specs.Plain.{PlainSpec}
-use Rattle.lx_auto.specs.PositionSets.{NumberedRule, StartAndWord}
+use Rattle.lx_auto.specs.Unfolded.{Unfolded}
+use Rattle.lx_auto.specs.PositionSets.{NumberedRule, StartAndWord, numbered}
 use Rattle.lx_auto.specs.SetSteps.{IsSetOf, IsRising}
 use Rattle.lx_auto.specs.Sets.{AreFollowing, AreFirst, IsEarliestMatched}
-use Rattle.lx_auto.specs.Leaves.{PlainLeaf, has_byte}
+use Rattle.lx_auto.specs.Leaves.{PlainLeaf, has_byte, AreLeavesOf}
 use Rattle.lx_auto.specs.SetTable.{Positions, set_of, IsTarget}
 
 -- those of the positions that have the byte
@@ -51,3 +53,17 @@ pub record HaveSteps (spec : PlainSpec) (rules : List NumberedRule) (leaves : Li
   pub long : length targets ≡ n
   pub each : (i c : ℕ) → c < length representatives → i * length representatives + c < n →
       (F : List ℕ) × IsSource spec rules sets i F × IsTarget sets (slice_index_or targets (i * length representatives + c) None) (having leaves (slice_index representatives c) F)
+
+-- one more target: that of a set
+pub record AddsTarget (sets : List Positions) (old new : List (Option ℕ)) (set : List ℕ) : Type 0 where
+  pub target : Option ℕ
+  pub added : new ≡ old ++ target ∷ []
+  pub is : IsTarget sets target set
+
+-- what is asked of the rules, the table and the targets before the steps of a state are added
+pub record IsRowOf (spec : PlainSpec) (tree_of : Regex → Unfolded) (leaves : List PlainLeaf) (representatives : List ℕ) (state : ℕ) (F : List ℕ)
+  (sets : List Positions) (targets : List (Option ℕ)) : Type 0 where
+  pub leaves_of : AreLeavesOf (numbered tree_of 0 spec.rules) leaves
+  pub source : IsSource spec (numbered tree_of 0 spec.rules) sets state F
+  pub reached : AreReachedSets spec (numbered tree_of 0 spec.rules) sets
+  pub steps : HaveSteps spec (numbered tree_of 0 spec.rules) leaves representatives sets targets (state * length representatives)

@@ -18,3 +18,4 @@ pub mod Sets
 pub mod Leaves
 pub mod SetTable
 pub mod Exploring
+pub mod LeafViews

@@ -2,8 +2,10 @@
 //! (McNaughton and Yamada 1960, Glushkov 1961, Rabin and Scott 1959).
 #![tactic(auto)]
 
+mod explore;
 mod fault;
 mod follow;
+mod leaf;
 mod marking;
 mod node;
 mod rule_part;
