@@ -14,3 +14,5 @@ pub mod Followed
 pub mod StepAll
 pub mod Membership
 pub mod SetFollowed
+pub mod Alike
+pub mod LeafOrder

@@ -16,3 +16,5 @@ pub mod Following
 pub mod Members
 pub mod Sets
 pub mod Leaves
+pub mod LeafViews
+pub mod Grouping

@@ -4,6 +4,8 @@
 
 mod fault;
 mod follow;
+mod groups;
+mod leaf;
 mod marking;
 mod node;
 mod rule_part;
