@@ -17,3 +17,5 @@ pub mod SetFollowed
 pub mod SetLists
 pub mod Numbered
 pub mod Reached
+pub mod Alike
+pub mod LeafOrder

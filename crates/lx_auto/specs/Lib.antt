@@ -19,3 +19,4 @@ pub mod Leaves
 pub mod SetTable
 pub mod Exploring
 pub mod LeafViews
+pub mod Grouping

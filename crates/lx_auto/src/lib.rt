@@ -5,6 +5,7 @@
 mod explore;
 mod fault;
 mod follow;
+mod groups;
 mod leaf;
 mod marking;
 mod node;
