@@ -1,0 +1,7 @@
+//! Deterministic automata for the rules of a scanner: their states, merging and byte classes.
+#![tactic(auto)]
+
+pub mod automaton;
+mod draft;
+
+pub use crate::automaton::{Automaton, State};
