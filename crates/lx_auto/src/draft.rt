@@ -1,8 +1,8 @@
 // Automata whose classes of bytes are provisional.
 
-ghost use Rattle.std.specs.Prelude.{◌≡◌};
-ghost use Rattle.lx_auto.specs.Automata.{Machine, IsMachine};
-ghost use Rattle.lx_auto.specs.Words.{machine_of};
+ghost use Rattle.std.specs.Prelude.{◌≡◌, ◌<◌, ◌≤◌, slice_index};
+ghost use Rattle.lx_auto.specs.Automata.{Machine, IsMachine, state_count, class_target};
+ghost use Rattle.lx_auto.specs.Words.{machine_of, from_word};
 
 use std::marker::Model;
 
@@ -25,6 +25,33 @@ impl Model for Draft {
 }
 
 impl Draft {
+    /// How many states there are.
+    pub(crate) fn states(&self) -> usize
+        ensures count { result ≡ state_count self.now }
+        ensures machine { IsMachine self.now }
+    {
+        self.accepted.len()
+    }
+
+    /// The provisional class of a byte.
+    pub(crate) fn class(&self, byte: usize) -> usize
+        requires { byte < 256 }
+        ensures class { result ≡ slice_index self.now.classes byte }
+        ensures below { result < self.now.width }
+        ensures narrow { self.now.width ≤ 256 }
+    {
+        self.classes[byte] as usize
+    }
+
+    /// Where a state steps on a class, as a word: 0, or one more than the target.
+    pub(crate) fn word(&self, state: usize, class: usize) -> u16
+        requires state { state < state_count self.now }
+        requires class { class < self.now.width }
+        ensures { from_word result ≡ class_target self.now state class }
+    {
+        self.targets[state * self.width + class]
+    }
+
     /// The draft of these lists, kept as an automaton's are.
     pub(crate) fn of(
         starts: Vec<(u32, u32)>,

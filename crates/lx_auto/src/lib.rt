@@ -2,6 +2,7 @@
 #![tactic(auto)]
 
 pub mod automaton;
+mod classes;
 mod draft;
 
 pub use crate::automaton::{Automaton, State};
