@@ -3,6 +3,12 @@
 
 pub mod automaton;
 mod classes;
+mod complete;
 mod draft;
+pub mod merging;
+mod partition;
+mod quotient;
+mod split;
 
 pub use crate::automaton::{Automaton, State};
+pub use crate::merging::merge;
