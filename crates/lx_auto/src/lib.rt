@@ -6,7 +6,9 @@ mod classes;
 mod complete;
 mod draft;
 pub mod merging;
+mod order;
 mod partition;
+mod predecessors;
 mod quotient;
 mod split;
 

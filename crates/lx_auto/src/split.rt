@@ -5,11 +5,18 @@ ghost use Rattle.lx_auto.specs.Completion.{total, step_of, IsComplete};
 ghost use Rattle.lx_auto.specs.Partitions.{block, block_count, member_of, flag, IsSound, IsStable, IsSplitter, IsStayer, AreMovers, AreRenumbered, LandAlike};
 
 use crate::complete::{Complete, step};
+use crate::order::refine_in_order;
 use crate::partition::{Partition, first_unlike, flags_of, lands, movers_of, renumber, stayer_of};
 use std::alloc::{AllocError, Global};
 
 /// Which states are to move: of block 0 those that don't step as state 0 does, of other blocks those that are wanted.
-fn side_of(m: &Complete, inside: &[bool], from: usize, class: usize, wanted: bool) -> bool
+pub(crate) fn side_of(
+    m: &Complete,
+    inside: &[bool],
+    from: usize,
+    class: usize,
+    wanted: bool,
+) -> bool
     requires complete { IsComplete m.now }
     requires inside { length inside.now ≡ total m.now }
     requires class { class < m.now.width }
@@ -111,6 +118,8 @@ pub(crate) fn refined(
     ensures stable { IfOk result (λ p. IsStable m.now p) }
 {
     let mut p = start;
+    refine_in_order(alloc, m, &mut p)?;
+    // Without a fault in the order nothing is left to split.
     while let Some((s, class)) = first_unlike(m, &p) {
         split_at(alloc, m, &mut p, s, class)?;
     }
