@@ -17,6 +17,7 @@ pub(crate) struct Complete {
 }
 
 /// Where a state steps on a class.
+#[inline]
 pub(crate) fn step(m: &Complete, state: usize, class: usize) -> usize
     requires complete { IsComplete m.now }
     requires state { state < total m.now }

@@ -64,6 +64,7 @@ fn order_of(alloc: Global, m: &Complete, p: &Partition) -> Result<Order, AllocEr
 }
 
 /// Counts a state that steps into the splitter for its block.
+#[inline]
 fn hit(order: &mut Order, block: u16) -> Result<(), AllocError>
     ensures pending { OnOk result (vec_len order.new.pending ≡ vec_len order.old.pending) }
 {

@@ -71,14 +71,15 @@ pub(crate) fn by_labels(alloc: Global, m: &Complete) -> Result<Partition, AllocE
 pub(crate) fn flags_of(alloc: Global, blocks: &[u16], number: u16) -> Result<Vec<bool>, AllocError>
     ensures { IfOk result (λ inside. AreFlags blocks.now number (length blocks.now) inside.items) }
 {
-    let mut inside = Vec::with_capacity(alloc, blocks.len())?;
+    let mut inside = vec![in alloc; false; blocks.len()]?;
     for state in 0..blocks.len() {
-        inside.push(blocks[state] == number)?;
+        inside[state] = blocks[state] == number;
     }
     Ok(inside)
 }
 
 /// Whether the state steps into the set.
+#[inline]
 pub(crate) fn lands(m: &Complete, inside: &[bool], state: usize, class: usize) -> bool
     requires complete { IsComplete m.now }
     requires inside { length inside.now ≡ total m.now }
@@ -90,6 +91,7 @@ pub(crate) fn lands(m: &Complete, inside: &[bool], state: usize, class: usize) -
 }
 
 /// Whether a state is in the block and steps into the set, or where `wanted` is false, out of it.
+#[inline]
 fn is_mover(
     m: &Complete,
     blocks: &[u16],
