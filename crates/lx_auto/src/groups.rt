@@ -17,6 +17,7 @@ pub(crate) struct Groups {
     pub ghost bytes: { length classes.items ≡ 256 },
     pub ghost below: { (b : ℕ) → b < 256 → slice_index classes.items b < length representatives.items },
     pub ghost few: { length representatives.items < 257 },
+    pub ghost small: { (k : ℕ) → k < length representatives.items → slice_index representatives.items k < 256 },
 }
 
 // All bytes in one group.
@@ -81,6 +82,7 @@ fn place(
     ensures within { IfOk result (λ class. class < length representatives.new.items) }
     ensures longer { OnOk result (length representatives.old.items ≤ length representatives.new.items) }
     ensures few { OnOk result (length representatives.new.items ≤ length representatives.old.items + 1) }
+    ensures small { ((k : ℕ) → k < length representatives.old.items → slice_index representatives.old.items k < 256) → OnOk result ((k : ℕ) → k < length representatives.new.items → slice_index representatives.new.items k < 256) }
     ensures kept { OnOk result ((k : ℕ) → k < length representatives.old.items → slice_index representatives.new.items k ≡ slice_index representatives.old.items k) }
     ensures together { IfOk result (λ class. AreTogether (leaf_view leaf.now) groups.now.classes.items (slice_index representatives.new.items class) byte) }
 {
