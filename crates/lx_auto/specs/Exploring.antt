@@ -67,3 +67,9 @@ pub record IsRowOf (spec : PlainSpec) (tree_of : Regex → Unfolded) (leaves : L
   pub source : IsSource spec (numbered tree_of 0 spec.rules) sets state F
   pub reached : AreReachedSets spec (numbered tree_of 0 spec.rules) sets
   pub steps : HaveSteps spec (numbered tree_of 0 spec.rules) leaves representatives sets targets (state * length representatives)
+
+-- the sets that were reached, and the steps of the first n states
+pub record IsExplored (spec : PlainSpec) (tree_of : Regex → Unfolded) (leaves : List PlainLeaf) (representatives : List ℕ) (sets : List Positions)
+  (targets : List (Option ℕ)) (n : ℕ) : Type 0 where
+  pub reached : AreReachedSets spec (numbered tree_of 0 spec.rules) sets
+  pub steps : HaveSteps spec (numbered tree_of 0 spec.rules) leaves representatives sets targets (n * length representatives)

@@ -70,3 +70,8 @@ first_or (Some i) n = Some i
 -- the flags say which rules are active at the start
 pub record AreActive (spec : PlainSpec) (condition : ℕ) (begin : Bool) (active : List Bool) : Type 0 where
   pub each : (i : ℕ) (rule : PlainRule) → slice_get spec.rules i ≡ Some rule → (flag active i ≡ true) ↔ IsActiveAt spec rule condition begin
+
+-- the flags of the first n rules
+pub record AreActiveBelow (spec : PlainSpec) (condition : ℕ) (begin : Bool) (active : List Bool) (n : ℕ) : Type 0 where
+  pub long : length active ≡ n
+  pub each : (i : ℕ) (rule : PlainRule) → i < n → slice_get spec.rules i ≡ Some rule → (flag active i ≡ true) ↔ IsActiveAt spec rule condition begin

@@ -2,18 +2,25 @@
 ghost use Rattle.std.specs.Prelude.{◌≡◌, ◌≢◌, ◌+◌, ◌*◌, ◌<◌, ◌≤◌, ◌⊎◌, [], ℕ, List, IfOk, IfErr, OnOk, length};
 ghost use Rattle.lx_ere.specs.Regex.{Regex};
 ghost use Rattle.lx_spec.specs.Plain.{PlainSpec};
+ghost use Rattle.lx_spec.specs.views.Specs.{spec_view};
+ghost use Rattle.lx_auto.specs.Grounds.{IsGroundOf};
+ghost use Rattle.lx_auto.specs.Sets.{IsEarliestMatched};
 ghost use Rattle.lx_auto.specs.Unfolded.{Unfolded};
 ghost use Rattle.lx_auto.specs.Leaves as plain_leaves;
 ghost use Rattle.lx_auto.specs.LeafViews.{leaves_view};
 ghost use Rattle.lx_auto.specs.PositionSets.{numbered};
 ghost use Rattle.lx_auto.specs.SetTable.{GoesOn, IsNumbering, IsTarget, set_of};
 ghost use Rattle.lx_auto.specs.Exploring as plain;
-ghost use Rattle.lx_auto.specs.Exploring.{AddsTarget, AreReachedSets, HasMoreSets, HaveSteps, IsRowOf};
+ghost use Rattle.lx_auto.specs.Exploring.{AddsTarget, AreReachedSets, HasMoreSets, HaveSteps, IsExplored, IsRowOf, start_count, start_number};
 
+use crate::active::active_rules;
 use crate::fault::BuildFault;
+use crate::follow::{begin, follow};
+use crate::ground::Ground;
 use crate::leaf::{Leaf, has};
 use crate::numbering::number_of;
 use crate::set_table::{PositionSet, SetTable};
+use lx_spec::spec::Spec;
 use smallvec::SmallVec;
 use std::alloc::{AllocError, Global};
 
@@ -137,4 +144,66 @@ pub(crate) struct Explored {
     pub(crate) targets: Vec<Option<usize>>,
     /// Of each set the rule that it matches.
     pub(crate) matched: Vec<Option<usize>>,
+}
+
+// Adds the targets of a start.
+fn add_start(
+    alloc: Global,
+    spec: &Spec,
+    ground: &Ground,
+    condition: u16,
+    at_line_begin: bool,
+    table: &mut SetTable,
+    targets: &mut Vec<Option<usize>>,
+    limit: usize,
+) -> Result<(), BuildFault>
+    requires condition { condition < length (spec_view spec.now).conditions }
+    requires numbering { IsNumbering table.old.sets.items table.old.numbers }
+    requires room { length table.old.sets.items ≤ limit }
+    ensures numbering { OnOk result (IsNumbering table.new.sets.items table.new.numbers) }
+    ensures room { OnOk result (length table.new.sets.items ≤ limit) }
+    ensures few { IfErr result (λ e. e ≢ BuildFault.TooManyPositions) }
+    ensures explored { (tree_of : Regex → Unfolded) → IsGroundOf (spec_view spec.now) tree_of ground.now → IsExplored (spec_view spec.now) tree_of (leaves_view ground.now.leaves.items) ground.now.groups.representatives.items table.old.sets.items targets.old.items (start_number condition at_line_begin) → OnOk result (IsExplored (spec_view spec.now) tree_of (leaves_view ground.now.leaves.items) ground.now.groups.representatives.items table.new.sets.items targets.new.items (start_number condition at_line_begin + 1)) }
+    ensures many { (tree_of : Regex → Unfolded) → IsGroundOf (spec_view spec.now) tree_of ground.now → IsExplored (spec_view spec.now) tree_of (leaves_view ground.now.leaves.items) ground.now.groups.representatives.items table.old.sets.items targets.old.items (start_number condition at_line_begin) → IfErr result (λ e. e ≡ BuildFault.TooManySets → HasMoreSets (spec_view spec.now) (numbered tree_of 0 (spec_view spec.now).rules) limit) }
+{
+    let Ok(active) = active_rules(alloc, spec, condition, at_line_begin) else {
+        return Err(BuildFault::Memory);
+    };
+    let Ok(first) = begin(alloc, &ground.parts, ground.total, &active) else {
+        return Err(BuildFault::Memory);
+    };
+    let leaves = ground.leaves.as_slice();
+    let representatives = ground.groups.representatives.as_slice();
+    add_row(alloc, leaves, representatives, &first, table, targets, limit)
+}
+
+// Adds the targets of a set, and gives the rule that it matches.
+fn add_set_row(
+    alloc: Global,
+    ground: &Ground,
+    number: usize,
+    table: &mut SetTable,
+    targets: &mut Vec<Option<usize>>,
+    limit: usize,
+) -> Result<Option<usize>, BuildFault>
+    requires number { number < length table.old.sets.items }
+    requires numbering { IsNumbering table.old.sets.items table.old.numbers }
+    requires room { length table.old.sets.items ≤ limit }
+    ensures numbering { OnOk result (IsNumbering table.new.sets.items table.new.numbers) }
+    ensures room { OnOk result (length table.new.sets.items ≤ limit) }
+    ensures more { OnOk result (length table.old.sets.items ≤ length table.new.sets.items) }
+    ensures kept { OnOk result ((i : ℕ) → i < length table.old.sets.items → set_of table.new.sets.items i ≡ set_of table.old.sets.items i) }
+    ensures few { IfErr result (λ e. e ≢ BuildFault.TooManyPositions) }
+    ensures matched { (spec : PlainSpec) (tree_of : Regex → Unfolded) → IsGroundOf spec tree_of ground.now → IfOk result (λ found. IsEarliestMatched (numbered tree_of 0 spec.rules) (set_of table.old.sets.items number) found) }
+    ensures explored { (spec : PlainSpec) (tree_of : Regex → Unfolded) → IsGroundOf spec tree_of ground.now → IsExplored spec tree_of (leaves_view ground.now.leaves.items) ground.now.groups.representatives.items table.old.sets.items targets.old.items (start_count spec + number) → OnOk result (IsExplored spec tree_of (leaves_view ground.now.leaves.items) ground.now.groups.representatives.items table.new.sets.items targets.new.items (start_count spec + number + 1)) }
+    ensures many { (spec : PlainSpec) (tree_of : Regex → Unfolded) → IsGroundOf spec tree_of ground.now → IsExplored spec tree_of (leaves_view ground.now.leaves.items) ground.now.groups.representatives.items table.old.sets.items targets.old.items (start_count spec + number) → IfErr result (λ e. e ≡ BuildFault.TooManySets → HasMoreSets spec (numbered tree_of 0 spec.rules) limit) }
+{
+    let set = table.sets[number].as_slice();
+    let Ok(found) = follow(alloc, &ground.parts, ground.total, set) else {
+        return Err(BuildFault::Memory);
+    };
+    let leaves = ground.leaves.as_slice();
+    let representatives = ground.groups.representatives.as_slice();
+    add_row(alloc, leaves, representatives, &found.next, table, targets, limit)?;
+    Ok(found.matched)
 }

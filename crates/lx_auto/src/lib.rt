@@ -2,6 +2,7 @@
 //! (McNaughton and Yamada 1960, Glushkov 1961, Rabin and Scott 1959; Moore 1956, Hopcroft 1971).
 #![tactic(auto)]
 
+mod active;
 pub mod automaton;
 mod classes;
 mod complete;
@@ -9,6 +10,7 @@ mod draft;
 mod explore;
 mod fault;
 mod follow;
+mod ground;
 mod groups;
 mod leaf;
 mod marking;
