@@ -2,4 +2,8 @@
 //! (McNaughton and Yamada 1960, Glushkov 1961, Rabin and Scott 1959).
 #![tactic(auto)]
 
+mod count;
 mod fault;
+mod names;
+mod node;
+mod part;
