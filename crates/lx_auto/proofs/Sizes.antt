@@ -28,10 +28,10 @@ room (plus a) = 2 + unless (nullable a)
 pub record IsSmall (t : Unfolded) : Type 0 where
   pub few : length (nodes_of t) + room t ≤ 5 * position_count t
 
-two : (a b : List PlainNode) (n : PlainNode) → length (a ++ (b ++ n ∷ [])) ≡ length a + length b + 1
+pub two : (a b : List PlainNode) (n : PlainNode) → length (a ++ (b ++ n ∷ [])) ≡ length a + length b + 1
 two a b n = let e = length-append a (b ++ n ∷ []) in let f = length-append b (n ∷ []) in omega arith
 
-one : (a : List PlainNode) (n : PlainNode) → length (a ++ n ∷ []) ≡ length a + 1
+pub one : (a : List PlainNode) (n : PlainNode) → length (a ++ n ∷ []) ≡ length a + 1
 one a n = let e = length-append a (n ∷ []) in omega arith
 
 -- beside another expression the room is enough
@@ -49,7 +49,7 @@ either false b = omega arith
 pub full_room : Unfolded → ℕ
 full_room t = 2 + unless (nullable t)
 
-pub is_full : Unfolded → Bool
+unfoldable pub is_full : Unfolded → Bool
 is_full empty = false
 is_full (leaf s) = true
 is_full (cat a b) = true

@@ -1,5 +1,5 @@
 -- The nodes of the code, without where they lie in memory.
-use Rattle.std.specs.Prelude.{◌≡◌, List, ◌++◌, map}
+use Rattle.std.specs.Prelude.{◌≡◌, ℕ, zero, suc, Bool, true, false, List, [], ◌∷◌, ◌++◌, map}
 use Rattle.lx_auto.specs.Unfolded.{Unfolded}
 use Rattle.lx_auto.specs.Nodes.{PlainNode, leaf_node, newline_node, cat_node, alt_node, opt_node, plus_node, end_node, nodes_of}
 use Rattle.lx_auto.specs.Parts.{part_of}
@@ -23,3 +23,18 @@ nodes_view nodes = map node_view nodes
 pub record Appends (t : Unfolded) (old new : List PlainNode) (p : Part) : Type 0 where
   pub nodes : new ≡ old ++ nodes_of t
   pub part : p ≡ part_of t
+
+-- The nodes of two expressions stand behind others, and then those of the one that is made of both stand there.
+abbrev pub Joins : (Unfolded → Unfolded → Unfolded) → List PlainNode → List PlainNode → Part → Part → Part → Type 0
+Joins make old new left right p =
+    (base : List PlainNode) (a b : Unfolded) → old ≡ base ++ (nodes_of a ++ nodes_of b) → left ≡ part_of a → right ≡ part_of b → Appends (make a b) base new p
+
+-- The nodes of an expression stand behind others, and then those of the one that is made of it.
+abbrev pub Changes : (Unfolded → Unfolded) → List PlainNode → List PlainNode → Part → Part → Type 0
+Changes make old new body p = (base : List PlainNode) (a : Unfolded) → old ≡ base ++ nodes_of a → body ≡ part_of a → Appends (make a) base new p
+
+-- what stands behind an expression of so many nodes
+abbrev pub end_nodes : (line_end : Bool) → ℕ → List PlainNode
+end_nodes false n = []
+end_nodes true zero = newline_node ∷ []
+end_nodes true (suc n) = newline_node ∷ end_node ∷ []
