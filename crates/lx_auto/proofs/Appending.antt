@@ -40,10 +40,10 @@ no-name-right : (xs ys : List (List ℕ)) → IsTrue (is_no_name (xs ++ ys)) →
 no-name-right [] ys h = h
 no-name-right (x ∷ xs) ys h = absurd (false≢true h)
 
-all-left : (p : List ℕ → Bool) (xs ys : List (List ℕ)) → IsTrue (list_all p (xs ++ ys)) → IsTrue (list_all p xs)
+pub all-left : (p : List ℕ → Bool) (xs ys : List (List ℕ)) → IsTrue (list_all p (xs ++ ys)) → IsTrue (list_all p xs)
 all-left p xs ys h = and-left (list_all p xs) (list_all p ys) (sym (list_all-append p xs ys) ∙ h)
 
-all-right : (p : List ℕ → Bool) (xs ys : List (List ℕ)) → IsTrue (list_all p (xs ++ ys)) → IsTrue (list_all p ys)
+pub all-right : (p : List ℕ → Bool) (xs ys : List (List ℕ)) → IsTrue (list_all p (xs ++ ys)) → IsTrue (list_all p ys)
 all-right p xs ys h = and-right (list_all p xs) (list_all p ys) (sym (list_all-append p xs ys) ∙ h)
 
 -- a part of an expression has its names no deeper
