@@ -7,7 +7,7 @@ ghost use Rattle.lx_auto.specs.Unfolding.{Unfolds, AreFragments};
 
 use crate::fragment::Fragment;
 use crate::names::Names;
-use crate::order::{Need, find_needs, is_next};
+use crate::definition_order::{Need, find_needs, is_next};
 use crate::unfold::unfold;
 use lx_ere::expr::Expr;
 use lx_spec::rule::Rule;

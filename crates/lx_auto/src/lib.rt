@@ -9,7 +9,7 @@ mod fill;
 mod fragment;
 mod names;
 mod node;
-mod order;
+mod definition_order;
 mod part;
 mod repeat;
 mod unfold;

@@ -7,8 +7,6 @@ use lx_ere::set::ByteSet;
 pub(crate) enum Node<'s> {
     /// One byte of the set.
     Leaf(&'s ByteSet),
-    /// The newline of a line end.
-    Newline,
     /// The left child, then the right one, which has so many nodes.
     Cat(usize),
     /// Either child; the right one has so many nodes.
@@ -17,6 +15,4 @@ pub(crate) enum Node<'s> {
     Optional,
     /// One or more of the child.
     Repeated,
-    /// The expression of a rule, and then the newline.
-    End,
 }
