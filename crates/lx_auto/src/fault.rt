@@ -1,5 +1,8 @@
 // Why an automaton isn't built.
+ghost use Rattle.std.specs.Prelude.{◌≡◌};
+ghost use Rattle.lx_auto.specs.declared.fault.BuildFault.TheVariants.{Memory};
 
+use std::alloc::{AllocError, AllocFailed};
 use thiserror::Error;
 
 /// Why an automaton isn't built.
@@ -14,4 +17,20 @@ pub enum BuildFault {
     /// Memory was refused.
     #[error("E90")]
     Memory,
+}
+
+impl From<AllocError> for BuildFault {
+    ghost from_gives = { λ _ e. e ≡ Memory };
+
+    fn from(_e: AllocError) -> BuildFault {
+        BuildFault::Memory
+    }
+}
+
+impl<T: Drop> From<AllocFailed<T>> for BuildFault {
+    ghost from_gives = { λ _ e. e ≡ Memory };
+
+    fn from(_e: AllocFailed<T>) -> BuildFault {
+        BuildFault::Memory
+    }
 }
