@@ -5,27 +5,33 @@ mod files;
 
 use crate::files::FileSources;
 use lx_tool::run;
-use std::io::{BufWriter, Write};
+use std::io::{BufWriter, ErrorKind, Write};
 use std::process::ExitCode;
 use std::{env, io};
 
 // How many bytes of the listing are written at once.
 const BUFFER: usize = 262_144;
 
-// The exit status where memory is refused before the program's own work begins, and its line.
+// The exit statuses where the program's own work doesn't begin: the words can't be had, or memory is refused.
+const NO_WORDS: u8 = 2;
+
 const NO_MEMORY: u8 = 5;
 
 fn main(rt: HostRuntime) -> ExitCode {
     match start(&rt) {
         Ok(status) => ExitCode::from(status),
-        Err(_) => {
+        Err(error) if error.kind() == ErrorKind::OutOfMemory => {
             let _ = eprintln!(rt; "lx: out of memory");
             ExitCode::from(NO_MEMORY)
+        }
+        Err(_) => {
+            let _ = eprintln!(rt; "lx: a word of the command line isn't UTF-8");
+            ExitCode::from(NO_WORDS)
         }
     }
 }
 
-// Only memory can be refused here: the words and the buffer.
+// Two faults there are here: a word isn't UTF-8, or memory is refused for the words or the buffer.
 fn start(rt: &HostRuntime) -> io::Result<u8> {
     let alloc = rt.alloc();
     let words: Vec<String> = env::args(rt)?.collect(alloc)?;

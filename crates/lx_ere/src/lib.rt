@@ -2,8 +2,6 @@
 #![tactic(auto)]
 
 mod bracket;
-#[cfg(test)]
-mod equality_tests;
 pub mod escape;
 pub mod expr;
 pub mod extent;
@@ -14,8 +12,6 @@ mod name;
 mod prefix;
 pub mod read;
 pub mod set;
-#[cfg(test)]
-mod tests;
 
 pub use crate::expr::{Expr, Pattern};
 pub use crate::extent::pattern_end;

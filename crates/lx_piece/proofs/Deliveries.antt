@@ -3,12 +3,12 @@ use Rattle.std.specs.Prelude.{slice_get, slice_index, All, Contains}
 use Rattle.std.proofs.lemmas.Bool.{and_parts, cases_lt, eqb-true, ltb-true, lt-ltb, le-ltb, or_left, or_from, not-false}
 use Rattle.std.proofs.lemmas.Option.{slice_get-get_or}
 use Rattle.std.proofs.lemmas.List.Elements.{All-nil, All-head, All-tail, All-push, All-contains}
-use Rattle.std.proofs.lemmas.List.{get_or-replicate, length-replicate}
+use Rattle.std.proofs.lemmas.List.{get_or-replicate, length-replicate, length_push, same_from_push}
 use Rattle.lx_piece.specs.declared.piece.Piece.{Piece}
 use Rattle.lx_piece.specs.declared.reply.Why.{Why}
 use Rattle.lx_piece.specs.Plans.{Planned, files_of}
 use Rattle.lx_piece.specs.Pieces.{IsPieceOf, pieces_of}
-use Rattle.lx_piece.specs.Arrivals.{Site, site_of, IsHonest, AreHonest, accepted_behind, accepted_of, with_arrival, joined, cause_against, has_piece, is_numbered, reply_to, replies_of}
+use Rattle.lx_piece.specs.Arrivals.{Site, site_of, IsHonest, AreHonest, accepted_behind, accepted_of, with_arrival, joined, cause_against, has_piece, is_numbered, reply_to, replies_of, IsLeastMissing}
 use Rattle.lx_piece.specs.Kept.{Kept, LaneStandsFor, StandsFor, NoneReady, site_of_kept, held_at, delivered_counts, is_ready_at, fresh_lane}
 use Rattle.lx_piece.specs.declared.reply.Reply.{Reply}
 use Rattle.lx_piece.specs.Relayed.{TakesAllInOrder, HoldsPlanned, AllDelivered, AtMostDelivered, AreAtMost, RelayedInPart}
@@ -112,6 +112,20 @@ fresh_site plan kept run files k r f =
 pub fresh_delivered : (plan : Planned) (kept : Kept) (run files : ℕ) → kept ≡ record { run = run; lanes = replicate files fresh_lane } → files ≡ files_of plan → replicate (files_of plan) 0 ≡ delivered_counts kept
 fresh_delivered plan kept run files k f = sym (ap delivered_counts k ∙ fresh_counts files ∙ ap (λ (n : ℕ). replicate n 0) f)
 
+-- all that the list before its last arrival delivers was taken
+abbrev pub IsEager : Planned → List Piece → List ℕ → Type 0
+IsEager plan came counts = (before : List Piece) (last : Piece) → came ≡ before ++ last ∷ [] → (file k : ℕ) → file < files_of plan → IsLeastMissing (accepted_of (site_of plan) before) file k → k ≤ slice_index counts file
+
+-- so it is where all of the list before was delivered and no count has fallen since
+eager_behind : (plan : Planned) (came : List Piece) (p : Piece) (counts after : List ℕ) → AllDelivered (site_of plan) came counts → AreAtMost counts after → IsEager plan (came ++ p ∷ []) after
+eager_behind plan came p counts after h rise = λ before last e file k within least.
+    let here = subst (λ (list : List Piece). IsLeastMissing (accepted_of (site_of plan) list) file k) (sym (same_from_push came before p last e).0) least in
+    let risen = rise.each file in
+    elim (cases_lt (slice_index counts file) k) [
+      | inl below ↦ let there = here.below (slice_index counts file) below in let missing = (h.each file within).missing in absurd (cc)
+      | inr least_ ↦ omega arith
+    ]
+
 -- one arrival more
 pub so_far_with : {S : Type 0} (plan : Planned) (leads : S → List Piece → S → Type 0) (goes_on : (s t u : S) (xs ys : List Piece) → leads s xs t → leads t ys u → leads s (xs ++ ys) u) (s t u : S) (old new : Kept) (replies : List Reply) (p : Piece) (reply : Reply) → SoFar plan (λ came. leads s came t) old replies → leads t (p ∷ []) u → IsHonest plan p → site_of_kept old ≡ site_of plan → ((came : List Piece) → StandsFor old came → reply ≡ reply_to (site_of_kept old) (accepted_of (site_of_kept old) came) p) → ((came : List Piece) → StandsFor old came → StandsFor new (came ++ p ∷ [])) → SoFar plan (λ came. leads s came u) new (replies ++ reply ∷ [])
 so_far_with plan leads goes_on s t u old new replies p reply so led honest e answers stands =
@@ -146,20 +160,30 @@ taken_from plan came counts some honest h =
     ] in
     record { within = within; each = λ file l. takes_in_order plan file (slice_index counts file) some (within file l) }
 
-pub in_part : (plan : Planned) (leads : List Piece → Type 0) (kept : Kept) (replies : List Reply) (counts : List ℕ) → 0 < plan.per_piece → SoFar plan leads kept replies → site_of_kept kept ≡ site_of plan → AreAtMost counts (delivered_counts kept) → RelayedInPart plan leads counts
-in_part plan leads kept replies counts some so e c =
+in_part : (plan : Planned) (leads : List Piece → Type 0) (kept : Kept) (replies : List Reply) (counts : List ℕ) → 0 < plan.per_piece → (so : SoFar plan leads kept replies) → site_of_kept kept ≡ site_of plan → AreAtMost counts (delivered_counts kept) → IsEager plan so.came counts → RelayedInPart plan leads counts
+in_part plan leads kept replies counts some so e c eager =
     let delivered = at_most_delivered (site_of plan) kept so.came counts e so.stands c in
-    record { came = so.came; led = so.led; honest = so.honest; delivered = delivered; taken = taken_from plan so.came counts some so.honest delivered }
+    record { came = so.came; led = so.led; honest = so.honest; delivered = delivered; eager = eager; taken = taken_from plan so.came counts some so.honest delivered }
+
+-- an arrival behind which some was delivered, and then the reader failed
+pub in_part_behind : {S : Type 0} (plan : Planned) (leads : S → List Piece → S → Type 0) (goes_on : (s t u : S) (xs ys : List Piece) → leads s xs t → leads t ys u → leads s (xs ++ ys) u) (s t u : S) (old mid new : Kept) (replies : List Reply) (before counts : List ℕ) (p : Piece) (reply : Reply) → 0 < plan.per_piece → SoFar plan (λ came. leads s came t) old replies → leads t (p ∷ []) u → IsHonest plan p → site_of_kept old ≡ site_of plan → NoneReady old.lanes → before ≡ delivered_counts old → ((came : List Piece) → StandsFor old came → reply ≡ reply_to (site_of_kept old) (accepted_of (site_of_kept old) came) p) → ((came : List Piece) → StandsFor old came → StandsFor mid (came ++ p ∷ [])) → ((came : List Piece) → StandsFor mid came → StandsFor new came) → site_of_kept new ≡ site_of plan → AreAtMost counts (delivered_counts new) → AreAtMost before counts → RelayedInPart plan (λ came. leads s came u) counts
+unfolding so_far_with so_far_still
+in_part_behind plan leads goes_on s t u old mid new replies before counts p reply some so led honest e ready c answers stands still site most risen =
+    let with = so_far_with plan leads goes_on s t u old mid replies p reply so led honest e answers stands in
+    let then = so_far_still plan (λ came. leads s came u) mid new (replies ++ reply ∷ []) with still in
+    in_part plan (λ came. leads s came u) new (replies ++ reply ∷ []) counts some then site most
+    (eager_behind plan so.came p before counts (all_delivered (site_of plan) old so.came before e so.stands ready c) risen)
 
 -- an arrival that no reply was given to
-pub in_part_with : {S : Type 0} (plan : Planned) (leads : S → List Piece → S → Type 0) (goes_on : (s t u : S) (xs ys : List Piece) → leads s xs t → leads t ys u → leads s (xs ++ ys) u) (s t u : S) (kept : Kept) (replies : List Reply) (counts : List ℕ) (p : Piece) → 0 < plan.per_piece → SoFar plan (λ came. leads s came t) kept replies → leads t (p ∷ []) u → IsHonest plan p → site_of_kept kept ≡ site_of plan → counts ≡ delivered_counts kept → RelayedInPart plan (λ came. leads s came u) counts
-in_part_with plan leads goes_on s t u kept replies counts p some so led honest e c =
+pub in_part_with : {S : Type 0} (plan : Planned) (leads : S → List Piece → S → Type 0) (goes_on : (s t u : S) (xs ys : List Piece) → leads s xs t → leads t ys u → leads s (xs ++ ys) u) (s t u : S) (kept : Kept) (replies : List Reply) (counts : List ℕ) (p : Piece) → 0 < plan.per_piece → SoFar plan (λ came. leads s came t) kept replies → leads t (p ∷ []) u → IsHonest plan p → site_of_kept kept ≡ site_of plan → NoneReady kept.lanes → counts ≡ delivered_counts kept → RelayedInPart plan (λ came. leads s came u) counts
+in_part_with plan leads goes_on s t u kept replies counts p some so led honest e ready c =
     let delivered = at_most_delivered (site_of plan) kept so.came counts e so.stands (same_at_most counts (delivered_counts kept) c) in
     record {
       came = so.came ++ p ∷ [];
       led = goes_on s t u so.came (p ∷ []) so.led led;
       honest = All-push (IsHonest plan) so.came p so.honest honest;
       delivered = at_most_more (site_of plan) so.came counts p delivered;
+      eager = eager_behind plan so.came p counts counts (all_delivered (site_of plan) kept so.came counts e so.stands ready c) (same_at_most counts counts refl);
       taken = taken_from plan so.came counts some so.honest delivered;
     }
 
@@ -173,4 +197,4 @@ part_at_start plan leads counts some led e =
           let none : slice_index counts file ≡ 0 = ap (λ (ns : List ℕ). slice_index ns file) e ∙ get_or-replicate (files_of plan) file 0 0 within in
           absurd (omega arith);
     } in
-    record { came = []; led = led; honest = All-nil (IsHonest plan); delivered = delivered; taken = taken_from plan [] counts some (All-nil (IsHonest plan)) delivered }
+    record { came = []; led = led; honest = All-nil (IsHonest plan); delivered = delivered; eager = λ before last e_ file k within least. absurd (omega (arith, ap length e_, length_push before last)); taken = taken_from plan [] counts some (All-nil (IsHonest plan)) delivered }

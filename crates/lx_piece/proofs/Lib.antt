@@ -9,4 +9,3 @@ pub mod Deliveries
 pub mod Closed
 pub mod Arrived
 pub mod Whole
-pub mod Echoed

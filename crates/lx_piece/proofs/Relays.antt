@@ -117,3 +117,17 @@ counts_rise old new file p h =
             omega arith
       ];
     }
+
+-- so counts that follow the collector's have not fallen
+pub risen_more : (first counts after : List ℕ) (old new : List Lane) (file : ℕ) (p : Piece) → AreAtMost first counts → counts ≡ nexts old → after ≡ nexts new → Delivers old file p new → AreAtMost first after
+risen_more first counts after old new file p before e f h =
+    let step = counts_rise old new file p h in
+    record {
+      files = before.files ∙ ap length e ∙ step.files ∙ sym (ap length f);
+      each = λ g.
+          let was = before.each g in
+          let more = step.each g in
+          let old_count = ap (λ (ns : List ℕ). slice_index ns g) e in
+          let new_count = ap (λ (ns : List ℕ). slice_index ns g) f in
+          omega arith;
+    }

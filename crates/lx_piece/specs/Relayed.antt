@@ -1,4 +1,4 @@
-use Rattle.std.specs.Prelude.{ℕ, ◌≡◌, ◌<◌, ◌≤◌, true, List, Some, Contains, length, slice_index, slice_get}
+use Rattle.std.specs.Prelude.{ℕ, ◌≡◌, ◌<◌, ◌≤◌, true, List, [], ◌∷◌, ◌++◌, Some, Contains, length, slice_index, slice_get}
 use Rattle.lx_piece.specs.declared.reply.Reply.{Reply}
 use Rattle.lx_piece.specs.Kept.{Lane, held_at}
 use Rattle.lx_piece.specs.declared.piece.Piece.{Piece}
@@ -42,12 +42,13 @@ pub record Relayed (plan : Planned) (leads : List Piece → Type 0) (replies : L
   pub taken : TakesAllInOrder plan counts
   pub whole : (file : ℕ) → file < files_of plan → AreAllAmong plan file came → slice_index counts file ≡ pieces_of plan file
 
--- what a run that failed delivered: no more than the list taken so far delivers
+-- what a run that failed delivered: no more than the list taken so far delivers, and no less than the list before its last arrival delivers
 pub record RelayedInPart (plan : Planned) (leads : List Piece → Type 0) (counts : List ℕ) : Type 0 where
   pub came : List Piece
   pub led : leads came
   pub honest : AreHonest plan came
   pub delivered : AtMostDelivered (site_of plan) came counts
+  pub eager : (before : List Piece) (last : Piece) → came ≡ before ++ last ∷ [] → (file k : ℕ) → file < files_of plan → IsLeastMissing (accepted_of (site_of plan) before) file k → k ≤ slice_index counts file
   pub taken : TakesAllInOrder plan counts
 
 -- each held piece is the plan's piece of its file and number

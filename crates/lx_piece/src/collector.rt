@@ -118,6 +118,8 @@ impl Collector {
         ensures reply { (came : List Piece) → StandsFor self.old came → MatchResult result
             (λ _. cause_against (site_of_kept self.old) (accepted_of (site_of_kept self.old) came) piece ≡ None)
             (λ refused. (refused.why ≡ Why.Memory) ⊎ (cause_against (site_of_kept self.old) (accepted_of (site_of_kept self.old) came) piece ≡ Some refused.why)) }
+        // Memory stands behind every other cause.
+        ensures memory { (came : List Piece) → StandsFor self.old came → IfErr result (λ refused. refused.why ≡ Why.Memory → cause_against (site_of_kept self.old) (accepted_of (site_of_kept self.old) came) piece ≡ None) }
         ensures ok { (came : List Piece) → StandsFor self.old came → OnOk result (StandsFor self.new (came ++ piece ∷ [])) }
         ensures kept { OnOk result (KeepsIn self.old.lanes piece self.new.lanes) }
         ensures run { self.new.run ≡ self.old.run }

@@ -24,6 +24,3 @@ pub use plan::Plan;
 pub use reader::{Reader, ReaderFault};
 pub use relaying::{RelayFault, relay};
 pub use reply::{Refused, Reply, Why};
-
-#[cfg(test)]
-mod tests;

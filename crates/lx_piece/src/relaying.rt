@@ -74,7 +74,7 @@ fn deliver_all<R: Reader>(collector: &mut Collector, reader: &mut R) -> Result<(
     ensures stands { (came : List Piece) → StandsFor collector.old came → StandsFor collector.new came }
     ensures site { site_of_kept collector.new ≡ site_of_kept collector.old }
     ensures ok { OnOk result ((R.counts reader.new ≡ delivered_counts collector.new) × NoneReady collector.new.lanes × (R.fault_count reader.new ≡ R.fault_count reader.old)) }
-    ensures err { OnErr result (AreAtMost (R.counts reader.new) (delivered_counts collector.new)) }
+    ensures err { OnErr result (AreAtMost (R.counts reader.new) (delivered_counts collector.new) × AreAtMost (R.counts reader.old) (R.counts reader.new)) }
     ensures reader { result ≡ Err RelayFault.Reader → R.fault_count reader.old < R.fault_count reader.new }
     ensures memory { result ≡ Err RelayFault.Memory → R.fault_count reader.new ≡ R.fault_count reader.old }
 {
@@ -106,7 +106,8 @@ pub fn relay<A: Arrivals, R: Reader>(
     ensures ended { OnOk result (A.has_ended arrivals.new) }
     ensures ok { IfOk result (λ replies. Relayed plan.now (λ came. A.leads arrivals.old came arrivals.new) replies.items (R.counts reader.new)) }
 
-    // After a fault it took no more than those of the list that came so far.
+    // After a fault it took no more than those of the list that came so far, and all of the list before the last
+    // arrival: what can be delivered is handed on before the next arrival comes.
     ensures err { OnErr result (RelayedInPart plan.now (λ came. A.leads arrivals.old came arrivals.new) (R.counts reader.new)) }
     ensures follows { R.follows reader.old reader.new }
     ensures plan { R.plan reader.new ≡ R.plan reader.old }

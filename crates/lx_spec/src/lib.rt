@@ -29,8 +29,6 @@ pub mod rule_line;
 pub mod section;
 pub mod spec;
 pub mod symbol_table;
-#[cfg(test)]
-mod tests;
 pub mod word;
 
 pub use crate::condition::Condition;

@@ -10,13 +10,14 @@ use Rattle.lx_piece.specs.Plans.{Planned, IsPlan, files_of, items_of}
 use Rattle.lx_piece.specs.Pieces.{IsPrefix, contents, is_closing}
 use Rattle.lx_piece.specs.PieceLaws.{prefix_to, takes_in_order}
 use Rattle.lx_tool.specs.Lines.{lines_of}
-use Rattle.lx_tool.specs.Listings.{AppendsPrefix, listing_to, listing_of}
+use Rattle.lx_tool.specs.Listings.{AppendsPrefix, AppendsWhole, AreWhole, listing_to, listing_of}
 use Rattle.lx_tool.specs.ListingLaws.{appends_both, appends_nothing, prefix_then, prefix_behind, lines_begin}
 use Rattle.lx_tool.specs.Waiting.{waiting_of, AreFirstPieces, Waits, WritesOn, WritesInPart}
+use Rattle.lx_tool.proofs.WholeLines.{lines_whole, whole_both, wrote_both}
 
 -- the lines of a file of which all pieces are there, behind those before it, are those of the files below the next
-pub lines_whole : (plan : Planned) (file : ℕ) (pieces : List Piece) → IsPlan plan → AreFirstPieces plan file pieces → list_any is_closing pieces ≡ true → listing_to plan file ++ lines_of plan file (contents pieces) ≡ listing_to plan (file + 1)
-lines_whole plan file pieces is are closed =
+pub closed_lines : (plan : Planned) (file : ℕ) (pieces : List Piece) → IsPlan plan → AreFirstPieces plan file pieces → list_any is_closing pieces ≡ true → listing_to plan file ++ lines_of plan file (contents pieces) ≡ listing_to plan (file + 1)
+closed_lines plan file pieces is are closed =
     let order = takes_in_order plan file are.count is.some_items are.within in
     let all = order.whole (sym (ap (λ ps. list_any is_closing ps) are.same) ∙ closed) in
     ap (λ ps. listing_to plan file ++ lines_of plan file (contents ps)) are.same
@@ -32,6 +33,7 @@ pub record WroteFiles (plan : Planned) (from : ℕ) (old : List (List Piece)) (f
   pub others : (g : ℕ) → file ≤ g → waiting_of new g ≡ waiting_of old g
   pub bytes : List ℕ
   pub wrote : Appends before after bytes
+  pub whole : AreWhole bytes
   pub lines : listing_to plan from ++ bytes ≡ listing_to plan file
 
 pub files_none : (plan : Planned) (from : ℕ) (old : List (List Piece)) (before : Option (List ℕ)) → from ≤ files_of plan → WroteFiles plan from old from old before before
@@ -44,6 +46,7 @@ files_none plan from old before l =
       others = λ g _. refl;
       bytes = [];
       wrote = appends_nothing before;
+      whole = inl refl;
       lines = append-nil (listing_to plan from);
     }
 
@@ -67,7 +70,8 @@ files_more plan from old file mid left a b c is waits w l closed wrote =
       others = λ g f. get_or-set_other mid file g left [] (λ e. absurd (omega arith)) ∙ w.others g (omega arith);
       bytes = w.bytes ++ lines_of plan file (contents (waiting_of mid file));
       wrote = appends_both a b c w.bytes (lines_of plan file (contents (waiting_of mid file))) w.wrote wrote;
-      lines = sym (append_assoc (listing_to plan from) w.bytes (lines_of plan file (contents (waiting_of mid file)))) ∙ ap (λ bs. bs ++ lines_of plan file (contents (waiting_of mid file))) w.lines ∙ lines_whole plan file (waiting_of mid file) is are closed;
+      whole = whole_both w.bytes (lines_of plan file (contents (waiting_of mid file))) w.whole (lines_whole plan file (contents (waiting_of mid file)));
+      lines = sym (append_assoc (listing_to plan from) w.bytes (lines_of plan file (contents (waiting_of mid file)))) ∙ ap (λ bs. bs ++ lines_of plan file (contents (waiting_of mid file))) w.lines ∙ closed_lines plan file (waiting_of mid file) is are closed;
     }
 
 -- it was written, and isn't closed
@@ -119,3 +123,7 @@ files_fault plan from old file mid a b c waits w l fault =
           (prefix_behind (listing_to plan file) fault.0 (lines_of plan file (contents (waiting_of mid file))) fault.1)
           (lines_begin plan file (contents (waiting_of mid file)) l begins));
     }
+
+-- one behind whole lines
+pub files_whole : (plan : Planned) (from : ℕ) (old : List (List Piece)) (file : ℕ) (mid : List (List Piece)) (a b c : Option (List ℕ)) → WroteFiles plan from old file mid a b → AppendsWhole b c → AppendsWhole a c
+files_whole plan from old file mid a b c w k = wrote_both a b c (w.bytes, w.whole, w.wrote) k

@@ -15,6 +15,6 @@ pub mod Runs
 pub mod SetLemmas
 pub mod SourceLemmas
 pub mod Steps
-pub mod TestPieces
 pub mod Viewed
 pub mod Weights
+pub mod WholeLines

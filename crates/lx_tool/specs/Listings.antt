@@ -1,4 +1,4 @@
-use Rattle.std.specs.Prelude.{ℕ, zero, suc, ◌≡◌, ◌≢◌, ◌<◌, ◌≤◌, Bool, true, false, List, [], ◌++◌, Option, length, slice_index}
+use Rattle.std.specs.Prelude.{ℕ, zero, suc, ◌≡◌, ◌≢◌, ◌<◌, ◌≤◌, ◌⊎◌, Bool, true, false, List, [], ◌∷◌, ◌++◌, Option, length, slice_index}
 use Rattle.std.specs.Io.KnownBytes.{Appends}
 use Rattle.lx_piece.specs.Plans.{Planned, files_of, items_of}
 use Rattle.lx_piece.specs.Pieces.{IsPrefix, contents, pieces_of, pieces_to}
@@ -41,6 +41,14 @@ AreAllClosed plan counts = (file : ℕ) → file < files_of plan → slice_index
 -- known bytes grow by a prefix of these
 abbrev pub AppendsPrefix : Option (List ℕ) → Option (List ℕ) → List ℕ → Type 0
 AppendsPrefix old new bytes = (front : List ℕ) × IsPrefix front bytes × Appends old new front
+
+-- Whole lines, where the bytes begin where a line does and are of a listing: in a line a line feed stands at the end alone.
+abbrev pub AreWhole : List ℕ → Type 0
+AreWhole bytes = (bytes ≡ []) ⊎ ((front : List ℕ) × (bytes ≡ front ++ 10 ∷ []))
+
+-- known bytes grow by whole lines
+abbrev pub AppendsWhole : Option (List ℕ) → Option (List ℕ) → Type 0
+AppendsWhole old new = (bytes : List ℕ) × AreWhole bytes × Appends old new bytes
 
 -- how far a listing has come: the pieces that it took of each file, and whether it failed
 pub record Progress : Type 0 where

@@ -6,8 +6,6 @@ mod command_line;
 mod cuts;
 mod line;
 mod listing;
-#[cfg(test)]
-mod listing_tests;
 mod matcher;
 mod places;
 mod planning;
@@ -15,8 +13,6 @@ mod printing;
 mod program;
 mod scanner;
 mod source;
-#[cfg(test)]
-mod tests;
 mod waiting;
 mod writing;
 

@@ -2,7 +2,7 @@ ghost use Rattle.std.specs.Prelude.{◌≡◌, ◌+◌, ◌<◌, [], IfOk, OnOk,
 ghost use Rattle.lx_piece.specs.Plans.{files_of};
 ghost use Rattle.lx_piece.specs.Pieces.{top_number};
 ghost use Rattle.lx_piece.specs.Relayed.{IsNextPiece};
-ghost use Rattle.lx_tool.specs.Listings.{IsDue, Prints, printed};
+ghost use Rattle.lx_tool.specs.Listings.{AppendsWhole, IsDue, Prints, printed};
 ghost use Rattle.lx_tool.specs.Waiting.{queued, counted};
 
 use crate::waiting::place;
@@ -70,9 +70,12 @@ impl<'a> Lister<'a> {
         ensures ok { OnOk result (self.new.counts ≡ counted self.old.counts piece.file) }
         ensures err { OnErr result (self.new.counts ≡ self.old.counts) }
         ensures failed { OnErr result (self.new.failed ≡ true) }
+        ensures working { OnOk result (self.new.failed ≡ false) }
         ensures stopped { self.old.failed ≡ true → result ≡ Err ReaderFault.Device }
         ensures device { result ≡ Err ReaderFault.Device → self.new.faults ≡ self.old.faults + 1 }
         ensures memory { result ≡ Err ReaderFault.Memory → self.new.faults ≡ self.old.faults }
+        // Where memory is refused for a line, nothing of it is written.
+        ensures whole_lines { result ≡ Err ReaderFault.Memory → AppendsWhole (W.contents out.old) (W.contents out.new) }
         ensures no_fault { OnOk result (self.new.faults ≡ self.old.faults) }
     {
         if self.failed {
@@ -152,10 +155,10 @@ impl<'a, W: Write> Listing<'a, W> {
 }
 
 impl<'a, W: Write> Reader for Listing<'a, W> {
-    ghost use Rattle.std.specs.Prelude.{◌≡◌, ◌+◌, ◌<◌, OnOk, OnErr, Err, true};
+    ghost use Rattle.std.specs.Prelude.{◌≡◌, ◌+◌, ◌<◌, OnOk, OnErr, Err, false, true};
     ghost use Rattle.lx_piece.specs.Pieces.{top_number};
     ghost use Rattle.lx_piece.specs.Relayed.{IsNextPiece};
-    ghost use Rattle.lx_tool.specs.Listings.{Prints};
+    ghost use Rattle.lx_tool.specs.Listings.{AppendsWhole, Prints};
     ghost use Rattle.lx_tool.specs.ListingLaws.{prints_nothing, prints_on};
     ghost use Rattle.lx_tool.specs.Waiting.{counted};
 
@@ -177,8 +180,10 @@ impl<'a, W: Write> Reader for Listing<'a, W> {
         ensures err { OnErr result (self.new.progress.counts ≡ self.old.progress.counts) }
         ensures device { result ≡ Err ReaderFault.Device → self.new.progress.faults ≡ self.old.progress.faults + 1 }
         ensures memory { result ≡ Err ReaderFault.Memory → self.new.progress.faults ≡ self.old.progress.faults }
+        ensures whole_lines { result ≡ Err ReaderFault.Memory → AppendsWhole self.old.written self.new.written }
         ensures no_fault { OnOk result (self.new.progress.faults ≡ self.old.progress.faults) }
         ensures failed { OnErr result (self.new.progress.failed ≡ true) }
+        ensures working { OnOk result (self.new.progress.failed ≡ false) }
         ensures stopped { self.old.progress.failed ≡ true → result ≡ Err ReaderFault.Device }
     {
         self.lister.take(&mut self.out, piece)

@@ -1,4 +1,4 @@
-ghost use Rattle.std.specs.Prelude.{◌≡◌, OnOk, OnErr, replicate, false};
+ghost use Rattle.std.specs.Prelude.{◌≡◌, ◌<◌, OnOk, OnErr, Err, replicate, false};
 ghost use Rattle.std.specs.Io.KnownBytes.{Appends};
 ghost use Rattle.lx_piece.specs.Plans.{files_of};
 ghost use Rattle.lx_tool.specs.Listings.{AppendsPrefix, listing_of};
@@ -88,6 +88,8 @@ fn print_all<W: Write>(
     ensures same_reference { printer.new.out.ghost_name ≡ printer.old.out.ghost_name }
     ensures ok { OnOk result (Appends (W.contents printer.old.out.now) (W.contents printer.new.out.now) (listing_of plan.now)) }
     ensures err { OnErr result (AppendsPrefix (W.contents printer.old.out.now) (W.contents printer.new.out.now) (listing_of plan.now)) }
+    // The writer is blamed only where it failed.
+    ensures reader { result ≡ Err RunFault.Reader → 0 < printer.new.lister.now.faults }
 {
     let mut cuts = Cuts::new(alloc, plan);
     let _replies = relay(alloc, plan, &mut cuts, printer)?;

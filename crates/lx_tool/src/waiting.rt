@@ -1,4 +1,4 @@
-ghost use Rattle.std.specs.Prelude.{◌≡◌, ◌≢◌, ◌+◌, ◌<◌, ◌≤◌, ℕ, List, [], ◌∷◌, ◌++◌, IfOk, OnOk, OnErr, MatchResult, All, slice_set, length};
+ghost use Rattle.std.specs.Prelude.{◌≡◌, ◌≢◌, ◌+◌, ◌<◌, ◌≤◌, ℕ, List, [], ◌∷◌, ◌++◌, IfOk, IfErr, OnOk, OnErr, MatchResult, All, slice_set, length};
 ghost use Rattle.std.specs.Io.KnownBytes.{Appends};
 ghost use Rattle.std.specs.List.{list_any};
 ghost use Rattle.lx_piece.specs.declared.piece.Piece.{Piece};
@@ -7,7 +7,7 @@ ghost use Rattle.lx_piece.specs.Plans.{IsPlan, files_of, bytes_of};
 ghost use Rattle.lx_piece.specs.Pieces.{contents, is_closing};
 ghost use Rattle.lx_piece.specs.Relayed.{IsNextPiece};
 ghost use Rattle.lx_tool.specs.Lines.{lines_of};
-ghost use Rattle.lx_tool.specs.Listings.{AppendsPrefix, listing_to};
+ghost use Rattle.lx_tool.specs.Listings.{AppendsPrefix, AppendsWhole, listing_to};
 ghost use Rattle.lx_tool.specs.Waiting.{Waits, WritesOn, WritesInPart, KeepsUp, Places, due_by, queued, waiting_of};
 
 use crate::writing::write_items;
@@ -28,6 +28,7 @@ fn write_waiting<W: Write>(
     ensures closed { IfOk result (λ closed. closed ≡ list_any is_closing waiting.old.items) }
     ensures ok { OnOk result (Appends (W.contents out.old) (W.contents out.new) (lines_of plan.now file (contents waiting.old.items))) }
     ensures err { OnErr result (AppendsPrefix (W.contents out.old) (W.contents out.new) (lines_of plan.now file (contents waiting.old.items))) }
+    ensures memory { IfErr result (λ fault. fault ≡ ReaderFault.Memory → AppendsWhole (W.contents out.old) (W.contents out.new)) }
 {
     let mut closed = false;
     while let Some(piece) = waiting.pop_front() {
@@ -50,6 +51,7 @@ fn write_on<W: Write>(
     requires waits { Waits plan.now from (queued waiting.old.items) }
     ensures ok { IfOk result (λ next. WritesOn plan.now from (queued waiting.old.items) next (queued waiting.new.items) (W.contents out.old) (W.contents out.new)) }
     ensures err { OnErr result (WritesInPart plan.now (listing_to plan.now from) (W.contents out.old) (W.contents out.new)) }
+    ensures memory { IfErr result (λ fault. fault ≡ ReaderFault.Memory → AppendsWhole (W.contents out.old) (W.contents out.new)) }
 {
     let mut file = from;
     while file < plan.files() {
@@ -88,9 +90,10 @@ pub(crate) fn place<W: Write>(
 ) -> Result<u32, ReaderFault>
     requires plan { IsPlan plan.now }
     requires next { (counts : List ℕ) × KeepsUp plan.now counts first (queued waiting.old.items) × IsNextPiece plan.now counts piece }
-    ensures { (counts : List ℕ) → KeepsUp plan.now counts first (queued waiting.old.items) → IsNextPiece plan.now counts piece → MatchResult result
+    ensures placed { (counts : List ℕ) → KeepsUp plan.now counts first (queued waiting.old.items) → IsNextPiece plan.now counts piece → MatchResult result
         (λ next. Places plan.now counts first piece.file next (queued waiting.new.items) (W.contents out.old) (W.contents out.new))
         (λ _. WritesInPart plan.now (due_by plan.now counts first) (W.contents out.old) (W.contents out.new)) }
+    ensures memory { IfErr result (λ fault. fault ≡ ReaderFault.Memory → AppendsWhole (W.contents out.old) (W.contents out.new)) }
 {
     if piece.file != first {
         hold(waiting, piece)?;

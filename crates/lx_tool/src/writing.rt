@@ -1,11 +1,11 @@
-ghost use Rattle.std.specs.Prelude.{◌≡◌, ◌<◌, IfOk, OnOk, OnErr, All};
-ghost use Rattle.std.specs.Io.KnownBytes.{Appends};
+ghost use Rattle.std.specs.Prelude.{◌≡◌, ◌<◌, IfOk, IfErr, OnOk, OnErr, All};
+ghost use Rattle.std.specs.Io.KnownBytes.{Appends, Keeps};
 ghost use Rattle.std.specs.List.{list_any};
 ghost use Rattle.lx_piece.specs.Items.{IsItemOf};
 ghost use Rattle.lx_piece.specs.Plans.{files_of, bytes_of};
 ghost use Rattle.lx_piece.specs.Pieces.{contents, is_closing};
 ghost use Rattle.lx_tool.specs.Lines.{line_of, lines_of};
-ghost use Rattle.lx_tool.specs.Listings.{AppendsPrefix};
+ghost use Rattle.lx_tool.specs.Listings.{AppendsPrefix, AppendsWhole};
 
 use crate::line::make_line;
 use lx_piece::{Item, Piece, Plan, ReaderFault};
@@ -17,6 +17,7 @@ use std::io::Write;
 fn write_bytes<W: Write>(out: &mut W, bytes: &[u8]) -> Result<(), ReaderFault>
     ensures ok { OnOk result (Appends (W.contents out.old) (W.contents out.new) bytes.now) }
     ensures err { OnErr result (AppendsPrefix (W.contents out.old) (W.contents out.new) bytes.now) }
+    ensures device { IfErr result (λ fault. fault ≡ ReaderFault.Device) }
 {
     let mut done = 0;
     while done < bytes.len() {
@@ -41,6 +42,7 @@ fn write_item<W: Write>(
     requires item { IsItemOf plan.now.kinds (bytes_of plan.now file) item.now }
     ensures ok { OnOk result (Appends (W.contents out.old) (W.contents out.new) (line_of plan.now file item.now)) }
     ensures err { OnErr result (AppendsPrefix (W.contents out.old) (W.contents out.new) (line_of plan.now file item.now)) }
+    ensures memory { IfErr result (λ fault. fault ≡ ReaderFault.Memory → Keeps (W.contents out.old) (W.contents out.new)) }
 {
     if make_line(line, plan, file, item).is_err() {
         return Err(ReaderFault::Memory);
@@ -60,6 +62,8 @@ pub(crate) fn write_items<W: Write>(
     requires items { All (IsItemOf plan.now.kinds (bytes_of plan.now file)) items.now }
     ensures ok { OnOk result (Appends (W.contents out.old) (W.contents out.new) (lines_of plan.now file items.now)) }
     ensures err { OnErr result (AppendsPrefix (W.contents out.old) (W.contents out.new) (lines_of plan.now file items.now)) }
+    // Where memory is refused for a line, nothing of it is written.
+    ensures memory { IfErr result (λ fault. fault ≡ ReaderFault.Memory → AppendsWhole (W.contents out.old) (W.contents out.new)) }
 {
     for item in items {
         write_item(out, line, plan, file, item)?;

@@ -1,6 +1,6 @@
 use Rattle.std.proofs.Common.{sym, ◌∙◌, subst}
 use Rattle.lx_piece.specs.Relayed.{IsNextPiece, AreAtMost}
-use Rattle.lx_piece.proofs.Relays.{nexts, delivered_is_next, counts_follow, planned_delivered, fewer_held, counts_rise, same_size}
+use Rattle.lx_piece.proofs.Relays.{nexts, delivered_is_next, counts_follow, planned_delivered, fewer_held, counts_rise, risen_more, same_size}
 use Rattle.lx_piece.proofs.Standing.{same_site}
 use Rattle.lx_piece.proofs.relaying.deliver_all.Goals as goal
 
@@ -19,11 +19,13 @@ loop-piece-preserved g c =
     let i = c.loop-piece.invariant in
     let h = c.in-Some.ensures.delivered in
     let took = c.in-Ok.ensures in
+    let counts = counts_follow _ _ _ _ _ h.0 c.in-Some.piece i.planned i.counts h.1 took.ok in
     record {
       plan = took.plan ∙ i.plan;
       follows = g.met.R.Reader.follows_on _ _ _ i.follows took.follows;
       planned = planned_delivered _ _ _ h.0 c.in-Some.piece i.planned h.1;
-      counts = counts_follow _ _ _ _ _ h.0 c.in-Some.piece i.planned i.counts h.1 took.ok;
+      counts = counts;
+      risen = risen_more _ _ _ _ _ h.0 c.in-Some.piece i.risen i.counts counts h.1;
       faults = took.no_fault ∙ i.faults;
       stands = λ came s. c.in-Some.ensures.stands came (i.stands came s);
       site = same_site _ _ c.in-Some.ensures.run (same_size _ _ h.0 c.in-Some.piece h.1) ∙ i.site;
@@ -31,10 +33,14 @@ loop-piece-preserved g c =
 
 pub returns-in-Err-Device-clause-err : goal.returns-in-Err-Device-clause-err
 returns-in-Err-Device-clause-err g c =
-    let h = c.in-Some.ensures.delivered in
-    subst (λ counts. AreAtMost counts (nexts c.deliver.new.self.lanes)) (sym (c.in-Err-Device.ensures.err ∙ c.loop-piece.invariant.counts)) (counts_rise _ _ h.0 c.in-Some.piece h.1)
+    let h = c.in-Some.ensures.delivered in (
+      subst (λ counts. AreAtMost counts (nexts c.deliver.new.self.lanes)) (sym (c.in-Err-Device.ensures.err ∙ c.loop-piece.invariant.counts)) (counts_rise _ _ h.0 c.in-Some.piece h.1),
+      subst (AreAtMost (g.R.Reader.counts c.args.reader.now)) (sym c.in-Err-Device.ensures.err) c.loop-piece.invariant.risen,
+    )
 
 pub returns-in-Err-Memory-clause-err : goal.returns-in-Err-Memory-clause-err
 returns-in-Err-Memory-clause-err g c =
-    let h = c.in-Some.ensures.delivered in
-    subst (λ counts. AreAtMost counts (nexts c.deliver.new.self.lanes)) (sym (c.in-Err-Memory.ensures.err ∙ c.loop-piece.invariant.counts)) (counts_rise _ _ h.0 c.in-Some.piece h.1)
+    let h = c.in-Some.ensures.delivered in (
+      subst (λ counts. AreAtMost counts (nexts c.deliver.new.self.lanes)) (sym (c.in-Err-Memory.ensures.err ∙ c.loop-piece.invariant.counts)) (counts_rise _ _ h.0 c.in-Some.piece h.1),
+      subst (AreAtMost (g.R.Reader.counts c.args.reader.now)) (sym c.in-Err-Memory.ensures.err) c.loop-piece.invariant.risen,
+    )

@@ -1,7 +1,7 @@
 use Rattle.std.proofs.Common.{◌≡◌, List}
 use Rattle.lx_piece.specs.declared.piece.Piece.{Piece}
 use Rattle.lx_piece.specs.Kept.{StandsFor, site_of_kept, delivered_counts, held_total}
-use Rattle.lx_piece.specs.Relayed.{HoldsPlanned}
+use Rattle.lx_piece.specs.Relayed.{HoldsPlanned, AreAtMost}
 use Rattle.lx_piece.proofs.relaying.deliver_all.Given as goal
 
 -- the reader's counts are the collector's
@@ -12,6 +12,7 @@ invariant-loop-piece g l =
       follows : g.R.Reader.follows l.fn.reader l.reader;
       planned : HoldsPlanned (g.R.Reader.plan l.fn.reader) l.collector.lanes;
       counts : g.R.Reader.counts l.reader ≡ delivered_counts l.collector;
+      risen : AreAtMost (g.R.Reader.counts l.fn.reader) (g.R.Reader.counts l.reader);
       faults : g.R.Reader.fault_count l.reader ≡ g.R.Reader.fault_count l.fn.reader;
       stands : (came : List Piece) → StandsFor l.fn.collector came → StandsFor l.collector came;
       site : site_of_kept l.collector ≡ site_of_kept l.fn.collector;

@@ -8,7 +8,7 @@ use Rattle.lx_piece.specs.Kept.{is_ready_at}
 use Rattle.lx_piece.specs.Relayed.{HoldsPlanned}
 use Rattle.lx_piece.proofs.SoFar.{SoFar}
 use Rattle.lx_piece.proofs.Whole.{whole}
-use Rattle.lx_piece.proofs.Deliveries.{part_at_start, fresh_site, fresh_delivered, fresh_ready, so_far_with, so_far_still, in_part, in_part_with, planned_from}
+use Rattle.lx_piece.proofs.Deliveries.{part_at_start, fresh_site, fresh_delivered, fresh_ready, so_far_with, so_far_still, in_part_behind, in_part_with, planned_from}
 use Rattle.lx_piece.proofs.relaying.relay.Goals as goal
 
 pub returns-in_err-collector-clause-err : goal.returns-in_err-collector-clause-err
@@ -34,7 +34,7 @@ pub returns-in_err-reply-clause-err : goal.returns-in_err-reply-clause-err
 returns-in_err-reply-clause-err g c =
     let i = c.loop-piece.invariant in
     let p = err_from_is_err_and c.from_residual-in_err-reply.result c.from_residual-in_err-reply.ensures.1 in
-    rw p.1 (in_part_with c.args.plan.now g.A.Arrivals.leads g.met.A.Arrivals.goes_on _ _ _ c.loop-piece.collector _ _ c.in-Some.piece c.files.ensures.plan.some_items i.so_far c.in-Some.ensures.leads (subst (λ plan. IsHonest plan c.in-Some.piece) i.arrivals_plan c.in-Some.ensures.honest) i.site i.counts)
+    rw p.1 (in_part_with c.args.plan.now g.A.Arrivals.leads g.met.A.Arrivals.goes_on _ _ _ c.loop-piece.collector _ _ c.in-Some.piece c.files.ensures.plan.some_items i.so_far c.in-Some.ensures.leads (subst (λ plan. IsHonest plan c.in-Some.piece) i.arrivals_plan c.in-Some.ensures.honest) i.site i.ready i.counts)
 
 pub deliver_all-requires-clause-planned : goal.deliver_all-requires-clause-planned
 deliver_all-requires-clause-planned g c =
@@ -53,7 +53,7 @@ pub returns-in_err-push-clause-err : goal.returns-in_err-push-clause-err
 returns-in_err-push-clause-err g c =
     let i = c.loop-piece.invariant in
     let p = err_from_is_err_and c.from_residual-in_err-push.result c.from_residual-in_err-push.ensures.1 in
-    rw p.1 (in_part_with c.args.plan.now g.A.Arrivals.leads g.met.A.Arrivals.goes_on _ _ _ c.loop-piece.collector _ _ c.in-Some.piece c.files.ensures.plan.some_items i.so_far c.in-Some.ensures.leads (subst (λ plan. IsHonest plan c.in-Some.piece) i.arrivals_plan c.in-Some.ensures.honest) i.site i.counts)
+    rw p.1 (in_part_with c.args.plan.now g.A.Arrivals.leads g.met.A.Arrivals.goes_on _ _ _ c.loop-piece.collector _ _ c.in-Some.piece c.files.ensures.plan.some_items i.so_far c.in-Some.ensures.leads (subst (λ plan. IsHonest plan c.in-Some.piece) i.arrivals_plan c.in-Some.ensures.honest) i.site i.ready i.counts)
 
 pub loop-piece-preserved : goal.loop-piece-preserved
 loop-piece-preserved g c =
@@ -80,10 +80,8 @@ returns-in_err-deliver_all-clause-err g c =
     let b = c.in_ok-reply.ensures in
     let h = c.in_err-deliver_all.ensures in
     let honest = subst (λ plan. IsHonest plan c.in-Some.piece) i.arrivals_plan c.in-Some.ensures.honest in
-    let so = so_far_with c.args.plan.now g.A.Arrivals.leads g.met.A.Arrivals.goes_on _ _ _ c.loop-piece.collector c.offer_to.new.collector _ c.in-Some.piece c.in_ok-reply.reply i.so_far c.in-Some.ensures.leads honest i.site b.reply b.stands in
-    let then = so_far_still c.args.plan.now _ c.offer_to.new.collector c.deliver_all.new.collector _ so h.stands in
     let p = err_from_is_err_and c.from_residual-in_err-deliver_all.result c.from_residual-in_err-deliver_all.ensures.1 in
-    rw p.1 (in_part c.args.plan.now _ c.deliver_all.new.collector _ _ c.files.ensures.plan.some_items then (h.site ∙ (b.site ∙ i.site)) h.err)
+    rw p.1 (in_part_behind c.args.plan.now g.A.Arrivals.leads g.met.A.Arrivals.goes_on _ _ _ c.loop-piece.collector c.offer_to.new.collector c.deliver_all.new.collector _ _ _ c.in-Some.piece c.in_ok-reply.reply c.files.ensures.plan.some_items i.so_far c.in-Some.ensures.leads honest i.site i.ready i.counts b.reply b.stands h.stands (h.site ∙ (b.site ∙ i.site)) h.err.0 h.err.1)
 
 pub deliver_all-requires-clause-per_piece : goal.deliver_all-requires-clause-per_piece
 deliver_all-requires-clause-per_piece g c = subst (λ (plan : Planned). 0 < plan.per_piece) (sym c.loop-piece.invariant.reader_plan) c.files.ensures.plan.some_items

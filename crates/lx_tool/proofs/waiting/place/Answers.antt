@@ -1,22 +1,24 @@
-use Rattle.std.proofs.Common.{◌<◌, ◌+◌, sym, ◌∙◌, subst, arith, ℕ}
+use Rattle.std.proofs.Common.{◌≡◌, ◌<◌, ◌+◌, sym, ◌∙◌, subst, arith, ℕ}
 use Rattle.std.specs.Prelude.{All}
 use Rattle.std.specs.Io.KnownBytes.{Appends}
-use Rattle.std.proofs.lemmas.Result.{err_from_is_err_and}
+use Rattle.std.proofs.lemmas.Result.{err_from_is_err_and, IfErr-weaker}
+use Rattle.lx_piece.specs.declared.reader.ReaderFault.TheVariants.{Memory}
 use Rattle.lx_piece.specs.Items.{IsItemOf}
 use Rattle.lx_piece.specs.Plans.{files_of, bytes_of}
 use Rattle.lx_tool.specs.Lines.{lines_of}
-use Rattle.lx_tool.specs.Listings.{AppendsPrefix, listing_to}
+use Rattle.lx_tool.specs.Listings.{AppendsPrefix, AppendsWhole, listing_to}
 use Rattle.lx_tool.specs.Waiting.{Places, WritesOn, WritesInPart, due_by, queued}
 use Rattle.lx_tool.proofs.Placing.{match_from, placed_later, placed_nothing, placed_fault, placed_open, placed_closed, placed_part, due_by_begins, next_items}
+use Rattle.lx_tool.proofs.WholeLines.{wrote_both, wrote_lines, wrote_nothing}
 use Rattle.lx_tool.proofs.waiting.place.Goals as goal
 
-pub returns-in_err-hold : goal.returns-in_err-hold
-returns-in_err-hold g c = λ counts k next.
+pub returns-in_err-hold-clause-placed : goal.returns-in_err-hold-clause-placed
+returns-in_err-hold-clause-placed g c = λ counts k next.
     let p = err_from_is_err_and c.from_residual.result c.from_residual.ensures.1 in
     rw p.1 (placed_nothing c.args.plan.now counts c.args.first (queued c.args.waiting.now.items) (g.W.Write.contents c.args.out.now) k (due_by_begins c.args.plan.now counts c.args.first k.first_open))
 
-pub returns-then-piece-first : goal.returns-then-piece-first
-returns-then-piece-first g c = λ counts k next.
+pub returns-then-piece-first-clause-placed : goal.returns-then-piece-first-clause-placed
+returns-then-piece-first-clause-placed g c = λ counts k next.
     subst (λ ws. Places c.args.plan.now counts c.args.first c.args.piece.file c.args.first ws (g.W.Write.contents c.args.out.now) (g.W.Write.contents c.args.out.now)) (sym c.in_ok-hold.ensures)
     (placed_later c.args.plan.now counts c.args.first (queued c.args.waiting.now.items) c.args.piece (g.W.Write.contents c.args.out.now) k next c.if-piece-first.true)
 
@@ -27,15 +29,15 @@ write_items-requires-clause-items g c =
     subst (All (IsItemOf plan.kinds (bytes_of plan c.args.first))) (sym c.as_slice.ensures)
     (subst (λ (f : ℕ). All (IsItemOf plan.kinds (bytes_of plan f)) c.args.piece.items) c.if-piece-first.false (next_items plan w.0 c.args.piece c.requires.plan w.2))
 
-pub returns-in_err-write_items : goal.returns-in_err-write_items
-returns-in_err-write_items g c = λ counts k next.
+pub returns-in_err-write_items-clause-placed : goal.returns-in_err-write_items-clause-placed
+returns-in_err-write_items-clause-placed g c = λ counts k next.
     let p = err_from_is_err_and c.from_residual-in_err-write_items.result c.from_residual-in_err-write_items.ensures.1 in
     let there : c.args.first < files_of c.args.plan.now = (let l = next.planned.file in omega arith) in
     rw p.1 (placed_fault c.args.plan.now counts c.args.first c.args.piece (g.W.Write.contents c.args.out.now) (g.W.Write.contents c.write_items.new.out) there next c.if-piece-first.false
     (subst (λ items. AppendsPrefix (g.W.Write.contents c.args.out.now) (g.W.Write.contents c.write_items.new.out) (lines_of c.args.plan.now c.args.first items)) c.as_slice.ensures c.in_err-write_items.ensures.err))
 
-pub returns-then-not-is_closing : goal.returns-then-not-is_closing
-returns-then-not-is_closing g c = λ counts k next.
+pub returns-then-not-is_closing-clause-placed : goal.returns-then-not-is_closing-clause-placed
+returns-then-not-is_closing-clause-placed g c = λ counts k next.
     placed_open c.args.plan.now counts c.args.first (queued c.args.waiting.now.items) c.args.piece (g.W.Write.contents c.args.out.now) (g.W.Write.contents c.write_items.new.out) k next c.if-piece-first.false (sym c.is_closing.ensures ∙ c.if-not-is_closing.true)
     (subst (λ items. Appends (g.W.Write.contents c.args.out.now) (g.W.Write.contents c.write_items.new.out) (lines_of c.args.plan.now c.args.first items)) c.as_slice.ensures c.in_ok-write_items.ensures.ok)
 
@@ -46,8 +48,8 @@ overflow_add-first g c =
     let few = c.requires.plan.few_files in
     omega arith
 
-pub returns : goal.returns
-returns g c = λ counts k next.
+pub returns-clause-placed : goal.returns-clause-placed
+returns-clause-placed g c = λ counts k next.
     let plan = c.args.plan.now in
     let first = c.args.first in
     let queues = queued c.args.waiting.now.items in
@@ -63,3 +65,21 @@ returns g c = λ counts k next.
     c.write_on.ensures.ok c.write_on.ensures.err
     (λ file w. placed_closed plan counts first queues file (queued c.write_on.new.waiting.items) c.args.piece before mid after c.requires.plan k next c.if-piece-first.false marked wrote w)
     (λ w. placed_part plan counts first c.args.piece before mid after c.requires.plan next c.if-piece-first.false marked wrote w)
+
+pub returns-in_err-hold-clause-memory : goal.returns-in_err-hold-clause-memory
+returns-in_err-hold-clause-memory g c =
+    let p = err_from_is_err_and c.from_residual.result c.from_residual.ensures.1 in
+    rw p.1 (λ _. wrote_nothing (g.W.Write.contents c.args.out.now))
+
+pub returns-in_err-write_items-clause-memory : goal.returns-in_err-write_items-clause-memory
+returns-in_err-write_items-clause-memory g c =
+    let p = err_from_is_err_and c.from_residual-in_err-write_items.result c.from_residual-in_err-write_items.ensures.1 in
+    rw p.1 (λ h. c.in_err-write_items.ensures.memory (sym p.2 ∙ h))
+
+pub returns-clause-memory : goal.returns-clause-memory
+returns-clause-memory g c =
+    let before = g.W.Write.contents c.args.out.now in
+    let mid = g.W.Write.contents c.write_items.new.out in
+    let after = g.W.Write.contents c.write_on.new.out in
+    let lines = wrote_lines c.args.plan.now c.args.first c.as_slice.result.now before mid c.in_ok-write_items.ensures.ok in
+    IfErr-weaker c.write_on.result (λ fault. fault ≡ Memory → AppendsWhole mid after) (λ fault. fault ≡ Memory → AppendsWhole before after) (λ _ more h. wrote_both before mid after lines (more h)) c.write_on.ensures.memory

@@ -10,7 +10,7 @@ use Rattle.lx_tool.specs.Lines.{lines_of}
 use Rattle.lx_tool.specs.Listings.{AppendsPrefix}
 use Rattle.lx_tool.specs.Waiting.{WritesOn, queued}
 use Rattle.lx_tool.proofs.Pieces.{first_items}
-use Rattle.lx_tool.proofs.Files.{WroteFiles, next_pieces, files_more, files_open, files_fault}
+use Rattle.lx_tool.proofs.Files.{WroteFiles, next_pieces, files_more, files_open, files_fault, files_whole}
 use Rattle.lx_tool.proofs.Queues.{queue_read, queue_set, queue_count}
 use Rattle.lx_tool.proofs.waiting.write_on.Goals as goal
 
@@ -38,6 +38,11 @@ returns-in_err-write_waiting-clause-err g c =
     let p = err_from_is_err_and c.from_residual.result c.from_residual.ensures.1 in
     rw p.1 (files_fault plan c.args.from (queued c.args.waiting.now.items) file (queued queues) (g.W.Write.contents c.args.out.now) (g.W.Write.contents c.loop-file.out) (g.W.Write.contents c.write_waiting.new.out) c.requires.waits w within
     (subst (λ ps. AppendsPrefix (g.W.Write.contents c.loop-file.out) (g.W.Write.contents c.write_waiting.new.out) (lines_of plan file (contents ps))) (sym read) c.in_err-write_waiting.ensures.err))
+
+pub returns-in_err-write_waiting-clause-memory : goal.returns-in_err-write_waiting-clause-memory
+returns-in_err-write_waiting-clause-memory g c =
+    let p = err_from_is_err_and c.from_residual.result c.from_residual.ensures.1 in
+    rw p.1 (λ h. files_whole _ _ _ _ _ (g.W.Write.contents c.args.out.now) (g.W.Write.contents c.loop-file.out) (g.W.Write.contents c.write_waiting.new.out) c.loop-file.invariant (c.in_err-write_waiting.ensures.memory (sym p.2 ∙ h)))
 
 pub returns-then-not-branch-clause-ok : goal.returns-then-not-branch-clause-ok
 returns-then-not-branch-clause-ok g c =

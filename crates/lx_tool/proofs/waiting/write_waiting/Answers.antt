@@ -5,10 +5,11 @@ use Rattle.std.proofs.lemmas.Bool.{or_left}
 use Rattle.std.proofs.lemmas.Result.{err_from_is_err_and}
 use Rattle.lx_piece.specs.Items.{IsItemOf}
 use Rattle.lx_piece.specs.Plans.{bytes_of}
-use Rattle.lx_piece.specs.Pieces.{is_closing}
+use Rattle.lx_piece.specs.Pieces.{contents, is_closing}
 use Rattle.lx_tool.specs.Lines.{lines_of}
 use Rattle.lx_tool.specs.Listings.{AppendsPrefix}
 use Rattle.lx_tool.proofs.Pieces.{WroteSome, some_items, some_fault, some_next}
+use Rattle.lx_tool.proofs.WholeLines.{wrote_both, wrote_lines}
 use Rattle.lx_tool.proofs.waiting.write_waiting.Goals as goal
 use Rattle.lx_tool.proofs.waiting.write_waiting.Goals.{then-closed, else-closed}
 
@@ -22,6 +23,14 @@ returns-in_err-write_items-clause-err g c =
     let p = err_from_is_err_and c.from_residual.result c.from_residual.ensures.1 in
     rw p.1 (some_fault c.args.plan.now c.args.file _ _ _ _ _ _ _ c.in-Some.piece c.loop-piece.invariant c.in-Some.ensures.items
     (subst (λ items. AppendsPrefix (g.W.Write.contents c.loop-piece.out) (g.W.Write.contents c.write_items.new.out) (lines_of c.args.plan.now c.args.file items)) c.as_slice.ensures c.in_err-write_items.ensures.err))
+
+pub returns-in_err-write_items-clause-memory : goal.returns-in_err-write_items-clause-memory
+returns-in_err-write_items-clause-memory g c =
+    let p = err_from_is_err_and c.from_residual.result c.from_residual.ensures.1 in
+    let before = g.W.Write.contents c.args.out.now in
+    let mid = g.W.Write.contents c.loop-piece.out in
+    let done = c.loop-piece.invariant.done in
+    rw p.1 (λ h. wrote_both before mid (g.W.Write.contents c.write_items.new.out) (wrote_lines c.args.plan.now c.args.file (contents done) before mid c.loop-piece.invariant.wrote) (c.in_err-write_items.ensures.memory (sym p.2 ∙ h)))
 
 pub loop-piece-preserved : goal.loop-piece-preserved
 loop-piece-preserved g c =

@@ -1,0 +1,616 @@
+//! Spellings and what they read as, worked out by hand from the grammar of `lex`; memory refused; deep nesting.
+
+use lx_ere::{ByteSet, EreFault, Expr, Pattern, pattern_end, read_pattern, read_substitute};
+use std::alloc::{AllocError, Global};
+use std::fmt::Write;
+use std::process::Abort;
+
+/// A range of bytes, as `65` or `65-90`.
+fn show_range(out: &mut String, first: u8, last: u8) -> Result<(), AllocError> {
+    if !out.as_str().ends_with('[') {
+        out.push(' ')?;
+    }
+    write!(out, "{first}")?;
+    if first < last {
+        write!(out, "-{last}")?;
+    }
+    Ok(())
+}
+
+/// A set by its ranges, as `[65-90 97-122]`.
+fn show_set(out: &mut String, set: &ByteSet) -> Result<(), AllocError> {
+    out.push('[')?;
+    let mut begun: Option<u8> = None;
+    let mut last = 0u8;
+    for byte in 0..=255u8 {
+        if set.has(byte) {
+            begun = Some(begun.unwrap_or(byte));
+            last = byte;
+        } else if let Some(first) = begun {
+            show_range(out, first, last)?;
+            begun = None;
+        }
+    }
+    if let Some(first) = begun {
+        show_range(out, first, last)?;
+    }
+    out.push(']')
+}
+
+/// An expression: `(a b)` one then the other, `(a|b)` either, `a{1,2}` and `a{1,}` repeated, `<D>` a name.
+pub(crate) fn show(out: &mut String, expr: &Expr) -> Result<(), AllocError> {
+    match expr {
+        Expr::Nil => out.push_str("nil"),
+        Expr::Set(set) => show_set(out, set),
+        Expr::Then(left, right) => {
+            out.push('(')?;
+            show(out, left)?;
+            out.push(' ')?;
+            show(out, right)?;
+            out.push(')')
+        }
+        Expr::Or(left, right) => {
+            out.push('(')?;
+            show(out, left)?;
+            out.push('|')?;
+            show(out, right)?;
+            out.push(')')
+        }
+        Expr::Times { body, low, high } => {
+            show(out, body)?;
+            write!(out, "{{{low},")?;
+            if let Some(most) = high {
+                write!(out, "{most}")?;
+            }
+            out.push('}')
+        }
+        Expr::Name(name) => {
+            out.push('<')?;
+            for byte in name {
+                out.push(char::from(*byte))?;
+            }
+            out.push('>')
+        }
+    }
+}
+
+/// A pattern, with `^ ` before it and ` $` behind it where it has these anchors.
+pub(crate) fn show_pattern(alloc: Global, pattern: &Pattern) -> Result<String, AllocError> {
+    let mut out = String::new(alloc);
+    if pattern.line_begin {
+        out.push_str("^ ")?;
+    }
+    show(&mut out, &pattern.expr)?;
+    if pattern.line_end {
+        out.push_str(" $")?;
+    }
+    Ok(out)
+}
+
+/// What a text reads as, or the fault's code.
+fn reading(alloc: Global, text: &[u8]) -> Result<String, AllocError> {
+    match read_pattern(alloc, text) {
+        Ok(pattern) => show_pattern(alloc, &pattern),
+        Err(fault) => format!(in alloc; "{fault}"),
+    }
+}
+
+/// Each line of the table has a pattern, and behind ` => ` what it reads as.
+fn expect_table(rt: &impl Abort, alloc: Global, table: &str) -> Result<usize, AllocError> {
+    let mut count = 0usize;
+    for line in table.lines() {
+        if let Some((pattern, want)) = line.split_once(" => ") {
+            let got = reading(alloc, pattern.as_bytes())?;
+            assert_eq!(rt; got.as_str(), want, "pattern {pattern}");
+            count = count.saturating_add(1);
+        }
+    }
+    Ok(count)
+}
+
+const ESCAPES: &str = r#"
+\a => [7]
+\b => [8]
+\t => [9]
+\n => [10]
+\v => [11]
+\f => [12]
+\r => [13]
+\\ => [92]
+\0 => [0]
+\00 => [0]
+\000 => [0]
+\0000 => ([0] [48])
+\7 => [7]
+\012 => [10]
+\377 => [255]
+\400 => E10
+\777 => E10
+\08 => ([0] [56])
+\18 => ([1] [56])
+\8 => [56]
+\9 => [57]
+\1234 => ([83] [52])
+\x => [120]
+\xg => ([120] [103])
+\xG => ([120] [71])
+\x\x => ([120] [120])
+\x0 => [0]
+\xa => [10]
+\x41 => [65]
+\x041 => [65]
+\x0041 => [65]
+\x00000000ff => [255]
+\xff => [255]
+\xFF => [255]
+\xfg => ([15] [103])
+\x100 => E10
+\X41 => (([88] [52]) [49])
+\c => [99]
+\e => [101]
+\" => [34]
+\[ => [91]
+\. => [46]
+\$ => [36]
+\^ => [94]
+\/ => [47]
+\{ => [123]
+\( => [40]
+\  => [32]
+\ => E10
+a\ => E10
+"#;
+
+const LEXEMES: &str = r#"
+a => [97]
+. => [0-9 11-255]
+} => [125]
+] => [93]
+< => [60]
+> => [62]
+- => [45]
+, => [44]
+: => [58]
+' => [39]
+~ => [126]
+#! => ([35] [33])
+a b => E10
+"a" => [97]
+"ab" => ([97] [98])
+"abc" => (([97] [98]) [99])
+"ab"* => ([97] [98]){0,}
+"ab"{2} => ([97] [98]){2,2}
+c"ab"+ => ([99] ([97] [98]){1,})
+"" => E10
+"a => E10
+a" => E10
+" => E10
+"a"b => ([97] [98])
+"\"" => [34]
+"\\" => [92]
+"\" => E10
+"\ => E10
+"\n" => [10]
+"\01""1" => ([1] [49])
+"\0" => [0]
+"\400" => E10
+"\x" => [120]
+"\x4"1 => ([4] [49])
+"\x41" => [65]
+"a b" => (([97] [32]) [98])
+"[" => [91]
+"." => [46]
+"*" => [42]
+"/" => [47]
+"{D}" => (([123] [68]) [125])
+{D} => <D>
+{_} => <_>
+{a1_B} => <a1_B>
+{D}* => <D>{0,}
+{D}{E} => (<D> <E>)
+{D}{1,2} => <D>{1,2}
+{1a} => E10
+{a-b} => E10
+{a b} => E10
+{D => E10
+{} => E10
+{ => E10
+"#;
+
+const GRAMMAR: &str = r#"
+a* => [97]{0,}
+a+ => [97]{1,}
+a? => [97]{0,1}
+a** => [97]{0,}{0,}
+a*+? => [97]{0,}{1,}{0,1}
+ab* => ([97] [98]{0,})
+abc => (([97] [98]) [99])
+* => E10
++a => E10
+? => E10
+a|b => ([97]|[98])
+a|b|c => (([97]|[98])|[99])
+ab|c => (([97] [98])|[99])
+a| => E10
+|a => E10
+| => E10
+a||b => E10
+a|*b => E10
+(a) => [97]
+((a)) => [97]
+(a)(b) => ([97] [98])
+(a|b)c => (([97]|[98]) [99])
+a(bc) => ([97] ([98] [99]))
+(ab)* => ([97] [98]){0,}
+() => E10
+( => E10
+) => E10
+(a => E10
+a) => E10
+(a)) => E10
+(|a) => E10
+(a|) => E10
+(*a) => E10
+a{2} => [97]{2,2}
+a{2,} => [97]{2,}
+a{2,3} => [97]{2,3}
+a{0} => [97]{0,0}
+a{0,0} => [97]{0,0}
+a{0,} => [97]{0,}
+a{007} => [97]{7,7}
+a{255} => [97]{255,255}
+a{000000255} => [97]{255,255}
+a{256} => E10
+a{0,256} => E10
+a{3,2} => E10
+a{,2} => E10
+a{2 => E10
+a{2, => E10
+a{2,3 => E10
+a{2a} => E10
+a{ 2} => E10
+a{-1} => E10
+a{2,2,2} => E10
+a{2}{3} => [97]{2,2}{3,3}
+a{2}* => E10
+a{2}+ => E10
+a{2}? => E10
+{2} => E10
+a|{2} => E10
+({2}) => E10
+ab{2} => ([97] [98]){2,2}
+ab{2}c{2} => (([97] [98]){2,2} [99]){2,2}
+a{2}b => ([97]{2,2} [98])
+a{2}b* => ([97]{2,2} [98]{0,})
+a|b{2} => ([97]|[98]{2,2})
+a|bc{2} => ([97]|([98] [99]){2,2})
+a(b{2}) => ([97] [98]{2,2})
+a(bc{2}) => ([97] ([98] [99]){2,2})
+(ab{2})* => ([97] [98]){2,2}{0,}
+a*{2} => [97]{0,}{2,2}
+"#;
+
+const ANCHORS: &str = r#"
+^a => ^ [97]
+a$ => [97] $
+^a$ => ^ [97] $
+a/\n => [97] $
+^a/\n => ^ [97] $
+^a|b => ^ ([97]|[98])
+a|b$ => ([97]|[98]) $
+x*$ => [120]{0,} $
+{D}$ => <D> $
+\n$ => [10] $
+a{2}$ => [97]{2,2} $
+^ => E10
+$ => E10
+^$ => E10
+/\n => E10
+^/\n => E10
+a^ => E10
+^^a => E10
+a|^b => E10
+(^a) => E10
+(a$) => E10
+a$b => E10
+a$|b => E10
+a$$ => E10
+a/b => E10
+a/ => E10
+/ => E10
+a/\t => E10
+a/\012 => E10
+a/\n$ => E10
+a/\nb => E10
+"#;
+
+const BRACKETS: &str = r#"
+[a] => [97]
+[abc] => [97-99]
+[a-c] => [97-99]
+[a-a] => [97]
+[a-z0-9_] => [48-57 95 97-122]
+[c-a] => E10
+[z-a] => E10
+[] => E10
+[^] => E10
+[ => E10
+[a => E10
+[^a => E10
+[a\] => E10
+[]] => [93]
+[]a] => [93 97]
+[a]] => ([97] [93])
+[]-a] => [93-97]
+[]-] => [45 93]
+[a-]] => ([45 97] [93])
+[^]] => [0-92 94-255]
+[^]-a] => [0-92 98-255]
+[^a] => [0-96 98-255]
+[^^] => [0-93 95-255]
+[^\n] => [0-9 11-255]
+[a^] => [94 97]
+[\^] => [94]
+[\]] => [93]
+[\\] => [92]
+[\n] => [10]
+[\]-a] => [93-97]
+[a-] => [45 97]
+[-a] => [45 97]
+[-] => [45]
+[--] => [45]
+[---] => [45]
+[---a] => [45 97]
+[!--] => [33-45]
+[!--a] => [33-45 97]
+[+--] => [43-45]
+[--@] => [45-64]
+[a--] => E10
+[a\-z] => [45 97 122]
+[a-c-] => [45 97-99]
+[a-c-e] => E10
+[a-c-e-] => E10
+[^-] => [0-44 46-255]
+[^-a] => [0-44 46-96 98-255]
+[^a-] => [0-44 46-96 98-255]
+[\101-\103] => [65-67]
+[\x41-\x43] => [65-67]
+[\x] => [120]
+[\0] => [0]
+[\400] => E10
+[\n-a] => [10-97]
+[a-\n] => E10
+["] => [34]
+[.] => [46]
+[$] => [36]
+[/] => [47]
+[{] => [123]
+[(] => [40]
+[*] => [42]
+[ ] => [32]
+[a b] => [32 97-98]
+[{D}] => [68 123 125]
+[[] => [91]
+[[a] => [91 97]
+[a[] => [91 97]
+[[-a] => [91-97]
+[A-[] => [65-91]
+[a-[] => E10
+[a]* => [97]{0,}
+"#;
+
+const BRACKETED: &str = r#"
+[[.a.]] => [97]
+[[.-.]] => [45]
+[[.].]] => [93]
+[[...]] => [46]
+[[.\.]] => [92]
+[[.a.]-c] => [97-99]
+[a-[.c.]] => [97-99]
+[[.-.]-a] => [45-97]
+[[.ab.]] => E10
+[[..]] => E10
+[[.a] => E10
+[[.a.] => E10
+[[.] => E10
+[[=a=]] => [97]
+[[===]] => [61]
+[[=a=]b] => [97-98]
+[[=a=]-] => [45 97]
+[[=a=]-c] => E10
+[a-[=c=]] => E10
+[[==]] => E10
+[[=ab=]] => E10
+[[=] => E10
+[[:upper:]] => [65-90]
+[[:lower:]] => [97-122]
+[[:alpha:]] => [65-90 97-122]
+[[:digit:]] => [48-57]
+[[:alnum:]] => [48-57 65-90 97-122]
+[[:xdigit:]] => [48-57 65-70 97-102]
+[[:space:]] => [9-13 32]
+[[:blank:]] => [9 32]
+[[:punct:]] => [33-47 58-64 91-96 123-126]
+[[:print:]] => [32-126]
+[[:graph:]] => [33-126]
+[[:cntrl:]] => [0-31 127]
+[^[:cntrl:]] => [32-126 128-255]
+[[:digit:][:upper:]] => [48-57 65-90]
+[[:alpha:]_] => [65-90 95 97-122]
+[_[:digit:]] => [48-57 95]
+[[:digit:]-] => [45 48-57]
+[-[:digit:]] => [45 48-57]
+[[:digit:]-z] => E10
+[a-[:digit:]] => E10
+[--[:digit:]] => E10
+[[:foo:]] => E10
+[[:Digit:]] => E10
+[[::]] => E10
+[[:digit:] => E10
+[[:digit] => E10
+[[:digit:a] => E10
+[[:] => E10
+[a[:] => E10
+"#;
+
+#[test]
+fn patterns_read_as_the_grammar_says(rt: HostRuntime) -> Result<(), AllocError> {
+    let tables = [
+        (ESCAPES, 50),
+        (LEXEMES, 53),
+        (GRAMMAR, 70),
+        (ANCHORS, 31),
+        (BRACKETS, 72),
+        (BRACKETED, 51),
+    ];
+    for (table, rows) in tables {
+        assert_eq!(rt; expect_table(&rt, rt.alloc(), table)?, rows);
+    }
+    Ok(())
+}
+
+#[test]
+fn bytes_outside_of_text_are_read(rt: HostRuntime) -> Result<(), AllocError> {
+    let rows: [(&[u8], &str); 11] = [
+        (b"\x00", "[0]"),
+        (b"\xff", "[255]"),
+        (b"[\x80-\xff]", "[128-255]"),
+        (b"\"\x00\"", "[0]"),
+        (b"\x01\x7f", "([1] [127])"),
+        (b"", "E10"),
+        (b"a\tb", "E10"),
+        (b"a\nb", "E10"),
+        (b"[\n]", "E10"),
+        (b"\"\n\"", "E10"),
+        (b"\\\n", "E10"),
+    ];
+    for (text, want) in rows {
+        let got = reading(rt.alloc(), text)?;
+        assert_eq!(rt; got.as_str(), want);
+    }
+    Ok(())
+}
+
+#[test]
+fn substitutes_have_no_anchors(rt: HostRuntime) -> Result<(), AllocError> {
+    let rows = [
+        ("ab", "([97] [98])"),
+        ("a|b", "([97]|[98])"),
+        ("{D}", "<D>"),
+        ("^a", "E10"),
+        ("a$", "E10"),
+        ("a/\\n", "E10"),
+        ("", "E10"),
+        ("(", "E10"),
+    ];
+    for (text, want) in rows {
+        let mut got = String::new(rt.alloc());
+        match read_substitute(rt.alloc(), text.as_bytes()) {
+            Ok(expr) => show(&mut got, &expr)?,
+            Err(fault) => write!(&mut got, "{fault}")?,
+        }
+        assert_eq!(rt; got.as_str(), want);
+    }
+    Ok(())
+}
+
+/// A front, a middle and a back, the first and last repeated.
+fn nested(
+    alloc: Global,
+    front: &str,
+    times: usize,
+    middle: &str,
+    back: &str,
+) -> Result<String, AllocError> {
+    let mut text = String::new(alloc);
+    for _ in 0..times {
+        text.push_str(front)?;
+    }
+    text.push_str(middle)?;
+    for _ in 0..times {
+        text.push_str(back)?;
+    }
+    Ok(text)
+}
+
+#[test]
+fn deep_trees_are_read_and_dropped(rt: HostRuntime) -> Result<(), AllocError> {
+    let rows = [
+        ("a", 1024, "", "", true),
+        ("a", 1025, "", "", false),
+        ("(", 511, "a", ")", true),
+        ("(", 512, "a", ")", false),
+        ("a(", 341, "a", ")", true),
+        ("a|", 511, "a", "", true),
+        ("a|(", 255, "a", ")", true),
+        ("", 1023, "a", "*", true),
+        ("(", 341, "a", "*)", true),
+        ("", 255, "aa", "{1}", true),
+        ("\\xa", 341, "", "", true),
+    ];
+    for (front, times, middle, back, reads) in rows {
+        let text = nested(rt.alloc(), front, times, middle, back)?;
+        let pattern = read_pattern(rt.alloc(), text.as_bytes());
+        let substitute = read_substitute(rt.alloc(), text.as_bytes());
+        assert_eq!(rt;
+            (pattern.is_ok(), substitute.is_ok()),
+            (reads, reads),
+            "{front}"
+        );
+    }
+    Ok(())
+}
+
+#[test]
+fn patterns_end_at_the_first_blank_outside(rt: HostRuntime) {
+    let rows = [
+        ("", 0),
+        ("a", 1),
+        (" a", 0),
+        ("a b", 1),
+        ("a\tb", 1),
+        ("\\ b c", 3),
+        ("a\\", 2),
+        ("\\\\ b", 2),
+        ("\"a b\" c", 5),
+        ("\"a\\\" b\" c", 7),
+        ("\"a b", 4),
+        ("\"a\\", 3),
+        ("[ ] x", 3),
+        ("[]] x", 3),
+        ("[] ] x", 4),
+        ("[^] ] x", 5),
+        ("[\\] ] x", 5),
+        ("[[: :] ] x", 8),
+        ("[[:digit:] ] x", 12),
+        ("[[.].] ] x", 8),
+        ("[[===] ] x", 8),
+        ("[[::] :] ] x", 10),
+        ("[[:a b", 6),
+        ("[a b", 4),
+        ("[\\", 2),
+        ("[", 1),
+        ("[ \" ] x", 5),
+        ("\" [\" x", 4),
+        ("(a|b) c", 5),
+        ("a{1, 2}", 4),
+    ];
+    for (text, want) in rows {
+        assert_eq!(rt; pattern_end(text.as_bytes()), want, "{text:?}");
+    }
+}
+
+#[test]
+fn refused_memory_is_answered_as_such(rt: HostRuntime) {
+    let text = b"^a(b|\"cd\"){Digit}[e-f]*x{2}|yz$";
+    let want =
+        "^ ((((([97] ([98]|([99] [100]))) <Digit>) [101-102]{0,}) [120]){2,2}|([121] [122])) $";
+    match read_pattern(rt.alloc(), text) {
+        Ok(pattern) => {
+            if let Ok(got) = show_pattern(rt.alloc(), &pattern) {
+                assert_eq!(rt; got.as_str(), want);
+            }
+        }
+        Err(fault) => assert!(rt; matches!(fault, EreFault::Memory)),
+    }
+}

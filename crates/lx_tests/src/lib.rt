@@ -1,0 +1,33 @@
+//! Tests of the public calls of the crates below, which stand here so that those crates are proved once.
+#![tactic(auto)]
+
+#[cfg(test)]
+mod collector;
+#[cfg(test)]
+mod commands;
+#[cfg(test)]
+mod equality;
+#[cfg(test)]
+mod expressions;
+#[cfg(test)]
+mod limits;
+#[cfg(test)]
+mod listing;
+#[cfg(test)]
+mod memory;
+#[cfg(test)]
+mod pieces;
+#[cfg(test)]
+mod plans;
+#[cfg(test)]
+mod refusals;
+#[cfg(test)]
+mod relay;
+#[cfg(test)]
+mod rows;
+#[cfg(test)]
+mod running;
+#[cfg(test)]
+mod specifications;
+#[cfg(test)]
+mod writers;

@@ -1,0 +1,101 @@
+//! Listings of plans: each form of line, pieces of later files, writers that take a part or fail.
+
+ghost use Rattle.std.specs.Prelude.{◌≡◌, ◌+◌, ◌<◌, ◌≤◌, IfOk, OnErr, replicate};
+ghost use Rattle.lx_piece.specs.Plans.{files_of};
+
+use crate::plans::{MIXED, NO_PLAN, echo_plan, last_file_first, mixed_plan};
+use crate::writers::failing_writer;
+use lx_piece::{Cutter, ListArrivals, Plan, Reader, ReaderFault, relay};
+use lx_tool::{Listing, RunFault, print_listing};
+use std::alloc::{AllocError, Global};
+use std::io::Write;
+use std::test::Fail;
+
+#[test]
+fn lists_each_form_of_line_whatever_the_pieces_are(rt: HostRuntime) -> Result<(), Fail> {
+    let alloc = rt.alloc();
+    for per_piece in [1, 2, 256] {
+        let plan = mixed_plan(alloc, per_piece)?.ok_or(NO_PLAN)?;
+        let mut out = Vec::new(alloc);
+        print_listing(alloc, &plan, &mut out)?;
+        assert_eq!(rt; out.as_slice(), MIXED, "with {per_piece} items a piece");
+    }
+    Ok(())
+}
+
+#[test]
+fn writes_the_rest_of_what_was_taken_in_part(rt: HostRuntime) -> Result<(), Fail> {
+    let alloc = rt.alloc();
+    let plan = mixed_plan(alloc, 1)?.ok_or(NO_PLAN)?;
+    let mut out = failing_writer(alloc, 1, 0, true);
+    print_listing(alloc, &plan, &mut out)?;
+    assert_eq!(rt; out.held.as_slice(), MIXED);
+    Ok(())
+}
+
+#[test]
+fn ends_where_the_writer_fails(rt: HostRuntime) -> Result<(), Fail> {
+    let alloc = rt.alloc();
+    let plan = echo_plan(alloc, &[3], 256)?.ok_or(NO_PLAN)?;
+    for takes_nothing in [false, true] {
+        let mut out = failing_writer(alloc, 4_096, 3, takes_nothing);
+        let ended = print_listing(alloc, &plan, &mut out);
+        let lines = b"0 E - 0 1 x\n0 E - 1 1 x\n".as_slice();
+        assert!(rt;
+            ended == Err(RunFault::Reader) && out.calls == 3 && out.held.as_slice() == lines
+        );
+    }
+    Ok(())
+}
+
+#[test]
+fn holds_the_pieces_of_later_files(rt: HostRuntime) -> Result<(), Fail> {
+    let alloc = rt.alloc();
+    let plan = mixed_plan(alloc, 1)?.ok_or(NO_PLAN)?;
+    let mut out = Vec::new(alloc);
+    {
+        let mut listing = Listing::new(alloc, &plan, &mut out)?;
+        let mut arrivals = ListArrivals::new(&plan, last_file_first(alloc, &plan)?);
+        relay(alloc, &plan, &mut arrivals, &mut listing)?;
+        assert_eq!(rt; listing.faults(), 0);
+    }
+    assert_eq!(rt; out.as_slice(), MIXED);
+    Ok(())
+}
+
+/// Hands a listing that took nothing the first piece of the first file.
+fn takes_first<W: Write>(
+    alloc: Global,
+    plan: &Plan,
+    listing: &mut Listing<'_, W>,
+) -> Result<Result<(), ReaderFault>, AllocError>
+    requires plan { listing.old.progress.plan ≡ plan.now }
+    requires counts { listing.old.progress.counts ≡ replicate (files_of plan.now) 0 }
+    requires faults { listing.old.progress.faults < 9 }
+    ensures plan { listing.new.progress.plan ≡ plan.now }
+    ensures counts { IfOk result (λ taken. OnErr taken (listing.new.progress.counts ≡ replicate (files_of plan.now) 0)) }
+    ensures faults { listing.new.progress.faults ≤ listing.old.progress.faults + 1 }
+{
+    let _files = plan.files();
+    let mut cutter = Cutter::new(alloc, plan, 0);
+    match cutter.next_piece(plan)? {
+        Some(piece) => Ok(listing.take(piece)),
+        None => Ok(Err(ReaderFault::Memory)),
+    }
+}
+
+#[test]
+fn answers_device_once_it_has_failed(rt: HostRuntime) -> Result<(), Fail> {
+    let alloc = rt.alloc();
+    let plan = mixed_plan(alloc, 1)?.ok_or(NO_PLAN)?;
+    let mut out = failing_writer(alloc, 4_096, 1, false);
+    {
+        let mut listing = Listing::new(alloc, &plan, &mut out)?;
+        let first = takes_first(alloc, &plan, &mut listing)?;
+        assert!(rt; first == Err(ReaderFault::Device) && listing.faults() == 1);
+        let second = takes_first(alloc, &plan, &mut listing)?;
+        assert!(rt; second == Err(ReaderFault::Device) && listing.faults() == 2);
+    }
+    assert!(rt; out.calls == 1 && out.held.is_empty());
+    Ok(())
+}

@@ -1,0 +1,41 @@
+use Rattle.std.proofs.Common.{ℕ, ◌≡◌, inl, inr, List, [], ◌∷◌, ◌++◌, Option, refl, sym, ◌∙◌, ap, subst, append_assoc, append-nil}
+use Rattle.std.specs.Io.KnownBytes.{Appends, Keeps}
+use Rattle.lx_piece.specs.declared.item.Item.{Item}
+use Rattle.lx_piece.specs.Plans.{Planned}
+use Rattle.lx_tool.specs.Lines.{line_of, lines_of}
+use Rattle.lx_tool.specs.Listings.{AreWhole, AppendsWhole}
+use Rattle.lx_tool.specs.ListingLaws.{appends_both, appends_nothing}
+use Rattle.lx_tool.proofs.Appending.{kept_appends}
+
+-- the bytes end with a line feed
+abbrev EndsLine : List ℕ → Type 0
+EndsLine bytes = (front : List ℕ) × (bytes ≡ front ++ 10 ∷ [])
+
+line_ends : (plan : Planned) (file : ℕ) (item : Item) → EndsLine (line_of plan file item)
+line_ends plan file item = (_, refl)
+
+-- whole lines, and then further ones
+pub whole_both : (xs ys : List ℕ) → AreWhole xs → AreWhole ys → AreWhole (xs ++ ys)
+whole_both xs ys h k = elim k [
+  | inl none ↦ subst AreWhole (sym (ap (λ bs. xs ++ bs) none ∙ append-nil xs)) h
+  | inr e ↦ inr (xs ++ e.0, ap (λ bs. xs ++ bs) e.1 ∙ sym (append_assoc xs e.0 (10 ∷ [])))
+]
+
+pub lines_whole : (plan : Planned) (file : ℕ) (items : List Item) → AreWhole (lines_of plan file items)
+lines_whole plan file [] = inl refl
+lines_whole plan file (item ∷ items) = whole_both (line_of plan file item) (lines_of plan file items) (inr (line_ends plan file item)) (lines_whole plan file items)
+
+-- the lines of items were written
+pub wrote_lines : (plan : Planned) (file : ℕ) (items : List Item) (a b : Option (List ℕ)) → Appends a b (lines_of plan file items) → AppendsWhole a b
+wrote_lines plan file items a b h = (lines_of plan file items, lines_whole plan file items, h)
+
+-- nothing was written
+pub wrote_nothing : (a : Option (List ℕ)) → AppendsWhole a a
+wrote_nothing a = ([], inl refl, appends_nothing a)
+
+pub wrote_kept : (a b : Option (List ℕ)) → Keeps a b → AppendsWhole a b
+wrote_kept a b h = ([], inl refl, kept_appends a b h)
+
+-- whole lines were written, and then further ones
+pub wrote_both : (a b c : Option (List ℕ)) → AppendsWhole a b → AppendsWhole b c → AppendsWhole a c
+wrote_both a b c h k = (h.0 ++ k.0, whole_both h.0 k.0 h.1 k.1, appends_both a b c h.0 k.0 h.2 k.2)
