@@ -16,11 +16,11 @@ viewed_at (x ∷ rules) zero r h e = ap (λ y. Some (rule_view y)) (sym e)
 viewed_at (x ∷ rules) (suc i) r h e = viewed_at rules i r (omega arith) e
 
 pub active_more : (spec : PlainSpec) (condition : ℕ) (begin : Bool) (active : List Bool) (n : ℕ) (rule : PlainRule) (b : Bool) → slice_get spec.rules n ≡ Some rule →
-  (b ≡ true) ↔ IsActiveAt spec rule condition begin → AreActiveBelow spec condition begin active n → AreActiveBelow spec condition begin (active ++ b ∷ []) (n + 1)
+    (b ≡ true) ↔ IsActiveAt spec rule condition begin → AreActiveBelow spec condition begin active n → AreActiveBelow spec condition begin (active ++ b ∷ []) (n + 1)
 active_more spec condition begin active n rule b at is are = record {
   long = let l = are.long in length_joined active (b ∷ []) ∙ (omega arith);
   each = λ i r h found. let l = are.long in elim (cases_lt i n) [
-      inl k ↦
+    | inl k ↦
         let same = flag_left active (b ∷ []) i (omega arith) in
         let old = are.each i r k found in
         ((λ t. old.0 (sym same ∙ t)), (λ a. same ∙ old.1 a))
@@ -29,9 +29,12 @@ active_more spec condition begin active n rule b at is are = record {
         let there : i ≡ n = omega arith in
         let same : flag (active ++ b ∷ []) i ≡ b = ap (λ j. flag (active ++ b ∷ []) j) here ∙ flag_right active (b ∷ []) 0 in
         let found_it : Some rule ≡ Some r = sym at ∙ ap (λ j. slice_get spec.rules j) (sym there) ∙ found in
-        let one : rule ≡ r = cc in
-        ((λ t. subst (λ x. IsActiveAt spec x condition begin) one (is.0 (sym same ∙ t))),
-         (λ a. same ∙ is.1 (subst (λ x. IsActiveAt spec x condition begin) (sym one) a))) ] }
+        let one : rule ≡ r = cc in (
+          (λ t. subst (λ x. IsActiveAt spec x condition begin) one (is.0 (sym same ∙ t))),
+          (λ a. same ∙ is.1 (subst (λ x. IsActiveAt spec x condition begin) (sym one) a)),
+        )
+  ];
+}
 
 below_length : (xs : List PlainRule) (i : ℕ) (x : PlainRule) → slice_get xs i ≡ Some x → i < length xs
 below_length [] i x h = absurd (cc)
@@ -39,5 +42,5 @@ below_length (y ∷ xs) zero x h = omega arith
 below_length (y ∷ xs) (suc i) x h = let l = below_length xs i x h in omega arith
 
 pub active_all : (spec : PlainSpec) (condition : ℕ) (begin : Bool) (active : List Bool) (n : ℕ) → length spec.rules ≤ n → AreActiveBelow spec condition begin active n →
-  AreActive spec condition begin active
+    AreActive spec condition begin active
 active_all spec condition begin active n all are = record { each = λ i rule at. are.each i rule (let l = below_length spec.rules i rule at in omega arith) at }

@@ -31,19 +31,22 @@ is_false true h = absurd (h refl)
 is_false false h = refl
 
 pub numbering_after : (sets : List Positions) (old new : Numbers) (set key : Positions) (n : ℕ) → IsNumbering sets old → get same old set ≡ None →
-  key.items ≡ set.items → n ≡ length sets → ((q : Positions) → get same new q ≡ cond (same key q) (Some n) (get same old q)) →
-  IsNumbering (sets ++ set ∷ []) new
+    key.items ≡ set.items → n ≡ length sets → ((q : Positions) → get same new q ≡ cond (same key q) (Some n) (get same old q)) →
+    IsNumbering (sets ++ set ∷ []) new
 numbering_after sets old new set key n is none e f update = record {
   known = λ i s at. elim (slice_get_push sets set s i at) [
-      inl h ↦ let l = slice_get_within sets i s h in
-              let other : same key s ≡ false = differs key s (λ g. absent sets old set is none i l (ap words_of h ∙ sym g ∙ e)) in
-              update s ∙ ap (λ b. cond b (Some n) (get same old s)) other ∙ is.known i s h
+    | inl h ↦ let l = slice_get_within sets i s h in
+        let other : same key s ≡ false = differs key s (λ g. absent sets old set is none i l (ap words_of h ∙ sym g ∙ e)) in
+        update s ∙ ap (λ b. cond b (Some n) (get same old s)) other ∙ is.known i s h
     | inr h ↦ let hit : same key s ≡ true = (bytes_decides key.items s.items).1 (e ∙ ap (λ (x : Positions). x.items) (sym h.1)) in
-              update s ∙ ap (λ b. cond b (Some n) (get same old s)) hit ∙ ap Some (f ∙ sym h.0) ];
-  numbered = λ s i at. decided s i at (same key s) refl }
+        update s ∙ ap (λ b. cond b (Some n) (get same old s)) hit ∙ ap Some (f ∙ sym h.0)
+  ];
+  numbered = λ s i at. decided s i at (same key s) refl;
+}
   where
     differs : (v w : Positions) → v.items ≢ w.items → same v w ≡ false
     differs v w ne = is_false (same v w) (λ h. ne ((bytes_decides v.items w.items).0 h))
+
     decided : (s : Positions) (i : ℕ) → get same new s ≡ Some i → (b : Bool) → same key s ≡ b → (i < length (sets ++ set ∷ [])) × (set_of (sets ++ set ∷ []) i ≡ s.items)
     decided s i at true h =
         let g : Some i ≡ Some n = sym at ∙ update s ∙ ap (λ b. cond b (Some n) (get same old s)) h in

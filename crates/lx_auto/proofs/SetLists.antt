@@ -26,8 +26,11 @@ length_push xs x = grind (arith, common_steps)
 
 pub goes_on_push : (xs : List Positions) (x : Positions) → GoesOn xs (xs ++ x ∷ []) x.items
 goes_on_push xs x = let l = length_push xs x in record {
-  more = omega arith; at_most = omega arith; kept = λ i h. set_of_kept xs x i h;
-  added = λ i low h. let e : i ≡ length xs = omega arith in rw e (set_of_last xs x) }
+  more = omega arith;
+  at_most = omega arith;
+  kept = λ i h. set_of_kept xs x i h;
+  added = λ i low h. let e : i ≡ length xs = omega arith in rw e (set_of_last xs x);
+}
 
 pub target_kept : (old new : List Positions) (set : List ℕ) → GoesOn old new set → (t : Option ℕ) (s : List ℕ) → IsTarget old t s → IsTarget new t s
 target_kept old new set on None s h = h
@@ -35,15 +38,18 @@ target_kept old new set on (Some j) s h = let k = on.more in let l = h.1 in (h.0
 
 pub row_below : (i c w n : ℕ) → i * w + c < n * w → i < n
 row_below i c w n h = elim (cases_lt i n) [
-    inl l ↦ l
+  | inl l ↦ l
   | inr l ↦ elim (cases_lt n i) [
-        inl m ↦ let r = row_fits n w i w m (omega arith) in absurd (omega arith)
-      | inr m ↦ let e : n ≡ i = omega arith in let f = ap (λ x. x * w) e in absurd (omega arith) ] ]
+    | inl m ↦ let r = row_fits n w i w m (omega arith) in absurd (omega arith)
+    | inr m ↦ let e : n ≡ i = omega arith in let f = ap (λ x. x * w) e in absurd (omega arith)
+  ]
+]
 
 pub same_row : (i j c d w : ℕ) → c < w → d < w → i * w + c ≡ j * w + d → (i ≡ j) × (c ≡ d)
 same_row i j c d w hc hd e = elim (cases_lt i j) [
-    inl l ↦ let r = row_fits i w j w l (omega arith) in absurd (omega arith)
+  | inl l ↦ let r = row_fits i w j w l (omega arith) in absurd (omega arith)
   | inr l ↦ elim (cases_lt j i) [
-        inl m ↦ let r = row_fits j w i w m (omega arith) in absurd (omega arith)
-      | inr m ↦ let f : i ≡ j = omega arith in let g = ap (λ x. x * w) f in (f, omega arith) ] ]
-
+    | inl m ↦ let r = row_fits j w i w m (omega arith) in absurd (omega arith)
+    | inr m ↦ let f : i ≡ j = omega arith in let g = ap (λ x. x * w) f in (f, omega arith)
+  ]
+]

@@ -49,7 +49,7 @@ IsSource spec rules sets i F =
 
 -- the steps of the first states are known: n of them, row by row
 pub record HaveSteps (spec : PlainSpec) (rules : List NumberedRule) (leaves : List PlainLeaf) (representatives : List ℕ) (sets : List Positions)
-  (targets : List (Option ℕ)) (n : ℕ) : Type 0 where
+    (targets : List (Option ℕ)) (n : ℕ) : Type 0 where
   pub long : length targets ≡ n
   pub each : (i c : ℕ) → c < length representatives → i * length representatives + c < n →
       (F : List ℕ) × IsSource spec rules sets i F × IsTarget sets (slice_index_or targets (i * length representatives + c) None) (having leaves (slice_index representatives c) F)
@@ -62,7 +62,7 @@ pub record AddsTarget (sets : List Positions) (old new : List (Option ℕ)) (set
 
 -- what is asked of the rules, the table and the targets before the steps of a state are added
 pub record IsRowOf (spec : PlainSpec) (tree_of : Regex → Unfolded) (leaves : List PlainLeaf) (representatives : List ℕ) (state : ℕ) (F : List ℕ)
-  (sets : List Positions) (targets : List (Option ℕ)) : Type 0 where
+    (sets : List Positions) (targets : List (Option ℕ)) : Type 0 where
   pub leaves_of : AreLeavesOf (numbered tree_of 0 spec.rules) leaves
   pub source : IsSource spec (numbered tree_of 0 spec.rules) sets state F
   pub reached : AreReachedSets spec (numbered tree_of 0 spec.rules) sets
@@ -70,6 +70,6 @@ pub record IsRowOf (spec : PlainSpec) (tree_of : Regex → Unfolded) (leaves : L
 
 -- the sets that were reached, and the steps of the first n states
 pub record IsExplored (spec : PlainSpec) (tree_of : Regex → Unfolded) (leaves : List PlainLeaf) (representatives : List ℕ) (sets : List Positions)
-  (targets : List (Option ℕ)) (n : ℕ) : Type 0 where
+    (targets : List (Option ℕ)) (n : ℕ) : Type 0 where
   pub reached : AreReachedSets spec (numbered tree_of 0 spec.rules) sets
   pub steps : HaveSteps spec (numbered tree_of 0 spec.rules) leaves representatives sets targets (n * length representatives)

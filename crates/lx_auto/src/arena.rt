@@ -1,8 +1,8 @@
 // The nodes of a specification's rules.
 ghost use Rattle.std.specs.Prelude.{◌≡◌, ◌≤◌, ◌<◌, ◌⊎◌, ◌∷◌, [], map, IsTrue, IfOk, IfErr};
 ghost use Rattle.lx_ere.specs.Regex.{regex_of};
-ghost use Rattle.lx_spec.specs.Nesting.{are_nested};
-ghost use Rattle.lx_spec.specs.views.Rules.{definition_view, rule_view, expressions_view};
+ghost use Rattle.lx_spec.specs.Nesting.{are_nested, expressions_of};
+ghost use Rattle.lx_spec.specs.views.Rules.{definition_view, rule_view};
 ghost use Rattle.lx_spec.specs.views.Specs.{spec_view};
 ghost use Rattle.lx_auto.specs.Counts.{count_of_spec};
 ghost use Rattle.lx_auto.specs.Nodes.{nodes_of};
@@ -46,7 +46,7 @@ fn unfold_each<'s>(
     rules: &'s [Rule],
 ) -> Result<Vec<Vec<Node<'s>>>, AllocError>
     requires fragments { AreFragments names.now.definitions.now fragments.now }
-    requires nested { IsTrue (are_nested (map definition_view names.now.definitions.now) (expressions_view rules.now)) }
+    requires nested { IsTrue (are_nested (map definition_view names.now.definitions.now) (expressions_of (map rule_view rules.now))) }
     ensures { IfOk result (λ lists. lists_view lists.items ≡ nodes_of_patterns (map definition_view names.now.definitions.now) (map rule_view rules.now)) }
 {
     let mut lists = Vec::new(alloc);

@@ -35,12 +35,7 @@ fn has_byte(leaves: &[Leaf], position: u32, byte: u8) -> bool
 }
 
 // Those of the positions that have the byte.
-fn having(
-    alloc: Global,
-    leaves: &[Leaf],
-    byte: u8,
-    from: &[u32],
-) -> Result<PositionSet, AllocError>
+fn having(alloc: Global, leaves: &[Leaf], byte: u8, from: &[u32]) -> Result<PositionSet, AllocError>
     ensures { IfOk result (λ set. set.items ≡ plain.having (leaves_view leaves.now) byte from.now) }
 {
     let mut set = SmallVec::new(alloc);
@@ -129,7 +124,15 @@ pub(crate) fn add_row(
     ensures many { (spec : PlainSpec) (tree_of : Regex → Unfolded) (state : ℕ) → IsRowOf spec tree_of (leaves_view leaves.now) representatives.now state from.now table.old.sets.items targets.old.items → IfErr result (λ e. e ≡ BuildFault.TooManySets → HasMoreSets spec (numbered tree_of 0 spec.rules) limit) }
 {
     for class in 0..representatives.len() {
-        add_target(alloc, leaves, representatives[class], from, table, targets, limit)?;
+        add_target(
+            alloc,
+            leaves,
+            representatives[class],
+            from,
+            table,
+            targets,
+            limit,
+        )?;
     }
     Ok(())
 }
@@ -174,7 +177,16 @@ fn add_start(
     };
     let leaves = ground.leaves.as_slice();
     let representatives = ground.groups.representatives.as_slice();
-    add_row(alloc, leaves, representatives, &first, table, targets, limit)
+    add_row(
+        alloc,
+        leaves,
+        representatives,
+        &first,
+        table,
+        targets,
+        limit,
+    )?;
+    Ok(())
 }
 
 // Adds the targets of a set, and gives the rule that it matches.
@@ -204,6 +216,14 @@ fn add_set_row(
     };
     let leaves = ground.leaves.as_slice();
     let representatives = ground.groups.representatives.as_slice();
-    add_row(alloc, leaves, representatives, &found.next, table, targets, limit)?;
+    add_row(
+        alloc,
+        leaves,
+        representatives,
+        &found.next,
+        table,
+        targets,
+        limit,
+    )?;
     Ok(found.matched)
 }

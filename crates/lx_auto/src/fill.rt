@@ -5,9 +5,9 @@ ghost use Rattle.lx_spec.specs.views.Rules.{definition_view};
 ghost use Rattle.lx_auto.specs.NodeViews.{nodes_view};
 ghost use Rattle.lx_auto.specs.Unfolding.{Unfolds, AreFragments};
 
+use crate::definition_order::{Need, find_needs, is_next};
 use crate::fragment::Fragment;
 use crate::names::Names;
-use crate::definition_order::{Need, find_needs, is_next};
 use crate::unfold::unfold;
 use lx_ere::expr::Expr;
 use lx_spec::rule::Rule;

@@ -31,16 +31,16 @@ loop-class-preserved c =
       kept = λ k h. e.goes_on.kept k (omega arith) ∙ inv.kept k h;
       source = λ spec tree_of state row. source_kept spec (numbered tree_of 0 spec.rules) old new _ from state e.goes_on (inv.source spec tree_of state row);
       reached = λ spec tree_of state row.
-        reached_added spec (numbered tree_of 0 spec.rules) old new _ (inv.reached spec tree_of state row) e.goes_on
-        (λ ne. reached_from spec tree_of leaves row.leaves_of old state _ from (inv.reached spec tree_of state row) (inv.source spec tree_of state row) ne)
-        e.fresh;
+          reached_added spec (numbered tree_of 0 spec.rules) old new _ (inv.reached spec tree_of state row) e.goes_on
+          (λ ne. reached_from spec tree_of leaves row.leaves_of old state _ from (inv.reached spec tree_of state row) (inv.source spec tree_of state row) ne)
+          e.fresh;
       steps = λ spec tree_of state row.
-        let rules = numbered tree_of 0 spec.rules in
-        let pushed = steps_push spec rules leaves reps old new c.loop-class.targets.items state i e.target.target from
+          let rules = numbered tree_of 0 spec.rules in
+          let pushed = steps_push spec rules leaves reps old new c.loop-class.targets.items state i e.target.target from
           (inv.steps spec tree_of state row) c.loop-class-test.true (inv.source spec tree_of state row) e.goes_on e.target.is in
-        let more : state * length reps + i + 1 ≡ state * length reps + (i + 1) = omega arith in
-        subst (λ n. HaveSteps spec rules leaves reps new c.add_target.new.targets.items n) more
-        (subst (λ l. HaveSteps spec rules leaves reps new l (state * length reps + i + 1)) (sym e.target.added) pushed);
+          let more : state * length reps + i + 1 ≡ state * length reps + (i + 1) = omega arith in
+          subst (λ n. HaveSteps spec rules leaves reps new c.add_target.new.targets.items n) more
+          (subst (λ l. HaveSteps spec rules leaves reps new l (state * length reps + i + 1)) (sym e.target.added) pushed);
     }
 
 pub returns-in_err-add_target-clause-many : goal.returns-in_err-add_target-clause-many
@@ -51,7 +51,7 @@ returns-in_err-add_target-clause-many c = λ spec tree_of state row.
     let inv = c.loop-class.invariant in
     let p = err_from_is_err_and c.from_residual.result c.from_residual.ensures.1 in
     rw (p.1, p.2) (λ is.
-      let many = c.in_err-add_target.ensures.many is in
-      more_sets spec rules old _ c.args.limit (inv.reached spec tree_of state row)
-      (reached_from spec tree_of leaves row.leaves_of old state _ c.args.from.now (inv.reached spec tree_of state row) (inv.source spec tree_of state row) many.1)
-      many.0 many.2)
+    let many = c.in_err-add_target.ensures.many is in
+    more_sets spec rules old _ c.args.limit (inv.reached spec tree_of state row)
+    (reached_from spec tree_of leaves row.leaves_of old state _ c.args.from.now (inv.reached spec tree_of state row) (inv.source spec tree_of state row) many.1)
+    many.0 many.2)

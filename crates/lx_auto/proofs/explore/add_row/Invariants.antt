@@ -16,12 +16,12 @@ invariant-loop-class l = record {
   long : length l.targets.items ≡ length l.fn.targets.items + l.class;
   kept : (i : ℕ) → i < length l.fn.table.sets.items → set_of l.table.sets.items i ≡ set_of l.fn.table.sets.items i;
   source : (spec : PlainSpec) (tree_of : Regex → Unfolded) (state : ℕ) →
-    IsRowOf spec tree_of (leaves_view l.leaves) l.representatives state l.from l.fn.table.sets.items l.fn.targets.items →
-    IsSource spec (numbered tree_of 0 spec.rules) l.table.sets.items state l.from;
+      IsRowOf spec tree_of (leaves_view l.leaves) l.representatives state l.from l.fn.table.sets.items l.fn.targets.items →
+      IsSource spec (numbered tree_of 0 spec.rules) l.table.sets.items state l.from;
   reached : (spec : PlainSpec) (tree_of : Regex → Unfolded) (state : ℕ) →
-    IsRowOf spec tree_of (leaves_view l.leaves) l.representatives state l.from l.fn.table.sets.items l.fn.targets.items →
-    AreReachedSets spec (numbered tree_of 0 spec.rules) l.table.sets.items;
+      IsRowOf spec tree_of (leaves_view l.leaves) l.representatives state l.from l.fn.table.sets.items l.fn.targets.items →
+      AreReachedSets spec (numbered tree_of 0 spec.rules) l.table.sets.items;
   steps : (spec : PlainSpec) (tree_of : Regex → Unfolded) (state : ℕ) →
-    IsRowOf spec tree_of (leaves_view l.leaves) l.representatives state l.from l.fn.table.sets.items l.fn.targets.items →
-    HaveSteps spec (numbered tree_of 0 spec.rules) (leaves_view l.leaves) l.representatives l.table.sets.items l.targets.items (state * length l.representatives + l.class);
+      IsRowOf spec tree_of (leaves_view l.leaves) l.representatives state l.from l.fn.table.sets.items l.fn.targets.items →
+      HaveSteps spec (numbered tree_of 0 spec.rules) (leaves_view l.leaves) l.representatives l.table.sets.items l.targets.items (state * length l.representatives + l.class);
 }

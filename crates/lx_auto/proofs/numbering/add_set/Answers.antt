@@ -12,4 +12,4 @@ returns-clause-numbering c =
     let key : c.in-Ok.key.items ≡ c.args.set.items = grind (arith, common_steps, c.in-Ok.ensures.ok) in
     let update : (q : Positions) → get same c.insert.new.self q ≡ cond (same c.in-Ok.key q) (Some c.len-number.result) (get same c.args.table.now.numbers q) = c.in-Ok-insert.ensures.updates.0 in
     rw items (numbering_after c.args.table.now.sets.items c.args.table.now.numbers c.insert.new.self c.args.set c.in-Ok.key c.len-number.result
-      c.requires.numbering c.requires.absent key (omega (arith, c.len-number.ensures)) update)
+    c.requires.numbering c.requires.absent key (omega (arith, c.len-number.ensures)) update)
