@@ -1,0 +1,179 @@
+-- How many nodes an expression has at most, once what has no position is left away.
+use Rattle.std.proofs.Common.{◌≡◌, ℕ, zero, suc, ◌+◌, ◌*◌, ◌≤◌, Bool, true, false, ◌&&◌, ◌||◌, List, ◌++◌, [], ◌∷◌, length, Option, Some, None, refl, arith}
+use Rattle.std.proofs.lemmas.List.{length-append}
+use Rattle.std.specs.FinSet as set
+use Rattle.std.specs.Ordering.{nat_cmp}
+use Rattle.lx_ere.specs.Regex.{Regex, nil, one_of, then, or, times, named}
+use Rattle.lx_spec.specs.Plain.{PlainDefinition}
+use Rattle.lx_spec.specs.Nesting.{tree_named}
+use Rattle.lx_auto.specs.Unfolded.{Unfolded, empty, leaf, cat, alt, opt, plus, position_count, nullable}
+use Rattle.lx_auto.specs.Nodes.{PlainNode, cat_node, alt_node, opt_node, plus_node, nodes_of}
+use Rattle.lx_auto.specs.Trimmed.{opt_unless, opt_of, plus_of, cat_of, alt_of, trimmed_counted, trimmed_unbounded, trimmed_repeated, trimmed, trimmed_if_defined, trimmed_name, trimmed_pattern}
+use Rattle.lx_auto.specs.Parts.{is_repeated}
+
+pub unless : Bool → ℕ
+unless true = 0
+unless false = 1
+
+-- the room that is left for an `opt` and a `plus` above the expression, and for two that its joining to another takes
+pub room : Unfolded → ℕ
+room empty = 0
+room (leaf s) = 4
+room (cat a b) = 3 + unless (nullable a && nullable b)
+room (alt a b) = 3 + unless (nullable a || nullable b)
+room (opt a) = 2 + unless (is_repeated (opt a))
+room (plus a) = 2 + unless (nullable a)
+
+-- five nodes a position, and room besides
+pub record IsSmall (t : Unfolded) : Type 0 where
+  pub few : length (nodes_of t) + room t ≤ 5 * position_count t
+
+pub two : (a b : List PlainNode) (n : PlainNode) → length (a ++ (b ++ n ∷ [])) ≡ length a + length b + 1
+two a b n = let e = length-append a (b ++ n ∷ []) in let f = length-append b (n ∷ []) in omega arith
+
+pub one : (a : List PlainNode) (n : PlainNode) → length (a ++ n ∷ []) ≡ length a + 1
+one a n = let e = length-append a (n ∷ []) in omega arith
+
+-- beside another expression the room is enough
+both : (a : Bool) (b : Bool) → unless (a && b) ≤ unless a + unless b
+unfolding unless
+both true b = omega arith
+both false b = omega arith
+
+either : (a : Bool) (b : Bool) → unless (a || b) ≤ unless a + unless b
+unfolding unless
+either true b = omega arith
+either false b = omega arith
+
+-- of an expression that isn't empty
+pub full_room : Unfolded → ℕ
+full_room t = 2 + unless (nullable t)
+
+unfoldable pub is_full : Unfolded → Bool
+is_full empty = false
+is_full (leaf s) = true
+is_full (cat a b) = true
+is_full (alt a b) = true
+is_full (opt a) = true
+is_full (plus a) = true
+
+roomy : (t : Unfolded) → is_full t ≡ true → full_room t ≤ room t
+unfolding full_room room unless is_full
+roomy empty h = absurd (cc)
+roomy (leaf s) h = omega arith
+roomy (cat a b) h = omega arith
+roomy (alt a b) h = omega arith
+roomy (opt a) h = omega arith
+roomy (plus a) h = omega arith
+
+small-cat_full : (a b : Unfolded) → is_full a ≡ true → is_full b ≡ true → IsSmall a → IsSmall b → IsSmall (cat a b)
+unfolding room full_room
+small-cat_full a b f g x y =
+    let e = two (nodes_of a) (nodes_of b) (cat_node (length (nodes_of b))) in
+    let r = roomy a f in
+    let s = roomy b g in
+    let t = both (nullable a) (nullable b) in
+    let p = x.few in
+    let q = y.few in
+    record { few = omega arith }
+
+small-alt_full : (a b : Unfolded) → is_full a ≡ true → is_full b ≡ true → IsSmall a → IsSmall b → IsSmall (alt a b)
+unfolding room full_room
+small-alt_full a b f g x y =
+    let e = two (nodes_of a) (nodes_of b) (alt_node (length (nodes_of b))) in
+    let r = roomy a f in
+    let s = roomy b g in
+    let t = either (nullable a) (nullable b) in
+    let p = x.few in
+    let q = y.few in
+    record { few = omega arith }
+
+small-empty : IsSmall empty
+unfolding room
+small-empty = record { few = omega arith }
+
+small-leaf : (s : set.FinSet nat_cmp) → IsSmall (leaf s)
+unfolding room
+small-leaf s = record { few = omega arith }
+
+pub small-cat : (a b : Unfolded) → IsSmall a → IsSmall b → IsSmall (cat_of a b)
+unfolding is_full
+small-cat empty b x y = y
+small-cat a empty x y = x
+small-cat a b x y = small-cat_full a b refl refl x y
+
+opt-room : (a : Unfolded) → nullable a ≡ false → room (opt a) + 1 ≤ room a
+unfolding room unless
+opt-room empty h = absurd (cc)
+opt-room (leaf s) h = omega arith
+opt-room (cat a b) h = let h : nullable a && nullable b ≡ false = h in rw h (omega arith)
+opt-room (alt a b) h = let h : nullable a || nullable b ≡ false = h in rw h (omega arith)
+opt-room (opt a) h = absurd (cc)
+opt-room (plus a) h = let h : nullable a ≡ false = h in rw h (omega arith)
+
+pub small-opt : (a : Unfolded) → IsSmall a → IsSmall (opt_of a)
+small-opt a x = by (nullable a) refl where
+  by : (b : Bool) → nullable a ≡ b → IsSmall (opt_unless b a)
+  by true e = x
+  by false e =
+      let f = opt-room a e in
+      let g = one (nodes_of a) opt_node in
+      let p = x.few in
+      record { few = omega arith }
+
+pub small-alt : (a b : Unfolded) → IsSmall a → IsSmall b → IsSmall (alt_of a b)
+unfolding is_full
+small-alt empty b x y = small-opt b y
+small-alt a empty x y = small-opt a x
+small-alt a b x y = small-alt_full a b refl refl x y
+
+small-plus_at : (a : Unfolded) → room (plus a) + 1 ≤ room a → IsSmall a → IsSmall (plus a)
+small-plus_at a h x =
+    let g = one (nodes_of a) plus_node in
+    let p = x.few in
+    record { few = omega arith }
+
+pub small-plus : (a : Unfolded) → IsSmall a → IsSmall (plus_of a)
+unfolding room unless
+small-plus empty x = x
+small-plus (leaf s) x = small-plus_at (leaf s) (omega arith) x
+small-plus (cat a b) x = small-plus_at (cat a b) (omega arith) x
+small-plus (alt a b) x = small-plus_at (alt a b) (omega arith) x
+small-plus (opt (plus a)) x = x
+small-plus (opt a) x = small-plus_at (opt a) (omega arith) x
+small-plus (plus a) x = x
+
+small-counted : (r : Unfolded) (low high : ℕ) → IsSmall r → IsSmall (trimmed_counted r low high)
+small-counted r low zero x = small-empty
+small-counted r zero (suc high) x = small-opt (cat_of r (trimmed_counted r zero high)) (small-cat r (trimmed_counted r zero high) x (small-counted r zero high x))
+small-counted r (suc low) (suc high) x = small-cat r (trimmed_counted r low high) x (small-counted r low high x)
+
+small-unbounded : (r : Unfolded) (n : ℕ) → IsSmall r → IsSmall (trimmed_unbounded r n)
+small-unbounded r zero x = small-plus r x
+small-unbounded r (suc n) x = small-cat r (trimmed_unbounded r n) x (small-unbounded r n x)
+
+small-repeated : (r : Unfolded) (low : ℕ) (high : Option ℕ) → IsSmall r → IsSmall (trimmed_repeated r low high)
+small-repeated r low (Some high) x = small-counted r low high x
+small-repeated r zero None x = small-opt (plus_of r) (small-plus r x)
+small-repeated r (suc low) None x = small-unbounded r low x
+
+small-trimmed : (names : List ℕ → Unfolded) → ((name : List ℕ) → IsSmall (names name)) → (tree : Regex) → IsSmall (trimmed names tree)
+small-trimmed names f nil = small-empty
+small-trimmed names f (one_of s) = small-leaf s
+small-trimmed names f (then a b) = small-cat (trimmed names a) (trimmed names b) (small-trimmed names f a) (small-trimmed names f b)
+small-trimmed names f (or a b) = small-alt (trimmed names a) (trimmed names b) (small-trimmed names f a) (small-trimmed names f b)
+small-trimmed names f (times body low high) = small-repeated (trimmed names body) low high (small-trimmed names f body)
+small-trimmed names f (named name) = f name
+
+small-if : (names : List ℕ → Unfolded) → ((name : List ℕ) → IsSmall (names name)) → (o : Option Regex) → IsSmall (trimmed_if_defined names o)
+small-if names f None = small-empty
+small-if names f (Some tree) = small-trimmed names f tree
+
+pub small-name : (definitions : List PlainDefinition) (n : ℕ) (name : List ℕ) → IsSmall (trimmed_name definitions n name)
+small-name definitions zero name = small-empty
+small-name definitions (suc n) name = small-if (trimmed_name definitions n) (small-name definitions n) (tree_named definitions name)
+
+-- the nodes of a pattern are at most five times as many as its positions
+pub few_nodes : (definitions : List PlainDefinition) (tree : Regex) → length (nodes_of (trimmed_pattern definitions tree)) ≤ 5 * position_count (trimmed_pattern definitions tree)
+unfolding trimmed_pattern
+few_nodes definitions tree = let x = (small-trimmed (trimmed_name definitions 32) (small-name definitions 32) tree).few in omega arith

@@ -1,0 +1,36 @@
+use Rattle.std.proofs.Common.{◌≡◌, map, arith, ◌∙◌, ap}
+use Rattle.lx_auto.specs.Automata.{Machine}
+use Rattle.lx_auto.specs.Words.{from_word}
+use Rattle.lx_auto.proofs.ClassRows.{classed_machine, classed_classes, classed_alike}
+use Rattle.lx_auto.proofs.classes.with_byte_classes.Goals as goal
+
+pub of-requires-clause-machine : goal.of-requires-clause-machine
+of-requires-clause-machine c =
+    let n : c.loop-byte.byte ≡ 256 = omega arith in
+    let long = c.loop-byte.representatives.ok.0 in
+    classed_machine c.args.draft.now c.loop-byte.numbers.items c.loop-byte.representatives.items c.in_ok-targets.targets.items
+    (rw c.draft.view_is at c.draft.invariant) (rw n at c.loop-byte.invariant) (rw c.deref.ensures.value at c.in_ok-targets.ensures) _ _ _
+    (c.in_ok-starts.ensures.items ∙ c.deref-2.ensures.value ∙ ap (λ (m : Machine). m.starts) c.draft.view_is)
+    (ap (λ xs. map from_word xs) (c.in_ok-accepted.ensures.items ∙ c.deref-3.ensures.value) ∙ ap (λ (m : Machine). m.accepted) c.draft.view_is)
+    (omega arith)
+
+pub of-requires-clause-classes : goal.of-requires-clause-classes
+of-requires-clause-classes c =
+    let n : c.loop-byte.byte ≡ 256 = omega arith in
+    let long = c.loop-byte.representatives.ok.0 in
+    classed_classes c.args.draft.now c.loop-byte.numbers.items c.loop-byte.representatives.items c.in_ok-targets.targets.items
+    (rw c.draft.view_is at c.draft.invariant) (rw n at c.loop-byte.invariant) (rw c.deref.ensures.value at c.in_ok-targets.ensures) _ _ _
+    (c.in_ok-starts.ensures.items ∙ c.deref-2.ensures.value ∙ ap (λ (m : Machine). m.starts) c.draft.view_is)
+    (ap (λ xs. map from_word xs) (c.in_ok-accepted.ensures.items ∙ c.deref-3.ensures.value) ∙ ap (λ (m : Machine). m.accepted) c.draft.view_is)
+    (omega arith)
+
+pub returns : goal.returns
+returns c =
+    rw c.of.ensures (
+    let n : c.loop-byte.byte ≡ 256 = omega arith in
+    let long = c.loop-byte.representatives.ok.0 in
+    classed_alike c.args.draft.now c.loop-byte.numbers.items c.loop-byte.representatives.items c.in_ok-targets.targets.items
+    (rw c.draft.view_is at c.draft.invariant) (rw n at c.loop-byte.invariant) (rw c.deref.ensures.value at c.in_ok-targets.ensures) _ _ _
+    (c.in_ok-starts.ensures.items ∙ c.deref-2.ensures.value ∙ ap (λ (m : Machine). m.starts) c.draft.view_is)
+    (ap (λ xs. map from_word xs) (c.in_ok-accepted.ensures.items ∙ c.deref-3.ensures.value) ∙ ap (λ (m : Machine). m.accepted) c.draft.view_is)
+    (omega arith))

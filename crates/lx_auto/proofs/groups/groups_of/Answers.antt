@@ -1,0 +1,32 @@
+use Rattle.std.proofs.Common.{◌≤◌, length, refl, ◌∙◌, ap, arith}
+use Rattle.std.specs.Option.{option_map}
+use Rattle.std.proofs.lemmas.List.{length-map}
+use Rattle.std.proofs.lemmas.Option.{slice_get_read, slice_get-map}
+use Rattle.lx_auto.specs.LeafViews.{leaf_view, leaves_view}
+use Rattle.lx_auto.proofs.Alike.{alike_more, all_alike}
+use Rattle.lx_auto.proofs.groups.groups_of.Goals as goal
+
+pub loop-i-preserved : goal.loop-i-preserved
+loop-i-preserved c =
+    let leaves = c.args.leaves.now in
+    let i = c.loop-i.i in
+    let leaf = c.index-leaves-i.result in
+    let old = c.loop-i.groups in
+    let new = c.in_ok-groups-2.groups in
+    let at = slice_get_read leaves (length leaves) i leaf refl c.loop-i-test.true c.index-leaves-i.is in
+    alike_more (leaves_view leaves) i (leaf_view leaf) old.classes.items old.representatives.items new.classes.items new.representatives.items
+    (slice_get-map leaf_view leaves i ∙ ap (λ o. option_map leaf_view o) at) c.loop-i.invariant c.in_ok-groups-2.ensures.own
+    (λ other is. c.in_ok-groups-2.ensures.others other is)
+
+pub returns : goal.returns
+returns c =
+    let leaves = c.args.leaves.now in
+    let groups = c.loop-i.groups in
+    let long = length-map leaves leaf_view in
+    let all : length (leaves_view leaves) ≤ c.loop-i.i = omega arith in
+    record {
+      bytes = groups.bytes;
+      below = groups.below;
+      few = groups.few;
+      alike = all_alike (leaves_view leaves) c.loop-i.i groups.classes.items groups.representatives.items all c.loop-i.invariant;
+    }

@@ -1,0 +1,6 @@
+use Rattle.std.proofs.Common.{◌≡◌, ℕ, List, take}
+use Rattle.lx_auto.specs.NameViews.{number_at, place_of}
+use Rattle.lx_auto.proofs.names.index_names.Given as goal
+
+abbrev pub invariant-loop-i : goal.invariant-loop-i
+invariant-loop-i l = (name : List ℕ) → number_at l.numbers name ≡ place_of (take l.i l.definitions) name

@@ -1,0 +1,16 @@
+use Rattle.std.proofs.Common.{◌≡◌, ℕ, List, false, length}
+use Rattle.lx_spec.specs.Plain.{PlainSpec}
+use Rattle.lx_auto.specs.Marking.{flag}
+use Rattle.lx_auto.specs.PositionSets.{NumberedRule}
+use Rattle.lx_auto.specs.RuleParts.{ArePartsOf}
+use Rattle.lx_auto.specs.Following.{AreNumbered, FollowsMarked, AreReadBelow, IsFirstMatchedBelow}
+use Rattle.lx_auto.proofs.set_steps.step_rules.Given as goal
+
+abbrev pub invariant-loop-i : goal.invariant-loop-i
+invariant-loop-i l = record {
+  long : length l.reads.items ≡ length l.fn.reads.items;
+  reads : (spec : PlainSpec) (rules : List NumberedRule) → AreNumbered spec rules → ArePartsOf l.parts rules (length l.fn.reads.items) →
+      ((q : ℕ) → flag l.fn.reads.items q ≡ false) → AreReadBelow (FollowsMarked l.marks) rules l.i l.reads.items;
+  matched : (spec : PlainSpec) (rules : List NumberedRule) → AreNumbered spec rules → ArePartsOf l.parts rules (length l.fn.reads.items) →
+      IsFirstMatchedBelow rules l.marks l.i l.found;
+}

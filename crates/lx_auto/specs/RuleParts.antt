@@ -1,0 +1,31 @@
+-- What is kept of a rule to follow its positions, and what is known of it.
+use Rattle.std.specs.Prelude.{◌≡◌, ◌≢◌, ℕ, ◌+◌, ◌<◌, ◌≤◌, ◌↔◌, Bool, true, false, List, [], length, slice_get, Some, Contains}
+use Rattle.lx_auto.specs.Unfolded.{position_count}
+use Rattle.lx_auto.specs.Nodes.{nodes_of}
+use Rattle.lx_auto.specs.NodeViews.{nodes_view}
+use Rattle.lx_auto.specs.Marking.{flag, nulls_from}
+use Rattle.lx_auto.specs.Passing.{IsTrim}
+use Rattle.lx_auto.specs.Positions.{CanEnd, CanRead}
+use Rattle.lx_auto.specs.PositionSets.{NumberedRule, size_of}
+use Rattle.lx_auto.specs.declared.rule_part.RulePart.{RulePart}
+
+pub record IsPartOf (part : RulePart) (r : NumberedRule) : Type 0 where
+  pub nodes : nodes_view part.nodes.items ≡ nodes_of r.tree
+  pub nulls : part.nulls.items ≡ nulls_from (nodes_of r.tree) []
+  pub base : part.base ≡ r.base
+  pub count : part.count ≡ position_count r.tree
+  pub line_end : part.line_end ≡ r.rule.reading.line_end
+  pub trim : IsTrim r.tree
+
+-- the parts are those of the rules, one by one, and the positions of the rules are below the total
+pub record ArePartsOf (parts : List RulePart) (rules : List NumberedRule) (total : ℕ) : Type 0 where
+  pub long : length parts ≡ length rules
+  pub each : (i : ℕ) (part : RulePart) (r : NumberedRule) → slice_get parts i ≡ Some part → slice_get rules i ≡ Some r → IsPartOf part r
+  pub within : (i : ℕ) (r : NumberedRule) → slice_get rules i ≡ Some r → r.base + size_of r ≤ total
+
+-- of the positions of an expression, the flags say which can be read next; all others are as they were
+pub record AreReadsOf (r : NumberedRule) (marks : List Bool) (entered : Bool) (old new : List Bool) : Type 0 where
+  pub long : length new ≡ length old
+  pub own : (q : ℕ) → r.base ≤ q → q < r.base + position_count r.tree → (flag new q ≡ true) ↔ CanRead (λ p. flag marks p ≡ true) (entered ≡ true) r.tree r.base q
+  pub below : (q : ℕ) → q < r.base → flag new q ≡ flag old q
+  pub above : (q : ℕ) → r.base + position_count r.tree ≤ q → flag new q ≡ flag old q

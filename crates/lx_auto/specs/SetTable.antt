@@ -1,0 +1,43 @@
+-- A table of position sets, each of which has its number (Rabin and Scott 1959).
+use Rattle.std.specs.Prelude.{◌≡◌, ◌≢◌, ℕ, ◌+◌, ◌*◌, ◌<◌, ◌≤◌, ◌⊎◌, Bool, true, false, nat_eq, List, [], ◌∷◌, length, filter, slice_get, slice_index, slice_index_or, Option, Some, None}
+use Rattle.std.specs.Cmp.Lexicographic.{pointwise}
+use Rattle.std.specs.declared.hash.FoldHasher.{FoldHasher}
+use Rattle.std.specs.declared.hash.BuildHasherDefault.{BuildHasherDefault}
+use Rattle.std.specs.HashMap.{get, HashMap}
+use Rattle.smallvec.specs.SmallVec.{SmallVec}
+
+-- a set of positions, rising
+abbrev pub Positions : Type 0
+Positions = SmallVec ℕ
+
+abbrev pub words_of : Option Positions → List ℕ
+words_of None = []
+words_of (Some s) = s.items
+
+-- the set with this number; a number past the end has the empty one
+abbrev pub set_of : List Positions → ℕ → List ℕ
+set_of sets i = words_of (slice_get sets i)
+
+abbrev pub Numbers : Type 0
+Numbers = HashMap Positions ℕ (BuildHasherDefault FoldHasher)
+
+-- the test by which the map's keys are equal
+abbrev pub same : Positions → Positions → Bool
+same v w = pointwise nat_eq v.items w.items
+
+-- the map gives each set of the table its number
+pub record IsNumbering (sets : List Positions) (numbers : Numbers) : Type 0 where
+  pub known : (i : ℕ) (s : Positions) → slice_get sets i ≡ Some s → get same numbers s ≡ Some i
+  pub numbered : (s : Positions) (i : ℕ) → get same numbers s ≡ Some i → (i < length sets) × (set_of sets i ≡ s.items)
+
+-- where a step leads: nowhere with the empty set, else to the number of its set
+abbrev pub IsTarget : List Positions → Option ℕ → List ℕ → Type 0
+IsTarget sets None set = set ≡ []
+IsTarget sets (Some j) set = (set ≢ []) × (j < length sets) × (set_of sets j ≡ set)
+
+-- the later list goes on from the earlier one, with at most this set
+pub record GoesOn (old new : List Positions) (set : List ℕ) : Type 0 where
+  pub more : length old ≤ length new
+  pub at_most : length new ≤ length old + 1
+  pub kept : (i : ℕ) → i < length old → set_of new i ≡ set_of old i
+  pub added : (i : ℕ) → length old ≤ i → i < length new → set_of new i ≡ set

@@ -1,0 +1,45 @@
+-- The expression that a pattern is once names are unfolded and repeats written out: with a high bound so many copies, of which the
+-- first few are used; without one as many as have to stand there, the last of them taken again at will.
+use Rattle.std.specs.Prelude.{ℕ, zero, suc, List, Option, Some, None}
+use Rattle.lx_ere.specs.Regex.{Regex, nil, one_of, then, or, times, named}
+use Rattle.lx_spec.specs.Plain.{PlainDefinition}
+use Rattle.lx_spec.specs.Nesting.{tree_named}
+use Rattle.lx_auto.specs.Unfolded.{Unfolded, empty, leaf, cat, alt, opt, plus}
+
+-- low copies, and then up to high in all, each only behind the one before
+abbrev pub counted : Unfolded → ℕ → ℕ → Unfolded
+counted r low zero = empty
+counted r zero (suc high) = opt (cat r (counted r zero high))
+counted r (suc low) (suc high) = cat r (counted r low high)
+
+-- n copies, and then one that may be taken again
+abbrev pub unbounded : Unfolded → ℕ → Unfolded
+unbounded r zero = plus r
+unbounded r (suc n) = cat r (unbounded r n)
+
+abbrev pub repeated : Unfolded → ℕ → Option ℕ → Unfolded
+repeated r low (Some high) = counted r low high
+repeated r zero None = opt (plus r)
+repeated r (suc low) None = unbounded r low
+
+-- the expression written out, where `names` says what a name stands for
+abbrev pub written_out : (List ℕ → Unfolded) → Regex → Unfolded
+written_out names nil = empty
+written_out names (one_of s) = leaf s
+written_out names (then a b) = cat (written_out names a) (written_out names b)
+written_out names (or a b) = alt (written_out names a) (written_out names b)
+written_out names (times body low high) = repeated (written_out names body) low high
+written_out names (named name) = names name
+
+abbrev pub written_if_defined : (List ℕ → Unfolded) → Option Regex → Unfolded
+written_if_defined names None = empty
+written_if_defined names (Some tree) = written_out names tree
+
+-- what a name stands for, names unfolded at most n deep
+abbrev pub name_written_out : List PlainDefinition → ℕ → List ℕ → Unfolded
+name_written_out definitions zero name = empty
+name_written_out definitions (suc n) name = written_if_defined (name_written_out definitions n) (tree_named definitions name)
+
+-- the expression of a pattern: names are at most 32 deep
+unfoldable pub pattern_written_out : List PlainDefinition → Regex → Unfolded
+pattern_written_out definitions tree = written_out (name_written_out definitions 32) tree

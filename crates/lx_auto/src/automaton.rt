@@ -1,0 +1,112 @@
+//! Deterministic automata (Rabin and Scott 1959), kept as rows of states over classes of bytes.
+
+ghost use Rattle.std.specs.Prelude.{◌≡◌, ◌<◌, length, IfSome, option_map};
+ghost use Rattle.lx_auto.specs.Automata.{Machine, IsMachine, HasByteClasses, state_count, start_of, accepted_by, target_of};
+ghost use Rattle.lx_auto.specs.Words.{machine_of};
+
+use std::marker::Model;
+
+/// The number of a state: a state of an automaton where it is below the automaton's `states()`.
+#[derive(Clone, Copy, Debug, PartialEq, Eq)]
+pub struct State(pub u32);
+
+/// A deterministic automaton over bytes. Two bytes are of one class exactly where every state steps alike on both, and the
+/// classes are numbered by their least bytes.
+#[derive(Drop)]
+pub struct Automaton {
+    /// Of each start condition the state without line begin, and the state at line begin.
+    pub(crate) starts: Vec<(u32, u32)>,
+    /// The class of each of the 256 bytes.
+    pub(crate) classes: Vec<u8>,
+    /// How many classes there are.
+    pub(crate) width: usize,
+    /// Of each state 0, or one more than the rule that it accepts.
+    pub(crate) accepted: Vec<u16>,
+    /// Row by row 0, or one more than the target: of state s on class c at s * width + c.
+    pub(crate) targets: Vec<u16>,
+}
+
+impl Model for Automaton {
+    ghost Value = { Machine };
+
+    ghost view = { λ a. machine_of a.starts.items a.classes.items a.width a.accepted.items a.targets.items };
+
+    ghost invariant = { λ a. IsMachine (machine_of a.starts.items a.classes.items a.width a.accepted.items a.targets.items) × HasByteClasses (machine_of a.starts.items a.classes.items a.width a.accepted.items a.targets.items) };
+}
+
+impl Automaton {
+    /// The automaton of these lists.
+    pub(crate) fn of(
+        starts: Vec<(u32, u32)>,
+        classes: Vec<u8>,
+        width: usize,
+        accepted: Vec<u16>,
+        targets: Vec<u16>,
+    ) -> Automaton
+        requires machine { IsMachine (machine_of starts.items classes.items width accepted.items targets.items) }
+        requires classes { HasByteClasses (machine_of starts.items classes.items width accepted.items targets.items) }
+        ensures { result ≡ machine_of starts.items classes.items width accepted.items targets.items }
+    {
+        Automaton {
+            starts,
+            classes,
+            width,
+            accepted,
+            targets,
+        }
+    }
+
+    /// How many start conditions there are: 1 to 64.
+    pub fn conditions(&self) -> u16
+        ensures count { result ≡ length self.now.starts }
+        ensures machine { IsMachine self.now }
+        ensures classes { HasByteClasses self.now }
+    {
+        self.starts.len() as u16
+    }
+
+    /// How many states there are: at most 16,512.
+    pub fn states(&self) -> u32
+        ensures { result ≡ state_count self.now }
+    {
+        self.accepted.len() as u32
+    }
+
+    /// The state in which a condition begins, at the beginning of a line or elsewhere.
+    pub fn start(&self, condition: u16, at_line_begin: bool) -> State
+        requires { condition < length self.now.starts }
+        ensures start { result.0 ≡ start_of self.now condition at_line_begin }
+        ensures state { result.0 < state_count self.now }
+    {
+        let (elsewhere, at_begin) = self.starts[condition as usize];
+        if at_line_begin {
+            State(at_begin)
+        } else {
+            State(elsewhere)
+        }
+    }
+
+    /// Where a state steps on a byte; None where the step is missing.
+    pub fn step(&self, state: State, byte: u8) -> Option<State>
+        requires { state.0 < state_count self.now }
+        ensures target { option_map (λ s. s.0) result ≡ target_of self.now state.0 byte }
+        ensures state { IfSome result (λ s. s.0 < state_count self.now) }
+    {
+        let class = self.classes[byte as usize] as usize;
+        let word = self.targets[state.0 as usize * self.width + class];
+        if word == 0 {
+            None
+        } else {
+            Some(State(word as u32 - 1))
+        }
+    }
+
+    /// The rule that a state accepts; None where it accepts none.
+    pub fn accepts(&self, state: State) -> Option<u16>
+        requires { state.0 < state_count self.now }
+        ensures { result ≡ accepted_by self.now state.0 }
+    {
+        let word = self.accepted[state.0 as usize];
+        if word == 0 { None } else { Some(word - 1) }
+    }
+}

@@ -1,0 +1,127 @@
+// Byte classes: two bytes are of one class exactly where every state steps alike on both.
+
+ghost use Rattle.std.specs.Prelude.{◌≡◌, ◌<◌, ◌≤◌, ◌+◌, ◌*◌, ◌↔◌, ℕ, IsTrue, IfOk, OnOk, IfSome, IfNone, length, slice_index, vec_len};
+ghost use Rattle.lx_auto.specs.Automata.{StepsAlike, state_count};
+ghost use Rattle.lx_auto.specs.Classing.{HasSameColumns, AreNumbersBelow, IsNumberFor, AreRows};
+
+use crate::automaton::Automaton;
+use crate::draft::Draft;
+use std::alloc::{AllocError, Global};
+
+// How many bytes there are.
+const BYTES: usize = 256;
+
+/// Whether every state steps alike on the two classes.
+fn has_same_columns(draft: &Draft, class: usize, other: usize) -> bool
+    requires class { class < draft.now.width }
+    requires other { other < draft.now.width }
+    ensures { IsTrue result ↔ HasSameColumns draft.now class other }
+{
+    for state in 0..draft.states() {
+        if draft.word(state, class) != draft.word(state, other) {
+            return false;
+        }
+    }
+    true
+}
+
+/// The first byte below this one whose provisional class is the same.
+fn earlier_byte(draft: &Draft, byte: usize) -> Option<usize>
+    requires { byte < 256 }
+    ensures below { IfSome result (λ b. b < byte) }
+    ensures same { IfSome result (λ b. slice_index draft.now.classes b ≡ slice_index draft.now.classes byte) }
+{
+    let class = draft.class(byte);
+    for earlier in 0..byte {
+        if draft.class(earlier) == class {
+            return Some(earlier);
+        }
+    }
+    None
+}
+
+/// The number of the representative with the class's column; without one the next number.
+fn number_for(draft: &Draft, representatives: &[u8], class: usize) -> usize
+    requires class { class < draft.now.width }
+    requires classes { (j : ℕ) → j < length representatives.now → slice_index representatives.now j < draft.now.width }
+    ensures { IsNumberFor draft.now representatives.now class result }
+{
+    for number in 0..representatives.len() {
+        if has_same_columns(draft, representatives[number] as usize, class) {
+            return number;
+        }
+    }
+    representatives.len()
+}
+
+/// Numbers one byte more.
+fn add_byte(
+    draft: &Draft,
+    byte: usize,
+    numbers: &mut Vec<u8>,
+    representatives: &mut Vec<u8>,
+) -> Result<(), AllocError>
+    requires byte { byte < 256 }
+    requires numbers { AreNumbersBelow draft.now byte numbers.old.items representatives.old.items }
+    ensures { OnOk result (AreNumbersBelow draft.now (byte + 1) numbers.new.items representatives.new.items) }
+{
+    if let Some(earlier) = earlier_byte(draft, byte) {
+        let number = numbers[earlier];
+        numbers.push(number)?;
+        return Ok(());
+    }
+    let class = draft.class(byte);
+    let number = number_for(draft, representatives, class);
+    numbers.push(number as u8)?;
+    if number < representatives.len() {
+        return Ok(());
+    }
+    representatives.push(class as u8)?;
+    Ok(())
+}
+
+/// Adds the row of a state over the representatives.
+fn add_row(
+    draft: &Draft,
+    representatives: &[u8],
+    state: usize,
+    words: &mut Vec<u16>,
+) -> Result<(), AllocError>
+    requires state { state < state_count draft.now }
+    requires classes { (j : ℕ) → j < length representatives.now → slice_index representatives.now j < draft.now.width }
+    requires rows { AreRows draft.now representatives.now words.old.items (state * length representatives.now) }
+    ensures { OnOk result (AreRows draft.now representatives.now words.new.items ((state + 1) * length representatives.now)) }
+{
+    for number in 0..representatives.len() {
+        let word = draft.word(state, representatives[number] as usize);
+        words.push(word)?;
+    }
+    Ok(())
+}
+
+/// The rows of all states over the representatives.
+fn rows_over(alloc: Global, draft: &Draft, representatives: &[u8]) -> Result<Vec<u16>, AllocError>
+    requires classes { (j : ℕ) → j < length representatives.now → slice_index representatives.now j < draft.now.width }
+    ensures { IfOk result (λ words. AreRows draft.now representatives.now words.items (state_count draft.now * length representatives.now)) }
+{
+    let mut words = Vec::new(alloc);
+    for state in 0..draft.states() {
+        add_row(draft, representatives, state, &mut words)?;
+    }
+    Ok(words)
+}
+
+/// The automaton that steps alike, over byte classes.
+pub(crate) fn with_byte_classes(alloc: Global, draft: &Draft) -> Result<Automaton, AllocError>
+    ensures { IfOk result (λ a. StepsAlike draft.now a) }
+{
+    let mut numbers = Vec::new(alloc);
+    let mut representatives = Vec::new(alloc);
+    for byte in 0..BYTES {
+        add_byte(draft, byte, &mut numbers, &mut representatives)?;
+    }
+    let targets = rows_over(alloc, draft, &representatives)?;
+    let starts = Vec::from_slice(alloc, &draft.starts)?;
+    let accepted = Vec::from_slice(alloc, &draft.accepted)?;
+    Ok(Automaton::of(starts, numbers, representatives.len(), accepted, targets))
+}

@@ -1,0 +1,229 @@
+// Position sets, reached one after the other from the starts (Rabin and Scott 1959: the subset construction).
+ghost use Rattle.std.specs.Prelude.{◌≡◌, ◌≢◌, ◌+◌, ◌*◌, ◌<◌, ◌≤◌, ◌⊎◌, [], ℕ, List, IfOk, IfErr, OnOk, length};
+ghost use Rattle.lx_ere.specs.Regex.{Regex};
+ghost use Rattle.lx_spec.specs.Plain.{PlainSpec};
+ghost use Rattle.lx_spec.specs.views.Specs.{spec_view};
+ghost use Rattle.lx_auto.specs.Grounds.{IsGroundOf};
+ghost use Rattle.lx_auto.specs.Sets.{IsEarliestMatched};
+ghost use Rattle.lx_auto.specs.Unfolded.{Unfolded};
+ghost use Rattle.lx_auto.specs.Leaves as plain_leaves;
+ghost use Rattle.lx_auto.specs.LeafViews.{leaves_view};
+ghost use Rattle.lx_auto.specs.PositionSets.{numbered};
+ghost use Rattle.lx_auto.specs.SetTable.{GoesOn, IsNumbering, IsTarget, set_of};
+ghost use Rattle.lx_auto.specs.Exploring as plain;
+ghost use Rattle.lx_auto.specs.Exploring.{AddsTarget, AreReachedSets, HasMoreSets, HaveSteps, IsExplored, IsRowOf, start_count, start_number};
+
+use crate::active::active_rules;
+use crate::fault::BuildFault;
+use crate::follow::{begin, follow};
+use crate::ground::Ground;
+use crate::leaf::{Leaf, has};
+use crate::numbering::number_of;
+use crate::set_table::{PositionSet, SetTable};
+use lx_spec::spec::Spec;
+use smallvec::SmallVec;
+use std::alloc::{AllocError, Global};
+
+// Whether a position has the byte.
+fn has_byte(leaves: &[Leaf], position: u32, byte: u8) -> bool
+    ensures { result ≡ plain_leaves.has_byte (leaves_view leaves.now) position byte }
+{
+    match leaves.get(position as usize) {
+        Some(leaf) => has(leaf, byte),
+        None => false,
+    }
+}
+
+// Those of the positions that have the byte.
+fn having(alloc: Global, leaves: &[Leaf], byte: u8, from: &[u32]) -> Result<PositionSet, AllocError>
+    ensures { IfOk result (λ set. set.items ≡ plain.having (leaves_view leaves.now) byte from.now) }
+{
+    let mut set = SmallVec::new(alloc);
+    for position in from {
+        if has_byte(leaves, *position, byte) {
+            set.push(*position)?;
+        }
+    }
+    Ok(set)
+}
+
+// Adds the target of a state on a byte behind those that are known: the number of the set of those positions that have the byte.
+fn add_target(
+    alloc: Global,
+    leaves: &[Leaf],
+    byte: u8,
+    from: &[u32],
+    table: &mut SetTable,
+    targets: &mut Vec<Option<usize>>,
+    limit: usize,
+) -> Result<(), BuildFault>
+    requires numbering { IsNumbering table.old.sets.items table.old.numbers }
+    requires room { length table.old.sets.items ≤ limit }
+    ensures numbering { OnOk result (IsNumbering table.new.sets.items table.new.numbers) }
+    ensures room { OnOk result (length table.new.sets.items ≤ limit) }
+    ensures goes_on { OnOk result (GoesOn table.old.sets.items table.new.sets.items (plain.having (leaves_view leaves.now) byte from.now)) }
+    ensures fresh { OnOk result (length table.new.sets.items ≡ length table.old.sets.items ⊎ (plain.having (leaves_view leaves.now) byte from.now ≢ []) × ((i : ℕ) → i < length table.old.sets.items → set_of table.old.sets.items i ≢ plain.having (leaves_view leaves.now) byte from.now)) }
+    ensures target { OnOk result (AddsTarget table.new.sets.items targets.old.items targets.new.items (plain.having (leaves_view leaves.now) byte from.now)) }
+    ensures many { IfErr result (λ e. e ≡ BuildFault.TooManySets → (length table.old.sets.items ≡ limit) × (plain.having (leaves_view leaves.now) byte from.now ≢ []) × ((i : ℕ) → i < length table.old.sets.items → set_of table.old.sets.items i ≢ plain.having (leaves_view leaves.now) byte from.now)) }
+    ensures few { IfErr result (λ e. e ≢ BuildFault.TooManyPositions) }
+{
+    let Ok(set) = having(alloc, leaves, byte, from) else {
+        return Err(BuildFault::Memory);
+    };
+    let target = target_of(alloc, table, set, limit)?;
+    let Ok(()) = targets.push(target) else {
+        return Err(BuildFault::Memory);
+    };
+    Ok(())
+}
+
+// Where a step to a set leads: nowhere where the set is empty, else to its number.
+fn target_of(
+    alloc: Global,
+    table: &mut SetTable,
+    set: PositionSet,
+    limit: usize,
+) -> Result<Option<usize>, BuildFault>
+    requires numbering { IsNumbering table.old.sets.items table.old.numbers }
+    requires room { length table.old.sets.items ≤ limit }
+    ensures numbering { OnOk result (IsNumbering table.new.sets.items table.new.numbers) }
+    ensures room { OnOk result (length table.new.sets.items ≤ limit) }
+    ensures goes_on { OnOk result (GoesOn table.old.sets.items table.new.sets.items set.items) }
+    ensures fresh { OnOk result (length table.new.sets.items ≡ length table.old.sets.items ⊎ (set.items ≢ []) × ((i : ℕ) → i < length table.old.sets.items → set_of table.old.sets.items i ≢ set.items)) }
+    ensures target { IfOk result (λ t. IsTarget table.new.sets.items t set.items) }
+    ensures many { IfErr result (λ e. e ≡ BuildFault.TooManySets → (length table.old.sets.items ≡ limit) × (set.items ≢ []) × ((i : ℕ) → i < length table.old.sets.items → set_of table.old.sets.items i ≢ set.items)) }
+    ensures few { IfErr result (λ e. e ≢ BuildFault.TooManyPositions) }
+{
+    if set.is_empty() {
+        return Ok(None);
+    }
+    let number = number_of(alloc, table, set, limit)?;
+    Ok(Some(number))
+}
+
+/// Adds the targets of a state, one for each group of bytes; `from` are the positions that can be read next there.
+pub(crate) fn add_row(
+    alloc: Global,
+    leaves: &[Leaf],
+    representatives: &[u8],
+    from: &[u32],
+    table: &mut SetTable,
+    targets: &mut Vec<Option<usize>>,
+    limit: usize,
+) -> Result<(), BuildFault>
+    requires numbering { IsNumbering table.old.sets.items table.old.numbers }
+    requires room { length table.old.sets.items ≤ limit }
+    ensures numbering { OnOk result (IsNumbering table.new.sets.items table.new.numbers) }
+    ensures room { OnOk result (length table.new.sets.items ≤ limit) }
+    ensures more { OnOk result (length table.old.sets.items ≤ length table.new.sets.items) }
+    ensures long { OnOk result (length targets.new.items ≡ length targets.old.items + length representatives.now) }
+    ensures few { IfErr result (λ e. e ≢ BuildFault.TooManyPositions) }
+    ensures kept { OnOk result ((i : ℕ) → i < length table.old.sets.items → set_of table.new.sets.items i ≡ set_of table.old.sets.items i) }
+    ensures reached { (spec : PlainSpec) (tree_of : Regex → Unfolded) (state : ℕ) → IsRowOf spec tree_of (leaves_view leaves.now) representatives.now state from.now table.old.sets.items targets.old.items → OnOk result (AreReachedSets spec (numbered tree_of 0 spec.rules) table.new.sets.items) }
+    ensures steps { (spec : PlainSpec) (tree_of : Regex → Unfolded) (state : ℕ) → IsRowOf spec tree_of (leaves_view leaves.now) representatives.now state from.now table.old.sets.items targets.old.items → OnOk result (HaveSteps spec (numbered tree_of 0 spec.rules) (leaves_view leaves.now) representatives.now table.new.sets.items targets.new.items ((state + 1) * length representatives.now)) }
+    ensures many { (spec : PlainSpec) (tree_of : Regex → Unfolded) (state : ℕ) → IsRowOf spec tree_of (leaves_view leaves.now) representatives.now state from.now table.old.sets.items targets.old.items → IfErr result (λ e. e ≡ BuildFault.TooManySets → HasMoreSets spec (numbered tree_of 0 spec.rules) limit) }
+{
+    for class in 0..representatives.len() {
+        add_target(
+            alloc,
+            leaves,
+            representatives[class],
+            from,
+            table,
+            targets,
+            limit,
+        )?;
+    }
+    Ok(())
+}
+
+/// The steps of all states, and the rule that each set matches.
+#[derive(Drop)]
+pub(crate) struct Explored {
+    /// How many sets were reached.
+    pub(crate) count: usize,
+    /// Row by row, first those of the starts, for each condition without line begin and then at line begin, and then those of the
+    /// sets: the number of the set to which a step on a group of bytes leads.
+    pub(crate) targets: Vec<Option<usize>>,
+    /// Of each set the rule that it matches.
+    pub(crate) matched: Vec<Option<usize>>,
+}
+
+// Adds the targets of a start.
+fn add_start(
+    alloc: Global,
+    spec: &Spec,
+    ground: &Ground,
+    condition: u16,
+    at_line_begin: bool,
+    table: &mut SetTable,
+    targets: &mut Vec<Option<usize>>,
+    limit: usize,
+) -> Result<(), BuildFault>
+    requires condition { condition < length (spec_view spec.now).conditions }
+    requires numbering { IsNumbering table.old.sets.items table.old.numbers }
+    requires room { length table.old.sets.items ≤ limit }
+    ensures numbering { OnOk result (IsNumbering table.new.sets.items table.new.numbers) }
+    ensures room { OnOk result (length table.new.sets.items ≤ limit) }
+    ensures few { IfErr result (λ e. e ≢ BuildFault.TooManyPositions) }
+    ensures explored { (tree_of : Regex → Unfolded) → IsGroundOf (spec_view spec.now) tree_of ground.now → IsExplored (spec_view spec.now) tree_of (leaves_view ground.now.leaves.items) ground.now.groups.representatives.items table.old.sets.items targets.old.items (start_number condition at_line_begin) → OnOk result (IsExplored (spec_view spec.now) tree_of (leaves_view ground.now.leaves.items) ground.now.groups.representatives.items table.new.sets.items targets.new.items (start_number condition at_line_begin + 1)) }
+    ensures many { (tree_of : Regex → Unfolded) → IsGroundOf (spec_view spec.now) tree_of ground.now → IsExplored (spec_view spec.now) tree_of (leaves_view ground.now.leaves.items) ground.now.groups.representatives.items table.old.sets.items targets.old.items (start_number condition at_line_begin) → IfErr result (λ e. e ≡ BuildFault.TooManySets → HasMoreSets (spec_view spec.now) (numbered tree_of 0 (spec_view spec.now).rules) limit) }
+{
+    let Ok(active) = active_rules(alloc, spec, condition, at_line_begin) else {
+        return Err(BuildFault::Memory);
+    };
+    let Ok(first) = begin(alloc, &ground.parts, ground.total, &active) else {
+        return Err(BuildFault::Memory);
+    };
+    let leaves = ground.leaves.as_slice();
+    let representatives = ground.groups.representatives.as_slice();
+    add_row(
+        alloc,
+        leaves,
+        representatives,
+        &first,
+        table,
+        targets,
+        limit,
+    )?;
+    Ok(())
+}
+
+// Adds the targets of a set, and gives the rule that it matches.
+fn add_set_row(
+    alloc: Global,
+    ground: &Ground,
+    number: usize,
+    table: &mut SetTable,
+    targets: &mut Vec<Option<usize>>,
+    limit: usize,
+) -> Result<Option<usize>, BuildFault>
+    requires number { number < length table.old.sets.items }
+    requires numbering { IsNumbering table.old.sets.items table.old.numbers }
+    requires room { length table.old.sets.items ≤ limit }
+    ensures numbering { OnOk result (IsNumbering table.new.sets.items table.new.numbers) }
+    ensures room { OnOk result (length table.new.sets.items ≤ limit) }
+    ensures more { OnOk result (length table.old.sets.items ≤ length table.new.sets.items) }
+    ensures kept { OnOk result ((i : ℕ) → i < length table.old.sets.items → set_of table.new.sets.items i ≡ set_of table.old.sets.items i) }
+    ensures few { IfErr result (λ e. e ≢ BuildFault.TooManyPositions) }
+    ensures matched { (spec : PlainSpec) (tree_of : Regex → Unfolded) → IsGroundOf spec tree_of ground.now → IfOk result (λ found. IsEarliestMatched (numbered tree_of 0 spec.rules) (set_of table.old.sets.items number) found) }
+    ensures explored { (spec : PlainSpec) (tree_of : Regex → Unfolded) → IsGroundOf spec tree_of ground.now → IsExplored spec tree_of (leaves_view ground.now.leaves.items) ground.now.groups.representatives.items table.old.sets.items targets.old.items (start_count spec + number) → OnOk result (IsExplored spec tree_of (leaves_view ground.now.leaves.items) ground.now.groups.representatives.items table.new.sets.items targets.new.items (start_count spec + number + 1)) }
+    ensures many { (spec : PlainSpec) (tree_of : Regex → Unfolded) → IsGroundOf spec tree_of ground.now → IsExplored spec tree_of (leaves_view ground.now.leaves.items) ground.now.groups.representatives.items table.old.sets.items targets.old.items (start_count spec + number) → IfErr result (λ e. e ≡ BuildFault.TooManySets → HasMoreSets spec (numbered tree_of 0 spec.rules) limit) }
+{
+    let set = table.sets[number].as_slice();
+    let Ok(found) = follow(alloc, &ground.parts, ground.total, set) else {
+        return Err(BuildFault::Memory);
+    };
+    let leaves = ground.leaves.as_slice();
+    let representatives = ground.groups.representatives.as_slice();
+    add_row(
+        alloc,
+        leaves,
+        representatives,
+        &found.next,
+        table,
+        targets,
+        limit,
+    )?;
+    Ok(found.matched)
+}

@@ -1,0 +1,77 @@
+// What follows a set of positions, and what a start begins with.
+ghost use Rattle.std.specs.Prelude.{◌≡◌, ◌≤◌, ◌<◌, ◌+◌, ℕ, Bool, true, false, List, IfOk, OnOk, length};
+ghost use Rattle.lx_spec.specs.Plain.{PlainSpec};
+ghost use Rattle.lx_auto.specs.PositionSets.{NumberedRule};
+ghost use Rattle.lx_auto.specs.RuleParts.{IsPartOf, ArePartsOf, AreReadsOf};
+ghost use Rattle.lx_auto.specs.Following.{AreNumbered, AreActive};
+ghost use Rattle.lx_auto.specs.Sets.{AreFollowing, AreFirst, IsEarliestMatched};
+
+use crate::marking::flag;
+use crate::rule_part::RulePart;
+use crate::set_steps::{clear_flags, marks_of, places_of, step_rules};
+use std::alloc::{AllocError, Global};
+
+/// What is found of a set of positions.
+#[derive(Drop)]
+pub(crate) struct Found {
+    /// The positions that can stand behind those of the set, rising.
+    pub(crate) next: Vec<u32>,
+    /// The earliest rule of which a position of the set ends a word.
+    pub(crate) matched: Option<usize>,
+}
+
+/// What follows a set of positions, of `total` in all, and the rule that it matches.
+pub(crate) fn follow(
+    alloc: Global,
+    parts: &[RulePart],
+    total: usize,
+    set: &[u32],
+) -> Result<Found, AllocError>
+    requires { total ≤ 65536 }
+    ensures next { (spec : PlainSpec) (rules : List NumberedRule) → AreNumbered spec rules → ArePartsOf parts.now rules total → IfOk result (λ found. AreFollowing rules set.now found.next.items) }
+    ensures matched { (spec : PlainSpec) (rules : List NumberedRule) → AreNumbered spec rules → ArePartsOf parts.now rules total → IfOk result (λ found. IsEarliestMatched rules set.now found.matched) }
+{
+    let members = marks_of(alloc, total, set)?;
+    let marks = members.as_slice();
+    let mut reads = clear_flags(alloc, total)?;
+    let matched = step_rules(alloc, parts, marks, &mut reads)?;
+    let next = places_of(alloc, &reads)?;
+    Ok(Found { next, matched })
+}
+
+/// The positions with which the rules that are active at a start can begin, rising; `active` says which these are.
+pub(crate) fn begin(
+    alloc: Global,
+    parts: &[RulePart],
+    total: usize,
+    active: &[bool],
+) -> Result<Vec<u32>, AllocError>
+    requires { total ≤ 65536 }
+    ensures { (spec : PlainSpec) (condition : ℕ) (begin : Bool) (rules : List NumberedRule) → AreNumbered spec rules → ArePartsOf parts.now rules total → AreActive spec condition begin active.now → IfOk result (λ first. AreFirst spec rules condition begin first.items) }
+{
+    let marks = clear_flags(alloc, total)?;
+    let mut reads = clear_flags(alloc, total)?;
+    for i in 0..parts.len() {
+        begin_rule(alloc, &parts[i], flag(active, i), &marks, &mut reads)?;
+    }
+    let first = places_of(alloc, &reads)?;
+    Ok(first)
+}
+
+// One rule: where it is active its first positions can be read.
+fn begin_rule(
+    alloc: Global,
+    part: &RulePart,
+    is_active: bool,
+    marks: &[bool],
+    reads: &mut Vec<bool>,
+) -> Result<(), AllocError>
+    ensures long { OnOk result (length reads.new.items ≡ length reads.old.items) }
+    ensures inactive { is_active ≡ false → OnOk result (reads.new.items ≡ reads.old.items) }
+    ensures active { is_active ≡ true → (r : NumberedRule) → IsPartOf part.now r → part.now.base + part.now.count ≤ length reads.old.items → OnOk result (AreReadsOf r marks.now true reads.old.items reads.new.items) }
+{
+    if is_active {
+        part.follow(alloc, marks, true, reads)?;
+    }
+    Ok(())
+}

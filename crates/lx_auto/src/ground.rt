@@ -1,0 +1,17 @@
+// What is known of a specification's positions before sets of them are reached.
+ghost use Rattle.std.specs.Prelude.{◌≤◌};
+
+use crate::groups::Groups;
+use crate::leaf::Leaf;
+use crate::rule_part::RulePart;
+
+/// The positions of all rules.
+#[derive(Drop)]
+pub(crate) struct Ground<'s> {
+    pub(crate) parts: Vec<RulePart<'s>>,
+    /// How many positions there are.
+    pub(crate) total: usize,
+    pub(crate) leaves: Vec<Leaf<'s>>,
+    pub(crate) groups: Groups,
+    pub ghost small: { total ≤ 65536 },
+}

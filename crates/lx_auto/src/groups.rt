@@ -1,0 +1,136 @@
+// Groups of bytes that no position tells apart.
+ghost use Rattle.std.specs.Prelude.{◌≡◌, ◌≤◌, ◌<◌, ◌+◌, ℕ, true, false, IfOk, OnOk, MatchOption, length, slice_index};
+ghost use Rattle.lx_auto.specs.Leaves.{PlainLeaf, AreGroupsOf};
+ghost use Rattle.lx_auto.specs.LeafViews.{leaf_view, leaves_view};
+ghost use Rattle.lx_auto.specs.Grouping.{representative_of, IsAlike, AreTogether, IsSplitBelow};
+
+use crate::leaf::{Leaf, has};
+use std::alloc::{AllocError, Global};
+
+/// The bytes in groups, each with one byte that stands for it.
+#[derive(Drop)]
+pub(crate) struct Groups {
+    /// The group of each byte.
+    pub(crate) classes: Vec<u8>,
+    /// The byte that stands for each group.
+    pub(crate) representatives: Vec<u8>,
+    pub ghost bytes: { length classes.items ≡ 256 },
+    pub ghost below: { (b : ℕ) → b < 256 → slice_index classes.items b < length representatives.items },
+    pub ghost few: { length representatives.items < 257 },
+    pub ghost small: { (k : ℕ) → k < length representatives.items → slice_index representatives.items k < 256 },
+}
+
+// All bytes in one group.
+fn one_group(alloc: Global) -> Result<Groups, AllocError> {
+    let classes = vec![in alloc; 0u8; 256]?;
+    let representatives = vec![in alloc; 0u8; 1]?;
+    Ok(Groups {
+        classes,
+        representatives,
+    })
+}
+
+// The byte that stands for the group of this one.
+fn representative(groups: &Groups, byte: u8) -> u8
+    ensures { result ≡ representative_of groups.now.classes.items groups.now.representatives.items byte }
+{
+    let class = groups.classes[byte as usize];
+    groups.representatives[class as usize]
+}
+
+// Whether the leaf tells a byte from the one that stands for it.
+fn splits(leaf: &Leaf, groups: &Groups) -> bool
+    ensures { result ≡ false → IsAlike (leaf_view leaf.now) groups.now.classes.items groups.now.representatives.items }
+{
+    for i in 0..256usize {
+        let byte = i as u8;
+        if has(leaf, byte) != has(leaf, representative(groups, byte)) {
+            return true;
+        }
+    }
+    false
+}
+
+// Whether the two bytes are of one group and the leaf doesn't tell them apart.
+fn are_together(leaf: &Leaf, groups: &Groups, first: u8, second: u8) -> bool
+    ensures { result ≡ true → AreTogether (leaf_view leaf.now) groups.now.classes.items first second }
+{
+    groups.classes[first as usize] == groups.classes[second as usize]
+        && has(leaf, first) == has(leaf, second)
+}
+
+// The first of the new groups that the byte can go to.
+fn find_alike(leaf: &Leaf, groups: &Groups, representatives: &[u8], byte: u8) -> Option<usize>
+    ensures within { MatchOption result (Unit {0}) (λ class. class < length representatives.now) }
+    ensures together { MatchOption result (Unit {0}) (λ class. AreTogether (leaf_view leaf.now) groups.now.classes.items (slice_index representatives.now class) byte) }
+{
+    for class in 0..representatives.len() {
+        if are_together(leaf, groups, representatives[class], byte) {
+            return Some(class);
+        }
+    }
+    None
+}
+
+// The new group of a byte: one that is there, or one that it begins.
+fn place(
+    leaf: &Leaf,
+    groups: &Groups,
+    byte: u8,
+    representatives: &mut Vec<u8>,
+) -> Result<usize, AllocError>
+    ensures within { IfOk result (λ class. class < length representatives.new.items) }
+    ensures longer { OnOk result (length representatives.old.items ≤ length representatives.new.items) }
+    ensures few { OnOk result (length representatives.new.items ≤ length representatives.old.items + 1) }
+    ensures small { ((k : ℕ) → k < length representatives.old.items → slice_index representatives.old.items k < 256) → OnOk result ((k : ℕ) → k < length representatives.new.items → slice_index representatives.new.items k < 256) }
+    ensures kept { OnOk result ((k : ℕ) → k < length representatives.old.items → slice_index representatives.new.items k ≡ slice_index representatives.old.items k) }
+    ensures together { IfOk result (λ class. AreTogether (leaf_view leaf.now) groups.now.classes.items (slice_index representatives.new.items class) byte) }
+{
+    match find_alike(leaf, groups, representatives, byte) {
+        Some(class) => Ok(class),
+        None => {
+            let class = representatives.len();
+            representatives.push(byte)?;
+            Ok(class)
+        }
+    }
+}
+
+// The groups, of which each is split by whether the leaf has the byte.
+fn split(alloc: Global, leaf: &Leaf, groups: &Groups) -> Result<Groups, AllocError>
+    ensures { IfOk result (λ new. IsSplitBelow (leaf_view leaf.now) groups.now.classes.items new.classes.items new.representatives.items 256) }
+{
+    let mut classes = Vec::new(alloc);
+    let mut representatives = Vec::new(alloc);
+    for i in 0..256usize {
+        let class = place(leaf, groups, i as u8, &mut representatives)?;
+        classes.push(class as u8)?;
+    }
+    Ok(Groups {
+        classes,
+        representatives,
+    })
+}
+
+// The groups, split where the leaf tells bytes of one group apart.
+fn refine(alloc: Global, leaf: &Leaf, groups: Groups) -> Result<Groups, AllocError>
+    ensures own { IfOk result (λ new. IsAlike (leaf_view leaf.now) new.classes.items new.representatives.items) }
+    ensures others { (other : PlainLeaf) → IsAlike other groups.classes.items groups.representatives.items → IfOk result (λ new. IsAlike other new.classes.items new.representatives.items) }
+{
+    if splits(leaf, &groups) {
+        let finer = split(alloc, leaf, &groups)?;
+        return Ok(finer);
+    }
+    Ok(groups)
+}
+
+/// The bytes in groups that no leaf tells apart.
+pub(crate) fn groups_of(alloc: Global, leaves: &[Leaf]) -> Result<Groups, AllocError>
+    ensures { IfOk result (λ groups. AreGroupsOf (leaves_view leaves.now) groups.classes.items groups.representatives.items) }
+{
+    let mut groups = one_group(alloc)?;
+    for i in 0..leaves.len() {
+        groups = refine(alloc, &leaves[i], groups)?;
+    }
+    Ok(groups)
+}

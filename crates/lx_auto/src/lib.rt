@@ -1,0 +1,40 @@
+//! Automata of specifications: positions, subset construction, and states merged to the fewest
+//! (McNaughton and Yamada 1960, Glushkov 1961, Rabin and Scott 1959; Moore 1956, Hopcroft 1971).
+#![tactic(auto)]
+
+mod active;
+mod arena;
+pub mod automaton;
+mod classes;
+mod complete;
+mod count;
+mod definition_order;
+mod draft;
+mod explore;
+mod fault;
+mod fill;
+mod follow;
+mod fragment;
+mod ground;
+mod groups;
+mod leaf;
+mod marking;
+pub mod merging;
+mod names;
+mod node;
+mod numbering;
+mod order;
+mod part;
+mod partition;
+mod predecessors;
+mod quotient;
+mod repeat;
+mod rule_part;
+mod rule_steps;
+mod set_steps;
+mod set_table;
+mod split;
+mod unfold;
+
+pub use crate::automaton::{Automaton, State};
+pub use crate::merging::merge;

@@ -1,0 +1,190 @@
+// Where a set of positions can end in an expression, and which positions can be read next: two passes over its nodes.
+ghost use Rattle.std.specs.Prelude.{◌≡◌, ◌<◌, ◌^◌, ◌∷◌, [], IfOk, OnOk, reverse, slice_set, length};
+ghost use Rattle.lx_auto.specs.Marking as plain;
+ghost use Rattle.lx_auto.specs.Marking.{null_of, nulls_from, end_of, ends_from, behind_node, before_node, first_flag, other_flags, told_by, read_at, reads_from};
+ghost use Rattle.lx_auto.specs.NodeViews.{node_view, nodes_view};
+
+use crate::node::Node;
+use std::alloc::{AllocError, Global};
+
+/// The flag at a place, and false past the end.
+#[inline(always)]
+pub(crate) fn flag(flags: &[bool], i: usize) -> bool
+    ensures { result ≡ plain.flag flags.now i }
+{
+    i < flags.len() && flags[i]
+}
+
+/// Sets the flag at a place, and none past the end.
+pub(crate) fn set_flag(flags: &mut Vec<bool>, i: usize, flag: bool)
+    ensures set { flags.new.items ≡ slice_set flags.old.items i flag }
+    ensures long { length flags.new.items ≡ length flags.old.items }
+{
+    if i < flags.len() {
+        flags[i] = flag;
+    }
+}
+
+// Where the left child of a node stands that has `before` nodes before it, and `right` of them in its right child.
+#[inline(always)]
+fn left_of(before: usize, right: usize) -> usize
+    ensures { result ≡ plain.left_of before right }
+{
+    before.saturating_sub(right).saturating_sub(1)
+}
+
+fn is_null(node: &Node, nulls: &[bool]) -> bool
+    ensures { result ≡ null_of (node_view node.now) nulls.now }
+{
+    let last = nulls.len().saturating_sub(1);
+    match *node {
+        Node::Leaf(_) => false,
+        Node::Cat(right) => flag(nulls, left_of(nulls.len(), right)) && flag(nulls, last),
+        Node::Alt(right) => flag(nulls, left_of(nulls.len(), right)) || flag(nulls, last),
+        Node::Optional => true,
+        Node::Repeated => flag(nulls, last),
+    }
+}
+
+/// For each node whether its expression matches the empty word.
+pub(crate) fn nulls_of(alloc: Global, nodes: &[Node]) -> Result<Vec<bool>, AllocError>
+    ensures { IfOk result (λ nulls. nulls.items ≡ nulls_from (nodes_view nodes.now) []) }
+{
+    let mut nulls = Vec::new(alloc);
+    for node in nodes {
+        nulls.push(is_null(node, &nulls))?;
+    }
+    Ok(nulls)
+}
+
+fn can_end(nulls: &[bool], marks: &[bool], position: usize, node: &Node, ends: &[bool]) -> bool
+    ensures { result ≡ end_of nulls.now marks.now position (node_view node.now) ends.now }
+{
+    let last = ends.len().saturating_sub(1);
+    match *node {
+        Node::Leaf(_) => flag(marks, position),
+        Node::Cat(right) => {
+            flag(ends, last) || (flag(ends, left_of(ends.len(), right)) && flag(nulls, last))
+        }
+        Node::Alt(right) => flag(ends, left_of(ends.len(), right)) || flag(ends, last),
+        Node::Optional | Node::Repeated => flag(ends, last),
+    }
+}
+
+// The next position behind a node.
+fn behind(node: &Node, position: usize) -> usize
+    requires { position < 2 ^ 63 }
+    ensures { result ≡ behind_node (node_view node.now) position }
+{
+    match *node {
+        Node::Leaf(_) => position + 1,
+        _ => position,
+    }
+}
+
+/// For each node whether a word whose last position is marked can end there; the first position is `first`.
+pub(crate) fn ends_of(
+    alloc: Global,
+    nodes: &[Node],
+    nulls: &[bool],
+    marks: &[bool],
+    first: usize,
+) -> Result<Vec<bool>, AllocError>
+    requires { first < 65536 }
+    ensures { IfOk result (λ ends. ends.items ≡ ends_from nulls.now marks.now first (nodes_view nodes.now) []) }
+{
+    let mut ends = Vec::new(alloc);
+    let mut position = first;
+    for node in nodes {
+        ends.push(can_end(nulls, marks, position, node, &ends))?;
+        position = behind(node, position);
+    }
+    Ok(ends)
+}
+
+// Takes off whether the next expression may be entered.
+fn pop_flag(stack: &mut Vec<bool>) -> bool
+    ensures flag { result ≡ first_flag (reverse stack.old.items) }
+    ensures rest { reverse stack.new.items ≡ other_flags (reverse stack.old.items) }
+{
+    match stack.pop() {
+        Some(flag) => flag,
+        None => false,
+    }
+}
+
+// Tells the children of a node that has `before` nodes before it whether they may be entered.
+fn tell(
+    nulls: &[bool],
+    ends: &[bool],
+    node: &Node,
+    before: usize,
+    entered: bool,
+    stack: &mut Vec<bool>,
+) -> Result<(), AllocError>
+    ensures { OnOk result (reverse stack.new.items ≡ told_by nulls.now ends.now (node_view node.now) before entered (reverse stack.old.items)) }
+{
+    match *node {
+        Node::Leaf(_) => {}
+        Node::Cat(right) => {
+            let left = left_of(before, right);
+            stack.push(entered)?;
+            stack.push((entered && flag(nulls, left)) || flag(ends, left))?;
+        }
+        Node::Alt(_) => {
+            stack.push(entered)?;
+            stack.push(entered)?;
+        }
+        Node::Optional => stack.push(entered)?,
+        Node::Repeated => stack.push(entered || flag(ends, before.saturating_sub(1)))?,
+    }
+    Ok(())
+}
+
+// The last position of those before a node and its own.
+fn before(node: &Node, position: usize) -> usize
+    ensures { result ≡ before_node (node_view node.now) position }
+{
+    match *node {
+        Node::Leaf(_) => position.saturating_sub(1),
+        _ => position,
+    }
+}
+
+// A leaf that may be entered can be read.
+fn read(node: &Node, position: usize, entered: bool, reads: &mut Vec<bool>)
+    ensures set { reads.new.items ≡ read_at (node_view node.now) position entered reads.old.items }
+    ensures long { length reads.new.items ≡ length reads.old.items }
+{
+    if let Node::Leaf(_) = *node {
+        set_flag(reads, position.saturating_sub(1), entered);
+    }
+}
+
+/// Sets for each position of an expression whether it can be read next: behind a marked one, or at the begin of the expression where
+/// that is entered. The position behind its last one is `end`.
+pub(crate) fn mark_reads(
+    alloc: Global,
+    nodes: &[Node],
+    nulls: &[bool],
+    ends: &[bool],
+    entered: bool,
+    end: usize,
+    reads: &mut Vec<bool>,
+) -> Result<(), AllocError>
+    ensures long { OnOk result (length reads.new.items ≡ length reads.old.items) }
+    ensures set { OnOk result (reads.new.items ≡ reads_from nulls.now ends.now (reverse (nodes_view nodes.now)) (entered ∷ []) end reads.old.items) }
+{
+    let mut stack = vec![in alloc; entered]?;
+    let mut position = end;
+    let mut rest = nodes.len();
+    'down: while 0 < rest {
+        rest -= 1;
+        let node = &nodes[rest];
+        let own = pop_flag(&mut stack);
+        read(node, position, own, reads);
+        tell(nulls, ends, node, rest, own, &mut stack)?;
+        position = before(node, position);
+    }
+    Ok(())
+}

@@ -1,0 +1,28 @@
+//! Merging of equivalent states (Moore 1956, Hopcroft 1971).
+
+ghost use Rattle.std.specs.Prelude.{◌≡◌, IfOk, length};
+ghost use Rattle.lx_auto.specs.Equivalence.{AnswerAlike, IsLeast, HasLiveSteps};
+
+use crate::automaton::Automaton;
+use crate::classes::with_byte_classes;
+use crate::complete::completion_of;
+use crate::partition::by_labels;
+use crate::quotient::quotient;
+use crate::split::refined;
+use std::alloc::{AllocError, Global};
+
+/// The least automaton with the same answers: no two of its states are equivalent, and each of its steps leads to a state
+/// from which some word leads to an accepting one. A start from which nothing is ever accepted is a state without steps.
+pub fn merge(alloc: Global, automaton: &Automaton) -> Result<Automaton, AllocError>
+    ensures conditions { IfOk result (λ m. length m.starts ≡ length automaton.now.starts) }
+    ensures answers { IfOk result (λ m. AnswerAlike automaton.now m) }
+    ensures told { IfOk result (λ m. IsLeast m) }
+    ensures live { IfOk result (λ m. HasLiveSteps m) }
+{
+    let _conditions = automaton.conditions();
+    let m = completion_of(alloc, automaton)?;
+    let start = by_labels(alloc, &m)?;
+    let p = refined(alloc, &m, start)?;
+    let draft = quotient(alloc, automaton, &m, &p)?;
+    with_byte_classes(alloc, &draft)
+}

@@ -1,0 +1,58 @@
+// Definitions by their names.
+ghost use Rattle.std.specs.Prelude.{◌≡◌, ℕ, List, Some, None, nat_eq, cond, IfOk, OnOk};
+ghost use Rattle.std.specs.Cmp.Lexicographic.{pointwise};
+ghost use Rattle.std.specs.Option.{option_or};
+ghost use Rattle.lx_auto.specs.NameViews.{number_at, place_of};
+
+use lx_spec::definition::Definition;
+use std::alloc::{AllocError, Global};
+use std::collections::BTreeMap;
+
+/// The definitions, and the number of each by its name, so that a use of a name costs no walk over them.
+#[derive(Drop)]
+pub(crate) struct Names<'s> {
+    pub(crate) definitions: &'s [Definition],
+    pub(crate) numbers: BTreeMap<Vec<u8>, usize>,
+    pub ghost exact: { (name : List ℕ) → number_at numbers name ≡ place_of definitions.now name },
+}
+
+impl Names<'_> {
+    /// The number of the first definition with this name.
+    pub(crate) fn number_of(&self, name: &[u8]) -> Option<usize>
+        ensures { result ≡ place_of self.now.definitions.now name.now }
+    {
+        self.numbers.get(name).copied()
+    }
+}
+
+// Adds the number of a name, where the name has none yet.
+fn add_number(
+    alloc: Global,
+    numbers: &mut BTreeMap<Vec<u8>, usize>,
+    name: &[u8],
+    number: usize,
+) -> Result<(), AllocError>
+    ensures { OnOk result ((q : List ℕ) → number_at numbers.new q ≡ option_or (number_at numbers.old q) (cond (pointwise nat_eq name.now q) (Some number) None)) }
+{
+    if !numbers.contains_key(name) {
+        numbers.insert(Vec::from_slice(alloc, name)?, number)?;
+    }
+    Ok(())
+}
+
+/// These definitions by their names.
+pub(crate) fn index_names(
+    alloc: Global,
+    definitions: &[Definition],
+) -> Result<Names<'_>, AllocError>
+    ensures { IfOk result (λ names. names.definitions.now ≡ definitions.now) }
+{
+    let mut numbers = BTreeMap::new(alloc);
+    for i in 0..definitions.len() {
+        add_number(alloc, &mut numbers, &definitions[i].name, i)?;
+    }
+    Ok(Names {
+        definitions,
+        numbers,
+    })
+}

@@ -1,0 +1,255 @@
+// The order in which blocks are split (Hopcroft 1971): by blocks that are still to be used as splitters, where of two
+// parts the smaller one gets the new number and is used. What is proved of the partition doesn't rest on the order.
+
+ghost use Rattle.std.specs.Prelude.{◌≡◌, ◌<◌, ◌≤◌, ◌+◌, ◌-◌, ◌*◌, ℕ, IfOk, OnOk, length, vec_len};
+ghost use Rattle.lx_auto.specs.Completion.{total, IsComplete};
+ghost use Rattle.lx_auto.specs.Partitions.{block_count, IsSound, IsSplitter};
+ghost use Rattle.lx_auto.specs.Orders.{remaining};
+
+use crate::complete::{Complete, step};
+use crate::partition::{Partition, flags_of};
+use crate::predecessors::Predecessors;
+use crate::split::{side_of, split};
+use std::alloc::{AllocError, Global};
+
+/// What the choice of splits goes by.
+#[derive(Drop)]
+pub(crate) struct Order {
+    pub(crate) predecessors: Predecessors,
+    /// How many states each block has.
+    pub(crate) sizes: Vec<u32>,
+    /// How many states of each block step into the splitter.
+    pub(crate) hits: Vec<u32>,
+    /// The blocks that have such states.
+    pub(crate) touched: Vec<u16>,
+    /// The blocks that are still to be used as splitters.
+    pub(crate) pending: Vec<u16>,
+}
+
+/// Counts a state for its block.
+fn count_state(counts: &mut [u32], block: u16)
+    ensures { length counts.new ≡ length counts.old }
+{
+    if let Some(count) = counts.get_mut(block as usize) {
+        *count = count.wrapping_add(1);
+    }
+}
+
+/// The order for a partition, with all its blocks pending.
+fn order_of(alloc: Global, m: &Complete, p: &Partition) -> Result<Order, AllocError>
+    requires complete { IsComplete m.now }
+    requires sound { IsSound m.now p.now }
+{
+    let predecessors = Predecessors::of(alloc, m)?;
+    let count = p.representatives.len();
+    let mut sizes = vec![in alloc; 0; count]?;
+    for i in 0..p.block_of.len() {
+        count_state(&mut sizes, p.block_of[i]);
+    }
+    let hits = vec![in alloc; 0; count]?;
+    let mut pending = Vec::with_capacity(alloc, count)?;
+    for i in 0..p.block_of.len() {
+        // Each block once, at its representative.
+        if p.representatives.get(p.block_of[i] as usize).copied() == Some(i as u16) {
+            pending.push(p.block_of[i])?;
+        }
+    }
+    Ok(Order {
+        predecessors,
+        sizes,
+        hits,
+        touched: Vec::new(alloc),
+        pending,
+    })
+}
+
+/// Counts a state that steps into the splitter for its block.
+#[inline]
+fn hit(order: &mut Order, block: u16) -> Result<(), AllocError>
+    ensures pending { OnOk result (vec_len order.new.pending ≡ vec_len order.old.pending) }
+{
+    if let Some(hits) = order.hits.get_mut(block as usize) {
+        let first = *hits == 0;
+        *hits = hits.wrapping_add(1);
+        if first {
+            order.touched.push(block)?;
+        }
+    }
+    Ok(())
+}
+
+/// Counts for each block its states that step to a state.
+fn hit_sources(order: &mut Order, p: &Partition, target: u16, class: u16) -> Result<(), AllocError>
+    ensures pending { OnOk result (vec_len order.new.pending ≡ vec_len order.old.pending) }
+{
+    let count = order.predecessors.sources(target, class).len();
+    for i in 0..count {
+        let source = order.predecessors.sources(target, class).get(i).copied();
+        let block = source.and_then(|s| p.block_of.get(s as usize).copied());
+        if let Some(block) = block {
+            hit(order, block)?;
+        }
+    }
+    Ok(())
+}
+
+/// Counts for each block its states that step into the splitter, whose members these are.
+fn count_hits(
+    order: &mut Order,
+    p: &Partition,
+    members: &[u16],
+    class: u16,
+) -> Result<(), AllocError>
+    ensures pending { OnOk result (vec_len order.new.pending ≡ vec_len order.old.pending) }
+{
+    for i in 0..members.len() {
+        hit_sources(order, p, members[i], class)?;
+    }
+    Ok(())
+}
+
+/// Takes the count of a block's hits, which begins anew.
+fn take_hits(order: &mut Order, block: usize) -> u32
+    ensures pending { vec_len order.new.pending ≡ vec_len order.old.pending }
+    ensures touched { vec_len order.new.touched ≡ vec_len order.old.touched }
+{
+    if let Some(hits) = order.hits.get_mut(block) {
+        let count = *hits;
+        *hits = 0;
+        count
+    } else {
+        0
+    }
+}
+
+/// Notes that a block was split, and that the new one is to be used.
+fn add_block(
+    order: &mut Order,
+    from: usize,
+    left: u32,
+    fresh: u16,
+    moved: u32,
+) -> Result<(), AllocError>
+    ensures pending { OnOk result (vec_len order.new.pending ≡ vec_len order.old.pending + 1) }
+    ensures touched { OnOk result (vec_len order.new.touched ≡ vec_len order.old.touched) }
+{
+    if let Some(size) = order.sizes.get_mut(from) {
+        *size = left;
+    }
+    order.sizes.push(moved)?;
+    order.hits.push(0)?;
+    order.pending.push(fresh)?;
+    Ok(())
+}
+
+/// Splits a block by which of its states step into the set.
+fn split_touched(
+    alloc: Global,
+    m: &Complete,
+    p: &mut Partition,
+    order: &mut Order,
+    inside: &[bool],
+    class: usize,
+    from: usize,
+) -> Result<(), AllocError>
+    requires complete { IsComplete m.now }
+    requires sound { IsSound m.now p.old }
+    requires splitter { IsSplitter m.now inside.now }
+    requires class { class < m.now.width }
+    ensures sound { OnOk result (IsSound m.now p.new) }
+    ensures remaining { OnOk result (remaining m.now p.new order.new ≤ remaining m.now p.old order.old) }
+    ensures touched { OnOk result (vec_len order.new.touched ≡ vec_len order.old.touched) }
+{
+    let fresh = p.representatives.len();
+    if from >= fresh {
+        return Ok(());
+    }
+    let hits = take_hits(order, from);
+    let size = order.sizes.get(from).copied().unwrap_or(0);
+    if hits >= size {
+        return Ok(());
+    }
+    let wanted = side_of(m, inside, from, class, hits <= size / 2);
+    let moved = if wanted { hits } else { size - hits };
+    let is_split = split(alloc, m, p, inside, from, class, wanted)?;
+    if is_split {
+        add_block(order, from, size - moved, fresh as u16, moved)?;
+        return Ok(());
+    }
+    Ok(())
+}
+
+/// Splits all blocks by which of their states step into the set on a class.
+fn split_by(
+    alloc: Global,
+    m: &Complete,
+    p: &mut Partition,
+    order: &mut Order,
+    inside: &[bool],
+    members: &[u16],
+    class: usize,
+) -> Result<(), AllocError>
+    requires complete { IsComplete m.now }
+    requires sound { IsSound m.now p.old }
+    requires splitter { IsSplitter m.now inside.now }
+    requires class { class < m.now.width }
+    ensures sound { OnOk result (IsSound m.now p.new) }
+    ensures remaining { OnOk result (remaining m.now p.new order.new ≤ remaining m.now p.old order.old) }
+{
+    count_hits(order, p, members, class as u16)?;
+    while let Some(from) = order.touched.pop() {
+        split_touched(alloc, m, p, order, inside, class, from as usize)?;
+    }
+    Ok(())
+}
+
+/// The states of the set.
+fn members_of(alloc: Global, inside: &[bool]) -> Result<Vec<u16>, AllocError>
+    requires { length inside.now ≤ 16513 }
+{
+    let mut members = Vec::new(alloc);
+    for state in 0..inside.len() {
+        if inside[state] {
+            members.push(state as u16)?;
+        }
+    }
+    Ok(members)
+}
+
+/// Splits all blocks by which of their states step into a block, on each class.
+fn split_all(
+    alloc: Global,
+    m: &Complete,
+    p: &mut Partition,
+    order: &mut Order,
+    block: u16,
+) -> Result<(), AllocError>
+    requires complete { IsComplete m.now }
+    requires sound { IsSound m.now p.old }
+    ensures sound { OnOk result (IsSound m.now p.new) }
+    ensures remaining { OnOk result (remaining m.now p.new order.new ≤ remaining m.now p.old order.old) }
+{
+    let inside = flags_of(alloc, &p.block_of, block)?;
+    let members = members_of(alloc, &inside)?;
+    for class in 0..m.width {
+        split_by(alloc, m, p, order, &inside, &members, class)?;
+    }
+    Ok(())
+}
+
+/// Splits blocks as long as some are pending.
+pub(crate) fn refine_in_order(
+    alloc: Global,
+    m: &Complete,
+    p: &mut Partition,
+) -> Result<(), AllocError>
+    requires complete { IsComplete m.now }
+    requires sound { IsSound m.now p.old }
+    ensures sound { OnOk result (IsSound m.now p.new) }
+{
+    let mut order = order_of(alloc, m, p)?;
+    while let Some(block) = order.pending.pop() {
+        split_all(alloc, m, p, &mut order, block)?;
+    }
+    Ok(())
+}

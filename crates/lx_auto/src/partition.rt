@@ -1,0 +1,206 @@
+// Divisions of states into blocks.
+
+ghost use Rattle.std.specs.Prelude.{◌≡◌, ◌≢◌, ◌<◌, ◌≤◌, ◌+◌, ◌↔◌, ℕ, Bool, true, false, if◌then◌else◌, IsTrue, IfOk, OnOk, IfSome, IfNone, [], length, slice_index, vec_len};
+ghost use Rattle.lx_auto.specs.Completion.{total, label_of, step_of, IsComplete};
+ghost use Rattle.lx_auto.specs.Partitions.{block, block_count, member_of, flag, IsSound, IsStable, IsSplitter, IsMover, IsStayer, AreMovers, AreRenumbered, AreFlags, AreLabelledBelow, LandAlike, StepsLikeRepresentative};
+
+use crate::complete::{Complete, step};
+use std::alloc::{AllocError, Global};
+
+/// A division of the states into blocks: the block of each state, and a state of each block.
+#[derive(Drop)]
+pub(crate) struct Partition {
+    pub(crate) block_of: Vec<u16>,
+    pub(crate) representatives: Vec<u16>,
+}
+
+/// The block of the representatives' labels that has the state's label; without one the next number.
+fn block_for(m: &Complete, representatives: &[u16], state: usize) -> usize
+    requires state { state < total m.now }
+    requires member { (b : ℕ) → b < length representatives.now → slice_index representatives.now b < total m.now }
+    ensures at_most { result ≤ length representatives.now }
+    ensures found { result < length representatives.now → label_of m.now (slice_index representatives.now result) ≡ label_of m.now state }
+    ensures fresh { result ≡ length representatives.now → (b : ℕ) → b < length representatives.now → label_of m.now (slice_index representatives.now b) ≢ label_of m.now state }
+{
+    for number in 0..representatives.len() {
+        if m.labels[representatives[number] as usize] == m.labels[state] {
+            return number;
+        }
+    }
+    representatives.len()
+}
+
+/// Puts one state more into the block of its label.
+fn add_state(
+    m: &Complete,
+    state: usize,
+    blocks: &mut Vec<u16>,
+    representatives: &mut Vec<u16>,
+) -> Result<(), AllocError>
+    requires complete { IsComplete m.now }
+    requires state { state < total m.now }
+    requires labelled { AreLabelledBelow m.now state blocks.old.items representatives.old.items }
+    ensures { OnOk result (AreLabelledBelow m.now (state + 1) blocks.new.items representatives.new.items) }
+{
+    let number = block_for(m, representatives, state);
+    blocks.push(number as u16)?;
+    if number < representatives.len() {
+        return Ok(());
+    }
+    representatives.push(state as u16)?;
+    Ok(())
+}
+
+/// The blocks of states that have one label.
+pub(crate) fn by_labels(alloc: Global, m: &Complete) -> Result<Partition, AllocError>
+    requires { IsComplete m.now }
+    ensures { IfOk result (λ p. IsSound m.now p) }
+{
+    let mut block_of = Vec::new(alloc);
+    let mut representatives = Vec::new(alloc);
+    for state in 0..m.labels.len() {
+        add_state(m, state, &mut block_of, &mut representatives)?;
+    }
+    Ok(Partition {
+        block_of,
+        representatives,
+    })
+}
+
+/// The flags of the states of a block.
+pub(crate) fn flags_of(alloc: Global, blocks: &[u16], number: u16) -> Result<Vec<bool>, AllocError>
+    ensures { IfOk result (λ inside. AreFlags blocks.now number (length blocks.now) inside.items) }
+{
+    let mut inside = vec![in alloc; false; blocks.len()]?;
+    for state in 0..blocks.len() {
+        inside[state] = blocks[state] == number;
+    }
+    Ok(inside)
+}
+
+/// Whether the state steps into the set.
+#[inline]
+pub(crate) fn lands(m: &Complete, inside: &[bool], state: usize, class: usize) -> bool
+    requires complete { IsComplete m.now }
+    requires inside { length inside.now ≡ total m.now }
+    requires state { state < total m.now }
+    requires class { class < m.now.width }
+    ensures { result ≡ flag inside.now (step_of m.now state class) }
+{
+    inside[step(m, state, class)]
+}
+
+/// Whether a state is in the block and steps into the set, or where `wanted` is false, out of it.
+#[inline]
+fn is_mover(
+    m: &Complete,
+    blocks: &[u16],
+    inside: &[bool],
+    from: u16,
+    class: usize,
+    wanted: bool,
+    state: usize,
+) -> bool
+    requires complete { IsComplete m.now }
+    requires inside { length inside.now ≡ total m.now }
+    requires blocks { length blocks.now ≡ total m.now }
+    requires class { class < m.now.width }
+    requires state { state < total m.now }
+    ensures { IsTrue result ↔ IsMover m.now blocks.now inside.now from class wanted state }
+{
+    blocks[state] == from && lands(m, inside, state, class) == wanted
+}
+
+/// The states of a block that step into the set, or where `wanted` is false, out of it.
+pub(crate) fn movers_of(
+    alloc: Global,
+    m: &Complete,
+    blocks: &[u16],
+    inside: &[bool],
+    from: u16,
+    class: usize,
+    wanted: bool,
+) -> Result<Vec<u16>, AllocError>
+    requires complete { IsComplete m.now }
+    requires inside { length inside.now ≡ total m.now }
+    requires blocks { length blocks.now ≡ total m.now }
+    requires class { class < m.now.width }
+    ensures { IfOk result (λ movers. AreMovers m.now blocks.now inside.now from class wanted (total m.now) movers.items) }
+{
+    let mut movers = Vec::new(alloc);
+    for state in 0..blocks.len() {
+        if is_mover(m, blocks, inside, from, class, wanted, state) {
+            movers.push(state as u16)?;
+        }
+    }
+    Ok(movers)
+}
+
+/// A state of the block that isn't a mover.
+pub(crate) fn stayer_of(
+    m: &Complete,
+    blocks: &[u16],
+    inside: &[bool],
+    from: u16,
+    class: usize,
+    wanted: bool,
+) -> Option<u16>
+    requires complete { IsComplete m.now }
+    requires inside { length inside.now ≡ total m.now }
+    requires blocks { length blocks.now ≡ total m.now }
+    requires class { class < m.now.width }
+    ensures state { IfSome result (λ s. s < total m.now) }
+    ensures stayer { IfSome result (λ s. IsStayer m.now blocks.now inside.now from class wanted s) }
+    ensures none { IfNone result ((s : ℕ) → s < total m.now → IsStayer m.now blocks.now inside.now from class wanted s → ⊥) }
+{
+    for state in 0..blocks.len() {
+        if blocks[state] == from && lands(m, inside, state, class) != wanted {
+            return Some(state as u16);
+        }
+    }
+    None
+}
+
+/// Gives the states of the list a number.
+pub(crate) fn renumber(blocks: &mut [u16], movers: &[u16], fresh: u16)
+    requires { (j : ℕ) → j < length movers.now → slice_index movers.now j < length blocks.old }
+    ensures { AreRenumbered blocks.old blocks.new movers.now fresh (length movers.now) }
+{
+    for i in 0..movers.len() {
+        blocks[movers[i] as usize] = fresh;
+    }
+}
+
+/// A state and a class on which it steps to another block than the representative of its block.
+fn unlike_class(m: &Complete, p: &Partition, s: usize) -> Option<usize>
+    requires complete { IsComplete m.now }
+    requires sound { IsSound m.now p.now }
+    requires state { s < total m.now }
+    ensures some { IfSome result (λ c. (c < m.now.width) × (block p.now (step_of m.now s c) ≢ block p.now (step_of m.now (member_of p.now (block p.now s)) c))) }
+    ensures none { IfNone result (StepsLikeRepresentative m.now p.now s m.now.width) }
+{
+    let other = p.representatives[p.block_of[s] as usize] as usize;
+    for class in 0..m.width {
+        if p.block_of[step(m, s, class)] != p.block_of[step(m, other, class)] {
+            return Some(class);
+        }
+    }
+    None
+}
+
+/// A state and a class on which it steps to another block than the representative of its block.
+pub(crate) fn first_unlike(m: &Complete, p: &Partition) -> Option<(usize, usize)>
+    requires complete { IsComplete m.now }
+    requires sound { IsSound m.now p.now }
+    ensures state { IfSome result (λ found. found.0 < total m.now) }
+    ensures class { IfSome result (λ found. found.1 < m.now.width) }
+    ensures unlike { IfSome result (λ found. block p.now (step_of m.now found.0 found.1) ≢ block p.now (step_of m.now (member_of p.now (block p.now found.0)) found.1)) }
+    ensures stable { IfNone result (IsStable m.now p.now) }
+{
+    for s in 0..m.labels.len() {
+        if let Some(class) = unlike_class(m, p, s) {
+            return Some((s, class));
+        }
+    }
+    None
+}

@@ -1,0 +1,68 @@
+// From the marked positions of a rule to those that can be read next.
+ghost use Rattle.std.specs.Prelude.{◌≡◌, ◌+◌, ◌<◌, ◌≤◌, ◌^◌, ◌↔◌, ℕ, IfOk, OnOk, true, false, length};
+ghost use Rattle.lx_auto.specs.Marking as plain;
+ghost use Rattle.lx_auto.specs.PositionSets.{NumberedRule};
+ghost use Rattle.lx_auto.specs.Positions.{CanEnd};
+ghost use Rattle.lx_auto.specs.RuleParts.{IsPartOf, AreReadsOf};
+ghost use Rattle.lx_auto.specs.Counts.{newline_count};
+ghost use Rattle.lx_auto.specs.Following.{FollowsMarked, EndsMarked, ReadsRule};
+
+use crate::marking::{ends_of, flag, mark_reads, set_flag};
+use crate::rule_part::RulePart;
+use std::alloc::{AllocError, Global};
+
+impl RulePart<'_> {
+    /// Whether a position of the rule is marked.
+    pub(crate) fn is_touched(&self, marks: &[bool]) -> bool
+        ensures { result ≡ false → (q : ℕ) → self.now.base ≤ q → q < self.now.base + self.now.count + 1 → plain.flag marks.now q ≡ false }
+    {
+        for position in self.base..self.base + self.count + 1 {
+            if flag(marks, position) {
+                return true;
+            }
+        }
+        false
+    }
+
+    /// Sets for each position of the pattern whether it can be read next, behind a marked one or at the pattern's begin where that is
+    /// entered. The answer is whether a marked position can stand last in the pattern.
+    pub(crate) fn follow(
+        &self,
+        alloc: Global,
+        marks: &[bool],
+        entered: bool,
+        reads: &mut Vec<bool>,
+    ) -> Result<bool, AllocError>
+        ensures long { OnOk result (length reads.new.items ≡ length reads.old.items) }
+        ensures ended { (r : NumberedRule) → IsPartOf self.now r → IfOk result (λ ended. (ended ≡ true) ↔ CanEnd (λ p. plain.flag marks.now p ≡ true) r.tree r.base) }
+        ensures reads { (r : NumberedRule) → IsPartOf self.now r → self.now.base + self.now.count ≤ length reads.old.items → OnOk result (AreReadsOf r marks.now entered reads.old.items reads.new.items) }
+    {
+        let nodes = self.nodes.as_slice();
+        let nulls = self.nulls.as_slice();
+        let at_nodes = ends_of(alloc, nodes, nulls, marks, self.base)?;
+        let ends = at_nodes.as_slice();
+        let end = self.base + self.count;
+        mark_reads(alloc, nodes, nulls, ends, entered, end, reads)?;
+        Ok(flag(ends, ends.len().saturating_sub(1)))
+    }
+    /// Sets for each position of the rule, the newline of a line end among them, whether it can be read next, behind a marked one. The
+    /// answer is whether a marked position ends a word of the rule.
+    pub(crate) fn step(
+        &self,
+        alloc: Global,
+        marks: &[bool],
+        reads: &mut Vec<bool>,
+    ) -> Result<bool, AllocError>
+        ensures long { OnOk result (length reads.new.items ≡ length reads.old.items) }
+        ensures matched { (r : NumberedRule) → IsPartOf self.now r → IfOk result (λ matched. (matched ≡ true) ↔ EndsMarked marks.now r) }
+        ensures reads { (r : NumberedRule) → IsPartOf self.now r → self.now.base + (self.now.count + newline_count self.now.line_end) ≤ length reads.old.items → OnOk result (ReadsRule (FollowsMarked marks.now) r reads.old.items reads.new.items) }
+    {
+        let ended = self.follow(alloc, marks, false, reads)?;
+        if !self.line_end {
+            return Ok(ended);
+        }
+        let newline = self.base + self.count;
+        set_flag(reads, newline, ended);
+        Ok(flag(marks, newline))
+    }
+}

@@ -1,0 +1,97 @@
+// From a set of positions to those that can be read next, and to the rule that has matched.
+ghost use Rattle.std.specs.Prelude.{◌≡◌, ◌+◌, ◌<◌, ◌≤◌, ◌↔◌, ℕ, List, IfOk, OnOk, true, false, length, if◌then◌else◌};
+ghost use Rattle.lx_spec.specs.Plain.{PlainSpec};
+ghost use Rattle.lx_auto.specs.Counts.{newline_count};
+ghost use Rattle.lx_auto.specs.Marking as plain;
+ghost use Rattle.lx_auto.specs.Members.{has_member, places_from};
+ghost use Rattle.lx_auto.specs.PositionSets.{NumberedRule};
+ghost use Rattle.lx_auto.specs.RuleParts.{IsPartOf, ArePartsOf};
+ghost use Rattle.lx_auto.specs.Following.{AreNumbered, FollowsMarked, EndsMarked, ReadsOrStays, AreReadBelow, IsFirstMatchedBelow, first_or};
+
+use crate::marking::set_flag;
+use crate::rule_part::RulePart;
+use std::alloc::{AllocError, Global};
+
+// One rule: nothing is to be done where none of its positions is marked.
+fn step_rule(
+    alloc: Global,
+    part: &RulePart,
+    marks: &[bool],
+    reads: &mut Vec<bool>,
+) -> Result<bool, AllocError>
+    ensures long { OnOk result (length reads.new.items ≡ length reads.old.items) }
+    ensures matched { (r : NumberedRule) → IsPartOf part.now r → IfOk result (λ matched. (matched ≡ true) ↔ EndsMarked marks.now r) }
+    ensures reads { (r : NumberedRule) → IsPartOf part.now r → part.now.base + (part.now.count + newline_count part.now.line_end) ≤ length reads.old.items → OnOk result (ReadsOrStays (FollowsMarked marks.now) r reads.old.items reads.new.items) }
+{
+    if !part.is_touched(marks) {
+        return Ok(false);
+    }
+    let matched = part.step(alloc, marks, reads)?;
+    Ok(matched)
+}
+
+// The first rule that has matched, where rule i comes behind those before.
+fn first_matched(found: Option<usize>, matched: bool, i: usize) -> Option<usize>
+    ensures { result ≡ (if matched then first_or found i else found) }
+{
+    match found {
+        Some(first) => Some(first),
+        None if matched => Some(i),
+        None => None,
+    }
+}
+
+/// Sets for each position whether it can be read next, behind a marked one. The answer is the first rule of which a marked position
+/// ends a word.
+pub(crate) fn step_rules(
+    alloc: Global,
+    parts: &[RulePart],
+    marks: &[bool],
+    reads: &mut Vec<bool>,
+) -> Result<Option<usize>, AllocError>
+    ensures reads { (spec : PlainSpec) (rules : List NumberedRule) → AreNumbered spec rules → ArePartsOf parts.now rules (length reads.old.items) → ((q : ℕ) → plain.flag reads.old.items q ≡ false) → OnOk result (AreReadBelow (FollowsMarked marks.now) rules (length rules) reads.new.items) }
+    ensures matched { (spec : PlainSpec) (rules : List NumberedRule) → AreNumbered spec rules → ArePartsOf parts.now rules (length reads.old.items) → IfOk result (λ found. IsFirstMatchedBelow rules marks.now (length rules) found) }
+    ensures long { OnOk result (length reads.new.items ≡ length reads.old.items) }
+{
+    let mut found = None;
+    for i in 0..parts.len() {
+        let matched = step_rule(alloc, &parts[i], marks, reads)?;
+        found = first_matched(found, matched, i);
+    }
+    Ok(found)
+}
+
+/// So many flags, none of them set.
+pub(crate) fn clear_flags(alloc: Global, total: usize) -> Result<Vec<bool>, AllocError>
+    ensures long { IfOk result (λ flags. length flags.items ≡ total) }
+    ensures clear { IfOk result (λ flags. (q : ℕ) → plain.flag flags.items q ≡ false) }
+{
+    let flags = vec![in alloc; false; total]?;
+    Ok(flags)
+}
+
+/// The flags of a set of positions, all of them below the total.
+pub(crate) fn marks_of(alloc: Global, total: usize, set: &[u32]) -> Result<Vec<bool>, AllocError>
+    ensures long { IfOk result (λ marks. length marks.items ≡ total) }
+    ensures marks { IfOk result (λ marks. (q : ℕ) → q < total → plain.flag marks.items q ≡ has_member set.now q) }
+{
+    let mut marks = vec![in alloc; false; total]?;
+    for q in set {
+        set_flag(&mut marks, *q as usize, true);
+    }
+    Ok(marks)
+}
+
+/// The places of the flags that are set, rising.
+pub(crate) fn places_of(alloc: Global, flags: &[bool]) -> Result<Vec<u32>, AllocError>
+    requires { length flags.now ≤ 65536 }
+    ensures { IfOk result (λ places. places.items ≡ places_from 0 flags.now) }
+{
+    let mut places = Vec::new(alloc);
+    for i in 0..flags.len() {
+        if flags[i] {
+            places.push(i as u32)?;
+        }
+    }
+    Ok(places)
+}

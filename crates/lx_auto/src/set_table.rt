@@ -1,0 +1,14 @@
+// A table of position sets, each of which has its number.
+
+use smallvec::SmallVec;
+use std::collections::HashMap;
+
+/// A set of positions, rising.
+pub(crate) type PositionSet = SmallVec<u32, 8>;
+
+/// The sets in the order of their numbers, and the number of each.
+#[derive(Drop)]
+pub(crate) struct SetTable {
+    pub(crate) sets: Vec<PositionSet>,
+    pub(crate) numbers: HashMap<PositionSet, usize>,
+}
