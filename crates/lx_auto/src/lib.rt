@@ -11,6 +11,7 @@ mod count;
 mod definition_order;
 mod draft;
 mod explore;
+mod explored;
 mod fault;
 mod fill;
 mod follow;
