@@ -36,6 +36,7 @@ mod set_steps;
 mod set_table;
 mod split;
 mod unfold;
+mod unfolded_rules;
 
 pub use crate::automaton::{Automaton, State};
 pub use crate::merging::merge;
