@@ -17,6 +17,7 @@ mod fill;
 mod follow;
 mod fragment;
 mod ground;
+mod grounding;
 mod groups;
 mod leaf;
 mod marking;
