@@ -14,7 +14,8 @@ use Rattle.lx_auto.specs.PositionSets.{NumberedRule, newline_of, size_of, number
 use Rattle.lx_auto.specs.RuleParts.{IsPartOf, ArePartsOf}
 use Rattle.lx_auto.specs.SetSteps.{HasSomeByte}
 use Rattle.lx_auto.specs.Leaves.{PlainLeaf, one_of_set, newline, leaf_has_at, has_byte, AreLeavesOf}
-use Rattle.lx_auto.specs.LeafViews.{leaf_in, leaves_in, leaf_of_end, leaves_of_part, leaves_of_parts}
+use Rattle.lx_auto.specs.LeafViews.{leaf_of_end, leaves_of_part, leaves_of_parts}
+use Rattle.lx_auto.specs.NodeLeaves.{leaf_in, leaves_in}
 use Rattle.lx_auto.specs.declared.rule_part.RulePart.{RulePart}
 
 -- the bytes of the positions from k on are those of the leaves, and none lies below

@@ -286,3 +286,16 @@ numbered_rules spec tree_of = record {
   rule_of = λ i r h. rule_at tree_of 0 spec.rules i r h;
   apart = λ i j r s l hi hj. ranges_apart tree_of 0 spec.rules i j r s l hi hj;
 }
+
+-- before anything is reached
+pub nothing_explored : (spec : PlainSpec) (tree_of : Regex → Unfolded) (L : List PlainLeaf) (R : List ℕ) (sets : List Positions) (targets : List (Option ℕ)) →
+    sets ≡ [] → targets ≡ [] → IsExplored spec tree_of L R sets targets 0
+nothing_explored spec tree_of L R sets targets s t =
+    subst (λ x. IsExplored spec tree_of L R x targets 0) (sym s) (subst (λ x. IsExplored spec tree_of L R [] x 0) (sym t) (record {
+      reached = record { reached = λ i h. absurd (omega arith); distinct = λ i j l h. absurd (omega arith) };
+      steps = record { long = (let z : 0 ≡ 0 * length R = omega arith in z); each = λ i c h l. absurd (omega arith) };
+    }))
+
+pub explored_at : (spec : PlainSpec) (tree_of : Regex → Unfolded) (L : List PlainLeaf) (R : List ℕ) (sets : List Positions) (targets : List (Option ℕ)) (m n : ℕ) →
+    m ≡ n → IsExplored spec tree_of L R sets targets m → IsExplored spec tree_of L R sets targets n
+explored_at spec tree_of L R sets targets m n e x = subst (λ k. IsExplored spec tree_of L R sets targets k) e x

@@ -1,6 +1,6 @@
--- The leaves of the code, without where they lie in memory, and the leaves of nodes and rules in order.
+-- The leaves of the code, without where they lie in memory, and the leaves of rules in order.
 use Rattle.std.specs.Prelude.{Bool, true, false, List, [], ◌∷◌, ◌++◌, map}
-use Rattle.lx_auto.specs.Nodes.{PlainNode, leaf_node, cat_node, alt_node, opt_node, plus_node}
+use Rattle.lx_auto.specs.NodeLeaves.{leaves_in}
 use Rattle.lx_auto.specs.NodeViews.{nodes_view}
 use Rattle.lx_auto.specs.Leaves.{PlainLeaf, one_of_set, newline}
 use Rattle.lx_auto.specs.declared.leaf.Leaf.{Leaf}
@@ -13,18 +13,6 @@ leaf_view Newline = newline
 
 abbrev pub leaves_view : List Leaf → List PlainLeaf
 leaves_view leaves = map leaf_view leaves
-
--- the leaf of a node, if it is one
-abbrev pub leaf_in : PlainNode → List PlainLeaf
-leaf_in (leaf_node s) = one_of_set s ∷ []
-leaf_in (cat_node n) = []
-leaf_in (alt_node n) = []
-leaf_in opt_node = []
-leaf_in plus_node = []
-
-abbrev pub leaves_in : List PlainNode → List PlainLeaf
-leaves_in [] = []
-leaves_in (n ∷ nodes) = leaf_in n ++ leaves_in nodes
 
 -- the newline of a line end
 abbrev pub leaf_of_end : Bool → List PlainLeaf

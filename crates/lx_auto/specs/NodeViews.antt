@@ -1,9 +1,5 @@
 -- The nodes of the code, without where they lie in memory.
 use Rattle.std.specs.Prelude.{◌≡◌, List, ◌++◌, map}
-use Rattle.std.specs.declared.alloc.Global.{Global}
-use Rattle.std.specs.declared.vec.Vec.{Vec}
-use Rattle.lx_spec.specs.Plain.{PlainDefinition, PlainRule}
-use Rattle.lx_auto.specs.Trimmed.{trimmed_pattern}
 use Rattle.lx_auto.specs.Unfolded.{Unfolded}
 use Rattle.lx_auto.specs.Nodes.{PlainNode, leaf_node, cat_node, alt_node, opt_node, plus_node, nodes_of}
 use Rattle.lx_auto.specs.Parts.{part_of}
@@ -20,13 +16,6 @@ node_view Repeated = plus_node
 
 abbrev pub nodes_view : List Node → List PlainNode
 nodes_view nodes = map node_view nodes
-
--- one list of nodes a rule
-abbrev pub lists_view : List (Vec Node Global) → List (List PlainNode)
-lists_view lists = map (λ list. nodes_view list.items) lists
-
-abbrev pub nodes_of_patterns : List PlainDefinition → List PlainRule → List (List PlainNode)
-nodes_of_patterns definitions rules = map (λ rule. nodes_of (trimmed_pattern definitions rule.reading.tree)) rules
 
 -- the nodes of the expression stand behind those of old, and nothing else is there
 pub record Appends (t : Unfolded) (old new : List PlainNode) (p : Part) : Type 0 where

@@ -1,8 +1,9 @@
 -- What is kept of a rule to follow its positions, and what is known of it.
 use Rattle.std.specs.Prelude.{◌≡◌, ◌≢◌, ℕ, ◌+◌, ◌<◌, ◌≤◌, ◌↔◌, Bool, true, false, List, [], length, slice_get, Some, Contains}
 use Rattle.lx_auto.specs.Unfolded.{position_count}
-use Rattle.lx_auto.specs.Nodes.{nodes_of}
+use Rattle.lx_auto.specs.Nodes.{PlainNode, nodes_of}
 use Rattle.lx_auto.specs.NodeViews.{nodes_view}
+use Rattle.lx_auto.specs.NodeLeaves.{leaves_in}
 use Rattle.lx_auto.specs.Marking.{flag, nulls_from}
 use Rattle.lx_auto.specs.Passing.{IsTrim}
 use Rattle.lx_auto.specs.Positions.{CanEnd, CanRead}
@@ -29,3 +30,11 @@ pub record AreReadsOf (r : NumberedRule) (marks : List Bool) (entered : Bool) (o
   pub own : (q : ℕ) → r.base ≤ q → q < r.base + position_count r.tree → (flag new q ≡ true) ↔ CanRead (λ p. flag marks p ≡ true) (entered ≡ true) r.tree r.base q
   pub below : (q : ℕ) → q < r.base → flag new q ≡ flag old q
   pub above : (q : ℕ) → r.base + position_count r.tree ≤ q → flag new q ≡ flag old q
+
+-- the part is made of these nodes
+pub record IsPartOver (part : RulePart) (over : List PlainNode) (first : ℕ) (ends : Bool) : Type 0 where
+  pub nodes : nodes_view part.nodes.items ≡ over
+  pub nulls : part.nulls.items ≡ nulls_from over []
+  pub base : part.base ≡ first
+  pub count : part.count ≡ length (leaves_in over)
+  pub line_end : part.line_end ≡ ends

@@ -1,12 +1,15 @@
-// The nodes of a specification's rules.
-ghost use Rattle.std.specs.Prelude.{◌≡◌, ◌≤◌, ◌<◌, ◌⊎◌, ◌∷◌, [], map, IsTrue, IfOk, IfErr};
+// The rules of a specification, unfolded and numbered.
+ghost use Rattle.std.specs.Prelude.{◌≡◌, ◌+◌, ◌≤◌, ◌<◌, ◌^◌, ◌⊎◌, ◌∷◌, [], length, map, IsTrue, IfOk, IfErr};
 ghost use Rattle.lx_ere.specs.Regex.{regex_of};
 ghost use Rattle.lx_spec.specs.Nesting.{are_nested, expressions_of};
 ghost use Rattle.lx_spec.specs.views.Rules.{definition_view, rule_view};
 ghost use Rattle.lx_spec.specs.views.Specs.{spec_view};
-ghost use Rattle.lx_auto.specs.Counts.{count_of_spec};
+ghost use Rattle.lx_auto.specs.Counts.{count_of_rules, count_of_spec, newline_count};
 ghost use Rattle.lx_auto.specs.Nodes.{nodes_of};
-ghost use Rattle.lx_auto.specs.NodeViews.{nodes_view, lists_view, nodes_of_patterns};
+ghost use Rattle.lx_auto.specs.NodeLeaves.{leaves_in};
+ghost use Rattle.lx_auto.specs.NodeViews.{nodes_view};
+ghost use Rattle.lx_auto.specs.PositionSets.{numbered};
+ghost use Rattle.lx_auto.specs.RuleParts.{ArePartsOf, IsPartOver};
 ghost use Rattle.lx_auto.specs.Trimmed.{trimmed_pattern};
 ghost use Rattle.lx_auto.specs.Unfolding.{AreFragments};
 ghost use Rattle.lx_auto.specs.declared.fault.BuildFault.{BuildFault};
@@ -15,9 +18,12 @@ use crate::count::{TOO_MANY, count_definitions, count_rules};
 use crate::fault::BuildFault;
 use crate::fill::fill_fragments;
 use crate::fragment::Fragment;
+use crate::marking::{behind, nulls_of};
 use crate::names::{Names, index_names};
 use crate::node::Node;
+use crate::rule_part::RulePart;
 use crate::unfold::unfold;
+use crate::unfolded_rules::UnfoldedRules;
 use lx_spec::rule::Rule;
 use lx_spec::spec::Spec;
 use std::alloc::{AllocError, Global};
@@ -38,26 +44,75 @@ fn unfold_rule<'s>(
     Ok(nodes)
 }
 
-// The nodes of these rules, one list a rule.
+// How many positions the nodes have.
+fn count_leaves(nodes: &[Node]) -> usize
+    requires { length nodes.now < 2 ^ 63 }
+    ensures { result ≡ length (leaves_in (nodes_view nodes.now)) }
+{
+    let mut count = 0;
+    for node in nodes {
+        count = behind(node, count);
+    }
+    count
+}
+
+// What is kept of a rule with these nodes, whose positions are numbered from the base on.
+fn part_of(
+    alloc: Global,
+    nodes: Vec<Node<'_>>,
+    base: usize,
+    line_end: bool,
+) -> Result<RulePart<'_>, AllocError>
+    requires small { base < 65536 }
+    requires few { length (leaves_in (nodes_view nodes.items)) < 65536 }
+    ensures { IfOk result (λ part. IsPartOver part (nodes_view nodes.entry.items) base line_end) }
+{
+    let nulls = nulls_of(alloc, &nodes)?;
+    let count = count_leaves(&nodes);
+    Ok(RulePart {
+        nodes,
+        nulls,
+        base,
+        count,
+        line_end,
+    })
+}
+
+// The position behind all of a rule.
+fn end_of(part: &RulePart) -> usize
+    ensures { result ≡ part.now.base + part.now.count + newline_count part.now.line_end }
+{
+    let behind = part.base + part.count;
+    if part.line_end { behind + 1 } else { behind }
+}
+
+// These rules, one behind the other, and how many positions they have.
 fn unfold_each<'s>(
     alloc: Global,
     names: &Names<'s>,
     fragments: &[Option<Fragment<'s>>],
     rules: &'s [Rule],
-) -> Result<Vec<Vec<Node<'s>>>, AllocError>
+) -> Result<UnfoldedRules<'s>, AllocError>
     requires fragments { AreFragments names.now.definitions.now fragments.now }
     requires nested { IsTrue (are_nested (map definition_view names.now.definitions.now) (expressions_of (map rule_view rules.now))) }
-    ensures { IfOk result (λ lists. lists_view lists.items ≡ nodes_of_patterns (map definition_view names.now.definitions.now) (map rule_view rules.now)) }
+    requires few { count_of_rules (map definition_view names.now.definitions.now) (map rule_view rules.now) ≤ 16384 }
+    ensures parts { IfOk result (λ u. ArePartsOf u.parts.items (numbered (trimmed_pattern (map definition_view names.now.definitions.now)) 0 (map rule_view rules.now)) u.total) }
+    ensures total { IfOk result (λ u. u.total ≡ count_of_rules (map definition_view names.now.definitions.now) (map rule_view rules.now)) }
 {
-    let mut lists = Vec::new(alloc);
-    for rule in rules {
+    let mut parts = Vec::new(alloc);
+    let mut total = 0;
+    for i in 0..rules.len() {
+        let rule = &rules[i];
         let nodes = unfold_rule(alloc, names, fragments, rule)?;
-        lists.push(nodes)?;
+        let part = part_of(alloc, nodes, total, rule.pattern.line_end)?;
+        total = end_of(&part);
+        parts.push(part)?;
     }
-    Ok(lists)
+    Ok(UnfoldedRules { parts, total })
 }
 
-/// The nodes of a specification's rules, one list a rule: names unfolded, repeats written out, and what has no position left away.
+/// The rules of a specification: names unfolded, repeats written out, what has no position left away, and positions numbered rule after
+/// rule.
 ///
 /// # Errors
 ///
@@ -65,11 +120,12 @@ fn unfold_each<'s>(
 pub(crate) fn unfold_rules<'s>(
     alloc: Global,
     spec: &'s Spec,
-) -> Result<Vec<Vec<Node<'s>>>, BuildFault>
+) -> Result<UnfoldedRules<'s>, BuildFault>
     ensures too_many { IfErr result (λ e. e ≡ BuildFault.TooManyPositions → 16384 < count_of_spec (spec_view spec.now)) }
     ensures memory { IfErr result (λ e. (e ≡ BuildFault.TooManyPositions) ⊎ (e ≡ BuildFault.Memory)) }
     ensures few { IfOk result (λ _. count_of_spec (spec_view spec.now) ≤ 16384) }
-    ensures nodes { IfOk result (λ lists. lists_view lists.items ≡ nodes_of_patterns (spec_view spec.now).definitions (spec_view spec.now).rules) }
+    ensures parts { IfOk result (λ u. ArePartsOf u.parts.items (numbered (trimmed_pattern (spec_view spec.now).definitions) 0 (spec_view spec.now).rules) u.total) }
+    ensures total { IfOk result (λ u. u.total ≤ 16384) }
 {
     let names = index_names(alloc, &spec.definitions)?;
     let counts = count_definitions(alloc, &names)?;

@@ -3,7 +3,7 @@ ghost use Rattle.std.specs.Prelude.{◌≡◌, ◌≢◌, ◌+◌, ◌*◌, ◌<
 ghost use Rattle.lx_ere.specs.Regex.{Regex};
 ghost use Rattle.lx_spec.specs.Plain.{PlainSpec};
 ghost use Rattle.lx_spec.specs.views.Specs.{spec_view};
-ghost use Rattle.lx_auto.specs.Grounds.{IsGroundOf};
+ghost use Rattle.lx_auto.specs.Grounds.{AreStatesOf, IsGroundOf};
 ghost use Rattle.lx_auto.specs.Sets.{IsEarliestMatched};
 ghost use Rattle.lx_auto.specs.Unfolded.{Unfolded};
 ghost use Rattle.lx_auto.specs.Leaves as plain_leaves;
@@ -14,11 +14,12 @@ ghost use Rattle.lx_auto.specs.Exploring as plain;
 ghost use Rattle.lx_auto.specs.Exploring.{AddsTarget, AreReachedSets, HasMoreSets, HaveSteps, IsExplored, IsRowOf, start_count, start_number};
 
 use crate::active::active_rules;
+use crate::explored::Explored;
 use crate::fault::BuildFault;
 use crate::follow::{begin, follow};
 use crate::ground::Ground;
 use crate::leaf::{Leaf, has};
-use crate::numbering::number_of;
+use crate::numbering::{empty_table, number_of};
 use crate::set_table::{PositionSet, SetTable};
 use lx_spec::spec::Spec;
 use smallvec::SmallVec;
@@ -137,18 +138,6 @@ pub(crate) fn add_row(
     Ok(())
 }
 
-/// The steps of all states, and the rule that each set matches.
-#[derive(Drop)]
-pub(crate) struct Explored {
-    /// How many sets were reached.
-    pub(crate) count: usize,
-    /// Row by row, first those of the starts, for each condition without line begin and then at line begin, and then those of the
-    /// sets: the number of the set to which a step on a group of bytes leads.
-    pub(crate) targets: Vec<Option<usize>>,
-    /// Of each set the rule that it matches.
-    pub(crate) matched: Vec<Option<usize>>,
-}
-
 // Adds the targets of a start.
 fn add_start(
     alloc: Global,
@@ -226,4 +215,58 @@ fn add_set_row(
         limit,
     )?;
     Ok(found.matched)
+}
+
+/// Reaches set after set from the starts, at most so many as the limit, and finds the steps of all starts and sets.
+///
+/// # Errors
+///
+/// `TooManySets` where there are more; `Memory`.
+pub(crate) fn explore(
+    alloc: Global,
+    spec: &Spec,
+    ground: &Ground,
+    limit: usize,
+) -> Result<Explored, BuildFault>
+    ensures room { IfOk result (λ explored. length explored.table.sets.items ≤ limit) }
+    ensures few { IfErr result (λ e. e ≢ BuildFault.TooManyPositions) }
+    ensures explored { (tree_of : Regex → Unfolded) → IsGroundOf (spec_view spec.now) tree_of ground.now → IfOk result (λ explored. AreStatesOf (spec_view spec.now) tree_of ground.now explored) }
+    ensures many { (tree_of : Regex → Unfolded) → IsGroundOf (spec_view spec.now) tree_of ground.now → IfErr result (λ e. e ≡ BuildFault.TooManySets → HasMoreSets (spec_view spec.now) (numbered tree_of 0 (spec_view spec.now).rules) limit) }
+{
+    let mut table = empty_table(alloc);
+    let mut targets = Vec::new(alloc);
+    'starts: for condition in 0..spec.conditions.len() {
+        let number = condition as u16;
+        add_start(
+            alloc,
+            spec,
+            ground,
+            number,
+            false,
+            &mut table,
+            &mut targets,
+            limit,
+        )?;
+        add_start(
+            alloc,
+            spec,
+            ground,
+            number,
+            true,
+            &mut table,
+            &mut targets,
+            limit,
+        )?;
+    }
+    let mut matched = Vec::new(alloc);
+    'sets: while matched.len() < table.sets.len() {
+        let number = matched.len();
+        let found = add_set_row(alloc, ground, number, &mut table, &mut targets, limit)?;
+        matched.push(found)?;
+    }
+    Ok(Explored {
+        table,
+        targets,
+        matched,
+    })
 }

@@ -7,7 +7,8 @@ ghost use Rattle.lx_auto.specs.NodeViews.{node_view, nodes_view};
 ghost use Rattle.lx_auto.specs.PositionSets.{numbered};
 ghost use Rattle.lx_auto.specs.RuleParts.{ArePartsOf};
 ghost use Rattle.lx_auto.specs.Leaves.{leaf_has, AreLeavesOf};
-ghost use Rattle.lx_auto.specs.LeafViews.{leaf_view, leaves_view, leaf_in, leaves_in, leaves_of_part, leaves_of_parts};
+ghost use Rattle.lx_auto.specs.LeafViews.{leaf_view, leaves_view, leaves_of_part, leaves_of_parts};
+ghost use Rattle.lx_auto.specs.NodeLeaves.{leaf_in, leaves_in};
 
 use crate::node::Node;
 use crate::rule_part::RulePart;

@@ -71,8 +71,8 @@ fn can_end(nulls: &[bool], marks: &[bool], position: usize, node: &Node, ends: &
     }
 }
 
-// The next position behind a node.
-fn behind(node: &Node, position: usize) -> usize
+/// The next position behind a node.
+pub(crate) fn behind(node: &Node, position: usize) -> usize
     requires { position < 2 ^ 63 }
     ensures { result ≡ behind_node (node_view node.now) position }
 {

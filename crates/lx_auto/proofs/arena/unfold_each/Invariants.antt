@@ -1,7 +1,13 @@
 use Rattle.std.proofs.Common.{◌≡◌, map, take}
 use Rattle.lx_spec.specs.views.Rules.{definition_view, rule_view}
-use Rattle.lx_auto.specs.NodeViews.{lists_view, nodes_of_patterns}
+use Rattle.lx_auto.specs.Counts.{count_of_rules}
+use Rattle.lx_auto.specs.PositionSets.{numbered}
+use Rattle.lx_auto.specs.RuleParts.{ArePartsOf}
+use Rattle.lx_auto.specs.Trimmed.{trimmed_pattern}
 use Rattle.lx_auto.proofs.arena.unfold_each.Given as goal
 
-abbrev pub invariant-loop-rule : goal.invariant-loop-rule
-invariant-loop-rule l = lists_view l.lists.items ≡ nodes_of_patterns (map definition_view l.names.definitions.now) (map rule_view (take l.rule-index l.rules))
+abbrev pub invariant-loop-i : goal.invariant-loop-i
+invariant-loop-i l = record {
+  parts : ArePartsOf l.parts.items (numbered (trimmed_pattern (map definition_view l.names.definitions.now)) 0 (map rule_view (take l.i l.rules))) l.total;
+  total : l.total ≡ count_of_rules (map definition_view l.names.definitions.now) (map rule_view (take l.i l.rules));
+}

@@ -1,6 +1,7 @@
 use Rattle.std.proofs.Common.{◌≡◌, ◌++◌, drop}
 use Rattle.lx_auto.specs.NodeViews.{nodes_view}
-use Rattle.lx_auto.specs.LeafViews.{leaves_view, leaves_in}
+use Rattle.lx_auto.specs.LeafViews.{leaves_view}
+use Rattle.lx_auto.specs.NodeLeaves.{leaves_in}
 use Rattle.lx_auto.proofs.leaf.push_leaves.Given as goal
 
 abbrev pub invariant-loop-node : goal.invariant-loop-node

@@ -1,0 +1,21 @@
+use Rattle.std.proofs.Common.{◌≡◌, ap, sym, subst}
+use Rattle.lx_spec.specs.views.Specs.{spec_view}
+use Rattle.lx_auto.specs.LeafViews.{leaves_view}
+use Rattle.lx_auto.specs.Leaves.{AreLeavesOf, AreGroupsOf}
+use Rattle.lx_auto.specs.PositionSets.{numbered}
+use Rattle.lx_auto.specs.RuleParts.{ArePartsOf}
+use Rattle.lx_auto.specs.Trimmed.{trimmed_pattern}
+use Rattle.lx_auto.proofs.grounding.ground_of.Goals as goal
+
+pub returns-clause-ground : goal.returns-clause-ground
+returns-clause-ground c =
+    let spec = spec_view c.args.spec.now in
+    let unfolded = c.in_ok-unfolded.unfolded in
+    let groups = c.in_ok-groups.groups in
+    let parts = c.in_ok-unfolded.ensures.parts in
+    let same = subst (λ p. ArePartsOf p (numbered (trimmed_pattern spec.definitions) 0 spec.rules) unfolded.total) (sym c.as_slice.ensures.value) parts in
+    record {
+      parts = parts;
+      leaves = c.in_ok-leaves.ensures (trimmed_pattern spec.definitions) spec.rules unfolded.total same;
+      groups = subst (λ l. AreGroupsOf (leaves_view l) groups.classes.items groups.representatives.items) c.as_slice-2.ensures.value c.in_ok-groups.ensures;
+    }

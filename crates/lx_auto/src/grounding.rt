@@ -1,0 +1,37 @@
+// The positions of a specification, with what is known of them.
+ghost use Rattle.std.specs.Prelude.{◌≡◌, ◌<◌, ◌≤◌, ◌⊎◌, IfOk, IfErr};
+ghost use Rattle.lx_spec.specs.views.Specs.{spec_view};
+ghost use Rattle.lx_auto.specs.Counts.{count_of_spec};
+ghost use Rattle.lx_auto.specs.Grounds.{IsGroundOf};
+ghost use Rattle.lx_auto.specs.Trimmed.{trimmed_pattern};
+
+use crate::arena::unfold_rules;
+use crate::fault::BuildFault;
+use crate::ground::Ground;
+use crate::groups::groups_of;
+use crate::leaf::leaves_of;
+use lx_spec::spec::Spec;
+use std::alloc::Global;
+
+/// The positions of a specification's rules, the bytes of each, and the bytes in groups.
+///
+/// # Errors
+///
+/// `TooManyPositions` where there are more than 16,384; `Memory`.
+pub(crate) fn ground_of<'s>(alloc: Global, spec: &'s Spec) -> Result<Ground<'s>, BuildFault>
+    ensures too_many { IfErr result (λ e. e ≡ BuildFault.TooManyPositions → 16384 < count_of_spec (spec_view spec.now)) }
+    ensures memory { IfErr result (λ e. (e ≡ BuildFault.TooManyPositions) ⊎ (e ≡ BuildFault.Memory)) }
+    ensures few { IfOk result (λ _. count_of_spec (spec_view spec.now) ≤ 16384) }
+    ensures ground { IfOk result (λ ground. IsGroundOf (spec_view spec.now) (trimmed_pattern (spec_view spec.now).definitions) ground) }
+{
+    let unfolded = unfold_rules(alloc, spec)?;
+    let parts = unfolded.parts;
+    let leaves = leaves_of(alloc, parts.as_slice())?;
+    let groups = groups_of(alloc, leaves.as_slice())?;
+    Ok(Ground {
+        parts,
+        total: unfolded.total,
+        leaves,
+        groups,
+    })
+}
