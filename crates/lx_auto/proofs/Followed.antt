@@ -1,17 +1,17 @@
 -- Rule by rule, the flags of what can be read are set, and the first rule that has matched is found.
-use Rattle.std.proofs.Common.{◌≡◌, ◌≢◌, ℕ, zero, suc, ◌+◌, ◌-◌, ◌≤◌, ◌<◌, ◌⊎◌, ◌↔◌, inl, inr, Bool, true, false, IsTrue, List, [], ◌∷◌, ◌++◌, Option, Some, None, length, refl, sym, ◌∙◌, ap, ap₂, subst, arith}
+use Rattle.std.proofs.Common.{◌≡◌, ℕ, ◌+◌, ◌≤◌, ◌<◌, ◌↔◌, inl, inr, Bool, true, false, List, Option, Some, None, length, refl, sym, ◌∙◌, ap, subst, arith}
 use Rattle.std.proofs.lemmas.Bool.{cases_lt}
 use Rattle.std.specs.Prelude.{slice_get, slice_set}
 use Rattle.lx_spec.specs.Plain.{PlainSpec}
-use Rattle.lx_auto.specs.Unfolded.{Unfolded, position_count}
-use Rattle.lx_auto.specs.Positions.{First, Last, Follow, CanEnd, CanRead}
+use Rattle.lx_auto.specs.Unfolded.{position_count}
+use Rattle.lx_auto.specs.Positions.{CanEnd}
 use Rattle.lx_auto.specs.Counts.{newline_count}
 use Rattle.lx_auto.specs.PositionSets.{NumberedRule, newline_of, size_of}
-use Rattle.lx_auto.specs.RuleReach.{RuleFollow, FinalWithEnd, IsFinal}
+use Rattle.lx_auto.specs.RuleReach.{FinalWithEnd, IsFinal}
 use Rattle.lx_auto.specs.Starts.{IsActiveAt}
 use Rattle.lx_auto.specs.Marking.{flag}
 use Rattle.lx_auto.specs.RuleParts.{AreReadsOf}
-use Rattle.lx_auto.specs.Following.{InRange, AreNumbered, FollowsMarked, EndsMarked, BeginsWith, IsReadBelow, AreReadBelow, ReadsRule, ReadsOrStays, IsMatchedAt, IsFirstMatchedBelow, first_or}
+use Rattle.lx_auto.specs.Following.{InRange, AreNumbered, FollowsMarked, EndsMarked, BeginsWith, IsReadBelow, AreReadBelow, ReadsRule, ReadsOrStays, IsFirstMatchedBelow, first_or}
 use Rattle.lx_auto.proofs.Words.{in_first, in_last, in_follow}
 use Rattle.lx_auto.proofs.FlagLemmas.{flag_set_same, flag_set_other, length_set}
 

@@ -78,15 +78,15 @@ leaves_append : (xs ys : List PlainNode) → leaves_in (xs ++ ys) ≡ leaves_in 
 leaves_append [] ys = refl
 leaves_append (x ∷ xs) ys = ap (λ l. leaf_in x ++ l) (leaves_append xs ys) ∙ sym (append_assoc (leaf_in x) (leaves_in xs) (leaves_in ys))
 
-append_nil : (xs : List PlainLeaf) → xs ++ [] ≡ xs
+pub append_nil : (xs : List PlainLeaf) → xs ++ [] ≡ xs
 append_nil [] = refl
 append_nil (x ∷ xs) = ap (λ l. x ∷ l) (append_nil xs)
 
-leaves_one : (xs : List PlainNode) (n : PlainNode) → leaf_in n ≡ [] → leaves_in (xs ++ n ∷ []) ≡ leaves_in xs
+pub leaves_one : (xs : List PlainNode) (n : PlainNode) → leaf_in n ≡ [] → leaves_in (xs ++ n ∷ []) ≡ leaves_in xs
 leaves_one xs n none =
     leaves_append xs (n ∷ []) ∙ ap (λ l. leaves_in xs ++ l) (append_nil (leaf_in n) ∙ none) ∙ append_nil (leaves_in xs)
 
-leaves_two : (xs ys : List PlainNode) (n : PlainNode) → leaf_in n ≡ [] → leaves_in (xs ++ (ys ++ n ∷ [])) ≡ leaves_in xs ++ leaves_in ys
+pub leaves_two : (xs ys : List PlainNode) (n : PlainNode) → leaf_in n ≡ [] → leaves_in (xs ++ (ys ++ n ∷ [])) ≡ leaves_in xs ++ leaves_in ys
 leaves_two xs ys n none = leaves_append xs (ys ++ n ∷ []) ∙ ap (λ l. leaves_in xs ++ l) (leaves_one ys n none)
 
 pub tree_long : (e : Unfolded) → length (leaves_in (nodes_of e)) ≡ position_count e

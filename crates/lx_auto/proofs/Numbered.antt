@@ -1,10 +1,9 @@
 -- How the map of the sets' numbers grows.
-use Rattle.std.proofs.Common.{◌≡◌, ◌≢◌, ℕ, zero, suc, ◌+◌, ◌<◌, ◌≤◌, ◌⊎◌, List, [], ◌∷◌, ◌++◌, length, get_or, Option, Some, None, Bool, true, false, cond, nat_eq, refl, sym, ◌∙◌, ap, arith, inl, inr}
+use Rattle.std.proofs.Common.{◌≡◌, ◌≢◌, ℕ, zero, suc, ◌<◌, ◌⊎◌, List, [], ◌∷◌, ◌++◌, length, get_or, Some, None, Bool, true, false, cond, nat_eq, refl, sym, ◌∙◌, ap, arith, inl, inr}
 use Rattle.std.specs.Prelude.{slice_get}
-use Rattle.std.proofs.lemmas.Bool.{cases_lt}
 use Rattle.std.proofs.lemmas.Option.{slice_get-get_or, slice_get_within}
 use Rattle.std.specs.Cmp.Lexicographic.{pointwise, bytes_decides}
-use Rattle.std.specs.HashMap.{get, get_by, Updates}
+use Rattle.std.specs.HashMap.{get, get_by}
 use Rattle.lx_auto.specs.SetTable.{Positions, words_of, set_of, Numbers, same, IsNumbering}
 use Rattle.lx_auto.proofs.SetLists.{length_push, set_of_last, set_of_kept}
 

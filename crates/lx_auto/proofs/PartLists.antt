@@ -1,17 +1,15 @@
 -- The parts of rules, one rule more.
-use Rattle.std.proofs.Common.{◌≡◌, ◌≢◌, ℕ, zero, suc, ◌+◌, ◌≤◌, ◌<◌, ◌⊎◌, inl, inr, Bool, List, [], ◌∷◌, ◌++◌, Option, Some, None, length, map, take, refl, sym, ◌∙◌, ap, ap₂, subst, arith}
+use Rattle.std.proofs.Common.{◌≡◌, ℕ, zero, suc, ◌+◌, ◌≤◌, ◌<◌, ◌⊎◌, inl, inr, List, [], ◌∷◌, ◌++◌, Some, None, length, map, take, refl, sym, ◌∙◌, ap, subst, arith}
 use Rattle.std.specs.Prelude.{slice_get}
 use Rattle.lx_ere.specs.Regex.{Regex}
 use Rattle.lx_spec.specs.Plain.{PlainDefinition, PlainRule}
 use Rattle.lx_spec.specs.declared.rule.Rule.{Rule}
 use Rattle.lx_spec.specs.views.Rules.{rule_view}
 use Rattle.lx_auto.specs.Unfolded.{Unfolded, position_count}
-use Rattle.lx_auto.specs.Counts.{newline_count, count_of_pattern, count_of_rule, count_of_rules}
+use Rattle.lx_auto.specs.Counts.{newline_count, count_of_rule, count_of_rules}
 use Rattle.lx_auto.specs.Trimmed.{trimmed_pattern}
 use Rattle.lx_auto.specs.Nodes.{PlainNode, nodes_of}
-use Rattle.lx_auto.specs.NodeViews.{nodes_view}
 use Rattle.lx_auto.specs.NodeLeaves.{leaves_in}
-use Rattle.lx_auto.specs.Marking.{nulls_from}
 use Rattle.lx_auto.specs.PositionSets.{NumberedRule, size_of, numbered}
 use Rattle.lx_auto.specs.RuleParts.{IsPartOf, ArePartsOf, IsPartOver}
 use Rattle.lx_auto.specs.declared.rule_part.RulePart.{RulePart}

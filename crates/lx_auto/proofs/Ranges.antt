@@ -9,7 +9,7 @@ use Rattle.lx_auto.specs.Positions.{First}
 use Rattle.lx_auto.specs.Counts.{newline_count}
 use Rattle.lx_auto.specs.PositionSets.{NumberedRule, newline_of, size_of, numbered, HasRuleByte}
 use Rattle.lx_auto.specs.RuleReach.{RuleFollow, FinalWithEnd, IsFinal, IsReachedInRule}
-use Rattle.lx_auto.specs.Following.{InRange, AreNumbered}
+use Rattle.lx_auto.specs.Following.{InRange}
 use Rattle.lx_auto.proofs.Words.{in_first, in_last, in_follow}
 use Rattle.lx_auto.proofs.RuleReached.{in_bytes, in_reached}
 

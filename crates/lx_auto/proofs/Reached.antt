@@ -1,9 +1,8 @@
 -- One byte more leads from a reached set to a reached set, and the table of sets grows by reached sets alone.
-use Rattle.std.proofs.Common.{◌≡◌, ◌≢◌, ℕ, zero, suc, ◌+◌, ◌*◌, ◌≤◌, ◌<◌, ◌⊎◌, ◌↔◌, inl, inr, Bool, true, false, ◌&&◌, List, [], ◌∷◌, ◌++◌, Option, Some, None, length, get_or, filter, refl, sym, ◌∙◌, ap, subst, arith}
+use Rattle.std.proofs.Common.{◌≡◌, ◌≢◌, ℕ, zero, suc, ◌+◌, ◌*◌, ◌<◌, ◌⊎◌, ◌↔◌, inl, inr, Bool, true, false, List, [], ◌∷◌, ◌++◌, Option, Some, None, length, get_or, refl, sym, ◌∙◌, ap, subst, arith}
 use Rattle.std.specs.Prelude.{slice_get, slice_index, Contains}
 use Rattle.std.proofs.lemmas.Bool.{cases_lt}
 use Rattle.std.proofs.lemmas.Grind.{common_steps}
-use Rattle.std.proofs.lemmas.Nat.{row_fits}
 use Rattle.std.proofs.Math.Seq.{get_or-append_seam}
 use Rattle.lx_ere.specs.Regex.{Regex}
 use Rattle.lx_spec.specs.Plain.{PlainRule, PlainSpec}
@@ -11,14 +10,14 @@ use Rattle.lx_auto.specs.Unfolded.{Unfolded, position_count}
 use Rattle.lx_auto.specs.Counts.{newline_count}
 use Rattle.lx_auto.specs.Following.{AreNumbered}
 use Rattle.lx_auto.proofs.Ranges.{ranges_apart}
-use Rattle.lx_auto.specs.PositionSets.{NumberedRule, numbered, CanHaveReadLast, StartAndWord, InPositionSet}
-use Rattle.lx_auto.specs.SetSteps.{HasSomeByte, IsFirstAt, FollowsSet, IsSetOf, IsRising}
+use Rattle.lx_auto.specs.PositionSets.{NumberedRule, numbered, CanHaveReadLast}
+use Rattle.lx_auto.specs.SetSteps.{IsRising}
 use Rattle.lx_auto.specs.Sets.{AreFollowing, AreFirst}
 use Rattle.lx_auto.specs.Leaves.{PlainLeaf, has_byte, AreLeavesOf}
 use Rattle.lx_auto.specs.SetTable.{Positions, set_of, IsTarget, GoesOn}
-use Rattle.lx_auto.specs.Exploring.{having, IsReachedSet, AreReachedSets, HasMoreSets, start_number, start_count, IsSource, HaveSteps, IsExplored, IsRowOf}
+use Rattle.lx_auto.specs.Exploring.{having, IsReachedSet, AreReachedSets, HasMoreSets, IsSource, HaveSteps, IsExplored, IsRowOf}
 use Rattle.lx_auto.proofs.Membership.{contains_nil, contains_head, contains_tail, contains_cases, contains_at}
-use Rattle.lx_auto.proofs.SetLists.{target_kept, row_below, same_row}
+use Rattle.lx_auto.proofs.SetLists.{target_kept, same_row}
 use Rattle.lx_auto.proofs.SetStepped.{nothing_read, first_set, next_set}
 
 bool_cases : (b : Bool) → (b ≡ true) ⊎ (b ≡ false)

@@ -1,16 +1,15 @@
 -- What the flags say of a set: what follows it, and which rules it matches.
-use Rattle.std.proofs.Common.{◌≡◌, ◌≢◌, ℕ, zero, suc, ◌+◌, ◌≤◌, ◌<◌, ◌⊎◌, ◌↔◌, inl, inr, Bool, true, false, List, [], ◌∷◌, Option, Some, None, length, refl, sym, ◌∙◌, ap, subst, arith}
+use Rattle.std.proofs.Common.{◌≡◌, ℕ, zero, suc, ◌≤◌, ◌<◌, ◌↔◌, inl, inr, Bool, true, false, List, [], ◌∷◌, Option, Some, None, length, refl, sym, ◌∙◌, arith}
 use Rattle.std.specs.Prelude.{slice_get, Contains}
 use Rattle.std.proofs.lemmas.Bool.{cases_lt}
 use Rattle.lx_spec.specs.Plain.{PlainSpec}
 use Rattle.lx_auto.specs.Members.{has_member, places_from}
 use Rattle.lx_auto.specs.Marking.{flag}
-use Rattle.lx_auto.specs.Positions.{First}
-use Rattle.lx_auto.specs.PositionSets.{NumberedRule, size_of}
+use Rattle.lx_auto.specs.PositionSets.{NumberedRule}
 use Rattle.lx_auto.specs.RuleParts.{ArePartsOf}
-use Rattle.lx_auto.specs.SetSteps.{IsFirstAt, FollowsSet, IsMatchedBy, IsRising}
-use Rattle.lx_auto.specs.Sets.{AreFollowing, AreFirst, IsEarliestMatched, AreBelow}
-use Rattle.lx_auto.specs.Following.{FollowsMarked, EndsMarked, BeginsWith, IsReadBelow, AreReadBelow, IsMatchedAt, IsFirstMatchedBelow}
+use Rattle.lx_auto.specs.SetSteps.{IsMatchedBy}
+use Rattle.lx_auto.specs.Sets.{AreFollowing, AreFirst, IsEarliestMatched}
+use Rattle.lx_auto.specs.Following.{FollowsMarked, BeginsWith, AreReadBelow, IsMatchedAt, IsFirstMatchedBelow}
 use Rattle.lx_auto.specs.declared.rule_part.RulePart.{RulePart}
 use Rattle.lx_auto.proofs.Membership.{member_means, place_means, places_rise}
 use Rattle.lx_auto.proofs.Ranges.{follow_in, final_in}

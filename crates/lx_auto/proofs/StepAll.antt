@@ -1,9 +1,8 @@
 -- A turn of the loop over the rules.
-use Rattle.std.proofs.Common.{◌≡◌, ◌≢◌, ℕ, zero, suc, ◌+◌, ◌≤◌, ◌<◌, ◌⊎◌, ◌↔◌, inl, inr, Bool, true, false, List, [], ◌∷◌, Option, Some, None, length, refl, sym, ◌∙◌, ap, ap₂, subst, arith, cond}
+use Rattle.std.proofs.Common.{◌≡◌, ℕ, zero, suc, ◌+◌, ◌≤◌, ◌<◌, ◌⊎◌, ◌↔◌, inl, inr, Bool, true, false, List, [], ◌∷◌, Option, Some, length, refl, sym, ◌∙◌, ap, subst, arith, cond}
 use Rattle.std.specs.Prelude.{slice_get}
 use Rattle.lx_spec.specs.Plain.{PlainSpec}
 use Rattle.lx_auto.specs.Counts.{newline_count}
-use Rattle.lx_auto.specs.Unfolded.{position_count}
 use Rattle.lx_auto.specs.Marking.{flag}
 use Rattle.lx_auto.specs.PositionSets.{NumberedRule, size_of}
 use Rattle.lx_auto.specs.RuleParts.{IsPartOf, ArePartsOf, AreReadsOf}

@@ -1,5 +1,5 @@
 -- Lists of numbers as sets.
-use Rattle.std.specs.Prelude.{ℕ, suc, Bool, true, false, nat_eq, ◌||◌, List, [], ◌∷◌}
+use Rattle.std.specs.Prelude.{ℕ, suc, Bool, true, false, nat_eq, List, [], ◌∷◌}
 use Rattle.std.specs.List.{list_any}
 
 abbrev pub has_member : List ℕ → ℕ → Bool

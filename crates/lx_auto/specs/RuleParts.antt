@@ -1,12 +1,12 @@
 -- What is kept of a rule to follow its positions, and what is known of it.
-use Rattle.std.specs.Prelude.{◌≡◌, ◌≢◌, ℕ, ◌+◌, ◌<◌, ◌≤◌, ◌↔◌, Bool, true, false, List, [], length, slice_get, Some, Contains}
+use Rattle.std.specs.Prelude.{◌≡◌, ℕ, ◌+◌, ◌<◌, ◌≤◌, ◌↔◌, Bool, true, List, [], length, slice_get, Some}
 use Rattle.lx_auto.specs.Unfolded.{position_count}
 use Rattle.lx_auto.specs.Nodes.{PlainNode, nodes_of}
 use Rattle.lx_auto.specs.NodeViews.{nodes_view}
 use Rattle.lx_auto.specs.NodeLeaves.{leaves_in}
 use Rattle.lx_auto.specs.Marking.{flag, nulls_from}
 use Rattle.lx_auto.specs.Passing.{IsTrim}
-use Rattle.lx_auto.specs.Positions.{CanEnd, CanRead}
+use Rattle.lx_auto.specs.Positions.{CanRead}
 use Rattle.lx_auto.specs.PositionSets.{NumberedRule, size_of}
 use Rattle.lx_auto.specs.declared.rule_part.RulePart.{RulePart}
 

@@ -1,5 +1,5 @@
 -- What is found of a set of positions, and of a start.
-use Rattle.std.specs.Prelude.{◌≡◌, ℕ, ◌<◌, ◌↔◌, Bool, List, length, slice_index, Option, Contains, MatchOption}
+use Rattle.std.specs.Prelude.{ℕ, ◌<◌, ◌↔◌, Bool, List, Option, Contains, MatchOption}
 use Rattle.lx_spec.specs.Plain.{PlainSpec}
 use Rattle.lx_auto.specs.PositionSets.{NumberedRule}
 use Rattle.lx_auto.specs.SetSteps.{IsFirstAt, FollowsSet, IsMatchedBy, IsRising}

@@ -1,4 +1,4 @@
-use Rattle.std.proofs.Common.{◌≡◌, ◌≤◌, length, arith, map}
+use Rattle.std.proofs.Common.{arith}
 use Rattle.std.proofs.lemmas.List.{length-map}
 use Rattle.lx_spec.specs.views.Rules.{rule_view}
 use Rattle.lx_spec.specs.views.Specs.{spec_view}

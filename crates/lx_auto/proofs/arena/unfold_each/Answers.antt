@@ -1,10 +1,9 @@
-use Rattle.std.proofs.Common.{◌≡◌, ◌∙◌, ◌+◌, ◌≤◌, ◌<◌, ◌++◌, ◌∷◌, [], ℕ, List, length, map, take, ap, subst, sym, arith}
+use Rattle.std.proofs.Common.{◌≡◌, ◌∙◌, ◌+◌, ◌++◌, ◌∷◌, [], ℕ, List, map, take, ap, subst, sym, arith}
 use Rattle.std.proofs.lemmas.List.{map_more}
 use Rattle.lx_spec.specs.Plain.{PlainDefinition, PlainRule}
 use Rattle.lx_spec.specs.declared.rule.Rule.{Rule}
 use Rattle.lx_spec.specs.views.Rules.{definition_view, rule_view}
-use Rattle.lx_auto.specs.Counts.{count_of_pattern, count_of_rule, count_of_rules, newline_count}
-use Rattle.lx_auto.specs.NodeLeaves.{leaves_in}
+use Rattle.lx_auto.specs.Counts.{count_of_rules}
 use Rattle.lx_auto.specs.Nodes.{nodes_of}
 use Rattle.lx_auto.specs.NodeViews.{nodes_view}
 use Rattle.lx_auto.specs.PositionSets.{numbered}

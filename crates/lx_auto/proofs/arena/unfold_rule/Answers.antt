@@ -1,4 +1,4 @@
-use Rattle.std.proofs.Common.{◌≡◌, [], map, ap, ◌∙◌, subst}
+use Rattle.std.proofs.Common.{[], map, subst}
 use Rattle.lx_ere.specs.Regex.{regex_of}
 use Rattle.lx_spec.specs.views.Rules.{definition_view}
 use Rattle.lx_auto.specs.NodeViews.{nodes_view}

@@ -1,14 +1,10 @@
-use Rattle.std.proofs.Common.{◌≡◌, ◌≢◌, ◌<◌, ◌≤◌, ◌+◌, ◌*◌, ◌++◌, ◌∷◌, [], ℕ, length, refl, sym, ◌∙◌, ap, subst, arith}
-use Rattle.lx_ere.specs.Regex.{Regex}
-use Rattle.lx_spec.specs.Plain.{PlainSpec}
-use Rattle.lx_auto.specs.Unfolded.{Unfolded}
+use Rattle.std.proofs.Common.{◌≡◌, ◌+◌, ◌*◌, ◌∷◌, [], length, sym, ◌∙◌, ap, subst, arith}
 use Rattle.lx_auto.specs.LeafViews.{leaves_view}
 use Rattle.lx_auto.specs.PositionSets.{numbered}
-use Rattle.lx_auto.specs.SetTable.{set_of}
-use Rattle.lx_auto.specs.Exploring.{having, AreReachedSets, HaveSteps, HasMoreSets}
+use Rattle.lx_auto.specs.Exploring.{HaveSteps}
 use Rattle.std.proofs.lemmas.Result.{err_from_is_err_and}
 use Rattle.lx_auto.proofs.FlagLemmas.{length_joined}
-use Rattle.lx_auto.proofs.Reached.{reached_from, reached_added, source_kept, steps_push, more_sets, row_full}
+use Rattle.lx_auto.proofs.Reached.{reached_from, reached_added, source_kept, steps_push, more_sets}
 use Rattle.lx_auto.proofs.explore.add_row.Goals as goal
 
 pub loop-class-preserved : goal.loop-class-preserved

@@ -1,14 +1,11 @@
-use Rattle.std.proofs.Common.{◌≡◌, ◌+◌, ℕ, List, length, refl, inl, inr, sym, ◌∙◌, ap, subst, arith}
+use Rattle.std.proofs.Common.{refl, inl, sym, ap, subst}
 use Rattle.std.proofs.lemmas.Result.{err_from_is_err_and}
 use Rattle.lx_spec.specs.views.Specs.{spec_view}
 use Rattle.lx_auto.specs.LeafViews.{leaves_view}
 use Rattle.lx_auto.specs.PositionSets.{numbered}
 use Rattle.lx_auto.specs.RuleParts.{ArePartsOf}
 use Rattle.lx_auto.specs.Following.{AreActive}
-use Rattle.lx_auto.specs.SetTable.{set_of}
-use Rattle.lx_auto.specs.Sets.{AreFollowing, IsEarliestMatched}
-use Rattle.lx_auto.specs.Exploring.{start_number, start_count}
-use Rattle.lx_auto.proofs.SetLists.{set_of_read}
+use Rattle.lx_auto.specs.Exploring.{start_number}
 use Rattle.lx_auto.proofs.Reached.{row_of, explored_of, numbered_rules}
 use Rattle.lx_auto.proofs.explore.add_start.Goals as goal
 

@@ -1,14 +1,14 @@
-use Rattle.std.proofs.Common.{◌≡◌, ◌+◌, ◌≤◌, ◌*◌, ◌<◌, ◌∷◌, [], ℕ, length, refl, sym, ◌∙◌, ap, subst, arith}
+use Rattle.std.proofs.Common.{◌≡◌, ◌+◌, ◌*◌, ◌<◌, ◌∷◌, [], length, sym, ◌∙◌, ap, subst, arith}
 use Rattle.std.proofs.lemmas.List.{length-map}
 use Rattle.std.proofs.lemmas.Result.{err_from_is_err_and}
 use Rattle.lx_spec.specs.views.Conditions.{condition_view}
 use Rattle.lx_spec.specs.views.Specs.{spec_view}
 use Rattle.lx_auto.specs.LeafViews.{leaves_view}
-use Rattle.lx_auto.specs.Exploring.{IsExplored, start_count}
+use Rattle.lx_auto.specs.Exploring.{start_count}
 use Rattle.lx_auto.specs.Grounds.{AreMatchedBelow}
 use Rattle.lx_auto.proofs.FlagLemmas.{length_joined}
 use Rattle.lx_auto.proofs.Matching.{matched_push, matched_none}
-use Rattle.lx_auto.proofs.Reached.{nothing_explored, explored_at}
+use Rattle.lx_auto.proofs.Reached.{explored_at}
 use Rattle.lx_auto.proofs.explore.explore.Goals as goal
 
 pub starts-preserved : goal.starts-preserved

@@ -1,4 +1,4 @@
-use Rattle.std.proofs.Common.{◌≡◌, ◌≤◌, ◌+◌, ◌*◌, ◌-◌, length}
+use Rattle.std.proofs.Common.{◌≤◌, ◌+◌, ◌*◌, ◌-◌, length}
 use Rattle.lx_ere.specs.Regex.{Regex}
 use Rattle.lx_spec.specs.views.Specs.{spec_view}
 use Rattle.lx_auto.specs.Unfolded.{Unfolded}

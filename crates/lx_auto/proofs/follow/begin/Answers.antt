@@ -1,8 +1,7 @@
-use Rattle.std.proofs.Common.{◌≡◌, ◌+◌, ℕ, ◌<◌, Bool, true, false, length, refl, sym, ◌∙◌, ap, arith, subst, Some}
+use Rattle.std.proofs.Common.{◌≡◌, ℕ, ◌<◌, false, length, refl, sym, ◌∙◌, ap, arith, subst}
 use Rattle.std.proofs.lemmas.Option.{slice_get_read}
 use Rattle.lx_auto.specs.Marking.{flag}
 use Rattle.lx_auto.specs.Members.{places_from}
-use Rattle.lx_auto.specs.RuleParts.{AreReadsOf}
 use Rattle.lx_auto.specs.Sets.{AreFirst}
 use Rattle.lx_auto.specs.Following.{BeginsWith, AreReadBelow}
 use Rattle.lx_auto.proofs.StepAll.{begin_all}

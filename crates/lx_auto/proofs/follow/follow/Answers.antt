@@ -1,8 +1,8 @@
-use Rattle.std.proofs.Common.{◌≡◌, ℕ, ◌<◌, length, sym, ◌∙◌, ap, subst, List}
+use Rattle.std.proofs.Common.{length, sym, ◌∙◌, ap, subst}
 use Rattle.lx_auto.specs.Marking.{flag}
 use Rattle.lx_auto.specs.Members.{places_from}
 use Rattle.lx_auto.specs.RuleParts.{ArePartsOf}
-use Rattle.lx_auto.specs.Sets.{AreFollowing, IsEarliestMatched}
+use Rattle.lx_auto.specs.Sets.{AreFollowing}
 use Rattle.lx_auto.proofs.SetFollowed.{AreMarksOf, following, earliest}
 use Rattle.lx_auto.proofs.follow.follow.Goals as goal
 

@@ -1,7 +1,7 @@
-use Rattle.std.proofs.Common.{◌≡◌, ap, sym, subst}
+use Rattle.std.proofs.Common.{sym, subst}
 use Rattle.lx_spec.specs.views.Specs.{spec_view}
 use Rattle.lx_auto.specs.LeafViews.{leaves_view}
-use Rattle.lx_auto.specs.Leaves.{AreLeavesOf, AreGroupsOf}
+use Rattle.lx_auto.specs.Leaves.{AreGroupsOf}
 use Rattle.lx_auto.specs.PositionSets.{numbered}
 use Rattle.lx_auto.specs.RuleParts.{ArePartsOf}
 use Rattle.lx_auto.specs.Trimmed.{trimmed_pattern}

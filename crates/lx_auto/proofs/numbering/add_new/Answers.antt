@@ -1,4 +1,4 @@
-use Rattle.std.proofs.Common.{◌≡◌, ◌++◌, ◌∷◌, [], ◌<◌, ◌≢◌, ℕ, inr, length, refl, sym, ◌∙◌, ap, subst, arith}
+use Rattle.std.proofs.Common.{◌≡◌, ◌++◌, ◌∷◌, [], inr, length, sym, ◌∙◌, ap, subst, arith}
 use Rattle.lx_auto.specs.SetTable.{GoesOn, set_of}
 use Rattle.lx_auto.proofs.SetLists.{set_of_last, goes_on_push}
 use Rattle.lx_auto.proofs.Numbered.{absent}

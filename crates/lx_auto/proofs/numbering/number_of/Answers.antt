@@ -1,4 +1,4 @@
-use Rattle.std.proofs.Common.{◌≡◌, ◌<◌, length, refl, inl, sym, ◌∙◌}
+use Rattle.std.proofs.Common.{refl, inl, sym}
 use Rattle.lx_auto.proofs.SetLists.{goes_on_same}
 use Rattle.lx_auto.proofs.numbering.number_of.Goals as goal
 

@@ -1,8 +1,4 @@
-use Rattle.std.proofs.Common.{◌≡◌, ◌+◌, ◌≤◌, ℕ, ◌<◌, ◌⊎◌, inl, inr, refl, false, true, ap₂, arith}
-use Rattle.lx_auto.specs.Marking.{flag}
-use Rattle.lx_auto.specs.Unfolded.{position_count}
-use Rattle.lx_auto.specs.PositionSets.{NumberedRule}
-use Rattle.lx_auto.specs.RuleParts.{IsPartOf}
+use Rattle.std.proofs.Common.{inl, inr, refl, arith}
 use Rattle.lx_auto.proofs.Followed.{untouched_reads, untouched_ends}
 use Rattle.lx_auto.proofs.set_steps.step_rule.Goals as goal
 

@@ -1,5 +1,4 @@
-use Rattle.std.proofs.Common.{◌≡◌, ℕ, ◌+◌, ◌<◌, length, refl, sym, ◌∙◌, ap, arith, subst, Some}
-use Rattle.std.specs.Prelude.{slice_get}
+use Rattle.std.proofs.Common.{◌≡◌, ◌+◌, ◌<◌, length, refl, sym, ◌∙◌, arith, subst}
 use Rattle.std.proofs.lemmas.Option.{slice_get_read}
 use Rattle.lx_auto.specs.Following.{IsFirstMatchedBelow}
 use Rattle.lx_auto.proofs.StepAll.{step_all, matched_all}

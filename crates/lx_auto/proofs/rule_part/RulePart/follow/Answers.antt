@@ -1,4 +1,4 @@
-use Rattle.std.proofs.Common.{◌≡◌, ap, ◌∙◌, sym, length}
+use Rattle.std.proofs.Common.{ap, ◌∙◌, sym}
 use Rattle.lx_auto.specs.Marking.{flag}
 use Rattle.lx_auto.specs.NodeViews.{nodes_view}
 use Rattle.lx_auto.proofs.RuleRead.{rule_ended, rule_reads}

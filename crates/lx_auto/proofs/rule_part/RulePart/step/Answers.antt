@@ -1,9 +1,8 @@
 use Rattle.std.proofs.Common.{◌≡◌, ◌+◌, ◌≤◌, ap, ap₂, ◌∙◌, sym, subst, arith, length}
 use Rattle.std.specs.Prelude.{slice_set}
 use Rattle.lx_auto.specs.Counts.{newline_count}
-use Rattle.lx_auto.specs.Unfolded.{position_count}
 use Rattle.lx_auto.specs.Marking.{flag}
-use Rattle.lx_auto.specs.PositionSets.{newline_of, size_of}
+use Rattle.lx_auto.specs.PositionSets.{newline_of}
 use Rattle.lx_auto.specs.Following.{FollowsMarked, ReadsRule}
 use Rattle.lx_auto.proofs.Followed.{follow_plain, follow_end, matched_plain, matched_end}
 use Rattle.lx_auto.proofs.rule_part.RulePart.step.Goals as goal
