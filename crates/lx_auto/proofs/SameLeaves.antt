@@ -1,5 +1,5 @@
 -- Leaving away what has no position, and writing repeats out, gives the same leaves, in the same order.
-use Rattle.std.proofs.Common.{◌≡◌, ℕ, zero, suc, ◌+◌, ◌-◌, ◌↔◌, Bool, true, false, List, [], ◌∷◌, ◌++◌, length, Option, Some, None, refl, sym, ◌∙◌, ap, ap₂, subst, arith}
+use Rattle.std.proofs.Common.{◌≡◌, ℕ, zero, suc, ◌+◌, ◌-◌, ◌↔◌, Bool, true, false, List, [], ◌∷◌, ◌++◌, length, Option, Some, None, refl, sym, ◌∙◌, ap₂, subst, arith}
 use Rattle.lx_ere.specs.Regex.{Regex, nil, one_of, then, or, times, named}
 use Rattle.lx_spec.specs.Plain.{PlainDefinition}
 use Rattle.lx_spec.specs.Nesting.{tree_named}
@@ -8,7 +8,7 @@ use Rattle.lx_auto.specs.WrittenOut.{counted, unbounded, repeated, written_out, 
 use Rattle.lx_auto.specs.Trimmed.{opt_unless, opt_of, plus_of, cat_of, alt_of, trimmed_counted, trimmed_unbounded, trimmed_repeated, trimmed, trimmed_if_defined, trimmed_name, trimmed_pattern}
 use Rattle.lx_auto.specs.Nodes.{nodes_of, cat_node, alt_node, opt_node, plus_node}
 use Rattle.lx_auto.specs.Positions.{HasByte}
-use Rattle.lx_auto.specs.Leaves.{PlainLeaf, one_of_set, has_byte}
+use Rattle.lx_auto.specs.Leaves.{PlainLeaf, one_of_set}
 use Rattle.lx_auto.specs.NodeLeaves.{leaves_in}
 use Rattle.lx_auto.proofs.LeafOrder.{Stand, append_nil, leaves_one, leaves_two, tree_stand}
 
