@@ -22,7 +22,7 @@ pub(crate) fn ground_of<'s>(alloc: Global, spec: &'s Spec) -> Result<Ground<'s>,
     ensures too_many { IfErr result (λ e. e ≡ BuildFault.TooManyPositions → 16384 < count_of_spec (spec_view spec.now)) }
     ensures memory { IfErr result (λ e. (e ≡ BuildFault.TooManyPositions) ⊎ (e ≡ BuildFault.Memory)) }
     ensures few { IfOk result (λ _. count_of_spec (spec_view spec.now) ≤ 16384) }
-    ensures ground { IfOk result (λ ground. IsGroundOf (spec_view spec.now) (trimmed_pattern (spec_view spec.now).definitions) ground) }
+    ensures stands { IfOk result (λ it. IsGroundOf (spec_view spec.now) (trimmed_pattern (spec_view spec.now).definitions) it) }
 {
     let unfolded = unfold_rules(alloc, spec)?;
     let parts = unfolded.parts;

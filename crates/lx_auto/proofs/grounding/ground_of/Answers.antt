@@ -7,8 +7,8 @@ use Rattle.lx_auto.specs.RuleParts.{ArePartsOf}
 use Rattle.lx_auto.specs.Trimmed.{trimmed_pattern}
 use Rattle.lx_auto.proofs.grounding.ground_of.Goals as goal
 
-pub returns-clause-ground : goal.returns-clause-ground
-returns-clause-ground c =
+pub returns-clause-stands : goal.returns-clause-stands
+returns-clause-stands c =
     let spec = spec_view c.args.spec.now in
     let unfolded = c.in_ok-unfolded.unfolded in
     let groups = c.in_ok-groups.groups in
