@@ -8,7 +8,7 @@ use Rattle.lx_auto.specs.Unfolded.{Unfolded}
 use Rattle.lx_auto.specs.PositionSets.{numbered}
 use Rattle.lx_auto.specs.SetTable.{Positions, set_of}
 use Rattle.lx_auto.specs.Sets.{IsEarliestMatched}
-use Rattle.lx_auto.specs.Grounds.{AreMatchedBelow}
+use Rattle.lx_auto.specs.PositionTables.{AreMatchedBelow}
 use Rattle.lx_auto.proofs.FlagLemmas.{length_joined}
 
 get_or_left : (xs : List (Option ℕ)) (x : Option ℕ) (i : ℕ) → i < length xs → get_or (xs ++ x ∷ []) i None ≡ get_or xs i None

@@ -8,25 +8,12 @@ use Rattle.std.proofs.lemmas.Slice.Eq.{bytes_eq-Decides}
 use Rattle.lx_ere.specs.Regex.{Regex, nil, one_of, then, or, times, named}
 use Rattle.lx_ere.specs.Matching.{Splits, Repeats, RepeatsBetween, Matches}
 use Rattle.lx_spec.specs.Invariant.{are_distinct, are_definitions}
-use Rattle.lx_spec.specs.Names.{names_of}
+use Rattle.lx_spec.specs.Names.{names_of, Defines, DefinedMatches, NameMatches}
 use Rattle.lx_spec.specs.Nesting.{tree_named, holds_of, is_no_name, is_within}
 use Rattle.lx_spec.specs.Plain.{PlainDefinition}
 use Rattle.lx_auto.specs.Unfolded.{Unfolded, cat, alt, opt, plus, position_count, Joined, ByteWord}
 use Rattle.lx_auto.specs.WrittenOut.{counted, unbounded, repeated, written_out, written_if_defined, name_written_out, pattern_written_out}
 use Rattle.lx_auto.proofs.Appending.{and-left, and-right, all-left, all-right}
-
--- The words of names over plain definitions: the form that lx_spec's `NameMatches` takes.
-pub record PlainDefines (definitions : List PlainDefinition) (name : List ℕ) (d : PlainDefinition) : Type 0 where
-  pub place : ℕ
-  pub at : slice_get definitions place ≡ Some d
-  pub is : d.name ≡ name
-
-abbrev pub PlainDefinedMatches : (List ℕ → List ℕ → Type 0) → List PlainDefinition → List ℕ → List ℕ → Type 0
-PlainDefinedMatches inner definitions name word = (d : PlainDefinition) × PlainDefines definitions name d × Matches inner d.tree word
-
-abbrev pub PlainNameMatches : List PlainDefinition → ℕ → List ℕ → List ℕ → Type 0
-PlainNameMatches definitions zero name word = ⊥
-PlainNameMatches definitions (suc n) name word = PlainDefinedMatches (PlainNameMatches definitions n) definitions name word
 
 -- each high bound is at least its low one
 abbrev pub HasOrderedBounds : Regex → Type 0
@@ -160,11 +147,11 @@ first-defined (x ∷ xs) name (suc i) d w at is = by (pointwise nat_eq x.name na
       let any : others ≡ true = one-of_them xs x.name i d at ((bytes_eq-Decides d.name x.name).1 same) in
       absurd (false≢true (ap not (sym any) ∙ and-left (not others) (are_distinct (map (λ y. y.name) xs)) w))
 
-some-defined : (ds : List PlainDefinition) (name : List ℕ) (t : Regex) → tree_named ds name ≡ Some t → (d : PlainDefinition) × PlainDefines ds name d × (d.tree ≡ t)
+some-defined : (ds : List PlainDefinition) (name : List ℕ) (t : Regex) → tree_named ds name ≡ Some t → (d : PlainDefinition) × Defines ds name d × (d.tree ≡ t)
 some-defined [] name t e = absurd (let f : None ≡ Some t = e in cc)
 some-defined (x ∷ xs) name t e = by (pointwise nat_eq x.name name) refl e (some-defined xs name t) where
-  by : (b : Bool) → pointwise nat_eq x.name name ≡ b → cond b (Some x.tree) (tree_named xs name) ≡ Some t → (tree_named xs name ≡ Some t → (d : PlainDefinition) × PlainDefines xs name d × (d.tree ≡ t))
-      → (d : PlainDefinition) × PlainDefines (x ∷ xs) name d × (d.tree ≡ t)
+  by : (b : Bool) → pointwise nat_eq x.name name ≡ b → cond b (Some x.tree) (tree_named xs name) ≡ Some t → (tree_named xs name ≡ Some t → (d : PlainDefinition) × Defines xs name d × (d.tree ≡ t))
+      → (d : PlainDefinition) × Defines (x ∷ xs) name d × (d.tree ≡ t)
   by true q h f = (x, record { place = 0; at = refl; is = (bytes_eq-Decides x.name name).0 q }, (let g : Some x.tree ≡ Some t = h in cc))
   by false q h f = let r = f h in (r.0, record { place = suc r.1.place; at = r.1.at; is = r.1.is }, r.2)
 
@@ -174,13 +161,13 @@ pub record AreOrdered (definitions : List PlainDefinition) : Type 0 where
 
 -- a name that is defined, no deeper than so
 words-name : (ds : List PlainDefinition) (n : ℕ) → IsTrue (are_distinct (map (λ x. x.name) ds)) → AreOrdered ds
-    → ((tree : Regex) → HasOrderedBounds tree → IsTrue (is_within n ds tree) → AreWords (Matches (PlainNameMatches ds n) tree) (written_out (name_written_out ds n) tree))
-    → (name : List ℕ) → IsTrue (holds_of (is_within n ds) (tree_named ds name)) → AreWords (PlainNameMatches ds (suc n) name) (name_written_out ds (suc n) name)
+    → ((tree : Regex) → HasOrderedBounds tree → IsTrue (is_within n ds tree) → AreWords (Matches (NameMatches ds n) tree) (written_out (name_written_out ds n) tree))
+    → (name : List ℕ) → IsTrue (holds_of (is_within n ds) (tree_named ds name)) → AreWords (NameMatches ds (suc n) name) (name_written_out ds (suc n) name)
 words-name ds n w o f name h = by (tree_named ds name) refl h where
   N : List ℕ → List ℕ → Type 0
-  N = PlainNameMatches ds n
+  N = NameMatches ds n
 
-  by : (t : Option Regex) → tree_named ds name ≡ t → IsTrue (holds_of (is_within n ds) t) → AreWords (PlainDefinedMatches N ds name) (written_if_defined (name_written_out ds n) t)
+  by : (t : Option Regex) → tree_named ds name ≡ t → IsTrue (holds_of (is_within n ds) t) → AreWords (DefinedMatches N ds name) (written_if_defined (name_written_out ds n) t)
   by None e g = absurd (false≢true g)
   by (Some tree) e g =
       let x = f tree (o.at name tree e) g in
@@ -196,13 +183,13 @@ nothing-good [] h = refl
 nothing-good (name ∷ names) h = h
 
 pub words-within : (ds : List PlainDefinition) → IsTrue (are_distinct (map (λ x. x.name) ds)) → AreOrdered ds → (n : ℕ) (tree : Regex) → HasOrderedBounds tree → IsTrue (is_within n ds tree)
-    → AreWords (Matches (PlainNameMatches ds n) tree) (written_out (name_written_out ds n) tree)
-words-within ds w o zero tree b h = words-tree (PlainNameMatches ds 0) (name_written_out ds 0) (λ name. false) (λ name f. absurd (false≢true f)) tree b (nothing-good (names_of tree) h)
+    → AreWords (Matches (NameMatches ds n) tree) (written_out (name_written_out ds n) tree)
+words-within ds w o zero tree b h = words-tree (NameMatches ds 0) (name_written_out ds 0) (λ name. false) (λ name f. absurd (false≢true f)) tree b (nothing-good (names_of tree) h)
 words-within ds w o (suc n) tree b h =
-    words-tree (PlainNameMatches ds (suc n)) (name_written_out ds (suc n)) (λ name. holds_of (is_within n ds) (tree_named ds name)) (words-name ds n w o (words-within ds w o n)) tree b h
+    words-tree (NameMatches ds (suc n)) (name_written_out ds (suc n)) (λ name. holds_of (is_within n ds) (tree_named ds name)) (words-name ds n w o (words-within ds w o n)) tree b h
 
 -- what a pattern matches
 pub pattern-words : (ds : List PlainDefinition) (tree : Regex) → IsTrue (are_definitions ds) → AreOrdered ds → HasOrderedBounds tree → IsTrue (is_within 32 ds tree) → (k : ℕ) (w : List ℕ)
-    → Matches (PlainNameMatches ds 32) tree w ↔ ByteWord (pattern_written_out ds tree) k w
+    → Matches (NameMatches ds 32) tree w ↔ ByteWord (pattern_written_out ds tree) k w
 unfolding are_definitions pattern_written_out
 pattern-words ds tree d o b h k w = let x = words-within ds d o 32 tree b h in (x.into k w, x.back k w)

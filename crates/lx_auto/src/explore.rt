@@ -3,7 +3,7 @@ ghost use Rattle.std.specs.Prelude.{◌≡◌, ◌≢◌, ◌+◌, ◌*◌, ◌<
 ghost use Rattle.lx_ere.specs.Regex.{Regex};
 ghost use Rattle.lx_spec.specs.Plain.{PlainSpec};
 ghost use Rattle.lx_spec.specs.views.Specs.{spec_view};
-ghost use Rattle.lx_auto.specs.Grounds.{AreStatesOf, IsGroundOf};
+ghost use Rattle.lx_auto.specs.PositionTables.{AreStatesOf, ArePositionsOf};
 ghost use Rattle.lx_auto.specs.Sets.{IsEarliestMatched};
 ghost use Rattle.lx_auto.specs.Unfolded.{Unfolded};
 ghost use Rattle.lx_auto.specs.Leaves as plain_leaves;
@@ -17,7 +17,7 @@ use crate::active::active_rules;
 use crate::explored::Explored;
 use crate::fault::BuildFault;
 use crate::follow::{begin, follow};
-use crate::ground::Ground;
+use crate::position_table::PositionTable;
 use crate::leaf::{Leaf, has};
 use crate::numbering::{empty_table, number_of};
 use crate::set_table::{PositionSet, SetTable};
@@ -142,7 +142,7 @@ pub(crate) fn add_row(
 fn add_start(
     alloc: Global,
     spec: &Spec,
-    ground: &Ground,
+    positions: &PositionTable,
     condition: u16,
     at_line_begin: bool,
     table: &mut SetTable,
@@ -155,17 +155,17 @@ fn add_start(
     ensures numbering { OnOk result (IsNumbering table.new.sets.items table.new.numbers) }
     ensures room { OnOk result (length table.new.sets.items ≤ limit) }
     ensures few { IfErr result (λ e. e ≢ BuildFault.TooManyPositions) }
-    ensures explored { (tree_of : Regex → Unfolded) → IsGroundOf (spec_view spec.now) tree_of ground.now → IsExplored (spec_view spec.now) tree_of (leaves_view ground.now.leaves.items) ground.now.groups.representatives.items table.old.sets.items targets.old.items (start_number condition at_line_begin) → OnOk result (IsExplored (spec_view spec.now) tree_of (leaves_view ground.now.leaves.items) ground.now.groups.representatives.items table.new.sets.items targets.new.items (start_number condition at_line_begin + 1)) }
-    ensures many { (tree_of : Regex → Unfolded) → IsGroundOf (spec_view spec.now) tree_of ground.now → IsExplored (spec_view spec.now) tree_of (leaves_view ground.now.leaves.items) ground.now.groups.representatives.items table.old.sets.items targets.old.items (start_number condition at_line_begin) → IfErr result (λ e. e ≡ BuildFault.TooManySets → HasMoreSets (spec_view spec.now) (numbered tree_of 0 (spec_view spec.now).rules) limit) }
+    ensures explored { (tree_of : Regex → Unfolded) → ArePositionsOf (spec_view spec.now) tree_of positions.now → IsExplored (spec_view spec.now) tree_of (leaves_view positions.now.leaves.items) positions.now.groups.representatives.items table.old.sets.items targets.old.items (start_number condition at_line_begin) → OnOk result (IsExplored (spec_view spec.now) tree_of (leaves_view positions.now.leaves.items) positions.now.groups.representatives.items table.new.sets.items targets.new.items (start_number condition at_line_begin + 1)) }
+    ensures many { (tree_of : Regex → Unfolded) → ArePositionsOf (spec_view spec.now) tree_of positions.now → IsExplored (spec_view spec.now) tree_of (leaves_view positions.now.leaves.items) positions.now.groups.representatives.items table.old.sets.items targets.old.items (start_number condition at_line_begin) → IfErr result (λ e. e ≡ BuildFault.TooManySets → HasMoreSets (spec_view spec.now) (numbered tree_of 0 (spec_view spec.now).rules) limit) }
 {
     let Ok(active) = active_rules(alloc, spec, condition, at_line_begin) else {
         return Err(BuildFault::Memory);
     };
-    let Ok(first) = begin(alloc, &ground.parts, ground.total, &active) else {
+    let Ok(first) = begin(alloc, &positions.parts, positions.total, &active) else {
         return Err(BuildFault::Memory);
     };
-    let leaves = ground.leaves.as_slice();
-    let representatives = ground.groups.representatives.as_slice();
+    let leaves = positions.leaves.as_slice();
+    let representatives = positions.groups.representatives.as_slice();
     add_row(
         alloc,
         leaves,
@@ -181,7 +181,7 @@ fn add_start(
 // Adds the targets of a set, and gives the rule that it matches.
 fn add_set_row(
     alloc: Global,
-    ground: &Ground,
+    positions: &PositionTable,
     number: usize,
     table: &mut SetTable,
     targets: &mut Vec<Option<usize>>,
@@ -195,16 +195,16 @@ fn add_set_row(
     ensures more { OnOk result (length table.old.sets.items ≤ length table.new.sets.items) }
     ensures kept { OnOk result ((i : ℕ) → i < length table.old.sets.items → set_of table.new.sets.items i ≡ set_of table.old.sets.items i) }
     ensures few { IfErr result (λ e. e ≢ BuildFault.TooManyPositions) }
-    ensures matched { (spec : PlainSpec) (tree_of : Regex → Unfolded) → IsGroundOf spec tree_of ground.now → IfOk result (λ found. IsEarliestMatched (numbered tree_of 0 spec.rules) (set_of table.old.sets.items number) found) }
-    ensures explored { (spec : PlainSpec) (tree_of : Regex → Unfolded) → IsGroundOf spec tree_of ground.now → IsExplored spec tree_of (leaves_view ground.now.leaves.items) ground.now.groups.representatives.items table.old.sets.items targets.old.items (start_count spec + number) → OnOk result (IsExplored spec tree_of (leaves_view ground.now.leaves.items) ground.now.groups.representatives.items table.new.sets.items targets.new.items (start_count spec + number + 1)) }
-    ensures many { (spec : PlainSpec) (tree_of : Regex → Unfolded) → IsGroundOf spec tree_of ground.now → IsExplored spec tree_of (leaves_view ground.now.leaves.items) ground.now.groups.representatives.items table.old.sets.items targets.old.items (start_count spec + number) → IfErr result (λ e. e ≡ BuildFault.TooManySets → HasMoreSets spec (numbered tree_of 0 spec.rules) limit) }
+    ensures matched { (spec : PlainSpec) (tree_of : Regex → Unfolded) → ArePositionsOf spec tree_of positions.now → IfOk result (λ found. IsEarliestMatched (numbered tree_of 0 spec.rules) (set_of table.old.sets.items number) found) }
+    ensures explored { (spec : PlainSpec) (tree_of : Regex → Unfolded) → ArePositionsOf spec tree_of positions.now → IsExplored spec tree_of (leaves_view positions.now.leaves.items) positions.now.groups.representatives.items table.old.sets.items targets.old.items (start_count spec + number) → OnOk result (IsExplored spec tree_of (leaves_view positions.now.leaves.items) positions.now.groups.representatives.items table.new.sets.items targets.new.items (start_count spec + number + 1)) }
+    ensures many { (spec : PlainSpec) (tree_of : Regex → Unfolded) → ArePositionsOf spec tree_of positions.now → IsExplored spec tree_of (leaves_view positions.now.leaves.items) positions.now.groups.representatives.items table.old.sets.items targets.old.items (start_count spec + number) → IfErr result (λ e. e ≡ BuildFault.TooManySets → HasMoreSets spec (numbered tree_of 0 spec.rules) limit) }
 {
     let set = table.sets[number].as_slice();
-    let Ok(found) = follow(alloc, &ground.parts, ground.total, set) else {
+    let Ok(found) = follow(alloc, &positions.parts, positions.total, set) else {
         return Err(BuildFault::Memory);
     };
-    let leaves = ground.leaves.as_slice();
-    let representatives = ground.groups.representatives.as_slice();
+    let leaves = positions.leaves.as_slice();
+    let representatives = positions.groups.representatives.as_slice();
     add_row(
         alloc,
         leaves,
@@ -225,13 +225,13 @@ fn add_set_row(
 pub(crate) fn explore(
     alloc: Global,
     spec: &Spec,
-    ground: &Ground,
+    positions: &PositionTable,
     limit: usize,
 ) -> Result<Explored, BuildFault>
     ensures room { IfOk result (λ explored. length explored.table.sets.items ≤ limit) }
     ensures few { IfErr result (λ e. e ≢ BuildFault.TooManyPositions) }
-    ensures explored { (tree_of : Regex → Unfolded) → IsGroundOf (spec_view spec.now) tree_of ground.now → IfOk result (λ explored. AreStatesOf (spec_view spec.now) tree_of ground.now explored) }
-    ensures many { (tree_of : Regex → Unfolded) → IsGroundOf (spec_view spec.now) tree_of ground.now → IfErr result (λ e. e ≡ BuildFault.TooManySets → HasMoreSets (spec_view spec.now) (numbered tree_of 0 (spec_view spec.now).rules) limit) }
+    ensures explored { (tree_of : Regex → Unfolded) → ArePositionsOf (spec_view spec.now) tree_of positions.now → IfOk result (λ explored. AreStatesOf (spec_view spec.now) tree_of positions.now explored) }
+    ensures many { (tree_of : Regex → Unfolded) → ArePositionsOf (spec_view spec.now) tree_of positions.now → IfErr result (λ e. e ≡ BuildFault.TooManySets → HasMoreSets (spec_view spec.now) (numbered tree_of 0 (spec_view spec.now).rules) limit) }
 {
     let mut table = empty_table(alloc);
     let mut targets = Vec::new(alloc);
@@ -240,7 +240,7 @@ pub(crate) fn explore(
         add_start(
             alloc,
             spec,
-            ground,
+            positions,
             number,
             false,
             &mut table,
@@ -250,7 +250,7 @@ pub(crate) fn explore(
         add_start(
             alloc,
             spec,
-            ground,
+            positions,
             number,
             true,
             &mut table,
@@ -261,7 +261,7 @@ pub(crate) fn explore(
     let mut matched = Vec::new(alloc);
     'sets: while matched.len() < table.sets.len() {
         let number = matched.len();
-        let found = add_set_row(alloc, ground, number, &mut table, &mut targets, limit)?;
+        let found = add_set_row(alloc, positions, number, &mut table, &mut targets, limit)?;
         matched.push(found)?;
     }
     Ok(Explored {

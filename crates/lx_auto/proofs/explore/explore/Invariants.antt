@@ -5,15 +5,15 @@ use Rattle.lx_auto.specs.Unfolded.{Unfolded}
 use Rattle.lx_auto.specs.LeafViews.{leaves_view}
 use Rattle.lx_auto.specs.SetTable.{IsNumbering}
 use Rattle.lx_auto.specs.Exploring.{IsExplored, start_count}
-use Rattle.lx_auto.specs.Grounds.{IsGroundOf, AreMatchedBelow}
+use Rattle.lx_auto.specs.PositionTables.{ArePositionsOf, AreMatchedBelow}
 use Rattle.lx_auto.proofs.explore.explore.Given as goal
 
 abbrev pub invariant-starts : goal.invariant-starts
 invariant-starts l = record {
   numbering : IsNumbering l.table.sets.items l.table.numbers;
   room : length l.table.sets.items ≤ l.limit;
-  explored : (tree_of : Regex → Unfolded) → IsGroundOf (spec_view l.spec) tree_of l.ground →
-      IsExplored (spec_view l.spec) tree_of (leaves_view l.ground.leaves.items) l.ground.groups.representatives.items l.table.sets.items l.targets.items (2 * l.condition);
+  explored : (tree_of : Regex → Unfolded) → ArePositionsOf (spec_view l.spec) tree_of l.positions →
+      IsExplored (spec_view l.spec) tree_of (leaves_view l.positions.leaves.items) l.positions.groups.representatives.items l.table.sets.items l.targets.items (2 * l.condition);
 }
 
 abbrev pub invariant-sets : goal.invariant-sets
@@ -21,10 +21,10 @@ invariant-sets l = record {
   numbering : IsNumbering l.table.sets.items l.table.numbers;
   room : length l.table.sets.items ≤ l.limit;
   below : length l.matched.items ≤ length l.table.sets.items;
-  explored : (tree_of : Regex → Unfolded) → IsGroundOf (spec_view l.spec) tree_of l.ground →
-      IsExplored (spec_view l.spec) tree_of (leaves_view l.ground.leaves.items) l.ground.groups.representatives.items l.table.sets.items l.targets.items
+  explored : (tree_of : Regex → Unfolded) → ArePositionsOf (spec_view l.spec) tree_of l.positions →
+      IsExplored (spec_view l.spec) tree_of (leaves_view l.positions.leaves.items) l.positions.groups.representatives.items l.table.sets.items l.targets.items
       (start_count (spec_view l.spec) + length l.matched.items);
-  matched : (tree_of : Regex → Unfolded) → IsGroundOf (spec_view l.spec) tree_of l.ground →
+  matched : (tree_of : Regex → Unfolded) → ArePositionsOf (spec_view l.spec) tree_of l.positions →
       AreMatchedBelow (spec_view l.spec) tree_of l.table.sets.items l.matched.items (length l.matched.items);
 }
 

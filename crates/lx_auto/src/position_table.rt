@@ -7,7 +7,7 @@ use crate::rule_part::RulePart;
 
 /// The positions of all rules.
 #[derive(Drop)]
-pub(crate) struct Ground<'s> {
+pub(crate) struct PositionTable<'s> {
     pub(crate) parts: Vec<RulePart<'s>>,
     /// How many positions there are.
     pub(crate) total: usize,

@@ -2,12 +2,12 @@
 ghost use Rattle.std.specs.Prelude.{◌≡◌, ◌<◌, ◌≤◌, ◌⊎◌, IfOk, IfErr};
 ghost use Rattle.lx_spec.specs.views.Specs.{spec_view};
 ghost use Rattle.lx_auto.specs.Counts.{count_of_spec};
-ghost use Rattle.lx_auto.specs.Grounds.{IsGroundOf};
+ghost use Rattle.lx_auto.specs.PositionTables.{ArePositionsOf};
 ghost use Rattle.lx_auto.specs.Trimmed.{trimmed_pattern};
 
 use crate::arena::unfold_rules;
 use crate::fault::BuildFault;
-use crate::ground::Ground;
+use crate::position_table::PositionTable;
 use crate::groups::groups_of;
 use crate::leaf::leaves_of;
 use lx_spec::spec::Spec;
@@ -18,17 +18,17 @@ use std::alloc::Global;
 /// # Errors
 ///
 /// `TooManyPositions` where there are more than 16,384; `Memory`.
-pub(crate) fn ground_of<'s>(alloc: Global, spec: &'s Spec) -> Result<Ground<'s>, BuildFault>
+pub(crate) fn positions_of<'s>(alloc: Global, spec: &'s Spec) -> Result<PositionTable<'s>, BuildFault>
     ensures too_many { IfErr result (λ e. e ≡ BuildFault.TooManyPositions → 16384 < count_of_spec (spec_view spec.now)) }
     ensures memory { IfErr result (λ e. (e ≡ BuildFault.TooManyPositions) ⊎ (e ≡ BuildFault.Memory)) }
     ensures few { IfOk result (λ _. count_of_spec (spec_view spec.now) ≤ 16384) }
-    ensures stands { IfOk result (λ it. IsGroundOf (spec_view spec.now) (trimmed_pattern (spec_view spec.now).definitions) it) }
+    ensures stands { IfOk result (λ it. ArePositionsOf (spec_view spec.now) (trimmed_pattern (spec_view spec.now).definitions) it) }
 {
     let unfolded = unfold_rules(alloc, spec)?;
     let parts = unfolded.parts;
     let leaves = leaves_of(alloc, parts.as_slice())?;
     let groups = groups_of(alloc, leaves.as_slice())?;
-    Ok(Ground {
+    Ok(PositionTable {
         parts,
         total: unfolded.total,
         leaves,

@@ -11,13 +11,13 @@ use Rattle.lx_auto.specs.SetTable.{Positions, set_of}
 use Rattle.lx_auto.specs.Sets.{IsEarliestMatched}
 use Rattle.lx_auto.specs.Exploring.{IsExplored, start_count}
 use Rattle.lx_auto.specs.declared.explored.Explored.{Explored}
-use Rattle.lx_auto.specs.declared.ground.Ground.{Ground}
+use Rattle.lx_auto.specs.declared.position_table.PositionTable.{PositionTable}
 
 -- the parts, the leaves and the groups are those of the rules, whose expressions are what tree_of says
-pub record IsGroundOf (spec : PlainSpec) (tree_of : Regex → Unfolded) (ground : Ground) : Type 0 where
-  pub parts : ArePartsOf ground.parts.items (numbered tree_of 0 spec.rules) ground.total
-  pub leaves : AreLeavesOf (numbered tree_of 0 spec.rules) (leaves_view ground.leaves.items)
-  pub groups : AreGroupsOf (leaves_view ground.leaves.items) ground.groups.classes.items ground.groups.representatives.items
+pub record ArePositionsOf (spec : PlainSpec) (tree_of : Regex → Unfolded) (positions : PositionTable) : Type 0 where
+  pub parts : ArePartsOf positions.parts.items (numbered tree_of 0 spec.rules) positions.total
+  pub leaves : AreLeavesOf (numbered tree_of 0 spec.rules) (leaves_view positions.leaves.items)
+  pub groups : AreGroupsOf (leaves_view positions.leaves.items) positions.groups.classes.items positions.groups.representatives.items
 
 -- of the first n sets the earliest rule that each matches
 pub record AreMatchedBelow (spec : PlainSpec) (tree_of : Regex → Unfolded) (sets : List Positions) (matched : List (Option ℕ)) (n : ℕ) : Type 0 where
@@ -25,7 +25,7 @@ pub record AreMatchedBelow (spec : PlainSpec) (tree_of : Regex → Unfolded) (se
   pub each : (j : ℕ) → j < n → IsEarliestMatched (numbered tree_of 0 spec.rules) (set_of sets j) (slice_index_or matched j None)
 
 -- all sets are reached, the steps of all states are known, and the rule that each set matches
-pub record AreStatesOf (spec : PlainSpec) (tree_of : Regex → Unfolded) (ground : Ground) (explored : Explored) : Type 0 where
-  pub steps : IsExplored spec tree_of (leaves_view ground.leaves.items) ground.groups.representatives.items explored.table.sets.items explored.targets.items
+pub record AreStatesOf (spec : PlainSpec) (tree_of : Regex → Unfolded) (positions : PositionTable) (explored : Explored) : Type 0 where
+  pub steps : IsExplored spec tree_of (leaves_view positions.leaves.items) positions.groups.representatives.items explored.table.sets.items explored.targets.items
       (start_count spec + length explored.table.sets.items)
   pub matched : AreMatchedBelow spec tree_of explored.table.sets.items explored.matched.items (length explored.table.sets.items)

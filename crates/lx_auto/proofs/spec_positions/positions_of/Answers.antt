@@ -5,7 +5,7 @@ use Rattle.lx_auto.specs.Leaves.{AreGroupsOf}
 use Rattle.lx_auto.specs.PositionSets.{numbered}
 use Rattle.lx_auto.specs.RuleParts.{ArePartsOf}
 use Rattle.lx_auto.specs.Trimmed.{trimmed_pattern}
-use Rattle.lx_auto.proofs.grounding.ground_of.Goals as goal
+use Rattle.lx_auto.proofs.spec_positions.positions_of.Goals as goal
 
 pub returns-clause-stands : goal.returns-clause-stands
 returns-clause-stands c =
