@@ -1,6 +1,6 @@
 -- The position sets are the same over both forms of the expressions, so where there are too many over the one, there are over the other.
 use Rattle.std.proofs.Common.{◌≡◌, ◌≢◌, ℕ, zero, suc, ◌+◌, ◌<◌, ◌↔◌, inl, inr, Bool, true, false, List, [], ◌∷◌, ◌++◌, length, Some, refl, sym, ◌∙◌, ap, ap₂, subst, arith}
-use Rattle.std.specs.Prelude.{slice_get, slice_index_or, Contains}
+use Rattle.std.specs.Prelude.{slice_get, slice_index_or, Contains, All}
 use Rattle.lx_ere.specs.Regex.{Regex}
 use Rattle.lx_spec.specs.Plain.{PlainRule, PlainSpec}
 use Rattle.lx_auto.specs.Unfolded.{Unfolded, position_count, PositionWord, own_position}
@@ -108,7 +108,7 @@ record LeadTo (spec : PlainSpec) (rules : List NumberedRule) (sets : List (List 
   pub pairs : List StartAndWord
   pub count : length pairs ≡ length sets
   pub each : (i : ℕ) (x : StartAndWord) → slice_get pairs i ≡ Some x →
-      (i < length sets) × (x.condition < length spec.conditions) × IsSetOf spec rules x (slice_index_or sets i [])
+      (i < length sets) × (x.condition < length spec.conditions) × IsSetOf spec rules x (slice_index_or sets i []) × All (λ b. b < 256) x.word
 
 not_there : (i : ℕ) (x : StartAndWord) (pairs : List StartAndWord) → pairs ≡ [] → slice_get pairs i ≡ Some x → ⊥
 not_there zero x [] e h = absurd (cc)
@@ -127,11 +127,11 @@ one_pair spec rules set sets first rest = record {
 }
   where
     each : (i : ℕ) (x : StartAndWord) → slice_get (first.from ∷ rest.pairs) i ≡ Some x →
-        (i < length (set ∷ sets)) × (x.condition < length spec.conditions) × IsSetOf spec rules x (slice_index_or (set ∷ sets) i [])
+        (i < length (set ∷ sets)) × (x.condition < length spec.conditions) × IsSetOf spec rules x (slice_index_or (set ∷ sets) i []) × All (λ b. b < 256) x.word
     each zero x h =
         let is : first.from ≡ x = same_pair first.from x h in
-        ((omega arith), subst (λ y. y.condition < length spec.conditions) is first.start, subst (λ y. IsSetOf spec rules y set) is first.leads)
-    each (suc i) x h = let t = rest.each i x h in let l = t.0 in ((omega arith), t.1, t.2)
+        ((omega arith), subst (λ y. y.condition < length spec.conditions) is first.start, subst (λ y. IsSetOf spec rules y set) is first.leads, subst (λ y. All (λ b. b < 256) y.word) is first.bytes)
+    each (suc i) x h = let t = rest.each i x h in let l = t.0 in ((omega arith), t.1, t.2, t.3)
 
 pairs_to : (spec : PlainSpec) (rules : List NumberedRule) (sets : List (List ℕ)) → ((i : ℕ) → i < length sets → IsReachedSet spec rules (slice_index_or sets i []))
     → LeadTo spec rules sets
@@ -151,6 +151,7 @@ more_reached spec limit more =
       pairs = lead.pairs;
       count = lead.count ∙ more.count;
       starts = λ i x h. (lead.each i x h).1;
+      bytes = λ i x h. (lead.each i x h).3;
       filled = λ i x h.
           let t = lead.each i x h in
           let m = some_member (slice_index_or more.sets i []) (more.reached i t.0).some in

@@ -4,6 +4,7 @@ use Rattle.std.specs.Prelude.{slice_get, slice_index, Contains}
 use Rattle.std.proofs.lemmas.Bool.{cases_lt}
 use Rattle.std.proofs.lemmas.Grind.{common_steps}
 use Rattle.std.proofs.Math.Seq.{get_or-append_seam}
+use Rattle.std.proofs.lemmas.List.Elements.{All-nil, All-push}
 use Rattle.lx_ere.specs.Regex.{Regex}
 use Rattle.lx_spec.specs.Plain.{PlainRule, PlainSpec}
 use Rattle.lx_auto.specs.Unfolded.{Unfolded, position_count}
@@ -91,11 +92,12 @@ some_member (x ∷ S) ne = (x, contains_head x S)
 module _ (spec : PlainSpec) (tree_of : Regex → Unfolded) (leaves : List PlainLeaf)
     (of : AreLeavesOf (numbered tree_of 0 spec.rules) leaves) where
   -- from a start
-  pub reached_first : (c : ℕ) (begin : Bool) (b : ℕ) (F : List ℕ) → c < length spec.conditions → AreFirst spec (numbered tree_of 0 spec.rules) c begin F →
+  pub reached_first : (c : ℕ) (begin : Bool) (b : ℕ) (F : List ℕ) → c < length spec.conditions → b < 256 → AreFirst spec (numbered tree_of 0 spec.rules) c begin F →
       having leaves b F ≢ [] → IsReachedSet spec (numbered tree_of 0 spec.rules) (having leaves b F)
-  reached_first c begin b F start first ne = record {
+  reached_first c begin b F start byte first ne = record {
     from = record { condition = c; begin = begin; word = b ∷ [] };
     start = start;
+    bytes = All-push (λ x. x < 256) [] b (All-nil (λ x. x < 256)) byte;
     leads = λ q.
         let step = first_set spec tree_of 0 spec.rules c begin b q in
         let m = having_means leaves b F q in (
@@ -107,11 +109,12 @@ module _ (spec : PlainSpec) (tree_of : Regex → Unfolded) (leaves : List PlainL
   }
 
   -- from a set
-  pub reached_next : (S : List ℕ) (b : ℕ) (F : List ℕ) → IsReachedSet spec (numbered tree_of 0 spec.rules) S → AreFollowing (numbered tree_of 0 spec.rules) S F →
+  pub reached_next : (S : List ℕ) (b : ℕ) (F : List ℕ) → b < 256 → IsReachedSet spec (numbered tree_of 0 spec.rules) S → AreFollowing (numbered tree_of 0 spec.rules) S F →
       having leaves b F ≢ [] → IsReachedSet spec (numbered tree_of 0 spec.rules) (having leaves b F)
-  reached_next S b F reached next ne = record {
+  reached_next S b F byte reached next ne = record {
     from = record { condition = reached.from.condition; begin = reached.from.begin; word = reached.from.word ++ b ∷ [] };
     start = reached.start;
+    bytes = All-push (λ x. x < 256) reached.from.word b reached.bytes byte;
     leads = λ q.
         let step = next_set spec tree_of 0 spec.rules reached.from.condition reached.from.begin reached.from.word S b q some_word reached.leads in
         let m = having_means leaves b F q in (
@@ -129,11 +132,11 @@ module _ (spec : PlainSpec) (tree_of : Regex → Unfolded) (leaves : List PlainL
           (subst (λ w. CanHaveReadLast spec (numbered tree_of 0 spec.rules) reached.from.condition reached.from.begin w q.0) e ((reached.leads q.0).0 q.1))
 
   -- from either
-  pub reached_from : (sets : List Positions) (i b : ℕ) (F : List ℕ) → AreReachedSets spec (numbered tree_of 0 spec.rules) sets →
+  pub reached_from : (sets : List Positions) (i b : ℕ) (F : List ℕ) → b < 256 → AreReachedSets spec (numbered tree_of 0 spec.rules) sets →
       IsSource spec (numbered tree_of 0 spec.rules) sets i F → having leaves b F ≢ [] → IsReachedSet spec (numbered tree_of 0 spec.rules) (having leaves b F)
-  reached_from sets i b F are source ne = elim source [
-    | inl s ↦ reached_first s.0 s.1 b F s.2 s.4 ne
-    | inr s ↦ reached_next (set_of sets s.0) b F (are.reached s.0 s.1) s.3 ne
+  reached_from sets i b F byte are source ne = elim source [
+    | inl s ↦ reached_first s.0 s.1 b F s.2 byte s.4 ne
+    | inr s ↦ reached_next (set_of sets s.0) b F byte (are.reached s.0 s.1) s.3 ne
   ]
 
 -- the table goes on with a reached set

@@ -1,5 +1,5 @@
 -- What is known while position sets are reached one after the other (Rabin and Scott 1959: the subset construction).
-use Rattle.std.specs.Prelude.{◌≡◌, ◌≢◌, ℕ, ◌+◌, ◌*◌, ◌<◌, ◌⊎◌, Bool, true, false, List, [], ◌∷◌, ◌++◌, length, filter, slice_index, slice_index_or, Option, None}
+use Rattle.std.specs.Prelude.{◌≡◌, ◌≢◌, ℕ, ◌+◌, ◌*◌, ◌<◌, ◌⊎◌, Bool, true, false, List, [], ◌∷◌, ◌++◌, length, filter, slice_index, slice_index_or, Option, None, All}
 use Rattle.lx_ere.specs.Regex.{Regex}
 use Rattle.lx_spec.specs.Plain.{PlainSpec}
 use Rattle.lx_auto.specs.Unfolded.{Unfolded}
@@ -13,10 +13,11 @@ use Rattle.lx_auto.specs.SetTable.{Positions, set_of, IsTarget}
 abbrev pub having : List PlainLeaf → ℕ → List ℕ → List ℕ
 having leaves b F = filter (λ q. has_byte leaves q b) F
 
--- a rising set that isn't empty, and that some word leads to from a start
+-- a rising set that isn't empty, and that some word of bytes leads to from a start
 pub record IsReachedSet (spec : PlainSpec) (rules : List NumberedRule) (S : List ℕ) : Type 0 where
   pub from : StartAndWord
   pub start : from.condition < length spec.conditions
+  pub bytes : All (λ b. b < 256) from.word
   pub leads : IsSetOf spec rules from S
   pub rising : IsRising S
   pub some : S ≢ []

@@ -1,5 +1,5 @@
 -- The position sets of the starts and words of a specification: from each, the positions that can have matched the last byte.
-use Rattle.std.specs.Prelude.{◌≡◌, ◌≢◌, ℕ, ◌+◌, ◌<◌, ◌⊎◌, ◌↔◌, Bool, true, false, IsTrue, List, [], ◌∷◌, ◌++◌, length, slice_get, Some}
+use Rattle.std.specs.Prelude.{◌≡◌, ◌≢◌, ℕ, ◌+◌, ◌<◌, ◌⊎◌, ◌↔◌, Bool, true, false, IsTrue, List, [], ◌∷◌, ◌++◌, length, slice_get, Some, All}
 use Rattle.lx_ere.specs.Regex.{Regex}
 use Rattle.lx_spec.specs.Plain.{PlainRule, PlainSpec}
 use Rattle.lx_auto.specs.Unfolded.{Unfolded, position_count, PositionWord}
@@ -76,6 +76,7 @@ pub record ReachesMoreThan (spec : PlainSpec) (rules : List NumberedRule) (n : �
   pub pairs : List StartAndWord
   pub count : length pairs ≡ n + 1
   pub starts : (i : ℕ) (x : StartAndWord) → slice_get pairs i ≡ Some x → x.condition < length spec.conditions
+  pub bytes : (i : ℕ) (x : StartAndWord) → slice_get pairs i ≡ Some x → All (λ b. b < 256) x.word
   pub filled : (i : ℕ) (x : StartAndWord) → slice_get pairs i ≡ Some x → (q : ℕ) × InPositionSet spec rules x q
   pub apart : (i j : ℕ) (x y : StartAndWord) → i < j → slice_get pairs i ≡ Some x → slice_get pairs j ≡ Some y → HaveSameSet spec rules x y → ⊥
 

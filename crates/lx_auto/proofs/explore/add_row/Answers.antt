@@ -1,4 +1,4 @@
-use Rattle.std.proofs.Common.{◌≡◌, ◌+◌, ◌*◌, ◌∷◌, [], length, sym, ◌∙◌, ap, subst, arith}
+use Rattle.std.proofs.Common.{◌≡◌, ◌+◌, ◌*◌, ◌<◌, slice_index, ◌∷◌, [], length, sym, ◌∙◌, ap, subst, arith}
 use Rattle.lx_auto.specs.LeafViews.{leaves_view}
 use Rattle.lx_auto.specs.PositionSets.{numbered}
 use Rattle.lx_auto.specs.Exploring.{HaveSteps}
@@ -19,6 +19,7 @@ loop-class-preserved c =
     let inv = c.loop-class.invariant in
     let more = e.goes_on.more in
     let before = inv.more in
+    let byte : slice_index reps i < 256 = (let f = c.type_inv.representatives i in omega arith) in
     record {
       numbering = e.numbering;
       room = e.room;
@@ -28,7 +29,7 @@ loop-class-preserved c =
       source = λ spec tree_of state row. source_kept spec (numbered tree_of 0 spec.rules) old new _ from state e.goes_on (inv.source spec tree_of state row);
       reached = λ spec tree_of state row.
           reached_added spec (numbered tree_of 0 spec.rules) old new _ (inv.reached spec tree_of state row) e.goes_on
-          (λ ne. reached_from spec tree_of leaves row.leaves_of old state _ from (inv.reached spec tree_of state row) (inv.source spec tree_of state row) ne)
+          (λ ne. reached_from spec tree_of leaves row.leaves_of old state _ from byte (inv.reached spec tree_of state row) (inv.source spec tree_of state row) ne)
           e.fresh;
       steps = λ spec tree_of state row.
           let rules = numbered tree_of 0 spec.rules in
@@ -45,9 +46,10 @@ returns-in_err-add_target-clause-many c = λ spec tree_of state row.
     let leaves = leaves_view c.args.leaves.now in
     let old = c.loop-class.table.sets.items in
     let inv = c.loop-class.invariant in
+    let byte : slice_index c.args.representatives.now c.loop-class.class < 256 = (let f = c.type_inv.representatives c.loop-class.class in omega arith) in
     let p = err_from_is_err_and c.from_residual.result c.from_residual.ensures.1 in
     rw (p.1, p.2) (λ is.
     let many = c.in_err-add_target.ensures.many is in
     more_sets spec rules old _ c.args.limit (inv.reached spec tree_of state row)
-    (reached_from spec tree_of leaves row.leaves_of old state _ c.args.from.now (inv.reached spec tree_of state row) (inv.source spec tree_of state row) many.1)
+    (reached_from spec tree_of leaves row.leaves_of old state _ c.args.from.now byte (inv.reached spec tree_of state row) (inv.source spec tree_of state row) many.1)
     many.0 many.2)
