@@ -13,3 +13,4 @@ pub mod ReadLemmas
 pub mod EndLemmas
 pub mod EndThere
 pub mod ReachLemmas
+pub mod OrderedBounds

@@ -1,6 +1,7 @@
 pub mod Bytes
 pub mod Regex
 pub mod Matching
+pub mod Bounds
 pub mod Grammar
 pub mod Stacks
 pub mod Escapes

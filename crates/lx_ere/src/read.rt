@@ -1,7 +1,8 @@
 //! Patterns and substitutes, read from left to right once (POSIX.1-2017, XCU `lex`, "Regular Expressions in lex", "Definitions in lex").
 
-ghost use Rattle.std.specs.Prelude.{◌≡◌, ◌++◌, IfOk, Err, List, length, ℕ};
+ghost use Rattle.std.specs.Prelude.{◌≡◌, ◌++◌, IfOk, Err, IsTrue, List, length, ℕ};
 ghost use Rattle.lx_ere.specs.Regex.{Regex, Reading, regex_of, reading_of};
+ghost use Rattle.lx_ere.specs.Bounds.{has_ordered_bounds};
 ghost use Rattle.lx_ere.specs.Grammar.{Lexeme, IsAlternation};
 ghost use Rattle.lx_ere.specs.Brackets.{begins_with};
 ghost use Rattle.lx_ere.specs.Spelling.{Spells, Lexes};
@@ -123,6 +124,12 @@ pub fn one_reading()
 /// A law: a text has at most one reading as a substitute.
 pub fn one_substitute()
     ensures { (text : List ℕ) (r s : Regex) → IsSubstitute text r → IsSubstitute text s → r ≡ s }
+{}
+
+/// A law: in each interval of what a text reads as, the low bound is at most the high one (XBD 9.4.6).
+pub fn bounds_are_ordered()
+    ensures patterns { (text : List ℕ) (r : Reading) → IsPattern text r → IsTrue (has_ordered_bounds r.tree) }
+    ensures substitutes { (text : List ℕ) (tree : Regex) → IsSubstitute text tree → IsTrue (has_ordered_bounds tree) }
 {}
 
 /// A law: a text that has a reading as a pattern has no space or tab outside quotes, brackets and escapes, so it ends where `pattern_end` says.

@@ -17,6 +17,7 @@ pub mod Nested
 pub mod Numbers
 pub mod OneSpec
 pub mod OneVerdict
+pub mod OrderedTrees
 pub mod Ranges
 pub mod Reached
 pub mod Reading

@@ -2,6 +2,8 @@
 use Rattle.std.specs.Prelude.{ℕ, ◌+◌, ◌<◌, ◌≤◌, Bool, true, false, not, ◌&&◌, nat_lt, nat_eq, if◌then◌else◌, List, [], ◌∷◌, length, map, Option, Some, None, IsTrue}
 use Rattle.std.specs.List.{list_all, list_any, flat_map}
 use Rattle.std.specs.Cmp.Lexicographic.{pointwise}
+use Rattle.lx_ere.specs.Regex.{Regex}
+use Rattle.lx_ere.specs.Bounds.{has_ordered_bounds}
 use Rattle.lx_spec.specs.Plain.{StartCondition, PlainDefinition, PlainRule, PlainSpec}
 use Rattle.lx_spec.specs.Bytes.{is_identifier}
 use Rattle.lx_spec.specs.Nesting.{are_nested, expressions_of}
@@ -40,6 +42,10 @@ pub record AreWellFormed (sections : ParsedSections) : Type 0 where
 -- no two definitions have the same name
 unfoldable pub are_definitions : List PlainDefinition → Bool
 are_definitions definitions = are_distinct (map (λ d. d.name) definitions)
+
+-- in each interval of the definitions and of the other expressions the low bound is at most the high one
+unfoldable pub are_ordered : List PlainDefinition → List Regex → Bool
+are_ordered definitions trees = list_all (λ d. has_ordered_bounds d.tree) definitions && list_all has_ordered_bounds trees
 
 -- the kind is one of so many identifiers, or a number below 2 ^ 31
 abbrev pub is_kind : ℕ → Kind → Bool
@@ -90,8 +96,8 @@ unfoldable pub are_kinds : List (List ℕ) → List PlainRule → Bool
 are_kinds kinds rules =
     list_all is_identifier kinds && (are_distinct kinds && is_number (length kinds) (next_number 0 (flat_map (λ r. returned_names r.steps) rules)))
 
--- What every specification keeps: the limits, INITIAL first, distinct names, names that are defined and at most 32 deep, kinds in
--- order of first appearance, and rules that name conditions and kinds that are there.
+-- What every specification keeps: the limits, INITIAL first, distinct names, names that are defined and at most 32 deep, intervals
+-- with bounds in order, kinds in order of first appearance, and rules that name conditions and kinds that are there.
 pub record IsWellFormed (spec : PlainSpec) : Type 0 where
   pub some_conditions : 0 < length spec.conditions
   pub few_conditions : length spec.conditions ≤ 64
@@ -100,5 +106,6 @@ pub record IsWellFormed (spec : PlainSpec) : Type 0 where
   pub initial_first : IsTrue (are_start_conditions spec.conditions)
   pub distinct : IsTrue (are_definitions spec.definitions)
   pub nested : IsTrue (are_nested spec.definitions (expressions_of spec.rules))
+  pub ordered : IsTrue (are_ordered spec.definitions (expressions_of spec.rules))
   pub kinds_in_order : IsTrue (are_kinds spec.kinds spec.rules)
   pub rules_in_range : IsTrue (list_all (is_rule (length spec.conditions) (length spec.kinds)) spec.rules)

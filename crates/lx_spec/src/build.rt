@@ -28,6 +28,7 @@ use crate::resolved_rule::{ResolvedRule, number_or_first};
 use crate::returned_value::Value;
 use crate::rule::{Kind, Rule, Step};
 use crate::spec::Spec;
+use lx_ere::read::bounds_are_ordered;
 use std::alloc::{AllocError, Global};
 
 // What some statements return.
@@ -242,6 +243,7 @@ pub(crate) fn spec_of(
     requires clean { HoldsOfNone (Holds (symbols_of (sections_view sections.now) (trees_view dictionary.trees.items))) (cases (map raw_rule_view sections.now.rules.items)) }
     ensures { IfOk result (λ s. AreSpec (symbols_of (sections_view sections.now) (trees_view dictionary.trees.items)) (map raw_rule_view sections.now.rules.items) (map resolved_view resolved.entry.items) (spec_view s)) }
 {
+    bounds_are_ordered();
     let kinds = kinds_of(alloc, &resolved)?;
     let definitions = definitions_of(alloc, index, dictionary, &resolved)?;
     let rules = rules_of(

@@ -2,7 +2,7 @@
 ghost use Rattle.std.specs.Prelude.{◌<◌, ◌≤◌, length, map, IsTrue};
 ghost use Rattle.std.specs.List.{list_all};
 ghost use Rattle.lx_spec.specs.views.Conditions.{condition_view};
-ghost use Rattle.lx_spec.specs.Invariant.{are_start_conditions, are_definitions, are_kinds, is_rule};
+ghost use Rattle.lx_spec.specs.Invariant.{are_start_conditions, are_definitions, are_ordered, are_kinds, is_rule};
 ghost use Rattle.lx_spec.specs.Nesting.{are_nested, expressions_of};
 ghost use Rattle.lx_spec.specs.views.Rules.{rule_view, definition_view, names_view};
 
@@ -11,7 +11,8 @@ use crate::definition::Definition;
 use crate::rule::Rule;
 
 /// A specification. Its ghost fields say what every value keeps: the limits, INITIAL first, names that are distinct, kinds in
-/// order of first appearance, numbers in range, a return last, and names defined and nested at most 32 deep.
+/// order of first appearance, numbers in range, a return last, names defined and nested at most 32 deep, and the low bound of each
+/// interval at most its high one.
 #[derive(Drop)]
 pub struct Spec {
     /// `INITIAL`, and then the conditions in the order in which they are declared: at most 64.
@@ -27,6 +28,7 @@ pub struct Spec {
     pub ghost initial_first: { IsTrue (are_start_conditions (map condition_view conditions.items)) },
     pub ghost distinct: { IsTrue (are_definitions (map definition_view definitions.items)) },
     pub ghost nested: { IsTrue (are_nested (map definition_view definitions.items) (expressions_of (map rule_view rules.items))) },
+    pub ghost ordered: { IsTrue (are_ordered (map definition_view definitions.items) (expressions_of (map rule_view rules.items))) },
     pub ghost kinds_in_order: { IsTrue (are_kinds (names_view kinds.items) (map rule_view rules.items)) },
     pub ghost few_definitions: { length definitions.items ≤ 1024 },
     pub ghost few_rules: { length rules.items ≤ 4096 },

@@ -3,7 +3,7 @@ use Rattle.std.specs.Prelude.{IsTrue}
 use Rattle.std.proofs.lemmas.List.{length-map}
 use Rattle.lx_ere.specs.Regex.{Regex}
 use Rattle.lx_spec.specs.Plain.{StartCondition}
-use Rattle.lx_spec.specs.Invariant.{are_start_conditions}
+use Rattle.lx_spec.specs.Invariant.{are_start_conditions, are_ordered}
 use Rattle.lx_spec.specs.Nesting.{are_nested}
 use Rattle.lx_spec.specs.Outcome.{AreReached, IsReached, patterns_in, rules_of, kinds_of}
 use Rattle.lx_spec.specs.views.Conditions.{condition_view}
@@ -19,6 +19,7 @@ use Rattle.lx_spec.specs.declared.parsed_sections.RawRule.{RawRule}
 use Rattle.lx_spec.proofs.Listed.{resolved-length}
 use Rattle.lx_spec.proofs.Ranges.{rules-in-range, rules-length, kinds-are, same-expressions, definitions-distinct}
 use Rattle.lx_spec.proofs.Nested.{nested}
+use Rattle.lx_spec.proofs.OrderedTrees.{ordered}
 use Rattle.lx_spec.proofs.Reached.{reached-readable}
 use Rattle.lx_spec.proofs.build.spec_of.Goals as goal
 
@@ -78,14 +79,16 @@ invariant_of-result c =
     let start_conditions-count : length sections.start_conditions ≡ length c.args.sections.now.start_conditions.items = length-map c.args.sections.now.start_conditions.items start_condition_view in
     let rules-count : length c.in_ok-rules.rules.items ≡ length sections.rules =
     sym (length-map c.in_ok-rules.rules.items rule_view) ∙ ap length (rules-are c) ∙ rules-length sections.start_conditions (kinds_of resolved) sections.rules resolved c.requires.resolves in
+    let expressions = sym (same-expressions sections.start_conditions (kinds_of resolved) sections.rules resolved (map rule_view c.in_ok-rules.rules.items) c.requires.resolves (rules-are c)) in
     let raws-count : length sections.rules ≡ length c.args.sections.now.rules.items = length-map c.args.sections.now.rules.items raw_rule_view in
     record {
       some_conditions = omega (arith, count, start_conditions-count, some);
       few_conditions = omega (arith, count, start_conditions-count, few);
       initial_first = subst (λ (l : List StartCondition). IsTrue (are_start_conditions l)) (sym (conditions-are c)) c.requires.sections.start_conditions;
       distinct = definitions-distinct (IsReached table.definitions table.trees (patterns_in resolved)) 0 table.definitions table.trees definitions (definitions-are c) c.requires.sections.definitions;
-      nested = subst (λ (l : List Regex). IsTrue (are_nested definitions l)) (sym (same-expressions sections.start_conditions (kinds_of resolved) sections.rules resolved (map rule_view c.in_ok-rules.rules.items) c.requires.resolves (rules-are c)))
-          (nested table sections.rules resolved definitions c.requires.clean c.requires.resolves (definitions-are c));
+      nested = subst (λ (l : List Regex). IsTrue (are_nested definitions l)) expressions (nested table sections.rules resolved definitions c.requires.clean c.requires.resolves (definitions-are c));
+      ordered = subst (λ (l : List Regex). IsTrue (are_ordered definitions l)) expressions
+          (ordered c.bounds_are_ordered.ensures.patterns c.bounds_are_ordered.ensures.substitutes (IsReached table.definitions table.trees (patterns_in resolved)) sections.start_conditions table.definitions table.trees definitions sections.rules resolved c.requires.dictionary.trees (definitions-are c) c.requires.resolves);
       kinds_in_order = kinds-are sections.start_conditions sections.rules c.args.resolved.items (names_view c.in_ok-kinds.kinds.kinds.items) (map rule_view c.in_ok-rules.rules.items) (sym same) (kinds-are-those c) (rules-are c);
       few_definitions = omega (arith, c.in_ok-definitions.ensures.few, ap length c.requires.index, few-names);
       few_rules = omega (arith, rules-count, raws-count, few-rules);

@@ -18,6 +18,7 @@ returns c = λ spec.
       initial_first = spec.initial_first;
       distinct = spec.distinct;
       nested = spec.nested;
+      ordered = spec.ordered;
       kinds_in_order = spec.kinds_in_order;
       rules_in_range = spec.rules_in_range;
     }
