@@ -23,7 +23,7 @@ use Rattle.lx_auto.proofs.Membership.{contains_nil}
 use Rattle.lx_auto.proofs.Reached.{having_means}
 use Rattle.lx_auto.proofs.SetStepped.{nothing_read, first_set, next_set}
 
-start_below : (c : ℕ) (begin : Bool) (n : ℕ) → c < n → start_number c begin < 2 * n
+pub start_below : (c : ℕ) (begin : Bool) (n : ℕ) → c < n → start_number c begin < 2 * n
 start_below c false n h = omega arith
 start_below c true n h = omega arith
 

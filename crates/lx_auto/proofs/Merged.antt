@@ -5,7 +5,7 @@ use Rattle.std.proofs.lemmas.List.{get_or_append_left, get_or_push, length_push,
 use Rattle.std.proofs.lemmas.List.Elements.{All-head, All-tail}
 use Rattle.std.proofs.lemmas.Map.Steps.{length-le_from_distinct_below}
 use Rattle.std.proofs.lemmas.Map.Keys.{IsDistinct-from_apart}
-use Rattle.lx_auto.specs.Automata.{Machine, IsMachine, StepsAlike, state_count, start_of, target_of, answer_from}
+use Rattle.lx_auto.specs.Automata.{Machine, IsMachine, StepsAlike, state_count, start_of, target_of, answer_from, answer}
 use Rattle.lx_auto.specs.Equivalence.{AnswerAlike, IsLeast, HasLiveSteps}
 use Rattle.lx_auto.specs.Automata.{HasByteClasses}
 use Rattle.lx_auto.specs.Words.{machine_of}
@@ -35,15 +35,16 @@ module _ (q r : Machine) (is : IsMachine q) (alike : StepsAlike q r) where
       onwards v same None f = refl
       onwards v same (Some t) f = same t (f t refl)
 
-  pub kept_answers : (a : Machine) → length q.starts ≡ length a.starts → AnswerAlike a q → AnswerAlike a r
-  kept_answers a e old = record {
-    answers = λ c begin v h all.
-        ap (λ s. answer_from r s v) (same_start c begin) ∙ same_answer v (start_of q c begin) (is.starts c begin (omega arith)) all ∙ old.answers c begin v h all;
-  }
+  -- the answers from the starts
+  pub same_answers : (c : ℕ) (begin : Bool) (v : List ℕ) → c < length q.starts → All (λ b. b < 256) v → answer r c begin v ≡ answer q c begin v
+  same_answers c begin v h all = ap (λ s. answer_from r s v) (same_start begin) ∙ same_answer v (start_of q c begin) (is.starts c begin h) all
     where
-      same_start : (c : ℕ) (begin : Bool) → start_of r c begin ≡ start_of q c begin
-      same_start c true = ap (λ (xs : List (ℕ × ℕ)). (slice_index_or xs c (0, 0)).1) alike.starts
-      same_start c false = ap (λ (xs : List (ℕ × ℕ)). (slice_index_or xs c (0, 0)).0) alike.starts
+      same_start : (begin : Bool) → start_of r c begin ≡ start_of q c begin
+      same_start true = ap (λ (xs : List (ℕ × ℕ)). (slice_index_or xs c (0, 0)).1) alike.starts
+      same_start false = ap (λ (xs : List (ℕ × ℕ)). (slice_index_or xs c (0, 0)).0) alike.starts
+
+  pub kept_answers : (a : Machine) → length q.starts ≡ length a.starts → AnswerAlike a q → AnswerAlike a r
+  kept_answers a e old = record { answers = λ c begin v h all. same_answers c begin v (omega arith) all ∙ old.answers c begin v h all }
 
   pub kept_told : IsLeast q → IsLeast r
   kept_told old = record {

@@ -5,6 +5,8 @@ use Rattle.std.specs.List.{list_all, list_any}
 use Rattle.std.specs.Cmp.Lexicographic.{pointwise}
 use Rattle.std.proofs.lemmas.Bool.{false≢true}
 use Rattle.std.proofs.lemmas.Slice.Eq.{bytes_eq-Decides}
+use Rattle.std.proofs.lemmas.Bool.{leb-true}
+use Rattle.lx_ere.specs.Bounds.{is_ordered, has_ordered_bounds}
 use Rattle.lx_ere.specs.Regex.{Regex, nil, one_of, then, or, times, named}
 use Rattle.lx_ere.specs.Matching.{Splits, Repeats, RepeatsBetween, Matches}
 use Rattle.lx_spec.specs.Invariant.{are_distinct, are_definitions}
@@ -14,15 +16,6 @@ use Rattle.lx_spec.specs.Plain.{PlainDefinition}
 use Rattle.lx_auto.specs.Unfolded.{Unfolded, cat, alt, opt, plus, position_count, Joined, ByteWord}
 use Rattle.lx_auto.specs.WrittenOut.{counted, unbounded, repeated, written_out, written_if_defined, name_written_out, pattern_written_out}
 use Rattle.lx_auto.proofs.Appending.{and-left, and-right, all-left, all-right}
-
--- each high bound is at least its low one
-abbrev pub HasOrderedBounds : Regex → Type 0
-HasOrderedBounds nil = Unit {0}
-HasOrderedBounds (one_of s) = Unit {0}
-HasOrderedBounds (then a b) = HasOrderedBounds a × HasOrderedBounds b
-HasOrderedBounds (or a b) = HasOrderedBounds a × HasOrderedBounds b
-HasOrderedBounds (times body low high) = IfSome high (λ most. low ≤ most) × HasOrderedBounds body
-HasOrderedBounds (named name) = Unit {0}
 
 -- two languages with the same words, at each place
 pub record AreWords (P : List ℕ → Type 0) (r : Unfolded) : Type 0 where
@@ -92,6 +85,10 @@ any-back P r x k w t = elim t [
   | inr u ↦ (suc u.0, joined-back P r x (suc u.0) k w u.1)
 ]
 
+bounds-low : (low : ℕ) (high : Option ℕ) → IsTrue (is_ordered low high) → IfSome high (λ most. low ≤ most)
+bounds-low low (Some high) h = leb-true low high h
+bounds-low low None h = tt
+
 words-times : (P : List ℕ → Type 0) (r : Unfolded) (low : ℕ) (high : Option ℕ) → IfSome high (λ most. low ≤ most) → AreWords P r → AreWords (RepeatsBetween P low high) (repeated r low high)
 words-times P r low (Some high) o x = record {
   into = λ k w t. counted-into P r x low high t.0 k w t.1 t.2 t.3;
@@ -108,14 +105,14 @@ words-times P r (suc low) None o x = record {
 
 -- an expression, where its names have the same words
 words-tree : (N : List ℕ → List ℕ → Type 0) (f : List ℕ → Unfolded) (good : List ℕ → Bool) → ((name : List ℕ) → IsTrue (good name) → AreWords (N name) (f name)) → (tree : Regex)
-    → HasOrderedBounds tree → IsTrue (list_all good (names_of tree)) → AreWords (Matches N tree) (written_out f tree)
+    → IsTrue (has_ordered_bounds tree) → IsTrue (list_all good (names_of tree)) → AreWords (Matches N tree) (written_out f tree)
 words-tree N f good h nil o w = record { into = λ k v t. t; back = λ k v t. t }
 words-tree N f good h (one_of s) o w = record { into = λ k v t. t; back = λ k v t. t }
 words-tree N f good h (then a b) o w =
-    words-then (Matches N a) (Matches N b) (written_out f a) (written_out f b) (words-tree N f good h a o.0 (all-left good (names_of a) (names_of b) w)) (words-tree N f good h b o.1 (all-right good (names_of a) (names_of b) w))
+    words-then (Matches N a) (Matches N b) (written_out f a) (written_out f b) (words-tree N f good h a (and-left (has_ordered_bounds a) (has_ordered_bounds b) o) (all-left good (names_of a) (names_of b) w)) (words-tree N f good h b (and-right (has_ordered_bounds a) (has_ordered_bounds b) o) (all-right good (names_of a) (names_of b) w))
 words-tree N f good h (or a b) o w =
-    words-or (Matches N a) (Matches N b) (written_out f a) (written_out f b) (words-tree N f good h a o.0 (all-left good (names_of a) (names_of b) w)) (words-tree N f good h b o.1 (all-right good (names_of a) (names_of b) w))
-words-tree N f good h (times body low high) o w = words-times (Matches N body) (written_out f body) low high o.0 (words-tree N f good h body o.1 w)
+    words-or (Matches N a) (Matches N b) (written_out f a) (written_out f b) (words-tree N f good h a (and-left (has_ordered_bounds a) (has_ordered_bounds b) o) (all-left good (names_of a) (names_of b) w)) (words-tree N f good h b (and-right (has_ordered_bounds a) (has_ordered_bounds b) o) (all-right good (names_of a) (names_of b) w))
+words-tree N f good h (times body low high) o w = words-times (Matches N body) (written_out f body) low high (bounds-low low high (and-left (is_ordered low high) (has_ordered_bounds body) o)) (words-tree N f good h body (and-right (is_ordered low high) (has_ordered_bounds body) o) w)
 words-tree N f good h (named name) o w = let x = h name (and-left (good name) true w) in record { into = λ k v t. x.into k v t; back = λ k v t. x.back k v t }
 
 -- a definition of the list is the first with its name, where no two have the same name
@@ -147,7 +144,7 @@ first-defined (x ∷ xs) name (suc i) d w at is = by (pointwise nat_eq x.name na
       let any : others ≡ true = one-of_them xs x.name i d at ((bytes_eq-Decides d.name x.name).1 same) in
       absurd (false≢true (ap not (sym any) ∙ and-left (not others) (are_distinct (map (λ y. y.name) xs)) w))
 
-some-defined : (ds : List PlainDefinition) (name : List ℕ) (t : Regex) → tree_named ds name ≡ Some t → (d : PlainDefinition) × Defines ds name d × (d.tree ≡ t)
+pub some-defined : (ds : List PlainDefinition) (name : List ℕ) (t : Regex) → tree_named ds name ≡ Some t → (d : PlainDefinition) × Defines ds name d × (d.tree ≡ t)
 some-defined [] name t e = absurd (let f : None ≡ Some t = e in cc)
 some-defined (x ∷ xs) name t e = by (pointwise nat_eq x.name name) refl e (some-defined xs name t) where
   by : (b : Bool) → pointwise nat_eq x.name name ≡ b → cond b (Some x.tree) (tree_named xs name) ≡ Some t → (tree_named xs name ≡ Some t → (d : PlainDefinition) × Defines xs name d × (d.tree ≡ t))
@@ -155,13 +152,13 @@ some-defined (x ∷ xs) name t e = by (pointwise nat_eq x.name name) refl e (som
   by true q h f = (x, record { place = 0; at = refl; is = (bytes_eq-Decides x.name name).0 q }, (let g : Some x.tree ≡ Some t = h in cc))
   by false q h f = let r = f h in (r.0, record { place = suc r.1.place; at = r.1.at; is = r.1.is }, r.2)
 
--- the expressions of all definitions have ordered bounds
+-- the expressions of all definitions have bounds in order
 pub record AreOrdered (definitions : List PlainDefinition) : Type 0 where
-  pub at : (name : List ℕ) (tree : Regex) → tree_named definitions name ≡ Some tree → HasOrderedBounds tree
+  pub at : (name : List ℕ) (tree : Regex) → tree_named definitions name ≡ Some tree → IsTrue (has_ordered_bounds tree)
 
 -- a name that is defined, no deeper than so
 words-name : (ds : List PlainDefinition) (n : ℕ) → IsTrue (are_distinct (map (λ x. x.name) ds)) → AreOrdered ds
-    → ((tree : Regex) → HasOrderedBounds tree → IsTrue (is_within n ds tree) → AreWords (Matches (NameMatches ds n) tree) (written_out (name_written_out ds n) tree))
+    → ((tree : Regex) → IsTrue (has_ordered_bounds tree) → IsTrue (is_within n ds tree) → AreWords (Matches (NameMatches ds n) tree) (written_out (name_written_out ds n) tree))
     → (name : List ℕ) → IsTrue (holds_of (is_within n ds) (tree_named ds name)) → AreWords (NameMatches ds (suc n) name) (name_written_out ds (suc n) name)
 words-name ds n w o f name h = by (tree_named ds name) refl h where
   N : List ℕ → List ℕ → Type 0
@@ -182,14 +179,14 @@ nothing-good : (names : List (List ℕ)) → IsTrue (is_no_name names) → IsTru
 nothing-good [] h = refl
 nothing-good (name ∷ names) h = h
 
-pub words-within : (ds : List PlainDefinition) → IsTrue (are_distinct (map (λ x. x.name) ds)) → AreOrdered ds → (n : ℕ) (tree : Regex) → HasOrderedBounds tree → IsTrue (is_within n ds tree)
+pub words-within : (ds : List PlainDefinition) → IsTrue (are_distinct (map (λ x. x.name) ds)) → AreOrdered ds → (n : ℕ) (tree : Regex) → IsTrue (has_ordered_bounds tree) → IsTrue (is_within n ds tree)
     → AreWords (Matches (NameMatches ds n) tree) (written_out (name_written_out ds n) tree)
 words-within ds w o zero tree b h = words-tree (NameMatches ds 0) (name_written_out ds 0) (λ name. false) (λ name f. absurd (false≢true f)) tree b (nothing-good (names_of tree) h)
 words-within ds w o (suc n) tree b h =
     words-tree (NameMatches ds (suc n)) (name_written_out ds (suc n)) (λ name. holds_of (is_within n ds) (tree_named ds name)) (words-name ds n w o (words-within ds w o n)) tree b h
 
 -- what a pattern matches
-pub pattern-words : (ds : List PlainDefinition) (tree : Regex) → IsTrue (are_definitions ds) → AreOrdered ds → HasOrderedBounds tree → IsTrue (is_within 32 ds tree) → (k : ℕ) (w : List ℕ)
+pub pattern-words : (ds : List PlainDefinition) (tree : Regex) → IsTrue (are_definitions ds) → AreOrdered ds → IsTrue (has_ordered_bounds tree) → IsTrue (is_within 32 ds tree) → (k : ℕ) (w : List ℕ)
     → Matches (NameMatches ds 32) tree w ↔ ByteWord (pattern_written_out ds tree) k w
 unfolding are_definitions pattern_written_out
 pattern-words ds tree d o b h k w = let x = words-within ds d o 32 tree b h in (x.into k w, x.back k w)

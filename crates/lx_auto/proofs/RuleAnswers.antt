@@ -1,13 +1,16 @@
 -- A rule fits so that its reach is the whole text exactly where it matches the text, in the form in which its expression is kept.
 use Rattle.std.proofs.Common.{◌≡◌, ◌≢◌, ℕ, zero, suc, ◌+◌, ◌<◌, ◌≤◌, ◌↔◌, inl, inr, Bool, true, false, IsTrue, List, [], ◌∷◌, ◌++◌, Option, Some, None, length, take, refl, sym, ◌∙◌, ap, subst, arith, if◌then◌else◌}
 use Rattle.std.specs.Prelude.{slice_get, Contains, MatchOption}
+use Rattle.std.specs.List.{list_all}
 use Rattle.std.proofs.lemmas.Bool.{false≢true}
+use Rattle.std.proofs.Math.Seq.{take-append_seam, take-length}
+use Rattle.lx_ere.specs.Bounds.{has_ordered_bounds}
 use Rattle.lx_ere.specs.Regex.{Regex}
 use Rattle.lx_ere.specs.Matching.{Matches}
-use Rattle.lx_spec.specs.Plain.{PlainRule, PlainSpec}
+use Rattle.lx_spec.specs.Plain.{PlainDefinition, PlainRule, PlainSpec}
 use Rattle.lx_spec.specs.Choice.{IsActive, SpecNames, Fits, reach}
-use Rattle.lx_spec.specs.Invariant.{are_definitions}
-use Rattle.lx_spec.specs.Nesting.{is_within}
+use Rattle.lx_spec.specs.Invariant.{are_definitions, are_ordered, IsWellFormed}
+use Rattle.lx_spec.specs.Nesting.{is_within, are_nested, expressions_of}
 use Rattle.lx_auto.specs.Unfolded.{Unfolded, position_count, ByteWord, byte_of_set}
 use Rattle.lx_auto.specs.Counts.{newline_count}
 use Rattle.lx_auto.specs.Trimmed.{trimmed_pattern}
@@ -17,8 +20,9 @@ use Rattle.lx_auto.specs.PositionSets.{NumberedRule, numbered, StartAndWord}
 use Rattle.lx_auto.specs.RuleReach.{WholeWithEnd, MatchesWhole}
 use Rattle.lx_auto.specs.SetSteps.{IsMatchedBy, IsSetOf}
 use Rattle.lx_auto.specs.Sets.{IsEarliestMatched}
+use Rattle.lx_auto.proofs.Appending.{and-left, and-right}
 use Rattle.lx_auto.proofs.KeptWords.{trimmed-words}
-use Rattle.lx_auto.proofs.PatternWords.{HasOrderedBounds, AreOrdered, pattern-words}
+use Rattle.lx_auto.proofs.PatternWords.{AreOrdered, some-defined, pattern-words}
 use Rattle.lx_auto.proofs.Reached.{numbered_rules}
 use Rattle.lx_auto.proofs.SetStepped.{matched_by}
 
@@ -26,19 +30,46 @@ use Rattle.lx_auto.proofs.SetStepped.{matched_by}
 pub record HasSoundPatterns (spec : PlainSpec) : Type 0 where
   pub distinct : IsTrue (are_definitions spec.definitions)
   pub ordered : AreOrdered spec.definitions
-  pub bounds : (i : ℕ) (rule : PlainRule) → slice_get spec.rules i ≡ Some rule → HasOrderedBounds rule.reading.tree
+  pub bounds : (i : ℕ) (rule : PlainRule) → slice_get spec.rules i ≡ Some rule → IsTrue (has_ordered_bounds rule.reading.tree)
   pub within : (i : ℕ) (rule : PlainRule) → slice_get spec.rules i ≡ Some rule → IsTrue (is_within 32 spec.definitions rule.reading.tree)
+
+-- every specification in memory has such patterns
+all_at : (p : Regex → Bool) (rules : List PlainRule) (i : ℕ) (rule : PlainRule) → slice_get rules i ≡ Some rule → IsTrue (list_all p (expressions_of rules)) → IsTrue (p rule.reading.tree)
+all_at p [] zero rule at h = absurd (cc)
+all_at p [] (suc i) rule at h = absurd (cc)
+all_at p (first ∷ rules) zero rule at h =
+    let is : first ≡ rule = (let e : Some first ≡ Some rule = at in cc) in
+    subst (λ (x : PlainRule). IsTrue (p x.reading.tree)) is (and-left (p first.reading.tree) (list_all p (expressions_of rules)) h)
+all_at p (first ∷ rules) (suc i) rule at h = all_at p rules i rule at (and-right (p first.reading.tree) (list_all p (expressions_of rules)) h)
+
+tree_of_all : (definitions : List PlainDefinition) (i : ℕ) (d : PlainDefinition) → slice_get definitions i ≡ Some d → IsTrue (list_all (λ x. has_ordered_bounds x.tree) definitions) →
+    IsTrue (has_ordered_bounds d.tree)
+tree_of_all [] zero d at h = absurd (cc)
+tree_of_all [] (suc i) d at h = absurd (cc)
+tree_of_all (first ∷ definitions) zero d at h =
+    let is : first ≡ d = (let e : Some first ≡ Some d = at in cc) in
+    subst (λ (x : PlainDefinition). IsTrue (has_ordered_bounds x.tree)) is (and-left (has_ordered_bounds first.tree) (list_all (λ x. has_ordered_bounds x.tree) definitions) h)
+tree_of_all (first ∷ definitions) (suc i) d at h = tree_of_all definitions i d at (and-right (has_ordered_bounds first.tree) (list_all (λ x. has_ordered_bounds x.tree) definitions) h)
+
+pub sound_patterns : (spec : PlainSpec) → IsWellFormed spec → HasSoundPatterns spec
+unfolding are_nested are_ordered
+sound_patterns spec well =
+    let definitions = list_all (λ d. has_ordered_bounds d.tree) spec.definitions in
+    let trees = list_all has_ordered_bounds (expressions_of spec.rules) in
+    record {
+      distinct = well.distinct;
+      ordered = record {
+        at = λ name tree e.
+            let d = some-defined spec.definitions name tree e in
+            subst (λ (t : Regex). IsTrue (has_ordered_bounds t)) d.2 (tree_of_all spec.definitions d.1.place d.0 d.1.at (and-left definitions trees well.ordered));
+      };
+      bounds = λ i rule at. all_at has_ordered_bounds spec.rules i rule at (and-right definitions trees well.ordered);
+      within = λ i rule at. all_at (is_within 32 spec.definitions) spec.rules i rule at well.nested;
+    }
 
 -- prefixes
 take_all : (w : List ℕ) (n : ℕ) → n ≡ length w → take n w ≡ w
-take_all [] zero e = refl
-take_all [] (suc n) e = refl
-take_all (b ∷ w) zero e = absurd (omega arith)
-take_all (b ∷ w) (suc n) e = ap (λ v. b ∷ v) (take_all w n (omega arith))
-
-take_front : (u v : List ℕ) → take (length u) (u ++ v) ≡ u
-take_front [] v = refl
-take_front (b ∷ u) v = ap (λ w. b ∷ w) (take_front u v)
+take_all w n e = ap (λ k. take k w) e ∙ take-length w
 
 get_behind : (u : List ℕ) (x : ℕ) → slice_get (u ++ x ∷ []) (length u) ≡ Some x
 get_behind [] x = refl
@@ -127,7 +158,7 @@ module _ (spec : PlainSpec) (sound : HasSoundPatterns spec) where
             line_begin = active.line_begin;
             not_empty = some_length h.0 h.2;
             within = omega arith;
-            matches = subst (λ v. Matches (SpecNames spec) r.rule.reading.tree v) (sym (ap (λ v. take (length h.0) v) h.3 ∙ take_front h.0 (10 ∷ []))) ((rule_words i r at h.0).1 h.1);
+            matches = subst (λ v. Matches (SpecNames spec) r.rule.reading.tree v) (sym (ap (λ v. take (length h.0) v) h.3 ∙ take-append_seam h.0 (10 ∷ []))) ((rule_words i r at h.0).1 h.1);
             line_end = λ e. ap (λ v. slice_get v (length h.0)) h.3 ∙ get_behind h.0 10;
           },
           ap (λ (b : Bool). if b then length h.0 + 1 else length h.0) is ∙ sym long,
