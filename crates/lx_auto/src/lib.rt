@@ -5,14 +5,16 @@
 mod active;
 mod arena;
 pub mod automaton;
+pub mod building;
 mod classes;
 mod complete;
 mod count;
 mod definition_order;
 mod draft;
+mod drafting;
 mod explore;
 mod explored;
-mod fault;
+pub mod fault;
 mod fill;
 mod follow;
 mod fragment;
@@ -40,4 +42,6 @@ mod unfold;
 mod unfolded_rules;
 
 pub use crate::automaton::{Automaton, State};
+pub use crate::building::build;
+pub use crate::fault::BuildFault;
 pub use crate::merging::merge;

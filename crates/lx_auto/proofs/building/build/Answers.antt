@@ -1,0 +1,8 @@
+use Rattle.std.proofs.lemmas.Result.{IfOk-weaker}
+use Rattle.lx_spec.specs.views.Specs.{spec_view}
+use Rattle.lx_auto.proofs.DraftAnswers.{alike_answers}
+use Rattle.lx_auto.proofs.building.build.Goals as goal
+
+pub returns-clause-automaton : goal.returns-clause-automaton
+returns-clause-automaton c =
+    alike_answers (spec_view c.args.spec.now) c.in_ok-draft.draft _ c.in_ok-draft.ensures.machine c.in_ok-automaton.ensures c.in_ok-draft.ensures.automaton

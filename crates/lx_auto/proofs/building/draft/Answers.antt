@@ -1,0 +1,84 @@
+use Rattle.std.proofs.Common.{◌≡◌, length, subst, arith}
+use Rattle.std.proofs.lemmas.List.{length-map}
+use Rattle.std.proofs.lemmas.Result.{err_from_is_err_and}
+use Rattle.lx_spec.specs.views.Conditions.{condition_view}
+use Rattle.lx_spec.specs.views.Specs.{spec_view}
+use Rattle.lx_auto.specs.Drafting.{IsDrafted}
+use Rattle.lx_auto.specs.LeafViews.{leaves_view}
+use Rattle.lx_auto.specs.Trimmed.{trimmed_pattern}
+use Rattle.lx_auto.proofs.DraftAnswers.{matched_below, targets_below, draft_machine, draft_answers}
+use Rattle.lx_auto.proofs.MoreSets.{more_reached}
+use Rattle.lx_auto.proofs.NoMoreSets.{no_more}
+use Rattle.lx_auto.proofs.RuleAnswers.{sound_patterns}
+use Rattle.lx_auto.proofs.building.draft.Goals as goal
+
+pub returns-in_err-explored-clause-sets : goal.returns-in_err-explored-clause-sets
+returns-in_err-explored-clause-sets c =
+    let spec = spec_view c.args.spec.now in
+    let p = err_from_is_err_and c.from_residual-in_err-explored.result c.from_residual-in_err-explored.ensures.1 in
+    rw (p.1, p.2) (λ is. (
+      c.in_ok-positions.ensures.few,
+      more_reached spec 16384 (c.in_err-explored.ensures.many (trimmed_pattern spec.definitions) c.in_ok-positions.ensures.stands is),
+    ))
+
+pub draft_of-requires-clause-rules : goal.draft_of-requires-clause-rules
+draft_of-requires-clause-rules c =
+    let spec = spec_view c.args.spec.now in
+    let table = c.in_ok-positions.positions in
+    let found = c.in_ok-explored.explored in
+    let stands = c.in_ok-positions.ensures.stands in
+    let states = c.in_ok-explored.ensures.explored (trimmed_pattern spec.definitions) stands in
+    matched_below spec (leaves_view table.leaves.items) table.groups.classes.items table.groups.representatives.items found.table.sets.items found.matched.items found.targets.items
+    stands.leaves stands.groups states.steps states.matched 4096 ((c.specs_are_well_formed.ensures c.args.spec.now).few_rules)
+
+pub draft_of-requires-clause-sets : goal.draft_of-requires-clause-sets
+draft_of-requires-clause-sets c =
+    let spec = spec_view c.args.spec.now in
+    let table = c.in_ok-positions.positions in
+    let found = c.in_ok-explored.explored in
+    let stands = c.in_ok-positions.ensures.stands in
+    let states = c.in_ok-explored.ensures.explored (trimmed_pattern spec.definitions) stands in
+    targets_below spec (leaves_view table.leaves.items) table.groups.classes.items table.groups.representatives.items found.table.sets.items found.matched.items found.targets.items
+    stands.leaves stands.groups states.steps states.matched 16384 c.in_ok-explored.ensures.room
+
+pub draft_of-requires-clause-machine : goal.draft_of-requires-clause-machine
+draft_of-requires-clause-machine c = λ m drafted.
+    let spec = spec_view c.args.spec.now in
+    let table = c.in_ok-positions.positions in
+    let found = c.in_ok-explored.explored in
+    let stands = c.in_ok-positions.ensures.stands in
+    let states = c.in_ok-explored.ensures.explored (trimmed_pattern spec.definitions) stands in
+    let well = c.specs_are_well_formed.ensures c.args.spec.now in
+    let held = c.args.spec.now.conditions.ok.0 in
+    let seen = length-map c.args.spec.now.conditions.items condition_view in
+    let conditions : c.len.result ≡ length spec.conditions = omega (arith, c.len.ensures) in
+    draft_machine spec (leaves_view table.leaves.items) table.groups.classes.items table.groups.representatives.items found.table.sets.items found.matched.items found.targets.items
+    stands.leaves stands.groups states.steps states.matched m (subst (λ n. IsDrafted n table.groups.classes.items (length table.groups.representatives.items) found.matched.items found.targets.items m) conditions drafted) well.some_conditions well.few_conditions well.few_rules c.in_ok-explored.ensures.room
+
+pub returns-clause-automaton : goal.returns-clause-automaton
+returns-clause-automaton c =
+    let spec = spec_view c.args.spec.now in
+    let table = c.in_ok-positions.positions in
+    let found = c.in_ok-explored.explored in
+    let stands = c.in_ok-positions.ensures.stands in
+    let states = c.in_ok-explored.ensures.explored (trimmed_pattern spec.definitions) stands in
+    let held = c.args.spec.now.conditions.ok.0 in
+    let seen = length-map c.args.spec.now.conditions.items condition_view in
+    let conditions : c.len.result ≡ length spec.conditions = omega (arith, c.len.ensures) in
+    draft_answers spec (leaves_view table.leaves.items) table.groups.classes.items table.groups.representatives.items found.table.sets.items found.matched.items found.targets.items
+    stands.leaves stands.groups states.steps states.matched c.in_ok-draft.draft
+    (subst (λ n. IsDrafted n table.groups.classes.items (length table.groups.representatives.items) found.matched.items found.targets.items c.in_ok-draft.draft) conditions c.in_ok-draft.ensures) (sound_patterns spec (c.specs_are_well_formed.ensures c.args.spec.now))
+
+pub returns-clause-few_sets : goal.returns-clause-few_sets
+returns-clause-few_sets c =
+    let spec = spec_view c.args.spec.now in
+    let table = c.in_ok-positions.positions in
+    let found = c.in_ok-explored.explored in
+    let stands = c.in_ok-positions.ensures.stands in
+    let states = c.in_ok-explored.ensures.explored (trimmed_pattern spec.definitions) stands in
+    let held = c.args.spec.now.conditions.ok.0 in
+    let seen = length-map c.args.spec.now.conditions.items condition_view in
+    let conditions : c.len.result ≡ length spec.conditions = omega (arith, c.len.ensures) in
+    no_more spec (leaves_view table.leaves.items) table.groups.classes.items table.groups.representatives.items found.table.sets.items found.matched.items found.targets.items c.in_ok-draft.draft
+    stands.leaves stands.groups states.steps
+    (subst (λ n. IsDrafted n table.groups.classes.items (length table.groups.representatives.items) found.matched.items found.targets.items c.in_ok-draft.draft) conditions c.in_ok-draft.ensures) 16384 c.in_ok-explored.ensures.room

@@ -1,0 +1,58 @@
+//! The automaton of a specification (Rabin and Scott 1959: the subset construction, over sets of positions).
+
+ghost use Rattle.std.specs.Prelude.{◌≡◌, ◌<◌, ◌≤◌, IfOk, IfErr};
+ghost use Rattle.lx_spec.specs.views.Specs.{spec_view};
+ghost use Rattle.lx_auto.specs.Automata.{IsMachine};
+ghost use Rattle.lx_auto.specs.Counts.{count_of_spec};
+ghost use Rattle.lx_auto.specs.Meaning.{IsAutomatonOf};
+ghost use Rattle.lx_auto.specs.PositionSets.{HasMoreReachedSets};
+
+use crate::automaton::Automaton;
+use crate::classes::with_byte_classes;
+use crate::draft::Draft;
+use crate::drafting::draft_of;
+use crate::explore::explore;
+use crate::fault::BuildFault;
+use crate::spec_positions::positions_of;
+use lx_spec::read::specs_are_well_formed;
+use lx_spec::spec::Spec;
+use std::alloc::Global;
+
+// The most reached sets.
+const MOST_SETS: usize = 16_384;
+
+// The automaton over provisional classes.
+fn draft(alloc: Global, spec: &Spec) -> Result<Draft, BuildFault>
+    ensures machine { IfOk result (λ a. IsMachine a) }
+    ensures automaton { IfOk result (λ a. IsAutomatonOf (spec_view spec.now) a) }
+    ensures few_positions { IfOk result (λ _. count_of_spec (spec_view spec.now) ≤ 16384) }
+    ensures few_sets { IfOk result (λ _. HasMoreReachedSets (spec_view spec.now) 16384 → ⊥) }
+    ensures positions { IfErr result (λ e. e ≡ BuildFault.TooManyPositions → 16384 < count_of_spec (spec_view spec.now)) }
+    ensures sets { IfErr result (λ e. e ≡ BuildFault.TooManySets → (count_of_spec (spec_view spec.now) ≤ 16384) × HasMoreReachedSets (spec_view spec.now) 16384) }
+{
+    specs_are_well_formed();
+    let positions = positions_of(alloc, spec)?;
+    let explored = explore(alloc, spec, &positions, MOST_SETS)?;
+    let draft = draft_of(alloc, spec.conditions.len(), &positions.groups, &explored)?;
+    Ok(draft)
+}
+
+/// The automaton of a specification: from each start condition, at line begin or elsewhere, a word of bytes leads to a state that
+/// accepts the earliest rule that fits it so that the rule's reach is the whole word, and to none where there is no such rule.
+/// Each state is a start or a reached set of positions; `merge` makes the fewest of them.
+///
+/// # Errors
+///
+/// `TooManyPositions` (E30) where the specification has more than 16,384 positions, which is tested first; `TooManySets` (E31)
+/// where there are more than 16,384 reached sets; `Memory`.
+pub fn build(alloc: Global, spec: &Spec) -> Result<Automaton, BuildFault>
+    ensures automaton { IfOk result (λ a. IsAutomatonOf (spec_view spec.now) a) }
+    ensures few_positions { IfOk result (λ _. count_of_spec (spec_view spec.now) ≤ 16384) }
+    ensures few_sets { IfOk result (λ _. HasMoreReachedSets (spec_view spec.now) 16384 → ⊥) }
+    ensures positions { IfErr result (λ e. e ≡ BuildFault.TooManyPositions → 16384 < count_of_spec (spec_view spec.now)) }
+    ensures sets { IfErr result (λ e. e ≡ BuildFault.TooManySets → (count_of_spec (spec_view spec.now) ≤ 16384) × HasMoreReachedSets (spec_view spec.now) 16384) }
+{
+    let draft = draft(alloc, spec)?;
+    let automaton = with_byte_classes(alloc, &draft)?;
+    Ok(automaton)
+}

@@ -1,0 +1,102 @@
+// The draft of an automaton: a state for each start and for each position set.
+
+ghost use Rattle.std.specs.Prelude.{◌≡◌, ◌+◌, ◌*◌, ◌<◌, ◌≤◌, ◌++◌, IfOk, IfSome, None, length, map, replicate};
+ghost use Rattle.std.specs.Option.{option_map};
+ghost use Rattle.lx_auto.specs.Automata.{Machine, IsMachine};
+ghost use Rattle.lx_auto.specs.Drafting.{AreAllBelow, AreStartStates, IsDrafted};
+ghost use Rattle.lx_auto.specs.Words.{from_word};
+
+use crate::draft::Draft;
+use crate::explored::Explored;
+use crate::groups::Groups;
+use std::alloc::{AllocError, Global};
+
+// The states of the starts, two for each condition.
+fn start_states(alloc: Global, conditions: usize) -> Result<Vec<(u32, u32)>, AllocError>
+    requires { conditions ≤ 64 }
+    ensures { IfOk result (λ starts. AreStartStates starts.items conditions) }
+{
+    let mut starts = Vec::new(alloc);
+    for condition in 0..conditions {
+        let state = 2 * condition as u32;
+        starts.push((state, state + 1))?;
+    }
+    Ok(starts)
+}
+
+// The word of a rule.
+fn rule_word(rule: Option<usize>) -> u16
+    requires { IfSome rule (λ r. r < 4096) }
+    ensures { from_word result ≡ rule }
+{
+    match rule {
+        Some(rule) => rule as u16 + 1,
+        None => 0,
+    }
+}
+
+// The word of the state of a set, behind so many starts.
+fn state_word(starts: usize, set: Option<usize>) -> u16
+    requires starts { starts ≤ 128 }
+    requires set { IfSome set (λ j. j < 16384) }
+    ensures { from_word result ≡ option_map (λ j. starts + j) set }
+{
+    match set {
+        Some(set) => (starts + set) as u16 + 1,
+        None => 0,
+    }
+}
+
+// The words of what the states accept: nothing at the starts, and the rules that the sets match.
+fn accepted_words(
+    alloc: Global,
+    starts: usize,
+    matched: &[Option<usize>],
+) -> Result<Vec<u16>, AllocError>
+    requires { AreAllBelow matched.now 4096 }
+    ensures { IfOk result (λ words. map from_word words.items ≡ replicate starts None ++ matched.now) }
+{
+    let mut words = vec![in alloc; 0u16; starts]?;
+    for rule in matched {
+        words.push(rule_word(*rule))?;
+    }
+    Ok(words)
+}
+
+// The words of the targets of all states.
+fn target_words(
+    alloc: Global,
+    starts: usize,
+    targets: &[Option<usize>],
+) -> Result<Vec<u16>, AllocError>
+    requires starts { starts ≤ 128 }
+    requires sets { AreAllBelow targets.now 16384 }
+    ensures { IfOk result (λ words. map from_word words.items ≡ map (option_map (λ j. starts + j)) targets.now) }
+{
+    let mut words = Vec::with_capacity(alloc, targets.len())?;
+    for set in targets {
+        words.push(state_word(starts, *set))?;
+    }
+    Ok(words)
+}
+
+/// The draft over what was explored.
+pub(crate) fn draft_of(
+    alloc: Global,
+    conditions: usize,
+    groups: &Groups,
+    explored: &Explored,
+) -> Result<Draft, AllocError>
+    requires conditions { conditions ≤ 64 }
+    requires rules { AreAllBelow explored.now.matched.items 4096 }
+    requires sets { AreAllBelow explored.now.targets.items 16384 }
+    requires machine { (m : Machine) → IsDrafted conditions groups.now.classes.items (length groups.now.representatives.items) explored.now.matched.items explored.now.targets.items m → IsMachine m }
+    ensures { IfOk result (λ draft. IsDrafted conditions groups.now.classes.items (length groups.now.representatives.items) explored.now.matched.items explored.now.targets.items draft) }
+{
+    let starts = start_states(alloc, conditions)?;
+    let classes = Vec::from_slice(alloc, &groups.classes)?;
+    let accepted = accepted_words(alloc, 2 * conditions, &explored.matched)?;
+    let targets = target_words(alloc, 2 * conditions, &explored.targets)?;
+    let width = groups.representatives.len();
+    Ok(Draft::of(starts, classes, width, accepted, targets))
+}
