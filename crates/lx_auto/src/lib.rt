@@ -5,6 +5,7 @@
 mod active;
 mod arena;
 pub mod automaton;
+pub mod building;
 mod classes;
 mod complete;
 mod count;
@@ -12,7 +13,7 @@ mod definition_order;
 mod draft;
 mod explore;
 mod explored;
-mod fault;
+pub mod fault;
 mod fill;
 mod follow;
 mod fragment;
@@ -40,4 +41,6 @@ mod unfold;
 mod unfolded_rules;
 
 pub use crate::automaton::{Automaton, State};
+pub use crate::building::build;
+pub use crate::fault::BuildFault;
 pub use crate::merging::merge;
