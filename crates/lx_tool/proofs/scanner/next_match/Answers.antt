@@ -11,15 +11,15 @@ use Rattle.lx_tool.proofs.scanner.next_match.Goals.{in-Some, in-None}
 pub returns : goal.returns
 returns c =
     let more : c.args.place.offset < length c.args.text.now = omega arith in
-    let choice : IsChoice (spec_view c.args.spec.now) c.args.place.condition c.args.place.at_line_begin (drop c.args.place.offset c.args.text.now) c.in_ok-rule.field-0 = rw take_rest at c.in_ok-rule.ensures in
-    let chosen : IsChoice (spec_view c.args.spec.now) c.args.place.condition c.args.place.at_line_begin (drop c.args.place.offset c.args.text.now) (option_map (λ i. (i, c.match-branch-2.rule.1)) c.match-branch-2.rule.0)
-    = elim c.match-branch-2.branch [
+    let choice : IsChoice (spec_view c.args.spec.now) c.args.place.condition c.args.place.at_line_begin (drop c.args.place.offset c.args.text.now) c.choose.result = rw take_rest at c.choose.ensures in
+    let chosen : IsChoice (spec_view c.args.spec.now) c.args.place.condition c.args.place.at_line_begin (drop c.args.place.offset c.args.text.now) (option_map (λ i. (i, c.match-choose.rule.1)) c.match-choose.rule.0)
+    = elim c.match-choose.branch [
       | in-Some w ↦ rw w.rule-is (rw w.in-Some.is at choice)
       | in-None w ↦ rw w.rule-is (rw w.in-None.is at choice)
     ] in
-    let alone : c.match-branch-2.rule.0 ≡ None → c.match-branch-2.rule.1 ≡ 1
-    = elim c.match-branch-2.branch [
+    let alone : c.match-choose.rule.0 ≡ None → c.match-choose.rule.1 ≡ 1
+    = elim c.match-choose.branch [
       | in-Some w ↦ λ e. absurd (let f : Some w.in-Some.rule ≡ None = sym (ap (λ (p : Option ℕ × ℕ). p.0) w.rule-is) ∙ e in cc)
       | in-None w ↦ λ e. ap (λ (p : Option ℕ × ℕ). p.1) w.rule-is
     ] in
-    goes_on (spec_view c.args.spec.now) c.args.spec.now.rules_in_range c.args.text.now c.args.place c.match-branch-2.rule.0 c.match-branch-2.rule.1 c.condition_behind.result more c.requires.known chosen alone (c.condition_behind.ensures ∙ ap (λ steps. condition_after steps c.args.place.condition) c.steps_of_rule.ensures)
+    goes_on (spec_view c.args.spec.now) c.args.spec.now.rules_in_range c.args.text.now c.args.place c.match-choose.rule.0 c.match-choose.rule.1 c.condition_behind.result more c.requires.known chosen alone (c.condition_behind.ensures ∙ ap (λ steps. condition_after steps c.args.place.condition) c.steps_of_rule.ensures)
