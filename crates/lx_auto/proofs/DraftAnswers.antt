@@ -1,14 +1,14 @@
 -- The draft is an automaton of the specification.
-use Rattle.std.proofs.Common.{◌≡◌, ◌≢◌, ℕ, zero, suc, ◌+◌, ◌-◌, ◌*◌, ◌/◌, ◌%◌, ◌<◌, ◌≤◌, inl, inr, Bool, true, false, List, [], ◌∷◌, ◌++◌, Option, Some, None, length, get_or, map, refl, sym, ◌∙◌, ap, subst, arith}
-use Rattle.std.specs.Prelude.{slice_get, slice_index, slice_index_or, replicate, All, IfSome}
+use Rattle.std.proofs.Common.{◌≡◌, ℕ, zero, suc, ◌+◌, ◌-◌, ◌*◌, ◌/◌, ◌%◌, ◌<◌, ◌≤◌, inl, inr, Bool, List, [], ◌∷◌, Option, Some, None, length, get_or, refl, sym, ◌∙◌, ap, subst, arith}
+use Rattle.std.specs.Prelude.{slice_index, slice_index_or, replicate, All, IfSome}
 use Rattle.std.specs.Option.{option_map}
 use Rattle.std.proofs.lemmas.Bool.{cases_lt}
 use Rattle.std.proofs.lemmas.List.{length-append, length-map, length-replicate, get_or_append_left, get_or-append_right, get_or-replicate, get_or_past}
 use Rattle.std.proofs.lemmas.Nat.{div-add-mod', mod_below}
 use Rattle.std.proofs.lemmas.Option.{slice_get_within}
 use Rattle.std.proofs.Math.ListN as math
-use Rattle.lx_spec.specs.Plain.{PlainRule, PlainSpec}
-use Rattle.lx_auto.specs.Automata.{Machine, IsMachine, StepsAlike, state_count, start_of, accepted_by, class_target, state_after, accepted_at, answer, answer_from}
+use Rattle.lx_spec.specs.Plain.{PlainSpec}
+use Rattle.lx_auto.specs.Automata.{Machine, IsMachine, StepsAlike, state_count, start_of, accepted_by, class_target, state_after, accepted_at, answer}
 use Rattle.lx_auto.specs.Drafting.{AreAllBelow, IsDrafted}
 use Rattle.lx_auto.specs.Exploring.{IsExplored, start_count, start_number}
 use Rattle.lx_auto.specs.Leaves.{PlainLeaf, AreLeavesOf, AreGroupsOf}

@@ -1,7 +1,7 @@
 -- The lists of the draft, put together.
-use Rattle.std.proofs.Common.{◌≡◌, ℕ, zero, suc, ◌+◌, ◌*◌, ◌<◌, ◌++◌, ◌∷◌, refl, Bool, true, false, List, Option, None, length, map, replicate, ap, ◌∙◌}
+use Rattle.std.proofs.Common.{◌≡◌, ℕ, zero, suc, ◌+◌, ◌*◌, ◌<◌, ◌++◌, ◌∷◌, refl, Bool, true, false, List, Option, None, length, map, replicate, ap}
 use Rattle.std.specs.Option.{option_map}
-use Rattle.lx_auto.specs.Automata.{Machine, start_of}
+use Rattle.lx_auto.specs.Automata.{start_of}
 use Rattle.lx_auto.specs.Drafting.{AreStartStates, IsDrafted}
 use Rattle.lx_auto.specs.Exploring.{start_number}
 use Rattle.lx_auto.specs.Words.{from_word, machine_of}

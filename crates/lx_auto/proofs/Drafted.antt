@@ -1,27 +1,25 @@
 -- The draft is an automaton, and a word leads in it to the state of its position set.
-use Rattle.std.proofs.Common.{◌≡◌, ◌≢◌, ℕ, zero, suc, ◌+◌, ◌*◌, ◌<◌, ◌≤◌, ◌↔◌, inl, inr, Bool, true, false, List, [], ◌∷◌, ◌++◌, Option, Some, None, length, get_or, map, refl, sym, ◌∙◌, ap, ap₂, subst, arith, append_assoc}
-use Rattle.std.specs.Prelude.{slice_index, slice_index_or, Contains, All, replicate}
+use Rattle.std.proofs.Common.{◌≡◌, ◌≢◌, ℕ, ◌+◌, ◌*◌, ◌<◌, ◌↔◌, inl, inr, Bool, true, false, List, [], ◌∷◌, ◌++◌, Option, Some, None, length, refl, sym, ◌∙◌, ap, subst, arith, append_assoc}
+use Rattle.std.specs.Prelude.{slice_index, slice_index_or, Contains, All}
 use Rattle.std.specs.Option.{option_map}
-use Rattle.std.proofs.lemmas.Bool.{cases_lt}
-use Rattle.std.proofs.lemmas.List.{append-nil, length-append, length-map, length-replicate, get_or-append_right, get_or_append_left, get_or-replicate, get_or_past}
+use Rattle.std.proofs.lemmas.List.{append-nil}
 use Rattle.std.proofs.lemmas.List.Elements.{All-head, All-tail}
 use Rattle.std.proofs.Math.ListN as math
 use Rattle.lx_ere.specs.Regex.{Regex}
 use Rattle.lx_spec.specs.Plain.{PlainSpec}
 use Rattle.lx_auto.specs.Unfolded.{Unfolded}
-use Rattle.lx_auto.specs.PositionSets.{NumberedRule, numbered, StartAndWord, InPositionSet}
-use Rattle.lx_auto.specs.SetSteps.{HasSomeByte, FollowsSet, IsSetOf}
+use Rattle.lx_auto.specs.PositionSets.{numbered, StartAndWord, InPositionSet}
+use Rattle.lx_auto.specs.SetSteps.{HasSomeByte, IsSetOf}
 use Rattle.lx_auto.specs.Sets.{AreFirst, AreFollowing}
 use Rattle.lx_auto.specs.Leaves.{PlainLeaf, has_byte, AreLeavesOf, AreGroupsOf}
-use Rattle.lx_auto.specs.Grouping.{representative_of}
 use Rattle.lx_auto.specs.SetTable.{Positions, set_of, IsTarget}
 use Rattle.lx_auto.specs.Exploring.{having, IsSource, IsExplored, start_number, start_count}
-use Rattle.lx_auto.specs.Automata.{Machine, state_count, start_of, accepted_by, class_target, target_of, state_after}
+use Rattle.lx_auto.specs.Automata.{Machine, start_of, class_target, target_of, state_after}
 use Rattle.lx_auto.specs.Drafting.{IsDrafted}
-use Rattle.lx_auto.proofs.Grid.{in_row, row_below}
+use Rattle.lx_auto.proofs.Grid.{in_row}
 use Rattle.lx_auto.proofs.Membership.{contains_nil}
 use Rattle.lx_auto.proofs.Reached.{having_means}
-use Rattle.lx_auto.proofs.SetStepped.{nothing_read, first_set, next_set}
+use Rattle.lx_auto.proofs.SetStepped.{first_set, next_set}
 
 pub start_below : (c : ℕ) (begin : Bool) (n : ℕ) → c < n → start_number c begin < 2 * n
 start_below c false n h = omega arith

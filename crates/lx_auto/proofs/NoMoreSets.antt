@@ -1,16 +1,15 @@
 -- Each reached set stands in the table, so there are no more of them than the table has.
-use Rattle.std.proofs.Common.{◌≡◌, ◌≢◌, ℕ, zero, suc, ◌+◌, ◌-◌, ◌<◌, ◌≤◌, ◌↔◌, Bool, List, [], ◌∷◌, Option, Some, None, length, get_or, map, eqb, refl, sym, ◌∙◌, ap, subst, arith}
-use Rattle.std.specs.Prelude.{slice_get, Contains, All}
+use Rattle.std.proofs.Common.{◌≡◌, ◌≢◌, ℕ, zero, suc, ◌+◌, ◌-◌, ◌<◌, ◌≤◌, List, [], ◌∷◌, Option, Some, None, length, get_or, map, eqb, refl, sym, ◌∙◌, ap, subst, arith}
+use Rattle.std.specs.Prelude.{slice_get, All}
 use Rattle.std.proofs.lemmas.List.{length-map, get_or_default}
 use Rattle.std.proofs.lemmas.Map.Steps.{length-le_from_distinct_below}
 use Rattle.std.proofs.lemmas.Map.Keys.{IsDistinct-from_apart}
-use Rattle.std.proofs.lemmas.Option.{slice_get_within}
 use Rattle.lx_spec.specs.Plain.{PlainSpec}
 use Rattle.lx_auto.specs.Automata.{Machine, start_of, state_after}
 use Rattle.lx_auto.specs.Drafting.{IsDrafted}
 use Rattle.lx_auto.specs.Exploring.{IsExplored, start_count}
 use Rattle.lx_auto.specs.Leaves.{PlainLeaf, AreLeavesOf, AreGroupsOf}
-use Rattle.lx_auto.specs.PositionSets.{numbered, StartAndWord, InPositionSet, HasMoreReachedSets, rules_of}
+use Rattle.lx_auto.specs.PositionSets.{numbered, StartAndWord, InPositionSet, HasMoreReachedSets}
 use Rattle.lx_auto.specs.SetSteps.{IsSetOf}
 use Rattle.lx_auto.specs.SetTable.{Positions, set_of}
 use Rattle.lx_auto.specs.Trimmed.{trimmed_pattern}

@@ -1,6 +1,6 @@
 -- A rule fits so that its reach is the whole text exactly where it matches the text, in the form in which its expression is kept.
-use Rattle.std.proofs.Common.{◌≡◌, ◌≢◌, ℕ, zero, suc, ◌+◌, ◌<◌, ◌≤◌, ◌↔◌, inl, inr, Bool, true, false, IsTrue, List, [], ◌∷◌, ◌++◌, Option, Some, None, length, take, refl, sym, ◌∙◌, ap, subst, arith, if◌then◌else◌}
-use Rattle.std.specs.Prelude.{slice_get, Contains, MatchOption}
+use Rattle.std.proofs.Common.{◌≡◌, ◌≢◌, ℕ, zero, suc, ◌+◌, ◌<◌, ◌≤◌, ◌↔◌, Bool, true, false, IsTrue, List, [], ◌∷◌, ◌++◌, Option, Some, None, length, take, refl, sym, ◌∙◌, ap, subst, arith, if◌then◌else◌}
+use Rattle.std.specs.Prelude.{slice_get}
 use Rattle.std.specs.List.{list_all}
 use Rattle.std.proofs.lemmas.Bool.{false≢true}
 use Rattle.std.proofs.Math.Seq.{take-append_seam, take-length}
@@ -8,7 +8,7 @@ use Rattle.lx_ere.specs.Bounds.{has_ordered_bounds}
 use Rattle.lx_ere.specs.Regex.{Regex}
 use Rattle.lx_ere.specs.Matching.{Matches}
 use Rattle.lx_spec.specs.Plain.{PlainDefinition, PlainRule, PlainSpec}
-use Rattle.lx_spec.specs.Choice.{IsActive, SpecNames, Fits, reach}
+use Rattle.lx_spec.specs.Choice.{SpecNames, Fits, reach}
 use Rattle.lx_spec.specs.Invariant.{are_definitions, are_ordered, IsWellFormed}
 use Rattle.lx_spec.specs.Nesting.{is_within, are_nested, expressions_of}
 use Rattle.lx_auto.specs.Unfolded.{Unfolded, position_count, ByteWord, byte_of_set}
@@ -16,7 +16,7 @@ use Rattle.lx_auto.specs.Counts.{newline_count}
 use Rattle.lx_auto.specs.Trimmed.{trimmed_pattern}
 use Rattle.lx_auto.specs.Starts.{IsActiveAt}
 use Rattle.lx_auto.specs.Meaning.{ReachesWhole, IsAnswer}
-use Rattle.lx_auto.specs.PositionSets.{NumberedRule, numbered, StartAndWord}
+use Rattle.lx_auto.specs.PositionSets.{NumberedRule, numbered}
 use Rattle.lx_auto.specs.RuleReach.{WholeWithEnd, MatchesWhole}
 use Rattle.lx_auto.specs.SetSteps.{IsMatchedBy, IsSetOf}
 use Rattle.lx_auto.specs.Sets.{IsEarliestMatched}

@@ -1,4 +1,3 @@
-use Rattle.std.proofs.lemmas.Result.{IfOk-weaker}
 use Rattle.lx_spec.specs.views.Specs.{spec_view}
 use Rattle.lx_auto.proofs.DraftAnswers.{alike_answers}
 use Rattle.lx_auto.proofs.building.build.Goals as goal
