@@ -26,7 +26,7 @@ use smallvec::SmallVec;
 use std::alloc::{AllocError, Global};
 
 // Whether a position has the byte.
-fn has_byte(leaves: &[Leaf], position: u32, byte: u8) -> bool
+fn has_byte(leaves: &[Leaf], position: u16, byte: u8) -> bool
     ensures { result ≡ plain_leaves.has_byte (leaves_view leaves.now) position byte }
 {
     match leaves.get(position as usize) {
@@ -36,7 +36,7 @@ fn has_byte(leaves: &[Leaf], position: u32, byte: u8) -> bool
 }
 
 // Those of the positions that have the byte.
-fn having(alloc: Global, leaves: &[Leaf], byte: u8, from: &[u32]) -> Result<PositionSet, AllocError>
+fn having(alloc: Global, leaves: &[Leaf], byte: u8, from: &[u16]) -> Result<PositionSet, AllocError>
     ensures { IfOk result (λ set. set.items ≡ plain.having (leaves_view leaves.now) byte from.now) }
 {
     let mut set = SmallVec::new(alloc);
@@ -53,7 +53,7 @@ fn add_target(
     alloc: Global,
     leaves: &[Leaf],
     byte: u8,
-    from: &[u32],
+    from: &[u16],
     table: &mut SetTable,
     targets: &mut Vec<Option<usize>>,
     limit: usize,
@@ -107,7 +107,7 @@ pub(crate) fn add_row(
     alloc: Global,
     leaves: &[Leaf],
     representatives: &[u8],
-    from: &[u32],
+    from: &[u16],
     table: &mut SetTable,
     targets: &mut Vec<Option<usize>>,
     limit: usize,

@@ -15,7 +15,7 @@ use std::alloc::{AllocError, Global};
 #[derive(Drop)]
 pub(crate) struct Found {
     /// The positions that can stand behind those of the set, rising.
-    pub(crate) next: Vec<u32>,
+    pub(crate) next: Vec<u16>,
     /// The earliest rule of which a position of the set ends a word.
     pub(crate) matched: Option<usize>,
 }
@@ -25,7 +25,7 @@ pub(crate) fn follow(
     alloc: Global,
     parts: &[RulePart],
     total: usize,
-    set: &[u32],
+    set: &[u16],
 ) -> Result<Found, AllocError>
     requires { total ≤ 65536 }
     ensures next { (spec : PlainSpec) (rules : List NumberedRule) → AreNumbered spec rules → ArePartsOf parts.now rules total → IfOk result (λ found. AreFollowing rules set.now found.next.items) }
@@ -45,7 +45,7 @@ pub(crate) fn begin(
     parts: &[RulePart],
     total: usize,
     active: &[bool],
-) -> Result<Vec<u32>, AllocError>
+) -> Result<Vec<u16>, AllocError>
     requires { total ≤ 65536 }
     ensures { (spec : PlainSpec) (condition : ℕ) (begin : Bool) (rules : List NumberedRule) → AreNumbered spec rules → ArePartsOf parts.now rules total → AreActive spec condition begin active.now → IfOk result (λ first. AreFirst spec rules condition begin first.items) }
 {

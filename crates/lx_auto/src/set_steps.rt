@@ -71,7 +71,7 @@ pub(crate) fn clear_flags(alloc: Global, total: usize) -> Result<Vec<bool>, Allo
 }
 
 /// The flags of a set of positions, all of them below the total.
-pub(crate) fn marks_of(alloc: Global, total: usize, set: &[u32]) -> Result<Vec<bool>, AllocError>
+pub(crate) fn marks_of(alloc: Global, total: usize, set: &[u16]) -> Result<Vec<bool>, AllocError>
     ensures long { IfOk result (λ marks. length marks.items ≡ total) }
     ensures marks { IfOk result (λ marks. (q : ℕ) → q < total → plain.flag marks.items q ≡ has_member set.now q) }
 {
@@ -83,14 +83,14 @@ pub(crate) fn marks_of(alloc: Global, total: usize, set: &[u32]) -> Result<Vec<b
 }
 
 /// The places of the flags that are set, rising.
-pub(crate) fn places_of(alloc: Global, flags: &[bool]) -> Result<Vec<u32>, AllocError>
+pub(crate) fn places_of(alloc: Global, flags: &[bool]) -> Result<Vec<u16>, AllocError>
     requires { length flags.now ≤ 65536 }
     ensures { IfOk result (λ places. places.items ≡ places_from 0 flags.now) }
 {
     let mut places = Vec::new(alloc);
     for i in 0..flags.len() {
         if flags[i] {
-            places.push(i as u32)?;
+            places.push(i as u16)?;
         }
     }
     Ok(places)

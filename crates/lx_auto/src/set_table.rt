@@ -4,7 +4,7 @@ use smallvec::SmallVec;
 use std::collections::HashMap;
 
 /// A set of positions, rising.
-pub(crate) type PositionSet = SmallVec<u32, 8>;
+pub(crate) type PositionSet = SmallVec<u16, 8>;
 
 /// The sets in the order of their numbers, and the number of each.
 #[derive(Drop)]
