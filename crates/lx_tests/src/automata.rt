@@ -6,7 +6,7 @@ use lx_spec::read_spec;
 use std::alloc::{AllocError, Global};
 use std::test::Fail;
 
-/// As many positions and sets as there may be: after 14 bytes the sets tell which of these were an `a`.
+/// As many sets as there may be: after 14 bytes each tells which of these were an `a`.
 const MANY_SETS: &str = "%%\n(a|b)*a((a|b){13}) return L;\n";
 
 /// As many positions as there may be, one behind the other.
@@ -62,23 +62,23 @@ fn refuses_more_positions_or_sets_than_the_limit(rt: HostRuntime) -> Result<(), 
 }
 
 #[test]
-fn lists_by_as_many_positions_and_sets_as_there_may_be(rt: HostRuntime) -> Result<(), AllocError> {
+fn lists_by_as_many_positions_as_there_may_be(rt: HostRuntime) -> Result<(), AllocError> {
     let alloc = rt.alloc();
     let full = repeated(alloc, "a", 16_384)?;
     let text = format!(in alloc; "{full}a")?;
     let listing = format!(in alloc; "0 T A 0 16384 {full}\n0 E - 16384 1 a\n")?;
-    let doubled = doubling_names(alloc, 15)?;
+    lists(&rt, &[(MANY_POSITIONS, text.as_bytes(), listing.as_str())])
+}
+
+#[test]
+fn lists_by_as_many_sets_as_there_may_be(rt: HostRuntime) -> Result<(), AllocError> {
     lists(
         &rt,
-        &[
-            (
-                MANY_SETS,
-                b"abbbbbbbbbbbbbb",
-                "0 T L 0 14 abbbbbbbbbbbbb\n0 E - 14 1 b\n",
-            ),
-            (MANY_POSITIONS, text.as_bytes(), listing.as_str()),
-            (doubled.as_str(), text.as_bytes(), listing.as_str()),
-        ],
+        &[(
+            MANY_SETS,
+            b"abbbbbbbbbbbbbb",
+            "0 T L 0 14 abbbbbbbbbbbbb\n0 E - 14 1 b\n",
+        )],
     )
 }
 
@@ -112,8 +112,18 @@ fn merging_leaves_the_fewest_states(rt: HostRuntime) -> Result<(), Fail> {
 }
 
 #[test]
+fn names_may_double_up_to_the_limit(rt: HostRuntime) -> Result<(), Fail> {
+    let spec = doubling_names(rt.alloc(), 15)?;
+    let spec = read_spec(rt.alloc(), spec.as_bytes())?;
+    assert!(rt; build(rt.alloc(), &spec).is_ok());
+    Ok(())
+}
+
+#[test]
 fn build_answers_which_limit_is_passed(rt: HostRuntime) -> Result<(), Fail> {
+    let doubled = doubling_names(rt.alloc(), 32)?;
     let rows = [
+        (doubled.as_str(), BuildFault::TooManyPositions),
         ("%%\n(a{128}){128}|b ;\n", BuildFault::TooManyPositions),
         ("%%\n(a|b)*a((a|b){14}) ;\n", BuildFault::TooManySets),
     ];

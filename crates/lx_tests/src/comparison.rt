@@ -12,6 +12,7 @@ use lx_spec::read_spec;
 use lx_spec::spec::Spec;
 use lx_tool::{list_files, print_listing};
 use std::alloc::{AllocError, Global};
+use std::process::Abort;
 use std::test::Fail;
 
 /// A list of one.
@@ -46,7 +47,7 @@ fn unmerged_listing(alloc: Global, spec: &[u8], text: &[u8]) -> Result<Vec<u8>, 
 }
 
 /// Asserts that the program lists a text as the plain scanner does, with and without merging.
-fn compare(rt: &HostRuntime, spec: &[u8], text: &[u8]) -> Result<(), Fail> {
+fn compare<R: Abort + AllocGlobal>(rt: &R, spec: &[u8], text: &[u8]) -> Result<(), Fail> {
     let wanted = plain_listing(rt.alloc(), spec, text)?;
     let unmerged = unmerged_listing(rt.alloc(), spec, text)?;
     let ran = lx(rt, &["run", "S", "F"], &[("S", spec), ("F", text)])?;
