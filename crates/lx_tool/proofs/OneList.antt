@@ -11,7 +11,7 @@ use Rattle.lx_tool.specs.declared.scanner.Match.{Match}
 use Rattle.lx_tool.specs.Items.{IsNext, Run, place_after, items_of_match, first_place, actions_of, AreItemsBy}
 
 -- of equal reaches of one rule the lengths are equal
-same_length : (b : Bool) (m n : ℕ) → (if b then m + 1 else m) ≡ (if b then n + 1 else n) → m ≡ n
+pub same_length : (b : Bool) (m n : ℕ) → (if b then m + 1 else m) ≡ (if b then n + 1 else n) → m ≡ n
 same_length true m n e = omega (arith, e)
 same_length false m n e = e
 

@@ -3,6 +3,8 @@ use Rattle.std.specs.Prelude.{ℕ, ◌≡◌, ◌≢◌, ◌<◌, ◌⊎◌, ⊤
 use Rattle.std.specs.Borrow.{Bor}
 use Rattle.clap.specs.declared.error.kind.ErrorKind.TheVariants as kind
 use Rattle.clap.specs.Words.{kind_of}
+use Rattle.lx_auto.specs.declared.fault.BuildFault.{BuildFault}
+use Rattle.lx_auto.specs.declared.fault.BuildFault.TheVariants as build
 use Rattle.lx_spec.specs.declared.fault.Code.TheVariants as code
 use Rattle.lx_spec.specs.declared.fault.SpecFault.{SpecFault}
 use Rattle.lx_piece.specs.declared.relaying.RelayFault.{RelayFault}
@@ -11,11 +13,12 @@ use Rattle.lx_tool.specs.declared.command_line.RunOrder.{RunOrder}
 use Rattle.lx_tool.specs.declared.printing.RunFault.{RunFault}
 use Rattle.lx_tool.specs.declared.printing.RunFault.TheVariants as run
 use Rattle.lx_tool.specs.declared.program.Failure.{Failure}
-use Rattle.lx_tool.specs.declared.program.Failure.TheVariants.{Specification, Words, TooManyFiles, NotRead, Output, Memory}
+use Rattle.lx_tool.specs.declared.program.Failure.TheVariants.{Specification, Automaton, Words, TooManyFiles, NotRead, Output, Memory}
 
 -- the exit status of a command that is not done
 abbrev pub status_of : Failure → ℕ
 status_of (Specification fault) = 1
+status_of (Automaton fault) = 1
 status_of (Words error) = 2
 status_of TooManyFiles = 2
 status_of (NotRead name) = 3
@@ -36,9 +39,16 @@ failure_of_run run.Reader = Output
 abbrev pub AnswersFault : SpecFault → Failure → Type 0
 AnswersFault fault failure = ((fault.code ≡ code.Memory) × (failure ≡ Memory)) ⊎ ((fault.code ≢ code.Memory) × (failure ≡ Specification fault))
 
+-- why a command is not done whose specification has no automaton
+abbrev pub failure_of_build : BuildFault → Failure
+failure_of_build build.TooManyPositions = Automaton build.TooManyPositions
+failure_of_build build.TooManySets = Automaton build.TooManySets
+failure_of_build build.Memory = Memory
+
 -- That memory was refused is told by no other failure than Memory.
 abbrev pub HidesNoMemory : Failure → Type 0
 HidesNoMemory (Specification fault) = fault.code ≢ code.Memory
+HidesNoMemory (Automaton fault) = fault ≢ build.Memory
 HidesNoMemory (Words error) = kind_of error ≢ kind.OutOfMemory
 HidesNoMemory TooManyFiles = ⊤
 HidesNoMemory (NotRead name) = ⊤
@@ -52,6 +62,7 @@ IsUnread name failure = (failure ≡ NotRead name) ⊎ (failure ≡ Memory)
 -- What is known of an order to list files that is not done.
 abbrev pub FailsBy : RunOrder → Failure → Type 0
 FailsBy order (Specification fault) = fault.code ≢ code.Memory
+FailsBy order (Automaton fault) = fault ≢ build.Memory
 FailsBy order (Words error) = ⊥
 FailsBy order TooManyFiles = 65536 < vec_len order.files
 FailsBy order (NotRead name) = Any (λ known. known ≡ name) (order.specification ∷ order.files.items)

@@ -5,10 +5,12 @@ ghost use Rattle.std.specs.Io.KnownBytes.{Keeps};
 ghost use Rattle.lx_tool.specs.Statuses.{FailsBy, HidesNoMemory, IsUnread, status_of};
 
 use crate::command_line::{ITEMS, Order, Refusal, RunOrder, read_words};
+use crate::merged::merged_automaton;
 use crate::planning::list_files;
 use crate::printing::RunFault;
 use crate::source::{ListSources, SourceFault, Sources};
 use clap::Error as WordsError;
+use lx_auto::BuildFault;
 use lx_spec::fault::{Code, SpecFault};
 use lx_spec::read::read_spec;
 use std::alloc::{AllocError, AllocFailed, Global};
@@ -32,6 +34,8 @@ static STORED: [(&str, &[u8]); 2] = [
 enum Failure<'a> {
     #[error("lx: {0}")]
     Specification(SpecFault),
+    #[error("lx: {0}")]
+    Automaton(BuildFault),
     #[error("{0}")]
     Words(WordsError),
     #[error("lx: too many files")]
@@ -50,7 +54,7 @@ impl Failure<'_> {
         ensures { result ≡ status_of self.now }
     {
         match self {
-            Failure::Specification(_) => 1,
+            Failure::Specification(_) | Failure::Automaton(_) => 1,
             Failure::Words(_) | Failure::TooManyFiles => 2,
             Failure::NotRead(_) => 3,
             Failure::Output => 4,
@@ -105,10 +109,23 @@ impl From<SpecFault> for Failure<'_> {
     }
 }
 
+impl From<BuildFault> for Failure<'_> {
+    ghost use Rattle.lx_tool.specs.Statuses.{failure_of_build};
+
+    ghost from_gives = { λ fault failure. failure ≡ failure_of_build fault };
+
+    fn from(fault: BuildFault) -> Self {
+        match fault {
+            BuildFault::Memory => Failure::Memory,
+            _ => Failure::Automaton(fault),
+        }
+    }
+}
+
 /// The whole program: `words` are the command line, the program's name first. Files are read from `sources`; the listing
 /// or the help goes to `out`, which is flushed, and one line on what went wrong to `err`, whose own faults change nothing.
-/// The result is the exit status: 0, all was done; 1, the specification was refused; 2, the command line was; 3, a file
-/// can't be read; 4, the output failed; 5, memory was refused.
+/// The result is the exit status: 0, all was done; 1, the specification was refused, or is too large for an automaton; 2, the
+/// command line was refused; 3, a file can't be read; 4, the output failed; 5, memory was refused.
 pub fn run<R, S: Sources, O: Write, E: Write>(
     _rt: &R,
     alloc: Global,
@@ -175,11 +192,12 @@ fn list<'a, S: Sources, O: Write>(
     }
     let text = read_file(alloc, sources, order.specification)?;
     let spec = read_spec(alloc, &text)?;
+    let automaton = merged_automaton(alloc, &spec)?;
     let files = read_files(alloc, sources, &order.files)?;
     if files.is_empty() {
         return Ok(());
     }
-    list_files(alloc, spec, files, order.per_piece, out)?;
+    list_files(alloc, spec, &automaton, files, order.per_piece, out)?;
     Ok(())
 }
 

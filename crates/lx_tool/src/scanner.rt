@@ -1,13 +1,15 @@
-//! The plain scanner: the items of a text, match by match.
+//! The scanner: the items of a text, match by match.
 
-ghost use Rattle.std.specs.Prelude.{◌≡◌, ◌<◌, ◌≤◌, ◌++◌, length, IfOk, OnOk, MatchOption, All, List, ℕ};
-ghost use Rattle.std.specs.Option.{ForSome};
+ghost use Rattle.std.specs.Prelude.{◌≡◌, ◌<◌, ◌≤◌, ◌++◌, length, None, IfOk, OnOk, MatchOption, All, List, ℕ};
+ghost use Rattle.std.specs.Option.{ForSome, option_map};
+ghost use Rattle.lx_auto.specs.Meaning.{IsAutomatonOf};
 ghost use Rattle.lx_spec.specs.Plain.{PlainSpec};
 ghost use Rattle.lx_spec.specs.views.Specs.{spec_view};
 ghost use Rattle.lx_piece.specs.Items.{IsItemOf};
 ghost use Rattle.lx_tool.specs.Items.{AreItemsBy, GoesOn, actions_of, condition_after, items_of_steps, steps_of};
 
 use crate::choice::choose;
+use lx_auto::Automaton;
 use lx_piece::Item;
 use lx_spec::rule::Step;
 use lx_spec::spec::Spec;
@@ -53,42 +55,49 @@ fn condition_behind(steps: &[Step], condition: u16) -> u16
     now
 }
 
-/// The match at a place and the place behind it, or nothing at the end of the text.
-pub(crate) fn next_match(
-    alloc: Global,
-    spec: &Spec,
-    text: &[u8],
-    place: Place,
-) -> Result<Option<(Match, Place)>, AllocError>
-    requires within { place.offset ≤ length text.now }
-    requires known { place.condition < length (spec_view spec.now).conditions }
-    ensures { IfOk result (λ found. MatchOption found (place.offset ≡ length text.now) (λ f. GoesOn (spec_view spec.now) text.now place f.0 f.1)) }
+// The match that a choice is at a place. Where no rule is chosen, a byte alone is echoed.
+fn match_at(start: usize, choice: Option<(u16, usize)>) -> Match
+    ensures start { result.start ≡ start }
+    ensures choice { choice ≡ option_map (λ rule. (rule, result.len)) result.rule }
+    ensures alone { result.rule ≡ None → result.len ≡ 1 }
 {
-    if place.offset == text.len() {
-        return Ok(None);
-    }
-    let (rule, len) = match choose(
-        alloc,
-        spec,
-        place.condition,
-        place.at_line_begin,
-        &text[place.offset..],
-    )? {
+    let (rule, len) = match choice {
         Some((rule, len)) => (Some(rule), len),
         None => (None, 1),
     };
-    let offset = place.offset + len;
+    Match { rule, start, len }
+}
+
+/// The match at a place and the place behind it, or nothing at the end of the text.
+pub(crate) fn next_match(
+    spec: &Spec,
+    automaton: &Automaton,
+    text: &[u8],
+    place: Place,
+) -> Option<(Match, Place)>
+    requires automaton { IsAutomatonOf (spec_view spec.now) automaton.now }
+    requires within { place.offset ≤ length text.now }
+    requires known { place.condition < length (spec_view spec.now).conditions }
+    ensures { MatchOption result (place.offset ≡ length text.now) (λ found. GoesOn (spec_view spec.now) text.now place found.0 found.1) }
+{
+    if place.offset == text.len() {
+        return None;
+    }
+    let choice = choose(
+        spec,
+        automaton,
+        place.condition,
+        place.at_line_begin,
+        &text[place.offset..],
+    );
+    let found = match_at(place.offset, choice);
+    let offset = place.offset + found.len;
     let next = Place {
         offset,
-        condition: condition_behind(steps_of_rule(spec, rule), place.condition),
+        condition: condition_behind(steps_of_rule(spec, found.rule), place.condition),
         at_line_begin: text[offset - 1] == b'\n',
     };
-    let found = Match {
-        rule,
-        start: place.offset,
-        len,
-    };
-    Ok(Some((found, next)))
+    Some((found, next))
 }
 
 // Adds the items that the steps give of `len` bytes from `start`.
@@ -119,7 +128,13 @@ fn push_items(
 }
 
 /// The items of the text by the rules of the specification. They lie in the text, and name kinds that are there.
-pub(crate) fn scan(alloc: Global, spec: &Spec, text: &[u8]) -> Result<Vec<Item>, AllocError>
+pub(crate) fn scan(
+    alloc: Global,
+    spec: &Spec,
+    automaton: &Automaton,
+    text: &[u8],
+) -> Result<Vec<Item>, AllocError>
+    requires { IsAutomatonOf (spec_view spec.now) automaton.now }
     ensures items { IfOk result (λ items. AreItemsBy (spec_view spec.now) text.now items.items) }
     ensures placed { IfOk result (λ items. All (IsItemOf (spec_view spec.now).kinds text.now) items.items) }
 {
@@ -129,7 +144,7 @@ pub(crate) fn scan(alloc: Global, spec: &Spec, text: &[u8]) -> Result<Vec<Item>,
         condition: 0,
         at_line_begin: true,
     };
-    'matches: while let Some((found, next)) = next_match(alloc, spec, text, place)? {
+    'matches: while let Some((found, next)) = next_match(spec, automaton, text, place) {
         push_items(
             &mut items,
             steps_of_rule(spec, found.rule),

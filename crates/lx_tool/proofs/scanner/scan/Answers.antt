@@ -13,7 +13,7 @@ use Rattle.lx_tool.proofs.scanner.scan.Goals as goal
 pub matches-preserved : goal.matches-preserved
 matches-preserved c =
     let spec : PlainSpec = spec_view c.args.spec.now in
-    let goes : GoesOn spec c.args.text.now c.matches.place c.in-Some.found c.in-Some.next = rw c.in-Some.is at c.in_ok-found.ensures in
+    let goes : GoesOn spec c.args.text.now c.matches.place c.in-Some.found c.in-Some.next = rw c.in-Some.is at c.next_match.ensures in
     let old = c.matches.invariant.run in
     let actions = actions_of spec in
     let names : List (List ℕ) = spec.kinds in

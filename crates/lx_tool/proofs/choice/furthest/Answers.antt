@@ -1,0 +1,20 @@
+use Rattle.std.proofs.Common.{sym, refl}
+use Rattle.std.specs.Prelude.{slice_index}
+use Rattle.lx_tool.proofs.Stepping.{reads_accepting, reads_on}
+use Rattle.lx_tool.proofs.choice.furthest.Goals as goal
+use Rattle.lx_tool.proofs.choice.furthest.Goals.{in-Some-accepts, in_default-accepts}
+
+pub loop-i-preserved : goal.loop-i-preserved
+loop-i-preserved c =
+    let m = c.args.automaton.now in
+    let text = c.args.text.now in
+    let i = c.loop-i.i in
+    let byte = slice_index text i in
+    elim c.match-accepts.branch [
+      | in-Some-accepts w ↦
+          rw (w.state-is, w.last-is) (reads_accepting m c.args.condition c.args.begin text i c.loop-i.state.0 byte c.in-Some.next.0 w.in-Some-accepts.rule c.loop-i.last
+          c.loop-i-test.true refl (sym c.in-Some.ensures.target) c.in-Some.ensures.state (sym w.in-Some-accepts.ensures) c.loop-i.invariant)
+      | in_default-accepts w ↦
+          rw (w.state-is, w.last-is) (reads_on m c.args.condition c.args.begin text i c.loop-i.state.0 byte c.in-Some.next.0 c.loop-i.last
+          c.loop-i-test.true refl (sym c.in-Some.ensures.target) c.in-Some.ensures.state (sym w.in_default-accepts.ensures) c.loop-i.invariant)
+    ]

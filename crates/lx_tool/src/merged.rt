@@ -1,0 +1,26 @@
+//! The automaton that a specification's files are scanned by.
+
+ghost use Rattle.std.specs.Prelude.{◌≡◌, ◌<◌, ◌≤◌, IfOk, IfErr};
+ghost use Rattle.lx_auto.specs.Counts.{count_of_spec};
+ghost use Rattle.lx_auto.specs.Equivalence.{IsLeast, HasLiveSteps};
+ghost use Rattle.lx_auto.specs.Meaning.{IsAutomatonOf};
+ghost use Rattle.lx_auto.specs.PositionSets.{HasMoreReachedSets};
+ghost use Rattle.lx_spec.specs.views.Specs.{spec_view};
+
+use lx_auto::{Automaton, BuildFault, build, merge};
+use lx_spec::spec::Spec;
+use std::alloc::Global;
+
+/// The merged automaton of a specification. E30 comes where it has more positions than the limit, and E31 where it hasn't and has
+/// more reached sets.
+#[tactic(auto, using(crate::proofs::Choosing::alike_of))]
+pub(crate) fn merged_automaton(alloc: Global, spec: &Spec) -> Result<Automaton, BuildFault>
+    ensures automaton { IfOk result (λ a. IsAutomatonOf (spec_view spec.now) a) }
+    ensures told { IfOk result (λ a. IsLeast a) }
+    ensures live { IfOk result (λ a. HasLiveSteps a) }
+    ensures positions { IfErr result (λ e. e ≡ BuildFault.TooManyPositions → 16384 < count_of_spec (spec_view spec.now)) }
+    ensures sets { IfErr result (λ e. e ≡ BuildFault.TooManySets → (count_of_spec (spec_view spec.now) ≤ 16384) × HasMoreReachedSets (spec_view spec.now) 16384) }
+{
+    let built = build(alloc, spec)?;
+    Ok(merge(alloc, &built)?)
+}
