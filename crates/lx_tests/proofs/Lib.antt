@@ -1,1 +1,7 @@
+pub mod Best
+pub mod NameLemmas
+pub mod PlaceLemmas
 pub mod Planning
+pub mod SetLemmas
+pub mod Viewed
+pub mod Weights

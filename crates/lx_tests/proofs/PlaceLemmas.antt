@@ -14,8 +14,8 @@ use Rattle.std.proofs.lemmas.Option.{slice_get-get_or}
 use Rattle.std.proofs.Common.{get_or, eq-eqb, ne_eqb, eqb-true, take-append-drop, length-take-le}
 use Rattle.lx_ere.specs.Regex.{one_of}
 use Rattle.lx_ere.specs.Matching.{Splits, Repeats, RepeatsBetween, Matches}
-use Rattle.lx_tool.specs.Places.{Between, IsReached, AreEnds, AreWithin, AnyNumber, AtMost, AreBehind, AreLengths, is_byte_at}
-use Rattle.lx_tool.proofs.SetLemmas.{is_empty, at_number}
+use Rattle.lx_tests.specs.Places.{Between, IsReached, AreEnds, AreWithin, AnyNumber, AtMost, AreBehind, AreLengths, is_byte_at}
+use Rattle.lx_tests.proofs.SetLemmas.{is_empty, at_number}
 
 -- ---- words
 -- a word of repeats is one of so many, and then of the rest

@@ -68,15 +68,14 @@ fn names_the_first_file_that_is_not_read(rt: HostRuntime) -> Result<(), AllocErr
 
 #[test]
 fn judges_the_specification_before_it_reads_the_files(rt: HostRuntime) -> Result<(), AllocError> {
-    let files: [(&str, &[u8]); 1] = [("S", b"%%\na/b ;\n")];
-    expect(
-        &rt,
-        &["run", "S", "F"],
-        &files,
-        1,
-        b"",
-        "lx: E10 at line 2\n",
-    )
+    let rows: [(&[u8], &str); 2] = [
+        (b"%%\na/b ;\n", "lx: E10 at line 2\n"),
+        (b"%%\n(a{128}){128}|b ;\n", "lx: E30\n"),
+    ];
+    for (spec, line) in rows {
+        expect(&rt, &["run", "S", "F"], &[("S", spec)], 1, b"", line)?;
+    }
+    Ok(())
 }
 
 #[test]

@@ -2,11 +2,17 @@
 #![tactic(auto)]
 
 #[cfg(test)]
+mod automata;
+#[cfg(test)]
 mod collector;
 #[cfg(test)]
 mod commands;
 #[cfg(test)]
+mod comparison;
+#[cfg(test)]
 mod equality;
+#[cfg(test)]
+mod examples;
 #[cfg(test)]
 mod expressions;
 #[cfg(test)]
@@ -17,6 +23,8 @@ mod listing;
 mod memory;
 #[cfg(test)]
 mod pieces;
+#[cfg(test)]
+mod plain;
 #[cfg(test)]
 mod plans;
 #[cfg(test)]

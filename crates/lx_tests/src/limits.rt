@@ -35,46 +35,6 @@ fn names_nest_32_deep(rt: HostRuntime) -> Result<(), AllocError> {
     ends_at(&rt, &most, &more, "lx: E12 at line 35\n")
 }
 
-/// A specification in which each name stands for the one before it twice over, and a rule for the last of so many.
-fn doubling_names(alloc: Global, count: u32) -> Result<String, AllocError> {
-    let mut spec = String::from_str(alloc, "N0 a\n")?;
-    for name in 1..count {
-        let half = name.saturating_sub(1);
-        let line = format!(in alloc; "N{name} {{N{half}}}{{N{half}}}\n")?;
-        spec.push_str(line.as_str())?;
-    }
-    let last = count.saturating_sub(1);
-    let rule = format!(in alloc; "%%\n{{N{last}}} return A;\n")?;
-    spec.push_str(rule.as_str())?;
-    Ok(spec)
-}
-
-#[test]
-fn names_that_double_soon_end(rt: HostRuntime) -> Result<(), AllocError> {
-    let few = doubling_names(rt.alloc(), 3)?;
-    let many = doubling_names(rt.alloc(), 32)?;
-    lists(
-        &rt,
-        &[
-            (few.as_str(), b"aaaab", "0 T A 0 4 aaaa\n0 E - 4 1 b\n"),
-            (
-                many.as_str(),
-                b"aaab",
-                "0 E - 0 1 a\n0 E - 1 1 a\n0 E - 2 1 a\n0 E - 3 1 b\n",
-            ),
-        ],
-    )
-}
-
-#[test]
-fn intervals_in_one_another_soon_end(rt: HostRuntime) -> Result<(), AllocError> {
-    let spec = "%%\n((((a{255}){255}){255}){255}) return A;\n";
-    lists(
-        &rt,
-        &[(spec, b"aab", "0 E - 0 1 a\n0 E - 1 1 a\n0 E - 2 1 b\n")],
-    )
-}
-
 #[test]
 fn numbers_end_below_two_to_the_31(rt: HostRuntime) -> Result<(), AllocError> {
     let spec = "%%\na return 2147483647;\n";

@@ -41,7 +41,7 @@ fn all_fit(kinds: &[Vec<u8>], text: &[u8], items: &[Item]) -> bool
 }
 
 /// A plan of run 1, where its items lie in its files and name kinds that are there.
-fn checked_plan(
+pub(crate) fn checked_plan(
     kinds: Vec<Vec<u8>>,
     files: Vec<Vec<u8>>,
     items: Vec<Vec<Item>>,

@@ -142,17 +142,20 @@ const START_CONDITIONS: &[(&str, &[u8], &str)] = &[
     ),
 ];
 
+/// All of these.
+pub(crate) const ROWS: [&[(&str, &[u8], &str)]; 7] = [
+    LONGEST_THEN_EARLIEST,
+    ECHOES,
+    NO_EMPTY_MATCH,
+    INTERVALS,
+    ANCHORS,
+    BRACKETS_AND_QUOTES,
+    START_CONDITIONS,
+];
+
 #[test]
 fn texts_are_listed_as_worked_out_by_hand(rt: HostRuntime) -> Result<(), AllocError> {
-    for rows in [
-        LONGEST_THEN_EARLIEST,
-        ECHOES,
-        NO_EMPTY_MATCH,
-        INTERVALS,
-        ANCHORS,
-        BRACKETS_AND_QUOTES,
-        START_CONDITIONS,
-    ] {
+    for rows in ROWS {
         lists(&rt, rows)?;
     }
     Ok(())

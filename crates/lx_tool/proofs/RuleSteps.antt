@@ -69,30 +69,30 @@ steps_known spec (Some i) in_range h =
     rw (action_at spec.rules i (found.0) (found.1)) ((and_parts (are_steps (length spec.conditions) (length spec.kinds) (found.0).steps) _ (parts.1)).0)
 
 -- ---- a choice, and where it leads
-pub goes_on : (spec : PlainSpec) (in_range : IsTrue (list_all (is_rule (length spec.conditions) (length spec.kinds)) spec.rules)) (text : List ℕ) (place : Place) (rule : Option ℕ) (len condition : ℕ) → place.offset < length text → place.condition < length spec.conditions →
-    IsChoice spec place.condition place.at_line_begin (drop place.offset text) (option_map (λ i. (i, len)) rule) → (rule ≡ None → len ≡ 1) → condition ≡ condition_after (steps_of (actions_of spec) rule) place.condition →
-    GoesOn spec text place (record { rule = rule; start = place.offset; len = len }) (record { offset = place.offset + len; condition = condition; at_line_begin = nat_eq (slice_index text (place.offset + len - 1)) 10 })
-goes_on spec in_range text place rule len condition more known choice alone is =
-    let there : ForSome rule (λ i. i < length spec.rules) = rule_there rule choice in
-    let taken : (0 < len) × (place.offset + len ≤ length text) = takes rule choice alone in
+pub goes_on : (spec : PlainSpec) (in_range : IsTrue (list_all (is_rule (length spec.conditions) (length spec.kinds)) spec.rules)) (text : List ℕ) (place : Place) (m : Match) (condition : ℕ) → place.offset < length text → place.condition < length spec.conditions →
+    m.start ≡ place.offset → IsChoice spec place.condition place.at_line_begin (drop place.offset text) (option_map (λ i. (i, m.len)) m.rule) → (m.rule ≡ None → m.len ≡ 1) → condition ≡ condition_after (steps_of (actions_of spec) m.rule) place.condition →
+    GoesOn spec text place m (record { offset = place.offset + m.len; condition = condition; at_line_begin = nat_eq (slice_index text (place.offset + m.len - 1)) 10 })
+goes_on spec in_range text place m condition more known start choice alone is =
+    let there : ForSome m.rule (λ i. i < length spec.rules) = rule_there m.rule choice in
+    let taken : (0 < m.len) × (place.offset + m.len ≤ length text) = takes m.rule choice alone in
     record {
-      is_next = record { more = more; start = refl; choice = choice; alone = alone };
-      after = ap (λ (c : ℕ). record { offset = place.offset + len; condition = c; at_line_begin = nat_eq (slice_index text (place.offset + len - 1)) 10 }) is;
-      further = let h : 0 < len = taken.0 in omega arith;
+      is_next = record { more = more; start = start; choice = choice; alone = alone };
+      after = ap (λ (c : ℕ). record { offset = place.offset + m.len; condition = c; at_line_begin = nat_eq (slice_index text (place.offset + m.len - 1)) 10 }) is;
+      further = let h : 0 < m.len = taken.0 in omega arith;
       within = taken.1;
-      known = rw is (condition_known (steps_of (actions_of spec) rule) (place.condition) (length spec.conditions) (length spec.kinds) known (steps_known spec rule in_range there));
+      known = rw is (condition_known (steps_of (actions_of spec) m.rule) (place.condition) (length spec.conditions) (length spec.kinds) known (steps_known spec m.rule in_range there));
       rule = there;
     }
   where
-    rule_there : (rule : Option ℕ) → IsChoice spec place.condition place.at_line_begin (drop place.offset text) (option_map (λ i. (i, len)) rule) → ForSome rule (λ i. i < length spec.rules)
+    rule_there : (rule : Option ℕ) → IsChoice spec place.condition place.at_line_begin (drop place.offset text) (option_map (λ i. (i, m.len)) rule) → ForSome rule (λ i. i < length spec.rules)
     rule_there None choice = λ i e. absurd (let f : None ≡ Some i = e in cc)
     rule_there (Some i) choice = λ j e. let f : i ≡ j = cc in subst (λ k. k < length spec.rules) f (slice_get_within (spec.rules) i (choice.rule) (choice.at))
 
-    takes : (rule : Option ℕ) → IsChoice spec place.condition place.at_line_begin (drop place.offset text) (option_map (λ i. (i, len)) rule) → (rule ≡ None → len ≡ 1) → (0 < len) × (place.offset + len ≤ length text)
-    takes None choice alone = let e : len ≡ 1 = alone refl in (omega arith, omega arith)
+    takes : (rule : Option ℕ) → IsChoice spec place.condition place.at_line_begin (drop place.offset text) (option_map (λ i. (i, m.len)) rule) → (rule ≡ None → m.len ≡ 1) → (0 < m.len) × (place.offset + m.len ≤ length text)
+    takes None choice alone = let e : m.len ≡ 1 = alone refl in (omega arith, omega arith)
     takes (Some i) choice alone =
         let fits = choice.fits in
-        let short : len ≤ length (drop place.offset text) = fits.within in
+        let short : m.len ≤ length (drop place.offset text) = fits.within in
         let rest : length (drop place.offset text) ≡ length text - place.offset = length-drop (place.offset) text in
         (fits.not_empty, omega arith)
 

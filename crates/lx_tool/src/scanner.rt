@@ -1,7 +1,7 @@
 //! The scanner: the items of a text, match by match.
 
-ghost use Rattle.std.specs.Prelude.{◌≡◌, ◌<◌, ◌≤◌, ◌++◌, length, IfOk, OnOk, MatchOption, All, List, ℕ};
-ghost use Rattle.std.specs.Option.{ForSome};
+ghost use Rattle.std.specs.Prelude.{◌≡◌, ◌<◌, ◌≤◌, ◌++◌, length, None, IfOk, OnOk, MatchOption, All, List, ℕ};
+ghost use Rattle.std.specs.Option.{ForSome, option_map};
 ghost use Rattle.lx_auto.specs.Meaning.{IsAutomatonOf};
 ghost use Rattle.lx_spec.specs.Plain.{PlainSpec};
 ghost use Rattle.lx_spec.specs.views.Specs.{spec_view};
@@ -55,6 +55,19 @@ fn condition_behind(steps: &[Step], condition: u16) -> u16
     now
 }
 
+// The match that a choice is at a place. Where no rule is chosen, a byte alone is echoed.
+fn match_at(start: usize, choice: Option<(u16, usize)>) -> Match
+    ensures start { result.start ≡ start }
+    ensures choice { choice ≡ option_map (λ rule. (rule, result.len)) result.rule }
+    ensures alone { result.rule ≡ None → result.len ≡ 1 }
+{
+    let (rule, len) = match choice {
+        Some((rule, len)) => (Some(rule), len),
+        None => (None, 1),
+    };
+    Match { rule, start, len }
+}
+
 /// The match at a place and the place behind it, or nothing at the end of the text.
 pub(crate) fn next_match(
     spec: &Spec,
@@ -70,26 +83,19 @@ pub(crate) fn next_match(
     if place.offset == text.len() {
         return None;
     }
-    let (rule, len) = match choose(
+    let choice = choose(
         spec,
         automaton,
         place.condition,
         place.at_line_begin,
         &text[place.offset..],
-    ) {
-        Some((rule, len)) => (Some(rule), len),
-        None => (None, 1),
-    };
-    let offset = place.offset + len;
+    );
+    let found = match_at(place.offset, choice);
+    let offset = place.offset + found.len;
     let next = Place {
         offset,
-        condition: condition_behind(steps_of_rule(spec, rule), place.condition),
+        condition: condition_behind(steps_of_rule(spec, found.rule), place.condition),
         at_line_begin: text[offset - 1] == b'\n',
-    };
-    let found = Match {
-        rule,
-        start: place.offset,
-        len,
     };
     Some((found, next))
 }

@@ -8,10 +8,10 @@ ghost use Rattle.lx_ere.specs.Matching.{Matches};
 ghost use Rattle.lx_spec.specs.Choice.{IsActive, IsChoice, SpecNames, reach};
 ghost use Rattle.lx_spec.specs.views.Rules.{rule_view};
 ghost use Rattle.lx_spec.specs.views.Specs.{spec_view};
-ghost use Rattle.lx_tool.specs.Longest.{IsLongest};
-ghost use Rattle.lx_tool.specs.Places.{AreLengths};
+ghost use Rattle.lx_tests.specs.Longest.{IsLongest};
+ghost use Rattle.lx_tests.specs.Places.{AreLengths};
 
-use crate::matcher::ends;
+use crate::plain::matcher::ends;
 use lx_ere::expr::Expr;
 use lx_spec::rule::Rule;
 use lx_spec::spec::Spec;

@@ -5,9 +5,9 @@ ghost use Rattle.lx_ere.specs.Regex.{regex_of};
 ghost use Rattle.lx_ere.specs.Matching.{Matches, Repeats};
 ghost use Rattle.lx_spec.specs.Names.{NameMatches};
 ghost use Rattle.lx_spec.specs.views.Rules.{definition_view};
-ghost use Rattle.lx_tool.specs.Places.{AreEnds, AreWithin, AnyNumber, AtMost};
+ghost use Rattle.lx_tests.specs.Places.{AreEnds, AreWithin, AnyNumber, AtMost};
 
-use crate::places::{add_new, behind_byte, copy_of};
+use crate::plain::places::{add_new, behind_byte, copy_of};
 use lx_ere::expr::Expr;
 use lx_spec::definition::Definition;
 use std::alloc::{AllocError, Global};

@@ -5,7 +5,7 @@ ghost use Rattle.std.specs.Ordering.{nat_cmp};
 ghost use Rattle.std.specs.BTreeSet.{contains, btree_set_len, IsOrdered};
 ghost use Rattle.lx_ere.specs.Regex.{one_of};
 ghost use Rattle.lx_ere.specs.Matching.{Matches, no_names};
-ghost use Rattle.lx_tool.specs.Places.{AreBehind, is_byte_at};
+ghost use Rattle.lx_tests.specs.Places.{AreBehind, is_byte_at};
 
 use lx_ere::set::ByteSet;
 use std::alloc::{AllocError, Global};

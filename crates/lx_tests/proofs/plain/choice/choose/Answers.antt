@@ -6,10 +6,10 @@ use Rattle.lx_spec.specs.Choice.{reach}
 use Rattle.lx_spec.specs.Plain.{PlainRule, PlainSpec}
 use Rattle.lx_spec.specs.views.Rules.{rule_view}
 use Rattle.lx_spec.specs.views.Specs.{spec_view}
-use Rattle.lx_tool.proofs.Best.{Best-none, Best-new, Best-old, Best-all}
-use Rattle.lx_tool.proofs.Viewed.{viewed_at}
-use Rattle.lx_tool.proofs.choice.choose.Goals as goal
-use Rattle.lx_tool.proofs.choice.choose.Goals.{in-Some+then-reach-best_reach, in-Some+else-reach-best_reach, in_default}
+use Rattle.lx_tests.proofs.Best.{Best-none, Best-new, Best-old, Best-all}
+use Rattle.lx_tests.proofs.Viewed.{viewed_at}
+use Rattle.lx_tests.proofs.plain.choice.choose.Goals as goal
+use Rattle.lx_tests.proofs.plain.choice.choose.Goals.{in-Some+then-reach-best_reach, in-Some+else-reach-best_reach, in_default}
 
 pub loop-i-preserved : goal.loop-i-preserved
 loop-i-preserved c =

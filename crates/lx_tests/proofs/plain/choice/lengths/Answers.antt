@@ -4,9 +4,9 @@ use Rattle.lx_ere.specs.Regex.{regex_of}
 use Rattle.lx_ere.specs.Matching.{Matches}
 use Rattle.lx_spec.specs.Choice.{SpecNames}
 use Rattle.lx_spec.specs.views.Specs.{spec_view}
-use Rattle.lx_tool.specs.Places.{AreEnds, AreLengths}
-use Rattle.lx_tool.proofs.PlaceLemmas.{lengths_from_ends}
-use Rattle.lx_tool.proofs.choice.lengths.Goals as goal
+use Rattle.lx_tests.specs.Places.{AreEnds, AreLengths}
+use Rattle.lx_tests.proofs.PlaceLemmas.{lengths_from_ends}
+use Rattle.lx_tests.proofs.plain.choice.lengths.Goals as goal
 
 pub returns : goal.returns
 unfolding SpecNames

@@ -6,7 +6,7 @@ use Rattle.lx_ere.specs.Matching.{Matches}
 use Rattle.lx_spec.specs.Choice.{Fits, SpecNames}
 use Rattle.lx_spec.specs.views.Rules.{rule_view}
 use Rattle.lx_spec.specs.views.Specs.{spec_view}
-use Rattle.lx_tool.proofs.choice.longest.Given as goal
+use Rattle.lx_tests.proofs.plain.choice.longest.Given as goal
 
 abbrev pub invariant-loop-n : goal.invariant-loop-n
 invariant-loop-n l = record {

@@ -11,14 +11,14 @@ use Rattle.lx_ere.specs.Matching.{Matches, Splits, Repeats, RepeatsBetween}
 use Rattle.lx_spec.specs.Names.{NameMatches}
 use Rattle.lx_spec.specs.Plain.{PlainDefinition}
 use Rattle.lx_spec.specs.views.Rules.{definition_view}
-use Rattle.lx_tool.specs.Places.{AreEnds, AreWithin, AnyNumber, AtMost}
-use Rattle.lx_tool.proofs.PlaceLemmas.{ends_within, all_within, ends_map, ends_then, ends_or, ends_byte, closing_goes_on, closing_ends, closing_falls, repeats_more, repeats_fewer, at_most_more, at_most_fewer, between_any, any_between, between_at_most, at_most_between}
-use Rattle.lx_tool.proofs.SetLemmas.{is_empty, nothing_in}
-use Rattle.lx_tool.proofs.NameLemmas.{DefinedBelow, below_other, below_still, below_more, below_fewer, name_into, name_from}
-use Rattle.lx_tool.proofs.Viewed.{viewed_at}
-use Rattle.lx_tool.proofs.Weights.{count_of, count_all, count_le, name_falls}
-use Rattle.lx_tool.proofs.matcher.+matcher.Goals as goal
-use Rattle.lx_tool.proofs.matcher.+matcher.Goals.{named-then-eq+in_ok-further+in_ok-add_new, named-else-eq}
+use Rattle.lx_tests.specs.Places.{AreEnds, AreWithin, AnyNumber, AtMost}
+use Rattle.lx_tests.proofs.PlaceLemmas.{ends_within, all_within, ends_map, ends_then, ends_or, ends_byte, closing_goes_on, closing_ends, closing_falls, repeats_more, repeats_fewer, at_most_more, at_most_fewer, between_any, any_between, between_at_most, at_most_between}
+use Rattle.lx_tests.proofs.SetLemmas.{is_empty, nothing_in}
+use Rattle.lx_tests.proofs.NameLemmas.{DefinedBelow, below_other, below_still, below_more, below_fewer, name_into, name_from}
+use Rattle.lx_tests.proofs.Viewed.{viewed_at}
+use Rattle.lx_tests.proofs.Weights.{count_of, count_all, count_le, name_falls}
+use Rattle.lx_tests.proofs.plain.matcher.+matcher.Goals as goal
+use Rattle.lx_tests.proofs.plain.matcher.+matcher.Goals.{named-then-eq+in_ok-further+in_ok-add_new, named-else-eq}
 
 pub any_number-ends-requires : goal.any_number-ends-requires
 any_number-ends-requires t c = (search rules, λ j h. c.closing.invariant.within j (c.closing.invariant.closing.inside j h))

@@ -5,12 +5,12 @@ use Rattle.lx_ere.specs.Regex.{regex_of}
 use Rattle.lx_ere.specs.Matching.{Matches, Repeats}
 use Rattle.lx_spec.specs.Names.{NameMatches}
 use Rattle.lx_spec.specs.views.Rules.{definition_view}
-use Rattle.lx_tool.specs.Places.{AreEnds, AreWithin, AtMost}
-use Rattle.lx_tool.proofs.PlaceLemmas.{IsClosing}
-use Rattle.lx_tool.proofs.SetLemmas.{is_empty}
-use Rattle.lx_tool.proofs.NameLemmas.{DefinedBelow}
-use Rattle.lx_tool.proofs.Weights.{weight, count_of}
-use Rattle.lx_tool.proofs.matcher.+matcher.Given as goal
+use Rattle.lx_tests.specs.Places.{AreEnds, AreWithin, AtMost}
+use Rattle.lx_tests.proofs.PlaceLemmas.{IsClosing}
+use Rattle.lx_tests.proofs.SetLemmas.{is_empty}
+use Rattle.lx_tests.proofs.NameLemmas.{DefinedBelow}
+use Rattle.lx_tests.proofs.Weights.{weight, count_of}
+use Rattle.lx_tests.proofs.plain.matcher.+matcher.Given as goal
 
 abbrev pub decreases-ends : goal.decreases-ends
 decreases-ends l = weight l.definitions.now l.depth (count_of l.expr.now)

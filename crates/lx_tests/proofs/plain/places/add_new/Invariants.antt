@@ -2,8 +2,8 @@ use Rattle.std.proofs.Common.{◌≡◌, ◌+◌, ℕ, ◌||◌, ◌&&◌, not, 
 use Rattle.std.specs.Ordering.{nat_cmp}
 use Rattle.std.specs.BTreeSet.{contains, btree_set_len, IsOrdered}
 use Rattle.std.specs.Map.Iter.{deref}
-use Rattle.lx_tool.proofs.SetLemmas.{has}
-use Rattle.lx_tool.proofs.places.add_new.Given as goal
+use Rattle.lx_tests.proofs.SetLemmas.{has}
+use Rattle.lx_tests.proofs.plain.places.add_new.Given as goal
 
 abbrev pub invariant-loop-place : goal.invariant-loop-place
 invariant-loop-place l = record {

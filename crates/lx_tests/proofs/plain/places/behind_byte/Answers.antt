@@ -3,9 +3,9 @@ use Rattle.std.specs.Map.Iter.{deref}
 use Rattle.std.specs.BTreeSet.{contains}
 use Rattle.std.specs.Ordering.{nat_cmp}
 use Rattle.std.proofs.lemmas.List.{map-append}
-use Rattle.lx_tool.specs.Places.{is_byte_at}
-use Rattle.lx_tool.proofs.SetLemmas.{next_more, first_more}
-use Rattle.lx_tool.proofs.places.behind_byte.Goals as goal
+use Rattle.lx_tests.specs.Places.{is_byte_at}
+use Rattle.lx_tests.proofs.SetLemmas.{next_more, first_more}
+use Rattle.lx_tests.proofs.plain.places.behind_byte.Goals as goal
 
 pub loop-start-preserved-in_ok-insert : goal.loop-start-preserved-in_ok-insert
 loop-start-preserved-in_ok-insert c =

@@ -2,9 +2,9 @@ use Rattle.std.proofs.Common.{◌≡◌, ℕ, ◌+◌, false, ◌&&◌, map}
 use Rattle.std.specs.Ordering.{nat_cmp}
 use Rattle.std.specs.BTreeSet.{contains}
 use Rattle.std.specs.Map.Iter.{deref}
-use Rattle.lx_tool.specs.Places.{is_byte_at}
-use Rattle.lx_tool.proofs.SetLemmas.{has}
-use Rattle.lx_tool.proofs.places.behind_byte.Given as goal
+use Rattle.lx_tests.specs.Places.{is_byte_at}
+use Rattle.lx_tests.proofs.SetLemmas.{has}
+use Rattle.lx_tests.proofs.plain.places.behind_byte.Given as goal
 
 abbrev pub invariant-loop-start : goal.invariant-loop-start
 invariant-loop-start l = record {

@@ -1,0 +1,70 @@
+//! The program lists each row as the plain scanner does, which finds matches by sets of places and has no automaton.
+
+ghost use Rattle.std.specs.Prelude.{◌≡◌, IfOk, vec_len};
+
+use crate::examples::EXAMPLES;
+use crate::plain::scanner::plain_items;
+use crate::plans::{NO_PLAN, checked_plan};
+use crate::rows::ROWS;
+use crate::running::lx;
+use lx_auto::build;
+use lx_spec::read_spec;
+use lx_spec::spec::Spec;
+use lx_tool::{list_files, print_listing};
+use std::alloc::{AllocError, Global};
+use std::process::Abort;
+use std::test::Fail;
+
+/// A list of one.
+fn alone<T: Drop>(alloc: Global, value: T) -> Result<Vec<T>, AllocError>
+    ensures { IfOk result (λ list. vec_len list ≡ 1) }
+{
+    let mut list = Vec::new(alloc);
+    list.push(value)?;
+    Ok(list)
+}
+
+/// The listing of a text by the plain scanner.
+fn plain_listing(alloc: Global, spec: &[u8], text: &[u8]) -> Result<Vec<u8>, Fail> {
+    let spec = read_spec(alloc, spec)?;
+    let items = alone(alloc, plain_items(alloc, &spec, text)?)?;
+    let files = alone(alloc, Vec::from_slice(alloc, text)?)?;
+    let Spec { kinds, .. } = spec;
+    let plan = checked_plan(kinds, files, items, 256).ok_or(NO_PLAN)?;
+    let mut out = Vec::new(alloc);
+    print_listing(alloc, &plan, &mut out)?;
+    Ok(out)
+}
+
+/// The listing by the automaton as it is built, whose states aren't merged.
+fn unmerged_listing(alloc: Global, spec: &[u8], text: &[u8]) -> Result<Vec<u8>, Fail> {
+    let spec = read_spec(alloc, spec)?;
+    let automaton = build(alloc, &spec)?;
+    let files = alone(alloc, Vec::from_slice(alloc, text)?)?;
+    let mut out = Vec::new(alloc);
+    list_files(alloc, spec, &automaton, files, 256, &mut out)?;
+    Ok(out)
+}
+
+/// Asserts that the program lists a text as the plain scanner does, with and without merging.
+fn compare<R: Abort + AllocGlobal>(rt: &R, spec: &[u8], text: &[u8]) -> Result<(), Fail> {
+    let wanted = plain_listing(rt.alloc(), spec, text)?;
+    let unmerged = unmerged_listing(rt.alloc(), spec, text)?;
+    let ran = lx(rt, &["run", "S", "F"], &[("S", spec), ("F", text)])?;
+    assert_eq!(rt; (ran.status, ran.out.as_slice()), (0, wanted.as_slice()));
+    assert_eq!(rt; unmerged.as_slice(), wanted.as_slice());
+    Ok(())
+}
+
+#[test]
+fn the_program_lists_as_the_plain_scanner_does(rt: HostRuntime) -> Result<(), Fail> {
+    for rows in ROWS {
+        for (spec, text, _) in rows {
+            compare(&rt, spec.as_bytes(), text)?;
+        }
+    }
+    for (spec, text) in EXAMPLES {
+        compare(&rt, spec.as_bytes(), text.as_bytes())?;
+    }
+    Ok(())
+}
