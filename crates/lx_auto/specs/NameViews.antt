@@ -1,17 +1,9 @@
 -- Which definition a name means.
 use Rattle.std.specs.Prelude.{ℕ, suc, nat_eq, if◌then◌else◌, List, [], ◌∷◌, Option, Some, None, slice_get}
 use Rattle.std.specs.Option.{option_map}
-use Rattle.std.specs.declared.alloc.Global.{Global}
-use Rattle.std.specs.declared.vec.Vec.{Vec}
-use Rattle.std.specs.BTreeMap.{BTreeMap, get_by}
-use Rattle.std.specs.Cmp.Lexicographic.{pointwise, slice_cmp}
-use Rattle.std.specs.Ordering.{nat_cmp}
+use Rattle.std.specs.Cmp.Lexicographic.{pointwise}
 use Rattle.lx_ere.specs.Regex.{Regex, regex_of}
 use Rattle.lx_spec.specs.declared.definition.Definition.{Definition}
-
--- the number that a map has at a name
-abbrev pub number_at : BTreeMap (Vec ℕ Global) ℕ → List ℕ → Option ℕ
-number_at numbers name = get_by (λ k. slice_cmp nat_cmp name k.items) numbers
 
 -- the number of the first definition with this name
 abbrev pub place_of : List Definition → List ℕ → Option ℕ

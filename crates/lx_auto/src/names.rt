@@ -1,10 +1,10 @@
 // Definitions by their names.
-ghost use Rattle.std.specs.Prelude.{◌≡◌, ℕ, List, Some, None, nat_eq, cond, IfOk, OnOk};
-ghost use Rattle.std.specs.Cmp.Lexicographic.{pointwise};
-ghost use Rattle.std.specs.Option.{option_or};
-ghost use Rattle.lx_auto.specs.NameViews.{number_at, place_of};
+ghost use Rattle.std.specs.Prelude.{◌≡◌, ℕ, List, IfOk};
+ghost use Rattle.lx_spec.specs.views.NameTables.{number_at};
+ghost use Rattle.lx_auto.specs.NameViews.{place_of};
 
 use lx_spec::definition::Definition;
+use lx_spec::name_table::add_number;
 use std::alloc::{AllocError, Global};
 use std::collections::BTreeMap;
 
@@ -23,21 +23,6 @@ impl Names<'_> {
     {
         self.numbers.get(name).copied()
     }
-}
-
-// Adds the number of a name, where the name has none yet.
-fn add_number(
-    alloc: Global,
-    numbers: &mut BTreeMap<Vec<u8>, usize>,
-    name: &[u8],
-    number: usize,
-) -> Result<(), AllocError>
-    ensures { OnOk result ((q : List ℕ) → number_at numbers.new q ≡ option_or (number_at numbers.old q) (cond (pointwise nat_eq name.now q) (Some number) None)) }
-{
-    if !numbers.contains_key(name) {
-        numbers.insert(Vec::from_slice(alloc, name)?, number)?;
-    }
-    Ok(())
 }
 
 /// These definitions by their names.

@@ -3,6 +3,7 @@
 ghost use Rattle.std.specs.Prelude.{◌≡◌, IfOk, vec_len};
 
 use crate::examples::EXAMPLES;
+use crate::limits;
 use crate::plain::scanner::plain_items;
 use crate::plans::{NO_PLAN, checked_plan};
 use crate::rows::ROWS;
@@ -56,13 +57,20 @@ fn compare<R: Abort + AllocGlobal>(rt: &R, spec: &[u8], text: &[u8]) -> Result<(
     Ok(())
 }
 
+/// Asserts it of the specification and the text of each row.
+fn compare_all<R: Abort + AllocGlobal>(rt: &R, rows: &[(&str, &[u8], &str)]) -> Result<(), Fail> {
+    for (spec, text, _) in rows {
+        compare(rt, spec.as_bytes(), text)?;
+    }
+    Ok(())
+}
+
 #[test]
 fn the_program_lists_as_the_plain_scanner_does(rt: HostRuntime) -> Result<(), Fail> {
     for rows in ROWS {
-        for (spec, text, _) in rows {
-            compare(&rt, spec.as_bytes(), text)?;
-        }
+        compare_all(&rt, rows)?;
     }
+    compare_all(&rt, limits::ROWS)?;
     for (spec, text) in EXAMPLES {
         compare(&rt, spec.as_bytes(), text.as_bytes())?;
     }

@@ -35,33 +35,39 @@ fn names_nest_32_deep(rt: HostRuntime) -> Result<(), AllocError> {
     ends_at(&rt, &most, &more, "lx: E12 at line 35\n")
 }
 
+/// The greatest number.
+const NUMBER: (&str, &[u8], &str) = ("%%\na return 2147483647;\n", b"a", "0 T 2147483647 0 1 a\n");
+
+/// Lines that end with CR LF.
+const CR_LF: (&str, &[u8], &str) = (
+    "%%\r\n[a-z]+ return ID;\r\n[0-9]+ return NUM;\r\n[ \\n]+ ;\r\n",
+    b"ab 12\n",
+    "0 T ID 0 2 ab\n0 T NUM 3 2 12\n",
+);
+
+/// Text for compilers round a rule.
+const CODE: (&str, &[u8], &str) = (
+    "/* note\nmore */\n%option noyywrap\n%%\na return A;\n%%\n}{\n",
+    b"a",
+    "0 T A 0 1 a\n",
+);
+
+/// All of these.
+pub(crate) const ROWS: &[(&str, &[u8], &str)] = &[NUMBER, CR_LF, CODE];
+
 #[test]
-fn numbers_end_below_two_to_the_31(rt: HostRuntime) -> Result<(), AllocError> {
-    let spec = "%%\na return 2147483647;\n";
-    lists(&rt, &[(spec, b"a", "0 T 2147483647 0 1 a\n")])?;
+fn reads_the_greatest_number_cr_lf_and_text_for_compilers(
+    rt: HostRuntime,
+) -> Result<(), AllocError> {
+    lists(&rt, ROWS)?;
     refuses(
         &rt,
         &[
             ("%%\na return 2147483648;\n", "lx: E20 at line 2\n"),
             ("%%\na return 01;\n", "lx: E20 at line 2\n"),
+            ("%option yylineno\n%%\n", "lx: E04 at line 1\n"),
         ],
     )
-}
-
-#[test]
-fn lines_may_end_with_cr_lf(rt: HostRuntime) -> Result<(), AllocError> {
-    let spec = "%%\r\n[a-z]+ return ID;\r\n[0-9]+ return NUM;\r\n[ \\n]+ ;\r\n";
-    lists(
-        &rt,
-        &[(spec, b"ab 12\n", "0 T ID 0 2 ab\n0 T NUM 3 2 12\n")],
-    )
-}
-
-#[test]
-fn text_for_compilers_has_no_effect(rt: HostRuntime) -> Result<(), AllocError> {
-    let spec = "/* note\nmore */\n%option noyywrap\n%%\na return A;\n%%\n}{\n";
-    lists(&rt, &[(spec, b"a", "0 T A 0 1 a\n")])?;
-    refuses(&rt, &[("%option yylineno\n%%\n", "lx: E04 at line 1\n")])
 }
 
 /// A text of so many bytes: this one, and one byte again and again behind it.
