@@ -6,6 +6,7 @@ mod active;
 mod arena;
 pub mod automaton;
 pub mod building;
+mod candidates;
 mod classes;
 mod complete;
 mod count;

@@ -1,12 +1,14 @@
 // The order in which blocks are split (Hopcroft 1971): by blocks that are still to be used as splitters, where of two
 // parts the smaller one gets the new number and is used. What is proved of the partition doesn't rest on the order.
 
-ghost use Rattle.std.specs.Prelude.{◌≡◌, ◌<◌, ◌≤◌, ◌+◌, ◌-◌, ◌*◌, ℕ, IfOk, OnOk, length, vec_len};
+ghost use Rattle.std.specs.Prelude.{◌≡◌, ◌<◌, ◌≤◌, ◌+◌, ◌-◌, ◌*◌, ℕ, true, IfOk, OnOk, length, vec_len};
 ghost use Rattle.lx_auto.specs.Completion.{total, IsComplete};
 ghost use Rattle.lx_auto.specs.Partitions.{block_count, IsSound, IsSplitter};
 ghost use Rattle.lx_auto.specs.Orders.{remaining};
+ghost use Rattle.lx_auto.specs.Sources.{AreAllListed, HaveAllThatLand};
 
-use crate::complete::{Complete, step};
+use crate::candidates::{members_of, sources_into};
+use crate::complete::Complete;
 use crate::partition::{Partition, flags_of};
 use crate::predecessors::Predecessors;
 use crate::split::{side_of, split};
@@ -15,7 +17,6 @@ use std::alloc::{AllocError, Global};
 /// What the choice of splits goes by.
 #[derive(Drop)]
 pub(crate) struct Order {
-    pub(crate) predecessors: Predecessors,
     /// How many states each block has.
     pub(crate) sizes: Vec<u32>,
     /// How many states of each block step into the splitter.
@@ -40,7 +41,6 @@ fn order_of(alloc: Global, m: &Complete, p: &Partition) -> Result<Order, AllocEr
     requires complete { IsComplete m.now }
     requires sound { IsSound m.now p.now }
 {
-    let predecessors = Predecessors::of(alloc, m)?;
     let count = p.representatives.len();
     let mut sizes = vec![in alloc; 0; count]?;
     for i in 0..p.block_of.len() {
@@ -55,7 +55,6 @@ fn order_of(alloc: Global, m: &Complete, p: &Partition) -> Result<Order, AllocEr
         }
     }
     Ok(Order {
-        predecessors,
         sizes,
         hits,
         touched: Vec::new(alloc),
@@ -78,32 +77,14 @@ fn hit(order: &mut Order, block: u16) -> Result<(), AllocError>
     Ok(())
 }
 
-/// Counts for each block its states that step to a state.
-fn hit_sources(order: &mut Order, p: &Partition, target: u16, class: u16) -> Result<(), AllocError>
+/// Counts for each block its states that step into the splitter, which are these.
+fn count_hits(order: &mut Order, p: &Partition, sources: &[u16]) -> Result<(), AllocError>
     ensures pending { OnOk result (vec_len order.new.pending ≡ vec_len order.old.pending) }
 {
-    let count = order.predecessors.sources(target, class).len();
-    for i in 0..count {
-        let source = order.predecessors.sources(target, class).get(i).copied();
-        let block = source.and_then(|s| p.block_of.get(s as usize).copied());
-        if let Some(block) = block {
+    for i in 0..sources.len() {
+        if let Some(block) = p.block_of.get(sources[i] as usize).copied() {
             hit(order, block)?;
         }
-    }
-    Ok(())
-}
-
-/// Counts for each block its states that step into the splitter, whose members these are.
-fn count_hits(
-    order: &mut Order,
-    p: &Partition,
-    members: &[u16],
-    class: u16,
-) -> Result<(), AllocError>
-    ensures pending { OnOk result (vec_len order.new.pending ≡ vec_len order.old.pending) }
-{
-    for i in 0..members.len() {
-        hit_sources(order, p, members[i], class)?;
     }
     Ok(())
 }
@@ -149,12 +130,14 @@ fn split_touched(
     p: &mut Partition,
     order: &mut Order,
     inside: &[bool],
+    sources: &[u16],
     class: usize,
     from: usize,
 ) -> Result<(), AllocError>
     requires complete { IsComplete m.now }
     requires sound { IsSound m.now p.old }
     requires splitter { IsSplitter m.now inside.now }
+    requires sources { HaveAllThatLand m.now inside.now class sources.now }
     requires class { class < m.now.width }
     ensures sound { OnOk result (IsSound m.now p.new) }
     ensures remaining { OnOk result (remaining m.now p.new order.new ≤ remaining m.now p.old order.old) }
@@ -171,7 +154,7 @@ fn split_touched(
     }
     let wanted = side_of(m, inside, from, class, hits <= size / 2);
     let moved = if wanted { hits } else { size - hits };
-    let is_split = split(alloc, m, p, inside, from, class, wanted)?;
+    let is_split = split(alloc, m, p, inside, sources, from, class, wanted)?;
     if is_split {
         add_block(order, from, size - moved, fresh as u16, moved)?;
         return Ok(());
@@ -179,41 +162,29 @@ fn split_touched(
     Ok(())
 }
 
-/// Splits all blocks by which of their states step into the set on a class.
+/// Splits all blocks by which of their states step into the set on a class. All that do are among `sources`.
 fn split_by(
     alloc: Global,
     m: &Complete,
     p: &mut Partition,
     order: &mut Order,
     inside: &[bool],
-    members: &[u16],
+    sources: &[u16],
     class: usize,
 ) -> Result<(), AllocError>
     requires complete { IsComplete m.now }
     requires sound { IsSound m.now p.old }
     requires splitter { IsSplitter m.now inside.now }
+    requires sources { HaveAllThatLand m.now inside.now class sources.now }
     requires class { class < m.now.width }
     ensures sound { OnOk result (IsSound m.now p.new) }
     ensures remaining { OnOk result (remaining m.now p.new order.new ≤ remaining m.now p.old order.old) }
 {
-    count_hits(order, p, members, class as u16)?;
+    count_hits(order, p, sources)?;
     while let Some(from) = order.touched.pop() {
-        split_touched(alloc, m, p, order, inside, class, from as usize)?;
+        split_touched(alloc, m, p, order, inside, sources, class, from as usize)?;
     }
     Ok(())
-}
-
-/// The states of the set.
-fn members_of(alloc: Global, inside: &[bool]) -> Result<Vec<u16>, AllocError>
-    requires { length inside.now ≤ 16513 }
-{
-    let mut members = Vec::new(alloc);
-    for state in 0..inside.len() {
-        if inside[state] {
-            members.push(state as u16)?;
-        }
-    }
-    Ok(members)
 }
 
 /// Splits all blocks by which of their states step into a block, on each class.
@@ -222,17 +193,21 @@ fn split_all(
     m: &Complete,
     p: &mut Partition,
     order: &mut Order,
+    predecessors: &Predecessors,
+    listed: bool,
     block: u16,
 ) -> Result<(), AllocError>
     requires complete { IsComplete m.now }
     requires sound { IsSound m.now p.old }
+    requires listed { listed ≡ true → AreAllListed m.now predecessors.now }
     ensures sound { OnOk result (IsSound m.now p.new) }
     ensures remaining { OnOk result (remaining m.now p.new order.new ≤ remaining m.now p.old order.old) }
 {
     let inside = flags_of(alloc, &p.block_of, block)?;
     let members = members_of(alloc, &inside)?;
     for class in 0..m.width {
-        split_by(alloc, m, p, order, &inside, &members, class)?;
+        let sources = sources_into(alloc, m, predecessors, listed, &inside, &members, class)?;
+        split_by(alloc, m, p, order, &inside, &sources, class)?;
     }
     Ok(())
 }
@@ -247,9 +222,11 @@ pub(crate) fn refine_in_order(
     requires sound { IsSound m.now p.old }
     ensures sound { OnOk result (IsSound m.now p.new) }
 {
+    let predecessors = Predecessors::of(alloc, m)?;
+    let listed = predecessors.lists_all(m);
     let mut order = order_of(alloc, m, p)?;
     while let Some(block) = order.pending.pop() {
-        split_all(alloc, m, p, &mut order, block)?;
+        split_all(alloc, m, p, &mut order, &predecessors, listed, block)?;
     }
     Ok(())
 }

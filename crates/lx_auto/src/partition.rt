@@ -1,8 +1,9 @@
 // Divisions of states into blocks.
 
-ghost use Rattle.std.specs.Prelude.{◌≡◌, ◌≢◌, ◌<◌, ◌≤◌, ◌+◌, ◌↔◌, ℕ, Bool, true, false, if◌then◌else◌, IsTrue, IfOk, OnOk, IfSome, IfNone, [], length, slice_index, vec_len};
+ghost use Rattle.std.specs.Prelude.{◌≡◌, ◌≢◌, ◌<◌, ◌≤◌, ◌+◌, ◌↔◌, ℕ, Bool, true, false, if◌then◌else◌, IsTrue, IfOk, OnOk, IfSome, IfNone, [], length, slice_index, vec_len, Contains};
 ghost use Rattle.lx_auto.specs.Completion.{total, label_of, step_of, IsComplete};
 ghost use Rattle.lx_auto.specs.Partitions.{block, block_count, member_of, flag, IsSound, IsStable, IsSplitter, IsMover, IsStayer, AreMovers, AreRenumbered, AreFlags, AreLabelledBelow, LandAlike, StepsLikeRepresentative};
+ghost use Rattle.lx_auto.specs.Sources.{AreMoversAmong, HaveAllThatLand};
 
 use crate::complete::{Complete, step};
 use std::alloc::{AllocError, Global};
@@ -111,8 +112,8 @@ fn is_mover(
     blocks[state] == from && lands(m, inside, state, class) == wanted
 }
 
-/// The states of a block that step into the set, or where `wanted` is false, out of it.
-pub(crate) fn movers_of(
+// The states of a block that step into the set, or where `wanted` is false, out of it: all states are gone through.
+fn movers_of_all(
     alloc: Global,
     m: &Complete,
     blocks: &[u16],
@@ -136,8 +137,85 @@ pub(crate) fn movers_of(
     Ok(movers)
 }
 
-/// A state of the block that isn't a mover.
+// Those of the states that are in the block and step into the set, or where `wanted` is false, out of it.
+fn movers_among(
+    alloc: Global,
+    m: &Complete,
+    blocks: &[u16],
+    inside: &[bool],
+    states: &[u16],
+    from: u16,
+    class: usize,
+    wanted: bool,
+) -> Result<Vec<u16>, AllocError>
+    requires complete { IsComplete m.now }
+    requires inside { length inside.now ≡ total m.now }
+    requires blocks { length blocks.now ≡ total m.now }
+    requires states { (s : ℕ) → Contains states.now s → s < total m.now }
+    requires class { class < m.now.width }
+    ensures { IfOk result (λ movers. AreMoversAmong m.now blocks.now inside.now from class wanted states.now movers.items) }
+{
+    let mut movers = Vec::new(alloc);
+    for i in 0..states.len() {
+        if is_mover(m, blocks, inside, from, class, wanted, states[i] as usize) {
+            movers.push(states[i])?;
+        }
+    }
+    Ok(movers)
+}
+
+/// The states of a block that step into the set, or where `wanted` is false, out of it. All that step into it are among `sources`.
+pub(crate) fn movers_of(
+    alloc: Global,
+    m: &Complete,
+    blocks: &[u16],
+    inside: &[bool],
+    sources: &[u16],
+    from: u16,
+    class: usize,
+    wanted: bool,
+) -> Result<Vec<u16>, AllocError>
+    requires complete { IsComplete m.now }
+    requires inside { length inside.now ≡ total m.now }
+    requires blocks { length blocks.now ≡ total m.now }
+    requires sources { HaveAllThatLand m.now inside.now class sources.now }
+    requires class { class < m.now.width }
+    ensures { IfOk result (λ movers. AreMovers m.now blocks.now inside.now from class wanted (total m.now) movers.items) }
+{
+    if wanted {
+        return movers_among(alloc, m, blocks, inside, sources, from, class, true);
+    }
+    movers_of_all(alloc, m, blocks, inside, from, class, false)
+}
+
+/// A state of the block that isn't a mover: the representative, where it isn't one.
 pub(crate) fn stayer_of(
+    m: &Complete,
+    blocks: &[u16],
+    inside: &[bool],
+    representative: u16,
+    from: u16,
+    class: usize,
+    wanted: bool,
+) -> Option<u16>
+    requires complete { IsComplete m.now }
+    requires inside { length inside.now ≡ total m.now }
+    requires blocks { length blocks.now ≡ total m.now }
+    requires representative { representative < total m.now }
+    requires class { class < m.now.width }
+    ensures state { IfSome result (λ s. s < total m.now) }
+    ensures stayer { IfSome result (λ s. IsStayer m.now blocks.now inside.now from class wanted s) }
+    ensures none { IfNone result ((s : ℕ) → s < total m.now → IsStayer m.now blocks.now inside.now from class wanted s → ⊥) }
+{
+    let state = representative as usize;
+    if blocks[state] == from && lands(m, inside, state, class) != wanted {
+        return Some(representative);
+    }
+    first_stayer(m, blocks, inside, from, class, wanted)
+}
+
+// The first state of the block that isn't a mover.
+fn first_stayer(
     m: &Complete,
     blocks: &[u16],
     inside: &[bool],

@@ -2,8 +2,10 @@
 
 ghost use Rattle.std.specs.Prelude.{◌≡◌, ◌≢◌, ◌<◌, ◌+◌, ◌^◌, ◌++◌, ◌∷◌, [], ℕ, Bool, true, false, if◌then◌else◌, IfOk, OnOk, length, slice_index, slice_set};
 ghost use Rattle.lx_auto.specs.Completion.{total, step_of, IsComplete};
+ghost use Rattle.lx_auto.specs.Sources.{HaveAllThatLand};
 ghost use Rattle.lx_auto.specs.Partitions.{block, block_count, member_of, flag, IsSound, IsStable, IsSplitter, IsStayer, AreMovers, AreRenumbered, LandAlike};
 
+use crate::candidates::all_states;
 use crate::complete::{Complete, step};
 use crate::order::refine_in_order;
 use crate::partition::{Partition, first_unlike, flags_of, lands, movers_of, renumber, stayer_of};
@@ -52,8 +54,44 @@ fn divide(
 }
 
 /// Splits a block by which of its states step into the set, where only some do: whether it was split. The wanted states
-/// move into a new block, in block 0 those that don't step as state 0 does.
+/// move into a new block, in block 0 those that don't step as state 0 does. All that step into the set are among `sources`.
 pub(crate) fn split(
+    alloc: Global,
+    m: &Complete,
+    p: &mut Partition,
+    inside: &[bool],
+    sources: &[u16],
+    from: usize,
+    class: usize,
+    wanted: bool,
+) -> Result<bool, AllocError>
+    requires complete { IsComplete m.now }
+    requires sound { IsSound m.now p.old }
+    requires splitter { IsSplitter m.now inside.now }
+    requires sources { HaveAllThatLand m.now inside.now class sources.now }
+    requires from { from < block_count p.old }
+    requires class { class < m.now.width }
+    ensures sound { OnOk result (IsSound m.now p.new) }
+    ensures count { IfOk result (λ b. block_count p.new ≡ block_count p.old + (if b then 1 else 0)) }
+    ensures unsplit { IfOk result (λ b. b ≡ false → LandAlike m.now p.old.block_of.items inside.now from class) }
+{
+    let wanted = side_of(m, inside, from, class, wanted);
+    let blocks = p.block_of.as_slice();
+    let movers = movers_of(alloc, m, blocks, inside, sources, from as u16, class, wanted)?;
+    if movers.is_empty() {
+        return Ok(false);
+    }
+    let representative = p.representatives[from];
+    let Some(stayer) = stayer_of(m, blocks, inside, representative, from as u16, class, wanted)
+    else {
+        return Ok(false);
+    };
+    divide(m, p, from, stayer, &movers)?;
+    Ok(true)
+}
+
+// The same, where it isn't known which states step into the set: all are gone through.
+fn split_slowly(
     alloc: Global,
     m: &Complete,
     p: &mut Partition,
@@ -71,16 +109,9 @@ pub(crate) fn split(
     ensures count { IfOk result (λ b. block_count p.new ≡ block_count p.old + (if b then 1 else 0)) }
     ensures unsplit { IfOk result (λ b. b ≡ false → LandAlike m.now p.old.block_of.items inside.now from class) }
 {
-    let wanted = side_of(m, inside, from, class, wanted);
-    let movers = movers_of(alloc, m, &p.block_of, inside, from as u16, class, wanted)?;
-    if movers.is_empty() {
-        return Ok(false);
-    }
-    let Some(stayer) = stayer_of(m, &p.block_of, inside, from as u16, class, wanted) else {
-        return Ok(false);
-    };
-    divide(m, p, from, stayer, &movers)?;
-    Ok(true)
+    let states = all_states(alloc, m.labels.len())?;
+    let sources = states.as_slice();
+    split(alloc, m, p, inside, sources, from, class, wanted)
 }
 
 /// Splits the block of a state that steps to another block than the block's representative.
@@ -102,7 +133,7 @@ fn split_at(
     let into = p.block_of[step(m, s, class)];
     let inside = flags_of(alloc, &p.block_of, into)?;
     let from = p.block_of[s] as usize;
-    let _split = split(alloc, m, p, &inside, from, class, true)?;
+    let _split = split_slowly(alloc, m, p, &inside, from, class, true)?;
     Ok(())
 }
 

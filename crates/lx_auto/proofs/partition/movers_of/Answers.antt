@@ -1,10 +1,11 @@
-use Rattle.std.proofs.Common.{◌≡◌, true}
-use Rattle.lx_auto.proofs.PartitionSteps.{mover_push, mover_skip}
+use Rattle.std.proofs.Common.{sym, subst}
+use Rattle.std.proofs.lemmas.Result.{IfOk-weaker}
+use Rattle.lx_auto.specs.Completion.{total}
+use Rattle.lx_auto.specs.Partitions.{AreMovers}
+use Rattle.lx_auto.proofs.Moving.{all_movers}
 use Rattle.lx_auto.proofs.partition.movers_of.Goals as goal
-use Rattle.lx_auto.proofs.partition.movers_of.Goals.{then-is_mover+in_ok-push, else-is_mover}
 
-pub loop-state-preserved : goal.loop-state-preserved
-loop-state-preserved c = elim c.if-is_mover.branch [
-  | then-is_mover+in_ok-push w ↦ rw (w.movers-is, w.in_ok-push.ensures.items) (mover_push _ _ _ _ _ _ _ _ c.loop-state.invariant (c.is_mover.ensures.0 w.if-is_mover.true))
-  | else-is_mover w ↦ rw w.movers-is (mover_skip _ _ _ _ _ _ _ _ c.loop-state.invariant (λ h. let t : c.is_mover.result ≡ true = c.is_mover.ensures.1 h in let f = w.if-is_mover.false in cc))
-]
+pub returns-then-wanted : goal.returns-then-wanted
+returns-then-wanted c = IfOk-weaker c.movers_among.result _ _ (λ movers are.
+    subst (λ wanted. AreMovers c.args.m.now c.args.blocks.now c.args.inside.now c.args.from c.args.class wanted (total c.args.m.now) movers.items) (sym c.if-wanted.true)
+    (all_movers c.args.m.now c.args.blocks.now c.args.inside.now c.args.from c.args.class c.args.sources.now movers.items c.requires.sources are)) c.movers_among.ensures
