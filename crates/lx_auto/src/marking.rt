@@ -90,7 +90,7 @@ pub(crate) fn ends_of(
     marks: &[bool],
     first: usize,
 ) -> Result<Vec<bool>, AllocError>
-    requires { first < 65536 }
+    requires { first < 2 ^ 32 }
     ensures { IfOk result (λ ends. ends.items ≡ ends_from nulls.now marks.now first (nodes_view nodes.now) []) }
 {
     let mut ends = Vec::new(alloc);

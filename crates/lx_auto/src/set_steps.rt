@@ -1,6 +1,7 @@
 // From a set of positions to those that can be read next, and to the rule that has matched.
 ghost use Rattle.std.specs.Prelude.{◌≡◌, ◌+◌, ◌<◌, ◌≤◌, ◌↔◌, ℕ, List, IfOk, OnOk, true, false, length, if◌then◌else◌};
 ghost use Rattle.lx_spec.specs.Plain.{PlainSpec};
+ghost use Rattle.lx_auto.specs.Blocks.{IsClear};
 ghost use Rattle.lx_auto.specs.Counts.{newline_count};
 ghost use Rattle.lx_auto.specs.Marking as plain;
 ghost use Rattle.lx_auto.specs.Members.{has_member, places_from};
@@ -21,7 +22,7 @@ fn step_rule(
 ) -> Result<bool, AllocError>
     ensures long { OnOk result (length reads.new.items ≡ length reads.old.items) }
     ensures matched { (r : NumberedRule) → IsPartOf part.now r → IfOk result (λ matched. (matched ≡ true) ↔ EndsMarked marks.now r) }
-    ensures reads { (r : NumberedRule) → IsPartOf part.now r → part.now.base + (part.now.count + newline_count part.now.line_end) ≤ length reads.old.items → OnOk result (ReadsOrStays (FollowsMarked marks.now) r reads.old.items reads.new.items) }
+    ensures reads { (r : NumberedRule) → IsPartOf part.now r → part.now.base + (part.now.count + newline_count part.now.line_end) ≤ length reads.old.items → IsClear reads.old.items part.now.base (part.now.base + part.now.count) → OnOk result (ReadsOrStays (FollowsMarked marks.now) r reads.old.items reads.new.items) }
 {
     if !part.is_touched(marks) {
         return Ok(false);
