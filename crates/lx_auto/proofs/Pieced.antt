@@ -1,13 +1,14 @@
 -- Nodes in post-order make their expression again, and what it is cut into.
-use Rattle.std.proofs.Common.{◌≡◌, ℕ, ◌+◌, ◌⊎◌, inl, inr, Bool, true, false, List, [], ◌∷◌, ◌++◌, Option, Some, None, length, map, refl, sym, ◌∙◌, ap, ap₂, subst, arith, append_assoc, append-nil}
+use Rattle.std.proofs.Common.{◌≡◌, ℕ, ◌+◌, ◌-◌, ◌<◌, ◌⊎◌, inl, inr, Bool, true, false, List, [], ◌∷◌, ◌++◌, Option, Some, None, length, map, refl, sym, ◌∙◌, ap, ap₂, subst, arith, append_assoc, append-nil}
 use Rattle.std.proofs.lemmas.List.{map-append}
 use Rattle.std.specs.FinSet as set
 use Rattle.std.specs.Ordering.{nat_cmp}
 use Rattle.lx_auto.specs.Unfolded.{Unfolded, empty, leaf, cat, alt, opt, plus, nullable}
 use Rattle.lx_auto.specs.Nodes.{PlainNode, cat_node, alt_node, opt_node, plus_node, nodes_of}
 use Rattle.lx_auto.specs.NodeViews.{node_view, nodes_view}
+use Rattle.lx_auto.specs.Marking.{flag, nulls_from}
 use Rattle.lx_auto.specs.Outlines.{Cutting, whole, cut_cat, cut_alt, cut_opt, cut_plus, tree_of, outline_of_block, outline, blocks_of}
-use Rattle.lx_auto.specs.Passing.{IsSolid, IsTrim}
+use Rattle.lx_auto.specs.Passing.{IsSolid, IsTrim, null_list}
 use Rattle.lx_auto.specs.Pieces.{pair_node, pair_tree, pair_step, single_node, single_tree, single_step, tree_step, trees_from, block_nodes, IsWholeOf, IsOutlinedOf, IsPieceOf, ArePieces, IsPopped, IsCutOf}
 use Rattle.lx_auto.specs.declared.node.Node.{Node}
 use Rattle.lx_auto.specs.declared.piece.Outlined.{Outlined}
@@ -18,6 +19,8 @@ use Rattle.lx_auto.specs.declared.piece.Piece.TheVariants.{Small, Large}
 use Rattle.lx_auto.specs.declared.piece.Single.{Single}
 use Rattle.lx_auto.specs.declared.piece.Single.TheVariants.{Maybe, Many}
 use Rattle.lx_auto.specs.declared.piece.Whole.{Whole}
+use Rattle.lx_auto.proofs.Passed.{null_length, null_last}
+use Rattle.lx_auto.proofs.RuleRead.{solid_nulls}
 
 pub outlined_whole : (w : Whole) (o : Outlined) (s : set.FinSet nat_cmp) (e : Unfolded) → IsWholeOf w e →
     nodes_view o.outline.items ≡ nodes_of (outline_of_block s w.nullable) → block_nodes o.blocks.items ≡ nodes_view w.nodes.items ∷ [] → IsOutlinedOf o e
@@ -101,4 +104,19 @@ pub popped_none : (e : Unfolded) (nodes : List PlainNode) (rest : List Piece) �
 popped_none e nodes rest n t h = elim t [
   | inl none ↦ none
   | inr s ↦ let x : e ∷ [] ≡ [] = sym (tree_alone e nodes n s) ∙ h.0 in absurd (cc)
+]
+
+-- whether all of the nodes match the empty word
+pub null_whole : (e : Unfolded) (nodes : List PlainNode) (nulls : List Bool) → IsSolid e → nodes ≡ nodes_of e → nulls ≡ nulls_from nodes [] →
+    flag nulls (length nulls - 1) ≡ nullable e
+null_whole e nodes nulls s n is =
+    let list = is ∙ ap (λ l. nulls_from l []) n ∙ solid_nulls [] e 0 s in
+    let long = null_length e in
+    ap (λ l. flag l (length l - 1)) list ∙ null_last [] e (length (null_list e) - 1) s (omega arith)
+
+-- an expression that has nodes isn't the empty one
+pub trim_solid : (e : Unfolded) (nodes : List PlainNode) → nodes ≡ nodes_of e → 0 < length nodes → IsTrim e → IsSolid e
+trim_solid e nodes n some t = elim t [
+  | inl none ↦ let long : length nodes ≡ 0 = ap length (n ∙ ap nodes_of none) in absurd (omega arith)
+  | inr s ↦ s
 ]

@@ -12,7 +12,7 @@ use Rattle.lx_auto.proofs.Passed.{some_nodes, nulls_pass, nulls_at, end_length, 
 use Rattle.lx_auto.proofs.Readable.{ended_means, reads_length, reads_apart, reads_mean}
 
 module _ (marks : List Bool) (e : Unfolded) (base : ℕ) where
-  solid_nulls : IsSolid e → nulls_from (nodes_of e) [] ≡ null_list e
+  pub solid_nulls : IsSolid e → nulls_from (nodes_of e) [] ≡ null_list e
   solid_nulls s = ap (λ l. nulls_from l []) (sym (append-nil (nodes_of e))) ∙ nulls_pass e [] [] s
 
   pub nulls_hold : IsSolid e → NullsAt (nulls_from (nodes_of e) []) 0 e

@@ -7,7 +7,7 @@ ghost use Rattle.lx_auto.specs.Passing.{read_list};
 ghost use Rattle.lx_auto.specs.Unfolded.{Unfolded};
 
 use crate::block::Block;
-use crate::marking::{ends_of, flag, mark_reads};
+use crate::marking::{ends_of, flag, has_flag, mark_reads};
 use std::alloc::{AllocError, Global};
 
 impl Block<'_> {
@@ -15,12 +15,7 @@ impl Block<'_> {
     fn is_touched(&self, marks: &[bool]) -> bool
         ensures { result ≡ false → (q : ℕ) → self.now.base ≤ q → q < self.now.base + self.now.count → plain.flag marks.now q ≡ false }
     {
-        for position in self.base..self.base + self.count {
-            if flag(marks, position) {
-                return true;
-            }
-        }
-        false
+        has_flag(marks, self.base, self.count)
     }
 
     // For each node whether a marked position can stand last in it, and nothing where no position of the block is marked.

@@ -4,17 +4,18 @@ ghost use Rattle.lx_auto.specs.Unfolded.{Unfolded, leaf};
 ghost use Rattle.lx_auto.specs.Nodes.{nodes_of};
 ghost use Rattle.lx_auto.specs.NodeViews.{node_view, nodes_view};
 ghost use Rattle.lx_auto.specs.Outlines.{outline_of_block};
-ghost use Rattle.lx_auto.specs.Passing.{IsTrim};
+ghost use Rattle.lx_auto.specs.Passing.{IsSolid, IsTrim};
 ghost use Rattle.lx_auto.specs.Pieces as plain;
 ghost use Rattle.lx_auto.specs.Pieces.{IsWholeOf, IsOutlinedOf, IsPieceOf, ArePieces, IsPopped, pair_tree, single_tree, pair_step, single_step, tree_step, IsCutOf};
 
+use crate::marking::{flag, nulls_of};
 use crate::node::Node;
 use crate::piece::{Outlined, Pair, Piece, Single, Whole};
 use lx_ere::set::ByteSet;
 use std::alloc::{AllocError, Global};
 
 /// How many nodes a block has at most.
-const BLOCK: usize = 256;
+const BLOCK: usize = 512;
 
 fn pair_node(pair: Pair, right: usize) -> Node<'static>
     ensures { node_view result ≡ plain.pair_node pair right }
@@ -300,8 +301,8 @@ fn pieces_of<'s>(alloc: Global, nodes: &[Node<'s>]) -> Result<Vec<Piece<'s>>, Al
     Ok(pieces)
 }
 
-/// An expression, cut into blocks.
-pub(crate) fn cut<'s>(alloc: Global, nodes: &[Node<'s>]) -> Result<Outlined<'s>, AllocError>
+// An expression, cut into blocks wherever it has too many nodes for one.
+fn cut_apart<'s>(alloc: Global, nodes: &[Node<'s>]) -> Result<Outlined<'s>, AllocError>
     ensures { (e : Unfolded) → nodes_view nodes.now ≡ nodes_of e → IsTrim e → IfOk result (λ o. IsCutOf o e) }
 {
     let mut pieces = pieces_of(alloc, nodes)?;
@@ -311,5 +312,38 @@ pub(crate) fn cut<'s>(alloc: Global, nodes: &[Node<'s>]) -> Result<Outlined<'s>,
             outline: Vec::new(alloc),
             blocks: Vec::new(alloc),
         }),
+    }
+}
+
+// An expression as one block, however many nodes it has.
+fn leave_whole<'s>(
+    alloc: Global,
+    sign: &'s ByteSet,
+    nodes: &[Node<'s>],
+) -> Result<Outlined<'s>, AllocError>
+    ensures { (e : Unfolded) → nodes_view nodes.now ≡ nodes_of e → IsSolid e → IfOk result (λ o. IsOutlinedOf o e) }
+{
+    let nulls = nulls_of(alloc, nodes)?;
+    let nullable = flag(&nulls, nulls.len().saturating_sub(1));
+    let own = Vec::from_slice(alloc, nodes)?;
+    let whole = Whole {
+        sign,
+        nullable,
+        nodes: own,
+    };
+    outline_whole(alloc, whole)
+}
+
+/// An expression, cut into blocks. It stays one block where its outline would have more than half as many nodes as it has itself.
+pub(crate) fn cut<'s>(alloc: Global, nodes: &[Node<'s>]) -> Result<Outlined<'s>, AllocError>
+    ensures { (e : Unfolded) → nodes_view nodes.now ≡ nodes_of e → IsTrim e → IfOk result (λ o. IsCutOf o e) }
+{
+    let apart = cut_apart(alloc, nodes)?;
+    if nodes.len() <= BLOCK || apart.outline.len() <= nodes.len() / 2 {
+        return Ok(apart);
+    }
+    match nodes[0] {
+        Node::Leaf(sign) => leave_whole(alloc, sign, nodes),
+        _ => Ok(apart),
     }
 }

@@ -9,7 +9,7 @@ ghost use Rattle.lx_auto.specs.Counts.{newline_count};
 ghost use Rattle.lx_auto.specs.Following.{FollowsMarked, EndsMarked, ReadsRule};
 
 use crate::block_steps::{find_all_ends, last_flags, read_blocks};
-use crate::marking::{ends_of, flag, mark_reads, set_flag};
+use crate::marking::{ends_of, flag, has_flag, mark_reads, set_flag};
 use crate::rule_part::RulePart;
 use std::alloc::{AllocError, Global};
 
@@ -18,12 +18,7 @@ impl RulePart<'_> {
     pub(crate) fn is_touched(&self, marks: &[bool]) -> bool
         ensures { result ≡ false → (q : ℕ) → self.now.base ≤ q → q < self.now.base + self.now.count + 1 → plain.flag marks.now q ≡ false }
     {
-        for position in self.base..self.base + self.count + 1 {
-            if flag(marks, position) {
-                return true;
-            }
-        }
-        false
+        has_flag(marks, self.base, self.count + 1)
     }
 
     /// Sets for each position of the pattern whether it can be read next, behind a marked one or at the pattern's begin where that is

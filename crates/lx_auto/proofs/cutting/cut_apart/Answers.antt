@@ -4,7 +4,7 @@ use Rattle.std.proofs.lemmas.Result.{IfOk-weaker}
 use Rattle.lx_auto.specs.NodeViews.{nodes_view}
 use Rattle.lx_auto.specs.Pieces.{IsOutlinedOf, IsPopped, IsCutOf, trees_from}
 use Rattle.lx_auto.proofs.Pieced.{popped_piece, popped_none}
-use Rattle.lx_auto.proofs.cutting.cut.Goals as goal
+use Rattle.lx_auto.proofs.cutting.cut_apart.Goals as goal
 
 pub returns-in-Some : goal.returns-in-Some
 returns-in-Some c = λ e n t.
