@@ -1,5 +1,5 @@
 // From a set of positions to those that can be read next, and to the rule that has matched.
-ghost use Rattle.std.specs.Prelude.{◌≡◌, ◌+◌, ◌<◌, ◌≤◌, ◌↔◌, ℕ, List, IfOk, OnOk, true, false, length, if◌then◌else◌};
+ghost use Rattle.std.specs.Prelude.{◌≡◌, ◌+◌, ◌++◌, ◌<◌, ◌≤◌, ◌↔◌, ℕ, List, IfOk, OnOk, true, false, length, drop, if◌then◌else◌};
 ghost use Rattle.lx_spec.specs.Plain.{PlainSpec};
 ghost use Rattle.lx_auto.specs.Blocks.{IsClear};
 ghost use Rattle.lx_auto.specs.Counts.{newline_count};
@@ -9,7 +9,7 @@ ghost use Rattle.lx_auto.specs.PositionSets.{NumberedRule};
 ghost use Rattle.lx_auto.specs.RuleParts.{IsPartOf, ArePartsOf};
 ghost use Rattle.lx_auto.specs.Following.{AreNumbered, FollowsMarked, EndsMarked, ReadsOrStays, AreReadBelow, IsFirstMatchedBelow, first_or};
 
-use crate::marking::set_flag;
+use crate::marking::{has_flag, set_flag};
 use crate::rule_part::RulePart;
 use std::alloc::{AllocError, Global};
 
@@ -83,16 +83,57 @@ pub(crate) fn marks_of(alloc: Global, total: usize, set: &[u32]) -> Result<Vec<b
     Ok(marks)
 }
 
+// How many flags are looked at together: in most sets few are set.
+const STRETCH: usize = 64;
+
+// Puts the places of the flags that are set, from one place on up to another, behind others.
+fn push_places(
+    flags: &[bool],
+    from: usize,
+    end: usize,
+    places: &mut Vec<u32>,
+) -> Result<(), AllocError>
+    requires few { length flags.now ≤ 65536 }
+    requires order { from ≤ end }
+    requires within { end ≤ length flags.now }
+    ensures { OnOk result (places.new.items ++ places_from end (drop end flags.now) ≡ places.old.items ++ places_from from (drop from flags.now)) }
+{
+    for i in from..end {
+        if flags[i] {
+            places.push(i as u32)?;
+        }
+    }
+    Ok(())
+}
+
+// The same for a stretch, in which there may be no flag that is set.
+fn push_stretch(
+    flags: &[bool],
+    from: usize,
+    count: usize,
+    places: &mut Vec<u32>,
+) -> Result<(), AllocError>
+    requires few { length flags.now ≤ 65536 }
+    requires within { from + count ≤ length flags.now }
+    ensures { OnOk result (places.new.items ++ places_from (from + count) (drop (from + count) flags.now) ≡ places.old.items ++ places_from from (drop from flags.now)) }
+{
+    if !has_flag(flags, from, count) {
+        return Ok(());
+    }
+    push_places(flags, from, from + count, places)
+}
+
 /// The places of the flags that are set, rising.
 pub(crate) fn places_of(alloc: Global, flags: &[bool]) -> Result<Vec<u32>, AllocError>
     requires { length flags.now ≤ 65536 }
     ensures { IfOk result (λ places. places.items ≡ places_from 0 flags.now) }
 {
     let mut places = Vec::new(alloc);
-    for i in 0..flags.len() {
-        if flags[i] {
-            places.push(i as u32)?;
-        }
+    let mut from = 0;
+    'stretches: while from < flags.len() {
+        let count = (flags.len() - from).min(STRETCH);
+        push_stretch(flags, from, count, &mut places)?;
+        from += count;
     }
     Ok(places)
 }
