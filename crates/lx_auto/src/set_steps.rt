@@ -62,12 +62,20 @@ pub(crate) fn step_rules(
     Ok(found)
 }
 
+// How many flags are cleared one by one at most; all others are copied from these.
+const CLEARED: usize = 512;
+
 /// So many flags, none of them set.
 pub(crate) fn clear_flags(alloc: Global, total: usize) -> Result<Vec<bool>, AllocError>
     ensures long { IfOk result (λ flags. length flags.items ≡ total) }
     ensures clear { IfOk result (λ flags. (q : ℕ) → plain.flag flags.items q ≡ false) }
 {
-    let flags = vec![in alloc; false; total]?;
+    let first = vec![in alloc; false; total.min(CLEARED)]?;
+    let mut flags = Vec::new(alloc);
+    'copies: while flags.len() < total {
+        let more = (total - flags.len()).min(first.len());
+        flags.extend_from_slice(&first[..more])?;
+    }
     Ok(flags)
 }
 
@@ -76,7 +84,7 @@ pub(crate) fn marks_of(alloc: Global, total: usize, set: &[u32]) -> Result<Vec<b
     ensures long { IfOk result (λ marks. length marks.items ≡ total) }
     ensures marks { IfOk result (λ marks. (q : ℕ) → q < total → plain.flag marks.items q ≡ has_member set.now q) }
 {
-    let mut marks = vec![in alloc; false; total]?;
+    let mut marks = clear_flags(alloc, total)?;
     for q in set {
         set_flag(&mut marks, *q as usize, true);
     }
