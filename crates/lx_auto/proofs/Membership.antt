@@ -1,5 +1,6 @@
 -- Lists of numbers as sets.
-use Rattle.std.proofs.Common.{◌≡◌, ℕ, zero, suc, ◌+◌, ◌≤◌, ◌<◌, ◌⊎◌, ◌↔◌, inl, inr, Bool, true, false, List, [], ◌∷◌, length, get_or, refl, sym, ◌∙◌, subst, arith}
+use Rattle.std.proofs.Common.{◌≡◌, ℕ, zero, suc, ◌+◌, ◌≤◌, ◌<◌, ◌⊎◌, ◌↔◌, inl, inr, Bool, true, false, List, [], ◌∷◌, length, get_or, refl, sym, ◌∙◌, subst, arith, drop, ap}
+use Rattle.std.proofs.Math.Seq.{drop-cons}
 use Rattle.std.specs.Prelude.{Contains, nat_eq}
 use Rattle.std.proofs.lemmas.Bool.Decides.{eqb_tells}
 use Rattle.lx_auto.specs.Members.{has_member, places_from}
@@ -127,3 +128,12 @@ same_rising (x ∷ xs) (y ∷ ys) rx ry same =
       ]),
     )) in
     cc
+
+-- a stretch in which no flag is set has no places
+pub clear_places : (flags : List Bool) (n from end : ℕ) → end ≡ from + n → end ≤ length flags → ((q : ℕ) → from ≤ q → q < end → flag flags q ≡ false) →
+    places_from end (drop end flags) ≡ places_from from (drop from flags)
+clear_places flags zero from end at within clear = let same : end ≡ from = omega arith in ap (λ (i : ℕ). places_from i (drop i flags)) same
+clear_places flags (suc n) from end at within clear =
+    clear_places flags n (suc from) end (omega arith) within (λ q low high. clear q (omega arith) high)
+    ∙ sym (ap (places_from from) (drop-cons flags from false (omega arith))
+    ∙ ap (λ f. places_from from (f ∷ drop (suc from) flags)) (clear from (omega arith) (omega arith)))

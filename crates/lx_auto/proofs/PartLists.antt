@@ -57,7 +57,7 @@ module _ (definitions : List PlainDefinition) where
       IsPartOf part (record { rule = rule; tree = trimmed_pattern definitions rule.reading.tree; base = base })
   part_of_rule part rule base is = record {
     nodes = is.nodes;
-    nulls = is.nulls;
+    divided = is.divided (trimmed_pattern definitions rule.reading.tree) refl (trim_pattern definitions rule.reading.tree);
     base = is.base;
     count = is.count ∙ tree_long (trimmed_pattern definitions rule.reading.tree);
     line_end = is.line_end;

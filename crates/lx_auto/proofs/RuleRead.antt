@@ -12,13 +12,13 @@ use Rattle.lx_auto.proofs.Passed.{some_nodes, nulls_pass, nulls_at, end_length, 
 use Rattle.lx_auto.proofs.Readable.{ended_means, reads_length, reads_apart, reads_mean}
 
 module _ (marks : List Bool) (e : Unfolded) (base : ℕ) where
-  solid_nulls : IsSolid e → nulls_from (nodes_of e) [] ≡ null_list e
+  pub solid_nulls : IsSolid e → nulls_from (nodes_of e) [] ≡ null_list e
   solid_nulls s = ap (λ l. nulls_from l []) (sym (append-nil (nodes_of e))) ∙ nulls_pass e [] [] s
 
-  nulls_hold : IsSolid e → NullsAt (nulls_from (nodes_of e) []) 0 e
+  pub nulls_hold : IsSolid e → NullsAt (nulls_from (nodes_of e) []) 0 e
   nulls_hold s = nulls_at e [] [] (nulls_from (nodes_of e) []) 0 s (solid_nulls s ∙ sym (append-nil (null_list e))) refl
 
-  solid_ends : IsSolid e → ends_from (nulls_from (nodes_of e) []) marks base (nodes_of e) [] ≡ end_list marks e base
+  pub solid_ends : IsSolid e → ends_from (nulls_from (nodes_of e) []) marks base (nodes_of e) [] ≡ end_list marks e base
   solid_ends s = ap (λ l. ends_from (nulls_from (nodes_of e) []) marks base l []) (sym (append-nil (nodes_of e)))
       ∙ ends_pass marks (nulls_from (nodes_of e) []) e [] [] base 0 s refl (nulls_hold s)
 
@@ -46,34 +46,3 @@ module _ (marks : List Bool) (e : Unfolded) (base : ℕ) where
         ap (λ l. reads_from (nulls_from (nodes_of e) []) ends l (f ∷ []) (base + position_count e) reads) (sym (append-nil (reverse (nodes_of e))))
         ∙ reads_pass marks (nulls_from (nodes_of e) []) ends e [] f [] base (base + position_count e) reads s refl (nulls_hold s) at
   ]
-
-pub rule_ended : (r : NumberedRule) (nodes : List PlainNode) (nulls marks ends : List Bool) (base : ℕ) → IsTrim r.tree → nodes ≡ nodes_of r.tree →
-    nulls ≡ nulls_from (nodes_of r.tree) [] → base ≡ r.base → ends ≡ ends_from nulls marks base nodes [] →
-    (flag ends (length ends - 1) ≡ true) ↔ CanEnd (λ p. flag marks p ≡ true) r.tree r.base
-rule_ended r nodes nulls marks ends base t n m b is =
-    let all : ends ≡ ends_from (nulls_from (nodes_of r.tree) []) marks r.base (nodes_of r.tree) [] =
-    is ∙ ap (λ x. ends_from x marks base nodes []) m ∙ ap₂ (λ x y. ends_from (nulls_from (nodes_of r.tree) []) marks x y []) b n in
-    let same = ended_at_last marks r.tree r.base ends t all in
-    let means = ended_means marks r.tree r.base in
-    ((λ x. means.0 (sym same ∙ x)), (λ x. same ∙ means.1 x))
-
-pub rule_reads : (r : NumberedRule) (nodes : List PlainNode) (nulls marks ends reads new : List Bool) (f : Bool) (base count : ℕ) → IsTrim r.tree → nodes ≡ nodes_of r.tree →
-    nulls ≡ nulls_from (nodes_of r.tree) [] → base ≡ r.base → count ≡ position_count r.tree → ends ≡ ends_from nulls marks base nodes [] →
-    new ≡ reads_from nulls ends (reverse nodes) (f ∷ []) (base + count) reads → base + count ≤ length reads → AreReadsOf r marks f reads new
-rule_reads r nodes nulls marks ends reads new f base count t n m b c is to room =
-    let all : ends ≡ ends_from (nulls_from (nodes_of r.tree) []) marks r.base (nodes_of r.tree) [] =
-    is ∙ ap (λ x. ends_from x marks base nodes []) m ∙ ap₂ (λ x y. ends_from (nulls_from (nodes_of r.tree) []) marks x y []) b n in
-    let end : base + count ≡ r.base + position_count r.tree = omega arith in
-    let list : new ≡ read_list marks r.tree f r.base reads =
-    to ∙ ap (λ x. reads_from x ends (reverse nodes) (f ∷ []) (base + count) reads) m
-    ∙ ap₂ (λ x y. reads_from (nulls_from (nodes_of r.tree) []) ends (reverse x) (f ∷ []) y reads) n end
-    ∙ reads_are marks r.tree r.base ends reads f t all in
-    record {
-      long = ap length list ∙ reads_length marks r.tree f r.base reads;
-      own = λ q low high.
-          let means = reads_mean marks r.tree f r.base reads q (omega arith) low high in
-          let same : flag new q ≡ flag (read_list marks r.tree f r.base reads) q = ap (λ l. flag l q) list in
-          ((λ x. means.0 (sym same ∙ x)), (λ x. same ∙ means.1 x));
-      below = λ q h. ap (λ l. flag l q) list ∙ reads_apart marks r.tree f r.base reads q (inl h);
-      above = λ q h. ap (λ l. flag l q) list ∙ reads_apart marks r.tree f r.base reads q (inr h);
-    }

@@ -1,18 +1,32 @@
 -- What is kept of a rule to follow its positions, and what is known of it.
-use Rattle.std.specs.Prelude.{◌≡◌, ℕ, ◌+◌, ◌<◌, ◌≤◌, ◌↔◌, Bool, true, List, [], length, slice_get, Some}
-use Rattle.lx_auto.specs.Unfolded.{position_count}
+use Rattle.std.specs.Prelude.{◌≡◌, ℕ, ◌+◌, ◌<◌, ◌≤◌, ◌↔◌, ◌⊎◌, Bool, true, List, [], length, slice_get, Some}
+use Rattle.lx_auto.specs.Unfolded.{Unfolded, empty, position_count}
 use Rattle.lx_auto.specs.Nodes.{PlainNode, nodes_of}
 use Rattle.lx_auto.specs.NodeViews.{nodes_view}
 use Rattle.lx_auto.specs.NodeLeaves.{leaves_in}
 use Rattle.lx_auto.specs.Marking.{flag, nulls_from}
 use Rattle.lx_auto.specs.Passing.{IsTrim}
 use Rattle.lx_auto.specs.Positions.{CanRead}
+use Rattle.lx_auto.specs.Blocks.{AreBlocks}
+use Rattle.lx_auto.specs.Outlines as cut
 use Rattle.lx_auto.specs.PositionSets.{NumberedRule, size_of}
 use Rattle.lx_auto.specs.declared.rule_part.RulePart.{RulePart}
 
+-- the outline and the blocks are those of a way to cut the expression
+pub record IsDividedBy (part : RulePart) (e : Unfolded) (k : ℕ) : Type 0 where
+  pub cutting : cut.Cutting
+  pub tree : cut.tree_of cutting ≡ e
+  pub outline : nodes_view part.outline.items ≡ nodes_of (cut.outline cutting)
+  pub nulls : part.nulls.items ≡ nulls_from (nodes_of (cut.outline cutting)) []
+  pub blocks : AreBlocks part.blocks.items (cut.blocks_of cutting) k
+
+-- an expression without nodes has no block
+abbrev pub IsDivided : RulePart → Unfolded → ℕ → Type 0
+IsDivided part e k = ((e ≡ empty) × (part.outline.items ≡ []) × (part.blocks.items ≡ [])) ⊎ IsDividedBy part e k
+
 pub record IsPartOf (part : RulePart) (r : NumberedRule) : Type 0 where
   pub nodes : nodes_view part.nodes.items ≡ nodes_of r.tree
-  pub nulls : part.nulls.items ≡ nulls_from (nodes_of r.tree) []
+  pub divided : IsDivided part r.tree r.base
   pub base : part.base ≡ r.base
   pub count : part.count ≡ position_count r.tree
   pub line_end : part.line_end ≡ r.rule.reading.line_end
@@ -34,7 +48,13 @@ pub record AreReadsOf (r : NumberedRule) (marks : List Bool) (entered : Bool) (o
 -- the part is made of these nodes
 pub record IsPartOver (part : RulePart) (over : List PlainNode) (first : ℕ) (ends : Bool) : Type 0 where
   pub nodes : nodes_view part.nodes.items ≡ over
-  pub nulls : part.nulls.items ≡ nulls_from over []
+  pub divided : (e : Unfolded) → over ≡ nodes_of e → IsTrim e → IsDivided part e first
   pub base : part.base ≡ first
   pub count : part.count ≡ length (leaves_in over)
   pub line_end : part.line_end ≡ ends
+
+-- the nodes are those of some expression
+pub record AreNodes (nodes : List PlainNode) : Type 0 where
+  pub tree : Unfolded
+  pub of : nodes ≡ nodes_of tree
+  pub trim : IsTrim tree

@@ -9,16 +9,18 @@ ghost use Rattle.lx_auto.specs.Nodes.{nodes_of};
 ghost use Rattle.lx_auto.specs.NodeLeaves.{leaves_in};
 ghost use Rattle.lx_auto.specs.NodeViews.{nodes_view};
 ghost use Rattle.lx_auto.specs.PositionSets.{numbered};
-ghost use Rattle.lx_auto.specs.RuleParts.{ArePartsOf, IsPartOver};
+ghost use Rattle.lx_auto.specs.RuleParts.{ArePartsOf, IsPartOver, AreNodes};
 ghost use Rattle.lx_auto.specs.Trimmed.{trimmed_pattern};
 ghost use Rattle.lx_auto.specs.Unfolding.{AreFragments};
 ghost use Rattle.lx_auto.specs.declared.fault.BuildFault.{BuildFault};
 
+use crate::blocks::{count_leaves, number_blocks};
 use crate::count::{TOO_MANY, count_definitions, count_rules};
+use crate::cutting::cut;
 use crate::fault::BuildFault;
 use crate::fill::fill_fragments;
 use crate::fragment::Fragment;
-use crate::marking::{behind, nulls_of};
+use crate::marking::nulls_of;
 use crate::names::{Names, index_names};
 use crate::node::Node;
 use crate::rule_part::RulePart;
@@ -44,18 +46,6 @@ fn unfold_rule<'s>(
     Ok(nodes)
 }
 
-// How many positions the nodes have.
-fn count_leaves(nodes: &[Node]) -> usize
-    requires { length nodes.now < 2 ^ 63 }
-    ensures { result ≡ length (leaves_in (nodes_view nodes.now)) }
-{
-    let mut count = 0;
-    for node in nodes {
-        count = behind(node, count);
-    }
-    count
-}
-
 // What is kept of a rule with these nodes, whose positions are numbered from the base on.
 fn part_of(
     alloc: Global,
@@ -65,13 +55,18 @@ fn part_of(
 ) -> Result<RulePart<'_>, AllocError>
     requires small { base < 65536 }
     requires few { length (leaves_in (nodes_view nodes.items)) < 65536 }
+    requires whole { AreNodes (nodes_view nodes.items) }
     ensures { IfOk result (λ part. IsPartOver part (nodes_view nodes.entry.items) base line_end) }
 {
-    let nulls = nulls_of(alloc, &nodes)?;
     let count = count_leaves(&nodes);
+    let outlined = cut(alloc, &nodes)?;
+    let nulls = nulls_of(alloc, &outlined.outline)?;
+    let blocks = number_blocks(alloc, &outlined.blocks, base)?;
     Ok(RulePart {
         nodes,
+        outline: outlined.outline,
         nulls,
+        blocks,
         base,
         count,
         line_end,

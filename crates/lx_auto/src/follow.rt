@@ -1,6 +1,7 @@
 // What follows a set of positions, and what a start begins with.
 ghost use Rattle.std.specs.Prelude.{◌≡◌, ◌≤◌, ◌<◌, ◌+◌, ℕ, Bool, true, false, List, IfOk, OnOk, length};
 ghost use Rattle.lx_spec.specs.Plain.{PlainSpec};
+ghost use Rattle.lx_auto.specs.Blocks.{IsClear};
 ghost use Rattle.lx_auto.specs.PositionSets.{NumberedRule};
 ghost use Rattle.lx_auto.specs.RuleParts.{IsPartOf, ArePartsOf, AreReadsOf};
 ghost use Rattle.lx_auto.specs.Following.{AreNumbered, AreActive};
@@ -68,7 +69,7 @@ fn begin_rule(
 ) -> Result<(), AllocError>
     ensures long { OnOk result (length reads.new.items ≡ length reads.old.items) }
     ensures inactive { is_active ≡ false → OnOk result (reads.new.items ≡ reads.old.items) }
-    ensures active { is_active ≡ true → (r : NumberedRule) → IsPartOf part.now r → part.now.base + part.now.count ≤ length reads.old.items → OnOk result (AreReadsOf r marks.now true reads.old.items reads.new.items) }
+    ensures active { is_active ≡ true → (r : NumberedRule) → IsPartOf part.now r → part.now.base + part.now.count ≤ length reads.old.items → IsClear reads.old.items part.now.base (part.now.base + part.now.count) → OnOk result (AreReadsOf r marks.now true reads.old.items reads.new.items) }
 {
     if is_active {
         part.follow(alloc, marks, true, reads)?;

@@ -1,5 +1,5 @@
 // Where a set of positions can end in an expression, and which positions can be read next: two passes over its nodes.
-ghost use Rattle.std.specs.Prelude.{◌≡◌, ◌<◌, ◌^◌, ◌∷◌, [], IfOk, OnOk, reverse, slice_set, length};
+ghost use Rattle.std.specs.Prelude.{◌≡◌, ◌+◌, ◌<◌, ◌≤◌, ◌^◌, ◌∷◌, [], ℕ, false, IfOk, OnOk, reverse, slice_set, length};
 ghost use Rattle.lx_auto.specs.Marking as plain;
 ghost use Rattle.lx_auto.specs.Marking.{null_of, nulls_from, end_of, ends_from, behind_node, before_node, first_flag, other_flags, told_by, read_at, reads_from};
 ghost use Rattle.lx_auto.specs.NodeViews.{node_view, nodes_view};
@@ -13,6 +13,19 @@ pub(crate) fn flag(flags: &[bool], i: usize) -> bool
     ensures { result ≡ plain.flag flags.now i }
 {
     i < flags.len() && flags[i]
+}
+
+/// Whether one of so many flags from a place on is set. All of them are looked at, since a loop that can't stop early takes many at once.
+pub(crate) fn has_flag(flags: &[bool], from: usize, count: usize) -> bool
+    requires { from + count < 2 ^ 63 }
+    ensures { result ≡ false → (q : ℕ) → from ≤ q → q < from + count → plain.flag flags.now q ≡ false }
+{
+    let end = (from + count).min(flags.len());
+    let mut found = false;
+    for i in from..end {
+        found = found | flags[i];
+    }
+    found
 }
 
 /// Sets the flag at a place, and none past the end.
@@ -90,7 +103,7 @@ pub(crate) fn ends_of(
     marks: &[bool],
     first: usize,
 ) -> Result<Vec<bool>, AllocError>
-    requires { first < 65536 }
+    requires { first < 2 ^ 32 }
     ensures { IfOk result (λ ends. ends.items ≡ ends_from nulls.now marks.now first (nodes_view nodes.now) []) }
 {
     let mut ends = Vec::new(alloc);

@@ -4,10 +4,12 @@ ghost use Rattle.lx_auto.specs.Marking as plain;
 ghost use Rattle.lx_auto.specs.PositionSets.{NumberedRule};
 ghost use Rattle.lx_auto.specs.Positions.{CanEnd};
 ghost use Rattle.lx_auto.specs.RuleParts.{IsPartOf, AreReadsOf};
+ghost use Rattle.lx_auto.specs.Blocks.{IsClear};
 ghost use Rattle.lx_auto.specs.Counts.{newline_count};
 ghost use Rattle.lx_auto.specs.Following.{FollowsMarked, EndsMarked, ReadsRule};
 
-use crate::marking::{ends_of, flag, mark_reads, set_flag};
+use crate::block_steps::{find_all_ends, last_flags, read_blocks};
+use crate::marking::{ends_of, flag, has_flag, mark_reads, set_flag};
 use crate::rule_part::RulePart;
 use std::alloc::{AllocError, Global};
 
@@ -16,12 +18,7 @@ impl RulePart<'_> {
     pub(crate) fn is_touched(&self, marks: &[bool]) -> bool
         ensures { result ≡ false → (q : ℕ) → self.now.base ≤ q → q < self.now.base + self.now.count + 1 → plain.flag marks.now q ≡ false }
     {
-        for position in self.base..self.base + self.count + 1 {
-            if flag(marks, position) {
-                return true;
-            }
-        }
-        false
+        has_flag(marks, self.base, self.count + 1)
     }
 
     /// Sets for each position of the pattern whether it can be read next, behind a marked one or at the pattern's begin where that is
@@ -35,16 +32,21 @@ impl RulePart<'_> {
     ) -> Result<bool, AllocError>
         ensures long { OnOk result (length reads.new.items ≡ length reads.old.items) }
         ensures ended { (r : NumberedRule) → IsPartOf self.now r → IfOk result (λ ended. (ended ≡ true) ↔ CanEnd (λ p. plain.flag marks.now p ≡ true) r.tree r.base) }
-        ensures reads { (r : NumberedRule) → IsPartOf self.now r → self.now.base + self.now.count ≤ length reads.old.items → OnOk result (AreReadsOf r marks.now entered reads.old.items reads.new.items) }
+        ensures reads { (r : NumberedRule) → IsPartOf self.now r → self.now.base + self.now.count ≤ length reads.old.items → IsClear reads.old.items self.now.base (self.now.base + self.now.count) → OnOk result (AreReadsOf r marks.now entered reads.old.items reads.new.items) }
     {
-        let nodes = self.nodes.as_slice();
+        let blocks = self.blocks.as_slice();
+        let at_nodes = find_all_ends(alloc, blocks, marks)?;
+        let at_blocks = last_flags(alloc, &at_nodes)?;
+        let outline = self.outline.as_slice();
         let nulls = self.nulls.as_slice();
-        let at_nodes = ends_of(alloc, nodes, nulls, marks, self.base)?;
-        let ends = at_nodes.as_slice();
-        let end = self.base + self.count;
-        mark_reads(alloc, nodes, nulls, ends, entered, end, reads)?;
+        let at_outline = ends_of(alloc, outline, nulls, &at_blocks, 0)?;
+        let ends = at_outline.as_slice();
+        let mut enters = vec![in alloc; false; blocks.len()]?;
+        mark_reads(alloc, outline, nulls, ends, entered, blocks.len(), &mut enters)?;
+        read_blocks(alloc, blocks, &at_nodes, &enters, reads)?;
         Ok(flag(ends, ends.len().saturating_sub(1)))
     }
+
     /// Sets for each position of the rule, the newline of a line end among them, whether it can be read next, behind a marked one. The
     /// answer is whether a marked position ends a word of the rule.
     pub(crate) fn step(
@@ -55,7 +57,7 @@ impl RulePart<'_> {
     ) -> Result<bool, AllocError>
         ensures long { OnOk result (length reads.new.items ≡ length reads.old.items) }
         ensures matched { (r : NumberedRule) → IsPartOf self.now r → IfOk result (λ matched. (matched ≡ true) ↔ EndsMarked marks.now r) }
-        ensures reads { (r : NumberedRule) → IsPartOf self.now r → self.now.base + (self.now.count + newline_count self.now.line_end) ≤ length reads.old.items → OnOk result (ReadsRule (FollowsMarked marks.now) r reads.old.items reads.new.items) }
+        ensures reads { (r : NumberedRule) → IsPartOf self.now r → self.now.base + (self.now.count + newline_count self.now.line_end) ≤ length reads.old.items → IsClear reads.old.items self.now.base (self.now.base + self.now.count) → OnOk result (ReadsRule (FollowsMarked marks.now) r reads.old.items reads.new.items) }
     {
         let ended = self.follow(alloc, marks, false, reads)?;
         if !self.line_end {

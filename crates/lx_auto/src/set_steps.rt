@@ -1,6 +1,7 @@
 // From a set of positions to those that can be read next, and to the rule that has matched.
-ghost use Rattle.std.specs.Prelude.{◌≡◌, ◌+◌, ◌<◌, ◌≤◌, ◌↔◌, ℕ, List, IfOk, OnOk, true, false, length, if◌then◌else◌};
+ghost use Rattle.std.specs.Prelude.{◌≡◌, ◌+◌, ◌++◌, ◌<◌, ◌≤◌, ◌↔◌, ℕ, List, IfOk, OnOk, true, false, length, drop, if◌then◌else◌};
 ghost use Rattle.lx_spec.specs.Plain.{PlainSpec};
+ghost use Rattle.lx_auto.specs.Blocks.{IsClear};
 ghost use Rattle.lx_auto.specs.Counts.{newline_count};
 ghost use Rattle.lx_auto.specs.Marking as plain;
 ghost use Rattle.lx_auto.specs.Members.{has_member, places_from};
@@ -8,7 +9,7 @@ ghost use Rattle.lx_auto.specs.PositionSets.{NumberedRule};
 ghost use Rattle.lx_auto.specs.RuleParts.{IsPartOf, ArePartsOf};
 ghost use Rattle.lx_auto.specs.Following.{AreNumbered, FollowsMarked, EndsMarked, ReadsOrStays, AreReadBelow, IsFirstMatchedBelow, first_or};
 
-use crate::marking::set_flag;
+use crate::marking::{has_flag, set_flag};
 use crate::rule_part::RulePart;
 use std::alloc::{AllocError, Global};
 
@@ -21,7 +22,7 @@ fn step_rule(
 ) -> Result<bool, AllocError>
     ensures long { OnOk result (length reads.new.items ≡ length reads.old.items) }
     ensures matched { (r : NumberedRule) → IsPartOf part.now r → IfOk result (λ matched. (matched ≡ true) ↔ EndsMarked marks.now r) }
-    ensures reads { (r : NumberedRule) → IsPartOf part.now r → part.now.base + (part.now.count + newline_count part.now.line_end) ≤ length reads.old.items → OnOk result (ReadsOrStays (FollowsMarked marks.now) r reads.old.items reads.new.items) }
+    ensures reads { (r : NumberedRule) → IsPartOf part.now r → part.now.base + (part.now.count + newline_count part.now.line_end) ≤ length reads.old.items → IsClear reads.old.items part.now.base (part.now.base + part.now.count) → OnOk result (ReadsOrStays (FollowsMarked marks.now) r reads.old.items reads.new.items) }
 {
     if !part.is_touched(marks) {
         return Ok(false);
@@ -61,12 +62,20 @@ pub(crate) fn step_rules(
     Ok(found)
 }
 
+// How many flags are cleared one by one at most; all others are copied from these.
+const CLEARED: usize = 512;
+
 /// So many flags, none of them set.
 pub(crate) fn clear_flags(alloc: Global, total: usize) -> Result<Vec<bool>, AllocError>
     ensures long { IfOk result (λ flags. length flags.items ≡ total) }
     ensures clear { IfOk result (λ flags. (q : ℕ) → plain.flag flags.items q ≡ false) }
 {
-    let flags = vec![in alloc; false; total]?;
+    let first = vec![in alloc; false; total.min(CLEARED)]?;
+    let mut flags = Vec::new(alloc);
+    'copies: while flags.len() < total {
+        let more = (total - flags.len()).min(first.len());
+        flags.extend_from_slice(&first[..more])?;
+    }
     Ok(flags)
 }
 
@@ -75,11 +84,51 @@ pub(crate) fn marks_of(alloc: Global, total: usize, set: &[u16]) -> Result<Vec<b
     ensures long { IfOk result (λ marks. length marks.items ≡ total) }
     ensures marks { IfOk result (λ marks. (q : ℕ) → q < total → plain.flag marks.items q ≡ has_member set.now q) }
 {
-    let mut marks = vec![in alloc; false; total]?;
+    let mut marks = clear_flags(alloc, total)?;
     for q in set {
         set_flag(&mut marks, *q as usize, true);
     }
     Ok(marks)
+}
+
+// How many flags are looked at together: in most sets few are set.
+const STRETCH: usize = 64;
+
+// Puts the places of the flags that are set, from one place on up to another, behind others.
+fn push_places(
+    flags: &[bool],
+    from: usize,
+    end: usize,
+    places: &mut Vec<u16>,
+) -> Result<(), AllocError>
+    requires few { length flags.now ≤ 65536 }
+    requires order { from ≤ end }
+    requires within { end ≤ length flags.now }
+    ensures { OnOk result (places.new.items ++ places_from end (drop end flags.now) ≡ places.old.items ++ places_from from (drop from flags.now)) }
+{
+    for i in from..end {
+        if flags[i] {
+            places.push(i as u16)?;
+        }
+    }
+    Ok(())
+}
+
+// The same for a stretch, in which there may be no flag that is set.
+fn push_stretch(
+    flags: &[bool],
+    from: usize,
+    count: usize,
+    places: &mut Vec<u16>,
+) -> Result<(), AllocError>
+    requires few { length flags.now ≤ 65536 }
+    requires within { from + count ≤ length flags.now }
+    ensures { OnOk result (places.new.items ++ places_from (from + count) (drop (from + count) flags.now) ≡ places.old.items ++ places_from from (drop from flags.now)) }
+{
+    if !has_flag(flags, from, count) {
+        return Ok(());
+    }
+    push_places(flags, from, from + count, places)
 }
 
 /// The places of the flags that are set, rising.
@@ -88,10 +137,11 @@ pub(crate) fn places_of(alloc: Global, flags: &[bool]) -> Result<Vec<u16>, Alloc
     ensures { IfOk result (λ places. places.items ≡ places_from 0 flags.now) }
 {
     let mut places = Vec::new(alloc);
-    for i in 0..flags.len() {
-        if flags[i] {
-            places.push(i as u16)?;
-        }
+    let mut from = 0;
+    'stretches: while from < flags.len() {
+        let count = (flags.len() - from).min(STRETCH);
+        push_stretch(flags, from, count, &mut places)?;
+        from += count;
     }
     Ok(places)
 }

@@ -10,6 +10,7 @@ use Rattle.lx_auto.specs.PositionSets.{numbered}
 use Rattle.lx_auto.specs.RuleParts.{ArePartsOf, IsPartOver}
 use Rattle.lx_auto.specs.Trimmed.{trimmed_pattern}
 use Rattle.lx_auto.proofs.NestedRules.{rule-nested}
+use Rattle.lx_auto.proofs.Solid.{trim_pattern}
 use Rattle.lx_auto.proofs.PartLists.{front_below, leaf_count, part_end, parts_push, count_push}
 use Rattle.lx_auto.proofs.arena.unfold_each.Goals as goal
 
@@ -39,6 +40,12 @@ part_of-requires-clause-few c =
     let few = c.requires.few in
     let leaves = leaf_count plain (rule_view here) (nodes_view c.in_ok-nodes.nodes.items) c.in_ok-nodes.ensures in
     omega arith
+
+pub part_of-requires-clause-whole : goal.part_of-requires-clause-whole
+part_of-requires-clause-whole c =
+    let plain = map definition_view c.args.names.now.definitions.now in
+    let tree = (rule_view c.index-rules-i.result).reading.tree in
+    record { tree = trimmed_pattern plain tree; of = c.in_ok-nodes.ensures; trim = trim_pattern plain tree }
 
 pub loop-i-preserved : goal.loop-i-preserved
 loop-i-preserved c =

@@ -24,7 +24,7 @@ loop-i-preserved c =
           begin_all spec condition begin rules parts total i part c.args.active.now marks c.loop-i.reads.items c.begin_rule.new.reads.items numbered are inside at
           c.loop-i.invariant.long active clear
           (λ f. c.in_ok-begin_rule.ensures.inactive (c.flag.ensures ∙ f))
-          (λ t r is room. c.in_ok-begin_rule.ensures.active (c.flag.ensures ∙ t) r is room)
+          (λ t r is room bare. c.in_ok-begin_rule.ensures.active (c.flag.ensures ∙ t) r is room bare)
           (c.loop-i.invariant.reads spec condition begin rules numbered are active);
     }
 

@@ -12,11 +12,11 @@ returns-then-not-is_touched-clause-matched c = λ r part.
     )
 
 pub returns-then-not-is_touched-clause-reads : goal.returns-then-not-is_touched-clause-reads
-returns-then-not-is_touched-clause-reads c = λ r part room.
+returns-then-not-is_touched-clause-reads c = λ r part room clear.
     let b = part.base in
     let k = part.count in
     let none = c.is_touched.ensures c.if-not-is_touched.true in
     inr (refl, (λ q h. untouched_reads r c.args.marks.now (λ p low high. none p (omega arith) (omega arith)) q h))
 
 pub returns-clause-reads : goal.returns-clause-reads
-returns-clause-reads c = λ r part room. inl (c.in_ok-matched.ensures.reads r part room)
+returns-clause-reads c = λ r part room clear. inl (c.in_ok-matched.ensures.reads r part room clear)

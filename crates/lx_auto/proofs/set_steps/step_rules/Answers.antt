@@ -16,7 +16,7 @@ loop-i-preserved c =
       long = c.in_ok-matched.ensures.long ∙ c.loop-i.invariant.long;
       reads = λ spec rules numbered are clear.
           step_all c.args.marks.now spec rules parts total i part c.loop-i.reads.items c.step_rule.new.reads.items numbered are inside at c.loop-i.invariant.long
-          (λ r is room. c.in_ok-matched.ensures.reads r is room) (c.loop-i.invariant.reads spec rules numbered are clear);
+          (λ r is room bare. c.in_ok-matched.ensures.reads r is room bare) (c.loop-i.invariant.reads spec rules numbered are clear);
       matched = λ spec rules numbered are.
           subst (λ f. IsFirstMatchedBelow rules c.args.marks.now (i + 1) f) (sym c.first_matched-found.ensures)
           (matched_all c.args.marks.now rules parts total i part c.loop-i.found c.in_ok-matched.matched are inside at

@@ -15,10 +15,10 @@ returns-then-not-self-clause-matched c = λ r part.
     ((λ x. plain.0 (ends.0 x)), (λ x. ends.1 (plain.1 x)))
 
 pub returns-then-not-self-clause-reads : goal.returns-then-not-self-clause-reads
-returns-then-not-self-clause-reads c = λ r part room.
+returns-then-not-self-clause-reads c = λ r part room clear.
     let is = sym part.line_end ∙ c.if-not-self.true in
     let within : c.args.self.now.base + c.args.self.now.count ≤ length c.args.reads.now.items = omega arith in
-    follow_plain r c.args.marks.now c.args.reads.now.items c.follow.new.reads.items is (c.in_ok-ended.ensures.reads r part within)
+    follow_plain r c.args.marks.now c.args.reads.now.items c.follow.new.reads.items is (c.in_ok-ended.ensures.reads r part within clear)
 
 pub returns-clause-matched : goal.returns-clause-matched
 returns-clause-matched c = λ r part.
@@ -29,7 +29,7 @@ returns-clause-matched c = λ r part.
     ((λ x. end.0 (sym same ∙ x)), (λ x. same ∙ end.1 x))
 
 pub returns-clause-reads : goal.returns-clause-reads
-returns-clause-reads c = λ r part room.
+returns-clause-reads c = λ r part room clear.
     let self = c.args.self.now in
     let is = sym part.line_end ∙ c.if-not-self.false in
     let b = part.base in
@@ -39,5 +39,5 @@ returns-clause-reads c = λ r part room.
     let at : self.base + self.count ≡ newline_of r = ap₂ (λ a b. a + b) part.base part.count in
     let set = c.set_flag.ensures.set ∙ ap (λ i. slice_set c.follow.new.reads.items i c.in_ok-ended.ended) at in
     subst (λ l. ReadsRule (FollowsMarked c.args.marks.now) r c.args.reads.now.items l) (sym set)
-    (follow_end r c.args.marks.now c.args.reads.now.items c.follow.new.reads.items c.in_ok-ended.ended is (c.in_ok-ended.ensures.reads r part within)
+    (follow_end r c.args.marks.now c.args.reads.now.items c.follow.new.reads.items c.in_ok-ended.ended is (c.in_ok-ended.ensures.reads r part within clear)
     (omega arith) (c.in_ok-ended.ensures.ended r part))

@@ -1,6 +1,0 @@
-use Rattle.std.proofs.Common.{◌≡◌, ℕ, ◌<◌, ◌≤◌, false}
-use Rattle.lx_auto.specs.Marking.{flag}
-use Rattle.lx_auto.proofs.rule_part.RulePart.is_touched.Given as goal
-
-abbrev pub invariant-loop-position : goal.invariant-loop-position
-invariant-loop-position l = (q : ℕ) → l.self.base ≤ q → q < l.position → flag l.marks q ≡ false

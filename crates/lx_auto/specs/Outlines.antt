@@ -1,0 +1,57 @@
+-- An expression cut into blocks, whose outline has one position for each of them.
+use Rattle.std.specs.Prelude.{◌≡◌, ℕ, suc, ◌+◌, Bool, true, false, ◌&&◌, ◌||◌, List, [], ◌∷◌, ◌++◌}
+use Rattle.std.specs.FinSet as set
+use Rattle.std.specs.Ordering.{nat_cmp}
+use Rattle.lx_auto.specs.Unfolded.{Unfolded, empty, leaf, cat, alt, opt, plus, position_count, nullable}
+use Rattle.lx_auto.specs.Marking.{flag}
+use Rattle.lx_auto.specs.Passing.{ended, read_list}
+
+pub data Cutting : Type 0 where
+  -- one block; the set is what stands in the outline, where it means nothing
+  whole : set.FinSet nat_cmp → Unfolded → Cutting
+  cut_cat : Cutting → Cutting → Cutting
+  cut_alt : Cutting → Cutting → Cutting
+  cut_opt : Cutting → Cutting
+  cut_plus : Cutting → Cutting
+
+-- the expression that was cut
+abbrev pub tree_of : Cutting → Unfolded
+tree_of (whole s e) = e
+tree_of (cut_cat a b) = cat (tree_of a) (tree_of b)
+tree_of (cut_alt a b) = alt (tree_of a) (tree_of b)
+tree_of (cut_opt a) = opt (tree_of a)
+tree_of (cut_plus a) = plus (tree_of a)
+
+-- what stands for a block
+abbrev pub outline_of_block : set.FinSet nat_cmp → Bool → Unfolded
+outline_of_block s true = opt (leaf s)
+outline_of_block s false = leaf s
+
+abbrev pub outline : Cutting → Unfolded
+outline (whole s e) = outline_of_block s (nullable e)
+outline (cut_cat a b) = cat (outline a) (outline b)
+outline (cut_alt a b) = alt (outline a) (outline b)
+outline (cut_opt a) = opt (outline a)
+outline (cut_plus a) = plus (outline a)
+
+abbrev pub blocks_of : Cutting → List Unfolded
+blocks_of (whole s e) = e ∷ []
+blocks_of (cut_cat a b) = blocks_of a ++ blocks_of b
+blocks_of (cut_alt a b) = blocks_of a ++ blocks_of b
+blocks_of (cut_opt a) = blocks_of a
+blocks_of (cut_plus a) = blocks_of a
+
+-- how many positions the blocks have
+abbrev pub positions_of : List Unfolded → ℕ
+positions_of [] = 0
+positions_of (e ∷ es) = position_count e + positions_of es
+
+-- Blocks are numbered from j on, and their positions from k on. The flags say of each whether a marked position can stand last in it.
+abbrev pub HaveEnded : List Bool → List Bool → List Unfolded → ℕ → ℕ → Type 0
+HaveEnded marks flags [] j k = Unit {0}
+HaveEnded marks flags (e ∷ es) j k = (flag flags j ≡ ended marks e k) × HaveEnded marks flags es (suc j) (k + position_count e)
+
+-- the flags of positions that can be read, those of the blocks' positions set anew where a block may be entered by its own flag
+abbrev pub read_blocks : List Bool → List Bool → List Unfolded → ℕ → ℕ → List Bool → List Bool
+read_blocks marks entered [] j k reads = reads
+read_blocks marks entered (e ∷ es) j k reads = read_list marks e (flag entered j) k (read_blocks marks entered es (suc j) (k + position_count e) reads)

@@ -1,0 +1,100 @@
+// From the marked positions of blocks to those of their positions that can be read next.
+ghost use Rattle.std.specs.Prelude.{◌≡◌, ◌+◌, ◌<◌, ◌≤◌, ℕ, List, IfOk, OnOk, Bool, false, length, map};
+ghost use Rattle.lx_auto.specs.Blocks.{IsBlock, AreBlocks, HasEnds, HaveEnds, IsClear, last_flag};
+ghost use Rattle.lx_auto.specs.Marking as plain;
+ghost use Rattle.lx_auto.specs.Outlines as cut;
+ghost use Rattle.lx_auto.specs.Passing.{read_list};
+ghost use Rattle.lx_auto.specs.Unfolded.{Unfolded};
+
+use crate::block::Block;
+use crate::marking::{ends_of, flag, has_flag, mark_reads};
+use std::alloc::{AllocError, Global};
+
+impl Block<'_> {
+    // Whether a position of the block is marked.
+    fn is_touched(&self, marks: &[bool]) -> bool
+        ensures { result ≡ false → (q : ℕ) → self.now.base ≤ q → q < self.now.base + self.now.count → plain.flag marks.now q ≡ false }
+    {
+        has_flag(marks, self.base, self.count)
+    }
+
+    // For each node whether a marked position can stand last in it, and nothing where no position of the block is marked.
+    fn find_ends(&self, alloc: Global, marks: &[bool]) -> Result<Vec<bool>, AllocError>
+        ensures { (e : Unfolded) → IsBlock self.now e → IfOk result (λ ends. HasEnds marks.now ends.items e self.now.base) }
+    {
+        if !self.is_touched(marks) {
+            return Ok(Vec::new(alloc));
+        }
+        let ends = ends_of(alloc, &self.nodes, &self.nulls, marks, self.base)?;
+        Ok(ends)
+    }
+
+    // Sets for each position of the block whether it can be read next. None can be where the block isn't entered and no position of it
+    // is marked.
+    fn read(
+        &self,
+        alloc: Global,
+        ends: &[bool],
+        entered: bool,
+        reads: &mut Vec<bool>,
+    ) -> Result<(), AllocError>
+        ensures set { (marks : List Bool) (e : Unfolded) → IsBlock self.now e → HasEnds marks ends.now e self.now.base → IsClear reads.old.items self.now.base (self.now.base + self.now.count) → OnOk result (reads.new.items ≡ read_list marks e entered self.now.base reads.old.items) }
+        ensures long { OnOk result (length reads.new.items ≡ length reads.old.items) }
+    {
+        if !entered && ends.is_empty() {
+            return Ok(());
+        }
+        let nodes = self.nodes.as_slice();
+        let nulls = self.nulls.as_slice();
+        let end = self.base + self.count;
+        mark_reads(alloc, nodes, nulls, ends, entered, end, reads)?;
+        Ok(())
+    }
+}
+
+/// For each block, and each node of it, whether a marked position can stand last.
+pub(crate) fn find_all_ends(
+    alloc: Global,
+    blocks: &[Block],
+    marks: &[bool],
+) -> Result<Vec<Vec<bool>>, AllocError>
+    ensures { IfOk result (λ ends. HaveEnds marks.now blocks.now ends.items (length blocks.now)) }
+{
+    let mut ends = Vec::new(alloc);
+    for i in 0..blocks.len() {
+        ends.push(blocks[i].find_ends(alloc, marks)?)?;
+    }
+    Ok(ends)
+}
+
+/// For each block whether a marked position can stand last in it.
+pub(crate) fn last_flags(alloc: Global, ends: &[Vec<bool>]) -> Result<Vec<bool>, AllocError>
+    ensures { IfOk result (λ flags. flags.items ≡ map last_flag ends.now) }
+{
+    let mut flags = Vec::new(alloc);
+    for i in 0..ends.len() {
+        let own = ends[i].as_slice();
+        flags.push(flag(own, own.len().saturating_sub(1)))?;
+    }
+    Ok(flags)
+}
+
+/// Sets for each position of the blocks whether it can be read next, where a block may be entered by its own flag.
+pub(crate) fn read_blocks(
+    alloc: Global,
+    blocks: &[Block],
+    ends: &[Vec<bool>],
+    entered: &[bool],
+    reads: &mut Vec<bool>,
+) -> Result<(), AllocError>
+    requires { length ends.now ≡ length blocks.now }
+    ensures set { (marks : List Bool) (es : List Unfolded) (k : ℕ) → AreBlocks blocks.now es k → HaveEnds marks blocks.now ends.now (length blocks.now) → IsClear reads.old.items k (k + cut.positions_of es) → OnOk result (reads.new.items ≡ cut.read_blocks marks entered.now es 0 k reads.old.items) }
+    ensures long { OnOk result (length reads.new.items ≡ length reads.old.items) }
+{
+    let mut rest = blocks.len();
+    'down: while 0 < rest {
+        rest -= 1;
+        blocks[rest].read(alloc, &ends[rest], flag(entered, rest), reads)?;
+    }
+    Ok(())
+}

@@ -1,0 +1,58 @@
+// Blocks of an expression, numbered one behind the other.
+ghost use Rattle.std.specs.Prelude.{◌≡◌, ◌+◌, ◌<◌, ◌^◌, length, IfOk};
+ghost use Rattle.lx_auto.specs.Blocks.{IsBlockOver, AreBlocksOver, leaf_total};
+ghost use Rattle.lx_auto.specs.NodeLeaves.{leaves_in};
+ghost use Rattle.lx_auto.specs.NodeViews.{nodes_view};
+ghost use Rattle.lx_auto.specs.Pieces.{block_nodes};
+
+use crate::block::Block;
+use crate::marking::{behind, nulls_of};
+use crate::node::Node;
+use std::alloc::{AllocError, Global};
+
+/// How many positions the nodes have.
+pub(crate) fn count_leaves(nodes: &[Node]) -> usize
+    requires { length nodes.now < 2 ^ 63 }
+    ensures { result ≡ length (leaves_in (nodes_view nodes.now)) }
+{
+    let mut count = 0;
+    for node in nodes {
+        count = behind(node, count);
+    }
+    count
+}
+
+// What is kept of a block whose positions are numbered from the base on.
+fn block_of<'s>(alloc: Global, nodes: &[Node<'s>], base: usize) -> Result<Block<'s>, AllocError>
+    requires small { base + length (leaves_in (nodes_view nodes.now)) < 2 ^ 32 }
+    ensures { IfOk result (λ block. IsBlockOver block (nodes_view nodes.now) base) }
+{
+    let nulls = nulls_of(alloc, nodes)?;
+    let count = count_leaves(nodes);
+    let own = Vec::from_slice(alloc, nodes)?;
+    Ok(Block {
+        nodes: own,
+        nulls,
+        base,
+        count,
+    })
+}
+
+/// What is kept of the blocks with these nodes.
+pub(crate) fn number_blocks<'s>(
+    alloc: Global,
+    nodes: &[Vec<Node<'s>>],
+    base: usize,
+) -> Result<Vec<Block<'s>>, AllocError>
+    requires { base + leaf_total (block_nodes nodes.now) < 2 ^ 32 }
+    ensures { IfOk result (λ blocks. AreBlocksOver blocks.items (block_nodes nodes.now) base) }
+{
+    let mut blocks = Vec::new(alloc);
+    let mut next = base;
+    for i in 0..nodes.len() {
+        let block = block_of(alloc, &nodes[i], next)?;
+        next += block.count;
+        blocks.push(block)?;
+    }
+    Ok(blocks)
+}

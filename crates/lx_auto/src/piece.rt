@@ -1,0 +1,50 @@
+// Parts of an expression while it is cut into blocks.
+
+use crate::node::Node;
+use lx_ere::set::ByteSet;
+
+/// What a node makes of two expressions.
+#[derive(Clone, Copy)]
+pub(crate) enum Pair {
+    /// One, and then the other.
+    Both,
+    /// One or the other.
+    Either,
+}
+
+/// What a node makes of one expression.
+#[derive(Clone, Copy)]
+pub(crate) enum Single {
+    /// It or the empty word.
+    Maybe,
+    /// One or more of it.
+    Many,
+}
+
+/// An expression that is one block.
+#[derive(Drop)]
+pub(crate) struct Whole<'s> {
+    /// The set of its first leaf, which is put into outlines.
+    pub(crate) sign: &'s ByteSet,
+    /// Whether it matches the empty word.
+    pub(crate) nullable: bool,
+    pub(crate) nodes: Vec<Node<'s>>,
+}
+
+/// An expression cut into blocks.
+#[derive(Drop)]
+pub(crate) struct Outlined<'s> {
+    /// The nodes of its outline, in which a leaf stands for each block.
+    pub(crate) outline: Vec<Node<'s>>,
+    /// The nodes of each block.
+    pub(crate) blocks: Vec<Vec<Node<'s>>>,
+}
+
+/// An expression that is one block so far, or cut into several.
+#[derive(Drop)]
+pub(crate) enum Piece<'s> {
+    /// It has few nodes.
+    Small(Whole<'s>),
+    /// It has more.
+    Large(Outlined<'s>),
+}
