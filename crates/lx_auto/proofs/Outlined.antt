@@ -1,8 +1,8 @@
 -- What is found of an expression's outline, a position for each block, says what is to be found of the blocks.
-use Rattle.std.proofs.Common.{◌≡◌, ℕ, suc, ◌+◌, ◌≤◌, ◌<◌, inl, inr, Bool, true, false, ◌&&◌, ◌||◌, List, [], ◌∷◌, ◌++◌, length, refl, sym, ◌∙◌, ap, ap₂, subst, arith}
+use Rattle.std.proofs.Common.{◌≡◌, ℕ, suc, ◌+◌, ◌≤◌, ◌<◌, inr, Bool, true, false, ◌&&◌, ◌||◌, List, [], ◌∷◌, ◌++◌, length, refl, sym, ◌∙◌, ap, ap₂, subst, arith}
 use Rattle.std.specs.FinSet as set
 use Rattle.std.specs.Ordering.{nat_cmp}
-use Rattle.lx_auto.specs.Unfolded.{Unfolded, empty, leaf, cat, alt, opt, plus, position_count, nullable}
+use Rattle.lx_auto.specs.Unfolded.{Unfolded, position_count, nullable}
 use Rattle.lx_auto.specs.Marking.{flag}
 use Rattle.lx_auto.specs.Passing.{IsSolid, ended, read_list}
 use Rattle.lx_auto.specs.Outlines.{Cutting, whole, cut_cat, cut_alt, cut_opt, cut_plus, tree_of, outline_of_block, outline, blocks_of, positions_of, HaveEnded, read_blocks}

@@ -1,21 +1,19 @@
 -- Nodes in post-order make their expression again, and what it is cut into.
-use Rattle.std.proofs.Common.{◌≡◌, ℕ, ◌+◌, ◌-◌, ◌<◌, ◌⊎◌, inl, inr, Bool, true, false, List, [], ◌∷◌, ◌++◌, Option, Some, None, length, map, refl, sym, ◌∙◌, ap, ap₂, subst, arith, append_assoc, append-nil}
+use Rattle.std.proofs.Common.{◌≡◌, ◌-◌, ◌<◌, inl, inr, Bool, List, [], ◌∷◌, ◌++◌, Some, None, length, refl, sym, ◌∙◌, ap, ap₂, subst, arith, append_assoc, append-nil}
 use Rattle.std.proofs.lemmas.List.{map-append}
 use Rattle.std.specs.FinSet as set
 use Rattle.std.specs.Ordering.{nat_cmp}
 use Rattle.lx_auto.specs.Unfolded.{Unfolded, empty, leaf, cat, alt, opt, plus, nullable}
 use Rattle.lx_auto.specs.Nodes.{PlainNode, cat_node, alt_node, opt_node, plus_node, nodes_of}
-use Rattle.lx_auto.specs.NodeViews.{node_view, nodes_view}
+use Rattle.lx_auto.specs.NodeViews.{nodes_view}
 use Rattle.lx_auto.specs.Marking.{flag, nulls_from}
-use Rattle.lx_auto.specs.Outlines.{Cutting, whole, cut_cat, cut_alt, cut_opt, cut_plus, tree_of, outline_of_block, outline, blocks_of}
+use Rattle.lx_auto.specs.Outlines.{whole, cut_cat, cut_alt, cut_opt, cut_plus, outline_of_block, blocks_of}
 use Rattle.lx_auto.specs.Passing.{IsSolid, IsTrim, null_list}
-use Rattle.lx_auto.specs.Pieces.{pair_node, pair_tree, pair_step, single_node, single_tree, single_step, tree_step, trees_from, block_nodes, IsWholeOf, IsOutlinedOf, IsPieceOf, ArePieces, IsPopped, IsCutOf}
-use Rattle.lx_auto.specs.declared.node.Node.{Node}
+use Rattle.lx_auto.specs.Pieces.{pair_node, pair_tree, single_node, single_tree, tree_step, trees_from, block_nodes, IsWholeOf, IsOutlinedOf, IsPieceOf, IsPopped}
 use Rattle.lx_auto.specs.declared.piece.Outlined.{Outlined}
 use Rattle.lx_auto.specs.declared.piece.Pair.{Pair}
 use Rattle.lx_auto.specs.declared.piece.Pair.TheVariants.{Both, Either}
 use Rattle.lx_auto.specs.declared.piece.Piece.{Piece}
-use Rattle.lx_auto.specs.declared.piece.Piece.TheVariants.{Small, Large}
 use Rattle.lx_auto.specs.declared.piece.Single.{Single}
 use Rattle.lx_auto.specs.declared.piece.Single.TheVariants.{Maybe, Many}
 use Rattle.lx_auto.specs.declared.piece.Whole.{Whole}

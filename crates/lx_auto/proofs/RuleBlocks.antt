@@ -37,9 +37,8 @@ reads_of r marks old new f list room = record {
 }
 
 module _ (part : RulePart) (r : NumberedRule) (marks flags ends : List Bool) (own : List (Vec Bool Global)) (is : IsPartOf part r)
-  (have : HaveEnds marks part.blocks.items own (length part.blocks.items)) (tell : flags ≡ map last_flag own)
-  (to : ends ≡ ends_from part.nulls.items flags 0 (nodes_view part.outline.items) []) where
-
+    (have : HaveEnds marks part.blocks.items own (length part.blocks.items)) (tell : flags ≡ map last_flag own)
+    (to : ends ≡ ends_from part.nulls.items flags 0 (nodes_view part.outline.items) []) where
   outline_ends : (d : IsDividedBy part r.tree r.base) →
       ends ≡ ends_from (nulls_from (nodes_of (outline d.cutting)) []) flags 0 (nodes_of (outline d.cutting)) []
   outline_ends d = to ∙ ap₂ (λ x y. ends_from x flags 0 y []) d.nulls d.outline

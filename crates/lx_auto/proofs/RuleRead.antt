@@ -1,15 +1,11 @@
 -- What the two passes over the nodes of a rule's expression say.
-use Rattle.std.proofs.Common.{◌≡◌, ℕ, ◌+◌, ◌-◌, ◌≤◌, ◌↔◌, inl, inr, Bool, true, List, [], ◌∷◌, length, refl, sym, ◌∙◌, ap, ap₂, arith, append-nil}
+use Rattle.std.proofs.Common.{◌≡◌, ℕ, ◌+◌, ◌-◌, inl, inr, Bool, List, [], ◌∷◌, length, refl, sym, ◌∙◌, ap, arith, append-nil}
 use Rattle.std.specs.Prelude.{reverse}
 use Rattle.lx_auto.specs.Unfolded.{Unfolded, empty, position_count}
-use Rattle.lx_auto.specs.Nodes.{PlainNode, nodes_of}
+use Rattle.lx_auto.specs.Nodes.{nodes_of}
 use Rattle.lx_auto.specs.Marking.{flag, nulls_from, ends_from, reads_from}
 use Rattle.lx_auto.specs.Passing.{IsSolid, IsTrim, null_list, ended, end_list, NullsAt, EndsAt, read_list}
-use Rattle.lx_auto.specs.Positions.{CanEnd}
-use Rattle.lx_auto.specs.PositionSets.{NumberedRule}
-use Rattle.lx_auto.specs.RuleParts.{AreReadsOf}
 use Rattle.lx_auto.proofs.Passed.{some_nodes, nulls_pass, nulls_at, end_length, end_last, ends_pass, ends_at, reads_pass}
-use Rattle.lx_auto.proofs.Readable.{ended_means, reads_length, reads_apart, reads_mean}
 
 module _ (marks : List Bool) (e : Unfolded) (base : ℕ) where
   pub solid_nulls : IsSolid e → nulls_from (nodes_of e) [] ≡ null_list e

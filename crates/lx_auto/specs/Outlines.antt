@@ -1,8 +1,8 @@
 -- An expression cut into blocks, whose outline has one position for each of them.
-use Rattle.std.specs.Prelude.{◌≡◌, ℕ, suc, ◌+◌, Bool, true, false, ◌&&◌, ◌||◌, List, [], ◌∷◌, ◌++◌}
+use Rattle.std.specs.Prelude.{◌≡◌, ℕ, suc, ◌+◌, Bool, true, false, List, [], ◌∷◌, ◌++◌}
 use Rattle.std.specs.FinSet as set
 use Rattle.std.specs.Ordering.{nat_cmp}
-use Rattle.lx_auto.specs.Unfolded.{Unfolded, empty, leaf, cat, alt, opt, plus, position_count, nullable}
+use Rattle.lx_auto.specs.Unfolded.{Unfolded, leaf, cat, alt, opt, plus, position_count, nullable}
 use Rattle.lx_auto.specs.Marking.{flag}
 use Rattle.lx_auto.specs.Passing.{ended, read_list}
 

@@ -176,7 +176,12 @@ fn join<'s>(
                 let joined = join_whole(pair, first, second)?;
                 Ok(Piece::Small(joined))
             }
-            Piece::Large(second) => join_apart(alloc, pair, Piece::Small(first), Piece::Large(second)),
+            Piece::Large(second) => join_apart(
+                alloc,
+                pair,
+                Piece::Small(first),
+                Piece::Large(second),
+            ),
         },
         Piece::Large(first) => join_apart(alloc, pair, Piece::Large(first), right),
     }
@@ -192,10 +197,7 @@ fn extend_whole<'s>(single: Single, mut whole: Whole<'s>) -> Result<Whole<'s>, A
 }
 
 // A node above an expression that is cut into blocks.
-fn extend_outlined<'s>(
-    single: Single,
-    mut body: Outlined<'s>,
-) -> Result<Outlined<'s>, AllocError>
+fn extend_outlined<'s>(single: Single, mut body: Outlined<'s>) -> Result<Outlined<'s>, AllocError>
     ensures { (a : Unfolded) → IsOutlinedOf body.entry a → IfOk result (λ o. IsOutlinedOf o (single_tree single a)) }
 {
     body.outline.push(single_node(single))?;
@@ -239,11 +241,7 @@ fn pop_piece<'s>(pieces: &mut Vec<Piece<'s>>) -> Option<Piece<'s>>
 }
 
 // Puts a node above the last two expressions.
-fn add_pair<'s>(
-    alloc: Global,
-    pair: Pair,
-    pieces: &mut Vec<Piece<'s>>,
-) -> Result<(), AllocError>
+fn add_pair<'s>(alloc: Global, pair: Pair, pieces: &mut Vec<Piece<'s>>) -> Result<(), AllocError>
     ensures { (trees : List Unfolded) → ArePieces (reverse pieces.old.items) trees → OnOk result (ArePieces (reverse pieces.new.items) (pair_step (pair_tree pair) trees)) }
 {
     let Some(right) = pop_piece(pieces) else {

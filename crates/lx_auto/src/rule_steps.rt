@@ -34,6 +34,7 @@ impl RulePart<'_> {
         ensures ended { (r : NumberedRule) → IsPartOf self.now r → IfOk result (λ ended. (ended ≡ true) ↔ CanEnd (λ p. plain.flag marks.now p ≡ true) r.tree r.base) }
         ensures reads { (r : NumberedRule) → IsPartOf self.now r → self.now.base + self.now.count ≤ length reads.old.items → IsClear reads.old.items self.now.base (self.now.base + self.now.count) → OnOk result (AreReadsOf r marks.now entered reads.old.items reads.new.items) }
     {
+        // Most sets touch few blocks: only these are gone over node by node, and the outline says which others are entered.
         let blocks = self.blocks.as_slice();
         let at_nodes = find_all_ends(alloc, blocks, marks)?;
         let at_blocks = last_flags(alloc, &at_nodes)?;
@@ -42,7 +43,15 @@ impl RulePart<'_> {
         let at_outline = ends_of(alloc, outline, nulls, &at_blocks, 0)?;
         let ends = at_outline.as_slice();
         let mut enters = vec![in alloc; false; blocks.len()]?;
-        mark_reads(alloc, outline, nulls, ends, entered, blocks.len(), &mut enters)?;
+        mark_reads(
+            alloc,
+            outline,
+            nulls,
+            ends,
+            entered,
+            blocks.len(),
+            &mut enters,
+        )?;
         read_blocks(alloc, blocks, &at_nodes, &enters, reads)?;
         Ok(flag(ends, ends.len().saturating_sub(1)))
     }

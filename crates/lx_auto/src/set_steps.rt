@@ -71,7 +71,7 @@ pub(crate) fn clear_flags(alloc: Global, total: usize) -> Result<Vec<bool>, Allo
     ensures clear { IfOk result (λ flags. (q : ℕ) → plain.flag flags.items q ≡ false) }
 {
     let first = vec![in alloc; false; total.min(CLEARED)]?;
-    let mut flags = Vec::new(alloc);
+    let mut flags = Vec::with_capacity(alloc, total)?;
     'copies: while flags.len() < total {
         let more = (total - flags.len()).min(first.len());
         flags.extend_from_slice(&first[..more])?;

@@ -1,4 +1,4 @@
-use Rattle.std.proofs.Common.{inl, inr, [], Some, None, subst}
+use Rattle.std.proofs.Common.{inl, inr, [], subst}
 use Rattle.std.specs.Prelude.{reverse}
 use Rattle.std.proofs.lemmas.Result.{IfOk-weaker}
 use Rattle.lx_auto.specs.NodeViews.{nodes_view}
