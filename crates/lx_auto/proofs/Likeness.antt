@@ -1,6 +1,6 @@
 -- Expressions of which the same is found: parts may be replaced by such ones, and joined from the left or from the right.
-use Rattle.std.proofs.Common.{◌≡◌, ℕ, ◌+◌, Bool, true, false, ◌&&◌, ◌||◌, List, refl, ◌∙◌, ap, ap₂, arith}
-use Rattle.lx_auto.specs.Unfolded.{Unfolded, cat, alt, opt, plus, position_count, nullable}
+use Rattle.std.proofs.Common.{◌≡◌, ◌+◌, Bool, true, false, ◌&&◌, ◌||◌, refl, ◌∙◌, ap, ap₂, arith}
+use Rattle.lx_auto.specs.Unfolded.{Unfolded, position_count, nullable}
 use Rattle.lx_auto.specs.Outlines.{AreAlike}
 use Rattle.lx_auto.specs.Passing.{ended, read_list}
 use Rattle.lx_auto.specs.Pieces.{pair_tree, single_tree}

@@ -322,7 +322,11 @@ fn add_pair<'s>(alloc: Global, pair: Pair, pieces: &mut Vec<Piece<'s>>) -> Resul
 }
 
 // Puts a node above the last expression.
-fn add_single<'s>(alloc: Global, single: Single, pieces: &mut Vec<Piece<'s>>) -> Result<(), AllocError>
+fn add_single<'s>(
+    alloc: Global,
+    single: Single,
+    pieces: &mut Vec<Piece<'s>>,
+) -> Result<(), AllocError>
     ensures { (trees : List Unfolded) → ArePieces (reverse pieces.old.items) trees → OnOk result (ArePieces (reverse pieces.new.items) (single_step (single_tree single) trees)) }
 {
     let Some(body) = pop_piece(pieces) else {
