@@ -7,9 +7,10 @@ use Rattle.lx_auto.specs.Unfolded.{Unfolded, empty, leaf, cat, alt, opt, plus, n
 use Rattle.lx_auto.specs.Nodes.{PlainNode, cat_node, alt_node, opt_node, plus_node, nodes_of}
 use Rattle.lx_auto.specs.NodeViews.{nodes_view}
 use Rattle.lx_auto.specs.Marking.{flag, nulls_from}
-use Rattle.lx_auto.specs.Outlines.{whole, cut_cat, cut_alt, cut_opt, cut_plus, outline_of_block, blocks_of}
+use Rattle.lx_auto.specs.Outlines.{AreAlike, whole, cut_cat, cut_alt, cut_opt, cut_plus, outline_of_block, blocks_of, tree_of}
 use Rattle.lx_auto.specs.Passing.{IsSolid, IsTrim, null_list}
-use Rattle.lx_auto.specs.Pieces.{pair_node, pair_tree, single_node, single_tree, tree_step, trees_from, block_nodes, IsWholeOf, IsOutlinedOf, IsPieceOf, IsPopped}
+use Rattle.lx_auto.specs.Pieces.{pair_node, pair_tree, single_node, single_tree, tree_step, trees_from, block_nodes, IsWholeOf, IsOutlinedOf, IsLedOf, IsPieceOf, IsPopped}
+use Rattle.lx_auto.specs.declared.piece.Led.{Led}
 use Rattle.lx_auto.specs.declared.piece.Outlined.{Outlined}
 use Rattle.lx_auto.specs.declared.piece.Pair.{Pair}
 use Rattle.lx_auto.specs.declared.piece.Pair.TheVariants.{Both, Either}
@@ -17,6 +18,7 @@ use Rattle.lx_auto.specs.declared.piece.Piece.{Piece}
 use Rattle.lx_auto.specs.declared.piece.Single.{Single}
 use Rattle.lx_auto.specs.declared.piece.Single.TheVariants.{Maybe, Many}
 use Rattle.lx_auto.specs.declared.piece.Whole.{Whole}
+use Rattle.lx_auto.proofs.Likeness.{alike_same, alike_both, alike_single, alike_pair, alike_joined}
 use Rattle.lx_auto.proofs.Passed.{null_length, null_last}
 use Rattle.lx_auto.proofs.RuleRead.{solid_nulls}
 
@@ -24,7 +26,7 @@ pub outlined_whole : (w : Whole) (o : Outlined) (s : set.FinSet nat_cmp) (e : Un
     nodes_view o.outline.items ≡ nodes_of (outline_of_block s w.nullable) → block_nodes o.blocks.items ≡ nodes_view w.nodes.items ∷ [] → IsOutlinedOf o e
 outlined_whole w o s e is out blocks = record {
   cutting = whole s e;
-  tree = refl;
+  alike = alike_same e;
   outline = out ∙ ap (λ b. nodes_of (outline_of_block s b)) is.null;
   blocks = blocks ∙ ap (λ l. l ∷ []) is.nodes;
 }
@@ -33,13 +35,13 @@ pub outlined_single : (single : Single) (o n : Outlined) (a : Unfolded) → IsOu
     nodes_view n.outline.items ≡ nodes_view o.outline.items ++ single_node single ∷ [] → n.blocks.items ≡ o.blocks.items → IsOutlinedOf n (single_tree single a)
 outlined_single Maybe o n a is out blocks = record {
   cutting = cut_opt is.cutting;
-  tree = ap opt is.tree;
+  alike = alike_single Maybe (tree_of is.cutting) a is.alike;
   outline = out ∙ ap (λ l. l ++ opt_node ∷ []) is.outline;
   blocks = ap block_nodes blocks ∙ is.blocks;
 }
 outlined_single Many o n a is out blocks = record {
   cutting = cut_plus is.cutting;
-  tree = ap plus is.tree;
+  alike = alike_single Many (tree_of is.cutting) a is.alike;
   outline = out ∙ ap (λ l. l ++ plus_node ∷ []) is.outline;
   blocks = ap block_nodes blocks ∙ is.blocks;
 }
@@ -49,14 +51,14 @@ pub outlined_pair : (pair : Pair) (l r n : Outlined) (a b : Unfolded) → IsOutl
     n.blocks.items ≡ l.blocks.items ++ r.blocks.items → IsOutlinedOf n (pair_tree pair a b)
 outlined_pair Both l r n a b first second out blocks = record {
   cutting = cut_cat first.cutting second.cutting;
-  tree = ap₂ cat first.tree second.tree;
+  alike = alike_pair Both (tree_of first.cutting) (tree_of second.cutting) a b first.alike second.alike;
   outline = out ∙ ap₂ (λ x y. x ++ (y ++ cat_node (length y) ∷ [])) first.outline second.outline;
   blocks = ap block_nodes blocks ∙ map-append (λ v. nodes_view v.items) l.blocks.items r.blocks.items ∙ ap₂ (λ x y. x ++ y) first.blocks second.blocks
       ∙ sym (map-append nodes_of (blocks_of first.cutting) (blocks_of second.cutting));
 }
 outlined_pair Either l r n a b first second out blocks = record {
   cutting = cut_alt first.cutting second.cutting;
-  tree = ap₂ alt first.tree second.tree;
+  alike = alike_pair Either (tree_of first.cutting) (tree_of second.cutting) a b first.alike second.alike;
   outline = out ∙ ap₂ (λ x y. x ++ (y ++ alt_node (length y) ∷ [])) first.outline second.outline;
   blocks = ap block_nodes blocks ∙ map-append (λ v. nodes_view v.items) l.blocks.items r.blocks.items ∙ ap₂ (λ x y. x ++ y) first.blocks second.blocks
       ∙ sym (map-append nodes_of (blocks_of first.cutting) (blocks_of second.cutting));
@@ -118,3 +120,21 @@ trim_solid e nodes n some t = elim t [
   | inl none ↦ let long : length nodes ≡ 0 = ap length (n ∙ ap nodes_of none) in absurd (omega arith)
   | inr s ↦ s
 ]
+
+-- an expression alike
+pub outlined_alike : (o : Outlined) (d e : Unfolded) → IsOutlinedOf o d → AreAlike d e → IsOutlinedOf o e
+outlined_alike o d e is same = record { cutting = is.cutting; alike = alike_both (tree_of is.cutting) d e is.alike same; outline = is.outline; blocks = is.blocks }
+
+-- a block put in front of another that leads
+pub led_more : (old new : Led) (w : Whole) (a e : Unfolded) → IsLedOf old e → IsWholeOf w a → new.pair ≡ old.pair → new.rest ≡ old.rest →
+    ((b : Unfolded) → IsWholeOf old.first b → IsWholeOf new.first (pair_tree old.pair a b)) → IsLedOf new (pair_tree old.pair a e)
+led_more old new w a e is first same rest makes = record {
+  one = pair_tree old.pair a is.one;
+  other = is.other;
+  first = makes is.one is.first;
+  rest = subst (λ o. IsOutlinedOf o is.other) (sym rest) is.rest;
+  alike = subst (λ p. AreAlike (pair_tree p (pair_tree old.pair a is.one) is.other) (pair_tree old.pair a e)) (sym same)
+      (alike_both (pair_tree old.pair (pair_tree old.pair a is.one) is.other) (pair_tree old.pair a (pair_tree old.pair is.one is.other)) (pair_tree old.pair a e)
+      (alike_joined old.pair a is.one is.other)
+      (alike_pair old.pair a (pair_tree old.pair is.one is.other) a e (alike_same a) is.alike));
+}

@@ -51,7 +51,7 @@ module _ (part : RulePart) (r : NumberedRule) (marks flags ends : List Bool) (ow
     | inr d ↦
         ended_at_last flags (outline d.cutting) 0 ends (inr (outline_solid d.cutting)) (outline_ends d)
         ∙ outline_ended marks flags d.cutting 0 r.base (have_ended marks flags part.blocks.items own (blocks_of d.cutting) r.base d.blocks have tell)
-        ∙ ap (λ e. ended marks e r.base) d.tree
+        ∙ d.alike.ends marks r.base
   ]
 
   pub rule_ended : (flag ends (length ends - 1) ≡ true) ↔ CanEnd (λ p. flag marks p ≡ true) r.tree r.base
@@ -74,7 +74,7 @@ module _ (part : RulePart) (r : NumberedRule) (marks flags ends : List Bool) (ow
             let out = outline c in
             let blocks = blocks_long part.blocks.items (blocks_of c) r.base d.blocks in
             let positions = outline_count c in
-            let size = blocks_count c ∙ ap position_count d.tree in
+            let size = blocks_count c ∙ d.alike.count in
             let bare : IsClear old r.base (r.base + positions_of (blocks_of c)) = record { each = λ q low high. clear.each q (omega arith) (omega arith) } in
             let end : length part.blocks.items ≡ 0 + position_count out = omega arith in
             let told : entered ≡ read_list flags out f 0 first =
@@ -85,7 +85,7 @@ module _ (part : RulePart) (r : NumberedRule) (marks flags ends : List Bool) (ow
             (set (blocks_of c) r.base d.blocks bare
             ∙ sym (outline_reads marks flags entered c f r.base first old
             (have_ended marks flags part.blocks.items own (blocks_of c) r.base d.blocks have tell) (omega arith) told)
-            ∙ ap (λ e. read_list marks e f r.base old) d.tree) (omega arith)
+            ∙ d.alike.reads marks f r.base old) (omega arith)
       ]
 
 -- a rule that is made of nodes
@@ -110,10 +110,10 @@ divided_of part o e k is out nulls blocks = elim is [
   | inl none ↦ inl (none.0, out ∙ none.1, none_over part.blocks.items k (subst (λ l. AreBlocksOver part.blocks.items (block_nodes l) k) none.2 blocks))
   | inr d ↦
       let c = d.1.cutting in
-      let solid : IsSolid (tree_of c) = subst IsSolid (sym d.1.tree) d.0 in
+      let solid : IsSolid (tree_of c) = d.1.alike.solid d.0 in
       inr (record {
         cutting = c;
-        tree = d.1.tree;
+        alike = d.1.alike;
         outline = ap nodes_view out ∙ d.1.outline;
         nulls = nulls ∙ ap (λ l. nulls_from l []) d.1.outline;
         blocks = over_trees part.blocks.items (blocks_of c) k (solid_blocks c solid) (subst (λ l. AreBlocksOver part.blocks.items l k) d.1.blocks blocks);
@@ -123,7 +123,7 @@ divided_of part o e k is out nulls blocks = elim is [
 pub cut_total : (o : Outlined) (e : Unfolded) → IsCutOf o e → leaf_total (block_nodes o.blocks.items) ≡ position_count e
 cut_total o e is = elim is [
   | inl none ↦ ap (λ l. leaf_total (block_nodes l)) none.2 ∙ sym (ap position_count none.0)
-  | inr d ↦ ap leaf_total d.1.blocks ∙ tree_total (blocks_of d.1.cutting) ∙ blocks_count d.1.cutting ∙ ap position_count d.1.tree
+  | inr d ↦ ap leaf_total d.1.blocks ∙ tree_total (blocks_of d.1.cutting) ∙ blocks_count d.1.cutting ∙ d.1.alike.count
 ]
 
 pub part_over : (part : RulePart) (o : Outlined) (over : List PlainNode) (first : ℕ) (line_end : Bool) → nodes_view part.nodes.items ≡ over →

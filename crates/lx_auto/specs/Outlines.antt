@@ -4,7 +4,7 @@ use Rattle.std.specs.FinSet as set
 use Rattle.std.specs.Ordering.{nat_cmp}
 use Rattle.lx_auto.specs.Unfolded.{Unfolded, leaf, cat, alt, opt, plus, position_count, nullable}
 use Rattle.lx_auto.specs.Marking.{flag}
-use Rattle.lx_auto.specs.Passing.{ended, read_list}
+use Rattle.lx_auto.specs.Passing.{IsSolid, ended, read_list}
 
 pub data Cutting : Type 0 where
   -- one block; the set is what stands in the outline, where it means nothing
@@ -55,3 +55,11 @@ HaveEnded marks flags (e ∷ es) j k = (flag flags j ≡ ended marks e k) × Hav
 abbrev pub read_blocks : List Bool → List Bool → List Unfolded → ℕ → ℕ → List Bool → List Bool
 read_blocks marks entered [] j k reads = reads
 read_blocks marks entered (e ∷ es) j k reads = read_list marks e (flag entered j) k (read_blocks marks entered es (suc j) (k + position_count e) reads)
+
+-- two expressions of which the same is found from any marked positions
+pub record AreAlike (d e : Unfolded) : Type 0 where
+  pub count : position_count d ≡ position_count e
+  pub null : nullable d ≡ nullable e
+  pub ends : (marks : List Bool) (p : ℕ) → ended marks d p ≡ ended marks e p
+  pub reads : (marks : List Bool) (f : Bool) (p : ℕ) (old : List Bool) → read_list marks d f p old ≡ read_list marks e f p old
+  pub solid : IsSolid e → IsSolid d

@@ -8,11 +8,12 @@ use Rattle.lx_auto.specs.NodeViews.{nodes_view}
 use Rattle.lx_auto.specs.Outlines as cut
 use Rattle.lx_auto.specs.Passing.{IsSolid}
 use Rattle.lx_auto.specs.declared.node.Node.{Node}
+use Rattle.lx_auto.specs.declared.piece.Led.{Led}
 use Rattle.lx_auto.specs.declared.piece.Outlined.{Outlined}
 use Rattle.lx_auto.specs.declared.piece.Pair.{Pair}
 use Rattle.lx_auto.specs.declared.piece.Pair.TheVariants.{Both, Either}
 use Rattle.lx_auto.specs.declared.piece.Piece.{Piece}
-use Rattle.lx_auto.specs.declared.piece.Piece.TheVariants.{Small, Large}
+use Rattle.lx_auto.specs.declared.piece.Piece.TheVariants.{Small, Large, Leading}
 use Rattle.lx_auto.specs.declared.piece.Single.{Single}
 use Rattle.lx_auto.specs.declared.piece.Single.TheVariants.{Maybe, Many}
 use Rattle.lx_auto.specs.declared.piece.Whole.{Whole}
@@ -72,16 +73,25 @@ pub record IsWholeOf (w : Whole) (e : Unfolded) : Type 0 where
   pub nodes : nodes_view w.nodes.items ≡ nodes_of e
   pub null : w.nullable ≡ nullable e
 
--- the blocks and the outline are those of a way to cut this expression
+-- the blocks and the outline are those of a way to cut an expression alike to this one
 pub record IsOutlinedOf (o : Outlined) (e : Unfolded) : Type 0 where
   pub cutting : cut.Cutting
-  pub tree : cut.tree_of cutting ≡ e
+  pub alike : cut.AreAlike (cut.tree_of cutting) e
   pub outline : nodes_view o.outline.items ≡ nodes_of (cut.outline cutting)
   pub blocks : block_nodes o.blocks.items ≡ map nodes_of (cut.blocks_of cutting)
+
+-- a block and what comes behind it are alike to this expression
+pub record IsLedOf (l : Led) (e : Unfolded) : Type 0 where
+  pub one : Unfolded
+  pub other : Unfolded
+  pub first : IsWholeOf l.first one
+  pub rest : IsOutlinedOf l.rest other
+  pub alike : cut.AreAlike (pair_tree l.pair one other) e
 
 abbrev pub IsPieceOf : Piece → Unfolded → Type 0
 IsPieceOf (Small w) e = IsWholeOf w e
 IsPieceOf (Large o) e = IsOutlinedOf o e
+IsPieceOf (Leading l) e = IsLedOf l e
 
 abbrev pub ArePieces : List Piece → List Unfolded → Type 0
 ArePieces [] [] = Unit {0}

@@ -12,10 +12,10 @@ use Rattle.lx_auto.specs.Outlines as cut
 use Rattle.lx_auto.specs.PositionSets.{NumberedRule, size_of}
 use Rattle.lx_auto.specs.declared.rule_part.RulePart.{RulePart}
 
--- the outline and the blocks are those of a way to cut the expression
+-- the outline and the blocks are those of a way to cut an expression alike to this one
 pub record IsDividedBy (part : RulePart) (e : Unfolded) (k : ℕ) : Type 0 where
   pub cutting : cut.Cutting
-  pub tree : cut.tree_of cutting ≡ e
+  pub alike : cut.AreAlike (cut.tree_of cutting) e
   pub outline : nodes_view part.outline.items ≡ nodes_of (cut.outline cutting)
   pub nulls : part.nulls.items ≡ nulls_from (nodes_of (cut.outline cutting)) []
   pub blocks : AreBlocks part.blocks.items (cut.blocks_of cutting) k

@@ -1,16 +1,16 @@
 // Expressions cut into blocks of few nodes: where a set of positions touches few blocks, only these are gone over.
-ghost use Rattle.std.specs.Prelude.{◌≡◌, ◌++◌, [], List, IfOk, OnOk, reverse};
+ghost use Rattle.std.specs.Prelude.{◌≡◌, ◌++◌, [], true, List, IfOk, OnOk, reverse};
 ghost use Rattle.lx_auto.specs.Unfolded.{Unfolded, leaf};
 ghost use Rattle.lx_auto.specs.Nodes.{nodes_of};
 ghost use Rattle.lx_auto.specs.NodeViews.{node_view, nodes_view};
 ghost use Rattle.lx_auto.specs.Outlines.{outline_of_block};
 ghost use Rattle.lx_auto.specs.Passing.{IsSolid, IsTrim};
 ghost use Rattle.lx_auto.specs.Pieces as plain;
-ghost use Rattle.lx_auto.specs.Pieces.{IsWholeOf, IsOutlinedOf, IsPieceOf, ArePieces, IsPopped, pair_tree, single_tree, pair_step, single_step, tree_step, IsCutOf};
+ghost use Rattle.lx_auto.specs.Pieces.{IsWholeOf, IsOutlinedOf, IsLedOf, IsPieceOf, ArePieces, IsPopped, pair_tree, single_tree, pair_step, single_step, tree_step, IsCutOf};
 
 use crate::marking::{flag, nulls_of};
 use crate::node::Node;
-use crate::piece::{Outlined, Pair, Piece, Single, Whole};
+use crate::piece::{Led, Outlined, Pair, Piece, Single, Whole};
 use lx_ere::set::ByteSet;
 use std::alloc::{AllocError, Global};
 
@@ -79,16 +79,6 @@ fn outline_whole<'s>(alloc: Global, whole: Whole<'s>) -> Result<Outlined<'s>, Al
     Ok(Outlined { outline, blocks })
 }
 
-// The outline of an expression.
-fn outlined<'s>(alloc: Global, piece: Piece<'s>) -> Result<Outlined<'s>, AllocError>
-    ensures { (e : Unfolded) → IsPieceOf piece.entry e → IfOk result (λ o. IsOutlinedOf o e) }
-{
-    match piece {
-        Piece::Small(whole) => outline_whole(alloc, whole),
-        Piece::Large(outlined) => Ok(outlined),
-    }
-}
-
 // Puts blocks behind others.
 fn push_blocks<'s>(
     blocks: &mut Vec<Vec<Node<'s>>>,
@@ -132,29 +122,110 @@ fn join_whole<'s>(
     Ok(left)
 }
 
-// Whether two expressions are to become one block.
-fn fit_together(left: &Piece, right: &Piece) -> bool {
-    match left {
-        Piece::Small(left) => match right {
-            Piece::Small(right) => left.nodes.len().saturating_add(right.nodes.len()) < BLOCK,
-            Piece::Large(_) => false,
-        },
-        Piece::Large(_) => false,
+// The outline of an expression with a first block.
+fn outline_led<'s>(alloc: Global, led: Led<'s>) -> Result<Outlined<'s>, AllocError>
+    ensures { (e : Unfolded) → IsLedOf led.entry e → IfOk result (λ o. IsOutlinedOf o e) }
+{
+    let first = outline_whole(alloc, led.first)?;
+    join_outlined(led.pair, first, led.rest)
+}
+
+// The outline of an expression.
+fn outlined<'s>(alloc: Global, piece: Piece<'s>) -> Result<Outlined<'s>, AllocError>
+    ensures { (e : Unfolded) → IsPieceOf piece.entry e → IfOk result (λ o. IsOutlinedOf o e) }
+{
+    match piece {
+        Piece::Small(whole) => outline_whole(alloc, whole),
+        Piece::Large(outlined) => Ok(outlined),
+        Piece::Leading(led) => outline_led(alloc, led),
     }
 }
 
-// Two expressions, of which each becomes blocks of its own.
-fn join_apart<'s>(
+// Whether two blocks are to become one.
+fn fit_together(left: &Whole, right: &Whole) -> bool {
+    left.nodes.len().saturating_add(right.nodes.len()) < BLOCK
+}
+
+fn are_same(one: Pair, other: Pair) -> bool
+    ensures { result ≡ true → one ≡ other }
+{
+    match one {
+        Pair::Both => match other {
+            Pair::Both => true,
+            Pair::Either => false,
+        },
+        Pair::Either => match other {
+            Pair::Both => false,
+            Pair::Either => true,
+        },
+    }
+}
+
+// A block in front of an expression that is cut into blocks.
+fn lead<'s>(pair: Pair, first: Whole<'s>, rest: Outlined<'s>) -> Led<'s>
+    ensures { (a b : Unfolded) → IsWholeOf first.entry a → IsOutlinedOf rest.entry b → IsLedOf result (pair_tree pair a b) }
+{
+    Led { pair, first, rest }
+}
+
+// A block in front of an expression with a first block, with which it may become one.
+fn lead_led<'s>(
     alloc: Global,
     pair: Pair,
-    left: Piece<'s>,
+    left: Whole<'s>,
+    right: Led<'s>,
+) -> Result<Led<'s>, AllocError>
+    ensures { (a b : Unfolded) → IsWholeOf left.entry a → IsLedOf right.entry b → IfOk result (λ l. IsLedOf l (pair_tree pair a b)) }
+{
+    if !are_same(right.pair, pair) || !fit_together(&left, &right.first) {
+        let rest = outline_led(alloc, right)?;
+        return Ok(lead(pair, left, rest));
+    }
+    let first = join_whole(right.pair, left, right.first)?;
+    Ok(Led {
+        pair: right.pair,
+        first,
+        rest: right.rest,
+    })
+}
+
+// A block, and another expression behind it.
+fn join_small<'s>(
+    alloc: Global,
+    pair: Pair,
+    left: Whole<'s>,
     right: Piece<'s>,
 ) -> Result<Piece<'s>, AllocError>
-    ensures { (a b : Unfolded) → IsPieceOf left.entry a → IsPieceOf right.entry b → IfOk result (λ p. IsPieceOf p (pair_tree pair a b)) }
+    ensures { (a b : Unfolded) → IsWholeOf left.entry a → IsPieceOf right.entry b → IfOk result (λ p. IsPieceOf p (pair_tree pair a b)) }
 {
-    let first = outlined(alloc, left)?;
+    match right {
+        Piece::Small(second) => {
+            if fit_together(&left, &second) {
+                let joined = join_whole(pair, left, second)?;
+                return Ok(Piece::Small(joined));
+            }
+            let rest = outline_whole(alloc, second)?;
+            Ok(Piece::Leading(lead(pair, left, rest)))
+        }
+        Piece::Large(rest) => Ok(Piece::Leading(lead(pair, left, rest))),
+        Piece::Leading(led) => {
+            let joined = lead_led(alloc, pair, left, led)?;
+            Ok(Piece::Leading(joined))
+        }
+    }
+}
+
+// Two expressions, of which the first is cut into blocks.
+fn join_large<'s>(
+    alloc: Global,
+    pair: Pair,
+    left: Outlined<'s>,
+    right: Piece<'s>,
+) -> Result<Piece<'s>, AllocError>
+    ensures { (a b : Unfolded) → IsOutlinedOf left.entry a → IsPieceOf right.entry b → IfOk result (λ p. IsPieceOf p (pair_tree pair a b)) }
+{
     let second = outlined(alloc, right)?;
-    let joined = join_outlined(pair, first, second)?;
+    let joined = join_outlined(pair, left, second)?;
     Ok(Piece::Large(joined))
 }
 
@@ -167,23 +238,13 @@ fn join<'s>(
 ) -> Result<Piece<'s>, AllocError>
     ensures { (a b : Unfolded) → IsPieceOf left.entry a → IsPieceOf right.entry b → IfOk result (λ p. IsPieceOf p (pair_tree pair a b)) }
 {
-    if !fit_together(&left, &right) {
-        return join_apart(alloc, pair, left, right);
-    }
     match left {
-        Piece::Small(first) => match right {
-            Piece::Small(second) => {
-                let joined = join_whole(pair, first, second)?;
-                Ok(Piece::Small(joined))
-            }
-            Piece::Large(second) => join_apart(
-                alloc,
-                pair,
-                Piece::Small(first),
-                Piece::Large(second),
-            ),
-        },
-        Piece::Large(first) => join_apart(alloc, pair, Piece::Large(first), right),
+        Piece::Small(first) => join_small(alloc, pair, first, right),
+        Piece::Large(first) => join_large(alloc, pair, first, right),
+        Piece::Leading(led) => {
+            let first = outline_led(alloc, led)?;
+            join_large(alloc, pair, first, right)
+        }
     }
 }
 
@@ -205,7 +266,7 @@ fn extend_outlined<'s>(single: Single, mut body: Outlined<'s>) -> Result<Outline
 }
 
 // A node above an expression.
-fn extend<'s>(single: Single, body: Piece<'s>) -> Result<Piece<'s>, AllocError>
+fn extend<'s>(alloc: Global, single: Single, body: Piece<'s>) -> Result<Piece<'s>, AllocError>
     ensures { (a : Unfolded) → IsPieceOf body.entry a → IfOk result (λ p. IsPieceOf p (single_tree single a)) }
 {
     match body {
@@ -214,6 +275,11 @@ fn extend<'s>(single: Single, body: Piece<'s>) -> Result<Piece<'s>, AllocError>
             Ok(Piece::Small(extended))
         }
         Piece::Large(outlined) => {
+            let extended = extend_outlined(single, outlined)?;
+            Ok(Piece::Large(extended))
+        }
+        Piece::Leading(led) => {
+            let outlined = outline_led(alloc, led)?;
             let extended = extend_outlined(single, outlined)?;
             Ok(Piece::Large(extended))
         }
@@ -256,13 +322,17 @@ fn add_pair<'s>(alloc: Global, pair: Pair, pieces: &mut Vec<Piece<'s>>) -> Resul
 }
 
 // Puts a node above the last expression.
-fn add_single<'s>(single: Single, pieces: &mut Vec<Piece<'s>>) -> Result<(), AllocError>
+fn add_single<'s>(
+    alloc: Global,
+    single: Single,
+    pieces: &mut Vec<Piece<'s>>,
+) -> Result<(), AllocError>
     ensures { (trees : List Unfolded) → ArePieces (reverse pieces.old.items) trees → OnOk result (ArePieces (reverse pieces.new.items) (single_step (single_tree single) trees)) }
 {
     let Some(body) = pop_piece(pieces) else {
         return Ok(());
     };
-    let extended = extend(single, body)?;
+    let extended = extend(alloc, single, body)?;
     pieces.push(extended)?;
     Ok(())
 }
@@ -283,8 +353,8 @@ fn add_node<'s>(
         }
         Node::Cat(_) => add_pair(alloc, Pair::Both, pieces),
         Node::Alt(_) => add_pair(alloc, Pair::Either, pieces),
-        Node::Optional => add_single(Single::Maybe, pieces),
-        Node::Repeated => add_single(Single::Many, pieces),
+        Node::Optional => add_single(alloc, Single::Maybe, pieces),
+        Node::Repeated => add_single(alloc, Single::Many, pieces),
     }
 }
 

@@ -40,6 +40,15 @@ pub(crate) struct Outlined<'s> {
     pub(crate) blocks: Vec<Vec<Node<'s>>>,
 }
 
+/// An expression whose first block may still grow in front.
+#[derive(Drop)]
+pub(crate) struct Led<'s> {
+    /// How the first block is joined to the rest.
+    pub(crate) pair: Pair,
+    pub(crate) first: Whole<'s>,
+    pub(crate) rest: Outlined<'s>,
+}
+
 /// An expression that is one block so far, or cut into several.
 #[derive(Drop)]
 pub(crate) enum Piece<'s> {
@@ -47,4 +56,6 @@ pub(crate) enum Piece<'s> {
     Small(Whole<'s>),
     /// It has more.
     Large(Outlined<'s>),
+    /// It has more, and its first block isn't full.
+    Leading(Led<'s>),
 }
