@@ -77,13 +77,29 @@ pub(crate) fn split(
 {
     let wanted = side_of(m, inside, from, class, wanted);
     let blocks = p.block_of.as_slice();
-    let movers = movers_of(alloc, m, blocks, inside, sources, from as u16, class, wanted)?;
+    let movers = movers_of(
+        alloc,
+        m,
+        blocks,
+        inside,
+        sources,
+        from as u16,
+        class,
+        wanted,
+    )?;
     if movers.is_empty() {
         return Ok(false);
     }
     let representative = p.representatives[from];
-    let Some(stayer) = stayer_of(m, blocks, inside, representative, from as u16, class, wanted)
-    else {
+    let Some(stayer) = stayer_of(
+        m,
+        blocks,
+        inside,
+        representative,
+        from as u16,
+        class,
+        wanted,
+    ) else {
         return Ok(false);
     };
     divide(m, p, from, stayer, &movers)?;
