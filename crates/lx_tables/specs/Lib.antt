@@ -1,0 +1,4 @@
+pub mod Examples
+pub mod Model
+pub mod Texts
+pub mod Views
