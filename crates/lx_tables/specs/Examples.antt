@@ -1,7 +1,6 @@
 -- Four tables and their eight texts: what the definitions of the texts compute.
-use Rattle.std.specs.Prelude.{ℕ, ◌≡◌, List, [], ◌∷◌, ◌++◌, Option, Some, None, Bool, true, false, codes, replicate}
+use Rattle.std.specs.Prelude.{ℕ, ◌≡◌, [], ◌∷◌, ◌++◌, Some, None, Bool, true, false, codes, replicate}
 use Rattle.lx_spec.specs.declared.rule.Kind.TheVariants.{Name}
-use Rattle.lx_spec.specs.declared.rule.Step.{Step}
 use Rattle.lx_spec.specs.declared.rule.Step.TheVariants.{Return}
 use Rattle.lx_auto.specs.Automata.{Machine}
 use Rattle.lx_tables.specs.Model.{TableRule, Table}

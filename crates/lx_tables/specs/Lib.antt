@@ -1,4 +1,6 @@
 pub mod Examples
+pub mod Lines
 pub mod Model
+pub mod Output
 pub mod Texts
 pub mod Views

@@ -1,5 +1,5 @@
 -- Tables of a scanner as plain data, and what holds of each.
-use Rattle.std.specs.Prelude.{◌≡◌, ℕ, ◌<◌, ◌≤◌, ◌↔◌, Bool, false, IsTrue, List, [], Option, Some, length, map, slice_index, slice_index_or}
+use Rattle.std.specs.Prelude.{◌≡◌, ℕ, ◌<◌, ◌≤◌, ◌↔◌, Bool, false, IsTrue, List, [], Some, length, map, slice_index, slice_index_or}
 use Rattle.std.specs.List.{list_all}
 use Rattle.lx_spec.specs.Plain.{PlainRule, PlainSpec}
 use Rattle.lx_spec.specs.Bytes.{is_identifier}

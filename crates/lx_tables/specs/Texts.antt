@@ -57,9 +57,12 @@ abbrev pub ranges_text : List (Option ℕ) → List ℕ
 ranges_text [] = []
 ranges_text (value ∷ more) = ranges_from 0 0 value more
 
+unfoldable pub all_bytes : List ℕ
+all_bytes = range_with_len 0 256
+
 -- the ranges of the 256 bytes by their values
 abbrev pub byte_ranges : (ℕ → Option ℕ) → List ℕ
-byte_ranges value = ranges_text (map value (range_with_len 0 256))
+byte_ranges value = ranges_text (map value all_bytes)
 
 -- `-`, or the accepted rule
 abbrev pub accepts_text : Option ℕ → List ℕ
@@ -71,14 +74,17 @@ abbrev pub entry_text : ℕ → Option ℕ → List ℕ
 entry_text class None = []
 entry_text class (Some target) = codes " " ++ number class ++ codes ":" ++ number target
 
+-- the classes that go to states from this one
+abbrev pub entries_text : Machine → ℕ → List ℕ
+entries_text m s = flat_map (λ class. entry_text class (class_target m s class)) (range_with_len 0 m.width)
+
 -- `state A` and ranges of bytes that go to states
 abbrev pub state_line_1 : Machine → ℕ → List ℕ
 state_line_1 m s = codes "state " ++ accepts_text (accepted_by m s) ++ byte_ranges (λ b. target_of m s b) ++ codes "\n"
 
 -- `state A` and classes that go to states
 abbrev pub state_line_2 : Machine → ℕ → List ℕ
-state_line_2 m s =
-    codes "state " ++ accepts_text (accepted_by m s) ++ flat_map (λ class. entry_text class (class_target m s class)) (range_with_len 0 m.width) ++ codes "\n"
+state_line_2 m s = codes "state " ++ accepts_text (accepted_by m s) ++ entries_text m s ++ codes "\n"
 
 -- a word, a number and LF
 abbrev pub count_line : List ℕ → ℕ → List ℕ

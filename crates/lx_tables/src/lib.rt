@@ -1,9 +1,14 @@
 //! Tables that drive a scanner: in memory, printed as text and read again.
 #![tactic(auto)]
 
+mod byte_values;
 pub mod examples;
+mod lines;
+pub mod printing;
 mod table_rule;
 pub mod tables;
+mod version;
+mod writing;
 
 pub use crate::tables::Tables;
 pub use lx_auto::State;
