@@ -55,11 +55,16 @@ module _ (spec : PlainSpec) (tree_of : Regex → Unfolded) (leaves : List PlainL
       let t = (each q).0 r in
       contains_nil q (subst (λ S. Contains S q) is
       ((having_means leaves (slice_index representatives (slice_index classes b)) F q).1 (t.0, (has_representative b q h).1 t.1)))
-  step_after y b F (Some j) h each is = (j, is.1, refl, λ q.
-      let means = having_means leaves (slice_index representatives (slice_index classes b)) F q in (
-        (λ k. let t = means.0 (subst (λ S. Contains S q) is.2 k) in (each q).1 (t.0, (has_representative b q h).0 t.1)),
-        (λ r. let t = (each q).0 r in subst (λ S. Contains S q) (sym is.2) (means.1 (t.0, (has_representative b q h).1 t.1))),
-      ))
+  step_after y b F (Some j) h each is = (
+    j,
+    is.1,
+    refl,
+    λ q.
+        let means = having_means leaves (slice_index representatives (slice_index classes b)) F q in (
+          (λ k. let t = means.0 (subst (λ S. Contains S q) is.2 k) in (each q).1 (t.0, (has_representative b q h).0 t.1)),
+          (λ r. let t = (each q).0 r in subst (λ S. Contains S q) (sym is.2) (means.1 (t.0, (has_representative b q h).1 t.1))),
+        ),
+  )
 
   -- where a state steps on a byte
   target_is : (i b : ℕ) → target_of m i b ≡ option_map (λ j. 2 * length spec.conditions + j) (slice_index_or targets (i * length representatives + slice_index classes b) None)

@@ -184,13 +184,13 @@ module _ (spec : PlainSpec) (sound : HasSoundPatterns spec) where
         ReachesWhole spec c begin w i ↔ (IsActiveAt spec r.rule c begin × MatchesWhole r w)
     reaches i r at = (
       (λ h.
-        let same : h.rule ≡ r.rule = (let e : Some h.rule ≡ Some r.rule = sym h.at ∙ plain in cc) in
-        let fits = subst (λ x. Fits spec x c begin w h.bytes) same h.fits in
-        let whole = subst (λ x. reach x h.bytes ≡ length w) same h.whole in
-        (record { active = fits.active; line_begin = fits.line_begin }, fits_whole i r at r.rule.reading.line_end refl h.bytes fits whole)),
+          let same : h.rule ≡ r.rule = (let e : Some h.rule ≡ Some r.rule = sym h.at ∙ plain in cc) in
+          let fits = subst (λ x. Fits spec x c begin w h.bytes) same h.fits in
+          let whole = subst (λ x. reach x h.bytes ≡ length w) same h.whole in
+          (record { active = fits.active; line_begin = fits.line_begin }, fits_whole i r at r.rule.reading.line_end refl h.bytes fits whole)),
       (λ h.
-        let fits = whole_fits i r at r.rule.reading.line_end refl h.0 h.1 in
-        record { rule = r.rule; at = plain; bytes = fits.0; fits = fits.1; whole = fits.2 }),
+          let fits = whole_fits i r at r.rule.reading.line_end refl h.0 h.1 in
+          record { rule = r.rule; at = plain; bytes = fits.0; fits = fits.1; whole = fits.2 }),
     )
       where
         plain : slice_get spec.rules i ≡ Some r.rule
@@ -201,8 +201,8 @@ module _ (spec : PlainSpec) (sound : HasSoundPatterns spec) where
         ReachesWhole spec c begin w i ↔ IsMatchedBy (numbered (trimmed_pattern spec.definitions) 0 spec.rules) S i
     reached_matched S is i = (
       (λ h.
-        let r = numbered_at (trimmed_pattern spec.definitions) 0 spec.rules i h.rule h.at in
-        (matched_by spec (trimmed_pattern spec.definitions) 0 spec.rules c begin w S i r.0 is r.1).0 ((reaches i r.0 r.1).0 h)),
+          let r = numbered_at (trimmed_pattern spec.definitions) 0 spec.rules i h.rule h.at in
+          (matched_by spec (trimmed_pattern spec.definitions) 0 spec.rules c begin w S i r.0 is r.1).0 ((reaches i r.0 r.1).0 h)),
       (λ h. (reaches i h.rule h.at).1 ((matched_by spec (trimmed_pattern spec.definitions) 0 spec.rules c begin w S i h.rule is h.at).1 h)),
     )
 

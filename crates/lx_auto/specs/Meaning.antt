@@ -16,7 +16,7 @@ pub record ReachesWhole (spec : PlainSpec) (condition : ℕ) (begin : Bool) (tex
 abbrev pub IsAnswer : PlainSpec → ℕ → Bool → List ℕ → Option ℕ → Type 0
 IsAnswer spec condition begin text found =
     MatchOption found ((j : ℕ) → ReachesWhole spec condition begin text j → ⊥)
-        (λ i. ReachesWhole spec condition begin text i × ((j : ℕ) → j < i → ReachesWhole spec condition begin text j → ⊥))
+    (λ i. ReachesWhole spec condition begin text i × ((j : ℕ) → j < i → ReachesWhole spec condition begin text j → ⊥))
 
 -- An automaton of a specification: from every start condition, at line begin or elsewhere, it gives the answer after every text.
 pub record IsAutomatonOf (spec : PlainSpec) (m : Machine) : Type 0 where

@@ -7,9 +7,9 @@ ghost use Rattle.lx_auto.specs.Trimmed.{trimmed_pattern};
 
 use crate::arena::unfold_rules;
 use crate::fault::BuildFault;
-use crate::position_table::PositionTable;
 use crate::groups::groups_of;
 use crate::leaf::leaves_of;
+use crate::position_table::PositionTable;
 use lx_spec::spec::Spec;
 use std::alloc::Global;
 
@@ -18,7 +18,10 @@ use std::alloc::Global;
 /// # Errors
 ///
 /// `TooManyPositions` where there are more than 16,384; `Memory`.
-pub(crate) fn positions_of<'s>(alloc: Global, spec: &'s Spec) -> Result<PositionTable<'s>, BuildFault>
+pub(crate) fn positions_of<'s>(
+    alloc: Global,
+    spec: &'s Spec,
+) -> Result<PositionTable<'s>, BuildFault>
     ensures too_many { IfErr result (λ e. e ≡ BuildFault.TooManyPositions → 16384 < count_of_spec (spec_view spec.now)) }
     ensures memory { IfErr result (λ e. (e ≡ BuildFault.TooManyPositions) ⊎ (e ≡ BuildFault.Memory)) }
     ensures few { IfOk result (λ _. count_of_spec (spec_view spec.now) ≤ 16384) }
