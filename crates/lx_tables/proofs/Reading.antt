@@ -1,5 +1,6 @@
 -- What a machine's words say.
 use Rattle.std.proofs.Common.{◌≡◌, ◌≢◌, ℕ, zero, suc, ◌+◌, ◌-◌, ◌*◌, ◌<◌, true, false, Some, None, List, [], ◌∷◌, length, map, get_or, slice_index, slice_index_or, refl, sym, ◌∙◌, ap, subst, arith, eqb, inl, inr}
+use Rattle.std.proofs.lemmas.Bool.{cases_eq}
 use Rattle.std.proofs.lemmas.Bool.Decides.{eqb_tells}
 use Rattle.std.proofs.lemmas.List.{get_or_read}
 use Rattle.std.proofs.lemmas.Nat.{row_fits}
@@ -13,7 +14,7 @@ word_at [] i = refl
 word_at (x ∷ xs) zero = refl
 word_at (x ∷ xs) (suc i) = word_at xs i
 
-in_row : (i c n w : ℕ) → i < n → c < w → i * w + c < n * w
+pub in_row : (i c n w : ℕ) → i < n → c < w → i * w + c < n * w
 in_row i c n w hi hc = let r = row_fits i w n w hi (omega arith) in omega arith
 
 pub different : (a b : ℕ) → a ≢ b → eqb a b ≡ false
@@ -62,3 +63,22 @@ byte_classes m is has = record {
   );
   numbered = has.numbered;
 }
+
+pub from_word-same : (a b : ℕ) → from_word a ≡ from_word b → a ≡ b
+from_word-same a b e = elim (cases_eq a 0) [
+  | inl f ↦ elim (cases_eq b 0) [
+    | inl g ↦ f ∙ sym g
+    | inr g ↦ let h : None ≡ Some (b - 1) = sym (ap from_word f) ∙ e ∙ from_word-some b g in cc
+  ]
+  | inr f ↦ elim (cases_eq b 0) [
+    | inl g ↦ let h : Some (a - 1) ≡ None = sym (from_word-some a f) ∙ e ∙ ap from_word g in cc
+    | inr g ↦ let h : Some (a - 1) ≡ Some (b - 1) = sym (from_word-some a f) ∙ e ∙ from_word-some b g in
+        let k : a - 1 ≡ b - 1 = cc in omega arith
+  ]
+]
+
+pub word_above : (word n : ℕ) → from_word word ≡ Some n → word ≡ n + 1
+word_above word n e = elim (cases_eq word 0) [
+  | inl f ↦ let g : None ≡ Some n = sym (ap from_word f) ∙ e in cc
+  | inr f ↦ let g : Some (word - 1) ≡ Some n = sym (from_word-some word f) ∙ e in let k : word - 1 ≡ n = cc in omega arith
+]

@@ -2,9 +2,13 @@
 #![tactic(auto)]
 
 mod byte_values;
+mod copying;
 pub mod examples;
 mod lines;
+pub mod making;
+mod numbering;
 pub mod printing;
+mod reordering;
 mod table_rule;
 pub mod tables;
 mod version;

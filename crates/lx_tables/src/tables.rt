@@ -40,6 +40,30 @@ impl Model for Tables {
 }
 
 impl Tables {
+    /// The tables of these lists.
+    pub(crate) fn of_lists(
+        starts: Vec<(u32, u32)>,
+        classes: Vec<u8>,
+        width: usize,
+        accepted: Vec<u16>,
+        targets: Vec<u16>,
+        kinds: Vec<Vec<u8>>,
+        rules: Vec<TableRule>,
+    ) -> Tables
+        requires { IsTable (record { machine = machine_of starts.items classes.items width accepted.items targets.items; kinds = names_view kinds.items; rules = rules_view rules.items }) }
+        ensures { result ≡ record { machine = machine_of starts.items classes.items width accepted.items targets.items; kinds = names_view kinds.items; rules = rules_view rules.items } }
+    {
+        Tables {
+            starts,
+            classes,
+            width,
+            accepted,
+            targets,
+            kinds,
+            rules,
+        }
+    }
+
     /// How many start conditions there are: 1 to 64.
     pub fn conditions(&self) -> u16
         ensures count { result ≡ length self.now.machine.starts }
@@ -155,6 +179,6 @@ impl Tables {
         ensures class { result ≡ slice_index self.now.machine.classes byte }
         ensures below { result < self.now.machine.width }
     {
-        self.classes[byte as usize]
+        self.classes[usize::from(byte)]
     }
 }
