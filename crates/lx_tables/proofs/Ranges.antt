@@ -35,11 +35,11 @@ other_word m n differ = at (m == 0) (n == 0) refl refl
     at false true e f = refl
     at false false e f = ne_eqb (m - 1) (n - 1) (λ same. let p = eqb-false m 0 e in let q = eqb-false n 0 f in differ (omega arith))
 
-byte_count : length all_bytes ≡ 256
+pub byte_count : length all_bytes ≡ 256
 unfolding all_bytes
 byte_count = length-range_with_len 0 256
 
-byte_at : (k : ℕ) → k < 256 → get_or all_bytes k 0 ≡ k
+pub byte_at : (k : ℕ) → k < 256 → get_or all_bytes k 0 ≡ k
 unfolding all_bytes
 byte_at k l = omega (arith, get_or-range_with_len 0 256 k 0 l)
 

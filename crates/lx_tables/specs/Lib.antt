@@ -4,4 +4,5 @@ pub mod Model
 pub mod Numbered
 pub mod Output
 pub mod Texts
+pub mod Uniqueness
 pub mod Views

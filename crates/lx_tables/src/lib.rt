@@ -11,6 +11,7 @@ pub mod printing;
 mod reordering;
 mod table_rule;
 pub mod tables;
+pub mod uniqueness;
 mod version;
 mod writing;
 
