@@ -1,4 +1,5 @@
--- Tables of a scanner as plain data, and what holds of each.
+-- Tables of a scanner as plain data, and what holds of each: a deterministic automaton (Rabin and Scott 1959), and what rules do (XCU `lex`, "Actions in
+-- lex"). The form of tables is this project's own, as POSIX leaves it open.
 use Rattle.std.specs.Prelude.{◌≡◌, ℕ, ◌<◌, ◌≤◌, ◌↔◌, Bool, false, IsTrue, List, [], Some, length, map, slice_index, slice_index_or}
 use Rattle.std.specs.List.{list_all}
 use Rattle.lx_spec.specs.Plain.{PlainRule, PlainSpec}
@@ -27,8 +28,9 @@ rule_at table rule = slice_index_or table.rules rule (record { cut = false; step
 abbrev pub kind_at : Table → ℕ → List ℕ
 kind_at table kind = slice_index_or table.kinds kind []
 
--- What holds of all tables (docs: "Table text"): those of the automaton, with its classes; kinds are identifiers and each once; rules,
--- conditions and kinds that are named are there; at most 4,096 kinds and rules, 64 conditions, 16,512 states and 256 classes.
+-- What holds of all tables: 1 to 64 conditions, 1 to 16,512 states and 1 to 256 classes, as of each automaton, whose classes are its byte classes; at most
+-- 4,096 kinds, which are identifiers and each once; at most 4,096 rules, whose steps name conditions and kinds that are there, a return last; and each rule that
+-- is accepted is there.
 pub record IsTable (table : Table) : Type 0 where
   pub machine : IsMachine table.machine
   pub classes : HasByteClasses table.machine

@@ -1,4 +1,5 @@
--- The text of tables, in both versions. Each line ends with LF, one space stands between fields, and numbers are decimal.
+-- The text of tables in its two versions (this project's own): ASCII, each line ended by LF, one space between fields, numbers in decimal without leading zeros.
+-- Version 1 has the steps of a state by ranges of bytes, version 2 by classes of bytes.
 use Rattle.std.specs.Prelude.{ℕ, ◌+◌, ◌==◌, Bool, true, false, if◌then◌else◌, List, [], ◌∷◌, ◌++◌, Option, Some, None, length, map, codes, decimal, slice_index}
 use Rattle.std.specs.List.{flat_map, range_with_len}
 use Rattle.lx_spec.specs.declared.rule.Kind.TheVariants.{Name, Number}
