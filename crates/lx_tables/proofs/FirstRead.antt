@@ -12,7 +12,7 @@ use Rattle.lx_tables.proofs.LinesRead.{with_rest, many_read, accepts_read, Stops
 use Rattle.lx_tables.proofs.Numbers.{Steps, StepAlike, AlikeBelow, one_numbering}
 use Rattle.lx_tables.proofs.NumbersRead.{IsSmall, stops}
 use Rattle.lx_tables.proofs.Ranges.{byte_count, byte_at}
-use Rattle.lx_tables.proofs.Readers.{read_count, read_many, read_accepts, read_ranges}
+use Rattle.lx_tables.specs.Readers.{read_count, read_many, read_accepts, read_ranges}
 use Rattle.lx_tables.proofs.RowLists.{rows_are}
 use Rattle.lx_tables.proofs.WholeRead.{Front, read_front, front_read, count_at, right_3, ranges_all, accepted_are}
 

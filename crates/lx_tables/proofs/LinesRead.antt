@@ -14,7 +14,7 @@ use Rattle.lx_spec.specs.declared.rule.Step.TheVariants.{Echo, Begin, Return}
 use Rattle.lx_tables.specs.Model.{TableRule}
 use Rattle.lx_tables.specs.Texts.{kind_line, step_text, cut_text, rule_line, entry_text, accepts_text}
 use Rattle.lx_tables.proofs.NumbersRead.{NoDigit, number_read}
-use Rattle.lx_tables.proofs.Readers.{read_digits, read_many, read_line, read_kind, read_steps, read_rule, read_accepts, read_entries}
+use Rattle.lx_tables.specs.Readers.{read_digits, read_many, read_line, read_kind, read_steps, read_rule, read_accepts, read_entries}
 
 abbrev pub with_rest : {A : Type 0} → A → List ℕ → A × List ℕ
 with_rest a rest = (a, rest)

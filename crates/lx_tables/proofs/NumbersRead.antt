@@ -10,7 +10,7 @@ use Rattle.std.proofs.lemmas.List.{replicate-append-replicate}
 use Rattle.std.proofs.lemmas.Grind.{replicate_next}
 use Rattle.std.proofs.lemmas.List.Elements.{All-head, All-tail}
 use Rattle.lx_tables.specs.Texts.{start_line, range_text, same_value, ranges_from}
-use Rattle.lx_tables.proofs.Readers.{read_digits, read_start, read_range, read_ranges}
+use Rattle.lx_tables.specs.Readers.{read_digits, read_start, read_range, read_ranges}
 
 abbrev pub read_on : ℕ → List ℕ → ℕ
 read_on n [] = n

@@ -13,7 +13,7 @@ use Rattle.lx_tables.specs.Uniqueness.{IsOneToOne}
 use Rattle.lx_tables.proofs.NumbersRead.{start_read, IsSmall, ranges_read}
 use Rattle.lx_tables.proofs.LinesRead.{with_rest, many_read, count_read, kind_read, AreSmall, are_small, rule_read, accepts_read, entries_stop, entries_read}
 use Rattle.lx_tables.proofs.Ranges.{byte_count, byte_at}
-use Rattle.lx_tables.proofs.Readers.{read_digits, read_count, read_start, read_many, read_kind, read_rule, read_accepts, read_entries, read_state, read_ranges}
+use Rattle.lx_tables.specs.Readers.{read_digits, read_count, read_start, read_many, read_kind, read_rule, read_accepts, read_entries, read_state, read_ranges}
 use Rattle.lx_tables.proofs.RowLists.{rows_are}
 
 pub record Front : Type 0 where

@@ -3,6 +3,7 @@ pub mod Lines
 pub mod Model
 pub mod Numbered
 pub mod Output
+pub mod Readers
 pub mod Texts
 pub mod Uniqueness
 pub mod Views

@@ -4,6 +4,7 @@
 mod byte_values;
 mod copying;
 pub mod examples;
+mod fields;
 mod lines;
 pub mod making;
 mod numbering;
