@@ -1,7 +1,7 @@
 //! Deterministic automata (Rabin and Scott 1959), kept as rows of states over classes of bytes.
 
-ghost use Rattle.std.specs.Prelude.{◌≡◌, ◌<◌, length, IfSome, option_map};
-ghost use Rattle.lx_auto.specs.Automata.{Machine, IsMachine, HasByteClasses, state_count, start_of, accepted_by, target_of};
+ghost use Rattle.std.specs.Prelude.{◌≡◌, ◌<◌, length, slice_index, IfSome, option_map};
+ghost use Rattle.lx_auto.specs.Automata.{Machine, IsMachine, HasByteClasses, state_count, start_of, accepted_by, class_target, target_of};
 ghost use Rattle.lx_auto.specs.Words.{machine_of};
 
 use std::marker::Model;
@@ -86,19 +86,43 @@ impl Automaton {
         }
     }
 
+    /// How many classes of bytes there are: 1 to 256.
+    pub fn classes(&self) -> u16
+        ensures { result ≡ self.now.width }
+    {
+        self.width as u16
+    }
+
+    /// The class of a byte.
+    pub fn class(&self, byte: u8) -> u8
+        ensures class { result ≡ slice_index self.now.classes byte }
+        ensures below { result < self.now.width }
+    {
+        self.classes[byte as usize]
+    }
+
+    /// Where a state steps on a class of bytes; None where the step is missing.
+    pub fn class_step(&self, state: State, class: u8) -> Option<State>
+        requires state { state.0 < state_count self.now }
+        requires class { class < self.now.width }
+        ensures target { option_map (λ s. s.0) result ≡ class_target self.now state.0 class }
+        ensures state { IfSome result (λ s. s.0 < state_count self.now) }
+    {
+        let word = self.targets[state.0 as usize * self.width + class as usize];
+        if word == 0 {
+            None
+        } else {
+            Some(State(word as u32 - 1))
+        }
+    }
+
     /// Where a state steps on a byte; None where the step is missing.
     pub fn step(&self, state: State, byte: u8) -> Option<State>
         requires { state.0 < state_count self.now }
         ensures target { option_map (λ s. s.0) result ≡ target_of self.now state.0 byte }
         ensures state { IfSome result (λ s. s.0 < state_count self.now) }
     {
-        let class = self.classes[byte as usize] as usize;
-        let word = self.targets[state.0 as usize * self.width + class];
-        if word == 0 {
-            None
-        } else {
-            Some(State(word as u32 - 1))
-        }
+        self.class_step(state, self.class(byte))
     }
 
     /// The rule that a state accepts; None where it accepts none.

@@ -1,0 +1,37 @@
+-- The tables made of a specification and its automaton.
+use Rattle.std.proofs.Common.{◌≡◌, ℕ, ◌*◌, ◌≤◌, List, length, map, refl, ◌∙◌, arith}
+use Rattle.lx_spec.specs.Plain.{PlainSpec}
+use Rattle.lx_spec.specs.Invariant.{IsWellFormed}
+use Rattle.lx_auto.specs.Automata.{Machine, IsMachine, HasByteClasses, state_count}
+use Rattle.lx_auto.specs.Equivalence.{AnswerAlike}
+use Rattle.lx_auto.specs.Meaning.{IsAutomatonOf}
+use Rattle.lx_auto.specs.Words.{machine_of}
+use Rattle.lx_tables.specs.Model.{Table, IsTable, AreTablesOf, table_rule}
+use Rattle.lx_tables.specs.Numbered.{AreAllMet, AreStarts, AreAccepted, AreRows}
+use Rattle.lx_tables.proofs.Kept.{table_kept}
+use Rattle.lx_tables.proofs.Reordered.{reordered_machine, reordered_classes, reordered_automaton, reordered_alike, accepts_below}
+
+module _ (m : Machine) (states words : List ℕ) (starts : List (ℕ × ℕ)) (accepted targets : List ℕ) (rules : ℕ)
+    (is : IsMachine m) (has : HasByteClasses m) (all : AreAllMet states words) (long : length words ≡ state_count m)
+    (are_starts : AreStarts m words starts (length m.starts)) (are_accepted : AreAccepted m rules states accepted (length states))
+    (are_rows : AreRows m states words targets (length states * m.width)) (few : rules ≤ 4096)
+    (spec : PlainSpec) (of : IsAutomatonOf spec m) (same : rules ≡ length spec.rules) (well : IsWellFormed spec) where
+  abbrev table : Table
+  table = record { machine = machine_of starts m.classes m.width accepted targets; kinds = spec.kinds; rules = map table_rule spec.rules }
+
+  pub made_table : IsTable table
+  made_table = table_kept spec table.machine well
+      (reordered_machine m states words starts accepted targets rules is has all long are_starts are_accepted are_rows few)
+      (reordered_classes m states words starts accepted targets rules is has all long are_starts are_accepted are_rows few)
+      (are_starts.long ∙ of.conditions)
+      (λ s r e. let l = accepts_below m states words starts accepted targets rules is has all long are_starts are_accepted are_rows few s r e in omega arith)
+
+  pub made_of : AreTablesOf spec table
+  made_of = record {
+    automaton = reordered_automaton m states words starts accepted targets rules is has all long are_starts are_accepted are_rows few spec of same;
+    kinds = refl;
+    rules = refl;
+  }
+
+  pub made_alike : AnswerAlike m table.machine
+  made_alike = reordered_alike m states words starts accepted targets rules is has all long are_starts are_accepted are_rows few spec of same

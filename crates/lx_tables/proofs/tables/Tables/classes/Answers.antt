@@ -1,0 +1,5 @@
+use Rattle.lx_tables.proofs.Reading.{byte_classes}
+use Rattle.lx_tables.proofs.tables.Tables.classes.Goals as goal
+
+pub returns-clause-classes : goal.returns-clause-classes
+returns-clause-classes c = rw (← c.self.view_is) (byte_classes _ c.self.invariant.machine c.self.invariant.classes)

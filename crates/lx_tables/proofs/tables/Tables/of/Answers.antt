@@ -1,0 +1,45 @@
+use Rattle.std.proofs.Common.{◌≡◌, ◌≤◌, length, arith}
+use Rattle.std.proofs.lemmas.List.{length-map}
+use Rattle.lx_spec.specs.views.Rules.{rule_view}
+use Rattle.lx_spec.specs.views.Specs.{spec_view}
+use Rattle.lx_tables.proofs.Made.{made_table, made_of, made_alike}
+use Rattle.lx_tables.proofs.tables.Tables.of.Goals as goal
+
+pub of_lists-requires : goal.of_lists-requires
+of_lists-requires c =
+    let spec = spec_view c.args.spec.now in
+    let n = c.in_ok-numbering.numbering in
+    let well = c.specs_are_well_formed.ensures c.args.spec.now in
+    let held = c.args.spec.now.rules.ok.0 in
+    let seen = length-map c.args.spec.now.rules.items rule_view in
+    let same : c.len.result ≡ length spec.rules = omega (arith, c.len.ensures) in
+    let few : c.len.result ≤ 4096 = (let f = well.few_rules in omega arith) in
+    rw (c.in_ok-classes.ensures, c.from-width.ensures, c.classes.ensures, c.in_ok-kinds.ensures, c.in_ok-rules.ensures)
+    (made_table c.args.automaton.now n.states.items n.words.items c.in_ok-starts.starts.items c.in_ok-accepted.accepted.items c.in_ok-targets.targets.items c.len.result
+    c.conditions-conditions.ensures.machine c.conditions-conditions.ensures.classes c.in_ok-numbering.ensures.met c.in_ok-numbering.ensures.long c.in_ok-starts.ensures c.in_ok-accepted.ensures c.in_ok-targets.ensures few spec c.requires same well)
+
+pub returns-clause-tables : goal.returns-clause-tables
+returns-clause-tables c =
+    let spec = spec_view c.args.spec.now in
+    let n = c.in_ok-numbering.numbering in
+    let well = c.specs_are_well_formed.ensures c.args.spec.now in
+    let held = c.args.spec.now.rules.ok.0 in
+    let seen = length-map c.args.spec.now.rules.items rule_view in
+    let same : c.len.result ≡ length spec.rules = omega (arith, c.len.ensures) in
+    let few : c.len.result ≤ 4096 = (let f = well.few_rules in omega arith) in
+    rw c.of_lists.ensures (rw (c.in_ok-classes.ensures, c.from-width.ensures, c.classes.ensures, c.in_ok-kinds.ensures, c.in_ok-rules.ensures)
+    (made_of c.args.automaton.now n.states.items n.words.items c.in_ok-starts.starts.items c.in_ok-accepted.accepted.items c.in_ok-targets.targets.items c.len.result
+    c.conditions-conditions.ensures.machine c.conditions-conditions.ensures.classes c.in_ok-numbering.ensures.met c.in_ok-numbering.ensures.long c.in_ok-starts.ensures c.in_ok-accepted.ensures c.in_ok-targets.ensures few spec c.requires same well))
+
+pub returns-clause-answers : goal.returns-clause-answers
+returns-clause-answers c =
+    let spec = spec_view c.args.spec.now in
+    let n = c.in_ok-numbering.numbering in
+    let well = c.specs_are_well_formed.ensures c.args.spec.now in
+    let held = c.args.spec.now.rules.ok.0 in
+    let seen = length-map c.args.spec.now.rules.items rule_view in
+    let same : c.len.result ≡ length spec.rules = omega (arith, c.len.ensures) in
+    let few : c.len.result ≤ 4096 = (let f = well.few_rules in omega arith) in
+    rw c.of_lists.ensures (rw (c.in_ok-classes.ensures, c.from-width.ensures, c.classes.ensures)
+    (made_alike c.args.automaton.now n.states.items n.words.items c.in_ok-starts.starts.items c.in_ok-accepted.accepted.items c.in_ok-targets.targets.items c.len.result
+    c.conditions-conditions.ensures.machine c.conditions-conditions.ensures.classes c.in_ok-numbering.ensures.met c.in_ok-numbering.ensures.long c.in_ok-starts.ensures c.in_ok-accepted.ensures c.in_ok-targets.ensures few spec c.requires same well))

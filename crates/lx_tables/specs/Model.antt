@@ -1,0 +1,59 @@
+-- Tables of a scanner as plain data, and what holds of each: a deterministic automaton (Rabin and Scott 1959), and what rules do (XCU `lex`, "Actions in
+-- lex"). The form of tables is this project's own, as POSIX leaves it open.
+use Rattle.std.specs.Prelude.{◌≡◌, ℕ, ◌<◌, ◌≤◌, ◌↔◌, Bool, false, IsTrue, List, [], Some, length, map, slice_index, slice_index_or}
+use Rattle.std.specs.List.{list_all}
+use Rattle.lx_spec.specs.Plain.{PlainRule, PlainSpec}
+use Rattle.lx_spec.specs.Bytes.{is_identifier}
+use Rattle.lx_spec.specs.Invariant.{are_distinct, are_steps}
+use Rattle.lx_spec.specs.declared.rule.Step.{Step}
+use Rattle.lx_auto.specs.Automata.{Machine, IsMachine, HasByteClasses, state_count, accepted_by, target_of, are_numbered}
+use Rattle.lx_auto.specs.Meaning.{IsAutomatonOf}
+
+-- a rule: whether it ends with `$`, and what its action does
+pub record TableRule : Type 0 where
+  pub cut : Bool
+  pub steps : List Step
+
+-- Tables: the automaton, the names of kinds, and the rules.
+pub record Table : Type 0 where
+  pub machine : Machine
+  pub kinds : List (List ℕ)
+  pub rules : List TableRule
+
+-- the rule with this number; where there is none, one that does nothing
+abbrev pub rule_at : Table → ℕ → TableRule
+rule_at table rule = slice_index_or table.rules rule (record { cut = false; steps = [] })
+
+-- the kind with this number
+abbrev pub kind_at : Table → ℕ → List ℕ
+kind_at table kind = slice_index_or table.kinds kind []
+
+-- What holds of all tables: 1 to 64 conditions, 1 to 16,512 states and 1 to 256 classes, as of each automaton, whose classes are its byte classes; at most
+-- 4,096 kinds, which are identifiers and each once; at most 4,096 rules, whose steps name conditions and kinds that are there, a return last; and each rule that
+-- is accepted is there.
+pub record IsTable (table : Table) : Type 0 where
+  pub machine : IsMachine table.machine
+  pub classes : HasByteClasses table.machine
+  pub few_kinds : length table.kinds ≤ 4096
+  pub identifiers : IsTrue (list_all is_identifier table.kinds)
+  pub distinct : IsTrue (are_distinct table.kinds)
+  pub few_rules : length table.rules ≤ 4096
+  pub steps : IsTrue (list_all (λ rule. are_steps (length table.machine.starts) (length table.kinds) rule.steps) table.rules)
+  pub accepted : (s r : ℕ) → accepted_by table.machine s ≡ Some r → r < length table.rules
+
+-- The byte classes: two bytes are of one class exactly where every state steps alike on both, and the classes are numbered from 0 by
+-- their least bytes.
+pub record AreByteClasses (m : Machine) : Type 0 where
+  pub alike : (a b : ℕ) → a < 256 → b < 256 →
+      (slice_index m.classes a ≡ slice_index m.classes b) ↔ ((s : ℕ) → s < state_count m → target_of m s a ≡ target_of m s b)
+  pub numbered : IsTrue (are_numbered 0 m.width m.classes)
+
+-- what tables keep of a rule of a specification
+abbrev pub table_rule : PlainRule → TableRule
+table_rule rule = record { cut = rule.reading.line_end; steps = rule.steps }
+
+-- Tables of a specification: their automaton is one of it, and they have its kinds, and of its rules the cuts and the steps.
+pub record AreTablesOf (spec : PlainSpec) (table : Table) : Type 0 where
+  pub automaton : IsAutomatonOf spec table.machine
+  pub kinds : table.kinds ≡ spec.kinds
+  pub rules : table.rules ≡ map table_rule spec.rules

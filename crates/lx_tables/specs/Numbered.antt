@@ -1,0 +1,49 @@
+-- States of an automaton in another order.
+use Rattle.std.specs.Prelude.{◌≡◌, ◌≢◌, ℕ, ◌+◌, ◌-◌, ◌*◌, ◌<◌, ◌≤◌, ◌==◌, nat_lt, if◌then◌else◌, List, [], ◌∷◌, Option, Some, None, length, slice_index, slice_index_or}
+use Rattle.lx_auto.specs.Automata.{Machine, accepted_by, class_target}
+use Rattle.lx_auto.specs.Words.{from_word}
+
+-- how many of the words are 0
+abbrev pub zeros : List ℕ → ℕ
+zeros [] = 0
+zeros (word ∷ words) = (if word == 0 then 1 else 0) + zeros words
+
+-- The states that were met, in that order; and of each state 0 before it is met, or one more than its place there.
+pub record AreMet (states words : List ℕ) : Type 0 where
+  pub room : length states + zeros words ≡ length words
+  pub below : (i : ℕ) → i < length states → slice_index states i < length words
+  pub placed : (i : ℕ) → i < length states → slice_index words (slice_index states i) ≡ i + 1
+  pub within : (s : ℕ) → s < length words → slice_index words s ≢ 0 → slice_index words s ≤ length states
+  pub found : (s : ℕ) → s < length words → slice_index words s ≢ 0 → slice_index states (slice_index words s - 1) ≡ s
+
+-- every state was met
+pub record AreAllMet (states words : List ℕ) : Type 0 where
+  pub met : AreMet states words
+  pub each : (s : ℕ) → s < length words → slice_index words s ≢ 0
+
+-- the word of a target, 0 where there is none
+abbrev pub word_of : List ℕ → Option ℕ → ℕ
+word_of words None = 0
+word_of words (Some s) = slice_index words s
+
+-- the rule, where it is one of so many
+abbrev pub rule_below : ℕ → Option ℕ → Option ℕ
+rule_below rules None = None
+rule_below rules (Some rule) = if nat_lt rule rules then Some rule else None
+
+-- the first n of the starts by their new numbers
+pub record AreStarts (m : Machine) (words : List ℕ) (starts : List (ℕ × ℕ)) (n : ℕ) : Type 0 where
+  pub long : length starts ≡ n
+  pub elsewhere : (c : ℕ) → c < n → (slice_index_or starts c (0, 0)).0 + 1 ≡ slice_index words (slice_index_or m.starts c (0, 0)).0
+  pub at_begin : (c : ℕ) → c < n → (slice_index_or starts c (0, 0)).1 + 1 ≡ slice_index words (slice_index_or m.starts c (0, 0)).1
+
+-- of the first n states the words of the rules that they accept, where those are below
+pub record AreAccepted (m : Machine) (rules : ℕ) (states accepted : List ℕ) (n : ℕ) : Type 0 where
+  pub long : length accepted ≡ n
+  pub each : (i : ℕ) → i < n → from_word (slice_index accepted i) ≡ rule_below rules (accepted_by m (slice_index states i))
+
+-- the first n words of the rows in the new order
+pub record AreRows (m : Machine) (states words targets : List ℕ) (n : ℕ) : Type 0 where
+  pub long : length targets ≡ n
+  pub each : (i c : ℕ) → c < m.width → i * m.width + c < n →
+      slice_index targets (i * m.width + c) ≡ word_of words (class_target m (slice_index states i) c)

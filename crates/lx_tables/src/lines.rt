@@ -1,0 +1,231 @@
+// The lines of a table's text.
+
+ghost use Rattle.std.specs.Prelude.{◌≡◌, ◌<◌, ◌++◌, ℕ, List, OnOk, OnErr, codes, length};
+ghost use Rattle.std.specs.List.{flat_map};
+ghost use Rattle.lx_auto.specs.Automata.{state_count};
+ghost use Rattle.lx_auto.specs.Words.{from_word};
+ghost use Rattle.lx_tables.specs.Lines.{value_of, HasState, targets_text, state_line};
+ghost use Rattle.lx_tables.specs.Output.{Wrote, WrotePrefix};
+ghost use Rattle.lx_tables.specs.Texts.{start_line, kind_line, step_text, cut_text, range_text, byte_ranges, accepts_text, entries_text, entry_text, class_line};
+
+use crate::byte_values::ByteValues;
+use crate::tables::Tables;
+use crate::version::Version;
+use crate::writing::{write_bytes, write_numbered, write_parts};
+use itoa::Buffer;
+use lx_auto::State;
+use lx_spec::rule::{Kind, Step};
+use std::io::{self, Write};
+
+pub(crate) fn write_start<W: Write>(
+    out: &mut W,
+    elsewhere: u32,
+    at_begin: u32,
+) -> Result<(), io::Error>
+    ensures ok { OnOk result (Wrote (W.contents out.old) (W.contents out.new) (start_line (elsewhere, at_begin))) }
+    ensures err { OnErr result (WrotePrefix (W.contents out.old) (W.contents out.new) (start_line (elsewhere, at_begin))) }
+{
+    let mut first = Buffer::new();
+    let mut second = Buffer::new();
+    write_parts(
+        out,
+        &[
+            b"start ",
+            first.format(elsewhere).as_bytes(),
+            b" ",
+            second.format(at_begin).as_bytes(),
+            b"\n",
+        ],
+    )
+}
+
+pub(crate) fn write_kind<W: Write>(out: &mut W, name: &[u8]) -> Result<(), io::Error>
+    ensures ok { OnOk result (Wrote (W.contents out.old) (W.contents out.new) (kind_line name.now)) }
+    ensures err { OnErr result (WrotePrefix (W.contents out.old) (W.contents out.new) (kind_line name.now)) }
+{
+    write_parts(out, &[b"kind ", name, b"\n"])
+}
+
+fn write_step<W: Write>(out: &mut W, step: Step) -> Result<(), io::Error>
+    ensures ok { OnOk result (Wrote (W.contents out.old) (W.contents out.new) (step_text step)) }
+    ensures err { OnErr result (WrotePrefix (W.contents out.old) (W.contents out.new) (step_text step)) }
+{
+    match step {
+        Step::Echo => write_bytes(out, b" e"),
+        Step::Begin(condition) => write_numbered(out, b" b", u32::from(condition)),
+        Step::Return(Kind::Name(kind)) => write_numbered(out, b" k", kind),
+        Step::Return(Kind::Number(n)) => write_numbered(out, b" n", n),
+    }
+}
+
+fn write_steps<W: Write>(out: &mut W, steps: &[Step]) -> Result<(), io::Error>
+    ensures ok { OnOk result (Wrote (W.contents out.old) (W.contents out.new) (flat_map step_text steps.now)) }
+    ensures err { OnErr result (WrotePrefix (W.contents out.old) (W.contents out.new) (flat_map step_text steps.now)) }
+{
+    for step in steps {
+        write_step(out, *step)?;
+    }
+    Ok(())
+}
+
+fn write_cut<W: Write>(out: &mut W, cut: bool) -> Result<(), io::Error>
+    ensures ok { OnOk result (Wrote (W.contents out.old) (W.contents out.new) (codes "rule " ++ cut_text cut)) }
+    ensures err { OnErr result (WrotePrefix (W.contents out.old) (W.contents out.new) (codes "rule " ++ cut_text cut)) }
+{
+    if cut {
+        write_bytes(out, b"rule 1")
+    } else {
+        write_bytes(out, b"rule 0")
+    }
+}
+
+/// Writes the line of a rule.
+pub(crate) fn write_rule<W: Write>(out: &mut W, cut: bool, steps: &[Step]) -> Result<(), io::Error>
+    ensures ok { OnOk result (Wrote (W.contents out.old) (W.contents out.new) (codes "rule " ++ cut_text cut ++ flat_map step_text steps.now ++ codes "\n")) }
+    ensures err { OnErr result (WrotePrefix (W.contents out.old) (W.contents out.new) (codes "rule " ++ cut_text cut ++ flat_map step_text steps.now ++ codes "\n")) }
+{
+    write_cut(out, cut)?;
+    write_steps(out, steps)?;
+    write_bytes(out, b"\n")
+}
+
+/// The value of a byte as a word: 0 for none, or one more.
+fn value_word(tables: &Tables, values: ByteValues, byte: u8) -> u16
+    requires { HasState tables.now.machine values }
+    ensures { from_word result ≡ value_of tables.now.machine values byte }
+{
+    let class = tables.class(byte);
+    match values {
+        ByteValues::Classes => u16::from(class) + 1,
+        ByteValues::Targets(state) => tables.word(state, class as usize),
+    }
+}
+
+fn write_range<W: Write>(out: &mut W, low: u32, high: u32, word: u16) -> Result<(), io::Error>
+    ensures ok { OnOk result (Wrote (W.contents out.old) (W.contents out.new) (range_text low high (from_word word))) }
+    ensures err { OnErr result (WrotePrefix (W.contents out.old) (W.contents out.new) (range_text low high (from_word word))) }
+{
+    if word == 0 {
+        return Ok(());
+    }
+    let mut first = Buffer::new();
+    let mut last = Buffer::new();
+    let mut value = Buffer::new();
+    write_parts(
+        out,
+        &[
+            b" ",
+            first.format(low).as_bytes(),
+            b"-",
+            last.format(high).as_bytes(),
+            b":",
+            value.format(word - 1).as_bytes(),
+        ],
+    )
+}
+
+/// Writes the ranges of the bytes by their values, each as long as it can be.
+fn write_ranges<W: Write>(out: &mut W, tables: &Tables, values: ByteValues) -> Result<(), io::Error>
+    requires { HasState tables.now.machine values }
+    ensures ok { OnOk result (Wrote (W.contents out.old) (W.contents out.new) (byte_ranges (value_of tables.now.machine values))) }
+    ensures err { OnErr result (WrotePrefix (W.contents out.old) (W.contents out.new) (byte_ranges (value_of tables.now.machine values))) }
+{
+    let mut low: u32 = 0;
+    let mut value = value_word(tables, values, 0);
+    let mut at: u32 = 1;
+    while at < 256 {
+        let next = value_word(tables, values, at as u8);
+        if next != value {
+            write_range(out, low, at - 1, value)?;
+            low = at;
+            value = next;
+        }
+        at += 1;
+    }
+    write_range(out, low, 255, value)
+}
+
+fn write_entry<W: Write>(out: &mut W, class: u16, word: u16) -> Result<(), io::Error>
+    ensures ok { OnOk result (Wrote (W.contents out.old) (W.contents out.new) (entry_text class (from_word word))) }
+    ensures err { OnErr result (WrotePrefix (W.contents out.old) (W.contents out.new) (entry_text class (from_word word))) }
+{
+    if word == 0 {
+        return Ok(());
+    }
+    let mut first = Buffer::new();
+    let mut second = Buffer::new();
+    write_parts(
+        out,
+        &[
+            b" ",
+            first.format(class).as_bytes(),
+            b":",
+            second.format(word - 1).as_bytes(),
+        ],
+    )
+}
+
+/// Writes of a state the classes that have a step.
+fn write_entries<W: Write>(out: &mut W, tables: &Tables, state: u32) -> Result<(), io::Error>
+    requires { state < state_count tables.now.machine }
+    ensures ok { OnOk result (Wrote (W.contents out.old) (W.contents out.new) (entries_text tables.now.machine state)) }
+    ensures err { OnErr result (WrotePrefix (W.contents out.old) (W.contents out.new) (entries_text tables.now.machine state)) }
+{
+    for class in 0..tables.classes() {
+        write_entry(out, class, tables.word(state, class as usize))?;
+    }
+    Ok(())
+}
+
+fn write_accepts<W: Write>(out: &mut W, rule: Option<u16>) -> Result<(), io::Error>
+    ensures ok { OnOk result (Wrote (W.contents out.old) (W.contents out.new) (codes "state " ++ accepts_text rule)) }
+    ensures err { OnErr result (WrotePrefix (W.contents out.old) (W.contents out.new) (codes "state " ++ accepts_text rule)) }
+{
+    match rule {
+        None => write_bytes(out, b"state -"),
+        Some(rule) => write_numbered(out, b"state ", u32::from(rule)),
+    }
+}
+
+/// Writes where a state steps.
+fn write_targets<W: Write>(
+    out: &mut W,
+    tables: &Tables,
+    state: u32,
+    version: Version,
+) -> Result<(), io::Error>
+    requires { state < state_count tables.now.machine }
+    ensures ok { OnOk result (Wrote (W.contents out.old) (W.contents out.new) (targets_text version tables.now.machine state)) }
+    ensures err { OnErr result (WrotePrefix (W.contents out.old) (W.contents out.new) (targets_text version tables.now.machine state)) }
+{
+    match version {
+        Version::First => write_ranges(out, tables, ByteValues::Targets(state)),
+        Version::Second => write_entries(out, tables, state),
+    }
+}
+
+/// Writes the line of a state.
+pub(crate) fn write_state<W: Write>(
+    out: &mut W,
+    tables: &Tables,
+    state: u32,
+    version: Version,
+) -> Result<(), io::Error>
+    requires { state < state_count tables.now.machine }
+    ensures ok { OnOk result (Wrote (W.contents out.old) (W.contents out.new) (state_line version tables.now.machine state)) }
+    ensures err { OnErr result (WrotePrefix (W.contents out.old) (W.contents out.new) (state_line version tables.now.machine state)) }
+{
+    write_accepts(out, tables.accepts(State(state)))?;
+    write_targets(out, tables, state, version)?;
+    write_bytes(out, b"\n")
+}
+
+/// Writes the line that has the class of each byte.
+pub(crate) fn write_classes<W: Write>(out: &mut W, tables: &Tables) -> Result<(), io::Error>
+    ensures ok { OnOk result (Wrote (W.contents out.old) (W.contents out.new) (class_line tables.now.machine)) }
+    ensures err { OnErr result (WrotePrefix (W.contents out.old) (W.contents out.new) (class_line tables.now.machine)) }
+{
+    write_bytes(out, b"class")?;
+    write_ranges(out, tables, ByteValues::Classes)?;
+    write_bytes(out, b"\n")
+}

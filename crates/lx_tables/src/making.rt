@@ -1,0 +1,39 @@
+//! Tables of a specification.
+
+ghost use Rattle.std.specs.Prelude.{IfOk};
+ghost use Rattle.lx_spec.specs.views.Specs.{spec_view};
+ghost use Rattle.lx_auto.specs.Equivalence.{AnswerAlike};
+ghost use Rattle.lx_auto.specs.Meaning.{IsAutomatonOf};
+ghost use Rattle.lx_tables.specs.Model.{AreTablesOf};
+
+use crate::copying::{kinds_of, rules_of};
+use crate::numbering::numbering_of;
+use crate::reordering::{accepted_of, classes_of, rows_of, starts_of};
+use crate::tables::Tables;
+use lx_auto::Automaton;
+use lx_spec::read::specs_are_well_formed;
+use lx_spec::spec::Spec;
+use std::alloc::{AllocError, Global};
+
+impl Tables {
+    /// The tables of a specification and an automaton of it, with the states in the order of `lx gen`: the starts in the order of the
+    /// conditions, for each first without line begin and then at line begin, each state when it is first met; then the targets of the
+    /// states in the order of their numbers, by rising byte; and behind them the states to which no text leads.
+    pub fn of(alloc: Global, spec: &Spec, automaton: &Automaton) -> Result<Tables, AllocError>
+        requires { IsAutomatonOf (spec_view spec.now) automaton.now }
+        ensures tables { IfOk result (λ tables. AreTablesOf (spec_view spec.now) tables) }
+        ensures answers { IfOk result (λ tables. AnswerAlike automaton.now tables.machine) }
+    {
+        specs_are_well_formed();
+        let _conditions = automaton.conditions();
+        let numbering = numbering_of(alloc, automaton)?;
+        let starts = starts_of(alloc, automaton, &numbering)?;
+        let classes = classes_of(alloc, automaton)?;
+        let accepted = accepted_of(alloc, automaton, &numbering, spec.rules.len() as u16)?;
+        let targets = rows_of(alloc, automaton, &numbering)?;
+        let kinds = kinds_of(alloc, spec)?;
+        let rules = rules_of(alloc, spec)?;
+        let width = usize::from(automaton.classes());
+        Ok(Tables::of_lists(starts, classes, width, accepted, targets, kinds, rules))
+    }
+}
