@@ -38,4 +38,6 @@ mod running;
 #[cfg(test)]
 mod specifications;
 #[cfg(test)]
+mod tables;
+#[cfg(test)]
 mod writers;
