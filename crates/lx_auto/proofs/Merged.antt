@@ -5,9 +5,11 @@ use Rattle.std.proofs.lemmas.List.{get_or_append_left, get_or_push, length_push,
 use Rattle.std.proofs.lemmas.List.Elements.{All-head, All-tail}
 use Rattle.std.proofs.lemmas.Map.Steps.{length-le_from_distinct_below}
 use Rattle.std.proofs.lemmas.Map.Keys.{IsDistinct-from_apart}
+use Rattle.lx_spec.specs.Plain.{PlainSpec}
 use Rattle.lx_auto.specs.Automata.{Machine, IsMachine, StepsAlike, state_count, start_of, target_of, answer_from, answer}
 use Rattle.lx_auto.specs.Equivalence.{AnswerAlike, IsLeast, HasLiveSteps}
 use Rattle.lx_auto.specs.Automata.{HasByteClasses}
+use Rattle.lx_auto.specs.Meaning.{IsAnswer, IsAutomatonOf}
 use Rattle.lx_auto.specs.Words.{machine_of}
 use Rattle.lx_auto.specs.Completion.{total, IsCompletion}
 use Rattle.lx_auto.specs.Partitions.{block, block_count, member_of, IsSound, IsStable}
@@ -176,3 +178,12 @@ module _ (a : Machine) (m : Complete) (p : Partition) (starts : List (ℕ × ℕ
 
   pub made_live : HasLiveSteps (machine_of starts classes width labels targets)
   made_live = subst HasLiveSteps is_made (record { live = quotient_live a m p starts rows labels targets is has completion sound stable are_starts are_rows are_labels are_targets (has_state dead isnt_dead rows_long) (few_rows dead is_dead rows_long) })
+
+-- an automaton that answers alike is one of the same specification
+pub alike_of : (spec : PlainSpec) (a m : Machine) → IsAutomatonOf spec a → length m.starts ≡ length a.starts → AnswerAlike a m → IsAutomatonOf spec m
+alike_of spec a m of starts alike = record {
+  conditions = starts ∙ of.conditions;
+  answers = λ condition begin text known bytes.
+      let conditions : length a.starts ≡ length spec.conditions = of.conditions in
+      subst (λ (found : Option ℕ). IsAnswer spec condition begin text found) (sym (alike.answers condition begin text (omega arith) bytes)) (of.answers condition begin text known bytes);
+}

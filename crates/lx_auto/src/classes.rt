@@ -1,8 +1,9 @@
-// Byte classes: two bytes are of one class exactly where every state steps alike on both.
+//! Byte classes: two bytes are of one class exactly where every state steps alike on both.
 
 ghost use Rattle.std.specs.Prelude.{◌≡◌, ◌<◌, ◌≤◌, ◌+◌, ◌*◌, ◌↔◌, ℕ, IsTrue, IfOk, OnOk, IfSome, IfNone, length, slice_index, vec_len};
-ghost use Rattle.lx_auto.specs.Automata.{StepsAlike, state_count};
+ghost use Rattle.lx_auto.specs.Automata.{IsMachine, StepsAlike, state_count};
 ghost use Rattle.lx_auto.specs.Classing.{HasSameColumns, AreNumbersBelow, IsNumberFor, AreRows};
+ghost use Rattle.lx_auto.specs.Words.{machine_of};
 
 use crate::automaton::Automaton;
 use crate::draft::Draft;
@@ -109,6 +110,23 @@ fn rows_over(alloc: Global, draft: &Draft, representatives: &[u8]) -> Result<Vec
         add_row(draft, representatives, state, &mut words)?;
     }
     Ok(words)
+}
+
+impl Automaton {
+    /// The automaton of these lists, as `of` has them, over its byte classes: the classes that are handed in may be finer.
+    pub fn over_byte_classes(
+        alloc: Global,
+        starts: Vec<(u32, u32)>,
+        classes: Vec<u8>,
+        width: usize,
+        accepted: Vec<u16>,
+        targets: Vec<u16>,
+    ) -> Result<Automaton, AllocError>
+        requires { IsMachine (machine_of starts.items classes.items width accepted.items targets.items) }
+        ensures { IfOk result (λ a. StepsAlike (machine_of starts.items classes.items width accepted.items targets.items) a) }
+    {
+        with_byte_classes(alloc, &Draft::of(starts, classes, width, accepted, targets))
+    }
 }
 
 /// The automaton that steps alike, over byte classes.

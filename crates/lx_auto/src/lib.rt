@@ -10,7 +10,7 @@ mod block_steps;
 mod blocks;
 pub mod building;
 mod candidates;
-mod classes;
+pub mod classes;
 mod complete;
 mod count;
 mod cutting;

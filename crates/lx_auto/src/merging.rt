@@ -1,7 +1,9 @@
 //! Merging of equivalent states (Moore 1956, Hopcroft 1971).
 
 ghost use Rattle.std.specs.Prelude.{◌≡◌, IfOk, length};
+ghost use Rattle.lx_spec.specs.Plain.{PlainSpec};
 ghost use Rattle.lx_auto.specs.Equivalence.{AnswerAlike, IsLeast, HasLiveSteps};
+ghost use Rattle.lx_auto.specs.Meaning.{IsAutomatonOf};
 
 use crate::automaton::Automaton;
 use crate::classes::with_byte_classes;
@@ -11,11 +13,13 @@ use crate::quotient::quotient;
 use crate::split::refined;
 use std::alloc::{AllocError, Global};
 
-/// The least automaton with the same answers: no two of its states are equivalent, and each of its steps leads to a state
-/// from which some word leads to an accepting one. A start from which nothing is ever accepted is a state without steps.
+/// The least automaton with the same answers, so one of the same specification: no two of its states are equivalent, and each
+/// of its steps leads to a state from which some word leads to an accepting one. A start from which nothing is ever accepted is
+/// a state without steps.
 pub fn merge(alloc: Global, automaton: &Automaton) -> Result<Automaton, AllocError>
     ensures conditions { IfOk result (λ m. length m.starts ≡ length automaton.now.starts) }
     ensures answers { IfOk result (λ m. AnswerAlike automaton.now m) }
+    ensures specification { IfOk result (λ m. (spec : PlainSpec) → IsAutomatonOf spec automaton.now → IsAutomatonOf spec m) }
     ensures told { IfOk result (λ m. IsLeast m) }
     ensures live { IfOk result (λ m. HasLiveSteps m) }
 {

@@ -97,7 +97,7 @@ fn value_word(tables: &Tables, values: ByteValues, byte: u8) -> u16
     let class = tables.class(byte);
     match values {
         ByteValues::Classes => u16::from(class) + 1,
-        ByteValues::Targets(state) => tables.word(state, class as usize),
+        ByteValues::Targets(state) => tables.word(state, class),
     }
 }
 
@@ -172,7 +172,7 @@ fn write_entries<W: Write>(out: &mut W, tables: &Tables, state: u32) -> Result<(
     ensures err { OnErr result (WrotePrefix (W.contents out.old) (W.contents out.new) (entries_text tables.now.machine state)) }
 {
     for class in 0..tables.classes() {
-        write_entry(out, class, tables.word(state, class as usize))?;
+        write_entry(out, class, tables.word(state, class as u8))?;
     }
     Ok(())
 }

@@ -34,6 +34,7 @@ impl Tables {
         let kinds = kinds_of(alloc, spec)?;
         let rules = rules_of(alloc, spec)?;
         let width = usize::from(automaton.classes());
-        Ok(Tables::of_lists(starts, classes, width, accepted, targets, kinds, rules))
+        let reordered = Automaton::of(starts, classes, width, accepted, targets);
+        Ok(Tables::of_parts(reordered, kinds, rules))
     }
 }

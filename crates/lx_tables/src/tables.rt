@@ -1,14 +1,14 @@
-//! Tables of a scanner in memory: rows of states over classes of bytes, kinds, and what rules do.
+//! Tables of a scanner in memory: an automaton over byte classes, kinds, and what rules do.
 
 ghost use Rattle.std.specs.Prelude.{◌≡◌, ◌<◌, length, IfSome, option_map, slice_index};
 ghost use Rattle.lx_spec.specs.views.Rules.{names_view};
 ghost use Rattle.lx_auto.specs.Automata.{state_count, start_of, accepted_by, class_target, target_of};
-ghost use Rattle.lx_auto.specs.Words.{machine_of, from_word};
+ghost use Rattle.lx_auto.specs.Words.{from_word};
 ghost use Rattle.lx_tables.specs.Model.{Table, IsTable, AreByteClasses, rule_at, kind_at};
 ghost use Rattle.lx_tables.specs.Views.{rules_view};
 
 use crate::table_rule::TableRule;
-use lx_auto::State;
+use lx_auto::{Automaton, State};
 use lx_spec::rule::Step;
 use std::marker::Model;
 
@@ -16,16 +16,7 @@ use std::marker::Model;
 /// steps of its action.
 #[derive(Drop)]
 pub struct Tables {
-    /// Of each start condition the state without line begin, and the state at line begin.
-    pub(crate) starts: Vec<(u32, u32)>,
-    /// The class of each of the 256 bytes.
-    pub(crate) classes: Vec<u8>,
-    /// How many classes there are.
-    pub(crate) width: usize,
-    /// Of each state 0, or one more than the rule that it accepts.
-    pub(crate) accepted: Vec<u16>,
-    /// Row by row 0, or one more than the target: of state s on class c at s * width + c.
-    pub(crate) targets: Vec<u16>,
+    pub(crate) automaton: Automaton,
     /// The names of the kinds.
     pub(crate) kinds: Vec<Vec<u8>>,
     pub(crate) rules: Vec<TableRule>,
@@ -34,31 +25,19 @@ pub struct Tables {
 impl Model for Tables {
     ghost Value = { Table };
 
-    ghost view = { λ t. record { machine = machine_of t.starts.items t.classes.items t.width t.accepted.items t.targets.items; kinds = names_view t.kinds.items; rules = rules_view t.rules.items } };
+    ghost view = { λ t. record { machine = t.automaton; kinds = names_view t.kinds.items; rules = rules_view t.rules.items } };
 
-    ghost invariant = { λ t. IsTable (record { machine = machine_of t.starts.items t.classes.items t.width t.accepted.items t.targets.items; kinds = names_view t.kinds.items; rules = rules_view t.rules.items }) };
+    ghost invariant = { λ t. IsTable (record { machine = t.automaton; kinds = names_view t.kinds.items; rules = rules_view t.rules.items }) };
 }
 
 impl Tables {
-    /// The tables of these lists.
-    pub(crate) fn of_lists(
-        starts: Vec<(u32, u32)>,
-        classes: Vec<u8>,
-        width: usize,
-        accepted: Vec<u16>,
-        targets: Vec<u16>,
-        kinds: Vec<Vec<u8>>,
-        rules: Vec<TableRule>,
-    ) -> Tables
-        requires { IsTable (record { machine = machine_of starts.items classes.items width accepted.items targets.items; kinds = names_view kinds.items; rules = rules_view rules.items }) }
-        ensures { result ≡ record { machine = machine_of starts.items classes.items width accepted.items targets.items; kinds = names_view kinds.items; rules = rules_view rules.items } }
+    /// The tables of these parts.
+    pub(crate) fn of_parts(automaton: Automaton, kinds: Vec<Vec<u8>>, rules: Vec<TableRule>) -> Tables
+        requires { IsTable (record { machine = automaton; kinds = names_view kinds.items; rules = rules_view rules.items }) }
+        ensures { result ≡ record { machine = automaton; kinds = names_view kinds.items; rules = rules_view rules.items } }
     {
         Tables {
-            starts,
-            classes,
-            width,
-            accepted,
-            targets,
+            automaton,
             kinds,
             rules,
         }
@@ -69,7 +48,7 @@ impl Tables {
         ensures count { result ≡ length self.now.machine.starts }
         ensures table { IsTable self.now }
     {
-        self.starts.len() as u16
+        self.automaton.conditions()
     }
 
     /// The state in which a condition begins, at the beginning of a line or elsewhere.
@@ -78,28 +57,26 @@ impl Tables {
         ensures start { result.0 ≡ start_of self.now.machine condition at_line_begin }
         ensures state { result.0 < state_count self.now.machine }
     {
-        let (elsewhere, at_begin) = self.starts[condition as usize];
-        if at_line_begin {
-            State(at_begin)
-        } else {
-            State(elsewhere)
-        }
+        self.automaton.start(condition, at_line_begin)
     }
 
     /// How many states there are: 1 to 16,512.
     pub fn states(&self) -> u32
         ensures { result ≡ state_count self.now.machine }
     {
-        self.accepted.len() as u32
+        self.automaton.states()
     }
 
     /// Where a state steps on a class: 0 for nowhere, or one more than the target.
-    pub(crate) fn word(&self, state: u32, class: usize) -> u16
+    pub(crate) fn word(&self, state: u32, class: u8) -> u16
         requires state { state < state_count self.now.machine }
         requires class { class < self.now.machine.width }
         ensures { from_word result ≡ class_target self.now.machine state class }
     {
-        self.targets[state as usize * self.width + class]
+        match self.automaton.class_step(State(state), class) {
+            Some(target) => target.0 as u16 + 1,
+            None => 0,
+        }
     }
 
     /// Where a state steps on a byte; None where the step is missing.
@@ -108,13 +85,7 @@ impl Tables {
         ensures target { option_map (λ s. s.0) result ≡ target_of self.now.machine state.0 byte }
         ensures state { IfSome result (λ s. s.0 < state_count self.now.machine) }
     {
-        let class = self.classes[byte as usize] as usize;
-        let word = self.targets[state.0 as usize * self.width + class];
-        if word == 0 {
-            None
-        } else {
-            Some(State(word as u32 - 1))
-        }
+        self.automaton.step(state, byte)
     }
 
     /// The rule that a state accepts; None where it accepts none.
@@ -123,8 +94,7 @@ impl Tables {
         ensures rule { result ≡ accepted_by self.now.machine state.0 }
         ensures below { IfSome result (λ rule. rule < length self.now.rules) }
     {
-        let word = self.accepted[state.0 as usize];
-        if word == 0 { None } else { Some(word - 1) }
+        self.automaton.accepts(state)
     }
 
     /// How many rules there are: at most 4,096.
@@ -171,7 +141,7 @@ impl Tables {
         ensures count { result ≡ self.now.machine.width }
         ensures classes { AreByteClasses self.now.machine }
     {
-        self.width as u16
+        self.automaton.classes()
     }
 
     /// The byte class of a byte.
@@ -179,6 +149,6 @@ impl Tables {
         ensures class { result ≡ slice_index self.now.machine.classes byte }
         ensures below { result < self.now.machine.width }
     {
-        self.classes[usize::from(byte)]
+        self.automaton.class(byte)
     }
 }
