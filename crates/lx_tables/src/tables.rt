@@ -1,6 +1,6 @@
 //! Tables of a scanner in memory: an automaton over byte classes, kinds, and what rules do.
 
-ghost use Rattle.std.specs.Prelude.{◌≡◌, ◌<◌, length, IfSome, option_map, slice_index};
+ghost use Rattle.std.specs.Prelude.{◌≡◌, ◌<◌, ◌≤◌, length, IfSome, option_map, slice_index};
 ghost use Rattle.lx_spec.specs.views.Rules.{names_view};
 ghost use Rattle.lx_auto.specs.Automata.{state_count, start_of, accepted_by, class_target, target_of};
 ghost use Rattle.lx_auto.specs.Words.{from_word};
@@ -32,7 +32,11 @@ impl Model for Tables {
 
 impl Tables {
     /// The tables of these parts.
-    pub(crate) fn of_parts(automaton: Automaton, kinds: Vec<Vec<u8>>, rules: Vec<TableRule>) -> Tables
+    pub(crate) fn of_parts(
+        automaton: Automaton,
+        kinds: Vec<Vec<u8>>,
+        rules: Vec<TableRule>,
+    ) -> Tables
         requires { IsTable (record { machine = automaton; kinds = names_view kinds.items; rules = rules_view rules.items }) }
         ensures { result ≡ record { machine = automaton; kinds = names_view kinds.items; rules = rules_view rules.items } }
     {
@@ -139,6 +143,7 @@ impl Tables {
     /// or on neither; the classes are numbered from 0 by their least bytes.
     pub fn classes(&self) -> u16
         ensures count { result ≡ self.now.machine.width }
+        ensures few { result ≤ 256 }
         ensures classes { AreByteClasses self.now.machine }
     {
         self.automaton.classes()
