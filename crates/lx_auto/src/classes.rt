@@ -1,7 +1,7 @@
 //! Byte classes: two bytes are of one class exactly where every state steps alike on both.
 
 ghost use Rattle.std.specs.Prelude.{◌≡◌, ◌<◌, ◌≤◌, ◌+◌, ◌*◌, ◌↔◌, ℕ, IsTrue, IfOk, OnOk, IfSome, IfNone, length, slice_index, vec_len};
-ghost use Rattle.lx_auto.specs.Automata.{IsMachine, StepsAlike, state_count};
+ghost use Rattle.lx_auto.specs.Automata.{IsMachine, HasByteClasses, StepsAlike, state_count};
 ghost use Rattle.lx_auto.specs.Classing.{HasSameColumns, AreNumbersBelow, IsNumberFor, AreRows};
 ghost use Rattle.lx_auto.specs.Words.{machine_of};
 
@@ -123,15 +123,20 @@ impl Automaton {
         targets: Vec<u16>,
     ) -> Result<Automaton, AllocError>
         requires { IsMachine (machine_of starts.items classes.items width accepted.items targets.items) }
-        ensures { IfOk result (λ a. StepsAlike (machine_of starts.items classes.items width accepted.items targets.items) a) }
+        ensures machine { IfOk result (λ a. IsMachine a) }
+        ensures classes { IfOk result (λ a. HasByteClasses a) }
+        ensures steps { IfOk result (λ a. StepsAlike (machine_of starts.items classes.items width accepted.items targets.items) a) }
     {
-        with_byte_classes(alloc, &Draft::of(starts, classes, width, accepted, targets))
+        let draft = Draft::of(starts, classes, width, accepted, targets);
+        with_byte_classes(alloc, &draft)
     }
 }
 
 /// The automaton that steps alike, over byte classes.
 pub(crate) fn with_byte_classes(alloc: Global, draft: &Draft) -> Result<Automaton, AllocError>
-    ensures { IfOk result (λ a. StepsAlike draft.now a) }
+    ensures machine { IfOk result (λ a. IsMachine a) }
+    ensures classes { IfOk result (λ a. HasByteClasses a) }
+    ensures steps { IfOk result (λ a. StepsAlike draft.now a) }
 {
     let mut numbers = Vec::new(alloc);
     let mut representatives = Vec::new(alloc);

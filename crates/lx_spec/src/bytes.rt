@@ -89,7 +89,8 @@ fn are_word_bytes(text: &[u8]) -> bool
     text.iter().all(|c| is_word_byte(*c))
 }
 
-pub(crate) fn is_identifier(text: &[u8]) -> bool
+/// Whether the text is an identifier: a letter or `_`, then letters, digits or `_`, in ASCII.
+pub fn is_identifier(text: &[u8]) -> bool
     ensures { result ≡ bytes.is_identifier text.now }
 {
     let Some((first, rest)) = text.split_first() else {

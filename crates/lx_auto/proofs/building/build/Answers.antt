@@ -4,4 +4,4 @@ use Rattle.lx_auto.proofs.building.build.Goals as goal
 
 pub returns-clause-automaton : goal.returns-clause-automaton
 returns-clause-automaton c =
-    alike_answers (spec_view c.args.spec.now) c.in_ok-draft.draft _ c.in_ok-draft.ensures.machine c.in_ok-automaton.ensures c.in_ok-draft.ensures.automaton
+    alike_answers (spec_view c.args.spec.now) c.in_ok-draft.draft _ c.in_ok-draft.ensures.machine c.in_ok-automaton.ensures.steps c.in_ok-draft.ensures.automaton
