@@ -67,8 +67,16 @@ module _ (rules : ℕ) (starts : List (ℕ × ℕ)) (classes : List ℕ) (width 
       }
 
   start_below : list_all (is_start (length accepted)) starts ≡ true → (c : ℕ) (begin : Bool) → c < length starts → start_of m c begin < state_count m
-  start_below h c true l = let p = and_parts _ _ (each_of (is_start (length accepted)) (0, 0) starts h c l) in let e = ltb-true (get_or starts c (0, 0)).1 (length accepted) p.1 in omega (arith, states)
-  start_below h c false l = let p = and_parts _ _ (each_of (is_start (length accepted)) (0, 0) starts h c l) in let e = ltb-true (get_or starts c (0, 0)).0 (length accepted) p.0 in omega (arith, states)
+  start_below h c begin l =
+      let start = get_or starts c (0, 0) in
+      let p = and_parts (nat_lt start.0 (length accepted)) (nat_lt start.1 (length accepted)) (each_of (is_start (length accepted)) (0, 0) starts h c l) in
+      let elsewhere : start.0 < length accepted = ltb-true start.0 (length accepted) p.0 in
+      let at_begin : start.1 < length accepted = ltb-true start.1 (length accepted) p.1 in
+      by begin (omega (arith, states)) (omega (arith, states))
+    where
+      by : (b : Bool) → (get_or starts c (0, 0)).0 < state_count m → (get_or starts c (0, 0)).1 < state_count m → start_of m c b < state_count m
+      by true x y = y
+      by false x y = x
 
   -- lists that pass both tests make a machine
   pub machine_tested : rules ≤ 4096 → have_lengths starts classes width accepted targets ≡ true → are_in_range rules starts classes width accepted targets ≡ true → IsMachineFor rules m

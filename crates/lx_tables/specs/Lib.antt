@@ -5,6 +5,7 @@ pub mod Model
 pub mod Numbered
 pub mod Output
 pub mod Readers
+pub mod Reading
 pub mod Texts
 pub mod Uniqueness
 pub mod Views
