@@ -1,13 +1,10 @@
 -- What is read at the front of a text, whatever it is: total functions, which give a value and what stands behind it.
-use Rattle.std.specs.Prelude.{ℕ, zero, suc, ◌+◌, ◌*◌, ◌-◌, ◌==◌, nat_lt, if◌then◌else◌, List, [], ◌∷◌, ◌++◌, Option, Some, None, drop, length, map, replicate, slice_index}
+use Rattle.std.specs.Prelude.{ℕ, zero, suc, ◌+◌, ◌*◌, ◌-◌, ◌==◌, nat_lt, if◌then◌else◌, List, [], ◌∷◌, ◌++◌, Option, Some, None, drop, length, replicate, slice_index}
 use Rattle.std.specs.Char.{is_ascii_digit}
 use Rattle.lx_spec.specs.declared.rule.Kind.TheVariants.{Name, Number}
 use Rattle.lx_spec.specs.declared.rule.Step.{Step}
 use Rattle.lx_spec.specs.declared.rule.Step.TheVariants.{Echo, Begin, Return}
-use Rattle.lx_tables.specs.Model.{TableRule, Table}
-use Rattle.lx_auto.specs.Automata.{state_count, target_of}
-use Rattle.lx_tables.specs.Texts.{all_bytes}
-use Rattle.std.specs.List.{flat_map, range_with_len}
+use Rattle.lx_tables.specs.Model.{TableRule}
 
 -- the number that digits say behind those of n, which grows no more from 2 ^ 31 on
 abbrev pub read_digits : ℕ → List ℕ → ℕ × List ℕ
@@ -99,17 +96,3 @@ read_ranges (suc most) from text =
     let more = read_ranges most (range.0.1 + 1) range.1 in
     (replicate (range.0.0 - from) None ++ replicate (range.0.1 + 1 - range.0.0) (Some range.0.2) ++ more.0, more.1))
     else (replicate (256 - from) None, text)
-
--- the same table by bytes
-abbrev pub by_bytes : Table → Table
-by_bytes t = record {
-  machine = record {
-    starts = t.machine.starts;
-    classes = all_bytes;
-    width = 256;
-    accepted = t.machine.accepted;
-    targets = flat_map (λ s. map (λ b. target_of t.machine s b) all_bytes) (range_with_len 0 (state_count t.machine));
-  };
-  kinds = t.kinds;
-  rules = t.rules;
-}

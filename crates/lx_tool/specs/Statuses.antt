@@ -7,18 +7,21 @@ use Rattle.lx_auto.specs.declared.fault.BuildFault.{BuildFault}
 use Rattle.lx_auto.specs.declared.fault.BuildFault.TheVariants as build
 use Rattle.lx_spec.specs.declared.fault.Code.TheVariants as code
 use Rattle.lx_spec.specs.declared.fault.SpecFault.{SpecFault}
+use Rattle.lx_tables.specs.declared.fault.TableFault.{TableFault}
+use Rattle.lx_tables.specs.declared.fault.TableFault.TheVariants as table
 use Rattle.lx_piece.specs.declared.relaying.RelayFault.{RelayFault}
 use Rattle.lx_piece.specs.declared.relaying.RelayFault.TheVariants as relay
 use Rattle.lx_tool.specs.declared.command_line.RunOrder.{RunOrder}
 use Rattle.lx_tool.specs.declared.printing.RunFault.{RunFault}
 use Rattle.lx_tool.specs.declared.printing.RunFault.TheVariants as run
-use Rattle.lx_tool.specs.declared.program.Failure.{Failure}
-use Rattle.lx_tool.specs.declared.program.Failure.TheVariants.{Specification, Automaton, Words, TooManyFiles, NotRead, Output, Memory}
+use Rattle.lx_tool.specs.declared.failure.Failure.{Failure}
+use Rattle.lx_tool.specs.declared.failure.Failure.TheVariants.{Specification, Automaton, Tables, Words, TooManyFiles, NotRead, Output, Memory}
 
 -- the exit status of a command that is not done
 abbrev pub status_of : Failure → ℕ
 status_of (Specification fault) = 1
 status_of (Automaton fault) = 1
+status_of (Tables fault) = 1
 status_of (Words error) = 2
 status_of TooManyFiles = 2
 status_of (NotRead name) = 3
@@ -45,10 +48,16 @@ failure_of_build build.TooManyPositions = Automaton build.TooManyPositions
 failure_of_build build.TooManySets = Automaton build.TooManySets
 failure_of_build build.Memory = Memory
 
+-- why a command is not done whose tables are not read
+abbrev pub failure_of_table : TableFault → Failure
+failure_of_table table.NoTables = Tables table.NoTables
+failure_of_table table.Memory = Memory
+
 -- That memory was refused is told by no other failure than Memory.
 abbrev pub HidesNoMemory : Failure → Type 0
 HidesNoMemory (Specification fault) = fault.code ≢ code.Memory
 HidesNoMemory (Automaton fault) = fault ≢ build.Memory
+HidesNoMemory (Tables fault) = fault ≢ table.Memory
 HidesNoMemory (Words error) = kind_of error ≢ kind.OutOfMemory
 HidesNoMemory TooManyFiles = ⊤
 HidesNoMemory (NotRead name) = ⊤
@@ -63,6 +72,7 @@ IsUnread name failure = (failure ≡ NotRead name) ⊎ (failure ≡ Memory)
 abbrev pub FailsBy : RunOrder → Failure → Type 0
 FailsBy order (Specification fault) = fault.code ≢ code.Memory
 FailsBy order (Automaton fault) = fault ≢ build.Memory
+FailsBy order (Tables fault) = ⊥
 FailsBy order (Words error) = ⊥
 FailsBy order TooManyFiles = 65536 < vec_len order.files
 FailsBy order (NotRead name) = Any (λ known. known ≡ name) (order.specification ∷ order.files.items)

@@ -20,6 +20,10 @@ pub(crate) enum Order<'a> {
     Help(Error),
     /// `run`: the listing of files by a specification.
     Run(RunOrder<'a>),
+    /// `gen`: the tables of the specification with this name.
+    Gen(&'a str),
+    /// `up`: the tables with this name, printed in version 2.
+    Up(&'a str),
 }
 
 /// The words of `run`.
@@ -82,7 +86,27 @@ fn command<'a>(alloc: Global) -> Result<Command<'a>, AllocError> {
         .after_help("Without words, lists a text that the program holds by rules that it holds.")
         .disable_help_subcommand(true)
         .subcommand_required(true)
+        .subcommand(gen_command(alloc)?)?
+        .subcommand(up_command(alloc)?)?
         .subcommand(run_command(alloc)?)
+}
+
+fn gen_command<'a>(alloc: Global) -> Result<Command<'a>, AllocError> {
+    let specification = Arg::new(alloc, "SPEC")
+        .help("The specification")
+        .required(true);
+    Command::new(alloc, "gen")
+        .about("Prints the tables of a specification")
+        .arg(specification)
+}
+
+fn up_command<'a>(alloc: Global) -> Result<Command<'a>, AllocError> {
+    let tables = Arg::new(alloc, "TABLES")
+        .help("The tables, in either version of their text")
+        .required(true);
+    Command::new(alloc, "up")
+        .about("Prints tables in version 2")
+        .arg(tables)
 }
 
 fn run_command<'a>(alloc: Global) -> Result<Command<'a>, AllocError> {
@@ -112,6 +136,8 @@ fn order_of<'a>(alloc: Global, matches: &ArgMatches<'a>) -> Result<Order<'a>, Re
     ensures words { (text : Error) → result ≢ Err (Refusal.Words text) }
 {
     match matches.subcommand() {
+        Some(("gen", gen)) => Ok(Order::Gen(gen.get_str("SPEC").unwrap_or(""))),
+        Some(("up", up)) => Ok(Order::Up(up.get_str("TABLES").unwrap_or(""))),
         Some((_, run)) => Ok(Order::Run(run_order_of(alloc, run)?)),
         None => Ok(Order::Stored),
     }

@@ -5,17 +5,14 @@ ghost use Rattle.std.specs.Io.KnownBytes.{Keeps};
 ghost use Rattle.lx_tool.specs.Statuses.{FailsBy, HidesNoMemory, IsUnread, status_of};
 
 use crate::command_line::{ITEMS, Order, Refusal, RunOrder, read_words};
+use crate::failure::Failure;
 use crate::merged::merged_automaton;
 use crate::planning::list_files;
-use crate::printing::RunFault;
 use crate::source::{ListSources, SourceFault, Sources};
-use clap::Error as WordsError;
-use lx_auto::BuildFault;
-use lx_spec::fault::{Code, SpecFault};
+use crate::tabling::{generate, upgrade};
 use lx_spec::read::read_spec;
-use std::alloc::{AllocError, AllocFailed, Global};
+use std::alloc::{AllocError, Global};
 use std::io::Write;
-use thiserror::Error;
 
 // The most files that one listing has.
 const MOST_FILES: usize = 65_536;
@@ -29,102 +26,10 @@ static STORED: [(&str, &[u8]); 2] = [
     ("words.txt", b"ab 12\n"),
 ];
 
-// Why a command is not done.
-#[derive(Debug, Drop, Error)]
-enum Failure<'a> {
-    #[error("lx: {0}")]
-    Specification(SpecFault),
-    #[error("lx: {0}")]
-    Automaton(BuildFault),
-    #[error("{0}")]
-    Words(WordsError),
-    #[error("lx: too many files")]
-    TooManyFiles,
-    #[error("lx: cannot read {0}")]
-    NotRead(&'a str),
-    #[error("lx: cannot write")]
-    Output,
-    #[error("lx: out of memory")]
-    Memory,
-}
-
-impl Failure<'_> {
-    // The exit status.
-    fn status(&self) -> u8
-        ensures { result ≡ status_of self.now }
-    {
-        match self {
-            Failure::Specification(_) | Failure::Automaton(_) => 1,
-            Failure::Words(_) | Failure::TooManyFiles => 2,
-            Failure::NotRead(_) => 3,
-            Failure::Output => 4,
-            Failure::Memory => 5,
-        }
-    }
-}
-
-impl From<AllocError> for Failure<'_> {
-    ghost use Rattle.lx_tool.specs.declared.program.Failure.{Failure};
-
-    ghost from_gives = { λ _ failure. failure ≡ Failure.Memory };
-
-    fn from(_error: AllocError) -> Self {
-        Failure::Memory
-    }
-}
-
-impl<T: Drop> From<AllocFailed<T>> for Failure<'_> {
-    ghost use Rattle.lx_tool.specs.declared.program.Failure.{Failure};
-
-    ghost from_gives = { λ _ failure. failure ≡ Failure.Memory };
-
-    fn from(_error: AllocFailed<T>) -> Self {
-        Failure::Memory
-    }
-}
-
-impl From<RunFault> for Failure<'_> {
-    ghost use Rattle.lx_tool.specs.Statuses.{failure_of_run};
-
-    ghost from_gives = { λ fault failure. failure ≡ failure_of_run fault };
-
-    fn from(fault: RunFault) -> Self {
-        match fault {
-            RunFault::Memory => Failure::Memory,
-            RunFault::Reader => Failure::Output,
-        }
-    }
-}
-
-impl From<SpecFault> for Failure<'_> {
-    ghost use Rattle.lx_tool.specs.Statuses.{AnswersFault};
-
-    ghost from_gives = { λ fault failure. AnswersFault fault failure };
-
-    fn from(fault: SpecFault) -> Self {
-        match fault.code {
-            Code::Memory => Failure::Memory,
-            _ => Failure::Specification(fault),
-        }
-    }
-}
-
-impl From<BuildFault> for Failure<'_> {
-    ghost use Rattle.lx_tool.specs.Statuses.{failure_of_build};
-
-    ghost from_gives = { λ fault failure. failure ≡ failure_of_build fault };
-
-    fn from(fault: BuildFault) -> Self {
-        match fault {
-            BuildFault::Memory => Failure::Memory,
-            _ => Failure::Automaton(fault),
-        }
-    }
-}
-
-/// The whole program: `words` are the command line, the program's name first. Files are read from `sources`; the listing
-/// or the help goes to `out`, which is flushed, and one line on what went wrong to `err`, whose own faults change nothing.
-/// The result is the exit status: 0, all was done; 1, the specification was refused, or is too large for an automaton; 2, the
+/// The whole program: `words` are the command line, the program's name first. Files are read from `sources`; the listing,
+/// the tables or the help go to `out`, which is flushed, and one line on what went wrong to `err`, whose own faults change nothing.
+/// The result is the exit status: 0, all was done; 1, the specification was refused, or is too large for an automaton, or the tables
+/// were refused; 2, the
 /// command line was refused; 3, a file can't be read; 4, the output failed; 5, memory was refused.
 pub fn run<R, S: Sources, O: Write, E: Write>(
     _rt: &R,
@@ -170,6 +75,8 @@ fn obey<'a, S: Sources, O: Write>(
         )?,
         Ok(Order::Help(text)) => write!(out, "{text}").map_err(|_| Failure::Output)?,
         Ok(Order::Run(order)) => list(alloc, &order, sources, out)?,
+        Ok(Order::Gen(name)) => generate(alloc, &read_file(alloc, sources, name)?, out)?,
+        Ok(Order::Up(name)) => upgrade(alloc, &read_file(alloc, sources, name)?, out)?,
         Err(Refusal::Words(error)) => return Err(Failure::Words(error)),
         Err(Refusal::Memory) => return Err(Failure::Memory),
     }

@@ -3,7 +3,7 @@ use Rattle.std.proofs.lemmas.Result.{err_from_is_err_and}
 use Rattle.lx_tool.specs.declared.command_line.RunOrder.{RunOrder}
 use Rattle.lx_tool.specs.declared.printing.RunFault.{RunFault}
 use Rattle.lx_tool.specs.declared.printing.RunFault.TheVariants as run
-use Rattle.lx_tool.specs.declared.program.Failure.{Failure}
+use Rattle.lx_tool.specs.declared.failure.Failure.{Failure}
 use Rattle.lx_tool.specs.Statuses.{status_of, failure_of_run, FailsBy, IsUnread}
 use Rattle.lx_tool.proofs.program.list.Goals as goal
 

@@ -1,0 +1,43 @@
+//! Tables: made of the text of a specification, or read from their own, and printed.
+
+ghost use Rattle.std.specs.Prelude.{ℕ, List, IfOk, IfErr, OnOk};
+ghost use Rattle.lx_spec.specs.RuleLines.{EndsPatterns};
+ghost use Rattle.lx_tool.specs.Tabling.{AreTablesOfText, HasNoTables, Generates, FailsGenerating, Upgrades, FailsUpgrading};
+
+use crate::failure::Failure;
+use crate::merged::merged_automaton;
+use lx_spec::read_spec;
+use lx_tables::Tables;
+use std::alloc::Global;
+use std::io::Write;
+
+/// The tables of the specification that a text says: read, built, merged and put in order. E01 to E21 come where the text says none, E30
+/// and E31 where it is too large.
+pub fn tables_of_text<'a>(alloc: Global, text: &[u8]) -> Result<Tables, Failure<'a>>
+    ensures ok { (ends : List ℕ → ℕ) → EndsPatterns ends → IfOk result (λ tables. AreTablesOfText ends text.now tables) }
+    ensures err { (ends : List ℕ → ℕ) → EndsPatterns ends → IfErr result (λ failure. HasNoTables ends text.now failure) }
+{
+    let spec = read_spec(alloc, text)?;
+    let automaton = merged_automaton(alloc, &spec)?;
+    Ok(Tables::of(alloc, &spec, &automaton)?)
+}
+
+/// Writes the tables of the specification that a text says, in version 2 of their text: all of it, or after a fault of the output
+/// a prefix. Where the text has no tables, nothing is written.
+pub fn generate<'a, W: Write>(alloc: Global, text: &[u8], out: &mut W) -> Result<(), Failure<'a>>
+    ensures ok { (ends : List ℕ → ℕ) → EndsPatterns ends → OnOk result (Generates ends text.now (W.contents out.old) (W.contents out.new)) }
+    ensures err { (ends : List ℕ → ℕ) → EndsPatterns ends → IfErr result (λ failure. FailsGenerating ends text.now (W.contents out.old) (W.contents out.new) failure) }
+{
+    let tables = tables_of_text(alloc, text)?;
+    tables.print(out).map_err(|_| Failure::Output)
+}
+
+/// Reads tables from either version of their text and writes version 2: all of it, or after a fault of the output a prefix.
+/// Where the text is no table's (B01), nothing is written.
+pub fn upgrade<'a, W: Write>(alloc: Global, text: &[u8], out: &mut W) -> Result<(), Failure<'a>>
+    ensures ok { OnOk result (Upgrades text.now (W.contents out.old) (W.contents out.new)) }
+    ensures err { IfErr result (λ failure. FailsUpgrading text.now (W.contents out.old) (W.contents out.new) failure) }
+{
+    let tables = Tables::read(alloc, text)?;
+    tables.print(out).map_err(|_| Failure::Output)
+}
