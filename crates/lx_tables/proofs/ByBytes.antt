@@ -1,17 +1,20 @@
 -- Tables by bytes, each byte a class of its own, which have all that tables have but byte classes.
-use Rattle.std.proofs.Common.{ℕ, zero, suc, ◌≡◌, ◌<◌, ◌≤◌, ◌+◌, ◌*◌, List, [], ◌∷◌, ◌++◌, Option, Some, None, length, map, get_or, sym, ◌∙◌, ap, ap₂, refl, arith}
-use Rattle.std.specs.Prelude.{slice_index, slice_index_or}
+use Rattle.std.proofs.Common.{ℕ, zero, suc, ◌≡◌, ◌<◌, ◌+◌, ◌*◌, List, ◌++◌, Option, None, length, map, get_or, sym, ◌∙◌, ap, refl, arith}
+use Rattle.std.specs.Prelude.{slice_index}
 use Rattle.std.specs.List.{flat_map, range_with_len}
 use Rattle.std.proofs.lemmas.List.{get_or_append_left, get_or-append-add, length-append}
 use Rattle.std.proofs.lemmas.List.FromFn.{get_or-map-range_with_len, length-map-range_with_len}
-use Rattle.lx_auto.specs.Automata.{Machine, IsMachine, HasByteClasses, StepsAlike, state_count, accepted_by, class_target, target_of}
-use Rattle.lx_tables.specs.Model.{Table, IsTable}
+use Rattle.lx_auto.specs.Automata.{Machine, IsMachine, HasByteClasses, StepsAlike, state_count, class_target, target_of}
+use Rattle.lx_tables.specs.Model.{TableRule, Table, IsTable}
 use Rattle.lx_tables.specs.Limits.{HasLimits}
-use Rattle.lx_tables.specs.Texts.{all_bytes}
-use Rattle.lx_tables.specs.Readers.{by_bytes}
+use Rattle.lx_tables.specs.Texts.{text_1, all_bytes}
+use Rattle.lx_tables.specs.Readers.{by_bytes, read_text}
+use Rattle.lx_tables.proofs.FirstRead.{first_again}
 use Rattle.lx_tables.proofs.OneMachine.{one_machine}
 use Rattle.lx_tables.proofs.Ranges.{byte_count, byte_at}
-use Rattle.lx_tables.proofs.Reading.{in_row}
+
+abbrev table_with : Machine → List (List ℕ) → List TableRule → Table
+table_with machine kinds rules = record { machine = machine; kinds = kinds; rules = rules }
 
 module _ (f : ℕ → ℕ → Option ℕ) (w : ℕ) where
   abbrev row : ℕ → List (Option ℕ)
@@ -56,7 +59,7 @@ module _ (t : Table) (is : IsTable t) where
   unfolding all_bytes
   entry s b hs hb = rows_at (λ s b. target_of m s b) 256 (state_count m) 0 s b (s * 256 + b) hb hs refl ∙ ap (λ k. target_of m k b) (let z : 0 + s ≡ s = omega arith in z)
 
-  step : (s b : ℕ) → s < state_count m → b < 256 → target_of q s b ≡ target_of m s b
+  pub step : (s b : ℕ) → s < state_count m → b < 256 → target_of q s b ≡ target_of m s b
   step s b hs hb = ap (λ c. class_target q s c) (byte_at b hb) ∙ entry s b hs hb
 
   rows_are : length q.targets ≡ state_count q * q.width
@@ -101,3 +104,17 @@ module _ (t : Table) (is : IsTable t) where
     same_by_bytes alike =
         one_machine a m ia ha is.machine is.classes alike.starts alike.accepted
         (λ s b hs hb. let l : s < state_count m = (let e = ap length alike.accepted in omega arith) in alike.steps s b l hb ∙ step s b l hb)
+
+-- tables with one text of version 1 are one by bytes, and so the same
+module _ (s t : Table) (hs : IsTable s) (ht : IsTable t) (e : text_1 s ≡ text_1 t) where
+  same : by_bytes s ≡ by_bytes t
+  same = sym (first_again s hs) ∙ ap read_text e ∙ first_again t ht
+
+  machines : s.machine ≡ t.machine
+  machines =
+      one_machine s.machine t.machine hs.machine hs.classes ht.machine ht.classes (ap (λ (x : Table). x.machine.starts) same) (ap (λ (x : Table). x.machine.accepted) same)
+      (λ i b hi hb. sym (step s hs i b hi hb) ∙ ap (λ (x : Table). target_of x.machine i b) same
+      ∙ step t ht i b (let n = ap (λ (x : Table). length x.machine.accepted) same in omega arith) hb)
+
+  pub same_first : s ≡ t
+  same_first = ap (λ (x : Table). table_with s.machine x.kinds x.rules) same ∙ ap (λ (m : Machine). table_with m t.kinds t.rules) machines

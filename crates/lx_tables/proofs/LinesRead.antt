@@ -2,7 +2,7 @@
 use Rattle.std.proofs.Common.{ℕ, zero, suc, ◌≡◌, ◌<◌, ◌≤◌, ◌+◌, ◌-◌, ◌&&◌, Bool, true, false, List, [], ◌∷◌, ◌++◌, length, drop, map, get_or, refl, sym, ◌∙◌, ap, arith, append_assoc, append-nil, inl, inr}
 use Rattle.std.specs.Prelude.{IsTrue, slice_index, decimal, nat_lt, codes, replicate, Option, Some, None, if◌then◌else◌, ◌==◌}
 use Rattle.std.specs.List.{flat_map, list_all, range_with_len}
-use Rattle.std.proofs.lemmas.Bool.{ltb-true}
+use Rattle.std.proofs.lemmas.Bool.{ltb-true, lt-ltb}
 use Rattle.std.proofs.lemmas.Bool.Decides.{eqb_tells}
 use Rattle.std.proofs.lemmas.List.{length-append}
 use Rattle.std.proofs.lemmas.Grind.{replicate_next}
@@ -13,8 +13,10 @@ use Rattle.lx_spec.specs.declared.rule.Step.{Step}
 use Rattle.lx_spec.specs.declared.rule.Step.TheVariants.{Echo, Begin, Return}
 use Rattle.lx_tables.specs.Model.{TableRule}
 use Rattle.lx_tables.specs.Texts.{kind_line, step_text, cut_text, rule_line, entry_text, accepts_text}
-use Rattle.lx_tables.proofs.NumbersRead.{NoDigit, number_read}
-use Rattle.lx_tables.specs.Readers.{read_digits, read_many, read_line, read_kind, read_steps, read_rule, read_accepts, read_entries}
+use Rattle.lx_tables.proofs.NumbersRead.{NoDigit, number_read, run_is, one_value}
+use Rattle.lx_tables.proofs.Onto.{run_then}
+use Rattle.lx_tables.specs.Readers.{read_digits, read_many, read_line, read_kind, step_of, read_steps, read_rule, read_accepts, read_entry, read_row, below}
+use Rattle.lx_tables.specs.declared.version.Version.TheVariants.{Second}
 
 abbrev pub with_rest : {A : Type 0} → A → List ℕ → A × List ℕ
 with_rest a rest = (a, rest)
@@ -76,7 +78,7 @@ kind_read name behind h = ap (λ text. read_line text) (append_assoc name (codes
 abbrev pub AreSmall : List Step → Type 0
 AreSmall [] = Unit {0}
 AreSmall (Echo ∷ steps) = AreSmall steps
-AreSmall (Begin c ∷ steps) = (c < 2147483648) × AreSmall steps
+AreSmall (Begin c ∷ steps) = (c < 64) × AreSmall steps
 AreSmall (Return (Name n) ∷ steps) = (n < 2147483648) × AreSmall steps
 AreSmall (Return (Number n) ∷ steps) = (n < 2147483648) × AreSmall steps
 
@@ -105,6 +107,9 @@ steps_next : (most n : ℕ) (make : ℕ → Step) (rest : List ℕ) (steps : Lis
 steps_next most n make rest steps behind l stop h =
     ap (λ (p : ℕ × List ℕ). step_then most (make p.0, p.1)) (number_read n rest l stop) ∙ ap (λ (p : List Step × List ℕ). with_rest (make n ∷ p.0) p.1) h
 
+begin_is : (c : ℕ) → c < 64 → step_of 98 c ≡ Begin c
+begin_is c l = ap (λ (b : Bool). if b then Begin c else Echo) (lt-ltb c 64 l)
+
 pub steps_read : (steps : List Step) (most : ℕ) (behind : List ℕ) → length steps ≤ most → AreSmall steps → read_steps most (flat_map step_text steps ++ (10 ∷ behind)) ≡ with_rest steps behind
 steps_read [] zero behind l h = refl
 steps_read [] (suc most) behind l h = refl
@@ -112,7 +117,8 @@ steps_read (step ∷ steps) zero behind l h = absurd (omega arith)
 steps_read (Echo ∷ steps) (suc most) behind l h = ap (λ (p : List Step × List ℕ). with_rest (Echo ∷ p.0) p.1) (steps_read steps most behind (omega arith) h)
 steps_read (Begin c ∷ steps) (suc most) behind l h =
     ap (λ text. read_steps (suc most) (32 ∷ 98 ∷ text)) (append_assoc (decimal c) (flat_map step_text steps) (10 ∷ behind))
-    ∙ steps_next most c (λ n. Begin n) (flat_map step_text steps ++ (10 ∷ behind)) steps behind h.0 (steps_stop steps behind) (steps_read steps most behind (omega arith) h.1)
+    ∙ steps_next most c (step_of 98) (flat_map step_text steps ++ (10 ∷ behind)) steps behind (let l = h.0 in omega arith) (steps_stop steps behind) (steps_read steps most behind (omega arith) h.1)
+    ∙ ap (λ (step : Step). with_rest (step ∷ steps) behind) (begin_is c h.0)
 steps_read (Return (Name k) ∷ steps) (suc most) behind l h =
     ap (λ text. read_steps (suc most) (32 ∷ 107 ∷ text)) (append_assoc (decimal k) (flat_map step_text steps) (10 ∷ behind))
     ∙ steps_next most k (λ n. Return (Name n)) (flat_map step_text steps ++ (10 ∷ behind)) steps behind h.0 (steps_stop steps behind) (steps_read steps most behind (omega arith) h.1)
@@ -155,13 +161,15 @@ pub record Stops (text : List ℕ) : Type 0 where
   pub digit : NoDigit text
   pub dash : slice_index text 0 == 45 ≡ false
 
-pub accepts_read : (o : Option ℕ) (rest : List ℕ) → ((n : ℕ) → o ≡ Some n → n < 2147483648) → Stops rest → read_accepts (accepts_text o ++ rest) ≡ with_rest o rest
+pub accepts_read : (o : Option ℕ) (rest : List ℕ) → ((n : ℕ) → o ≡ Some n → n < 4096) → Stops rest → read_accepts (accepts_text o ++ rest) ≡ with_rest o rest
 accepts_read None rest l stops = refl
 accepts_read (Some n) rest l stops =
-    let next : ℕ × List ℕ → Option ℕ × List ℕ = λ p. if slice_index p.1 0 == 45 then (None, drop 1 p.1) else (Some p.0, p.1) in
-    ap next (number_read n rest (l n refl) stops.digit) ∙ ap (λ (c : Bool). if c then with_rest None (drop 1 rest) else with_rest (Some n) rest) stops.dash
+    let next : ℕ × List ℕ → Option ℕ × List ℕ = λ p. if slice_index p.1 0 == 45 then (None, drop 1 p.1) else (below 4096 p.0, p.1) in
+    let small = l n refl in
+    ap next (number_read n rest (omega arith) stops.digit) ∙ ap (λ (c : Bool). if c then with_rest None (drop 1 rest) else with_rest (below 4096 n) rest) stops.dash
+    ∙ ap (λ (c : Bool). with_rest (if c then Some n else None) rest) (lt-ltb n 4096 small)
 
-module _ (f : ℕ → Option ℕ) (width : ℕ) (narrow : width ≤ 256) (small : (c t : ℕ) → c < width → f c ≡ Some t → t < 2147483648) where
+module _ (f : ℕ → Option ℕ) (width : ℕ) (narrow : width ≤ 256) (small : (c t : ℕ) → c < width → f c ≡ Some t → t < 16512) where
   abbrev pub entries : ℕ → ℕ → List ℕ
   entries c n = flat_map (λ class. entry_text class (f class)) (range_with_len c n)
 
@@ -173,30 +181,35 @@ module _ (f : ℕ → Option ℕ) (width : ℕ) (narrow : width ≤ 256) (small 
   entries_stop c zero rest = record { digit = refl; dash = refl }
   entries_stop c (suc n) rest = stop_at c (f c) (entries (c + 1) n) (10 ∷ rest) (entries_stop (c + 1) n rest)
 
-  abbrev entry_then : ℕ → ℕ → ℕ → ℕ × List ℕ → List (Option ℕ) × List ℕ
-  entry_then most from class target =
-      (replicate (class - from) None ++ Some target.0 ∷ (read_entries most width (class + 1) target.1).0, (read_entries most width (class + 1) target.1).1)
+  abbrev entry_then : ℕ → ℕ × List ℕ → (ℕ × ℕ × ℕ) × List ℕ
+  entry_then class target = ((class, class + 1, target.0), target.1)
 
-  abbrev class_then : ℕ → ℕ → ℕ × List ℕ → List (Option ℕ) × List ℕ
-  class_then most from class = entry_then most from class.0 (read_digits 0 (drop 1 class.1))
+  abbrev class_then : ℕ × List ℕ → (ℕ × ℕ × ℕ) × List ℕ
+  class_then class = entry_then class.0 (read_digits 0 (drop 1 class.1))
 
-  one_entry : (most from c t : ℕ) (rest behind : List ℕ) (more : List (Option ℕ)) → c < 2147483648 → t < 2147483648 → NoDigit rest → read_entries most width (c + 1) rest ≡ with_rest more behind →
-      read_entries (suc most) width from (32 ∷ (decimal c ++ (58 ∷ (decimal t ++ rest)))) ≡ with_rest (replicate (c - from) None ++ Some t ∷ more) behind
-  one_entry most from c t rest behind more lc lt stop h =
-      ap (class_then most from) (number_read c (58 ∷ (decimal t ++ rest)) lc refl)
-      ∙ ap (entry_then most from c) (number_read t rest lt stop)
-      ∙ ap (λ (p : List (Option ℕ) × List ℕ). with_rest (replicate (c - from) None ++ Some t ∷ p.0) p.1) h
+  entry_read : (c t : ℕ) (rest : List ℕ) → c < 2147483648 → t < 2147483648 → NoDigit rest → read_entry (32 ∷ (decimal c ++ (58 ∷ (decimal t ++ rest)))) ≡ with_rest (c, c + 1, t) rest
+  entry_read c t rest lc lt stop = ap class_then (number_read c (58 ∷ (decimal t ++ rest)) lc refl) ∙ ap (entry_then c) (number_read t rest lt stop)
 
-  at_line_end : (most from : ℕ) (rest : List ℕ) → read_entries most width from (10 ∷ rest) ≡ with_rest (replicate (width - from) None) (10 ∷ rest)
+  one_entry : (most from c t : ℕ) (rest behind : List ℕ) (more : List (Option ℕ)) → from ≤ c → c < width → t < 16512 → NoDigit rest → read_row Second width most (c + 1) rest ≡ with_rest more behind →
+      read_row Second width (suc most) from (32 ∷ (decimal c ++ (58 ∷ (decimal t ++ rest)))) ≡ with_rest (replicate (c - from) None ++ Some t ∷ more) behind
+  one_entry most from c t rest behind more lf lc lt stop h =
+      let gap : List (Option ℕ) = replicate (c - from) None in
+      ap (run_then Second width most from) (entry_read c t rest (omega arith) (omega arith) stop)
+      ∙ run_is Second width most from c (c + 1) t rest lf (omega arith) (omega arith) lt
+      ∙ ap (λ (p : List (Option ℕ) × List ℕ). with_rest (gap ++ replicate (c + 1 - c) (Some t) ++ p.0) p.1) h
+      ∙ ap (λ (xs : List (Option ℕ)). with_rest (gap ++ xs ++ more) behind) (one_value c (Some t))
+      ∙ ap (λ (xs : List (Option ℕ)). with_rest xs behind) (append_assoc gap (Some t ∷ []) more)
+
+  at_line_end : (most from : ℕ) (rest : List ℕ) → read_row Second width most from (10 ∷ rest) ≡ with_rest (replicate (width - from) None) (10 ∷ rest)
   at_line_end zero from rest = refl
   at_line_end (suc most) from rest = refl
 
   abbrev IsEntriesRead : ℕ → ℕ → ℕ → ℕ → List ℕ → Type 0
-  IsEntriesRead c n most from rest = read_entries most width from (entries c n ++ (10 ∷ rest)) ≡ with_rest (replicate (c - from) None ++ map f (range_with_len c n)) (10 ∷ rest)
+  IsEntriesRead c n most from rest = read_row Second width most from (entries c n ++ (10 ∷ rest)) ≡ with_rest (replicate (c - from) None ++ map f (range_with_len c n)) (10 ∷ rest)
 
   entries_next : (c n most from : ℕ) (rest : List ℕ) (o : Option ℕ) → f c ≡ o → from ≤ c → c + suc n ≡ width → width ≤ most + from →
       ((k from : ℕ) → from ≤ c + 1 → width ≤ k + from → IsEntriesRead (c + 1) n k from rest) →
-      read_entries most width from ((entry_text c o ++ entries (c + 1) n) ++ (10 ∷ rest)) ≡ with_rest (replicate (c - from) None ++ o ∷ map f (range_with_len (c + 1) n)) (10 ∷ rest)
+      read_row Second width most from ((entry_text c o ++ entries (c + 1) n) ++ (10 ∷ rest)) ≡ with_rest (replicate (c - from) None ++ o ∷ map f (range_with_len (c + 1) n)) (10 ∷ rest)
   entries_next c n most from rest None e lf lw lm ih =
       let longer : c + 1 - from ≡ c - from + 1 = omega arith in
       let more = map f (range_with_len (c + 1) n) in
@@ -209,8 +222,8 @@ module _ (f : ℕ → Option ℕ) (width : ℕ) (narrow : width ≤ 256) (small 
       let more = map f (range_with_len (c + 1) n) in
       let none : c + 1 - (c + 1) ≡ 0 = omega arith in
       let text : (entry_text c (Some t) ++ entries (c + 1) n) ++ (10 ∷ rest) ≡ 32 ∷ (decimal c ++ (58 ∷ (decimal t ++ tail))) = simp append_assoc in
-      ap (λ bs. read_entries (suc most) width from bs) text
-      ∙ one_entry most from c t tail (10 ∷ rest) more (omega arith) (small c t (omega arith) e) (entries_stop (c + 1) n rest).digit
+      ap (λ bs. read_row Second width (suc most) from bs) text
+      ∙ one_entry most from c t tail (10 ∷ rest) more lf (omega arith) (small c t (omega arith) e) (entries_stop (c + 1) n rest).digit
       (ih most (c + 1) (omega arith) (omega arith) ∙ ap (λ (k : ℕ). with_rest (replicate k None ++ more) (10 ∷ rest)) none)
 
   pub entries_read : (n c most from : ℕ) (rest : List ℕ) → from ≤ c → c + n ≡ width → width ≤ most + from → IsEntriesRead c n most from rest

@@ -10,7 +10,10 @@ use Rattle.std.proofs.lemmas.List.{replicate-append-replicate}
 use Rattle.std.proofs.lemmas.Grind.{replicate_next}
 use Rattle.std.proofs.lemmas.List.Elements.{All-head, All-tail}
 use Rattle.lx_tables.specs.Texts.{start_line, range_text, same_value, ranges_from}
-use Rattle.lx_tables.specs.Readers.{read_digits, read_start, read_range, read_ranges}
+use Rattle.lx_tables.specs.Readers.{read_digits, read_start, read_range, read_row, below, within}
+use Rattle.lx_tables.specs.declared.version.Version.{Version}
+use Rattle.lx_tables.specs.declared.version.Version.TheVariants.{First}
+use Rattle.lx_tables.proofs.Onto.{put, run_then}
 
 abbrev pub read_on : ℕ → List ℕ → ℕ
 read_on n [] = n
@@ -34,7 +37,7 @@ digits_read n [] (b ∷ bs) d stop small = rw stop refl
 digits_read n (c ∷ ds) behind d stop small =
     let parts = and_parts (is_ascii_digit c) (all_ascii_digits ds) d in
     let digit : is_ascii_digit c ≡ true = parts.0 in
-    let low : nat_lt n 2147483648 ≡ true = lt-ltb n 2147483648 (omega (arith, rises (10 * n + (c - 48)) ds)) in
+    let low : nat_lt n 429496729 ≡ true = lt-ltb n 429496729 (omega (arith, rises (10 * n + (c - 48)) ds)) in
     rw (digit, low) (digits_read (10 * n + (c - 48)) ds behind parts.1 stop small)
 
 pub number_read : (n : ℕ) (behind : List ℕ) → n < 2147483648 → NoDigit behind → read_digits 0 (decimal n ++ behind) ≡ (n, behind)
@@ -50,17 +53,28 @@ start_read s behind l0 l1 =
     simp (append_assoc, first, second)
 
 pub range_read : (low high value : ℕ) (behind : List ℕ) → low < 2147483648 → high < 2147483648 → value < 2147483648 → NoDigit behind →
-    read_range (range_text low high (Some value) ++ behind) ≡ ((low, high, value), behind)
+    read_range (range_text low high (Some value) ++ behind) ≡ ((low, high + 1, value), behind)
 range_read low high value behind l0 l1 l2 stop =
     let last : read_digits 0 (decimal value ++ behind) ≡ (value, behind) = number_read value behind l2 stop in
     let second : read_digits 0 (decimal high ++ (58 ∷ (decimal value ++ behind))) ≡ (high, 58 ∷ (decimal value ++ behind)) = number_read high (58 ∷ (decimal value ++ behind)) l1 refl in
     let first : read_digits 0 (decimal low ++ (45 ∷ (decimal high ++ (58 ∷ (decimal value ++ behind))))) ≡ (low, 45 ∷ (decimal high ++ (58 ∷ (decimal value ++ behind)))) = number_read low (45 ∷ (decimal high ++ (58 ∷ (decimal value ++ behind)))) l0 refl in
     simp (append_assoc, first, second, last)
 
--- a value is small
+-- a value is that of a state
 abbrev pub IsSmall : Option ℕ → Type 0
 IsSmall None = Unit {0}
-IsSmall (Some n) = n < 2147483648
+IsSmall (Some n) = n < 16512
+
+-- what is read of a run that lies in the places that are left
+pub run_is : (version : Version) (width most from low end v : ℕ) (text : List ℕ) → from ≤ low → low ≤ end → end ≤ width → v < 16512 →
+    run_then version width most from ((low, end, v), text) ≡ put version width most from low end (Some v) text
+run_is version width most from low end v text lf ll lw lv =
+    let first : within from width low ≡ low = omega arith in
+    let last : within low width end ≡ end = omega arith in
+    let value : below 16512 v ≡ Some v = ap (λ (c : Bool). if c then Some v else None) (lt-ltb v 16512 lv) in
+    ap (λ (k : ℕ). put version width most from k (within k width end) (below 16512 v) text) first
+    ∙ ap (λ (k : ℕ). put version width most from low k (below 16512 v) text) last
+    ∙ ap (λ (o : Option ℕ). put version width most from low end o text) value
 
 -- of a run from `low` to `high`, and the values behind it, read from byte `from` on
 abbrev pub row_from : ℕ → ℕ → ℕ → Option ℕ → List (Option ℕ) → List (Option ℕ)
@@ -85,27 +99,22 @@ same_is None (Some n) h = cc
 same_is (Some m) None h = cc
 same_is (Some m) (Some n) h = ap (λ (k : ℕ). Some k) (eqb-true m n h)
 
--- what a range says, and what is read behind it
-abbrev pub range_then : ℕ → ℕ → (ℕ × ℕ × ℕ) × List ℕ → List (Option ℕ) × List ℕ
-range_then most from range =
-    let more = read_ranges most (range.0.1 + 1) range.1 in
-    (replicate (range.0.0 - from) None ++ replicate (range.0.1 + 1 - range.0.0) (Some range.0.2) ++ more.0, more.1)
-
 abbrev pub put_before : List (Option ℕ) → List (Option ℕ) × List ℕ → List (Option ℕ) × List ℕ
 put_before row more = (row ++ more.0, more.1)
 
 abbrev pub with_rest : List ℕ → List (Option ℕ) → List (Option ℕ) × List ℕ
 with_rest rest row = (row, rest)
 
-one_more : (most from low high v : ℕ) (text behind : List ℕ) (tail : List (Option ℕ)) → low < 2147483648 → high < 2147483648 → v < 2147483648 → NoDigit text →
-    read_ranges most (high + 1) text ≡ with_rest behind tail →
-    read_ranges (suc most) from (range_text low high (Some v) ++ text) ≡ with_rest behind (row_from from low high (Some v) tail)
-one_more most from low high v text behind tail l0 l1 l2 stop h =
-    ap (range_then most from) (range_read low high v text l0 l1 l2 stop)
+one_more : (most from low high v : ℕ) (text behind : List ℕ) (tail : List (Option ℕ)) → from ≤ low → low ≤ high → high < 256 → v < 16512 → NoDigit text →
+    read_row First 256 most (high + 1) text ≡ with_rest behind tail →
+    read_row First 256 (suc most) from (range_text low high (Some v) ++ text) ≡ with_rest behind (row_from from low high (Some v) tail)
+one_more most from low high v text behind tail lf ll lh lv stop h =
+    ap (run_then First 256 most from) (range_read low high v text (omega arith) (omega arith) (omega arith) stop)
+    ∙ run_is First 256 most from low (high + 1) v text lf (omega arith) (omega arith) lv
     ∙ ap (put_before (replicate (low - from) None ++ replicate (high + 1 - low) (Some v))) h
 
 -- nothing is read before a newline
-at_end : (most from : ℕ) (rest : List ℕ) → read_ranges most from (10 ∷ rest) ≡ with_rest (10 ∷ rest) (replicate (256 - from) None)
+at_end : (most from : ℕ) (rest : List ℕ) → read_row First 256 most from (10 ∷ rest) ≡ with_rest (10 ∷ rest) (replicate (256 - from) None)
 at_end zero from rest = refl
 at_end (suc most) from rest = refl
 
@@ -118,7 +127,7 @@ join_none from low high f l =
     let sum : low - from + (high + 1 - low) ≡ high + 1 - from = omega arith in
     replicate-append-replicate (low - from) (high + 1 - low) no_value ∙ ap (λ (k : ℕ). replicate k no_value) sum
 
-one_value : (n : ℕ) (v : Option ℕ) → replicate (n + 1 - n) v ≡ v ∷ []
+pub one_value : (n : ℕ) (v : Option ℕ) → replicate (n + 1 - n) v ≡ v ∷ []
 one_value n v = let one : n + 1 - n ≡ 1 = omega arith in ap (λ (k : ℕ). replicate k v) one
 
 -- a run grows by the value behind it
@@ -130,7 +139,7 @@ grows from low high value more l =
     ∙ simp append_assoc
 
 abbrev pub IsRead : ℕ → ℕ → ℕ → ℕ → Option ℕ → List (Option ℕ) → List ℕ → Type 0
-IsRead most from low high value more rest = read_ranges most from (ranges_from low high value more ++ (10 ∷ rest)) ≡ with_rest (10 ∷ rest) (row_from from low high value more)
+IsRead most from low high value more rest = read_row First 256 most from (ranges_from low high value more ++ (10 ∷ rest)) ≡ with_rest (10 ∷ rest) (row_from from low high value more)
 
 abbrev pub AreRead : List (Option ℕ) → Type 0
 AreRead more = (most from low high : ℕ) (value : Option ℕ) (rest : List ℕ) →
@@ -138,7 +147,7 @@ AreRead more = (most from low high : ℕ) (value : Option ℕ) (rest : List ℕ)
 
 next_run : (other : Option ℕ) (more : List (Option ℕ)) → AreRead more → (c : Bool) (most from low high : ℕ) (value : Option ℕ) (rest : List ℕ) →
     same_value value other ≡ c → from ≤ low → low ≤ high → high + 1 + suc (length more) ≡ 256 → 256 ≤ most + from → IsSmall value → IsSmall other → All IsSmall more →
-    read_ranges most from ((if c then ranges_from low (high + 1) value more else range_text low high value ++ ranges_from (high + 1) (high + 1) other more) ++ (10 ∷ rest)) ≡ with_rest (10 ∷ rest) (row_from from low high value (other ∷ more))
+    read_row First 256 most from ((if c then ranges_from low (high + 1) value more else range_text low high value ++ ranges_from (high + 1) (high + 1) other more) ++ (10 ∷ rest)) ≡ with_rest (10 ∷ rest) (row_from from low high value (other ∷ more))
 next_run other more ih true most from low high value rest e f l all fuel small one smalls =
     ih most from low (high + 1) value rest f (omega arith) (omega arith) fuel small smalls
     ∙ ap (with_rest (10 ∷ rest)) (grows from low high value more l ∙ ap (λ (v : Option ℕ). row_from from low high value (v ∷ more)) (same_is value other e))
@@ -151,8 +160,8 @@ next_run other more ih false (suc most) from low high (Some v) rest e f l all fu
     let tail : row_from (high + 1) (high + 1) (high + 1) other more ≡ other ∷ more =
     (let none : high + 1 - (high + 1) ≡ 0 = omega arith in
     ap (λ (k : ℕ). replicate k None ++ replicate (high + 1 + 1 - (high + 1)) other ++ more) none ∙ ap (λ (run : List (Option ℕ)). run ++ more) (one_value (high + 1) other)) in
-    ap (λ (bs : List ℕ). read_ranges (suc most) from bs) (append_assoc (range_text low high (Some v)) (ranges_from (high + 1) (high + 1) other more) (10 ∷ rest))
-    ∙ one_more most from low high v text (10 ∷ rest) (other ∷ more) (omega arith) (omega arith) small (stops (high + 1) (high + 1) other more rest)
+    ap (λ (bs : List ℕ). read_row First 256 (suc most) from bs) (append_assoc (range_text low high (Some v)) (ranges_from (high + 1) (high + 1) other more) (10 ∷ rest))
+    ∙ one_more most from low high v text (10 ∷ rest) (other ∷ more) f l (omega arith) small (stops (high + 1) (high + 1) other more rest)
     (ih most (high + 1) (high + 1) (high + 1) other rest (omega arith) (omega arith) (omega arith) (omega arith) one smalls ∙ ap (with_rest (10 ∷ rest)) tail)
 
 pub ranges_read : (more : List (Option ℕ)) → AreRead more
@@ -162,6 +171,6 @@ ranges_read [] most from low high None rest f l all fuel small smalls =
 ranges_read [] zero from low high (Some v) rest f l all fuel small smalls = absurd (omega arith)
 ranges_read [] (suc most) from low high (Some v) rest f l all fuel small smalls =
     let none : 256 - (high + 1) ≡ 0 = omega arith in
-    one_more most from low high v (10 ∷ rest) (10 ∷ rest) [] (omega arith) (omega arith) small refl (at_end most (high + 1) rest ∙ ap (λ (k : ℕ). with_rest (10 ∷ rest) (replicate k None)) none)
+    one_more most from low high v (10 ∷ rest) (10 ∷ rest) [] f l (omega arith) small refl (at_end most (high + 1) rest ∙ ap (λ (k : ℕ). with_rest (10 ∷ rest) (replicate k None)) none)
 ranges_read (other ∷ more) most from low high value rest f l all fuel small smalls =
     next_run other more (ranges_read more) (same_value value other) most from low high value rest refl f l all fuel small (All-head IsSmall other more smalls) (All-tail IsSmall other more smalls)

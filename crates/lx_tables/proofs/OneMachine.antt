@@ -1,5 +1,5 @@
 -- Machines with byte classes that step alike are the same.
-use Rattle.std.proofs.Common.{ℕ, zero, suc, ◌≡◌, ◌<◌, ◌≤◌, ◌+◌, ◌*◌, List, [], ◌∷◌, ◌++◌, Option, Some, None, length, map, sym, ◌∙◌, ap, ap₂, refl, arith}
+use Rattle.std.proofs.Common.{ℕ, zero, suc, ◌≡◌, ◌<◌, ◌≤◌, ◌+◌, ◌*◌, List, [], ◌∷◌, ◌++◌, Option, None, length, map, sym, ◌∙◌, ap, ap₂, refl, arith}
 use Rattle.std.specs.Prelude.{slice_index, slice_index_or}
 use Rattle.std.specs.List.{flat_map, range_with_len}
 use Rattle.lx_auto.specs.Automata.{Machine, IsMachine, HasByteClasses, state_count, class_target, target_of}

@@ -1,6 +1,6 @@
 -- What the tests of lists tell of the machine that they make.
-use Rattle.std.proofs.Common.{◌≡◌, ◌≢◌, ℕ, zero, suc, ◌+◌, ◌-◌, ◌*◌, ◌/◌, ◌%◌, ◌<◌, ◌≤◌, Bool, true, false, Option, Some, None, List, [], ◌∷◌, length, map, get_or, slice_index, slice_index_or, refl, sym, ◌∙◌, ap, subst, arith, inl, inr}
-use Rattle.std.specs.Prelude.{IsTrue, ◌&&◌, ◌==◌, nat_lt, nat_le}
+use Rattle.std.proofs.Common.{◌≡◌, ℕ, zero, suc, ◌+◌, ◌-◌, ◌*◌, ◌/◌, ◌%◌, ◌<◌, ◌≤◌, Bool, true, false, Some, None, List, [], ◌∷◌, length, map, get_or, slice_index, slice_index_or, refl, sym, ◌∙◌, ap, arith, inl, inr}
+use Rattle.std.specs.Prelude.{◌==◌, nat_lt, nat_le}
 use Rattle.std.specs.List.{list_all}
 use Rattle.std.proofs.lemmas.Bool.{and_parts, and_from, cases_eq, ltb-true, lt-ltb, leb-true, le-leb, eqb-true}
 use Rattle.std.proofs.lemmas.Bool.Decides.{eqb_tells}
@@ -8,13 +8,13 @@ use Rattle.std.proofs.lemmas.List.{length-map}
 use Rattle.std.proofs.lemmas.List.Folds.{list_all-map}
 use Rattle.std.proofs.lemmas.Nat.{div-add-mod'}
 use Rattle.std.proofs.Math.Nat.{mod-lt, mul-zero, div-lt_iff_lt-mul}
-use Rattle.lx_auto.specs.Automata.{Machine, IsMachine, state_count, start_of, accepted_by, class_target}
+use Rattle.lx_auto.specs.Automata.{Machine, state_count, start_of, accepted_by}
 use Rattle.lx_auto.specs.Words.{from_word, machine_of}
 use Rattle.lx_spec.specs.Invariant.{are_steps}
 use Rattle.lx_tables.specs.Limits.{IsMachineFor, are_rules, is_start, have_lengths, are_in_range}
 use Rattle.lx_tables.specs.Views.{rule_view, rules_view}
 use Rattle.lx_tables.specs.declared.table_rule.TableRule.{TableRule as CodeRule}
-use Rattle.lx_tables.proofs.Reading.{word_at, from_word-some, word_above, in_row}
+use Rattle.lx_tables.proofs.Reading.{word_at, from_word-some, word_above}
 
 eqb-refl : (n : ℕ) → (n == n) ≡ true
 eqb-refl n = elim (eqb_tells n n) [ inl t ↦ t.0 | inr t ↦ absurd (t.1 refl) ]

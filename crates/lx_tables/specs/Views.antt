@@ -1,8 +1,10 @@
--- Tables and their rules in the code, without where they lie in memory.
+-- What was read of tables in the code, without where it lies in memory.
 use Rattle.std.specs.Prelude.{List, map}
 use Rattle.lx_spec.specs.views.Rules.{names_view}
 use Rattle.lx_auto.specs.Words.{machine_of}
 use Rattle.lx_tables.specs.Model.{TableRule, Table}
+use Rattle.lx_tables.specs.Readers.{Front}
+use Rattle.lx_tables.specs.declared.raw.RawFront.{RawFront}
 use Rattle.lx_tables.specs.declared.raw.RawTables.{RawTables}
 use Rattle.lx_tables.specs.declared.table_rule.TableRule.{TableRule as CodeRule}
 
@@ -12,6 +14,12 @@ rule_view rule = record { cut = rule.cut; steps = rule.steps.items }
 abbrev pub rules_view : List CodeRule → List TableRule
 rules_view rules = map rule_view rules
 
--- the table that lists say which were read
+abbrev pub front_view : RawFront → Front
+front_view raw = record { starts = raw.starts.items; kinds = names_view raw.kinds.items; rules = rules_view raw.rules.items }
+
 abbrev pub raw_view : RawTables → Table
-raw_view raw = record { machine = machine_of raw.starts.items raw.classes.items raw.width raw.accepted.items raw.targets.items; kinds = names_view raw.kinds.items; rules = rules_view raw.rules.items }
+raw_view raw = record {
+  machine = machine_of raw.starts.items raw.classes.items raw.width raw.accepted.items raw.targets.items;
+  kinds = names_view raw.kinds.items;
+  rules = rules_view raw.rules.items;
+}

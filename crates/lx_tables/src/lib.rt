@@ -4,13 +4,16 @@
 mod byte_values;
 mod copying;
 pub mod examples;
+mod fault;
 mod fields;
+mod lenient;
 mod limits;
 mod lines;
 pub mod making;
 mod numbering;
 pub mod printing;
 mod raw;
+pub mod read;
 mod reordering;
 mod table_rule;
 pub mod tables;
@@ -18,5 +21,6 @@ pub mod uniqueness;
 mod version;
 mod writing;
 
+pub use crate::fault::TableFault;
 pub use crate::tables::Tables;
 pub use lx_auto::State;

@@ -32,9 +32,7 @@ fn have_lengths(raw: &RawTables) -> bool
 fn are_starts(starts: &[(u32, u32)], states: usize) -> bool
     ensures { result ≡ list_all (limits.is_start states) starts.now }
 {
-    starts
-        .iter()
-        .all(|start| (start.0 as usize) < states && (start.1 as usize) < states)
+    starts.iter().all(|start| (start.0 as usize) < states && (start.1 as usize) < states)
 }
 
 fn are_classes(classes: &[u8], width: usize) -> bool

@@ -1,15 +1,31 @@
-// Lists of a table's text as they were read, before any test.
+// The lists of a table as they were read, which nothing has tested yet.
 
 use crate::table_rule::TableRule;
 
-/// What a text says, read leniently.
+/// What both versions of the text have.
+#[derive(Drop)]
+pub(crate) struct RawFront {
+    /// Of each condition the state without line begin and the state at line begin.
+    pub(crate) starts: Vec<(u32, u32)>,
+    /// The names of the kinds.
+    pub(crate) kinds: Vec<Vec<u8>>,
+    pub(crate) rules: Vec<TableRule>,
+}
+
+/// A table's lists: words are 0 for nothing, or one more than the number.
 #[derive(Drop)]
 pub(crate) struct RawTables {
+    /// Of each condition the state without line begin and the state at line begin.
     pub(crate) starts: Vec<(u32, u32)>,
+    /// The class of each byte.
     pub(crate) classes: Vec<u8>,
+    /// How many classes there are.
     pub(crate) width: usize,
+    /// Of each state the word of the rule that it accepts.
     pub(crate) accepted: Vec<u16>,
+    /// Row by row the words of where states step.
     pub(crate) targets: Vec<u16>,
+    /// The names of the kinds.
     pub(crate) kinds: Vec<Vec<u8>>,
     pub(crate) rules: Vec<TableRule>,
 }

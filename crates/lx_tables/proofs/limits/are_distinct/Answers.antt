@@ -1,9 +1,9 @@
-use Rattle.std.proofs.Common.{◌≡◌, ◌-◌, ◌+◌, ◌∙◌, ℕ, List, sym, subst, true, false, arith, ap, drop}
+use Rattle.std.proofs.Common.{◌≡◌, ◌-◌, ◌+◌, ◌∙◌, ℕ, List, sym, arith, ap, drop}
 use Rattle.std.specs.Option.{is_some}
 use Rattle.lx_spec.specs.Invariant.{are_distinct}
 use Rattle.lx_spec.specs.views.NameTables.{number_at}
 use Rattle.lx_spec.specs.views.Rules.{names_view}
-use Rattle.lx_tables.proofs.Distinct.{is_among, seen_next, distinct_next, distinct_again, none_seen, none_distinct}
+use Rattle.lx_tables.proofs.Distinct.{is_among, seen_next, distinct_next, distinct_again}
 use Rattle.lx_tables.proofs.limits.are_distinct.Goals as goal
 
 pub returns-then-contains_key : goal.returns-then-contains_key

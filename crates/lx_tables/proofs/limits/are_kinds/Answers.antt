@@ -1,10 +1,8 @@
-use Rattle.std.proofs.Common.{◌≡◌, ◌∙◌, sym, arith, subst}
-use Rattle.std.specs.Prelude.{IsTrue}
+use Rattle.std.proofs.Common.{◌∙◌, sym, arith}
 use Rattle.std.proofs.lemmas.List.{length-map}
 use Rattle.std.proofs.lemmas.List.Folds.{list_all-map}
 use Rattle.std.proofs.lemmas.Result.{IfOk-weaker}
 use Rattle.lx_spec.specs.Bytes as bytes
-use Rattle.lx_spec.specs.views.Rules.{names_view}
 use Rattle.lx_tables.proofs.limits.are_kinds.Goals as goal
 
 pub returns-then-names-gt4096 : goal.returns-then-names-gt4096

@@ -1,0 +1,83 @@
+//! Tables, read from either version of their text.
+
+ghost use Rattle.std.specs.Prelude.{◌≡◌, ◌↔◌, IsTrue, IfOk, IfErr};
+ghost use Rattle.lx_tables.specs.Limits.{HasLimits};
+ghost use Rattle.lx_tables.specs.Reading.{IsTextOf, IsNoText, own_text, IsClassed};
+ghost use Rattle.lx_tables.specs.Texts.{text_1, text_2};
+ghost use Rattle.lx_tables.specs.Views.{raw_view};
+
+use crate::fault::TableFault;
+use crate::fields::byte_at;
+use crate::lenient::read_leniently;
+use crate::limits::has_limits;
+use crate::raw::RawTables;
+use crate::tables::Tables;
+use lx_auto::Automaton;
+use std::alloc::{AllocError, Global};
+
+/// Tables of lists that were tested, over byte classes.
+fn classed(alloc: Global, raw: RawTables) -> Result<Tables, AllocError>
+    requires { HasLimits (raw_view raw) }
+    ensures { IfOk result (λ tables. IsClassed (raw_view raw) tables) }
+{
+    let automaton = Automaton::over_byte_classes(
+        alloc,
+        raw.starts,
+        raw.classes,
+        raw.width,
+        raw.accepted,
+        raw.targets,
+    )?;
+    Ok(Tables::of_parts(automaton, raw.kinds, raw.rules))
+}
+
+/// The text of version 1, where so many bytes are expected.
+fn first_text(alloc: Global, tables: &Tables, expected: usize) -> Result<Vec<u8>, AllocError>
+    ensures { IfOk result (λ printed. printed.items ≡ text_1 tables.now) }
+{
+    let mut printed = Vec::with_capacity(alloc, expected)?;
+    match tables.print_first(&mut printed) {
+        Ok(()) => Ok(printed),
+        Err(_) => Err(AllocError),
+    }
+}
+
+/// The text of version 2, where so many bytes are expected.
+fn second_text(alloc: Global, tables: &Tables, expected: usize) -> Result<Vec<u8>, AllocError>
+    ensures { IfOk result (λ printed. printed.items ≡ text_2 tables.now) }
+{
+    let mut printed = Vec::with_capacity(alloc, expected)?;
+    match tables.print(&mut printed) {
+        Ok(()) => Ok(printed),
+        Err(_) => Err(AllocError),
+    }
+}
+
+/// Whether the text is that of the tables, in the version that it says.
+fn is_text_of(alloc: Global, tables: &Tables, text: &[u8]) -> Result<bool, AllocError>
+    ensures { IfOk result (λ same. IsTrue same ↔ (text.now ≡ own_text text.now tables.now)) }
+{
+    if byte_at(text, 10) == b'2' {
+        return Ok(second_text(alloc, tables, text.len())?.as_slice() == text);
+    }
+    Ok(first_text(alloc, tables, text.len())?.as_slice() == text)
+}
+
+impl Tables {
+    /// The tables whose text this is, of either version, in time linear in it. It fails with [`TableFault::NoTables`] exactly where it
+    /// is no table's text: where a number has a leading zero, say, or a byte stands behind the end.
+    pub fn read(alloc: Global, text: &[u8]) -> Result<Tables, TableFault>
+        ensures tables { IfOk result (λ tables. IsTextOf tables text.now) }
+        ensures refused { IfErr result (λ fault. fault ≡ TableFault.NoTables → IsNoText text.now) }
+    {
+        let raw = read_leniently(alloc, text)?;
+        if !has_limits(alloc, &raw)? {
+            return Err(TableFault::NoTables);
+        }
+        let tables = classed(alloc, raw)?;
+        if !is_text_of(alloc, &tables, text)? {
+            return Err(TableFault::NoTables);
+        }
+        Ok(tables)
+    }
+}
