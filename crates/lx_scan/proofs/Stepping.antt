@@ -1,5 +1,5 @@
 -- Tables that read a text byte by byte and remember where they last accepted a rule with a token.
-use Rattle.std.proofs.Common.{◌≡◌, ℕ, zero, suc, ◌+◌, ◌-◌, ◌<◌, ◌≤◌, Bool, true, false, List, [], ◌∷◌, ◌++◌, Option, Some, None, length, take, drop, refl, sym, ap, subst, ◌∙◌, arith, nat_lt, if◌then◌else◌}
+use Rattle.std.proofs.Common.{◌≡◌, ℕ, zero, suc, ◌+◌, ◌-◌, ◌<◌, ◌≤◌, Bool, true, false, List, [], ◌∷◌, ◌++◌, Option, Some, None, length, take, drop, refl, sym, ap, subst, ◌∙◌, arith, nat_lt, if◌then◌else◌, add-one}
 use Rattle.std.specs.Prelude.{slice_index}
 use Rattle.std.specs.Option.{option_or}
 use Rattle.std.proofs.lemmas.List.{take_more, take-take, take-append-drop}
@@ -50,7 +50,12 @@ module _ (table : Table) (condition : ℕ) (begin : Bool) (text : List ℕ) wher
   -- the match after one byte more
   further : (read : ℕ) (found : Option ℕ) → answer table.machine condition begin (take (read + 1) text) ≡ found →
       furthest table condition begin text (read + 1) ≡ option_or (match_after table found (read + 1)) (furthest table condition begin text read)
-  further read found is = ap (λ (o : Option ℕ). option_or (match_after table o (read + 1)) (furthest table condition begin text read)) is
+  further read found is =
+      let one : read + 1 ≡ suc read = add-one read in
+      let behind : answer table.machine condition begin (take (suc read) text) ≡ found = ap (λ (n : ℕ). answer table.machine condition begin (take n text)) (sym one) ∙ is in
+      ap (λ (n : ℕ). furthest table condition begin text n) one
+      ∙ ap (λ (o : Option ℕ). option_or (match_after table o (suc read)) (furthest table condition begin text read)) behind
+      ∙ ap (λ (n : ℕ). option_or (match_after table found n) (furthest table condition begin text read)) (sym one)
 
   step_there : (read state byte next : ℕ) (last : Option (ℕ × ℕ)) → read < length text → slice_index text read ≡ byte → target_of table.machine state byte ≡ Some next → HasRead read state last →
       state_after table.machine (Some (start_of table.machine condition begin)) (take (read + 1) text) ≡ Some next
@@ -61,18 +66,21 @@ module _ (table : Table) (condition : ℕ) (begin : Bool) (text : List ℕ) wher
   answer_there n state there = ap (λ o. accepted_at table.machine o) there
 
   -- the tables step to a state that accepts a rule, which has a token or not
-  pub reads_accepting : (read state byte next rule : ℕ) (last : Option (ℕ × ℕ)) → read < length text → slice_index text read ≡ byte → target_of table.machine state byte ≡ Some next → next < state_count table.machine →
-      accepted_by table.machine next ≡ Some rule → HasRead read state last → HasRead (read + 1) next (if nat_lt 0 (token_len table rule (read + 1)) then Some (rule, read + 1) else last)
-  reads_accepting read state byte next rule last more is step known accepts r =
+  pub reads_accepting : (read state byte next rule : ℕ) (last : Option (ℕ × ℕ)) (has : Bool) → read < length text → slice_index text read ≡ byte → target_of table.machine state byte ≡ Some next → next < state_count table.machine →
+      accepted_by table.machine next ≡ Some rule → has ≡ nat_lt 0 (token_len table rule (read + 1)) → HasRead read state last → HasRead (read + 1) next (if has then Some (rule, read + 1) else last)
+  reads_accepting read state byte next rule last has more is step known accepts token r =
       let there = step_there read state byte next last more is step r in
+      let found = further read (Some rule) (answer_there (read + 1) next there ∙ accepts) in
       record {
         within = omega arith;
         known = known;
         there = there;
-        furthest = chosen (nat_lt 0 (token_len table rule (read + 1))) ∙ sym (further read (Some rule) (answer_there (read + 1) next there ∙ accepts));
+        furthest = chosen has
+            ∙ ap (λ (b : Bool). option_or (if b then Some (rule, read + 1) else None) (furthest table condition begin text read)) token
+            ∙ sym found;
       }
     where
-      chosen : (has : Bool) → (if has then Some (rule, read + 1) else last) ≡ option_or (if has then Some (rule, read + 1) else None) (furthest table condition begin text read)
+      chosen : (b : Bool) → (if b then Some (rule, read + 1) else last) ≡ option_or (if b then Some (rule, read + 1) else None) (furthest table condition begin text read)
       chosen true = refl
       chosen false = r.furthest
 
@@ -89,21 +97,20 @@ module _ (table : Table) (condition : ℕ) (begin : Bool) (text : List ℕ) wher
       }
 
   -- a step is missing: nothing is accepted from here on
-  none_further : (read state byte : ℕ) (last : Option (ℕ × ℕ)) → read < length text → slice_index text read ≡ byte → target_of table.machine state byte ≡ None → HasRead read state last → (k : ℕ) →
-      last ≡ furthest table condition begin text (k + read)
-  none_further read state byte last more is missing r zero = r.furthest
-  none_further read state byte last more is missing r (suc k) =
+  none_further : (read state byte : ℕ) (last : Option (ℕ × ℕ)) → read < length text → slice_index text read ≡ byte → target_of table.machine state byte ≡ None → HasRead read state last → (k n : ℕ) → k + read ≡ n →
+      last ≡ furthest table condition begin text n
+  none_further read state byte last more is missing r zero n e = let same : read ≡ n = omega arith in r.furthest ∙ ap (λ (m : ℕ). furthest table condition begin text m) same
+  none_further read state byte last more is missing r (suc k) zero e = absurd (omega arith)
+  none_further read state byte last more is missing r (suc k) (suc n) e =
       let start = Some (start_of table.machine condition begin) in
       let stopped : state_after table.machine start (take (read + 1) text) ≡ None = state_after_byte table.machine start text read state more r.there ∙ ap (λ b. target_of table.machine state b) is ∙ missing in
-      let silent : answer table.machine condition begin (take (suc (k + read)) text) ≡ None = ap (λ o. accepted_at table.machine o) (state_after_none table.machine start text (read + 1) (suc (k + read)) (omega arith) stopped) in
-      none_further read state byte last more is missing r k
-      ∙ sym (ap (λ (o : Option ℕ). option_or (match_after table o (suc (k + read))) (furthest table condition begin text (k + read))) silent)
+      let silent : answer table.machine condition begin (take (suc n) text) ≡ None = ap (λ o. accepted_at table.machine o) (state_after_none table.machine start text (read + 1) (suc n) (omega arith) stopped) in
+      none_further read state byte last more is missing r k n (omega arith)
+      ∙ sym (ap (λ (o : Option ℕ). option_or (match_after table o (suc n)) (furthest table condition begin text n)) silent)
 
   pub reads_no_more : (read state byte : ℕ) (last : Option (ℕ × ℕ)) → read < length text → slice_index text read ≡ byte → target_of table.machine state byte ≡ None → HasRead read state last →
       last ≡ furthest table condition begin text (length text)
-  reads_no_more read state byte last more is missing r =
-      let same : length text - read + read ≡ length text = omega arith in
-      subst (λ (n : ℕ). last ≡ furthest table condition begin text n) same (none_further read state byte last more is missing r (length text - read))
+  reads_no_more read state byte last more is missing r = none_further read state byte last more is missing r (length text - read) (length text) (omega arith)
 
   -- the whole text is read
   pub reads_all : (read state : ℕ) (last : Option (ℕ × ℕ)) → length text ≤ read → HasRead read state last → last ≡ furthest table condition begin text (length text)
@@ -112,4 +119,4 @@ module _ (table : Table) (condition : ℕ) (begin : Bool) (text : List ℕ) wher
       let same : read ≡ length text = omega arith in
       subst (λ (n : ℕ). last ≡ furthest table condition begin text n) same r.furthest
 
-pub ruleset scan_steps = (nothing_read, reads_accepting, reads_on, reads_no_more, reads_all)
+pub ruleset scan_steps = (nothing_read, reads_no_more, reads_all)

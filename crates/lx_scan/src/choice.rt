@@ -1,6 +1,7 @@
 //! The choice among rules: tables step byte by byte, and the last place at which a rule with a token is accepted counts.
 
 ghost use Rattle.std.specs.Prelude.{◌≡◌, ◌<◌, length, nat_lt};
+ghost use Rattle.lx_tables.specs.Model.{IsTable};
 ghost use Rattle.lx_scan.specs.Answers.{choice_of, furthest, token_len};
 
 use lx_tables::Tables;
@@ -53,7 +54,8 @@ pub(crate) fn choose(
     begin: bool,
     text: &[u8],
 ) -> Option<(u16, usize)>
-    requires { condition < length tables.now.machine.starts }
+    requires table { IsTable tables.now }
+    requires condition { condition < length tables.now.machine.starts }
     ensures { result ≡ choice_of tables.now condition begin text.now }
 {
     let (rule, read) = last_accepted(tables, condition, begin, text)?;

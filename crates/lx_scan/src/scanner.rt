@@ -1,9 +1,10 @@
 //! The scanner: the items of a text, match by match.
 
-ghost use Rattle.std.specs.Prelude.{◌≡◌, ◌<◌, ◌≤◌, ◌+◌, ◌++◌, length, None, IfOk, OnOk, MatchOption};
+ghost use Rattle.std.specs.Prelude.{◌≡◌, ◌<◌, ◌≤◌, ◌+◌, ◌-◌, ◌^◌, ◌++◌, length, nat_eq, slice_index, take, None, IfOk, OnOk, MatchOption};
 ghost use Rattle.std.specs.Option.{ForSome, option_map};
+ghost use Rattle.lx_tables.specs.Model.{IsTable};
 ghost use Rattle.lx_scan.specs.Items.{items_of, steps_at};
-ghost use Rattle.lx_scan.specs.Matching.{GoesOn, choice_in};
+ghost use Rattle.lx_scan.specs.Matching.{GoesOn, IsFound, choice_in};
 ghost use Rattle.lx_scan.specs.Steps.{condition_after, items_of_steps, newlines};
 
 use crate::choice::choose;
@@ -52,7 +53,7 @@ fn newlines_in(bytes: &[u8]) -> u64
 }
 
 // The match that a choice is at a place. Where no rule is chosen, a byte alone is echoed.
-fn match_at(start: usize, choice: Option<(u16, usize)>) -> Match
+fn match_of(start: usize, choice: Option<(u16, usize)>) -> Match
     ensures start { result.start ≡ start }
     ensures choice { choice_in result ≡ choice }
     ensures alone { result.rule ≡ None → result.len ≡ 1 }
@@ -64,6 +65,38 @@ fn match_at(start: usize, choice: Option<(u16, usize)>) -> Match
     Match { rule, start, len }
 }
 
+// The match at a place with this rest of the text.
+fn match_at(tables: &Tables, rest: &[u8], place: Place) -> Match
+    requires table { IsTable tables.now }
+    requires known { place.condition < length tables.now.machine.starts }
+    requires more { 0 < length rest.now }
+    ensures { IsFound tables.now rest.now place result }
+{
+    let choice = choose(tables, place.condition, place.at_line_begin, rest);
+    match_of(place.offset, choice)
+}
+
+// The place behind a match, at line begin exactly where its last byte is a newline.
+fn place_behind(tables: &Tables, rest: &[u8], place: Place, found: Match) -> Place
+    requires some { 0 < found.len }
+    requires within { found.len ≤ length rest.now }
+    requires rule { ForSome found.rule (λ i. i < length tables.now.rules) }
+    requires line { place.line ≤ place.offset + 1 }
+    requires room { place.offset + length rest.now + 1 < 2 ^ 64 }
+    ensures offset { result.offset ≡ place.offset + found.len }
+    ensures condition { result.condition ≡ condition_after (steps_at tables.now (choice_in found)) place.condition }
+    ensures begin { result.at_line_begin ≡ nat_eq (slice_index rest.now (found.len - 1)) 10 }
+    ensures line { result.line ≡ place.line + newlines (take found.len rest.now) }
+    ensures few { result.line ≤ place.line + found.len }
+{
+    Place {
+        offset: place.offset + found.len,
+        condition: condition_behind(steps_of_match(tables, found), place.condition),
+        at_line_begin: rest[found.len - 1] == b'\n',
+        line: place.line + newlines_in(&rest[..found.len]),
+    }
+}
+
 /// The match at a place and the place behind it; None only at the end of the text. It takes no memory. The place has to be in the text, its
 /// condition one of the tables, and its line at least 1 and at most one more than its offset; the next place is such a place again.
 pub fn next_match(tables: &Tables, text: &[u8], place: Place) -> Option<(Match, Place)>
@@ -73,18 +106,14 @@ pub fn next_match(tables: &Tables, text: &[u8], place: Place) -> Option<(Match, 
     requires line_few { place.line ≤ place.offset + 1 }
     ensures { MatchOption result (place.offset ≡ length text.now) (λ found. GoesOn tables.now text.now place found.0 found.1) }
 {
+    // its contract says what holds of all tables
+    let _conditions = tables.conditions();
     if place.offset == text.len() {
         return None;
     }
     let rest = &text[place.offset..];
-    let choice = choose(tables, place.condition, place.at_line_begin, rest);
-    let found = match_at(place.offset, choice);
-    let next = Place {
-        offset: place.offset + found.len,
-        condition: condition_behind(steps_of_match(tables, found), place.condition),
-        at_line_begin: rest[found.len - 1] == b'\n',
-        line: place.line + newlines_in(&rest[..found.len]),
-    };
+    let found = match_at(tables, rest, place);
+    let next = place_behind(tables, rest, place, found);
     Some((found, next))
 }
 
@@ -121,9 +150,10 @@ fn push_items(
 pub fn scan(alloc: Global, tables: &Tables, text: &[u8]) -> Result<Vec<Item>, AllocError>
     ensures { IfOk result (λ items. items.items ≡ items_of tables.now text.now) }
 {
+    // its contract says that there is a condition
+    let _conditions = tables.conditions();
     let mut items = Vec::new(alloc);
     let mut place = Place::begin();
-    let _conditions = tables.conditions();
     'matches: while let Some((found, next)) = next_match(tables, text, place) {
         push_items(
             &mut items,
