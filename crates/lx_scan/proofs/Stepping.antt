@@ -1,11 +1,11 @@
 -- Tables that read a text byte by byte and remember where they last accepted a rule with a token.
-use Rattle.std.proofs.Common.{◌≡◌, ℕ, zero, suc, ◌+◌, ◌-◌, ◌<◌, ◌≤◌, Bool, true, false, List, [], ◌∷◌, ◌++◌, Option, Some, None, length, take, drop, refl, sym, ap, subst, ◌∙◌, arith, nat_lt, if◌then◌else◌, add-one}
+use Rattle.std.proofs.Common.{◌≡◌, ℕ, zero, suc, ◌+◌, ◌-◌, ◌<◌, ◌≤◌, Bool, List, [], ◌∷◌, ◌++◌, Option, Some, None, length, take, drop, refl, sym, ap, subst, ◌∙◌, arith, add-one}
 use Rattle.std.specs.Prelude.{slice_index}
 use Rattle.std.specs.Option.{option_or}
 use Rattle.std.proofs.lemmas.List.{take_more, take-take, take-append-drop}
 use Rattle.lx_auto.specs.Automata.{Machine, state_count, start_of, target_of, accepted_by, accepted_at, state_after, answer}
 use Rattle.lx_tables.specs.Model.{Table}
-use Rattle.lx_scan.specs.Answers.{furthest, match_after, token_len}
+use Rattle.lx_scan.specs.Answers.{furthest, match_after}
 
 -- ---- words
 no_bytes : (m : Machine) (s : Option ℕ) → state_after m s [] ≡ s
@@ -65,35 +65,18 @@ module _ (table : Table) (condition : ℕ) (begin : Bool) (text : List ℕ) wher
   answer_there : (n state : ℕ) → state_after table.machine (Some (start_of table.machine condition begin)) (take n text) ≡ Some state → answer table.machine condition begin (take n text) ≡ accepted_by table.machine state
   answer_there n state there = ap (λ o. accepted_at table.machine o) there
 
-  -- the tables step to a state that accepts a rule, which has a token or not
-  pub reads_accepting : (read state byte next rule : ℕ) (last : Option (ℕ × ℕ)) (has : Bool) → read < length text → slice_index text read ≡ byte → target_of table.machine state byte ≡ Some next → next < state_count table.machine →
-      accepted_by table.machine next ≡ Some rule → has ≡ nat_lt 0 (token_len table rule (read + 1)) → HasRead read state last → HasRead (read + 1) next (if has then Some (rule, read + 1) else last)
-  reads_accepting read state byte next rule last has more is step known accepts token r =
-      let there = step_there read state byte next last more is step r in
-      let found = further read (Some rule) (answer_there (read + 1) next there ∙ accepts) in
+  -- the tables step to a state
+  pub reads_on : (read state next : ℕ) (last new : Option (ℕ × ℕ)) → read < length text → Some next ≡ target_of table.machine state (slice_index text read) → next < state_count table.machine →
+      new ≡ option_or (match_after table (accepted_by table.machine next) (read + 1)) last → HasRead read state last → HasRead (read + 1) next new
+  reads_on read state next last new more step known is_new r =
+      let there = step_there read state (slice_index text read) next last more refl (sym step) r in
       record {
         within = omega arith;
         known = known;
         there = there;
-        furthest = chosen has
-            ∙ ap (λ (b : Bool). option_or (if b then Some (rule, read + 1) else None) (furthest table condition begin text read)) token
-            ∙ sym found;
-      }
-    where
-      chosen : (b : Bool) → (if b then Some (rule, read + 1) else last) ≡ option_or (if b then Some (rule, read + 1) else None) (furthest table condition begin text read)
-      chosen true = refl
-      chosen false = r.furthest
-
-  -- it steps to a state that accepts none
-  pub reads_on : (read state byte next : ℕ) (last : Option (ℕ × ℕ)) → read < length text → slice_index text read ≡ byte → target_of table.machine state byte ≡ Some next → next < state_count table.machine →
-      accepted_by table.machine next ≡ None → HasRead read state last → HasRead (read + 1) next last
-  reads_on read state byte next last more is step known accepts r =
-      let there = step_there read state byte next last more is step r in
-      record {
-        within = omega arith;
-        known = known;
-        there = there;
-        furthest = r.furthest ∙ sym (further read None (answer_there (read + 1) next there ∙ accepts));
+        furthest = is_new
+            ∙ ap (λ (o : Option (ℕ × ℕ)). option_or (match_after table (accepted_by table.machine next) (read + 1)) o) r.furthest
+            ∙ sym (further read (accepted_by table.machine next) (answer_there (read + 1) next there));
       }
 
   -- a step is missing: nothing is accepted from here on
@@ -119,4 +102,4 @@ module _ (table : Table) (condition : ℕ) (begin : Bool) (text : List ℕ) wher
       let same : read ≡ length text = omega arith in
       subst (λ (n : ℕ). last ≡ furthest table condition begin text n) same r.furthest
 
-pub ruleset scan_steps = (nothing_read, reads_no_more, reads_all)
+pub ruleset scan_steps = (nothing_read, reads_on, reads_no_more, reads_all)
