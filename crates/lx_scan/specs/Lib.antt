@@ -1,0 +1,6 @@
+pub mod Answers
+pub mod ByRules
+pub mod ItemParts
+pub mod Items
+pub mod Matching
+pub mod Steps

@@ -1,0 +1,14 @@
+//! The scanner: cuts a text into items by tables.
+#![tactic(auto)]
+
+pub mod answering;
+mod choice;
+pub mod item;
+pub mod lines;
+pub mod place;
+pub mod ruling;
+pub mod scanner;
+
+pub use crate::item::Item;
+pub use crate::place::{Match, Place};
+pub use crate::scanner::{next_match, scan};

@@ -1,0 +1,20 @@
+//! By tables of a specification the items of a text are those by its rules, and there is one list of them.
+
+ghost use Rattle.std.specs.Prelude.{◌≡◌, ◌<◌, ℕ, All, List};
+ghost use Rattle.lx_spec.specs.Plain.{PlainSpec};
+ghost use Rattle.lx_tables.specs.Model.{AreTablesOf, IsTable, Table};
+ghost use Rattle.lx_scan.specs.ByRules.{AreItemsBy};
+ghost use Rattle.lx_scan.specs.Items.{items_of};
+
+use crate::item::Item;
+
+/// A law: tables of a specification give of every text of bytes its items by the rules.
+pub fn items_are_by_rules()
+    ensures { (spec : PlainSpec) (table : Table) (text : List ℕ) → IsTable table → AreTablesOf spec table → All (λ b. b < 256) text →
+        AreItemsBy spec text (items_of table text) }
+{}
+
+/// A law: by the rules of a specification a text has one list of items.
+pub fn one_list_of_items()
+    ensures { (spec : PlainSpec) (text : List ℕ) (xs ys : List Item) → AreItemsBy spec text xs → AreItemsBy spec text ys → xs ≡ ys }
+{}

@@ -1,0 +1,168 @@
+//! The scanner: the items of a text, match by match.
+
+ghost use Rattle.std.specs.Prelude.{◌≡◌, ◌<◌, ◌≤◌, ◌+◌, ◌-◌, ◌^◌, ◌++◌, length, nat_eq, slice_index, take, None, IfOk, OnOk, MatchOption};
+ghost use Rattle.std.specs.Option.{ForSome, option_map};
+ghost use Rattle.lx_tables.specs.Model.{IsTable};
+ghost use Rattle.lx_scan.specs.Items.{items_of, steps_at};
+ghost use Rattle.lx_scan.specs.Matching.{GoesOn, IsFound, choice_in};
+ghost use Rattle.lx_scan.specs.Steps.{condition_after, items_of_steps, newlines};
+
+use crate::choice::choose;
+use crate::item::Item;
+use crate::place::{Match, Place};
+use lx_spec::rule::Step;
+use lx_tables::Tables;
+use std::alloc::{AllocError, Global};
+
+// What is done where a rule matches, or none: a byte that no rule matches is echoed.
+fn steps_of_match(tables: &Tables, found: Match) -> &[Step]
+    requires { ForSome found.rule (λ i. i < length tables.now.rules) }
+    ensures { result.now ≡ steps_at tables.now (choice_in found) }
+{
+    match found.rule {
+        Some(rule) => tables.steps(rule),
+        None => &[Step::Echo],
+    }
+}
+
+// The condition behind the steps.
+fn condition_behind(steps: &[Step], condition: u16) -> u16
+    ensures { result ≡ condition_after steps.now condition }
+{
+    let mut now = condition;
+    for step in steps {
+        if let Step::Begin(next) = step {
+            now = *next;
+        }
+    }
+    now
+}
+
+// How many of the bytes are newlines.
+fn newlines_in(bytes: &[u8]) -> u64
+    ensures count { result ≡ newlines bytes.now }
+    ensures few { result ≤ length bytes.now }
+{
+    let mut count = 0;
+    for byte in bytes {
+        if *byte == b'\n' {
+            count += 1;
+        }
+    }
+    count
+}
+
+// The match that a choice is at a place. Where no rule is chosen, a byte alone is echoed.
+fn match_of(start: usize, choice: Option<(u16, usize)>) -> Match
+    ensures start { result.start ≡ start }
+    ensures choice { choice_in result ≡ choice }
+    ensures alone { result.rule ≡ None → result.len ≡ 1 }
+{
+    let (rule, len) = match choice {
+        Some((rule, len)) => (Some(rule), len),
+        None => (None, 1),
+    };
+    Match { rule, start, len }
+}
+
+// The match at a place with this rest of the text.
+fn match_at(tables: &Tables, rest: &[u8], place: Place) -> Match
+    requires table { IsTable tables.now }
+    requires known { place.condition < length tables.now.machine.starts }
+    requires more { 0 < length rest.now }
+    ensures { IsFound tables.now rest.now place result }
+{
+    let choice = choose(tables, place.condition, place.at_line_begin, rest);
+    match_of(place.offset, choice)
+}
+
+// The place behind a match, at line begin exactly where its last byte is a newline.
+fn place_behind(tables: &Tables, rest: &[u8], place: Place, found: Match) -> Place
+    requires some { 0 < found.len }
+    requires within { found.len ≤ length rest.now }
+    requires rule { ForSome found.rule (λ i. i < length tables.now.rules) }
+    requires line { place.line ≤ place.offset + 1 }
+    requires room { place.offset + length rest.now + 1 < 2 ^ 64 }
+    ensures offset { result.offset ≡ place.offset + found.len }
+    ensures condition { result.condition ≡ condition_after (steps_at tables.now (choice_in found)) place.condition }
+    ensures begin { result.at_line_begin ≡ nat_eq (slice_index rest.now (found.len - 1)) 10 }
+    ensures line { result.line ≡ place.line + newlines (take found.len rest.now) }
+    ensures few { result.line ≤ place.line + found.len }
+{
+    Place {
+        offset: place.offset + found.len,
+        condition: condition_behind(steps_of_match(tables, found), place.condition),
+        at_line_begin: rest[found.len - 1] == b'\n',
+        line: place.line + newlines_in(&rest[..found.len]),
+    }
+}
+
+/// The match at a place and the place behind it; None only at the end of the text. It takes no memory. The place has to be in the text, its
+/// condition one of the tables, and its line at least 1 and at most one more than its offset; the next place is such a place again.
+pub fn next_match(tables: &Tables, text: &[u8], place: Place) -> Option<(Match, Place)>
+    requires within { place.offset ≤ length text.now }
+    requires known { place.condition < length tables.now.machine.starts }
+    requires line_some { 1 ≤ place.line }
+    requires line_few { place.line ≤ place.offset + 1 }
+    ensures { MatchOption result (place.offset ≡ length text.now) (λ found. GoesOn tables.now text.now place found.0 found.1) }
+{
+    // its contract says what holds of all tables
+    let _conditions = tables.conditions();
+    if place.offset == text.len() {
+        return None;
+    }
+    let rest = &text[place.offset..];
+    let found = match_at(tables, rest, place);
+    let next = place_behind(tables, rest, place, found);
+    Some((found, next))
+}
+
+// Adds the items that the steps give of `len` bytes from `start`, which stands on this line.
+fn push_items(
+    items: &mut Vec<Item>,
+    steps: &[Step],
+    line: u64,
+    start: usize,
+    len: usize,
+) -> Result<(), AllocError>
+    ensures { OnOk result (items.new.items ≡ items.old.items ++ items_of_steps steps.now line start len) }
+{
+    for step in steps {
+        match step {
+            Step::Echo => {
+                items.push(Item::Echo { line, start, len })?;
+            }
+            Step::Begin(_) => {}
+            Step::Return(kind) => {
+                items.push(Item::Token {
+                    kind: *kind,
+                    line,
+                    start,
+                    len,
+                })?;
+            }
+        }
+    }
+    Ok(())
+}
+
+/// The items of a text by the tables (XCU `lex`, "Rules in lex" and "Actions in lex"). AllocError where memory is refused.
+pub fn scan(alloc: Global, tables: &Tables, text: &[u8]) -> Result<Vec<Item>, AllocError>
+    ensures { IfOk result (λ items. items.items ≡ items_of tables.now text.now) }
+{
+    // its contract says that there is a condition
+    let _conditions = tables.conditions();
+    let mut items = Vec::new(alloc);
+    let mut place = Place::begin();
+    'matches: while let Some((found, next)) = next_match(tables, text, place) {
+        push_items(
+            &mut items,
+            steps_of_match(tables, found),
+            place.line,
+            found.start,
+            found.len,
+        )?;
+        place = next;
+    }
+    Ok(items)
+}
