@@ -10,7 +10,7 @@ use Rattle.lx_scan.specs.declared.place.Match.{Match}
 use Rattle.lx_scan.specs.declared.place.Place.{Place}
 use Rattle.lx_scan.specs.Answers.{IsByAnswers}
 use Rattle.lx_scan.specs.ItemParts.{line_at}
-use Rattle.lx_scan.specs.Items.{choice_at, first_place, items_at, items_from, items_of, len_at, place_after, steps_at}
+use Rattle.lx_scan.specs.Items.{choice_at, items_at, items_after, items_from, len_at, place_after, steps_at}
 use Rattle.lx_scan.specs.Matching.{IsFound, GoesOn, choice_in}
 use Rattle.lx_scan.specs.Steps.{condition_after, items_of_steps, newlines}
 use Rattle.lx_scan.proofs.Actions.{condition_known, steps_known}
@@ -108,6 +108,29 @@ items_next table (byte ∷ rest) place choice more is some =
         ap (λ (k : ℕ). items ++ items_from table rest k next) less ∙ ap (λ (xs : List Item). items ++ xs) (items_behind table rest n next)
 
 -- ---- from place to place
+drop_further : (text : List ℕ) (p n : ℕ) → drop n (drop p text) ≡ drop (p + n) text
+drop_further [] p n = ap (λ (xs : List ℕ). drop n xs) (drop-nil p) ∙ drop-nil n ∙ sym (drop-nil (p + n))
+drop_further (x ∷ text) zero n = let same : n ≡ zero + n = omega arith in ap (λ (k : ℕ). drop k (x ∷ text)) same
+drop_further (x ∷ text) (suc p) n = let same : suc (p + n) ≡ suc p + n = omega arith in drop_further text p n ∙ ap (λ (k : ℕ). drop k (x ∷ text)) same
+
+-- the items from a place on: those of the match there, and then those from the next place on
+items_step : (table : Table) (text : List ℕ) (place : Place) (m : Match) (next : Place) → IsFound table (drop place.offset text) place m → next ≡ place_after table (drop place.offset text) place (choice_in m) →
+    items_after table text place ≡ items_of_steps (steps_at table (choice_in m)) place.line m.start m.len ++ items_after table text next
+items_step table text place m next found after =
+    let rest = drop place.offset text in
+    let choice = choice_in m in
+    let len : len_at choice ≡ m.len = len_of_match m found.alone in
+    let some : 0 < m.len = found.some in
+    let one : items_from table rest 0 place ≡ items_at table place choice ++ items_from table (drop (len_at choice) rest) 0 (place_after table rest place choice)
+    = items_next table rest place choice (omega (arith, some, found.within)) found.choice (omega (arith, len, some)) in
+    let here : items_of_steps (steps_at table choice) place.line m.start m.len ≡ items_at table place choice
+    = ap₂ (λ (s n : ℕ). items_of_steps (steps_at table choice) place.line s n) found.start (sym len) in
+    let there : drop next.offset text ≡ drop (len_at choice) rest
+    = ap (λ (p : Place). drop p.offset text) after ∙ sym (drop_further text place.offset (len_at choice)) in
+    let more : items_after table text next ≡ items_from table (drop (len_at choice) rest) 0 (place_after table rest place choice)
+    = ap₂ (λ (r : List ℕ) (p : Place). items_from table r 0 p) there after in
+    one ∙ sym (ap₂ (λ (xs ys : List Item). xs ++ ys) here more)
+
 -- what stands behind a match, where the rest of the text from its place on is cut off as a slice
 pub goes_on : (table : Table) (text rest : List ℕ) (place : Place) (m : Match) (next : Place) → IsTable table → rest ≡ take (length text - place.offset) (drop place.offset text) → place.offset < length text → place.condition < length table.machine.starts →
     place.line ≤ place.offset + 1 → 1 ≤ place.line → IsFound table rest place m → next.line ≤ place.line + m.len →
@@ -131,6 +154,7 @@ goes_on table text rest place m next is rest_is more known line_few line_some fo
       known = omega (arith, there, condition);
       line_some = omega (arith, line, line_some);
       line_few = omega (arith, line, line_few, few, offset);
+      items = items_step table text place m next found_whole (after rest_whole len);
     }
   where
     parts : (o p c d l k : ℕ) (a b : Bool) → o ≡ p → c ≡ d → a ≡ b → l ≡ k → ◌≡◌ {A = Place} (record { offset = o; condition = c; at_line_begin = a; line = l }) (record { offset = p; condition = d; at_line_begin = b; line = k })
@@ -143,35 +167,11 @@ goes_on table text rest place m next is rest_is more known line_few line_some fo
         (begin ∙ ap (λ (r : List ℕ). nat_eq (slice_index r (m.len - 1)) 10) rest_whole ∙ ap (λ (n : ℕ). nat_eq (slice_index (drop place.offset text) (n - 1)) 10) (sym len))
         (line ∙ ap (λ (r : List ℕ). place.line + newlines (take m.len r)) rest_whole ∙ ap (λ (n : ℕ). place.line + newlines (take n (drop place.offset text))) (sym len))
 
-drop_further : (text : List ℕ) (p n : ℕ) → drop n (drop p text) ≡ drop (p + n) text
-drop_further [] p n = ap (λ (xs : List ℕ). drop n xs) (drop-nil p) ∙ drop-nil n ∙ sym (drop-nil (p + n))
-drop_further (x ∷ text) zero n = let same : n ≡ zero + n = omega arith in ap (λ (k : ℕ). drop k (x ∷ text)) same
-drop_further (x ∷ text) (suc p) n = let same : suc (p + n) ≡ suc p + n = omega arith in drop_further text p n ∙ ap (λ (k : ℕ). drop k (x ∷ text)) same
-
--- before the first match
-pub items_begin : (table : Table) (text : List ℕ) → items_from table text 0 first_place ≡ items_of table text
-unfolding items_of
-items_begin table text = refl
-
 -- the items of the text, one match further
 pub items_further : (table : Table) (text : List ℕ) (place : Place) (m : Match) (next : Place) (before items : List Item) → GoesOn table text place m next →
     items ≡ before ++ items_of_steps (steps_at table (choice_in m)) place.line m.start m.len →
-    items ++ items_from table (drop next.offset text) 0 next ≡ before ++ items_from table (drop place.offset text) 0 place
+    items ++ items_after table text next ≡ before ++ items_after table text place
 items_further table text place m next before items goes is =
-    let rest = drop place.offset text in
-    let choice = choice_in m in
-    let found = goes.found in
-    let len : len_at choice ≡ m.len = len_of_match m found.alone in
-    let some : 0 < m.len = found.some in
-    let behind : next.offset ≡ place.offset + m.len = ap (λ (p : Place). p.offset) goes.after ∙ ap (λ (n : ℕ). place.offset + n) len in
-    let one : items_from table rest 0 place ≡ items_at table place choice ++ items_from table (drop (len_at choice) rest) 0 (place_after table rest place choice)
-    = items_next table rest place choice (omega (arith, some, found.within)) found.choice (omega (arith, len, some)) in
-    let here : items_of_steps (steps_at table choice) place.line m.start m.len ≡ items_at table place choice
-    = ap₂ (λ (s n : ℕ). items_of_steps (steps_at table choice) place.line s n) found.start (sym len) in
-    let there : drop next.offset text ≡ drop (len_at choice) rest
-    = ap (λ (n : ℕ). drop n text) (behind ∙ ap (λ (n : ℕ). place.offset + n) (sym len)) ∙ sym (drop_further text place.offset (len_at choice)) in
-    let more : items_from table (drop next.offset text) 0 next ≡ items_from table (drop (len_at choice) rest) 0 (place_after table rest place choice)
-    = ap₂ (λ (r : List ℕ) (p : Place). items_from table r 0 p) there goes.after in
-    ap₂ (λ (xs ys : List Item). xs ++ ys) (is ∙ ap (λ (xs : List Item). before ++ xs) here) more
-    ∙ append_assoc before (items_at table place choice) (items_from table (drop (len_at choice) rest) 0 (place_after table rest place choice))
-    ∙ ap (λ (xs : List Item). before ++ xs) (sym one)
+    ap (λ (xs : List Item). xs ++ items_after table text next) is
+    ∙ append_assoc before (items_of_steps (steps_at table (choice_in m)) place.line m.start m.len) (items_after table text next)
+    ∙ ap (λ (xs : List Item). before ++ xs) (sym goes.items)

@@ -1,6 +1,6 @@
 -- The items of a text by tables: match after match, the choice by answers at each, and what the chosen rule does (XCU `lex`, "Rules in lex" and "Actions
 -- in lex").
-use Rattle.std.specs.Prelude.{ℕ, zero, suc, ◌+◌, ◌-◌, true, nat_eq, List, [], ◌∷◌, ◌++◌, Option, Some, None, slice_index, take}
+use Rattle.std.specs.Prelude.{ℕ, zero, suc, ◌+◌, ◌-◌, true, nat_eq, List, [], ◌∷◌, ◌++◌, Option, Some, None, slice_index, drop, take}
 use Rattle.lx_spec.specs.declared.rule.Step.{Step}
 use Rattle.lx_spec.specs.declared.rule.Step.TheVariants.{Echo}
 use Rattle.lx_tables.specs.Model.{Table, rule_at}
@@ -48,6 +48,10 @@ items_from table (byte ∷ rest) zero place =
     let choice = choice_at table (byte ∷ rest) place in
     items_at table place choice ++ items_from table rest (len_at choice - 1) (place_after table (byte ∷ rest) place choice)
 
+-- the items of a text from a place on
+abbrev pub items_after : Table → List ℕ → Place → List Item
+items_after table text place = items_from table (drop place.offset text) 0 place
+
 -- the items of a text
 unfoldable pub items_of : Table → List ℕ → List Item
-items_of table text = items_from table text 0 first_place
+items_of table text = items_after table text first_place

@@ -1,11 +1,12 @@
 -- What a scanner finds at a place of a text.
-use Rattle.std.specs.Prelude.{◌≡◌, ℕ, ◌+◌, ◌<◌, ◌≤◌, List, Option, None, length, drop}
+use Rattle.std.specs.Prelude.{◌≡◌, ℕ, ◌+◌, ◌<◌, ◌≤◌, ◌++◌, List, Option, None, length, drop}
 use Rattle.std.specs.Option.{option_map, ForSome}
 use Rattle.lx_tables.specs.Model.{Table}
 use Rattle.lx_scan.specs.declared.place.Match.{Match}
 use Rattle.lx_scan.specs.declared.place.Place.{Place}
 use Rattle.lx_scan.specs.Answers.{IsByAnswers}
-use Rattle.lx_scan.specs.Items.{choice_at, place_after}
+use Rattle.lx_scan.specs.Items.{choice_at, items_after, place_after, steps_at}
+use Rattle.lx_scan.specs.Steps.{items_of_steps}
 
 -- a match as a choice: a rule and the length of its token, or nothing for a byte that is echoed
 abbrev pub choice_in : Match → Option (ℕ × ℕ)
@@ -22,7 +23,7 @@ pub record IsFound (table : Table) (rest : List ℕ) (place : Place) (m : Match)
   pub rule : ForSome m.rule (λ i. i < length table.rules)
 
 -- At a place before the end of the text this match is found, and the scanner goes on behind it, at the next place, which is further on in the text, in a condition
--- that is there and on a line that there can be.
+-- that is there and on a line that there can be. The items from the place on are those of the match, and then those from the next place on.
 pub record GoesOn (table : Table) (text : List ℕ) (place : Place) (m : Match) (next : Place) : Type 0 where
   pub more : place.offset < length text
   pub found : IsFound table (drop place.offset text) place m
@@ -32,3 +33,4 @@ pub record GoesOn (table : Table) (text : List ℕ) (place : Place) (m : Match) 
   pub known : next.condition < length table.machine.starts
   pub line_some : 1 ≤ next.line
   pub line_few : next.line ≤ next.offset + 1
+  pub items : items_after table text place ≡ items_of_steps (steps_at table (choice_in m)) place.line m.start m.len ++ items_after table text next

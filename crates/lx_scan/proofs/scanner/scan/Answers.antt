@@ -1,8 +1,14 @@
-use Rattle.std.proofs.Common.{◌++◌, ◌∙◌, ap, arith}
+use Rattle.lx_tables.specs.Model.{Table}
+use Rattle.lx_scan.specs.Items.{first_place, items_after, items_of}
+use Rattle.std.proofs.Common.{◌≡◌, ◌++◌, ◌∙◌, ℕ, List, ap, refl, arith}
 use Rattle.lx_scan.specs.Matching.{GoesOn}
 use Rattle.lx_scan.specs.Steps.{items_of_steps}
-use Rattle.lx_scan.proofs.Turns.{items_begin, items_further}
+use Rattle.lx_scan.proofs.Turns.{items_further}
 use Rattle.lx_scan.proofs.scanner.scan.Goals as goal
+
+begins : (table : Table) (text : List ℕ) → items_after table text first_place ≡ items_of table text
+unfolding items_of
+begins table text = refl
 
 pub matches-init : goal.matches-init
 matches-init c = rw (c.begin-place.ensures, c.new-items.ensures.items) (record {
@@ -10,7 +16,7 @@ matches-init c = rw (c.begin-place.ensures, c.new-items.ensures.items) (record {
   known = c.conditions-conditions.ensures.table.machine.some;
   line_some = omega arith;
   line_few = omega arith;
-  rest = items_begin c.args.tables.now c.args.text.now;
+  rest = begins c.args.tables.now c.args.text.now;
 })
 
 pub matches-preserved : goal.matches-preserved

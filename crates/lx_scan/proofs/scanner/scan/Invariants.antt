@@ -1,5 +1,5 @@
-use Rattle.std.proofs.Common.{◌≡◌, ◌<◌, ◌≤◌, ◌+◌, ◌-◌, ◌++◌, length, drop}
-use Rattle.lx_scan.specs.Items.{items_from, items_of}
+use Rattle.std.proofs.Common.{◌≡◌, ◌<◌, ◌≤◌, ◌+◌, ◌-◌, ◌++◌, length}
+use Rattle.lx_scan.specs.Items.{items_after, items_of}
 use Rattle.lx_scan.proofs.scanner.scan.Given as goal
 
 abbrev pub invariant-matches : goal.invariant-matches
@@ -8,7 +8,7 @@ invariant-matches l = record {
   known : l.place.condition < length l.tables.machine.starts;
   line_some : 1 ≤ l.place.line;
   line_few : l.place.line ≤ l.place.offset + 1;
-  rest : l.items.items ++ items_from l.tables (drop l.place.offset l.text) 0 l.place ≡ items_of l.tables l.text;
+  rest : l.items.items ++ items_after l.tables l.text l.place ≡ items_of l.tables l.text;
 }
 
 abbrev pub decreases-matches : goal.decreases-matches
