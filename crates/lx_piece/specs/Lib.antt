@@ -1,4 +1,3 @@
-pub mod Items
 pub mod Plans
 pub mod Pieces
 pub mod PieceLaws

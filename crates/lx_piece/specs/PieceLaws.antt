@@ -8,7 +8,7 @@ use Rattle.std.proofs.lemmas.List.Folds.{list_any-append}
 use Rattle.std.proofs.Math.Bool.{or-false}
 use Rattle.std.proofs.Math.Seq.{take-add}
 use Rattle.std.proofs.Math.Nat.{suc-mul, mul-le-mul_right, zero-mul}
-use Rattle.lx_piece.specs.declared.item.Item.{Item}
+use Rattle.lx_scan.specs.declared.item.Item.{Item}
 use Rattle.lx_piece.specs.declared.piece.Piece.{Piece}
 use Rattle.lx_piece.specs.Plans.{Planned, items_of}
 use Rattle.lx_piece.specs.Pieces.{is_closing, piece_at, pieces_of, piece_count, pieces_to, contents, part, IsPrefix, TakesInOrder}

@@ -1,7 +1,7 @@
 use Rattle.std.specs.Prelude.{ℕ, zero, suc, ◌≡◌, ◌+◌, ◌*◌, ◌<◌, ◌==◌, ◌↔◌, Bool, true, List, [], ◌∷◌, ◌++◌, length, take, drop, max}
 use Rattle.std.specs.Int.{div_ceil}
 use Rattle.std.specs.List.{flat_map, list_any}
-use Rattle.lx_piece.specs.declared.item.Item.{Item}
+use Rattle.lx_scan.specs.declared.item.Item.{Item}
 use Rattle.lx_piece.specs.declared.piece.Piece.{Piece}
 use Rattle.lx_piece.specs.Plans.{Planned, files_of, items_of}
 

@@ -3,9 +3,10 @@ ghost use Rattle.lx_piece.specs.Plans.{files_of, items_of};
 ghost use Rattle.lx_piece.specs.Pieces.{piece_at, pieces_of, part, IsPieceOf};
 ghost use Rattle.lx_piece.specs.Cutting.{IsCutterOf};
 
-use crate::item::{Item, Items};
+use crate::items::Items;
 use crate::piece::Piece;
 use crate::plan::Plan;
+use lx_scan::Item;
 use std::alloc::{AllocError, Global};
 use std::marker::Model;
 

@@ -5,7 +5,7 @@
 mod arrivals;
 mod collector;
 mod cutter;
-mod item;
+mod items;
 mod lane;
 mod list_arrivals;
 mod piece;
@@ -17,7 +17,7 @@ mod reply;
 pub use arrivals::Arrivals;
 pub use collector::Collector;
 pub use cutter::Cutter;
-pub use item::{Item, Items};
+pub use items::Items;
 pub use list_arrivals::ListArrivals;
 pub use piece::Piece;
 pub use plan::Plan;

@@ -1,6 +1,6 @@
 ghost use Rattle.std.specs.Prelude.{◌≡◌};
 
-use crate::item::Items;
+use crate::items::Items;
 
 /// A part of the items of a file.
 #[derive(Debug, Drop)]

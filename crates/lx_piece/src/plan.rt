@@ -1,7 +1,7 @@
 ghost use Rattle.std.specs.Prelude.{◌≡◌, ◌<◌, ◌≤◌, length};
 ghost use Rattle.lx_piece.specs.Plans.{IsPlan, planned, files_of, bytes_of, kind_of, items_of};
 
-use crate::item::Item;
+use lx_scan::Item;
 use std::marker::Model;
 
 /// The files of one run, the items of each, and how the items are cut into pieces.

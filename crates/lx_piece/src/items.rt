@@ -1,0 +1,42 @@
+ghost use Rattle.std.specs.Prelude.{◌≡◌};
+
+use lx_scan::Item;
+use std::marker::Model;
+
+/// A list of items, which contracts see as that list.
+#[derive(Debug, Drop)]
+pub struct Items {
+    list: Vec<Item>,
+}
+
+impl Model for Items {
+    ghost use Rattle.std.specs.Prelude.{List};
+    ghost use Rattle.lx_scan.specs.declared.item.Item.{Item};
+
+    ghost Value = { List Item };
+
+    ghost view = { λ s. s.list.items };
+}
+
+impl Items {
+    /// The items of a `Vec`, in its memory.
+    pub fn from_vec(list: Vec<Item>) -> Self
+        ensures { result ≡ list.items }
+    {
+        Self { list }
+    }
+
+    /// The items as a `Vec`, in the memory that they have.
+    pub fn into_vec(self) -> Vec<Item>
+        ensures { result.items ≡ self }
+    {
+        let Items { list } = self;
+        list
+    }
+
+    pub fn as_slice(&self) -> &[Item]
+        ensures { result.now ≡ self.now }
+    {
+        self.list.as_slice()
+    }
+}
