@@ -6,9 +6,9 @@ use Rattle.std.proofs.lemmas.Grind.{flat_map-append}
 use Rattle.std.proofs.lemmas.List.{get_or_append_left, get_or-append-add}
 use Rattle.std.proofs.lemmas.List.Folds.{list_any-append}
 use Rattle.std.proofs.Math.Bool.{or-false}
-use Rattle.lx_piece.specs.declared.item.Item.{Item}
+use Rattle.lx_scan.specs.declared.item.Item.{Item}
 use Rattle.lx_piece.specs.declared.piece.Piece.{Piece}
-use Rattle.lx_piece.specs.Items.{IsItemOf}
+use Rattle.lx_scan.specs.ItemParts.{IsItemOf}
 use Rattle.lx_piece.specs.Plans.{Planned, IsPlan, files_of, bytes_of}
 use Rattle.lx_piece.specs.Pieces.{is_closing, contents, pieces_to}
 use Rattle.lx_piece.specs.PieceLaws.{prefix_to}

@@ -6,7 +6,7 @@ use Rattle.std.proofs.lemmas.Bool.{both_ways, cases_eq, cases_lt, eqb-true, eqb-
 use Rattle.std.proofs.lemmas.List.{get_or-set_other, get_or-set_same, get_or_past}
 use Rattle.std.proofs.Math.ListN.{length-set}
 use Rattle.lx_piece.specs.declared.piece.Piece.{Piece}
-use Rattle.lx_piece.specs.Items.{IsItemOf}
+use Rattle.lx_scan.specs.ItemParts.{IsItemOf}
 use Rattle.lx_piece.specs.Plans.{Planned, IsPlan, files_of, bytes_of}
 use Rattle.lx_piece.specs.Pieces.{IsPrefix, contents, is_closing, piece_at, pieces_of, pieces_to}
 use Rattle.lx_piece.specs.PieceLaws.{prefix_to, takes_in_order, closed_at, whole_at}

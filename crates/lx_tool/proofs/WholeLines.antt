@@ -1,6 +1,6 @@
 use Rattle.std.proofs.Common.{ℕ, ◌≡◌, inl, inr, List, [], ◌∷◌, ◌++◌, Option, refl, sym, ◌∙◌, ap, subst, append_assoc, append-nil}
 use Rattle.std.specs.Io.KnownBytes.{Appends, Keeps}
-use Rattle.lx_piece.specs.declared.item.Item.{Item}
+use Rattle.lx_scan.specs.declared.item.Item.{Item}
 use Rattle.lx_piece.specs.Plans.{Planned}
 use Rattle.lx_tool.specs.Lines.{line_of, lines_of}
 use Rattle.lx_tool.specs.Listings.{AreWhole, AppendsWhole}

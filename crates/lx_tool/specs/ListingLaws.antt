@@ -4,7 +4,7 @@ use Rattle.std.specs.Io.KnownBytes.{Appends}
 use Rattle.std.proofs.lemmas.Bool.{cases_Bool, cases_eq, cases_lt, both_ways}
 use Rattle.std.proofs.lemmas.Grind.{flat_map-append}
 use Rattle.std.proofs.lemmas.List.{get_or_past}
-use Rattle.lx_piece.specs.declared.item.Item.{Item}
+use Rattle.lx_scan.specs.declared.item.Item.{Item}
 use Rattle.lx_piece.specs.Plans.{Planned, files_of, items_of}
 use Rattle.lx_piece.specs.Pieces.{IsPrefix, contents, pieces_to}
 use Rattle.lx_piece.specs.PieceLaws.{prefix_to}

@@ -11,7 +11,7 @@ use Rattle.lx_tables.specs.declared.fault.TableFault.{TableFault}
 use Rattle.lx_tables.specs.declared.fault.TableFault.TheVariants as table
 use Rattle.lx_piece.specs.declared.relaying.RelayFault.{RelayFault}
 use Rattle.lx_piece.specs.declared.relaying.RelayFault.TheVariants as relay
-use Rattle.lx_tool.specs.declared.command_line.RunOrder.{RunOrder}
+use Rattle.lx_tool.specs.declared.command_line.ListOrder.{ListOrder}
 use Rattle.lx_tool.specs.declared.printing.RunFault.{RunFault}
 use Rattle.lx_tool.specs.declared.printing.RunFault.TheVariants as run
 use Rattle.lx_tool.specs.declared.failure.Failure.{Failure}
@@ -69,12 +69,12 @@ abbrev pub IsUnread : Bor (List ℕ) → Failure → Type 0
 IsUnread name failure = (failure ≡ NotRead name) ⊎ (failure ≡ Memory)
 
 -- What is known of an order to list files that is not done.
-abbrev pub FailsBy : RunOrder → Failure → Type 0
+abbrev pub FailsBy : ListOrder → Failure → Type 0
 FailsBy order (Specification fault) = fault.code ≢ code.Memory
 FailsBy order (Automaton fault) = fault ≢ build.Memory
-FailsBy order (Tables fault) = ⊥
+FailsBy order (Tables fault) = fault ≢ table.Memory
 FailsBy order (Words error) = ⊥
 FailsBy order TooManyFiles = 65536 < vec_len order.files
-FailsBy order (NotRead name) = Any (λ known. known ≡ name) (order.specification ∷ order.files.items)
+FailsBy order (NotRead name) = Any (λ known. known ≡ name) (order.rules ∷ order.files.items)
 FailsBy order Output = ⊤
 FailsBy order Memory = ⊤

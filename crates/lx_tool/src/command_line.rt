@@ -19,20 +19,22 @@ pub(crate) enum Order<'a> {
     /// The help text.
     Help(Error),
     /// `run`: the listing of files by a specification.
-    Run(RunOrder<'a>),
+    Run(ListOrder<'a>),
+    /// `scan`: the listing of files by tables.
+    Scan(ListOrder<'a>),
     /// `gen`: the tables of the specification with this name.
     Gen(&'a str),
     /// `up`: the tables with this name, printed in version 2.
     Up(&'a str),
 }
 
-/// The words of `run`.
+/// The words of `run` and of `scan`.
 #[derive(Drop)]
-pub(crate) struct RunOrder<'a> {
+pub(crate) struct ListOrder<'a> {
     /// How many items a piece has.
     pub(crate) per_piece: u32,
-    /// The name of the specification.
-    pub(crate) specification: &'a str,
+    /// The name of the specification, or of the tables.
+    pub(crate) rules: &'a str,
     /// The names of the files.
     pub(crate) files: Vec<&'a str>,
     ghost some_items: { 0 < per_piece },
@@ -88,6 +90,7 @@ fn command<'a>(alloc: Global) -> Result<Command<'a>, AllocError> {
         .subcommand_required(true)
         .subcommand(gen_command(alloc)?)?
         .subcommand(up_command(alloc)?)?
+        .subcommand(scan_command(alloc)?)?
         .subcommand(run_command(alloc)?)
 }
 
@@ -110,25 +113,47 @@ fn up_command<'a>(alloc: Global) -> Result<Command<'a>, AllocError> {
 }
 
 fn run_command<'a>(alloc: Global) -> Result<Command<'a>, AllocError> {
+    let specification = Arg::new(alloc, "SPEC")
+        .help("The specification")
+        .required(true);
+    list_command(
+        alloc,
+        Command::new(alloc, "run")
+            .about("Lists the tokens and the echoed bytes of files by a specification"),
+        specification,
+    )
+}
+
+fn scan_command<'a>(alloc: Global) -> Result<Command<'a>, AllocError> {
+    let tables = Arg::new(alloc, "TABLES")
+        .help("The tables, in either version of their text")
+        .required(true);
+    list_command(
+        alloc,
+        Command::new(alloc, "scan")
+            .about("Lists the tokens and the echoed bytes of files by tables"),
+        tables,
+    )
+}
+
+// A command that lists files by what this word names.
+fn list_command<'a>(
+    alloc: Global,
+    command: Command<'a>,
+    rules: Arg<'a>,
+) -> Result<Command<'a>, AllocError> {
     let items = Arg::new(alloc, "items")
         .short('b')
         .value_name("K")
         .help("How many items a piece has, from 1 to 4096")
         .value_parser(value_parser!(u32).range(1..=4096))
         .default_value("256");
-    let specification = Arg::new(alloc, "SPEC")
-        .help("The specification")
-        .required(true);
     let files = Arg::new(alloc, "FILE")
         .help("The files, in the order of the listing")
         .required(true)
         .num_args(1..)
         .action(ArgAction::Append);
-    Command::new(alloc, "run")
-        .about("Lists the tokens and the echoed bytes of files")
-        .arg(items)?
-        .arg(specification)?
-        .arg(files)
+    command.arg(items)?.arg(rules)?.arg(files)
 }
 
 fn order_of<'a>(alloc: Global, matches: &ArgMatches<'a>) -> Result<Order<'a>, Refusal>
@@ -138,25 +163,30 @@ fn order_of<'a>(alloc: Global, matches: &ArgMatches<'a>) -> Result<Order<'a>, Re
     match matches.subcommand() {
         Some(("gen", words)) => Ok(Order::Gen(words.get_str("SPEC").unwrap_or(""))),
         Some(("up", words)) => Ok(Order::Up(words.get_str("TABLES").unwrap_or(""))),
-        Some((_, words)) => Ok(Order::Run(run_order_of(alloc, words)?)),
+        Some(("scan", words)) => Ok(Order::Scan(list_order_of(alloc, words, "TABLES")?)),
+        Some((_, words)) => Ok(Order::Run(list_order_of(alloc, words, "SPEC")?)),
         None => Ok(Order::Stored),
     }
 }
 
-fn run_order_of<'a>(alloc: Global, matches: &ArgMatches<'a>) -> Result<RunOrder<'a>, AllocError>
-    ensures specification { IfOk result (λ order. order.specification.now ≡ unwrap_or (first_value (found_of matches.now) (codes "SPEC")) []) }
+fn list_order_of<'a>(
+    alloc: Global,
+    matches: &ArgMatches<'a>,
+    rules: &str,
+) -> Result<ListOrder<'a>, AllocError>
+    ensures rules { IfOk result (λ order. order.rules.now ≡ unwrap_or (first_value (found_of matches.now) rules.now) []) }
     ensures files { IfOk result (λ order. map (λ name. name.now) order.files.items ≡ option_map_or raw_values (matched_of (found_of matches.now) (codes "FILE")) []) }
 {
     let files = match matches.get_strs("FILE") {
         Some(names) => Vec::from_slice(alloc, names)?,
         None => Vec::new(alloc),
     };
-    Ok(RunOrder {
+    Ok(ListOrder {
         per_piece: matches
             .get_one::<u32>("items")
             .unwrap_or(ITEMS)
             .clamp(1, 4096),
-        specification: matches.get_str("SPEC").unwrap_or(""),
+        rules: matches.get_str(rules).unwrap_or(""),
         files,
     })
 }

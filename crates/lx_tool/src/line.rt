@@ -1,11 +1,13 @@
 ghost use Rattle.std.specs.Prelude.{◌≡◌, ◌<◌, ◌++◌, OnOk, decimal};
 ghost use Rattle.std.specs.List.{flat_map};
-ghost use Rattle.lx_piece.specs.Items.{start_of, len_of, IsItemOf, IsKindAmong, NamesKindAmong};
+ghost use Rattle.lx_scan.specs.ItemParts as parts;
+ghost use Rattle.lx_scan.specs.ItemParts.{start_of, len_of, IsItemOf, IsKindAmong, NamesKindAmong};
 ghost use Rattle.lx_piece.specs.Plans.{files_of, bytes_of};
 ghost use Rattle.lx_tool.specs.Lines.{hex_digit, escaped, class_text, name_text, kind_text, line_of};
 
 use itoa::Buffer;
-use lx_piece::{Item, Plan};
+use lx_piece::Plan;
+use lx_scan::Item;
 use lx_spec::rule::Kind;
 use std::alloc::AllocError;
 
@@ -77,7 +79,16 @@ fn extent(item: &Item) -> (usize, usize)
     ensures len { result.1 ≡ len_of item.now }
 {
     match *item {
-        Item::Token { start, len, .. } | Item::Echo { start, len } => (start, len),
+        Item::Token { start, len, .. } | Item::Echo { start, len, .. } => (start, len),
+    }
+}
+
+/// The line of the text on which an item begins.
+fn line_number(item: &Item) -> u64
+    ensures { result ≡ parts.line_of item.now }
+{
+    match *item {
+        Item::Token { line, .. } | Item::Echo { line, .. } => line,
     }
 }
 
@@ -100,6 +111,8 @@ pub(crate) fn make_line(
     push_class(line, item)?;
     line.extend_from_slice(b" ")?;
     push_kind(line, plan, item)?;
+    line.extend_from_slice(b" ")?;
+    push_number(line, line_number(item))?;
     line.extend_from_slice(b" ")?;
     push_number(line, start as u64)?;
     line.extend_from_slice(b" ")?;

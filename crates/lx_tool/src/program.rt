@@ -4,13 +4,13 @@ ghost use Rattle.std.specs.Prelude.{◌≡◌, ◌<◌, ◌≤◌, [], ◌∷◌
 ghost use Rattle.std.specs.Io.KnownBytes.{Keeps};
 ghost use Rattle.lx_tool.specs.Statuses.{FailsBy, HidesNoMemory, IsUnread, status_of};
 
-use crate::command_line::{ITEMS, Order, Refusal, RunOrder, read_words};
+use crate::command_line::{ITEMS, ListOrder, Order, Refusal, read_words};
 use crate::failure::Failure;
-use crate::merged::merged_automaton;
 use crate::planning::list_files;
 use crate::source::{ListSources, SourceFault, Sources};
-use crate::tabling::{generate, upgrade};
-use lx_spec::read::{patterns_end, read_spec};
+use crate::tabling::{generate, tables_of_text, upgrade};
+use lx_spec::read::patterns_end;
+use lx_tables::Tables;
 use std::alloc::{AllocError, Global};
 use std::io::Write;
 
@@ -67,14 +67,15 @@ fn obey<'a, S: Sources, O: Write>(
     ensures memory { IfErr result HidesNoMemory }
 {
     match read_words(alloc, words) {
-        Ok(Order::Stored) => list(
+        Ok(Order::Stored) => list_by_specification(
             alloc,
             &stored_order(alloc)?,
             &mut ListSources::new(STORED.as_slice()),
             out,
         )?,
         Ok(Order::Help(text)) => write!(out, "{text}").map_err(|_| Failure::Output)?,
-        Ok(Order::Run(order)) => list(alloc, &order, sources, out)?,
+        Ok(Order::Run(order)) => list_by_specification(alloc, &order, sources, out)?,
+        Ok(Order::Scan(order)) => list_by_tables(alloc, &order, sources, out)?,
         Ok(Order::Gen(name)) => generate_named(alloc, name, sources, out)?,
         Ok(Order::Up(name)) => upgrade_named(alloc, name, sources, out)?,
         Err(Refusal::Words(error)) => return Err(Failure::Words(error)),
@@ -114,9 +115,9 @@ fn upgrade_named<'a, S: Sources, O: Write>(
 }
 
 // Lists the order's files by its specification. All are read before the first line is written.
-fn list<'a, S: Sources, O: Write>(
+fn list_by_specification<'a, S: Sources, O: Write>(
     alloc: Global,
-    order: &RunOrder<'a>,
+    order: &ListOrder<'a>,
     sources: &mut S,
     out: &mut O,
 ) -> Result<(), Failure<'a>>
@@ -127,14 +128,47 @@ fn list<'a, S: Sources, O: Write>(
     if order.files.len() > MOST_FILES {
         return Err(Failure::TooManyFiles);
     }
-    let text = read_file(alloc, sources, order.specification)?;
-    let spec = read_spec(alloc, &text)?;
-    let automaton = merged_automaton(alloc, &spec)?;
+    let text = read_file(alloc, sources, order.rules)?;
+    let tables = tables_of_text(alloc, &text)?;
+    list(alloc, &tables, order, sources, out)
+}
+
+// Lists the order's files by its tables. All are read before the first line is written.
+fn list_by_tables<'a, S: Sources, O: Write>(
+    alloc: Global,
+    order: &ListOrder<'a>,
+    sources: &mut S,
+    out: &mut O,
+) -> Result<(), Failure<'a>>
+    ensures refused { IfErr result (λ failure. status_of failure < 4 → Keeps (O.contents out.old) (O.contents out.new)) }
+    ensures too_many { 65536 < vec_len order.now.files → result ≡ Err Failure.TooManyFiles }
+    ensures err { IfErr result (FailsBy order.now) }
+{
+    if order.files.len() > MOST_FILES {
+        return Err(Failure::TooManyFiles);
+    }
+    let text = read_file(alloc, sources, order.rules)?;
+    let tables = Tables::read(alloc, &text)?;
+    list(alloc, &tables, order, sources, out)
+}
+
+// Lists the order's files by these tables.
+fn list<'a, S: Sources, O: Write>(
+    alloc: Global,
+    tables: &Tables,
+    order: &ListOrder<'a>,
+    sources: &mut S,
+    out: &mut O,
+) -> Result<(), Failure<'a>>
+    requires { vec_len order.now.files ≤ 65536 }
+    ensures refused { IfErr result (λ failure. status_of failure < 4 → Keeps (O.contents out.old) (O.contents out.new)) }
+    ensures err { IfErr result (FailsBy order.now) }
+{
     let files = read_files(alloc, sources, &order.files)?;
     if files.is_empty() {
         return Ok(());
     }
-    list_files(alloc, spec, &automaton, files, order.per_piece, out)?;
+    list_files(alloc, tables, files, order.per_piece, out)?;
     Ok(())
 }
 
@@ -169,14 +203,14 @@ fn read_file<'a, S: Sources>(
 }
 
 // The order of the stored run.
-fn stored_order(alloc: Global) -> Result<RunOrder<'static>, AllocError>
+fn stored_order(alloc: Global) -> Result<ListOrder<'static>, AllocError>
     ensures per_piece { IfOk result (λ order. order.per_piece ≡ 256) }
-    ensures specification { IfOk result (λ order. order.specification.now ≡ codes "words.l") }
+    ensures rules { IfOk result (λ order. order.rules.now ≡ codes "words.l") }
     ensures files { IfOk result (λ order. map (λ name. name.now) order.files.items ≡ codes "words.txt" ∷ []) }
 {
-    Ok(RunOrder {
+    Ok(ListOrder {
         per_piece: ITEMS,
-        specification: "words.l",
+        rules: "words.l",
         files: vec![in alloc; "words.txt"]?,
     })
 }

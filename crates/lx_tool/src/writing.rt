@@ -1,14 +1,15 @@
 ghost use Rattle.std.specs.Prelude.{◌≡◌, ◌<◌, IfOk, IfErr, OnOk, OnErr, All};
 ghost use Rattle.std.specs.Io.KnownBytes.{Appends, Keeps};
 ghost use Rattle.std.specs.List.{list_any};
-ghost use Rattle.lx_piece.specs.Items.{IsItemOf};
+ghost use Rattle.lx_scan.specs.ItemParts.{IsItemOf};
 ghost use Rattle.lx_piece.specs.Plans.{files_of, bytes_of};
 ghost use Rattle.lx_piece.specs.Pieces.{contents, is_closing};
 ghost use Rattle.lx_tool.specs.Lines.{line_of, lines_of};
 ghost use Rattle.lx_tool.specs.Listings.{AppendsPrefix, AppendsWhole};
 
 use crate::line::make_line;
-use lx_piece::{Item, Piece, Plan, ReaderFault};
+use lx_piece::{Piece, Plan, ReaderFault};
+use lx_scan::Item;
 use std::collections::VecDeque;
 use std::io::Write;
 

@@ -1,6 +1,6 @@
 use Rattle.std.proofs.Common.{suc, ◌≤◌, inl, inr, Any, arith, refl}
 use Rattle.std.proofs.lemmas.Result.{err_from_is_err_and}
-use Rattle.lx_tool.specs.declared.command_line.RunOrder.{RunOrder}
+use Rattle.lx_tool.specs.declared.command_line.ListOrder.{ListOrder}
 use Rattle.lx_tool.specs.declared.printing.RunFault.{RunFault}
 use Rattle.lx_tool.specs.declared.printing.RunFault.TheVariants as run
 use Rattle.lx_tool.specs.declared.failure.Failure.{Failure}
@@ -12,12 +12,12 @@ late : (fault : RunFault) → 4 ≤ status_of (failure_of_run fault)
 late run.Memory = omega arith
 late run.Reader = omega arith
 
-known_of_run : (order : RunOrder) (fault : RunFault) → FailsBy order (failure_of_run fault)
+known_of_run : (order : ListOrder) (fault : RunFault) → FailsBy order (failure_of_run fault)
 known_of_run order run.Memory = tt
 known_of_run order run.Reader = tt
 
 -- a file that is not read is one of the order's
-known_of_file : (order : RunOrder) (failure : Failure) → Any (λ name. IsUnread name failure) order.files.items → FailsBy order failure
+known_of_file : (order : ListOrder) (failure : Failure) → Any (λ name. IsUnread name failure) order.files.items → FailsBy order failure
 known_of_file order failure a =
     let within = a.2 in
     elim (a.4) [
