@@ -1,12 +1,20 @@
-//! By tables of a specification the items of a text are those by its rules, and there is one list of them.
+//! By tables of a specification the choice and the items of a text are those by its rules, and there is one list of items.
 
-ghost use Rattle.std.specs.Prelude.{◌≡◌, ◌<◌, ℕ, All, List};
+ghost use Rattle.std.specs.Prelude.{◌≡◌, ◌<◌, ℕ, All, Bool, List, length};
+ghost use Rattle.lx_spec.specs.Choice.{IsChoice};
 ghost use Rattle.lx_spec.specs.Plain.{PlainSpec};
 ghost use Rattle.lx_tables.specs.Model.{AreTablesOf, IsTable, Table};
+ghost use Rattle.lx_scan.specs.Answers.{choice_of};
 ghost use Rattle.lx_scan.specs.ByRules.{AreItemsBy};
 ghost use Rattle.lx_scan.specs.Items.{items_of};
 
 use crate::item::Item;
+
+/// A law: by tables of a specification the choice is the one among its rules, in each condition, for every text of bytes, at line begin or not.
+pub fn choice_is_by_rules()
+    ensures { (spec : PlainSpec) (table : Table) (condition : ℕ) (begin : Bool) (text : List ℕ) → AreTablesOf spec table → condition < length spec.conditions →
+        All (λ b. b < 256) text → IsChoice spec condition begin text (choice_of table condition begin text) }
+{}
 
 /// A law: tables of a specification give of every text of bytes its items by the rules.
 pub fn items_are_by_rules()
