@@ -1,6 +1,7 @@
 -- Plans by tables, and by the rules of a specification.
 use Rattle.std.proofs.Common.{◌≡◌, ℕ, ◌<◌, ◌≤◌, List, [], Option, Vec, Global, All, length, map, get_or, sym, ◌∙◌, ap, ap₂, refl, subst, arith}
-use Rattle.std.proofs.lemmas.List.{length-map, get_or-map, map-map}
+use Rattle.std.proofs.lemmas.List.{length-map, get_or-map}
+use Rattle.std.proofs.lemmas.Simd.{map-map}
 use Rattle.lx_spec.specs.Plain.{PlainSpec}
 use Rattle.lx_spec.specs.views.Rules.{names_view}
 use Rattle.lx_tables.specs.Model.{Table, IsTable, AreTablesOf}
@@ -21,7 +22,7 @@ module _ (table : Table) (kinds : List (Vec ℕ Global)) (files : List (Vec ℕ 
   plan = planned run per_piece kinds files items
 
   lists_are : plan.items ≡ map (scan.items_of table) texts
-  lists_are = scanned ∙ sym (map-map (λ (file : Vec ℕ Global). file.items) (scan.items_of table) files)
+  lists_are = scanned ∙ sym (map-map (scan.items_of table) (λ (file : Vec ℕ Global). file.items) files)
 
   pub plan_by : IsPlanBy table texts plan
   plan_by = record { kinds = named; texts_are = refl; items_are = lists_are }

@@ -128,6 +128,8 @@ fn list_by_specification<'a, S: Sources, O: Write>(
     if order.files.len() > MOST_FILES {
         return Err(Failure::TooManyFiles);
     }
+    // a law: the contract of `tables_of_text` asks for what it says is there
+    patterns_end();
     let text = read_file(alloc, sources, order.rules)?;
     let tables = tables_of_text(alloc, &text)?;
     list(alloc, &tables, order, sources, out)

@@ -2,7 +2,6 @@
 
 ghost use Rattle.std.specs.Prelude.{ℕ, List, IfOk, IfErr, OnOk};
 ghost use Rattle.lx_spec.specs.RuleLines.{EndsPatterns};
-ghost use Rattle.lx_tool.specs.Statuses.{HidesNoMemory};
 ghost use Rattle.lx_tool.specs.Tabling.{AreTablesOfText, HasNoTables, Generates, FailsGenerating, Upgrades, FailsUpgrading};
 
 use crate::failure::Failure;
@@ -17,7 +16,6 @@ use std::io::Write;
 pub fn tables_of_text<'a>(alloc: Global, text: &[u8]) -> Result<Tables, Failure<'a>>
     ensures ok { (ends : List ℕ → ℕ) → EndsPatterns ends → IfOk result (λ tables. AreTablesOfText ends text.now tables) }
     ensures err { (ends : List ℕ → ℕ) → EndsPatterns ends → IfErr result (λ failure. HasNoTables ends text.now failure) }
-    ensures memory { IfErr result HidesNoMemory }
 {
     let spec = read_spec(alloc, text)?;
     let automaton = merged_automaton(alloc, &spec)?;

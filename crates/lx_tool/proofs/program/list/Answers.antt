@@ -27,8 +27,8 @@ known_of_file order failure a =
 
 pub returns-in_err-files-clause-err : goal.returns-in_err-files-clause-err
 returns-in_err-files-clause-err g c =
-    let p = err_from_is_err_and c.from_residual-in_err-files.result c.from_residual-in_err-files.ensures.1 in
-    let unread : Any (λ name. IsUnread name c.in_err-files.field-0.0) c.args.order.now.files.items = rw c.deref-2.ensures.value at c.in_err-files.ensures.err in
+    let p = err_from_is_err_and c.from_residual.result c.from_residual.ensures.1 in
+    let unread : Any (λ name. IsUnread name c.in_err-files.field-0.0) c.args.order.now.files.items = rw c.deref.ensures.value at c.in_err-files.ensures.err in
     rw (p.1, p.2) (known_of_file c.args.order.now c.in_err-files.field-0.0 unread)
 
 pub returns-in_err-list_files-clause-refused : goal.returns-in_err-list_files-clause-refused

@@ -10,7 +10,7 @@ use Rattle.lx_tool.proofs.writing.write_items.Goals as goal
 pub returns-in_err-write_item-clause-err : goal.returns-in_err-write_item-clause-err
 returns-in_err-write_item-clause-err g c =
     let p = err_from_is_err_and c.from_residual.result c.from_residual.ensures.1 in
-    rw p.1 (prefix_next (line_of c.args.plan.now c.args.file) (g.W.Write.contents c.args.out.now) (g.W.Write.contents c.loop-item.out) (g.W.Write.contents c.write_item.new.out) c.args.items.now c.loop-item.item-index (Token (Name 0) 0 0) c.loop-item-test.true c.loop-item.invariant c.in_err-write_item.ensures.err)
+    rw p.1 (prefix_next (line_of c.args.plan.now c.args.file) (g.W.Write.contents c.args.out.now) (g.W.Write.contents c.loop-item.out) (g.W.Write.contents c.write_item.new.out) c.args.items.now c.loop-item.item-index (Token (Name 0) 0 0 0) c.loop-item-test.true c.loop-item.invariant c.in_err-write_item.ensures.err)
 
 pub returns-in_err-write_item-clause-memory : goal.returns-in_err-write_item-clause-memory
 returns-in_err-write_item-clause-memory g c =
@@ -22,4 +22,4 @@ returns-in_err-write_item-clause-memory g c =
 
 pub loop-item-preserved : goal.loop-item-preserved
 loop-item-preserved g c =
-    appends_next (line_of c.args.plan.now c.args.file) (g.W.Write.contents c.args.out.now) (g.W.Write.contents c.loop-item.out) (g.W.Write.contents c.write_item.new.out) c.args.items.now c.loop-item.item-index (Token (Name 0) 0 0) c.loop-item-test.true c.loop-item.invariant c.in_ok-write_item.ensures.ok
+    appends_next (line_of c.args.plan.now c.args.file) (g.W.Write.contents c.args.out.now) (g.W.Write.contents c.loop-item.out) (g.W.Write.contents c.write_item.new.out) c.args.items.now c.loop-item.item-index (Token (Name 0) 0 0 0) c.loop-item-test.true c.loop-item.invariant c.in_ok-write_item.ensures.ok
