@@ -66,7 +66,7 @@ fn lists_by_as_many_positions_as_there_may_be(rt: HostRuntime) -> Result<(), All
     let alloc = rt.alloc();
     let full = repeated(alloc, "a", 16_384)?;
     let text = format!(in alloc; "{full}a")?;
-    let listing = format!(in alloc; "0 T A 0 16384 {full}\n0 E - 16384 1 a\n")?;
+    let listing = format!(in alloc; "0 T A 1 0 16384 {full}\n0 E - 1 16384 1 a\n")?;
     lists(&rt, &[(MANY_POSITIONS, text.as_bytes(), listing.as_str())])
 }
 
@@ -77,7 +77,7 @@ fn lists_by_as_many_sets_as_there_may_be(rt: HostRuntime) -> Result<(), AllocErr
         &[(
             MANY_SETS,
             b"abbbbbbbbbbbbbb",
-            "0 T L 0 14 abbbbbbbbbbbbb\n0 E - 14 1 b\n",
+            "0 T L 1 0 14 abbbbbbbbbbbbb\n0 E - 1 14 1 b\n",
         )],
     )
 }
@@ -89,9 +89,9 @@ fn lists_by_names_groups_and_intervals_in_one_another(rt: HostRuntime) -> Result
     lists(
         &rt,
         &[
-            (doubled.as_str(), b"aaaab", "0 T A 0 4 aaaa\n0 E - 4 1 b\n"),
-            (groups.as_str(), b"a", "0 T A 0 1 a\n"),
-            ("%%\n((a{255}){255}){0}b return B;\n", b"b", "0 T B 0 1 b\n"),
+            (doubled.as_str(), b"aaaab", "0 T A 1 0 4 aaaa\n0 E - 1 4 1 b\n"),
+            (groups.as_str(), b"a", "0 T A 1 0 1 a\n"),
+            ("%%\n((a{255}){255}){0}b return B;\n", b"b", "0 T B 1 0 1 b\n"),
         ],
     )
 }

@@ -7,7 +7,7 @@ use std::alloc::{AllocError, Global};
 use std::process::Abort;
 
 /// The listing of the text that the program holds.
-const STORED: &[u8] = b"0 T ID 0 2 ab\n0 T NUM 3 2 12\n";
+const STORED: &[u8] = b"0 T ID 1 0 2 ab\n0 T NUM 1 3 2 12\n";
 
 #[test]
 fn without_words_lists_the_stored_text(rt: HostRuntime) -> Result<(), AllocError> {
@@ -81,7 +81,7 @@ fn judges_the_specification_before_it_reads_the_files(rt: HostRuntime) -> Result
 #[test]
 fn of_two_files_with_one_name_the_first_is_read(rt: HostRuntime) -> Result<(), AllocError> {
     let files: [(&str, &[u8]); 3] = [("S", b"%%\n"), ("F", b"a"), ("F", b"b")];
-    expect(&rt, &["run", "S", "F"], &files, 0, b"0 E - 0 1 a\n", "")
+    expect(&rt, &["run", "S", "F"], &files, 0, b"0 E - 1 0 1 a\n", "")
 }
 
 #[test]
@@ -134,8 +134,8 @@ fn fails_at<R: Abort + AllocGlobal>(
 fn an_output_that_fails_ends_the_run(rt: HostRuntime) -> Result<(), AllocError> {
     let rows: [(&[&str], u64, &[u8]); 5] = [
         (&["run", "S", "F"], 1, b""),
-        (&["run", "S", "F"], 2, b"0 E - 0 1 h\n"),
-        (&["run", "S", "F"], 3, b"0 E - 0 1 h\n0 E - 1 1 i\n"),
+        (&["run", "S", "F"], 2, b"0 E - 1 0 1 h\n"),
+        (&["run", "S", "F"], 3, b"0 E - 1 0 1 h\n0 E - 1 1 1 i\n"),
         (&["--help"], 1, b""),
         (&[], 1, b""),
     ];

@@ -11,6 +11,7 @@ use crate::running::lx;
 use lx_auto::build;
 use lx_spec::read_spec;
 use lx_spec::spec::Spec;
+use lx_tables::Tables;
 use lx_tool::{list_files, print_listing};
 use std::alloc::{AllocError, Global};
 use std::process::Abort;
@@ -41,9 +42,10 @@ fn plain_listing(alloc: Global, spec: &[u8], text: &[u8]) -> Result<Vec<u8>, Fai
 fn unmerged_listing(alloc: Global, spec: &[u8], text: &[u8]) -> Result<Vec<u8>, Fail> {
     let spec = read_spec(alloc, spec)?;
     let automaton = build(alloc, &spec)?;
+    let tables = Tables::of(alloc, &spec, &automaton)?;
     let files = alone(alloc, Vec::from_slice(alloc, text)?)?;
     let mut out = Vec::new(alloc);
-    list_files(alloc, spec, &automaton, files, 256, &mut out)?;
+    list_files(alloc, &tables, files, 256, &mut out)?;
     Ok(out)
 }
 

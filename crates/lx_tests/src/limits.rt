@@ -11,7 +11,7 @@ fn ends_at<R: Abort + AllocGlobal>(
     more: &String,
     line: &str,
 ) -> Result<(), AllocError> {
-    lists(rt, &[(most.as_str(), b"a", "0 T A 0 1 a\n")])?;
+    lists(rt, &[(most.as_str(), b"a", "0 T A 1 0 1 a\n")])?;
     refuses(rt, &[(more.as_str(), line)])
 }
 
@@ -36,20 +36,20 @@ fn names_nest_32_deep(rt: HostRuntime) -> Result<(), AllocError> {
 }
 
 /// The greatest number.
-const NUMBER: (&str, &[u8], &str) = ("%%\na return 2147483647;\n", b"a", "0 T 2147483647 0 1 a\n");
+const NUMBER: (&str, &[u8], &str) = ("%%\na return 2147483647;\n", b"a", "0 T 2147483647 1 0 1 a\n");
 
 /// Lines that end with CR LF.
 const CR_LF: (&str, &[u8], &str) = (
     "%%\r\n[a-z]+ return ID;\r\n[0-9]+ return NUM;\r\n[ \\n]+ ;\r\n",
     b"ab 12\n",
-    "0 T ID 0 2 ab\n0 T NUM 3 2 12\n",
+    "0 T ID 1 0 2 ab\n0 T NUM 1 3 2 12\n",
 );
 
 /// Text for compilers round a rule.
 const CODE: (&str, &[u8], &str) = (
     "/* note\nmore */\n%option noyywrap\n%%\na return A;\n%%\n}{\n",
     b"a",
-    "0 T A 0 1 a\n",
+    "0 T A 1 0 1 a\n",
 );
 
 /// All of these.

@@ -40,7 +40,7 @@ fn ends_where_the_writer_fails(rt: HostRuntime) -> Result<(), Fail> {
     for takes_nothing in [false, true] {
         let mut out = failing_writer(alloc, 4_096, 3, takes_nothing);
         let ended = print_listing(alloc, &plan, &mut out);
-        let lines = b"0 E - 0 1 x\n0 E - 1 1 x\n".as_slice();
+        let lines = b"0 E - 1 0 1 x\n0 E - 1 1 1 x\n".as_slice();
         assert!(rt;
             ended == Err(RunFault::Reader) && out.calls == 3 && out.held.as_slice() == lines
         );

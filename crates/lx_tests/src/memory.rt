@@ -4,11 +4,10 @@
 ghost use Rattle.lx_piece.specs.Cutting.{IsCutterOf};
 
 use crate::collector::{delivered, reply_of};
-use crate::plans::{echo_plan, last_file_first};
+use crate::plans::{echo, echo_plan, last_file_first};
 use crate::relay::fresh_tally;
 use lx_piece::{
-    Collector, Cutter, Item, Items, ListArrivals, Piece, Plan, Refused, RelayFault, Reply, Why,
-    relay,
+    Collector, Cutter, Items, ListArrivals, Piece, Plan, Refused, RelayFault, Reply, Why, relay,
 };
 use std::alloc::{AllocError, Global};
 use std::process::Abort;
@@ -19,7 +18,7 @@ const MANY: u32 = 40;
 /// A piece of run 1 with one item, which begins at the piece's number.
 fn with_item(alloc: Global, file: u32, number: u32, last: bool) -> Result<Piece, AllocError> {
     let start = number as usize;
-    let items = vec![in alloc; Item::Echo { start, len: 1 }; 1]?;
+    let items = vec![in alloc; echo(1, start); 1]?;
     Ok(Piece {
         run: 1,
         file,
@@ -40,10 +39,7 @@ fn offer_again<R: Abort>(rt: &R, collector: &mut Collector, offered: Piece) -> O
         (piece.run, piece.file, piece.number, piece.last),
         (1, file, number, last)
     );
-    let item = Item::Echo {
-        start: number as usize,
-        len: 1,
-    };
+    let item = echo(1, number as usize);
     assert_eq!(rt; piece.items.as_slice(), [item].as_slice());
     Some(piece)
 }

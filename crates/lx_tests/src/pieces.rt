@@ -1,7 +1,8 @@
 //! A file's pieces: full ones, and a last one that closes it.
 
 use crate::plans::{echo, echo_plan, last_file_first, mixed_plan, mixed_token, token};
-use lx_piece::{Item, Piece, Plan};
+use lx_piece::{Piece, Plan};
+use lx_scan::Item;
 use std::alloc::{AllocError, Global};
 use std::process::Abort;
 
@@ -38,10 +39,10 @@ fn a_file_ends_with_a_closing_piece_of_its_last_items(rt: HostRuntime) -> Result
         rt.alloc(),
         mixed_plan(rt.alloc(), 1)?,
         &[
-            (2, 0, Some(echo(0)), 1, false),
-            (2, 1, Some(echo(1)), 1, false),
-            (2, 2, Some(echo(2)), 1, false),
-            (2, 3, Some(echo(3)), 1, false),
+            (2, 0, Some(echo(1, 0)), 1, false),
+            (2, 1, Some(echo(1, 1)), 1, false),
+            (2, 2, Some(echo(2, 2)), 1, false),
+            (2, 3, Some(echo(2, 3)), 1, false),
             (2, 4, Some(mixed_token()), 1, true),
             (1, 0, None, 0, true),
             (0, 0, Some(token(0, 0, 2)), 1, false),
@@ -58,11 +59,11 @@ fn cuts_files_into_full_pieces_and_a_rest(rt: HostRuntime) -> Result<(), AllocEr
         echo_plan(rt.alloc(), &[256, 257, 512, 0], 256)?,
         &[
             (3, 0, None, 0, true),
-            (2, 0, Some(echo(0)), 256, false),
-            (2, 1, Some(echo(256)), 256, true),
-            (1, 0, Some(echo(0)), 256, false),
-            (1, 1, Some(echo(256)), 1, true),
-            (0, 0, Some(echo(0)), 256, true),
+            (2, 0, Some(echo(1, 0)), 256, false),
+            (2, 1, Some(echo(1, 256)), 256, true),
+            (1, 0, Some(echo(1, 0)), 256, false),
+            (1, 1, Some(echo(1, 256)), 1, true),
+            (0, 0, Some(echo(1, 0)), 256, true),
         ],
     )
 }

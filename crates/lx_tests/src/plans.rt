@@ -1,32 +1,61 @@
 //! Plans of files whose items are given, and their pieces.
 
-ghost use Rattle.std.specs.Prelude.{◌≡◌, ◌<◌, IsTrue, IfOk, IfSome, All, map};
-ghost use Rattle.lx_piece.specs.Items.{IsItemOf};
+ghost use Rattle.std.specs.Prelude.{◌≡◌, ◌<◌, ◌≤◌, IsTrue, IfOk, IfSome, All, length, map};
+ghost use Rattle.lx_scan.specs.ItemParts as item;
+ghost use Rattle.lx_scan.specs.ItemParts.{IsItemOf, NamesKindAmong};
 ghost use Rattle.lx_piece.specs.Plans.{files_of};
 ghost use Rattle.lx_piece.specs.Pieces.{IsPieceOf};
 ghost use Rattle.lx_piece.specs.Arrivals.{AreHonest};
 
-use lx_piece::{Cutter, Item, Items, Piece, Plan};
+use lx_piece::{Cutter, Items, Piece, Plan};
+use lx_scan::Item;
 use lx_spec::Kind;
 use std::alloc::{AllocError, Global};
 
 /// What a test says where a plan can't be made of its items.
 pub(crate) const NO_PLAN: &str = "an item doesn't fit";
 
-/// An item lies in a text, and its kind is there.
-fn fits(kinds: &[Vec<u8>], text: &[u8], item: &Item) -> bool
-    ensures { IsTrue result → IsItemOf (map (λ name. name.items) kinds.now) text.now item.now }
+/// The line on which a byte of a text stands.
+fn line_at(text: &[u8], start: usize) -> u64
+    requires { start ≤ length text.now }
+    ensures { result ≡ item.line_at text.now start }
+{
+    let mut line = 1;
+    for byte in &text[..start] {
+        if *byte == b'\n' {
+            line += 1;
+        }
+    }
+    line
+}
+
+/// The kind of an item is there.
+fn is_named(kinds: &[Vec<u8>], item: &Item) -> bool
+    ensures { IsTrue result → NamesKindAmong (map (λ name. name.items) kinds.now) item.now }
 {
     match *item {
         Item::Token {
             kind: Kind::Name(place),
-            start,
-            len,
-        } => (place as usize) < kinds.len() && start <= text.len() && len <= text.len() - start,
-        Item::Token { start, len, .. } | Item::Echo { start, len } => {
-            start <= text.len() && len <= text.len() - start
-        }
+            ..
+        } => (place as usize) < kinds.len(),
+        Item::Token { .. } | Item::Echo { .. } => true,
     }
+}
+
+/// An item lies in a text, on its line, and its kind is there.
+fn fits(kinds: &[Vec<u8>], text: &[u8], item: &Item) -> bool
+    ensures { IsTrue result → IsItemOf (map (λ name. name.items) kinds.now) text.now item.now }
+{
+    let (line, start, len) = match *item {
+        Item::Token {
+            line, start, len, ..
+        }
+        | Item::Echo { line, start, len } => (line, start, len),
+    };
+    is_named(kinds, item)
+        && start <= text.len()
+        && len <= text.len() - start
+        && line == line_at(text, start)
 }
 
 fn all_fit(kinds: &[Vec<u8>], text: &[u8], items: &[Item]) -> bool
@@ -65,16 +94,23 @@ pub(crate) fn checked_plan(
     Some(Plan::of_items(kinds, files, items, per_piece, 1))
 }
 
+/// A token on line 1.
 pub(crate) fn token(name: u32, start: usize, len: usize) -> Item {
     Item::Token {
         kind: Kind::Name(name),
+        line: 1,
         start,
         len,
     }
 }
 
-pub(crate) fn echo(start: usize) -> Item {
-    Item::Echo { start, len: 1 }
+/// An Echo of one byte.
+pub(crate) fn echo(line: u64, start: usize) -> Item {
+    Item::Echo {
+        line,
+        start,
+        len: 1,
+    }
 }
 
 fn texts(alloc: Global, all: &[&[u8]]) -> Result<Vec<Vec<u8>>, AllocError> {
@@ -97,6 +133,7 @@ fn item_lists(alloc: Global, all: &[&[Item]]) -> Result<Vec<Vec<Item>>, AllocErr
 pub(crate) fn mixed_token() -> Item {
     Item::Token {
         kind: Kind::Number(65),
+        line: 1,
         start: 0,
         len: 6,
     }
@@ -109,14 +146,14 @@ pub(crate) fn mixed_plan(alloc: Global, per_piece: u32) -> Result<Option<Plan>, 
     let kinds = texts(alloc, &[b"ID", b"NUM"])?;
     let files = texts(alloc, &[b"ab 12\n", b"", b"\\\n\xFF ~\x7F"])?;
     let first = [token(0, 0, 2), token(1, 3, 2)];
-    let last = [echo(0), echo(1), echo(2), echo(3), mixed_token()];
+    let last = [echo(1, 0), echo(1, 1), echo(2, 2), echo(2, 3), mixed_token()];
     let items = item_lists(alloc, &[&first, &[], &last])?;
     Ok(checked_plan(kinds, files, items, per_piece))
 }
 
 /// Its listing.
 pub(crate) const MIXED: &[u8] =
-    b"0 T ID 0 2 ab\n0 T NUM 3 2 12\n2 E - 0 1 \\\\\n2 E - 1 1 \\x0A\n2 E - 2 1 \\xFF\n2 E - 3 1  \n2 T 65 0 6 \\\\\\x0A\\xFF ~\\x7F\n";
+    b"0 T ID 1 0 2 ab\n0 T NUM 1 3 2 12\n2 E - 1 0 1 \\\\\n2 E - 1 1 1 \\x0A\n2 E - 2 2 1 \\xFF\n2 E - 2 3 1  \n2 T 65 1 0 6 \\\\\\x0A\\xFF ~\\x7F\n";
 
 /// Plans of run 1 whose files have so many bytes, each of which is an Echo.
 pub(crate) fn echo_plan(
@@ -132,7 +169,7 @@ pub(crate) fn echo_plan(
         files.push(vec![in alloc; b'x'; *len]?)?;
         let mut list = Vec::new(alloc);
         for start in 0..*len {
-            list.push(echo(start))?;
+            list.push(echo(1, start))?;
         }
         items.push(list)?;
     }

@@ -8,7 +8,7 @@ const LONGEST_THEN_EARLIEST: &[(&str, &[u8], &str)] = &[
     (
         "%%\n[a-z]+ return ID;\n[0-9]+ return NUM;\n[ \\n]+ ;\n",
         b"ab 12\n",
-        "0 T ID 0 2 ab\n0 T NUM 3 2 12\n",
+        "0 T ID 1 0 2 ab\n0 T NUM 1 3 2 12\n",
     ),
     (
         "%%\n[a-z]+ return ID;\n[0-9]+ return NUM;\n[ \\n]+ ;\n",
@@ -18,29 +18,29 @@ const LONGEST_THEN_EARLIEST: &[(&str, &[u8], &str)] = &[
     (
         "%%\nif return IF;\n[a-z]+ return ID;\n",
         b"if ifx",
-        "0 T IF 0 2 if\n0 E - 2 1  \n0 T ID 3 3 ifx\n",
+        "0 T IF 1 0 2 if\n0 E - 1 2 1  \n0 T ID 1 3 3 ifx\n",
     ),
     (
         "%%\nab return A;\nabcd return B;\nc return C;\n",
         b"abcx",
-        "0 T A 0 2 ab\n0 T C 2 1 c\n0 E - 3 1 x\n",
+        "0 T A 1 0 2 ab\n0 T C 1 2 1 c\n0 E - 1 3 1 x\n",
     ),
 ];
 
 /// What no rule matches is echoed.
 const ECHOES: &[(&str, &[u8], &str)] = &[
-    ("%%\n", b"hi", "0 E - 0 1 h\n0 E - 1 1 i\n"),
+    ("%%\n", b"hi", "0 E - 1 0 1 h\n0 E - 1 1 1 i\n"),
     ("%%\n", b"", ""),
 ];
 
 /// An empty match is never taken.
 const NO_EMPTY_MATCH: &[(&str, &[u8], &str)] = &[
-    ("%%\nx* return X;\n", b"axx", "0 E - 0 1 a\n0 T X 1 2 xx\n"),
-    ("%%\nx*$ return X;\n", b"\n", "0 E - 0 1 \\x0A\n"),
+    ("%%\nx* return X;\n", b"axx", "0 E - 1 0 1 a\n0 T X 1 1 2 xx\n"),
+    ("%%\nx*$ return X;\n", b"\n", "0 E - 1 0 1 \\x0A\n"),
     (
         "%%\nx*$ return X;\n\\n return N;\n",
         b"\n",
-        "0 T N 0 1 \\x0A\n",
+        "0 T N 1 0 1 \\x0A\n",
     ),
 ];
 
@@ -49,42 +49,49 @@ const INTERVALS: &[(&str, &[u8], &str)] = &[
     (
         "%%\nab{2} return P;\n",
         b"ababb",
-        "0 T P 0 4 abab\n0 E - 4 1 b\n",
+        "0 T P 1 0 4 abab\n0 E - 1 4 1 b\n",
     ),
     (
         "%%\nab{2}c{2} return P;\n",
         b"ababcababc",
-        "0 T P 0 10 ababcababc\n",
+        "0 T P 1 0 10 ababcababc\n",
     ),
     (
         "%%\na|bc{2} return P;\n",
         b"bcbca",
-        "0 T P 0 4 bcbc\n0 T P 4 1 a\n",
+        "0 T P 1 0 4 bcbc\n0 T P 1 4 1 a\n",
     ),
-    ("%%\na{0}b return P;\n", b"ab", "0 E - 0 1 a\n0 T P 1 1 b\n"),
+    ("%%\na{0}b return P;\n", b"ab", "0 E - 1 0 1 a\n0 T P 1 1 1 b\n"),
     (
         "D [0-9]\n%%\na({D}{1,2}) return Q;\n",
         b"a123",
-        "0 T Q 0 3 a12\n0 E - 3 1 3\n",
+        "0 T Q 1 0 3 a12\n0 E - 1 3 1 3\n",
     ),
 ];
+
+/// An item's line counts the newlines before it.
+const LINES: &[(&str, &[u8], &str)] = &[(
+    "%%\n[a\\n]+ return T;\nb return B;\n",
+    b"a\nb",
+    "0 T T 1 0 2 a\\x0A\n0 T B 2 2 1 b\n",
+)];
 
 /// Anchors hold at the ends of lines.
 const ANCHORS: &[(&str, &[u8], &str)] = &[
     (
         "%%\nfoo return F;\nfoo$ return E;\n",
         b"foo\nfoo",
-        "0 T E 0 3 foo\n0 E - 3 1 \\x0A\n0 T F 4 3 foo\n",
+        "0 T E 1 0 3 foo\n0 E - 1 3 1 \\x0A\n0 T F 2 4 3 foo\n",
     ),
     (
         "%%\nfoo/\\n return E;\nfoo return F;\n",
         b"foo\nfoo",
-        "0 T E 0 3 foo\n0 E - 3 1 \\x0A\n0 T F 4 3 foo\n",
+        "0 T E 1 0 3 foo\n0 E - 1 3 1 \\x0A\n0 T F 2 4 3 foo\n",
     ),
     (
         "%%\n^# return H;\n# return S;\n",
         b"##\n#",
-        "0 T H 0 1 #\n0 T S 1 1 #\n0 E - 2 1 \\x0A\n0 T H 3 1 #\n",
+        "0 T H 1 0 1 #\n0 T S 1 1 1 #\n0 E - 1 2 1 \\x0A\n0 T H 2 3 1 #\n",
     ),
 ];
 
@@ -93,34 +100,34 @@ const BRACKETS_AND_QUOTES: &[(&str, &[u8], &str)] = &[
     (
         "%%\n\"ab\"* return P;\n",
         b"ababa",
-        "0 T P 0 4 abab\n0 E - 4 1 a\n",
+        "0 T P 1 0 4 abab\n0 E - 1 4 1 a\n",
     ),
     (
         "%%\n[!--] return P;\n",
         b"!-.",
-        "0 T P 0 1 !\n0 T P 1 1 -\n0 E - 2 1 .\n",
+        "0 T P 1 0 1 !\n0 T P 1 1 1 -\n0 E - 1 2 1 .\n",
     ),
     (
         "%%\n[[:digit:]x]+ return P;\n",
         b"1x2y",
-        "0 T P 0 3 1x2\n0 E - 3 1 y\n",
+        "0 T P 1 0 3 1x2\n0 E - 1 3 1 y\n",
     ),
     (
         "%%\n[^a] return O;\n. return D;\n",
         b"a\n\0\xFF",
-        "0 T D 0 1 a\n0 T O 1 1 \\x0A\n0 T O 2 1 \\x00\n0 T O 3 1 \\xFF\n",
+        "0 T D 1 0 1 a\n0 T O 1 1 1 \\x0A\n0 T O 2 2 1 \\x00\n0 T O 2 3 1 \\xFF\n",
     ),
     (
         "D [0-9]\n%%\n\"{D}\" return Q;\n[{D}] return B;\n",
         b"{D}D",
-        "0 T Q 0 3 {D}\n0 T B 3 1 D\n",
+        "0 T Q 1 0 3 {D}\n0 T B 1 3 1 D\n",
     ),
     (
         "%%\n\"\\01\"\"1\" return S;\n",
         b"\x011",
-        "0 T S 0 2 \\x011\n",
+        "0 T S 1 0 2 \\x011\n",
     ),
-    ("%%\n\\x41* return 'A';\n", b"AA", "0 T 65 0 2 AA\n"),
+    ("%%\n\\x41* return 'A';\n", b"AA", "0 T 65 1 0 2 AA\n"),
 ];
 
 /// Start conditions choose the rules.
@@ -128,26 +135,27 @@ const START_CONDITIONS: &[(&str, &[u8], &str)] = &[
     (
         "%x C\n%%\nb return B;\n\"/*\" BEGIN(C);\n<C>\"*/\" BEGIN(0);\n<C>.|\\n ;\n",
         b"b/*b*/c",
-        "0 T B 0 1 b\n0 E - 6 1 c\n",
+        "0 T B 1 0 1 b\n0 E - 1 6 1 c\n",
     ),
     (
         "%s S\n%%\na BEGIN S;\n<S>b return B;\nb return N;\n",
         b"bab",
-        "0 T N 0 1 b\n0 T B 2 1 b\n",
+        "0 T N 1 0 1 b\n0 T B 1 2 1 b\n",
     ),
     (
         "%%\na |\nb { ECHO; return AB; }\n",
         b"ab",
-        "0 E - 0 1 a\n0 T AB 0 1 a\n0 E - 1 1 b\n0 T AB 1 1 b\n",
+        "0 E - 1 0 1 a\n0 T AB 1 0 1 a\n0 E - 1 1 1 b\n0 T AB 1 1 1 b\n",
     ),
 ];
 
 /// All of these.
-pub(crate) const ROWS: [&[(&str, &[u8], &str)]; 7] = [
+pub(crate) const ROWS: [&[(&str, &[u8], &str)]; 8] = [
     LONGEST_THEN_EARLIEST,
     ECHOES,
     NO_EMPTY_MATCH,
     INTERVALS,
+    LINES,
     ANCHORS,
     BRACKETS_AND_QUOTES,
     START_CONDITIONS,
@@ -169,7 +177,7 @@ fn lists_several_files_in_their_order(rt: HostRuntime) -> Result<(), AllocError>
         &["run", "-b", "1", "S", "a", "empty", "n"],
         &[("S", spec), ("a", b"a"), ("empty", b""), ("n", b"1\n2")],
         0,
-        b"0 T ID 0 1 a\n2 T NUM 0 1 1\n2 T NUM 2 1 2\n",
+        b"0 T ID 1 0 1 a\n2 T NUM 1 0 1 1\n2 T NUM 2 2 1 2\n",
         "",
     )
 }

@@ -1,7 +1,7 @@
 //! The items of a text, match after match by the plain choice. What it relies on it asks of the choice each time.
 
 use crate::plain::choice::choose;
-use lx_piece::Item;
+use lx_scan::Item;
 use lx_spec::rule::Step;
 use lx_spec::spec::Spec;
 use std::alloc::{AllocError, Global};
@@ -9,10 +9,11 @@ use std::alloc::{AllocError, Global};
 /// What is done where no rule matches.
 const ECHO: &[Step] = &[Step::Echo];
 
-// The condition behind the steps, and their items of `len` bytes from `start`, which are added.
+// The condition behind the steps, and their items of `len` bytes from `start`, on this line, which are added.
 fn take_steps(
     items: &mut Vec<Item>,
     steps: &[Step],
+    line: u64,
     start: usize,
     len: usize,
     condition: u16,
@@ -20,9 +21,14 @@ fn take_steps(
     let mut behind = condition;
     for step in steps {
         match *step {
-            Step::Echo => items.push(Item::Echo { start, len })?,
+            Step::Echo => items.push(Item::Echo { line, start, len })?,
             Step::Begin(next) => behind = next,
-            Step::Return(kind) => items.push(Item::Token { kind, start, len })?,
+            Step::Return(kind) => items.push(Item::Token {
+                kind,
+                line,
+                start,
+                len,
+            })?,
         }
     }
     Ok(behind)
@@ -48,6 +54,17 @@ fn chosen<'a>(
     }
 }
 
+// How many of the bytes are newlines.
+fn newlines(bytes: &[u8]) -> u64 {
+    let mut count: u64 = 0;
+    for byte in bytes {
+        if *byte == b'\n' {
+            count = count.saturating_add(1);
+        }
+    }
+    count
+}
+
 /// The items of the text by the rules of the specification.
 pub(crate) fn plain_items(
     alloc: Global,
@@ -57,6 +74,7 @@ pub(crate) fn plain_items(
     let mut items = Vec::new(alloc);
     let mut condition = 0;
     let mut begin = true;
+    let mut line: u64 = 1;
     let mut rest = text;
     for _match in 0..text.len() {
         if rest.is_empty() {
@@ -64,9 +82,10 @@ pub(crate) fn plain_items(
         }
         let start = text.len().saturating_sub(rest.len());
         let (steps, len) = chosen(alloc, spec, condition, begin, rest)?;
-        condition = take_steps(&mut items, steps, start, len, condition)?;
+        condition = take_steps(&mut items, steps, line, start, len, condition)?;
         let (front, behind) = rest.split_at(len.clamp(1, rest.len()));
         begin = front.last() == Some(&b'\n');
+        line = line.saturating_add(newlines(front));
         rest = behind;
     }
     Ok(items)

@@ -1,6 +1,6 @@
 use Rattle.std.proofs.Common.{ℕ, ◌<◌, map, get_or}
-use Rattle.lx_piece.specs.declared.item.Item.{Item}
-use Rattle.lx_piece.specs.Items.{IsItemOf}
+use Rattle.lx_scan.specs.declared.item.Item.{Item}
+use Rattle.lx_scan.specs.ItemParts.{IsItemOf}
 use Rattle.lx_tests.proofs.plans.all_fit.Given as goal
 
 abbrev pub invariant-loop-item : goal.invariant-loop-item

@@ -1,7 +1,7 @@
 use Rattle.std.proofs.Common.{◌<◌, List, ℕ, Global, Vec, arith, length, map, subst}
 use Rattle.std.specs.Prelude.{All}
-use Rattle.lx_piece.specs.declared.item.Item.{Item}
-use Rattle.lx_piece.specs.Items.{IsItemOf}
+use Rattle.lx_scan.specs.declared.item.Item.{Item}
+use Rattle.lx_scan.specs.ItemParts.{IsItemOf}
 use Rattle.lx_tests.proofs.Planning.{fit_more}
 use Rattle.lx_tests.proofs.plans.checked_plan.Goals as goal
 

@@ -1,6 +1,6 @@
 use Rattle.std.proofs.Common.{ℕ, ◌<◌, [], map}
 use Rattle.std.specs.Prelude.{All, slice_index_or}
-use Rattle.lx_piece.specs.Items.{IsItemOf}
+use Rattle.lx_scan.specs.ItemParts.{IsItemOf}
 use Rattle.lx_tests.proofs.plans.checked_plan.Given as goal
 
 abbrev pub invariant-loop-file : goal.invariant-loop-file
