@@ -146,12 +146,3 @@ module _ (spec : PlainSpec) (condition : ℕ) (begin : Bool) (text : List ℕ) w
             ];
           };
         }
-
--- ---- an automaton that answers alike is one of the same specification
-pub alike_of : (spec : PlainSpec) (a m : Machine) → IsAutomatonOf spec a → length m.starts ≡ length a.starts → AnswerAlike a m → IsAutomatonOf spec m
-alike_of spec a m of starts alike = record {
-  conditions = starts ∙ of.conditions;
-  answers = λ condition begin text known bytes.
-      let conditions : length a.starts ≡ length spec.conditions = of.conditions in
-      subst (λ (found : Option ℕ). IsAnswer spec condition begin text found) (sym (alike.answers condition begin text (omega arith) bytes)) (of.answers condition begin text known bytes);
-}

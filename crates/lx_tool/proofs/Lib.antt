@@ -13,5 +13,6 @@ pub mod Runs
 pub mod SourceLemmas
 pub mod Stepping
 pub mod Steps
+pub mod Tabled
 pub mod Viewed
 pub mod WholeLines

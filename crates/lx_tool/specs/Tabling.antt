@@ -3,6 +3,7 @@ use Rattle.std.specs.Prelude.{◌≡◌, ◌≢◌, ℕ, ◌<◌, ◌≤◌, ⊤
 use Rattle.std.specs.Io.KnownBytes.{Keeps}
 use Rattle.lx_spec.specs.Plain.{PlainSpec}
 use Rattle.lx_spec.specs.Whole.{IsFault, IsRead}
+use Rattle.lx_spec.specs.declared.fault.Code.TheVariants as code
 use Rattle.lx_auto.specs.Counts.{count_of_spec}
 use Rattle.lx_auto.specs.PositionSets.{HasMoreReachedSets}
 use Rattle.lx_auto.specs.declared.fault.BuildFault.{BuildFault}
@@ -31,7 +32,7 @@ pub record IsTooLarge (ends : List ℕ → ℕ) (text : List ℕ) (fault : Build
 
 -- why a text has no tables: what is wrong with it, or that memory was refused
 abbrev pub HasNoTables : (List ℕ → ℕ) → List ℕ → Failure → Type 0
-HasNoTables ends text (Specification fault) = IsFault ends text fault
+HasNoTables ends text (Specification fault) = (fault.code ≢ code.Memory) × IsFault ends text fault
 HasNoTables ends text (Automaton fault) = IsTooLarge ends text fault
 HasNoTables ends text (Tables fault) = ⊥
 HasNoTables ends text (Words error) = ⊥

@@ -136,9 +136,9 @@ fn order_of<'a>(alloc: Global, matches: &ArgMatches<'a>) -> Result<Order<'a>, Re
     ensures words { (text : Error) → result ≢ Err (Refusal.Words text) }
 {
     match matches.subcommand() {
-        Some(("gen", gen)) => Ok(Order::Gen(gen.get_str("SPEC").unwrap_or(""))),
-        Some(("up", up)) => Ok(Order::Up(up.get_str("TABLES").unwrap_or(""))),
-        Some((_, run)) => Ok(Order::Run(run_order_of(alloc, run)?)),
+        Some(("gen", words)) => Ok(Order::Gen(words.get_str("SPEC").unwrap_or(""))),
+        Some(("up", words)) => Ok(Order::Up(words.get_str("TABLES").unwrap_or(""))),
+        Some((_, words)) => Ok(Order::Run(run_order_of(alloc, words)?)),
         None => Ok(Order::Stored),
     }
 }

@@ -13,7 +13,6 @@ use std::alloc::Global;
 
 /// The merged automaton of a specification. E30 comes where it has more positions than the limit, and E31 where it hasn't and has
 /// more reached sets.
-#[tactic(auto, using(crate::proofs::Choosing::alike_of))]
 pub(crate) fn merged_automaton(alloc: Global, spec: &Spec) -> Result<Automaton, BuildFault>
     ensures automaton { IfOk result (λ a. IsAutomatonOf (spec_view spec.now) a) }
     ensures told { IfOk result (λ a. IsLeast a) }

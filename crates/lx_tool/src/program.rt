@@ -10,7 +10,7 @@ use crate::merged::merged_automaton;
 use crate::planning::list_files;
 use crate::source::{ListSources, SourceFault, Sources};
 use crate::tabling::{generate, upgrade};
-use lx_spec::read::read_spec;
+use lx_spec::read::{patterns_end, read_spec};
 use std::alloc::{AllocError, Global};
 use std::io::Write;
 
@@ -75,12 +75,42 @@ fn obey<'a, S: Sources, O: Write>(
         )?,
         Ok(Order::Help(text)) => write!(out, "{text}").map_err(|_| Failure::Output)?,
         Ok(Order::Run(order)) => list(alloc, &order, sources, out)?,
-        Ok(Order::Gen(name)) => generate(alloc, &read_file(alloc, sources, name)?, out)?,
-        Ok(Order::Up(name)) => upgrade(alloc, &read_file(alloc, sources, name)?, out)?,
+        Ok(Order::Gen(name)) => generate_named(alloc, name, sources, out)?,
+        Ok(Order::Up(name)) => upgrade_named(alloc, name, sources, out)?,
         Err(Refusal::Words(error)) => return Err(Failure::Words(error)),
         Err(Refusal::Memory) => return Err(Failure::Memory),
     }
     out.flush().map_err(|_| Failure::Output)
+}
+
+// Prints the tables of the specification with this name.
+fn generate_named<'a, S: Sources, O: Write>(
+    alloc: Global,
+    name: &'a str,
+    sources: &mut S,
+    out: &mut O,
+) -> Result<(), Failure<'a>>
+    ensures refused { IfErr result (λ failure. status_of failure < 4 → Keeps (O.contents out.old) (O.contents out.new)) }
+    ensures memory { IfErr result HidesNoMemory }
+{
+    // a law: the contracts of `generate` ask for what it says is there
+    patterns_end();
+    let text = read_file(alloc, sources, name)?;
+    generate(alloc, &text, out)
+}
+
+// Prints the tables whose text has this name in version 2.
+fn upgrade_named<'a, S: Sources, O: Write>(
+    alloc: Global,
+    name: &'a str,
+    sources: &mut S,
+    out: &mut O,
+) -> Result<(), Failure<'a>>
+    ensures refused { IfErr result (λ failure. status_of failure < 4 → Keeps (O.contents out.old) (O.contents out.new)) }
+    ensures memory { IfErr result HidesNoMemory }
+{
+    let text = read_file(alloc, sources, name)?;
+    upgrade(alloc, &text, out)
 }
 
 // Lists the order's files by its specification. All are read before the first line is written.

@@ -29,7 +29,10 @@ pub fn generate<'a, W: Write>(alloc: Global, text: &[u8], out: &mut W) -> Result
     ensures err { (ends : List ℕ → ℕ) → EndsPatterns ends → IfErr result (λ failure. FailsGenerating ends text.now (W.contents out.old) (W.contents out.new) failure) }
 {
     let tables = tables_of_text(alloc, text)?;
-    tables.print(out).map_err(|_| Failure::Output)
+    match tables.print(out) {
+        Ok(()) => Ok(()),
+        Err(_) => Err(Failure::Output),
+    }
 }
 
 /// Reads tables from either version of their text and writes version 2: all of it, or after a fault of the output a prefix.
@@ -39,5 +42,8 @@ pub fn upgrade<'a, W: Write>(alloc: Global, text: &[u8], out: &mut W) -> Result<
     ensures err { IfErr result (λ failure. FailsUpgrading text.now (W.contents out.old) (W.contents out.new) failure) }
 {
     let tables = Tables::read(alloc, text)?;
-    tables.print(out).map_err(|_| Failure::Output)
+    match tables.print(out) {
+        Ok(()) => Ok(()),
+        Err(_) => Err(Failure::Output),
+    }
 }
