@@ -121,11 +121,7 @@ const RANGES: &[Change] = &[
     ("lx-tables 1", "lx-tables 0", false),
     ("lx-tables 1", "lx-tables 01", false),
     ("states 4", "classes 1\nclass 0-255:0\nstates 4", false),
-    (
-        "state - 10-10:1 32-32:1 48-57:2 97-122:3",
-        "state -",
-        true,
-    ),
+    ("state - 10-10:1 32-32:1 48-57:2 97-122:3", "state -", true),
     ("97-122:3", "97-122:0", true),
     ("97-122:3", "97-122:4", false),
     ("97-122:3", "97-122:4294967299", false),

@@ -58,9 +58,18 @@ fn says_why_there_are_no_tables(rt: HostRuntime) -> Result<(), AllocError> {
 /// call, and else a front of it.
 fn holds_front<R: Abort>(rt: &R, out: &Failing, most: usize, call: u64, text: &[u8], done: bool) {
     let held = out.held.as_slice();
-    assert!(rt; done == (out.calls < call) && out.calls <= call, "call {call}");
-    assert!(rt; text.starts_with(held) && done == (held.len() == text.len()), "call {call}");
-    assert!(rt; done || most != 1 || held.len() as u64 == call.saturating_sub(1), "call {call}");
+    assert!(rt;
+        done == (out.calls < call) && out.calls <= call,
+        "call {call}"
+    );
+    assert!(rt;
+        text.starts_with(held) && done == (held.len() == text.len()),
+        "call {call}"
+    );
+    assert!(rt;
+        done || most != 1 || held.len() as u64 == call.saturating_sub(1),
+        "call {call}"
+    );
 }
 
 /// Asserts of a command that writes this text what becomes of it where the output fails at this call.
@@ -79,7 +88,11 @@ fn fails_at<R: Abort + AllocGlobal>(
     let mut err: Vec<u8> = Vec::new(rt.alloc());
     let status = status_over(rt, words, &files, &mut out, &mut err)?;
     holds_front(rt, &out, most, call, text, status == 0);
-    let wanted = if status == 0 { "" } else { "lx: cannot write\n" };
+    let wanted = if status == 0 {
+        ""
+    } else {
+        "lx: cannot write\n"
+    };
     assert_eq!(rt; err.as_slice(), wanted.as_bytes());
     assert!(rt; status == 0 || status == 4, "call {call}");
     Ok(())

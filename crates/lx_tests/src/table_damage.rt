@@ -27,7 +27,7 @@ fn joined(alloc: Global, front: &[u8], middle: &[u8], back: &[u8]) -> Result<Vec
 }
 
 /// What a byte of a text is turned into, each in its turn.
-const OTHERS: &[u8] = b"0123456789 \n\t\r-:abeknsxZ_\0\xFF";
+const OTHERS: &[u8] = b"019 \n-:kZ\0\xFF";
 
 /// Asserts that a text, with this in place of one of its bytes, is no table's, or is printed again.
 fn reads_nothing_else<R: Abort + AllocGlobal>(

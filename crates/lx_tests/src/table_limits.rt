@@ -35,12 +35,7 @@ type Lines = [&'static str; 4];
 type Counts = [u32; 4];
 
 /// A text of tables: of version 1 where no lines of classes are given, else of version 2.
-fn made(
-    alloc: Global,
-    classes: &str,
-    counts: Counts,
-    lines: Lines,
-) -> Result<String, AllocError> {
+fn made(alloc: Global, classes: &str, counts: Counts, lines: Lines) -> Result<String, AllocError> {
     let head = if classes.is_empty() {
         "lx-tables 1\n"
     } else {
@@ -63,21 +58,69 @@ const ONE_CLASS: &str = "classes 1\nclass 0-255:0\n";
 
 /// Counts and lines that are written in both versions alike, and whether there are such tables.
 const BOTH: [(Counts, Lines, bool); 15] = [
-    ([64, 0, 1, 1], ["start 0 0\n", "", "rule 0 b63\n", "state 0\n"], true),
-    ([64, 0, 1, 1], ["start 0 0\n", "", "rule 0 b64\n", "state 0\n"], false),
+    (
+        [64, 0, 1, 1],
+        ["start 0 0\n", "", "rule 0 b63\n", "state 0\n"],
+        true,
+    ),
+    (
+        [64, 0, 1, 1],
+        ["start 0 0\n", "", "rule 0 b64\n", "state 0\n"],
+        false,
+    ),
     ([65, 0, 0, 1], ["start 0 0\n", "", "", "state -\n"], false),
     ([0, 0, 0, 1], ["", "", "", "state -\n"], false),
-    ([1, 4_096, 1, 1], ["start 0 0\n", "kind K#\n", "rule 1 k4095\n", "state 0\n"], true),
-    ([1, 4_096, 1, 1], ["start 0 0\n", "kind K#\n", "rule 1 k4096\n", "state 0\n"], false),
-    ([1, 4_096, 1, 1], ["start 0 0\n", "kind #\n", "rule 1 k4095\n", "state 0\n"], false),
-    ([1, 4_097, 0, 1], ["start 0 0\n", "kind K#\n", "", "state -\n"], false),
-    ([1, 0, 4_096, 1], ["start 0 0\n", "", "rule 0 n#\n", "state 4095\n"], true),
-    ([1, 0, 4_096, 1], ["start 0 0\n", "", "rule 0 n#\n", "state 4096\n"], false),
-    ([1, 0, 4_097, 1], ["start 0 0\n", "", "rule 0 n#\n", "state 4095\n"], false),
+    (
+        [1, 4_096, 1, 1],
+        ["start 0 0\n", "kind K#\n", "rule 1 k4095\n", "state 0\n"],
+        true,
+    ),
+    (
+        [1, 4_096, 1, 1],
+        ["start 0 0\n", "kind K#\n", "rule 1 k4096\n", "state 0\n"],
+        false,
+    ),
+    (
+        [1, 4_096, 1, 1],
+        ["start 0 0\n", "kind #\n", "rule 1 k4095\n", "state 0\n"],
+        false,
+    ),
+    (
+        [1, 4_097, 0, 1],
+        ["start 0 0\n", "kind K#\n", "", "state -\n"],
+        false,
+    ),
+    (
+        [1, 0, 4_096, 1],
+        ["start 0 0\n", "", "rule 0 n#\n", "state 4095\n"],
+        true,
+    ),
+    (
+        [1, 0, 4_096, 1],
+        ["start 0 0\n", "", "rule 0 n#\n", "state 4096\n"],
+        false,
+    ),
+    (
+        [1, 0, 4_097, 1],
+        ["start 0 0\n", "", "rule 0 n#\n", "state 4095\n"],
+        false,
+    ),
     ([1, 0, 0, 0], ["start 0 0\n", "", "", ""], false),
-    ([1, 0, 0, 16_512], ["start 16512 0\n", "", "", "state -\n"], false),
-    ([1, 0, 0, 16_512], ["start 0 16512\n", "", "", "state -\n"], false),
-    ([1, 0, 0, 16_513], ["start 0 0\n", "", "", "state -\n"], false),
+    (
+        [1, 0, 0, 16_512],
+        ["start 16512 0\n", "", "", "state -\n"],
+        false,
+    ),
+    (
+        [1, 0, 0, 16_512],
+        ["start 0 16512\n", "", "", "state -\n"],
+        false,
+    ),
+    (
+        [1, 0, 0, 16_513],
+        ["start 0 0\n", "", "", "state -\n"],
+        false,
+    ),
 ];
 
 /// The lines of 16,512 states, their classes, and whether there are such tables.

@@ -116,7 +116,8 @@ fn texts_are_printed_and_upgraded_byte_for_byte(rt: HostRuntime) -> Result<(), F
 const TWO_CONDITIONS: &str =
     "%x C\n%%\n^a return A;\nbc? BEGIN C;\n<C>b BEGIN 0;\n<C>a+ return B;\n";
 
-const TWO_CONDITIONS_TEXT: &str = "lx-tables 2\nconditions 2\nstart 0 1\nstart 2 2\nkinds 2\nkind A\nkind B\nrules 4\nrule 0 k0\nrule 0 b1\nrule 0 b0\nrule 0 k1\nclasses 4\nclass 0-96:0 97-97:1 98-98:2 99-99:3 100-255:0\nstates 8\nstate - 2:3\nstate - 1:4 2:3\nstate - 1:5 2:6\nstate 1 3:7\nstate 0\nstate 3 1:5\nstate 2\nstate 1\nend\n";
+const TWO_CONDITIONS_TEXT: &str =
+    "lx-tables 2\nconditions 2\nstart 0 1\nstart 2 2\nkinds 2\nkind A\nkind B\nrules 4\nrule 0 k0\nrule 0 b1\nrule 0 b0\nrule 0 k1\nclasses 4\nclass 0-96:0 97-97:1 98-98:2 99-99:3 100-255:0\nstates 8\nstate - 2:3\nstate - 1:4 2:3\nstate - 1:5 2:6\nstate 1 3:7\nstate 0\nstate 3 1:5\nstate 2\nstate 1\nend\n";
 
 #[test]
 fn states_are_numbered_as_they_are_met(rt: HostRuntime) -> Result<(), AllocError> {
