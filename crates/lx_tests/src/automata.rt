@@ -7,7 +7,7 @@ use std::alloc::{AllocError, Global};
 use std::test::Fail;
 
 /// As many sets as there may be: after 14 bytes each tells which of these were an `a`.
-const MANY_SETS: &str = "%%\n(a|b)*a((a|b){13}) return L;\n";
+pub(crate) const MANY_SETS: &str = "%%\n(a|b)*a((a|b){13}) return L;\n";
 
 /// As many positions as there may be, one behind the other.
 const MANY_POSITIONS: &str = "%%\n(a{128}){128} return A;\n";

@@ -38,6 +38,16 @@ mod running;
 #[cfg(test)]
 mod specifications;
 #[cfg(test)]
+mod table_changes;
+#[cfg(test)]
+mod table_commands;
+#[cfg(test)]
+mod table_damage;
+#[cfg(test)]
+mod table_limits;
+#[cfg(test)]
+mod table_texts;
+#[cfg(test)]
 mod tables;
 #[cfg(test)]
 mod writers;

@@ -1,0 +1,68 @@
+//! Damaged texts of tables: fronts, single changes, and each byte changed in many ways.
+
+use crate::table_texts::{SAMPLES, read_text};
+use std::alloc::{AllocError, Global};
+use std::process::Abort;
+use std::test::Fail;
+
+#[test]
+fn no_front_of_a_text_is_read(rt: HostRuntime) -> Result<(), Fail> {
+    for (_, (first, second)) in SAMPLES {
+        for text in [first.as_bytes(), second.as_bytes()] {
+            for end in 0..text.len() {
+                let read = read_text(rt.alloc(), &text[..end])?;
+                assert!(rt; read.is_none(), "{end} bytes");
+            }
+        }
+    }
+    Ok(())
+}
+
+/// These in a row.
+fn joined(alloc: Global, front: &[u8], middle: &[u8], back: &[u8]) -> Result<Vec<u8>, AllocError> {
+    let mut all = Vec::from_slice(alloc, front)?;
+    all.extend_from_slice(middle)?;
+    all.extend_from_slice(back)?;
+    Ok(all)
+}
+
+/// What a byte of a text is turned into, each in its turn.
+const OTHERS: &[u8] = b"019 \n-:kZ\0\xFF";
+
+/// Asserts that a text, with this in place of one of its bytes, is no table's, or is printed again.
+fn reads_nothing_else<R: Abort + AllocGlobal>(
+    rt: &R,
+    front: &[u8],
+    middle: &[u8],
+    back: &[u8],
+) -> Result<(), Fail> {
+    let damaged = joined(rt.alloc(), front, middle, back)?;
+    if let Some(printed) = read_text(rt.alloc(), &damaged)? {
+        assert_eq!(rt; printed.as_slice(), damaged.as_slice());
+    }
+    Ok(())
+}
+
+/// Asserts it of each byte of a text, and of each way to turn it.
+fn reads_no_damage<R: Abort + AllocGlobal>(rt: &R, text: &[u8]) -> Result<(), Fail> {
+    for at in 0..text.len() {
+        let byte = text[at];
+        let (front, back) = (&text[..at], &text[at + 1..]);
+        for other in OTHERS {
+            reads_nothing_else(rt, front, &[*other], back)?;
+        }
+        reads_nothing_else(rt, front, &[byte.wrapping_add(1)], back)?;
+        reads_nothing_else(rt, front, &[], back)?;
+        reads_nothing_else(rt, front, &[byte, byte], back)?;
+    }
+    Ok(())
+}
+
+#[test]
+fn a_damaged_byte_gives_the_tables_of_that_text_or_none(rt: HostRuntime) -> Result<(), Fail> {
+    for (_, (first, second)) in SAMPLES {
+        reads_no_damage(&rt, first.as_bytes())?;
+        reads_no_damage(&rt, second.as_bytes())?;
+    }
+    Ok(())
+}
