@@ -89,9 +89,17 @@ fn lists_by_names_groups_and_intervals_in_one_another(rt: HostRuntime) -> Result
     lists(
         &rt,
         &[
-            (doubled.as_str(), b"aaaab", "0 T A 1 0 4 aaaa\n0 E - 1 4 1 b\n"),
+            (
+                doubled.as_str(),
+                b"aaaab",
+                "0 T A 1 0 4 aaaa\n0 E - 1 4 1 b\n",
+            ),
             (groups.as_str(), b"a", "0 T A 1 0 1 a\n"),
-            ("%%\n((a{255}){255}){0}b return B;\n", b"b", "0 T B 1 0 1 b\n"),
+            (
+                "%%\n((a{255}){255}){0}b return B;\n",
+                b"b",
+                "0 T B 1 0 1 b\n",
+            ),
         ],
     )
 }

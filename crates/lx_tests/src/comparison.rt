@@ -7,7 +7,7 @@ use crate::limits;
 use crate::plain::scanner::plain_items;
 use crate::plans::{NO_PLAN, checked_plan};
 use crate::rows::ROWS;
-use crate::running::lx;
+use crate::running::{expect, lx};
 use lx_auto::build;
 use lx_spec::read_spec;
 use lx_spec::spec::Spec;
@@ -49,14 +49,31 @@ fn unmerged_listing(alloc: Global, spec: &[u8], text: &[u8]) -> Result<Vec<u8>, 
     Ok(out)
 }
 
-/// Asserts that the program lists a text as the plain scanner does, with and without merging.
+/// Asserts that by the printed tables of the specification, in both versions, a text is listed so.
+fn compare_tables<R: Abort + AllocGlobal>(
+    rt: &R,
+    spec: &[u8],
+    text: &[u8],
+    wanted: &[u8],
+) -> Result<(), Fail> {
+    let second = lx(rt, &["gen", "S"], &[("S", spec)])?.out;
+    let mut first = Vec::new(rt.alloc());
+    Tables::read(rt.alloc(), &second)?.print_first(&mut first)?;
+    for tables in [&first, &second] {
+        let files = [("T", tables.as_slice()), ("F", text)];
+        expect(rt, &["scan", "T", "F"], &files, 0, wanted, "")?;
+    }
+    Ok(())
+}
+
+/// Asserts that the program lists a text as the plain scanner does, with and without merging, and by tables that were printed.
 fn compare<R: Abort + AllocGlobal>(rt: &R, spec: &[u8], text: &[u8]) -> Result<(), Fail> {
     let wanted = plain_listing(rt.alloc(), spec, text)?;
     let unmerged = unmerged_listing(rt.alloc(), spec, text)?;
     let ran = lx(rt, &["run", "S", "F"], &[("S", spec), ("F", text)])?;
     assert_eq!(rt; (ran.status, ran.out.as_slice()), (0, wanted.as_slice()));
     assert_eq!(rt; unmerged.as_slice(), wanted.as_slice());
-    Ok(())
+    compare_tables(rt, spec, text, &wanted)
 }
 
 /// Asserts it of the specification and the text of each row.

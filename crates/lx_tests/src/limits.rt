@@ -36,7 +36,11 @@ fn names_nest_32_deep(rt: HostRuntime) -> Result<(), AllocError> {
 }
 
 /// The greatest number.
-const NUMBER: (&str, &[u8], &str) = ("%%\na return 2147483647;\n", b"a", "0 T 2147483647 1 0 1 a\n");
+const NUMBER: (&str, &[u8], &str) = (
+    "%%\na return 2147483647;\n",
+    b"a",
+    "0 T 2147483647 1 0 1 a\n",
+);
 
 /// Lines that end with CR LF.
 const CR_LF: (&str, &[u8], &str) = (

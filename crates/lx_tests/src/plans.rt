@@ -48,7 +48,10 @@ fn fits(kinds: &[Vec<u8>], text: &[u8], item: &Item) -> bool
 {
     let (line, start, len) = match *item {
         Item::Token {
-            line, start, len, ..
+            line,
+            start,
+            len,
+            ..
         }
         | Item::Echo { line, start, len } => (line, start, len),
     };
@@ -146,7 +149,13 @@ pub(crate) fn mixed_plan(alloc: Global, per_piece: u32) -> Result<Option<Plan>, 
     let kinds = texts(alloc, &[b"ID", b"NUM"])?;
     let files = texts(alloc, &[b"ab 12\n", b"", b"\\\n\xFF ~\x7F"])?;
     let first = [token(0, 0, 2), token(1, 3, 2)];
-    let last = [echo(1, 0), echo(1, 1), echo(2, 2), echo(2, 3), mixed_token()];
+    let last = [
+        echo(1, 0),
+        echo(1, 1),
+        echo(2, 2),
+        echo(2, 3),
+        mixed_token(),
+    ];
     let items = item_lists(alloc, &[&first, &[], &last])?;
     Ok(checked_plan(kinds, files, items, per_piece))
 }

@@ -35,7 +35,11 @@ const ECHOES: &[(&str, &[u8], &str)] = &[
 
 /// An empty match is never taken.
 const NO_EMPTY_MATCH: &[(&str, &[u8], &str)] = &[
-    ("%%\nx* return X;\n", b"axx", "0 E - 1 0 1 a\n0 T X 1 1 2 xx\n"),
+    (
+        "%%\nx* return X;\n",
+        b"axx",
+        "0 E - 1 0 1 a\n0 T X 1 1 2 xx\n",
+    ),
     ("%%\nx*$ return X;\n", b"\n", "0 E - 1 0 1 \\x0A\n"),
     (
         "%%\nx*$ return X;\n\\n return N;\n",
@@ -61,7 +65,11 @@ const INTERVALS: &[(&str, &[u8], &str)] = &[
         b"bcbca",
         "0 T P 1 0 4 bcbc\n0 T P 1 4 1 a\n",
     ),
-    ("%%\na{0}b return P;\n", b"ab", "0 E - 1 0 1 a\n0 T P 1 1 1 b\n"),
+    (
+        "%%\na{0}b return P;\n",
+        b"ab",
+        "0 E - 1 0 1 a\n0 T P 1 1 1 b\n",
+    ),
     (
         "D [0-9]\n%%\na({D}{1,2}) return Q;\n",
         b"a123",

@@ -75,7 +75,7 @@ pub(crate) fn expect<R: Abort + AllocGlobal>(
     Ok(())
 }
 
-/// Asserts that each text is listed so by the specification before it, and by the tables that are printed of it.
+/// Asserts that each text is listed so by the specification before it.
 pub(crate) fn lists<R: Abort + AllocGlobal>(
     rt: &R,
     rows: &[(&str, &[u8], &str)],
@@ -83,9 +83,6 @@ pub(crate) fn lists<R: Abort + AllocGlobal>(
     for (spec, text, listing) in rows {
         let files = [("S", spec.as_bytes()), ("F", *text)];
         expect(rt, &["run", "S", "F"], &files, 0, listing.as_bytes(), "")?;
-        let tables = lx(rt, &["gen", "S"], &files)?.out;
-        let files = [("T", tables.as_slice()), ("F", *text)];
-        expect(rt, &["scan", "T", "F"], &files, 0, listing.as_bytes(), "")?;
     }
     Ok(())
 }

@@ -1,5 +1,5 @@
 -- Plans by tables, and by the rules of a specification.
-use Rattle.std.proofs.Common.{◌≡◌, ℕ, ◌<◌, ◌≤◌, List, [], Option, Vec, Global, All, length, map, get_or, sym, ◌∙◌, ap, ap₂, refl, subst, arith}
+use Rattle.std.proofs.Common.{◌≡◌, ℕ, ◌<◌, ◌≤◌, List, [], Option, Vec, Global, All, length, map, get_or, sym, ◌∙◌, ap, refl, subst, arith}
 use Rattle.std.proofs.lemmas.List.{length-map, get_or-map}
 use Rattle.std.proofs.lemmas.Simd.{map-map}
 use Rattle.lx_spec.specs.Plain.{PlainSpec}
@@ -10,7 +10,7 @@ use Rattle.lx_scan.specs.ItemParts.{IsItemOf}
 use Rattle.lx_scan.specs.Items as scan
 use Rattle.lx_scan.specs.declared.item.Item.{Item}
 use Rattle.lx_piece.specs.Plans.{Planned, IsPlan, planned, files_of, bytes_of, items_of}
-use Rattle.lx_tool.specs.Planning.{IsPlanBy, IsPlanByRules, ListsBy, ListsByRules}
+use Rattle.lx_tool.specs.Planning.{IsPlanBy, ListsBy, ListsByRules}
 use Rattle.lx_tool.specs.Tabling.{AreTablesOfText}
 
 module _ (table : Table) (kinds : List (Vec ℕ Global)) (files : List (Vec ℕ Global)) (items : List (Vec Item Global)) (run per_piece : ℕ)

@@ -1,6 +1,6 @@
 -- What is known where tables aren't made, or aren't written whole.
-use Rattle.std.specs.Prelude.{◌≡◌, ◌≢◌, ℕ, ◌<◌, ◌≤◌, List, Option}
-use Rattle.std.proofs.Common.{arith, refl}
+use Rattle.std.specs.Prelude.{◌≡◌, ℕ, ◌<◌, ◌≤◌, List, Option}
+use Rattle.std.proofs.Common.{arith}
 use Rattle.std.specs.Io.KnownBytes.{Keeps}
 use Rattle.lx_spec.specs.Plain.{PlainSpec}
 use Rattle.lx_spec.specs.Whole.{IsRead}
@@ -8,7 +8,6 @@ use Rattle.lx_auto.specs.Counts.{count_of_spec}
 use Rattle.lx_auto.specs.PositionSets.{HasMoreReachedSets}
 use Rattle.lx_auto.specs.declared.fault.BuildFault.{BuildFault}
 use Rattle.lx_auto.specs.declared.fault.BuildFault.TheVariants as build
-use Rattle.lx_tables.specs.declared.fault.TableFault.TheVariants as table
 use Rattle.lx_tool.specs.Statuses.{status_of, failure_of_build, FailsBy, HidesNoMemory}
 use Rattle.lx_tool.specs.Tabling.{HasNoTables, FailsGenerating, FailsUpgrading}
 use Rattle.lx_tool.specs.declared.command_line.ListOrder.{ListOrder}

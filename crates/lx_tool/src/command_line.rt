@@ -118,8 +118,9 @@ fn run_command<'a>(alloc: Global) -> Result<Command<'a>, AllocError> {
         .required(true);
     list_command(
         alloc,
-        Command::new(alloc, "run")
-            .about("Lists the tokens and the echoed bytes of files by a specification"),
+        Command::new(alloc, "run").about(
+            "Lists the tokens and the echoed bytes of files by a specification",
+        ),
         specification,
     )
 }
@@ -130,8 +131,9 @@ fn scan_command<'a>(alloc: Global) -> Result<Command<'a>, AllocError> {
         .required(true);
     list_command(
         alloc,
-        Command::new(alloc, "scan")
-            .about("Lists the tokens and the echoed bytes of files by tables"),
+        Command::new(alloc, "scan").about(
+            "Lists the tokens and the echoed bytes of files by tables",
+        ),
         tables,
     )
 }

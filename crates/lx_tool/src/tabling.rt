@@ -1,7 +1,9 @@
 //! Tables: made of the text of a specification, or read from their own, and printed.
 
-ghost use Rattle.std.specs.Prelude.{ℕ, List, IfOk, IfErr, OnOk};
+ghost use Rattle.std.specs.Prelude.{◌≡◌, ℕ, List, IfOk, IfErr, OnOk};
 ghost use Rattle.lx_spec.specs.RuleLines.{EndsPatterns};
+ghost use Rattle.lx_tables.specs.Output.{Wrote, WrotePrefix};
+ghost use Rattle.lx_tables.specs.Texts.{text_2};
 ghost use Rattle.lx_tool.specs.Tabling.{AreTablesOfText, HasNoTables, Generates, FailsGenerating, Upgrades, FailsUpgrading};
 
 use crate::failure::Failure;
@@ -22,17 +24,24 @@ pub fn tables_of_text<'a>(alloc: Global, text: &[u8]) -> Result<Tables, Failure<
     Ok(Tables::of(alloc, &spec, &automaton)?)
 }
 
+// Writes version 2 of the text of tables.
+fn print_tables<'a, W: Write>(tables: &Tables, out: &mut W) -> Result<(), Failure<'a>>
+    ensures ok { OnOk result (Wrote (W.contents out.old) (W.contents out.new) (text_2 tables.now)) }
+    ensures err { IfErr result (λ failure. (failure ≡ Failure.Output) × WrotePrefix (W.contents out.old) (W.contents out.new) (text_2 tables.now)) }
+{
+    match tables.print(out) {
+        Ok(()) => Ok(()),
+        Err(_) => Err(Failure::Output),
+    }
+}
+
 /// Writes the tables of the specification that a text says, in version 2 of their text: all of it, or after a fault of the output
 /// a prefix. Where the text has no tables, nothing is written.
 pub fn generate<'a, W: Write>(alloc: Global, text: &[u8], out: &mut W) -> Result<(), Failure<'a>>
     ensures ok { (ends : List ℕ → ℕ) → EndsPatterns ends → OnOk result (Generates ends text.now (W.contents out.old) (W.contents out.new)) }
     ensures err { (ends : List ℕ → ℕ) → EndsPatterns ends → IfErr result (λ failure. FailsGenerating ends text.now (W.contents out.old) (W.contents out.new) failure) }
 {
-    let tables = tables_of_text(alloc, text)?;
-    match tables.print(out) {
-        Ok(()) => Ok(()),
-        Err(_) => Err(Failure::Output),
-    }
+    print_tables(&tables_of_text(alloc, text)?, out)
 }
 
 /// Reads tables from either version of their text and writes version 2: all of it, or after a fault of the output a prefix.
@@ -41,9 +50,5 @@ pub fn upgrade<'a, W: Write>(alloc: Global, text: &[u8], out: &mut W) -> Result<
     ensures ok { OnOk result (Upgrades text.now (W.contents out.old) (W.contents out.new)) }
     ensures err { IfErr result (λ failure. FailsUpgrading text.now (W.contents out.old) (W.contents out.new) failure) }
 {
-    let tables = Tables::read(alloc, text)?;
-    match tables.print(out) {
-        Ok(()) => Ok(()),
-        Err(_) => Err(Failure::Output),
-    }
+    print_tables(&Tables::read(alloc, text)?, out)
 }
