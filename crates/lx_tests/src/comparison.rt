@@ -49,6 +49,17 @@ fn unmerged_listing(alloc: Global, spec: &[u8], text: &[u8]) -> Result<Vec<u8>, 
     Ok(out)
 }
 
+/// Asserts that a text is listed so by tables.
+fn scans<R: Abort + AllocGlobal>(
+    rt: &R,
+    tables: &[u8],
+    text: &[u8],
+    wanted: &[u8],
+) -> Result<(), AllocError> {
+    let files = [("T", tables), ("F", text)];
+    expect(rt, &["scan", "T", "F"], &files, 0, wanted, "")
+}
+
 /// Asserts that by the printed tables of the specification, in both versions, a text is listed so.
 fn compare_tables<R: Abort + AllocGlobal>(
     rt: &R,
@@ -59,10 +70,8 @@ fn compare_tables<R: Abort + AllocGlobal>(
     let second = lx(rt, &["gen", "S"], &[("S", spec)])?.out;
     let mut first = Vec::new(rt.alloc());
     Tables::read(rt.alloc(), &second)?.print_first(&mut first)?;
-    for tables in [&first, &second] {
-        let files = [("T", tables.as_slice()), ("F", text)];
-        expect(rt, &["scan", "T", "F"], &files, 0, wanted, "")?;
-    }
+    scans(rt, &first, text, wanted)?;
+    scans(rt, &second, text, wanted)?;
     Ok(())
 }
 
