@@ -1,6 +1,6 @@
 //! Byte classes: two bytes are of one class exactly where every state steps alike on both.
 
-ghost use Rattle.std.specs.Prelude.{◌≡◌, ◌<◌, ◌≤◌, ◌+◌, ◌*◌, ◌↔◌, ℕ, IsTrue, IfOk, OnOk, IfSome, IfNone, length, slice_index, vec_len};
+ghost use Rattle.std.specs.Prelude.{◌≡◌, ◌<◌, ◌≤◌, ◌+◌, ◌*◌, ◌↔◌, ℕ, IsTrue, IfOk, OnOk, IfSome, IfNone, MatchOption, length, slice_index, vec_len};
 ghost use Rattle.lx_auto.specs.Automata.{IsMachine, HasByteClasses, StepsAlike, state_count};
 ghost use Rattle.lx_auto.specs.Classing.{HasSameColumns, AreNumbersBelow, IsNumberFor, AreRows};
 ghost use Rattle.lx_auto.specs.Words.{machine_of};
@@ -12,18 +12,56 @@ use std::alloc::{AllocError, Global};
 // How many bytes there are.
 const BYTES: usize = 256;
 
-/// Whether every state steps alike on the two classes.
-fn has_same_columns(draft: &Draft, class: usize, other: usize) -> bool
+/// Whether one of these states tells the two classes apart.
+fn are_told(draft: &Draft, class: usize, other: usize, tellers: &[usize]) -> bool
     requires class { class < draft.now.width }
     requires other { other < draft.now.width }
-    ensures { IsTrue result ↔ HasSameColumns draft.now class other }
+    ensures { IsTrue result → HasSameColumns draft.now class other → ⊥ }
+{
+    for state in tellers {
+        if *state < draft.states() && draft.word(*state, class) != draft.word(*state, other) {
+            return true;
+        }
+    }
+    false
+}
+
+/// The first state that steps differently on the two classes.
+fn first_teller(draft: &Draft, class: usize, other: usize) -> Option<usize>
+    requires class { class < draft.now.width }
+    requires other { other < draft.now.width }
+    ensures { MatchOption result (HasSameColumns draft.now class other) (λ _. HasSameColumns draft.now class other → ⊥) }
 {
     for state in 0..draft.states() {
         if draft.word(state, class) != draft.word(state, other) {
-            return false;
+            return Some(state);
         }
     }
-    true
+    None
+}
+
+/// Whether every state steps alike on the two classes. States that told classes apart are tried first; each one more of them splits
+/// the classes further, so there are at most 255, and seldom are all states gone over.
+fn has_same_columns(
+    draft: &Draft,
+    class: usize,
+    other: usize,
+    tellers: &mut Vec<usize>,
+) -> Result<bool, AllocError>
+    requires class { class < draft.now.width }
+    requires other { other < draft.now.width }
+    ensures { IfOk result (λ same. IsTrue same ↔ HasSameColumns draft.now class other) }
+{
+    if are_told(draft, class, other, tellers) {
+        return Ok(false);
+    }
+    match first_teller(draft, class, other) {
+        None => Ok(true),
+        Some(state) => {
+            tellers.push(state)?;
+            Ok(false)
+        }
+    }
 }
 
 /// The first byte below this one whose provisional class is the same.
@@ -42,17 +80,22 @@ fn earlier_byte(draft: &Draft, byte: usize) -> Option<usize>
 }
 
 /// The number of the representative with the class's column; without one the next number.
-fn number_for(draft: &Draft, representatives: &[u8], class: usize) -> usize
+fn number_for(
+    draft: &Draft,
+    representatives: &[u8],
+    class: usize,
+    tellers: &mut Vec<usize>,
+) -> Result<usize, AllocError>
     requires class { class < draft.now.width }
     requires classes { (j : ℕ) → j < length representatives.now → slice_index representatives.now j < draft.now.width }
-    ensures { IsNumberFor draft.now representatives.now class result }
+    ensures { IfOk result (IsNumberFor draft.now representatives.now class) }
 {
     for number in 0..representatives.len() {
-        if has_same_columns(draft, representatives[number] as usize, class) {
-            return number;
+        if has_same_columns(draft, representatives[number] as usize, class, tellers)? {
+            return Ok(number);
         }
     }
-    representatives.len()
+    Ok(representatives.len())
 }
 
 /// Numbers one byte more.
@@ -61,6 +104,7 @@ fn add_byte(
     byte: usize,
     numbers: &mut Vec<u8>,
     representatives: &mut Vec<u8>,
+    tellers: &mut Vec<usize>,
 ) -> Result<(), AllocError>
     requires byte { byte < 256 }
     requires numbers { AreNumbersBelow draft.now byte numbers.old.items representatives.old.items }
@@ -72,7 +116,7 @@ fn add_byte(
         return Ok(());
     }
     let class = draft.class(byte);
-    let number = number_for(draft, representatives, class);
+    let number = number_for(draft, representatives, class, tellers)?;
     numbers.push(number as u8)?;
     if number < representatives.len() {
         return Ok(());
@@ -140,8 +184,15 @@ pub(crate) fn with_byte_classes(alloc: Global, draft: &Draft) -> Result<Automato
 {
     let mut numbers = Vec::new(alloc);
     let mut representatives = Vec::new(alloc);
+    let mut tellers = Vec::new(alloc);
     for byte in 0..BYTES {
-        add_byte(draft, byte, &mut numbers, &mut representatives)?;
+        add_byte(
+            draft,
+            byte,
+            &mut numbers,
+            &mut representatives,
+            &mut tellers,
+        )?;
     }
     let targets = rows_over(alloc, draft, &representatives)?;
     let starts = Vec::from_slice(alloc, &draft.starts)?;

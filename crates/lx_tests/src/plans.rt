@@ -3,6 +3,7 @@
 ghost use Rattle.std.specs.Prelude.{◌≡◌, ◌<◌, ◌≤◌, IsTrue, IfOk, IfSome, All, length, map};
 ghost use Rattle.lx_scan.specs.ItemParts as item;
 ghost use Rattle.lx_scan.specs.ItemParts.{IsItemOf, NamesKindAmong};
+ghost use Rattle.lx_scan.specs.Steps.{newlines};
 ghost use Rattle.lx_piece.specs.Plans.{files_of};
 ghost use Rattle.lx_piece.specs.Pieces.{IsPieceOf};
 ghost use Rattle.lx_piece.specs.Arrivals.{AreHonest};
@@ -15,18 +16,26 @@ use std::alloc::{AllocError, Global};
 /// What a test says where a plan can't be made of its items.
 pub(crate) const NO_PLAN: &str = "an item doesn't fit";
 
+/// How many of the bytes are newlines.
+pub(crate) fn newlines_in(bytes: &[u8]) -> u64
+    ensures count { result ≡ newlines bytes.now }
+    ensures few { result ≤ length bytes.now }
+{
+    let mut count = 0;
+    for byte in bytes {
+        if *byte == b'\n' {
+            count += 1;
+        }
+    }
+    count
+}
+
 /// The line on which a byte of a text stands.
 fn line_at(text: &[u8], start: usize) -> u64
     requires { start ≤ length text.now }
     ensures { result ≡ item.line_at text.now start }
 {
-    let mut line = 1;
-    for byte in &text[..start] {
-        if *byte == b'\n' {
-            line += 1;
-        }
-    }
-    line
+    1 + newlines_in(&text[..start])
 }
 
 /// The kind of an item is there.

@@ -1,6 +1,7 @@
 //! The items of a text, match after match by the plain choice. What it relies on it asks of the choice each time.
 
 use crate::plain::choice::choose;
+use crate::plans::newlines_in;
 use lx_scan::Item;
 use lx_spec::rule::Step;
 use lx_spec::spec::Spec;
@@ -54,17 +55,6 @@ fn chosen<'a>(
     }
 }
 
-// How many of the bytes are newlines.
-fn newlines(bytes: &[u8]) -> u64 {
-    let mut count: u64 = 0;
-    for byte in bytes {
-        if *byte == b'\n' {
-            count = count.saturating_add(1);
-        }
-    }
-    count
-}
-
 /// The items of the text by the rules of the specification.
 pub(crate) fn plain_items(
     alloc: Global,
@@ -85,7 +75,7 @@ pub(crate) fn plain_items(
         condition = take_steps(&mut items, steps, line, start, len, condition)?;
         let (front, behind) = rest.split_at(len.clamp(1, rest.len()));
         begin = front.last() == Some(&b'\n');
-        line = line.saturating_add(newlines(front));
+        line = line.saturating_add(newlines_in(front));
         rest = behind;
     }
     Ok(items)

@@ -16,13 +16,13 @@ returns-in-Some c =
 pub returns-then-number-len : goal.returns-then-number-len
 returns-then-number-len c =
     let long = c.args.representatives.now.ok.0 in
-    let is = rw c.deref.ensures.value at c.number_for-number.ensures in
-    let l : c.number_for-number.result < length c.args.representatives.now.items = omega arith in
+    let is = rw c.deref.ensures.value at c.in_ok-number.ensures in
+    let l : c.in_ok-number.number < length c.args.representatives.now.items = omega arith in
     rw c.in_ok-push-2.ensures.items (add_known _ _ _ _ _ c.requires.numbers l (rw (← c.class-class.ensures.class) (is.found l)))
 
 pub returns : goal.returns
 returns c =
     let long = c.args.representatives.now.ok.0 in
-    let is = rw c.deref.ensures.value at c.number_for-number.ensures in
-    let e : c.number_for-number.result ≡ length c.args.representatives.now.items = (let m = is.at_most in omega arith) in
+    let is = rw c.deref.ensures.value at c.in_ok-number.ensures in
+    let e : c.in_ok-number.number ≡ length c.args.representatives.now.items = (let m = is.at_most in omega arith) in
     rw (c.in_ok-push-2.ensures.items, c.in_ok-push-3.ensures.items, e) (add_new _ _ _ _ _ c.requires.numbers c.class-class.ensures.class c.class-class.ensures.below (is.fresh e))
