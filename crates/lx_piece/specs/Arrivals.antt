@@ -6,7 +6,7 @@ use Rattle.lx_piece.specs.declared.reply.Why.TheVariants.{WrongRun, UnknownFile,
 use Rattle.lx_piece.specs.declared.reply.Reply.{Reply}
 use Rattle.lx_piece.specs.declared.reply.Reply.TheVariants.{Accepted, Refused}
 use Rattle.lx_piece.specs.Plans.{Planned, files_of}
-use Rattle.lx_piece.specs.Pieces.{is_closing, IsPieceOf, top_number}
+use Rattle.lx_piece.specs.Pieces.{is_closing, is_cut_short, IsPieceOf, top_number}
 
 -- where pieces come together: a run, and the number of its files
 pub record Site : Type 0 where
@@ -42,6 +42,10 @@ has_piece file number pieces = list_any (is_numbered file number) pieces
 -- whether a closing piece of this file and number is among these
 abbrev pub has_closing : ℕ → ℕ → List Piece → Bool
 has_closing file number pieces = list_any (λ p. is_closing p && is_numbered file number p) pieces
+
+-- whether one marked Cut is
+abbrev pub has_cut : ℕ → ℕ → List Piece → Bool
+has_cut file number pieces = list_any (λ p. is_cut_short p && is_numbered file number p) pieces
 
 -- the first cause against an arrival that lies in its own file's pieces
 abbrev pub cause_among : List Piece → Piece → Option Why
@@ -93,6 +97,10 @@ replies_of site came = replies_behind site [] came
 -- among the first pieces of the file, this many, a closing one was accepted
 abbrev pub IsClosedBelow : List Piece → ℕ → ℕ → Type 0
 IsClosedBelow accepted file count = (n : ℕ) × (n < count) × (has_closing file n accepted ≡ true)
+
+-- and one marked Cut
+abbrev pub IsCutBelow : List Piece → ℕ → ℕ → Type 0
+IsCutBelow accepted file count = (n : ℕ) × (n < count) × (has_cut file n accepted ≡ true)
 
 -- k is the least number of the file that isn't accepted
 pub record IsLeastMissing (accepted : List Piece) (file k : ℕ) : Type 0 where

@@ -4,13 +4,15 @@ use Rattle.std.specs.BTreeMap.{is_at}
 use Rattle.std.specs.BTreeSet.{BTreeSet, contains}
 use Rattle.std.specs.Map.{lookup}
 use Rattle.lx_piece.specs.declared.piece.Piece.{Piece}
-use Rattle.lx_piece.specs.Pieces.{is_closing}
-use Rattle.lx_piece.specs.Arrivals.{Site, accepted_of, has_piece, has_closing}
+use Rattle.lx_piece.specs.Pieces.{is_closing, is_cut_short}
+use Rattle.lx_piece.specs.Arrivals.{Site, accepted_of, has_piece, has_closing, has_cut}
 
--- what a collector keeps of one file: how many pieces were delivered, the closing number, and the pieces held by their numbers
+-- What a collector keeps of one file: how many pieces were delivered, the number of the closing piece, the same where that piece is marked
+-- Cut, and the pieces held by their numbers.
 pub record Lane : Type 0 where
   pub next : ℕ
   pub closing : Option ℕ
+  pub cut : Option ℕ
   pub held : List (ℕ × Piece)
 
 -- what a collector keeps
@@ -39,6 +41,7 @@ pub record LaneStandsFor (lane : Lane) (file : ℕ) (accepted : List Piece) : Ty
   pub numbers : (n : ℕ) → has_piece file n accepted ≡ has_number lane n
   pub held : (n : ℕ) (p : Piece) → held_at lane n ≡ Some p → (p.file ≡ file) × (p.number ≡ n) × Contains accepted p
   pub closing : (n : ℕ) → has_closing file n accepted ≡ is_number lane.closing n
+  pub cut : (n : ℕ) → has_cut file n accepted ≡ is_number lane.cut n
 
 -- a collector stands for a list of arrivals
 pub record StandsFor (kept : Kept) (came : List Piece) : Type 0 where
@@ -52,6 +55,7 @@ is_ready lane = is_some (held_at lane lane.next)
 pub record Advances (old new : Lane) : Type 0 where
   pub next : new.next ≡ old.next + 1
   pub closing : new.closing ≡ old.closing
+  pub cut : new.cut ≡ old.cut
   pub held : (n : ℕ) → held_at new n ≡ (if n == old.next then None else held_at old n)
   pub fewer : length new.held + 1 ≡ length old.held
 
@@ -64,10 +68,15 @@ closed_before (Some m) n = nat_lt m n
 abbrev pub closing_with : Option ℕ → Piece → Option ℕ
 closing_with closing p = if is_closing p then Some p.number else closing
 
+-- the same, of the number of a piece marked Cut
+abbrev pub cut_with : Option ℕ → Piece → Option ℕ
+cut_with cut p = if is_cut_short p then Some p.number else cut
+
 -- the lane holds p besides
 pub record KeepsPiece (old : Lane) (p : Piece) (new : Lane) : Type 0 where
   pub next : new.next ≡ old.next
   pub closing : new.closing ≡ closing_with old.closing p
+  pub cut : new.cut ≡ cut_with old.cut p
   pub held : (n : ℕ) → held_at new n ≡ (if n == p.number then Some p else held_at old n)
 
 -- whether the file's next piece is held, and false where there is no such file
@@ -104,7 +113,7 @@ pub record IsReadySet (lanes : List Lane) (ready : BTreeSet ℕ) : Type 0 where
 
 -- what is kept of a file of which nothing came
 abbrev pub fresh_lane : Lane
-fresh_lane = record { next = 0; closing = None; held = [] }
+fresh_lane = record { next = 0; closing = None; cut = None; held = [] }
 
 -- how many pieces of each file were delivered
 abbrev pub delivered_counts : Kept → List ℕ
@@ -117,3 +126,7 @@ held_total lanes = sum_by (λ lane. length lane.held) lanes
 -- the closing piece was delivered
 abbrev pub is_lane_closed : Lane → Bool
 is_lane_closed lane = closed_before lane.closing lane.next
+
+-- it was, and is marked Cut
+abbrev pub is_lane_cut : Lane → Bool
+is_lane_cut lane = closed_before lane.cut lane.next

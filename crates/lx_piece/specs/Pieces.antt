@@ -1,13 +1,31 @@
-use Rattle.std.specs.Prelude.{ℕ, zero, suc, ◌≡◌, ◌+◌, ◌*◌, ◌<◌, ◌==◌, ◌↔◌, Bool, true, List, [], ◌∷◌, ◌++◌, length, take, drop, max}
+use Rattle.std.specs.Prelude.{ℕ, zero, suc, ◌≡◌, ◌+◌, ◌*◌, ◌<◌, ◌==◌, ◌↔◌, Bool, true, false, if◌then◌else◌, List, [], ◌∷◌, ◌++◌, length, take, drop, max}
 use Rattle.std.specs.Int.{div_ceil}
 use Rattle.std.specs.List.{flat_map, list_any}
 use Rattle.lx_scan.specs.declared.item.Item.{Item}
+use Rattle.lx_piece.specs.declared.piece.Mark.{Mark}
+use Rattle.lx_piece.specs.declared.piece.Mark.TheVariants.{More, Whole, Cut}
 use Rattle.lx_piece.specs.declared.piece.Piece.{Piece}
-use Rattle.lx_piece.specs.Plans.{Planned, files_of, items_of}
+use Rattle.lx_piece.specs.Plans.{Planned, files_of, is_cut, items_of}
+
+-- whether a mark is that of a last piece
+abbrev pub is_closing_mark : Mark → Bool
+is_closing_mark More = false
+is_closing_mark Whole = true
+is_closing_mark Cut = true
+
+-- whether it is that of the last piece of a file whose reading failed
+abbrev pub is_cut_mark : Mark → Bool
+is_cut_mark More = false
+is_cut_mark Whole = false
+is_cut_mark Cut = true
 
 -- whether it is marked as the last piece of its file
 abbrev pub is_closing : Piece → Bool
-is_closing piece = piece.last
+is_closing piece = is_closing_mark piece.mark
+
+-- whether it is marked as the last piece of a file whose reading failed
+abbrev pub is_cut_short : Piece → Bool
+is_cut_short piece = is_cut_mark piece.mark
 
 -- the greatest number of 64 bits, which no piece of a plan has
 abbrev pub top_number : ℕ
@@ -25,9 +43,9 @@ pieces_of plan file = piece_count plan.per_piece (items_of plan file)
 abbrev pub part : ℕ → List Item → ℕ → List Item
 part per_piece items number = take per_piece (drop (number * per_piece) items)
 
--- whether the piece with this number is marked
-abbrev pub mark : Planned → ℕ → ℕ → Bool
-mark plan file number = number + 1 == pieces_of plan file
+-- the mark of the piece with this number: the last one is marked Cut where its file's reading failed, else Whole
+abbrev pub mark_of : Planned → ℕ → ℕ → Mark
+mark_of plan file number = if number + 1 == pieces_of plan file then (if is_cut plan file then Cut else Whole) else More
 
 -- the piece of a file with this number
 abbrev pub piece_at : Planned → ℕ → ℕ → Piece
@@ -36,7 +54,7 @@ piece_at plan file number =
       run = plan.run;
       file = file;
       number = number;
-      last = mark plan file number;
+      mark = mark_of plan file number;
       items = part plan.per_piece (items_of plan file) number;
     }
 
@@ -61,8 +79,9 @@ abbrev pub IsPrefix : {X : Type 0} → List X → List X → Type 0
 IsPrefix {X} xs ys = (rest : List X) × (xs ++ rest ≡ ys)
 
 -- What is taken of a file by its first pieces: a prefix of its items. The closing piece is among them exactly
--- where they are all of the file's pieces, and then it is all of the items.
+-- where they are all of the file's pieces; then it is all of the items, and one is marked Cut exactly where the file's reading failed.
 pub record TakesInOrder (plan : Planned) (file count : ℕ) : Type 0 where
   pub prefix : IsPrefix (contents (pieces_to plan file count)) (items_of plan file)
   pub closed : (list_any is_closing (pieces_to plan file count) ≡ true) ↔ (count ≡ pieces_of plan file)
   pub whole : list_any is_closing (pieces_to plan file count) ≡ true → contents (pieces_to plan file count) ≡ items_of plan file
+  pub cut : list_any is_closing (pieces_to plan file count) ≡ true → list_any is_cut_short (pieces_to plan file count) ≡ is_cut plan file

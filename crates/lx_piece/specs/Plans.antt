@@ -1,44 +1,53 @@
-use Rattle.std.specs.Prelude.{ℕ, ◌≡◌, ◌<◌, ◌≤◌, All, List, [], length, map, slice_index_or}
-use Rattle.std.specs.declared.alloc.Global.{Global}
-use Rattle.std.specs.declared.vec.Vec.{Vec}
+use Rattle.std.specs.Prelude.{ℕ, ◌≡◌, ◌<◌, ◌≤◌, All, Bool, false, List, [], length, map, slice_index_or}
+use Rattle.lx_tables.specs.Model.{Table, IsTable, kind_at}
 use Rattle.lx_scan.specs.declared.item.Item.{Item}
 use Rattle.lx_scan.specs.ItemParts.{IsItemOf}
+use Rattle.lx_scan.specs.Items as scan
+use Rattle.lx_piece.specs.declared.input.Input.{Input}
 
--- A plan as contracts see it: what its pieces' run is and how many items a piece has; the names of kinds;
--- and of each file the text and the items.
+-- a file as far as it was read, and whether its reading failed behind these bytes
+pub record PlainInput : Type 0 where
+  pub bytes : List ℕ
+  pub cut : Bool
+
+-- an input without where it lies in memory
+abbrev pub input_view : Input → PlainInput
+input_view input = record { bytes = input.bytes.items; cut = input.cut }
+
+-- A plan as contracts see it: what its pieces' run is and how many items a piece has, the tables, and the files.
 pub record Planned : Type 0 where
   pub run : ℕ
   pub per_piece : ℕ
-  pub kinds : List (List ℕ)
-  pub texts : List (List ℕ)
-  pub items : List (List Item)
-
--- a plan of these files, with these names of kinds and these items
-abbrev pub planned : ℕ → ℕ → List (Vec ℕ Global) → List (Vec ℕ Global) → List (Vec Item Global) → Planned
-planned run per_piece kinds files items =
-    record {
-      run = run;
-      per_piece = per_piece;
-      kinds = map (λ name. name.items) kinds;
-      texts = map (λ file. file.items) files;
-      items = map (λ list. list.items) items;
-    }
+  pub table : Table
+  pub inputs : List PlainInput
 
 -- how many files it has
 abbrev pub files_of : Planned → ℕ
-files_of plan = length plan.texts
+files_of plan = length plan.inputs
+
+-- a file; where there is none, an empty one
+abbrev pub input_of : Planned → ℕ → PlainInput
+input_of plan file = slice_index_or plan.inputs file (record { bytes = []; cut = false })
 
 -- the bytes of a file
 abbrev pub bytes_of : Planned → ℕ → List ℕ
-bytes_of plan file = slice_index_or plan.texts file []
+bytes_of plan file = (input_of plan file).bytes
+
+-- whether its reading failed behind them
+abbrev pub is_cut : Planned → ℕ → Bool
+is_cut plan file = (input_of plan file).cut
+
+-- the names of kinds
+abbrev pub kinds_of : Planned → List (List ℕ)
+kinds_of plan = plan.table.kinds
 
 -- the name of a kind
 abbrev pub kind_of : Planned → ℕ → List ℕ
-kind_of plan number = slice_index_or plan.kinds number []
+kind_of plan number = kind_at plan.table number
 
--- the items of a file
+-- the items of a file: those that the tables give of its bytes
 abbrev pub items_of : Planned → ℕ → List Item
-items_of plan file = slice_index_or plan.items file []
+items_of plan file = scan.items_of plan.table (bytes_of plan file)
 
 -- what holds of every plan
 pub record IsPlan (plan : Planned) : Type 0 where
@@ -46,5 +55,5 @@ pub record IsPlan (plan : Planned) : Type 0 where
   pub few_files : files_of plan ≤ 65536
   pub some_items : 0 < plan.per_piece
   pub few_items : plan.per_piece ≤ 4096
-  pub lists : length plan.items ≡ files_of plan
-  pub items : (file : ℕ) → file < files_of plan → All (IsItemOf plan.kinds (bytes_of plan file)) (items_of plan file)
+  pub table : IsTable plan.table
+  pub items : (file : ℕ) → All (IsItemOf (kinds_of plan) (bytes_of plan file)) (items_of plan file)

@@ -1,8 +1,8 @@
 ghost use Rattle.std.specs.Prelude.{◌≡◌, ◌<◌, ◌≤◌, ◌⊎◌, ℕ, List, [], ◌∷◌, ◌++◌, length, MatchOption, MatchResult, OnOk, IfErr, IfOk, IfNone, IsTrue, slice_get, slice_index, false, true, All, replicate, ◌↔◌, Some, None};
 ghost use Rattle.lx_piece.specs.declared.piece.Piece.{Piece};
-ghost use Rattle.lx_piece.specs.Arrivals.{cause_against, accepted_of, IsClosedBelow};
+ghost use Rattle.lx_piece.specs.Arrivals.{cause_against, accepted_of, IsClosedBelow, IsCutBelow};
 ghost use Rattle.lx_piece.specs.Pieces.{top_number};
-ghost use Rattle.lx_piece.specs.Kept.{Lane, StandsFor, Delivers, NoneReady, KeepsIn, IsReadySet, fresh_lane, has_number, is_lane_closed, delivered_counts, site_of_kept};
+ghost use Rattle.lx_piece.specs.Kept.{Lane, StandsFor, Delivers, NoneReady, KeepsIn, IsReadySet, fresh_lane, has_number, is_lane_closed, is_lane_cut, delivered_counts, site_of_kept};
 
 use crate::lane::FileLane;
 use crate::piece::Piece;
@@ -155,6 +155,17 @@ impl Collector {
     {
         let lane = &self.lanes[file as usize];
         lane.is_closed()
+    }
+
+    /// The closing piece of the file was delivered, and is marked Cut.
+    pub fn is_cut(&self, file: u32) -> bool
+        requires { file < length self.now.lanes }
+        ensures lane { (lane : Lane) → slice_get self.now.lanes file ≡ Some lane → result ≡ is_lane_cut lane }
+        ensures cut { (came : List Piece) → StandsFor self.now came → IsTrue result ↔
+            IsCutBelow (accepted_of (site_of_kept self.now) came) file (slice_index (delivered_counts self.now) file) }
+    {
+        let lane = &self.lanes[file as usize];
+        lane.is_cut()
     }
 
     /// The closing piece of each file was delivered.

@@ -2,13 +2,23 @@ ghost use Rattle.std.specs.Prelude.{◌≡◌, ◌<◌, ℕ, List, OnOk, IfErr, 
 ghost use Rattle.lx_piece.specs.declared.piece.Piece.{Piece};
 ghost use Rattle.lx_piece.specs.Arrivals.{cause_among};
 ghost use Rattle.lx_piece.specs.Pieces.{top_number};
-ghost use Rattle.lx_piece.specs.Kept.{LaneStandsFor, held_at, has_number, is_ready, Advances, KeepsPiece, closed_before, is_lane_closed, fresh_lane};
+ghost use Rattle.lx_piece.specs.Kept.{LaneStandsFor, held_at, has_number, is_ready, Advances, KeepsPiece, closed_before, is_lane_closed, is_lane_cut, fresh_lane};
 
 use crate::piece::Piece;
 use crate::reply::Why;
 use std::alloc::Global;
 use std::collections::BTreeMap;
 use std::marker::Model;
+
+/// A number is known, and below another one.
+fn is_below(known: Option<u64>, number: u64) -> bool
+    ensures { result ≡ closed_before known number }
+{
+    match known {
+        Some(known) => known < number,
+        None => false,
+    }
+}
 
 /// What a collector keeps of one file.
 #[derive(Drop)]
@@ -17,6 +27,8 @@ pub(crate) struct FileLane {
     next: u64,
     /// The number of the closing piece, once it was accepted.
     closing: Option<u64>,
+    /// The same, where that piece is marked Cut.
+    cut: Option<u64>,
     /// The pieces that were accepted and not yet delivered, by their numbers.
     held: BTreeMap<u64, Piece>,
 }
@@ -30,7 +42,7 @@ impl Model for FileLane {
 
     ghost Value = { Lane };
 
-    ghost view = { λ s. record { next = s.next; closing = s.closing; held = s.held.entries } };
+    ghost view = { λ s. record { next = s.next; closing = s.closing; cut = s.cut; held = s.held.entries } };
 
     ghost invariant = { λ s. (n : ℕ) → IsSome (get nat_cmp s.held n) → n < top_number };
 }
@@ -43,6 +55,7 @@ impl FileLane {
         FileLane {
             next: 0,
             closing: None,
+            cut: None,
             held: BTreeMap::new(alloc),
         }
     }
@@ -58,10 +71,7 @@ impl FileLane {
     fn is_closed_before(&self, number: u64) -> bool
         ensures { result ≡ closed_before self.now.closing number }
     {
-        match self.closing {
-            Some(closing) => closing < number,
-            None => false,
-        }
+        is_below(self.closing, number)
     }
 
     /// A piece of a greater number is held.
@@ -101,10 +111,14 @@ impl FileLane {
     {
         let number = piece.number;
         let closes = piece.is_closing();
+        let is_cut = piece.is_cut_short();
         match self.held.insert(number, piece) {
             Ok(_) => {
                 if closes {
                     self.closing = Some(number);
+                }
+                if is_cut {
+                    self.cut = Some(number);
                 }
                 Ok(())
             }
@@ -142,5 +156,12 @@ impl FileLane {
         ensures { result ≡ is_lane_closed self.now }
     {
         self.is_closed_before(self.next())
+    }
+
+    /// The closing piece was delivered, and is marked Cut.
+    pub(crate) fn is_cut(&self) -> bool
+        ensures { result ≡ is_lane_cut self.now }
+    {
+        is_below(self.cut, self.next)
     }
 }

@@ -1,47 +1,47 @@
-ghost use Rattle.std.specs.Prelude.{◌≡◌, ◌<◌, ◌≤◌, length};
-ghost use Rattle.lx_piece.specs.Plans.{IsPlan, planned, files_of, bytes_of, kind_of, items_of};
+ghost use Rattle.std.specs.Prelude.{◌≡◌, ◌<◌, ◌≤◌, length, map, vec_len};
+ghost use Rattle.lx_piece.specs.Plans.{IsPlan, files_of, bytes_of, input_view, is_cut, kind_of, kinds_of};
 
-use lx_scan::Item;
+use crate::input::Input;
+use lx_scan::lines::items_have_their_lines;
+use lx_tables::Tables;
 use std::marker::Model;
 
-/// The files of one run, the items of each, and how the items are cut into pieces.
+/// The files of one run, the tables by which they are scanned, and how their items are cut into pieces.
 #[derive(Drop)]
 pub struct Plan {
-    kinds: Vec<Vec<u8>>,
-    files: Vec<Vec<u8>>,
-    items: Vec<Vec<Item>>,
+    tables: Tables,
+    files: Vec<Input>,
     per_piece: u32,
     run: u64,
 }
 
 impl Model for Plan {
-    ghost use Rattle.lx_piece.specs.Plans.{Planned, IsPlan, planned};
+    ghost use Rattle.std.specs.Prelude.{map};
+    ghost use Rattle.lx_piece.specs.Plans.{Planned, IsPlan, input_view};
 
     ghost Value = { Planned };
 
-    ghost view = { λ s. planned s.run s.per_piece s.kinds.items s.files.items s.items.items };
+    ghost view = { λ s. record { run = s.run; per_piece = s.per_piece; table = s.tables; inputs = map input_view s.files.items } };
 
-    ghost invariant = { λ s. IsPlan (planned s.run s.per_piece s.kinds.items s.files.items s.items.items) };
+    ghost invariant = { λ s. IsPlan (record { run = s.run; per_piece = s.per_piece; table = s.tables; inputs = map input_view s.files.items }) };
 }
 
 impl Plan {
-    /// A plan of files whose items are given. Each list of `items` is that of the file at its place; the
-    /// items lie in their file and name kinds that are there. `per_piece`, 1 to 4,096, is how many items a
+    /// A plan of 1 to 65,536 files, whose items are those that the tables give of them. `per_piece`, 1 to 4,096, is how many items a
     /// piece has, and `run` is the number that the pieces carry. It takes no memory.
-    pub fn of_items(
-        kinds: Vec<Vec<u8>>,
-        files: Vec<Vec<u8>>,
-        items: Vec<Vec<Item>>,
-        per_piece: u32,
-        run: u64,
-    ) -> Plan
-        requires { IsPlan (planned run per_piece kinds.items files.items items.items) }
-        ensures { result ≡ planned run per_piece kinds.items files.items items.items }
+    pub fn new(tables: Tables, files: Vec<Input>, per_piece: u32, run: u64) -> Plan
+        requires some_files { 0 < vec_len files }
+        requires few_files { vec_len files ≤ 65536 }
+        requires some_items { 0 < per_piece }
+        requires few_items { per_piece ≤ 4096 }
+        ensures { result ≡ record { run = run; per_piece = per_piece; table = tables; inputs = map input_view files.items } }
     {
+        // a law and a fact, that a plan's items are what it says of them
+        items_have_their_lines();
+        let _conditions = tables.conditions();
         Plan {
-            kinds,
+            tables,
             files,
-            items,
             per_piece,
             run,
         }
@@ -55,20 +55,35 @@ impl Plan {
         self.files.len() as u32
     }
 
-    /// The bytes of a file.
+    /// The bytes of a file, as far as it was read.
     pub fn bytes(&self, file: u32) -> &[u8]
         requires { file < files_of self.now }
         ensures { result.now ≡ bytes_of self.now file }
     {
-        self.files[file as usize].as_slice()
+        self.files[file as usize].bytes.as_slice()
     }
 
     /// The name of a kind.
     pub fn kind(&self, number: u32) -> &[u8]
-        requires { number < length self.now.kinds }
+        requires { number < length (kinds_of self.now) }
         ensures { result.now ≡ kind_of self.now number }
     {
-        self.kinds[number as usize].as_slice()
+        self.tables.kind(number)
+    }
+
+    /// Whether the reading of a file failed behind its bytes.
+    pub(crate) fn is_cut(&self, file: u32) -> bool
+        requires { file < files_of self.now }
+        ensures { result ≡ is_cut self.now file }
+    {
+        self.files[file as usize].cut
+    }
+
+    /// The tables by which the files are scanned.
+    pub(crate) fn tables(&self) -> &Tables
+        ensures { result.now ≡ self.now.table }
+    {
+        &self.tables
     }
 
     /// The number that the pieces carry.
@@ -85,13 +100,5 @@ impl Plan {
         ensures few { result ≤ 4096 }
     {
         self.per_piece
-    }
-
-    /// The items of a file.
-    pub(crate) fn items(&self, file: u32) -> &[Item]
-        requires { file < files_of self.now }
-        ensures { result.now ≡ items_of self.now file }
-    {
-        self.items[file as usize].as_slice()
     }
 }

@@ -2,6 +2,7 @@ pub mod Actions
 pub mod ByFits
 pub mod ByRuns
 pub mod Choosing
+pub mod Cursors
 pub mod OneList
 pub mod Placing
 pub mod Stepping

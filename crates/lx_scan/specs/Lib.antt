@@ -1,5 +1,6 @@
 pub mod Answers
 pub mod ByRules
+pub mod Cursors
 pub mod ItemParts
 pub mod Items
 pub mod Matching

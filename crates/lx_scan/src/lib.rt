@@ -3,12 +3,14 @@
 
 pub mod answering;
 mod choice;
+pub mod cursor;
 pub mod item;
 pub mod lines;
 pub mod place;
 pub mod ruling;
 pub mod scanner;
 
+pub use crate::cursor::Cursor;
 pub use crate::item::Item;
 pub use crate::place::{Match, Place};
 pub use crate::scanner::{next_match, scan};

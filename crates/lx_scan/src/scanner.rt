@@ -8,22 +8,12 @@ ghost use Rattle.lx_scan.specs.Matching.{GoesOn, IsFound, choice_in};
 ghost use Rattle.lx_scan.specs.Steps.{condition_after, items_of_steps, newlines};
 
 use crate::choice::choose;
+use crate::cursor::{Cursor, steps_of_match};
 use crate::item::Item;
 use crate::place::{Match, Place};
 use lx_spec::rule::Step;
 use lx_tables::Tables;
 use std::alloc::{AllocError, Global};
-
-// What is done where a rule matches, or none: a byte that no rule matches is echoed.
-fn steps_of_match(tables: &Tables, found: Match) -> &[Step]
-    requires { ForSome found.rule (λ i. i < length tables.now.rules) }
-    ensures { result.now ≡ steps_at tables.now (choice_in found) }
-{
-    match found.rule {
-        Some(rule) => tables.steps(rule),
-        None => &[Step::Echo],
-    }
-}
 
 // The condition behind the steps.
 fn condition_behind(steps: &[Step], condition: u16) -> u16
@@ -117,35 +107,6 @@ pub fn next_match(tables: &Tables, text: &[u8], place: Place) -> Option<(Match, 
     Some((found, next))
 }
 
-// Adds the items that the steps give of `len` bytes from `start`, which stands on this line.
-fn push_items(
-    items: &mut Vec<Item>,
-    steps: &[Step],
-    line: u64,
-    start: usize,
-    len: usize,
-) -> Result<(), AllocError>
-    ensures { OnOk result (items.new.items ≡ items.old.items ++ items_of_steps steps.now line start len) }
-{
-    for step in steps {
-        match step {
-            Step::Echo => {
-                items.push(Item::Echo { line, start, len })?;
-            }
-            Step::Begin(_) => {}
-            Step::Return(kind) => {
-                items.push(Item::Token {
-                    kind: *kind,
-                    line,
-                    start,
-                    len,
-                })?;
-            }
-        }
-    }
-    Ok(())
-}
-
 /// The items of a text by the tables (XCU `lex`, "Rules in lex" and "Actions in lex"). AllocError where memory is refused.
 pub fn scan(alloc: Global, tables: &Tables, text: &[u8]) -> Result<Vec<Item>, AllocError>
     ensures { IfOk result (λ items. items.items ≡ items_of tables.now text.now) }
@@ -153,16 +114,9 @@ pub fn scan(alloc: Global, tables: &Tables, text: &[u8]) -> Result<Vec<Item>, Al
     // its contract says that there is a condition
     let _conditions = tables.conditions();
     let mut items = Vec::new(alloc);
-    let mut place = Place::begin();
-    'matches: while let Some((found, next)) = next_match(tables, text, place) {
-        push_items(
-            &mut items,
-            steps_of_match(tables, found),
-            place.line,
-            found.start,
-            found.len,
-        )?;
-        place = next;
+    let mut cursor = Cursor::begin();
+    while let Some(item) = cursor.next_item(tables, text) {
+        items.push(item)?;
     }
     Ok(items)
 }

@@ -1,0 +1,115 @@
+//! The items of a text one after the other.
+
+ghost use Rattle.std.specs.Prelude.{◌≡◌, ◌<◌, ◌++◌, ℕ, List, [], length, IfNone};
+ghost use Rattle.std.specs.Option.{ForSome};
+ghost use Rattle.lx_tables.specs.Model.{IsTable, Table};
+ghost use Rattle.lx_scan.specs.Cursors.{IsInText, items_left, item_of_step, listed, steps_left};
+ghost use Rattle.lx_scan.specs.Items.{items_of, steps_at};
+ghost use Rattle.lx_scan.specs.Matching.{choice_in};
+ghost use Rattle.lx_scan.specs.Steps.{items_of_steps};
+
+use crate::item::Item;
+use crate::place::{Match, Place};
+use crate::scanner::next_match;
+use lx_spec::rule::Step;
+use lx_tables::Tables;
+
+/// Between two items of a text: at a match, with so many steps of its rule's action done, and before the place behind it.
+#[derive(Clone, Copy, Debug, PartialEq, Eq)]
+pub struct Cursor {
+    /// The match; before the first one it is one of no rule.
+    pub found: Match,
+    /// The line on which it begins.
+    pub line: u64,
+    /// How many steps are done where it matches.
+    pub done: usize,
+    /// The place behind it.
+    pub place: Place,
+}
+
+// What is done where a rule matches, or none: a byte that no rule matches is echoed.
+pub(crate) fn steps_of_match(tables: &Tables, found: Match) -> &[Step]
+    requires { ForSome found.rule (λ i. i < length tables.now.rules) }
+    ensures { result.now ≡ steps_at tables.now (choice_in found) }
+{
+    match found.rule {
+        Some(rule) => tables.steps(rule),
+        None => &[Step::Echo],
+    }
+}
+
+// The item that a step gives of `len` bytes from `start`, which stands on this line.
+fn item_of(step: Step, line: u64, start: usize, len: usize) -> Option<Item>
+    ensures { result ≡ item_of_step step line start len }
+{
+    match step {
+        Step::Echo => Some(Item::Echo { line, start, len }),
+        Step::Begin(_) => None,
+        Step::Return(kind) => Some(Item::Token {
+            kind,
+            line,
+            start,
+            len,
+        }),
+    }
+}
+
+impl Cursor {
+    /// Before the first item of a text.
+    pub fn begin() -> Cursor
+        ensures items { (table : Table) (text : List ℕ) → items_left table text result ≡ items_of table text }
+        ensures in_text { (table : Table) (text : List ℕ) → IsTable table → IsInText table text result }
+    {
+        Cursor {
+            found: Match {
+                rule: None,
+                start: 0,
+                len: 0,
+            },
+            line: 1,
+            done: 1,
+            place: Place::begin(),
+        }
+    }
+
+    // The next item at the match, if a step that is left gives one.
+    fn next_at_match(&mut self, tables: &Tables) -> Option<Item>
+        requires { ForSome self.old.found.rule (λ i. i < length tables.now.rules) }
+        ensures same { self.new ≡ record self.old { done = self.new.done } }
+        ensures items { items_of_steps (steps_left tables.now self.old) self.old.line self.old.found.start self.old.found.len
+            ≡ listed result ++ items_of_steps (steps_left tables.now self.new) self.old.line self.old.found.start self.old.found.len }
+        ensures none { IfNone result (items_of_steps (steps_left tables.now self.new) self.old.line self.old.found.start self.old.found.len ≡ []) }
+    {
+        let steps = steps_of_match(tables, self.found);
+        while self.done < steps.len() {
+            let step = steps[self.done];
+            self.done += 1;
+            let item = item_of(step, self.line, self.found.start, self.found.len);
+            if item.is_some() {
+                return item;
+            }
+        }
+        None
+    }
+
+    /// The next item, and None behind the last one. It takes no memory.
+    pub fn next_item(&mut self, tables: &Tables, text: &[u8]) -> Option<Item>
+        requires { IsInText tables.now text.now self.old }
+        ensures in_text { IsInText tables.now text.now self.new }
+        ensures items { items_left tables.now text.now self.old ≡ listed result ++ items_left tables.now text.now self.new }
+        ensures end { IfNone result (items_left tables.now text.now self.new ≡ []) }
+    {
+        let mut item = self.next_at_match(tables);
+        while item.is_none() {
+            let (found, next) = next_match(tables, text, self.place)?;
+            *self = Cursor {
+                found,
+                line: self.place.line,
+                done: 0,
+                place: next,
+            };
+            item = self.next_at_match(tables);
+        }
+        item
+    }
+}
