@@ -1,59 +1,69 @@
-ghost use Rattle.std.specs.Prelude.{◌≡◌, ◌+◌, ◌<◌, IfOk, OnErr, MatchOption};
-ghost use Rattle.lx_piece.specs.Plans.{files_of, items_of};
-ghost use Rattle.lx_piece.specs.Pieces.{piece_at, pieces_of, part, IsPieceOf};
-ghost use Rattle.lx_piece.specs.Cutting.{IsCutterOf};
+//! The pieces of a file, cut as they are asked for.
+
+ghost use Rattle.std.specs.Prelude.{◌≡◌, ◌+◌, ◌<◌, ◌++◌, [], ℕ, List, drop, take, IfNone, IfOk, OnErr, MatchOption, None};
+ghost use Rattle.lx_scan.specs.Cursors.{IsInText, items_left, listed};
+ghost use Rattle.lx_scan.specs.declared.item.Item.{Item};
+ghost use Rattle.lx_piece.specs.Cutting.{IsCutterOf, items_ahead};
+ghost use Rattle.lx_piece.specs.Pieces.{IsPieceOf, mark_of, piece_at, pieces_of};
+ghost use Rattle.lx_piece.specs.Plans.{bytes_of, files_of, is_cut};
 
 use crate::items::Items;
-use crate::piece::Piece;
+use crate::piece::{Mark, Piece};
 use crate::plan::Plan;
-use lx_scan::Item;
+use lx_scan::{Cursor, Item};
+use lx_tables::Tables;
 use std::alloc::{AllocError, Global};
 use std::marker::Model;
 
-/// How many pieces a file has.
-fn piece_count(plan: &Plan, file: u32) -> u64
-    requires { file < files_of plan.now }
-    ensures { result ≡ pieces_of plan.now file }
+// Takes the items that are ahead, `most` at most, and gives the one behind them.
+fn take_items(
+    tables: &Tables,
+    text: &[u8],
+    cursor: &mut Cursor,
+    first: Option<Item>,
+    most: usize,
+    items: &mut Vec<Item>,
+) -> Result<Option<Item>, AllocError>
+    requires in_text { IsInText tables.now text.now cursor.old }
+    requires none { items.old.items ≡ [] }
+    requires some { 0 < most }
+    ensures in_text { IsInText tables.now text.now cursor.new }
+    ensures items { IfOk result (λ _. items.new.items ≡ take most (items_ahead tables.now text.now first cursor.old)) }
+    ensures rest { IfOk result (λ next. items_ahead tables.now text.now next cursor.new ≡ drop most (items_ahead tables.now text.now first cursor.old)) }
+    ensures end { IfOk result (λ next. IfNone next (drop most (items_ahead tables.now text.now first cursor.old) ≡ [])) }
 {
-    let items = plan.items(file).len() as u64;
-    items.div_ceil(u64::from(plan.per_piece())).max(1)
+    let mut next = first.or_else(|| cursor.next_item(tables, text));
+    while items.len() < most {
+        let Some(item) = next else {
+            return Ok(None);
+        };
+        items.push(item)?;
+        next = cursor.next_item(tables, text);
+    }
+    Ok(next)
 }
 
-/// The items of a piece.
-fn part_of(plan: &Plan, file: u32, number: u64) -> &[Item]
-    requires file { file < files_of plan.now }
-    requires number { number < pieces_of plan.now file }
-    ensures { result.now ≡ part plan.now.per_piece (items_of plan.now file) number }
+// The mark of a piece: of the last one it is Cut where its file's reading failed, and else Whole.
+fn mark(is_last: bool, is_cut: bool) -> Mark
+    ensures { result ≡ (if is_last then (if is_cut then Mark.Cut else Mark.Whole) else Mark.More) }
 {
-    let per_piece = plan.per_piece() as usize;
-    let items = plan.items(file);
-    let rest = &items[number as usize * per_piece..];
-    &rest[..per_piece.min(rest.len())]
+    match (is_last, is_cut) {
+        (false, _) => Mark::More,
+        (true, false) => Mark::Whole,
+        (true, true) => Mark::Cut,
+    }
 }
 
-/// Makes a piece, in new memory.
-fn cut(alloc: Global, plan: &Plan, file: u32, number: u64) -> Result<Piece, AllocError>
-    requires file { file < files_of plan.now }
-    requires number { number < pieces_of plan.now file }
-    ensures { IfOk result (λ piece. piece ≡ piece_at plan.now file number) }
-{
-    let pieces = piece_count(plan, file);
-    let items = Vec::from_slice(alloc, part_of(plan, file, number))?;
-    Ok(Piece {
-        run: plan.run(),
-        file,
-        number,
-        last: number + 1 == pieces,
-        items: Items::from_vec(items),
-    })
-}
-
-/// Cuts a file into its pieces, one after the other.
+/// Cuts a file into its pieces, one after the other, and scans it no further than to the first item behind the piece.
 #[derive(Drop)]
 pub struct Cutter {
     alloc: Global,
     file: u32,
+    // The number of the next piece.
     number: u64,
+    cursor: Cursor,
+    // The item behind the last piece, which was looked at for that piece's mark.
+    ahead: Option<Item>,
 }
 
 impl Model for Cutter {
@@ -61,7 +71,7 @@ impl Model for Cutter {
 
     ghost Value = { Cutting };
 
-    ghost view = { λ s. record { file = s.file; next = s.number } };
+    ghost view = { λ s. record { file = s.file; next = s.number; cursor = s.cursor; ahead = s.ahead } };
 }
 
 impl Cutter {
@@ -69,13 +79,17 @@ impl Cutter {
     pub fn new(alloc: Global, plan: &Plan, file: u32) -> Cutter
         requires { file < files_of plan.now }
         ensures cutter { IsCutterOf plan.now result }
-        ensures first { result ≡ record { file = file; next = 0 } }
+        ensures file { result.file ≡ file }
+        ensures first { result.next ≡ 0 }
     {
-        let _ = plan;
+        // its contract says that the plan's tables are tables
+        let _files = plan.files();
         Cutter {
             alloc,
             file,
             number: 0,
+            cursor: Cursor::begin(),
+            ahead: None,
         }
     }
 
@@ -84,17 +98,43 @@ impl Cutter {
     pub fn next_piece(&mut self, plan: &Plan) -> Result<Option<Piece>, AllocError>
         requires { IsCutterOf plan.now self.old }
         ensures cutter { IsCutterOf plan.now self.new }
+        ensures file { self.new.file ≡ self.old.file }
         ensures piece { IfOk result (λ next. MatchOption next
             ((self.old.next ≡ pieces_of plan.now self.old.file) × (self.new ≡ self.old))
-            (λ piece. IsPieceOf plan.now piece × (piece ≡ piece_at plan.now self.old.file self.old.next)
-            × (self.new ≡ record self.old { next = self.old.next + 1 }))) }
+            (λ piece. IsPieceOf plan.now piece × (piece ≡ piece_at plan.now self.old.file self.old.next) × (self.new.next ≡ self.old.next + 1))) }
         ensures err { OnErr result (self.new ≡ self.old) }
     {
-        if self.number >= piece_count(plan, self.file) {
+        if self.number > 0 && self.ahead.is_none() {
             return Ok(None);
         }
-        let piece = cut(self.alloc, plan, self.file, self.number)?;
+        // no piece has this number
+        if self.number == u64::MAX {
+            return Err(AllocError);
+        }
+        let text = plan.bytes(self.file);
+        let most = plan.per_piece() as usize;
+        let mut cursor = self.cursor;
+        // few items are left where few bytes are, but for those that are echoed more than once
+        let expected = most.min(text.len() - cursor.place.offset + 1);
+        let mut items = Vec::with_capacity(self.alloc, expected)?;
+        let ahead = take_items(
+            plan.tables(),
+            text,
+            &mut cursor,
+            self.ahead,
+            most,
+            &mut items,
+        )?;
+        let piece = Piece {
+            run: plan.run(),
+            file: self.file,
+            number: self.number,
+            mark: mark(ahead.is_none(), plan.is_cut(self.file)),
+            items: Items::from_vec(items),
+        };
         self.number += 1;
+        self.cursor = cursor;
+        self.ahead = ahead;
         Ok(Some(piece))
     }
 }

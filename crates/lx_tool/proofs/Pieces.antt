@@ -9,7 +9,7 @@ use Rattle.std.proofs.Math.Bool.{or-false}
 use Rattle.lx_scan.specs.declared.item.Item.{Item}
 use Rattle.lx_piece.specs.declared.piece.Piece.{Piece}
 use Rattle.lx_scan.specs.ItemParts.{IsItemOf}
-use Rattle.lx_piece.specs.Plans.{Planned, IsPlan, files_of, bytes_of}
+use Rattle.lx_piece.specs.Plans.{Planned, IsPlan, files_of, bytes_of, kinds_of}
 use Rattle.lx_piece.specs.Pieces.{is_closing, contents, pieces_to}
 use Rattle.lx_piece.specs.PieceLaws.{prefix_to}
 use Rattle.lx_tool.specs.Lines.{line_of, lines_of}
@@ -34,10 +34,10 @@ items_within P done rest piece h =
     all_left P piece.items (contents rest) (all_right P (contents done) (contents (piece ∷ rest)) (subst (All P) (contents_both done (piece ∷ rest)) h))
 
 -- the items of the first pieces of a file are the file's
-pub first_items : (plan : Planned) (file count : ℕ) → IsPlan plan → file < files_of plan → All (IsItemOf plan.kinds (bytes_of plan file)) (contents (pieces_to plan file count))
+pub first_items : (plan : Planned) (file count : ℕ) → IsPlan plan → file < files_of plan → All (IsItemOf (kinds_of plan) (bytes_of plan file)) (contents (pieces_to plan file count))
 first_items plan file count is within =
     let begins = prefix_to plan file count in
-    all_left (IsItemOf plan.kinds (bytes_of plan file)) (contents (pieces_to plan file count)) begins.0 (subst (All (IsItemOf plan.kinds (bytes_of plan file))) (sym begins.1) (is.items file within))
+    all_left (IsItemOf (kinds_of plan) (bytes_of plan file)) (contents (pieces_to plan file count)) begins.0 (subst (All (IsItemOf (kinds_of plan) (bytes_of plan file))) (sym begins.1) (is.items file))
 
 -- the lines of pieces and then of further ones
 pub lines_both : (plan : Planned) (file : ℕ) (xs ys : List Piece) → lines_of plan file (contents (xs ++ ys)) ≡ lines_of plan file (contents xs) ++ lines_of plan file (contents ys)

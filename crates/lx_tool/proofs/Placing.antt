@@ -7,7 +7,7 @@ use Rattle.std.proofs.lemmas.List.{get_or-set_other, get_or-set_same, get_or_pas
 use Rattle.std.proofs.Math.ListN.{length-set}
 use Rattle.lx_piece.specs.declared.piece.Piece.{Piece}
 use Rattle.lx_scan.specs.ItemParts.{IsItemOf}
-use Rattle.lx_piece.specs.Plans.{Planned, IsPlan, files_of, bytes_of}
+use Rattle.lx_piece.specs.Plans.{Planned, IsPlan, files_of, bytes_of, kinds_of}
 use Rattle.lx_piece.specs.Pieces.{IsPrefix, contents, is_closing, piece_at, pieces_of, pieces_to}
 use Rattle.lx_piece.specs.PieceLaws.{prefix_to, takes_in_order, closed_at, whole_at}
 use Rattle.lx_piece.specs.Relayed.{IsNextPiece}
@@ -29,10 +29,10 @@ next_lines plan counts p next =
     ap (λ ps. lines_of plan p.file (contents ps)) (next_to plan counts p next) ∙ lines_one plan p.file (pieces_to plan p.file (slice_index counts p.file)) p
 
 -- its items are the file's
-pub next_items : (plan : Planned) (counts : List ℕ) (p : Piece) → IsPlan plan → IsNextPiece plan counts p → All (IsItemOf plan.kinds (bytes_of plan p.file)) p.items
+pub next_items : (plan : Planned) (counts : List ℕ) (p : Piece) → IsPlan plan → IsNextPiece plan counts p → All (IsItemOf (kinds_of plan) (bytes_of plan p.file)) p.items
 next_items plan counts p is next =
-    items_within (IsItemOf plan.kinds (bytes_of plan p.file)) (pieces_to plan p.file (slice_index counts p.file)) [] p
-    (subst (λ ps. All (IsItemOf plan.kinds (bytes_of plan p.file)) (contents ps)) (next_to plan counts p next) (first_items plan p.file (slice_index counts p.file + 1) is next.planned.file))
+    items_within (IsItemOf (kinds_of plan) (bytes_of plan p.file)) (pieces_to plan p.file (slice_index counts p.file)) [] p
+    (subst (λ ps. All (IsItemOf (kinds_of plan) (bytes_of plan p.file)) (contents ps)) (next_to plan counts p next) (first_items plan p.file (slice_index counts p.file + 1) is next.planned.file))
 
 -- it is marked exactly where it is the file's last one
 pub next_closing : (plan : Planned) (counts : List ℕ) (p : Piece) → IsNextPiece plan counts p → is_closing p ≡ true → slice_index counts p.file + 1 ≡ pieces_of plan p.file

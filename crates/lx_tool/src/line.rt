@@ -2,7 +2,7 @@ ghost use Rattle.std.specs.Prelude.{◌≡◌, ◌<◌, ◌++◌, OnOk, decimal}
 ghost use Rattle.std.specs.List.{flat_map};
 ghost use Rattle.lx_scan.specs.ItemParts as parts;
 ghost use Rattle.lx_scan.specs.ItemParts.{start_of, len_of, IsItemOf, IsKindAmong, NamesKindAmong};
-ghost use Rattle.lx_piece.specs.Plans.{files_of, bytes_of};
+ghost use Rattle.lx_piece.specs.Plans.{files_of, bytes_of, kinds_of};
 ghost use Rattle.lx_tool.specs.Lines.{hex_digit, escaped, class_text, name_text, kind_text, line_of};
 
 use itoa::Buffer;
@@ -54,7 +54,7 @@ fn push_class(line: &mut Vec<u8>, item: &Item) -> Result<(), AllocError>
 }
 
 fn push_name(line: &mut Vec<u8>, plan: &Plan, kind: Kind) -> Result<(), AllocError>
-    requires { IsKindAmong plan.now.kinds kind }
+    requires { IsKindAmong (kinds_of plan.now) kind }
     ensures { OnOk result (line.new.items ≡ line.old.items ++ name_text plan.now kind) }
 {
     match kind {
@@ -64,7 +64,7 @@ fn push_name(line: &mut Vec<u8>, plan: &Plan, kind: Kind) -> Result<(), AllocErr
 }
 
 fn push_kind(line: &mut Vec<u8>, plan: &Plan, item: &Item) -> Result<(), AllocError>
-    requires { NamesKindAmong plan.now.kinds item.now }
+    requires { NamesKindAmong (kinds_of plan.now) item.now }
     ensures { OnOk result (line.new.items ≡ line.old.items ++ kind_text plan.now item.now) }
 {
     match item {
@@ -101,7 +101,7 @@ pub(crate) fn make_line(
     item: &Item,
 ) -> Result<(), AllocError>
     requires file { file < files_of plan.now }
-    requires item { IsItemOf plan.now.kinds (bytes_of plan.now file) item.now }
+    requires item { IsItemOf (kinds_of plan.now) (bytes_of plan.now file) item.now }
     ensures { OnOk result (line.new.items ≡ line_of plan.now file item.now) }
 {
     let (start, len) = extent(item);

@@ -3,7 +3,7 @@ ghost use Rattle.std.specs.Io.KnownBytes.{Appends};
 ghost use Rattle.std.specs.List.{list_any};
 ghost use Rattle.lx_piece.specs.declared.piece.Piece.{Piece};
 ghost use Rattle.lx_scan.specs.ItemParts.{IsItemOf};
-ghost use Rattle.lx_piece.specs.Plans.{IsPlan, files_of, bytes_of};
+ghost use Rattle.lx_piece.specs.Plans.{IsPlan, files_of, bytes_of, kinds_of};
 ghost use Rattle.lx_piece.specs.Pieces.{contents, is_closing};
 ghost use Rattle.lx_piece.specs.Relayed.{IsNextPiece};
 ghost use Rattle.lx_tool.specs.Lines.{lines_of};
@@ -24,7 +24,7 @@ fn write_waiting<W: Write>(
     waiting: &mut VecDeque<Piece>,
 ) -> Result<bool, ReaderFault>
     requires file { file < files_of plan.now }
-    requires items { All (IsItemOf plan.now.kinds (bytes_of plan.now file)) (contents waiting.old.items) }
+    requires items { All (IsItemOf (kinds_of plan.now) (bytes_of plan.now file)) (contents waiting.old.items) }
     ensures closed { IfOk result (λ closed. closed ≡ list_any is_closing waiting.old.items) }
     ensures ok { OnOk result (Appends (W.contents out.old) (W.contents out.new) (lines_of plan.now file (contents waiting.old.items))) }
     ensures err { OnErr result (AppendsPrefix (W.contents out.old) (W.contents out.new) (lines_of plan.now file (contents waiting.old.items))) }

@@ -2,7 +2,7 @@ ghost use Rattle.std.specs.Prelude.{◌≡◌, ◌<◌, IfOk, IfErr, OnOk, OnErr
 ghost use Rattle.std.specs.Io.KnownBytes.{Appends, Keeps};
 ghost use Rattle.std.specs.List.{list_any};
 ghost use Rattle.lx_scan.specs.ItemParts.{IsItemOf};
-ghost use Rattle.lx_piece.specs.Plans.{files_of, bytes_of};
+ghost use Rattle.lx_piece.specs.Plans.{files_of, bytes_of, kinds_of};
 ghost use Rattle.lx_piece.specs.Pieces.{contents, is_closing};
 ghost use Rattle.lx_tool.specs.Lines.{line_of, lines_of};
 ghost use Rattle.lx_tool.specs.Listings.{AppendsPrefix, AppendsWhole};
@@ -40,7 +40,7 @@ fn write_item<W: Write>(
     item: &Item,
 ) -> Result<(), ReaderFault>
     requires file { file < files_of plan.now }
-    requires item { IsItemOf plan.now.kinds (bytes_of plan.now file) item.now }
+    requires item { IsItemOf (kinds_of plan.now) (bytes_of plan.now file) item.now }
     ensures ok { OnOk result (Appends (W.contents out.old) (W.contents out.new) (line_of plan.now file item.now)) }
     ensures err { OnErr result (AppendsPrefix (W.contents out.old) (W.contents out.new) (line_of plan.now file item.now)) }
     ensures memory { IfErr result (λ fault. fault ≡ ReaderFault.Memory → Keeps (W.contents out.old) (W.contents out.new)) }
@@ -60,7 +60,7 @@ pub(crate) fn write_items<W: Write>(
     items: &[Item],
 ) -> Result<(), ReaderFault>
     requires file { file < files_of plan.now }
-    requires items { All (IsItemOf plan.now.kinds (bytes_of plan.now file)) items.now }
+    requires items { All (IsItemOf (kinds_of plan.now) (bytes_of plan.now file)) items.now }
     ensures ok { OnOk result (Appends (W.contents out.old) (W.contents out.new) (lines_of plan.now file items.now)) }
     ensures err { OnErr result (AppendsPrefix (W.contents out.old) (W.contents out.new) (lines_of plan.now file items.now)) }
     // Where memory is refused for a line, nothing of it is written.

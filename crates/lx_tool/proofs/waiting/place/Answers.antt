@@ -4,7 +4,7 @@ use Rattle.std.specs.Io.KnownBytes.{Appends}
 use Rattle.std.proofs.lemmas.Result.{err_from_is_err_and, IfErr-weaker}
 use Rattle.lx_piece.specs.declared.reader.ReaderFault.TheVariants.{Memory}
 use Rattle.lx_scan.specs.ItemParts.{IsItemOf}
-use Rattle.lx_piece.specs.Plans.{files_of, bytes_of}
+use Rattle.lx_piece.specs.Plans.{files_of, bytes_of, kinds_of}
 use Rattle.lx_tool.specs.Lines.{lines_of}
 use Rattle.lx_tool.specs.Listings.{AppendsPrefix, AppendsWhole, listing_to}
 use Rattle.lx_tool.specs.Waiting.{Places, WritesOn, WritesInPart, due_by, queued}
@@ -26,8 +26,8 @@ pub write_items-requires-clause-items : goal.write_items-requires-clause-items
 write_items-requires-clause-items g c =
     let plan = c.args.plan.now in
     let w = c.requires.next in
-    subst (All (IsItemOf plan.kinds (bytes_of plan c.args.first))) (sym c.as_slice.ensures)
-    (subst (λ (f : ℕ). All (IsItemOf plan.kinds (bytes_of plan f)) c.args.piece.items) c.if-piece-first.false (next_items plan w.0 c.args.piece c.requires.plan w.2))
+    subst (All (IsItemOf (kinds_of plan) (bytes_of plan c.args.first))) (sym c.as_slice.ensures)
+    (subst (λ (f : ℕ). All (IsItemOf (kinds_of plan) (bytes_of plan f)) c.args.piece.items) c.if-piece-first.false (next_items plan w.0 c.args.piece c.requires.plan w.2))
 
 pub returns-in_err-write_items-clause-placed : goal.returns-in_err-write_items-clause-placed
 returns-in_err-write_items-clause-placed g c = λ counts k next.

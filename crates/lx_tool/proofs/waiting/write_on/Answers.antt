@@ -4,7 +4,7 @@ use Rattle.std.specs.List.{list_any}
 use Rattle.std.specs.Io.KnownBytes.{Appends}
 use Rattle.std.proofs.lemmas.Result.{err_from_is_err_and}
 use Rattle.lx_scan.specs.ItemParts.{IsItemOf}
-use Rattle.lx_piece.specs.Plans.{files_of, bytes_of}
+use Rattle.lx_piece.specs.Plans.{files_of, bytes_of, kinds_of}
 use Rattle.lx_piece.specs.Pieces.{contents, is_closing}
 use Rattle.lx_tool.specs.Lines.{lines_of}
 use Rattle.lx_tool.specs.Listings.{AppendsPrefix}
@@ -24,7 +24,7 @@ write_waiting-requires-clause-items g c =
     let here : file < length queues = omega (arith, queue_count queues, w.lists, c.requires.waits.lists) in
     let read = queue_read queues file c.index_mut.result.now here c.index_mut.ensures.value in
     let are = next_pieces plan c.args.from (queued c.args.waiting.now.items) file (queued queues) (g.W.Write.contents c.args.out.now) (g.W.Write.contents c.loop-file.out) c.requires.waits w within in
-    subst (λ ps. All (IsItemOf plan.kinds (bytes_of plan file)) (contents ps)) (sym are.same ∙ read) (first_items plan file are.count c.files.ensures.plan within)
+    subst (λ ps. All (IsItemOf (kinds_of plan) (bytes_of plan file)) (contents ps)) (sym are.same ∙ read) (first_items plan file are.count c.files.ensures.plan within)
 
 pub returns-in_err-write_waiting-clause-err : goal.returns-in_err-write_waiting-clause-err
 returns-in_err-write_waiting-clause-err g c =

@@ -4,7 +4,7 @@ use Rattle.std.specs.Io.KnownBytes.{Appends}
 use Rattle.std.proofs.lemmas.Bool.{or_left}
 use Rattle.std.proofs.lemmas.Result.{err_from_is_err_and}
 use Rattle.lx_scan.specs.ItemParts.{IsItemOf}
-use Rattle.lx_piece.specs.Plans.{bytes_of}
+use Rattle.lx_piece.specs.Plans.{bytes_of, kinds_of}
 use Rattle.lx_piece.specs.Pieces.{contents, is_closing}
 use Rattle.lx_tool.specs.Lines.{lines_of}
 use Rattle.lx_tool.specs.Listings.{AppendsPrefix}
@@ -15,7 +15,7 @@ use Rattle.lx_tool.proofs.waiting.write_waiting.Goals.{then-closed, else-closed}
 
 pub write_items-requires-clause-items : goal.write_items-requires-clause-items
 write_items-requires-clause-items g c =
-    let P = IsItemOf c.args.plan.now.kinds (bytes_of c.args.plan.now c.args.file) in
+    let P = IsItemOf (kinds_of c.args.plan.now) (bytes_of c.args.plan.now c.args.file) in
     subst (All P) (sym c.as_slice.ensures) (some_items P c.args.plan.now c.args.file _ _ _ _ _ _ c.in-Some.piece c.loop-piece.invariant c.in-Some.ensures.items c.requires.items)
 
 pub returns-in_err-write_items-clause-err : goal.returns-in_err-write_items-clause-err
