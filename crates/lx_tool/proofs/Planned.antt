@@ -1,5 +1,5 @@
 -- Plans by tables, and by the rules of a specification.
-use Rattle.std.proofs.Common.{◌≡◌, ℕ, ◌<◌, List, Option, inl, inr, ⊥, All, length, sym, ◌∙◌, ap, subst, arith}
+use Rattle.std.proofs.Common.{◌≡◌, ℕ, ◌<◌, List, Option, inl, inr, All, length, refl, sym, ◌∙◌, ap, arith}
 use Rattle.std.specs.Prelude.{slice_index}
 use Rattle.lx_spec.specs.Plain.{PlainSpec}
 use Rattle.lx_tables.specs.Model.{Table, IsTable, AreTablesOf}
@@ -45,9 +45,12 @@ prefix_by_rules ends text table inputs old new law is of bytes lists = record {
   wrote = lists.wrote;
 }
 
+other_digit : (a b : ℕ) → a ≡ 49 → b ≡ 50 → a ≡ b → ⊥
+other_digit a b one two same = absurd (omega arith)
+
 -- no text is of both versions
 differ : (s t : Table) → text_1 s ≡ text_2 t → ⊥
-differ s t e = let f : 49 ≡ 50 = ap (λ (text : List ℕ). slice_index text 10) e in absurd (omega arith)
+differ s t e = other_digit (slice_index (text_1 s) 10) (slice_index (text_2 t) 10) refl refl (ap (λ (text : List ℕ). slice_index text 10) e)
 
 -- a text is that of one table
 pub one_table : (s t : Table) (text : List ℕ) → IsOneToOne text_1 → IsOneToOne text_2 → IsTable s → IsTable t → IsTextOf s text → IsTextOf t text → s ≡ t

@@ -2,7 +2,7 @@ use Rattle.std.proofs.Common.{ℕ, ◌≡◌, ◌≢◌, ◌+◌, ◌-◌, ◌<�
 use Rattle.std.specs.Prelude.{slice_index_or}
 use Rattle.std.specs.Str.{bytes_eq}
 use Rattle.std.proofs.lemmas.Slice.Eq.{bytes_eq-Decides}
-use Rattle.std.proofs.lemmas.List.{take_all, drop_more, take-append-drop, get_or-map, length-map}
+use Rattle.std.proofs.lemmas.List.{take_all, drop_all, drop_more, take-append-drop, get_or-map, length-map}
 use Rattle.std.proofs.lemmas.List.Elements.{All-more}
 use Rattle.lx_piece.specs.Plans.{PlainInput}
 use Rattle.lx_tool.specs.Sources.{AreGiven, none, first, IsFirstNamed, NoneIsNamed, cut_names, inputs_of, is_among, named_input}
@@ -11,6 +11,9 @@ use Rattle.lx_tool.specs.Sources.{AreGiven, none, first, IsFirstNamed, NoneIsNam
 
 abbrev NamedBytes : Type 0
 NamedBytes = Bor (List ℕ) × Bor (List ℕ)
+
+abbrev plain : List ℕ → Bool → PlainInput
+plain bytes is_cut = record { bytes = bytes; cut = is_cut }
 
 module _ (cut : List (List ℕ)) (files : List NamedBytes) (name : List ℕ) (i : ℕ) (d : NamedBytes) (l : i < length files) where
   shown_at : slice_index_or (inputs_of cut files) i (named_input cut d) ≡ named_input cut (slice_index_or files i d)
@@ -41,9 +44,9 @@ module _ (cut : List (List ℕ)) (files : List NamedBytes) (name : List ℕ) (i 
     first_named input equal none_before bytes is_cut =
         let all = inputs_of cut files in
         let at : named_input cut (slice_index_or files i d) ≡ (name, input)
-        = ap (λ (n : List ℕ). (n, record PlainInput { bytes = (slice_index_or files i d).1.now; cut = is_among cut n })) (is_name equal)
-          ∙ ap (λ (bs : List ℕ). (name, record PlainInput { bytes = bs; cut = is_among cut name })) (sym bytes)
-          ∙ ap (λ (c : Bool). (name, record PlainInput { bytes = input.bytes; cut = c })) (sym is_cut) in
+        = ap (λ (n : List ℕ). (n, plain (slice_index_or files i d).1.now (is_among cut n))) (is_name equal)
+          ∙ ap (λ (bs : List ℕ). (name, plain bs (is_among cut name))) (sym bytes)
+          ∙ ap (λ (c : Bool). (name, plain input.bytes c)) (sym is_cut) in
         let here : slice_index_or all i (named_input cut d) ≡ (name, input) = shown_at ∙ at in
         record {
           before = take i all;
@@ -59,8 +62,10 @@ none_at_all cut files name i l none_before = subst (λ fs. NoneIsNamed fs name) 
 
 pub given_more : {S : Type 0} (gives : S → List ℕ → PlainInput → S → Type 0) (s t u : S) (names : List (List ℕ)) (inputs : List PlainInput) (name : List ℕ) (input : PlainInput) →
     AreGiven gives s names inputs t → gives t name input u → AreGiven gives s (names ++ name ∷ []) (inputs ++ input ∷ []) u
-given_more gives s s u [] [] name input (none s) h = first s u u name input [] [] h (none u)
-given_more gives s t u (n ∷ ns) (i ∷ is) name input (first s m t n i ns is g rest) h = first s m u n i (ns ++ name ∷ []) (is ++ input ∷ []) g (given_more gives m t u ns is name input rest h)
+given_more gives s t u [] [] name input none h = first h none
+given_more gives s t u [] (i ∷ is) name input none_given h = elim none_given [ ]
+given_more gives s t u (n ∷ ns) [] name input none_given h = elim none_given [ ]
+given_more gives s t u (n ∷ ns) (i ∷ is) name input (first {t = m} g rest) h = first g (given_more gives m t u ns is name input rest h)
 
 -- a name, if its file was cut short
 abbrev pub cut_name : List ℕ → PlainInput → List (List ℕ)
@@ -78,3 +83,25 @@ cut_names_more (n ∷ ns) [] name input l = absurd (omega (arith, l))
 cut_names_more (n ∷ ns) (i ∷ is) name input l =
     let rest = cut_names_more ns is name input (omega (arith, l)) in
     ap (λ (xs : List (List ℕ)). if i.cut then n ∷ xs else xs) rest ∙ cut_first i.cut n (cut_names ns is) (cut_name name input)
+
+-- ---- a name among others
+
+abbrev names_now : List (Bor (List ℕ)) → List (List ℕ)
+names_now names = map (λ known. known.now) names
+
+module _ (names : List (Bor (List ℕ))) (name : List ℕ) (i : ℕ) (d : Bor (List ℕ)) (l : i < length names) (same : Bool) (is : same ≡ bytes_eq (slice_index_or names i d).now name) where
+  among_at : is_among (drop i (names_now names)) name ≡ same || is_among (drop (i + 1) (names_now names)) name
+  among_at =
+      let here = drop_more (names_now names) i [] (omega (arith, l, length-map names (λ (known : Bor (List ℕ)). known.now))) in
+      let at = get_or-map (λ (known : Bor (List ℕ)). known.now) names i d [] l in
+      ap (λ (ns : List (List ℕ)). is_among ns name) (here ∙ ap (λ (n : List ℕ). n ∷ drop (i + 1) (names_now names)) at)
+      ∙ ap (λ (b : Bool). b || is_among (drop (i + 1) (names_now names)) name) (sym is)
+
+  pub among_here : same ≡ true → is_among (drop i (names_now names)) name ≡ true
+  among_here equal = among_at ∙ ap (λ (b : Bool). b || is_among (drop (i + 1) (names_now names)) name) equal
+
+  pub among_behind : same ≡ false → is_among (drop (i + 1) (names_now names)) name ≡ is_among (drop i (names_now names)) name
+  among_behind differs = sym (among_at ∙ ap (λ (b : Bool). b || is_among (drop (i + 1) (names_now names)) name) differs)
+
+pub among_none : (names : List (Bor (List ℕ))) (name : List ℕ) (i : ℕ) → length names ≤ i → is_among (drop i (names_now names)) name ≡ false
+among_none names name i l = ap (λ (ns : List (List ℕ)). is_among ns name) (drop_all i (names_now names) (omega (arith, l, length-map names (λ (known : Bor (List ℕ)). known.now))))
