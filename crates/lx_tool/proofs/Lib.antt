@@ -3,6 +3,7 @@ pub mod Appending
 pub mod Asked
 pub mod Cutting
 pub mod Files
+pub mod GivenListed
 pub mod ItemsRead
 pub mod Pieces
 pub mod Placing

@@ -1,10 +1,12 @@
-use Rattle.std.proofs.Common.{ℕ, ◌≡◌, ◌≢◌, ◌+◌, ◌-◌, ◌<◌, ◌≤◌, Bool, true, false, ◌||◌, if◌then◌else◌, List, [], ◌∷◌, ◌++◌, Bor, refl, sym, ◌∙◌, ap, subst, length, take, drop, map, arith, append_assoc}
+use Rattle.std.proofs.Common.{ℕ, ◌≡◌, ◌≢◌, ◌+◌, ◌-◌, ◌<◌, ◌≤◌, Bool, true, false, ◌||◌, if◌then◌else◌, List, [], ◌∷◌, ◌++◌, Bor, refl, sym, ◌∙◌, ap, subst, All, length, take, drop, map, arith, append-nil}
 use Rattle.std.specs.Prelude.{slice_index_or}
 use Rattle.std.specs.Str.{bytes_eq}
 use Rattle.std.proofs.lemmas.Slice.Eq.{bytes_eq-Decides}
-use Rattle.std.proofs.lemmas.List.{take_all, drop_all, drop_more, take-append-drop, get_or-map, length-map}
-use Rattle.std.proofs.lemmas.List.Elements.{All-more}
-use Rattle.lx_piece.specs.Plans.{PlainInput}
+use Rattle.std.proofs.lemmas.List.{length-take-le, take_all, take_more, map-append, drop_all, drop_more, take-append-drop, get_or-map, length-map}
+use Rattle.std.proofs.lemmas.List.Elements.{All-more, All-push}
+use Rattle.lx_piece.specs.declared.input.Input.{Input}
+use Rattle.lx_piece.specs.Plans.{PlainInput, input_view}
+use Rattle.lx_tool.specs.Planning.{AreBytes}
 use Rattle.lx_tool.specs.Sources.{AreGiven, none, first, IsFirstNamed, NoneIsNamed, cut_names, inputs_of, is_among, named_input}
 
 -- ---- a list as sources
@@ -105,3 +107,47 @@ module _ (names : List (Bor (List ℕ))) (name : List ℕ) (i : ℕ) (d : Bor (L
 
 pub among_none : (names : List (Bor (List ℕ))) (name : List ℕ) (i : ℕ) → length names ≤ i → is_among (drop i (names_now names)) name ≡ false
 among_none names name i l = ap (λ (ns : List (List ℕ)). is_among ns name) (drop_all i (names_now names) (omega (arith, l, length-map names (λ (known : Bor (List ℕ)). known.now))))
+
+-- ---- turns of loops over names
+
+-- one name more was given
+pub given_next : {S : Type 0} (gives : S → List ℕ → PlainInput → S → Type 0) (s t u : S) (names : List (Bor (List ℕ))) (files items : List Input) (i : ℕ) (d : Bor (List ℕ)) (file : Input) →
+    i < length names → AreGiven gives s (take i (names_now names)) (map input_view files) t → gives t (slice_index_or names i d).now (input_view file) u → items ≡ files ++ file ∷ [] →
+    AreGiven gives s (take (i + 1) (names_now names)) (map input_view items) u
+given_next gives s t u names files items i d file l before now is =
+    let within : i < length (names_now names) = omega (arith, l, length-map names (λ (known : Bor (List ℕ)). known.now)) in
+    let at = take_more (names_now names) i d.now within ∙ ap (λ (n : List ℕ). take i (names_now names) ++ n ∷ []) (get_or-map (λ (known : Bor (List ℕ)). known.now) names i d d.now l) in
+    let inputs = ap (map input_view) is ∙ map-append input_view files (file ∷ []) in
+    rw (at, inputs) (given_more gives s t u (take i (names_now names)) (map input_view files) (slice_index_or names i d).now (input_view file) before now)
+
+-- one file more, whose bytes are bytes
+pub bytes_next : (files items : List Input) (file : Input) → AreBytes (map input_view files) → All (λ b. b < 256) file.bytes.items → items ≡ files ++ file ∷ [] → AreBytes (map input_view items)
+bytes_next files items file before now is =
+    rw (ap (map input_view) is ∙ map-append input_view files (file ∷ [])) (All-push (λ (input : PlainInput). All (λ b. b < 256) input.bytes) (map input_view files) (input_view file) before now)
+
+-- one name more, if its file was cut short
+pub cut_names_next : (names : List (Bor (List ℕ))) (files : List Input) (i : ℕ) (d : Bor (List ℕ)) (e : Input) → length files ≡ length names → i < length files →
+    cut_names (take (i + 1) (names_now names)) (take (i + 1) (map input_view files))
+    ≡ cut_names (take i (names_now names)) (take i (map input_view files)) ++ cut_name (slice_index_or names i d).now (input_view (slice_index_or files i e))
+cut_names_next names files i d e same l =
+    let within : i < length names = omega (arith, l, same) in
+    let names_within : i < length (names_now names) = omega (arith, within, length-map names (λ (known : Bor (List ℕ)). known.now)) in
+    let files_within : i < length (map input_view files) = omega (arith, l, length-map files input_view) in
+    let at = take_more (names_now names) i d.now names_within ∙ ap (λ (n : List ℕ). take i (names_now names) ++ n ∷ []) (get_or-map (λ (known : Bor (List ℕ)). known.now) names i d d.now within) in
+    let inputs = take_more (map input_view files) i (input_view e) files_within ∙ ap (λ (n : PlainInput). take i (map input_view files) ++ n ∷ []) (get_or-map input_view files i e (input_view e) l) in
+    let long : length (take i (names_now names)) ≡ length (take i (map input_view files)) = length-take-le i (names_now names) (omega (arith, names_within)) ∙ sym (length-take-le i (map input_view files) (omega (arith, files_within))) in
+    rw (at, inputs) (cut_names_more (take i (names_now names)) (take i (map input_view files)) (slice_index_or names i d).now (input_view (slice_index_or files i e)) long)
+
+module _ (names : List (Bor (List ℕ))) (files : List Input) (i : ℕ) (d : Bor (List ℕ)) (e : Input) (same : length files ≡ length names) (l : i < length files)
+    (cut : List (Bor (List ℕ))) (before : names_now cut ≡ cut_names (take i (names_now names)) (take i (map input_view files))) where
+  turn : (b : Bool) → (slice_index_or files i e).cut ≡ b → names_now cut ++ (if b then (slice_index_or names i d).now ∷ [] else []) ≡ cut_names (take (i + 1) (names_now names)) (take (i + 1) (map input_view files))
+  turn b is = ap (λ (ns : List (List ℕ)). ns ++ (if b then (slice_index_or names i d).now ∷ [] else [])) before
+      ∙ ap (λ (c : Bool). cut_names (take i (names_now names)) (take i (map input_view files)) ++ (if c then (slice_index_or names i d).now ∷ [] else [])) (sym is)
+      ∙ sym (cut_names_next names files i d e same l)
+
+  pub with_cut_name : (new : List (Bor (List ℕ))) → (slice_index_or files i e).cut ≡ true → new ≡ cut ++ slice_index_or names i d ∷ [] →
+      names_now new ≡ cut_names (take (i + 1) (names_now names)) (take (i + 1) (map input_view files))
+  with_cut_name new is pushed = ap names_now pushed ∙ map-append (λ (known : Bor (List ℕ)). known.now) cut (slice_index_or names i d ∷ []) ∙ turn true is
+
+  pub with_whole_name : (slice_index_or files i e).cut ≡ false → names_now cut ≡ cut_names (take (i + 1) (names_now names)) (take (i + 1) (map input_view files))
+  with_whole_name is = sym (append-nil (names_now cut)) ∙ turn false is

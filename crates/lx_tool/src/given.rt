@@ -1,21 +1,28 @@
 //! The files that sources give for names, and their listing.
 
-ghost use Rattle.std.specs.Prelude.{◌≡◌, ◌<◌, ◌≤◌, ℕ, List, [], ◌∷◌, IfOk, IfErr, length, map, vec_len};
+ghost use Rattle.std.specs.Prelude.{◌≡◌, ◌<◌, ◌≤◌, ℕ, List, [], ◌∷◌, All, IfOk, IfErr, length, map, vec_len};
 ghost use Rattle.lx_piece.specs.Plans.{input_view};
 ghost use Rattle.lx_spec.specs.RuleLines.{EndsPatterns};
 ghost use Rattle.lx_tool.specs.Given.{AreListed, ArePartlyListed, FailsListing, IsNoTable, IsUnread};
-ghost use Rattle.lx_tool.specs.Planning.{ListsBy, ListsPrefixBy, ListsByRules, ListsPrefixByRules, ListsByText, ListsPrefixByText};
+ghost use Rattle.lx_tool.specs.Planning.{AreBytes, ListsBy, ListsPrefixBy, ListsByRules, ListsPrefixByRules, ListsByText, ListsPrefixByText};
 ghost use Rattle.lx_tool.specs.Sources.{AreGiven, cut_names, whole};
 ghost use Rattle.lx_tool.specs.Tabling.{HasNoTables};
 
 use crate::failure::Failure;
-use crate::planning::{list_files, listings_are_by_rules};
+use crate::planning::list_files;
 use crate::source::{SourceFault, Sources};
 use crate::tabling::tables_of_text;
 use lx_piece::Input;
+use lx_scan::ruling::items_are_by_rules;
 use lx_tables::Tables;
 use std::alloc::{AllocError, Global};
 use std::io::Write;
+
+// A fact, of what a slice of bytes has.
+fn are_bytes(bytes: &[u8])
+    ensures { All (λ b. b < 256) bytes.now }
+{
+}
 
 // The file with this name, as far as it can be read.
 fn read_file<'a, S: Sources>(
@@ -24,10 +31,14 @@ fn read_file<'a, S: Sources>(
     name: &'a str,
 ) -> Result<Input, Failure<'a>>
     ensures ok { IfOk result (λ input. S.gives sources.old name.now (input_view input) sources.new) }
+    ensures bytes { IfOk result (λ input. All (λ b. b < 256) input.bytes.items) }
     ensures err { IfErr result (λ failure. IsUnread (name.now ∷ []) failure) }
 {
     match sources.read(alloc, name) {
-        Ok(input) => Ok(input),
+        Ok(input) => {
+            are_bytes(&input.bytes);
+            Ok(input)
+        }
         Err(SourceFault::NotRead) => Err(Failure::NotRead(name)),
         Err(SourceFault::Memory) => Err(Failure::Memory),
     }
@@ -56,6 +67,7 @@ fn read_files<'a, S: Sources>(
     names: &[&'a str],
 ) -> Result<Vec<Input>, Failure<'a>>
     ensures ok { IfOk result (λ files. AreGiven S.gives sources.old (map (λ name. name.now) names.now) (map input_view files.items) sources.new) }
+    ensures bytes { IfOk result (λ files. AreBytes (map input_view files.items)) }
     ensures len { IfOk result (λ files. vec_len files ≡ length names.now) }
     ensures err { IfErr result (λ failure. IsUnread (map (λ name. name.now) names.now) failure) }
 {
@@ -129,7 +141,7 @@ pub fn list_by_specification<'a, S: Sources, W: Write>(
         (ArePartlyListed S.gives (λ inputs. ListsPrefixByRules ends text.now inputs (W.contents out.old) (W.contents out.new)) (map (λ name. name.now) names.now) sources.old sources.new)
         (map (λ name. name.now) names.now) sources.old sources.new (W.contents out.old) (W.contents out.new) failure) }
 {
-    listings_are_by_rules();
+    items_are_by_rules();
     let tables = tables_of_text(alloc, text)?;
     // its contract says what holds of all tables
     let _conditions = tables.conditions();
