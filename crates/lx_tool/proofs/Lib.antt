@@ -5,6 +5,7 @@ pub mod Cutting
 pub mod Files
 pub mod GivenListed
 pub mod ItemsRead
+pub mod Obeyed
 pub mod Pieces
 pub mod Placing
 pub mod Planned

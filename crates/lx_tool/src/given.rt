@@ -21,8 +21,7 @@ use std::io::Write;
 // A fact, of what a slice of bytes has.
 fn are_bytes(bytes: &[u8])
     ensures { All (λ b. b < 256) bytes.now }
-{
-}
+{}
 
 // The file with this name, as far as it can be read.
 fn read_file<'a, S: Sources>(

@@ -34,7 +34,7 @@ returns-in_err-list_files-clause-err g c =
       listed = c.in_err-list_files.ensures.err;
     } in
     rw (p.1, p.2) (fails_late (λ _. ⊥) (ArePartlyListed g.S.Sources.gives (λ inputs. ListsPrefixBy c.args.tables inputs old new) names c.args.sources.now c.read_files.new.sources) names
-        c.args.sources.now c.read_files.new.sources old new part c.in_err-list_files.field-0.0)
+    c.args.sources.now c.read_files.new.sources old new part c.in_err-list_files.field-0.0)
 
 pub returns-clause-ok : goal.returns-clause-ok
 returns-clause-ok g c = record {

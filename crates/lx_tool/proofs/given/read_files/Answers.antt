@@ -28,7 +28,7 @@ loop-name-preserved g c =
 pub returns-clause-ok : goal.returns-clause-ok
 returns-clause-ok g c =
     subst (λ names. AreGiven g.S.Sources.gives c.args.sources.now names (map input_view c.loop-name.files.items) c.loop-name.sources)
-        (take_all c.loop-name.name-index (map (λ name. name.now) c.args.names.now) (let past = c.loop-name-test.false in omega (arith, past, length-map c.args.names.now (λ name. name.now)))) c.loop-name.invariant.given
+    (take_all c.loop-name.name-index (map (λ name. name.now) c.args.names.now) (let past = c.loop-name-test.false in omega (arith, past, length-map c.args.names.now (λ name. name.now)))) c.loop-name.invariant.given
 
 pub returns-clause-len : goal.returns-clause-len
 returns-clause-len g c = let past = c.loop-name-test.false in let len = c.loop-name.invariant.len in let end = c.loop-name.auto in omega arith
