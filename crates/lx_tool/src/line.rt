@@ -3,7 +3,7 @@ ghost use Rattle.std.specs.List.{flat_map};
 ghost use Rattle.lx_scan.specs.ItemParts as parts;
 ghost use Rattle.lx_scan.specs.ItemParts.{start_of, len_of, IsItemOf, IsKindAmong, NamesKindAmong};
 ghost use Rattle.lx_piece.specs.Plans.{files_of, bytes_of, kinds_of};
-ghost use Rattle.lx_tool.specs.Lines.{hex_digit, escaped, class_text, name_text, kind_text, line_of};
+ghost use Rattle.lx_tool.specs.Lines.{hex_digit, escaped, class_text, name_text, kind_text, line_of, cut_line};
 
 use itoa::Buffer;
 use lx_piece::Plan;
@@ -120,4 +120,14 @@ pub(crate) fn make_line(
     line.extend_from_slice(b" ")?;
     push_text(line, item.text(plan.bytes(file)))?;
     line.extend_from_slice(b"\n")
+}
+
+/// Makes the line behind the items of a file whose reading failed, in place of what the buffer held. Where memory is
+/// refused the buffer holds a part of it.
+pub(crate) fn make_cut_line(line: &mut Vec<u8>, file: u32) -> Result<(), AllocError>
+    ensures { OnOk result (line.new.items ≡ cut_line file) }
+{
+    line.clear();
+    push_number(line, u64::from(file))?;
+    line.extend_from_slice(b" ! cut\n")
 }
