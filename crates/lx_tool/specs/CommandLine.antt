@@ -1,5 +1,5 @@
 -- The command line of `lx`, and what its words ask for.
-use Rattle.std.specs.Prelude.{ℕ, Bool, true, List, [], ◌∷◌, map, length, nat_le, Option, Some, None, pos, codes, unwrap_or, if◌then◌else◌, option_and_then}
+use Rattle.std.specs.Prelude.{ℕ, Bool, true, List, [], ◌∷◌, map, length, nat_le, Option, Some, None, pos, codes, unwrap_or, if◌then◌else◌, option_and_then, slice_index, ◌≡◌, ◌≢◌, IfSome, All, ◌<◌, ◌++◌}
 use Rattle.std.specs.Option.{option_map_or}
 use Rattle.std.specs.Str.{bytes_eq}
 use Rattle.std.specs.Str.Parse.{digits_value, without_leading_plus}
@@ -111,3 +111,30 @@ asked_as (order.Run o) = Some (run (plain_order o))
 asked_as (order.Scan o) = Some (scan (plain_order o))
 asked_as (order.Gen name) = Some (gen name.now)
 asked_as (order.Up name) = Some (up name.now)
+
+-- ---- what that comes to, for words that are no flags
+
+-- the word begins with no hyphen
+abbrev pub IsPlainWord : Text → Type 0
+IsPlainWord word = slice_index word 0 ≢ 45
+
+-- the words of `-b`, where it is given, and its number
+abbrev pub items_words : Option Text → List Text
+items_words None = []
+items_words (Some number) = codes "-b" ∷ number ∷ []
+
+abbrev pub items_given : Option Text → ℕ
+items_given None = 256
+items_given (Some number) = digits_value 10 (without_leading_plus number)
+
+abbrev pub IsItems : Option Text → Type 0
+IsItems number = IfSome number (λ n. is_unsigned_in 1 4096 n ≡ true)
+
+-- Such words ask for what they say.
+pub record PlainWordsAsk : Type 0 where
+  pub gens : (program spec : Text) → IsPlainWord spec → asked_by (program ∷ codes "gen" ∷ spec ∷ []) ≡ Some (gen spec)
+  pub ups : (program tables : Text) → IsPlainWord tables → asked_by (program ∷ codes "up" ∷ tables ∷ []) ≡ Some (up tables)
+  pub runs : (program : Text) (number : Option Text) (spec file : Text) (files : List Text) → IsItems number → All IsPlainWord (spec ∷ file ∷ files) → length files < usize_max
+      → asked_by (program ∷ codes "run" ∷ (items_words number ++ spec ∷ file ∷ files)) ≡ Some (run (record { per_piece = items_given number; rules = spec; files = file ∷ files }))
+  pub scans : (program : Text) (number : Option Text) (tables file : Text) (files : List Text) → IsItems number → All IsPlainWord (tables ∷ file ∷ files) → length files < usize_max
+      → asked_by (program ∷ codes "scan" ∷ (items_words number ++ tables ∷ file ∷ files)) ≡ Some (scan (record { per_piece = items_given number; rules = tables; files = file ∷ files }))

@@ -2,7 +2,7 @@
 
 ghost use Rattle.std.specs.Prelude.{◌≡◌, ◌≢◌, ◌≤◌, ◌<◌, IfOk, Ok, Err, None, codes, length, map, true, is_some, option_and_then};
 ghost use Rattle.clap.specs.Words.{found_of, kind_of, rows_of, subcommand_rows_of};
-ghost use Rattle.lx_tool.specs.CommandLine.{asked_as, asked_by, asked_of, files_in, items_in, order_in, plain_order, rules_in};
+ghost use Rattle.lx_tool.specs.CommandLine.{PlainWordsAsk, asked_as, asked_by, asked_of, files_in, items_in, order_in, plain_order, rules_in};
 
 use super::app::command;
 use super::{ITEMS, ListOrder, Order, Refusal};
@@ -101,3 +101,8 @@ fn items_of(found: &ArgMatches<'_>) -> u32
         _ => ITEMS,
     }
 }
+
+/// A law: `gen`, `up`, `run` and `scan` ask for what they say, where the words after them begin with no hyphen, but for `-b`.
+pub(crate) fn plain_words_ask()
+    ensures { PlainWordsAsk }
+{}
