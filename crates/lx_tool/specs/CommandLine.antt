@@ -5,11 +5,12 @@ use Rattle.std.specs.Str.{bytes_eq}
 use Rattle.std.specs.Str.Parse.{digits_value, without_leading_plus}
 use Rattle.clap.specs.declared.builder.action.ArgAction.TheVariants.{Append}
 use Rattle.clap.specs.declared.builder.value_parser.ValueParser.TheVariants.{Signed}
+use Rattle.clap.specs.declared.error.ErrorKind.{ErrorKind}
 use Rattle.clap.specs.Lexer.{usize_max}
 use Rattle.clap.specs.Simple.{on_top}
 use Rattle.clap.specs.ValueTests.{is_unsigned_in}
 use Rattle.clap.specs.Walk.{is_empty}
-use Rattle.clap.specs.Words.{App, Row, Rule, Text, all_of, fault_of, first_of, new_app, new_rule, one_of, subcommand_of, with_rule, with_subcommand}
+use Rattle.clap.specs.Words.{App, IsAmong, Row, Rule, Text, all_of, fault_of, first_of, new_app, new_rule, one_of, subcommand_of, with_rule, with_subcommand}
 use Rattle.lx_tool.specs.declared.command_line.ListOrder.{ListOrder}
 use Rattle.lx_tool.specs.declared.command_line.Order.{Order}
 use Rattle.lx_tool.specs.declared.command_line.Order.TheVariants as order
@@ -45,6 +46,7 @@ one_file_app name id = with_rule (new_app name) (rules_rule id)
 abbrev pub list_app : Text → Text → App
 list_app name id = with_rule (with_rule (with_rule (new_app name) items_rule) (rules_rule id)) files_rule
 
+-- a subcommand has to be given, and none is `help`
 abbrev pub bare_app : App
 bare_app = on_top (λ s. record s { disable_help_subcommand = true; subcommand_required = true }) (new_app (codes "lx"))
 
@@ -89,7 +91,11 @@ asked_of p =
     else (if bytes_eq p.0 (codes "scan") then Some (scan (order_in (codes "TABLES") p.1))
     else (if bytes_eq p.0 (codes "run") then Some (run (order_in (codes "SPEC") p.1)) else None)))
 
--- `clap` has nothing to find fault with, nor to answer of itself
+-- `clap` may answer the words by an error of this kind, of which the help is one
+abbrev pub IsFault : List Text → ErrorKind → Type 0
+IsFault words k = IsAmong k (fault_of lx_app words)
+
+-- it takes them
 abbrev pub is_taken : List Text → Bool
 is_taken words = is_empty (fault_of lx_app words)
 
