@@ -6,6 +6,9 @@ pub mod Files
 pub mod ItemsRead
 pub mod Pieces
 pub mod Placing
+pub mod PlainNames
+pub mod PlainOrders
+pub mod PlainWords
 pub mod Planned
 pub mod Queues
 pub mod SourceLemmas
