@@ -1,4 +1,4 @@
-ghost use Rattle.std.specs.Prelude.{◌≡◌, ◌<◌, ◌++◌, OnOk, decimal};
+ghost use Rattle.std.specs.Prelude.{◌≡◌, ◌<◌, ◌≤◌, ◌++◌, OnOk, decimal, length, take};
 ghost use Rattle.std.specs.List.{flat_map};
 ghost use Rattle.lx_scan.specs.ItemParts as parts;
 ghost use Rattle.lx_scan.specs.ItemParts.{start_of, len_of, IsItemOf, IsKindAmong, NamesKindAmong};
@@ -28,10 +28,25 @@ fn push_escaped(line: &mut Vec<u8>, byte: u8) -> Result<(), AllocError>
     }
 }
 
+/// How many bytes at the front of a text stand in a line as they are.
+fn plain_front(text: &[u8]) -> usize
+    ensures within { result ≤ length text.now }
+    ensures plain { flat_map escaped (take result text.now) ≡ take result text.now }
+{
+    let mut plain = 0;
+    while plain < text.len() && matches!(text[plain], b' '..=b'[' | b']'..=b'~') {
+        plain += 1;
+    }
+    plain
+}
+
+/// Most texts are plain, and are copied at once.
 fn push_text(line: &mut Vec<u8>, text: &[u8]) -> Result<(), AllocError>
     ensures { OnOk result (line.new.items ≡ line.old.items ++ flat_map escaped text.now) }
 {
-    for byte in text {
+    let plain = plain_front(text);
+    line.extend_from_slice(&text[..plain])?;
+    for byte in &text[plain..] {
         push_escaped(line, *byte)?;
     }
     Ok(())
@@ -40,6 +55,10 @@ fn push_text(line: &mut Vec<u8>, text: &[u8]) -> Result<(), AllocError>
 fn push_number(line: &mut Vec<u8>, number: u64) -> Result<(), AllocError>
     ensures { OnOk result (line.new.items ≡ line.old.items ++ decimal number) }
 {
+    // most numbers of files and lengths have one digit
+    if number < 10 {
+        return line.extend_from_slice(&[b'0' + number as u8]);
+    }
     let mut buffer = Buffer::new();
     line.extend_from_slice(buffer.format(number).as_bytes())
 }
