@@ -8,6 +8,7 @@ pub mod Pieces
 pub mod Placing
 pub mod Planned
 pub mod Queues
+pub mod ReadOn
 pub mod SourceLemmas
 pub mod Steps
 pub mod Tabled
