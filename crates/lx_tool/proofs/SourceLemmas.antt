@@ -45,8 +45,8 @@ module _ (cut : List (List ℕ)) (files : List NamedBytes) (name : List ℕ) (i 
         let all = inputs_of cut files in
         let at : named_input cut (slice_index_or files i d) ≡ (name, input)
         = ap (λ (n : List ℕ). (n, plain (slice_index_or files i d).1.now (is_among cut n))) (is_name equal)
-          ∙ ap (λ (bs : List ℕ). (name, plain bs (is_among cut name))) (sym bytes)
-          ∙ ap (λ (c : Bool). (name, plain input.bytes c)) (sym is_cut) in
+        ∙ ap (λ (bs : List ℕ). (name, plain bs (is_among cut name))) (sym bytes)
+        ∙ ap (λ (c : Bool). (name, plain input.bytes c)) (sym is_cut) in
         let here : slice_index_or all i (named_input cut d) ≡ (name, input) = shown_at ∙ at in
         record {
           before = take i all;

@@ -12,7 +12,7 @@ whole bytes = record { bytes = bytes; cut = false }
 pub data AreGiven {S : Type 0} (gives : S → List ℕ → PlainInput → S → Type 0) : S → List (List ℕ) → List PlainInput → S → Type 0 where
   none : {s : S} → AreGiven gives s [] [] s
   first : {s t u : S} {name : List ℕ} {input : PlainInput} {names : List (List ℕ)} {inputs : List PlainInput} →
-    gives s name input t → AreGiven gives t names inputs u → AreGiven gives s (name ∷ names) (input ∷ inputs) u
+      gives s name input t → AreGiven gives t names inputs u → AreGiven gives s (name ∷ names) (input ∷ inputs) u
 
 -- of files with these names, the names of those that were cut short
 abbrev pub cut_names : List (List ℕ) → List PlainInput → List (List ℕ)

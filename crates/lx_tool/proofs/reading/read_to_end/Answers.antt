@@ -37,19 +37,19 @@ loop-preserved g c =
     let before = c.loop.bytes.items in
     elim c.match-read.branch [
       | in-Ok+in_ok-extend_from_slice-in-Ok+else-count-eq0 w ↦
-        let long = c.deref_mut.ensures.len in
-        let same = c.read.auto.buf in
-        let within = w.in-Ok.ensures.bound in
-        let front = front_read w.in-Ok.count c.loop.chunk.len c.read.new.buf (drop (length c.read.new.buf) c.loop.chunk.items) (omega (arith, long, same)) (omega (arith, within)) in
-        let items = w.in_ok-extend_from_slice-in-Ok.ensures.items ∙ ap (λ xs. before ++ take w.in-Ok.count xs) w.deref.ensures.value ∙ ap (λ xs. before ++ xs) front in
-        record {
-          bytes = rw (w.bytes-is, items) (reads_more (left c.args.reader.now) (left c.loop.reader) (left c.read.new.self) before (take w.in-Ok.count c.read.new.buf) c.loop.invariant.bytes w.in-Ok.ensures.bytes.0);
-          room = c.loop.invariant.room;
-        }
+          let long = c.deref_mut.ensures.len in
+          let same = c.read.auto.buf in
+          let within = w.in-Ok.ensures.bound in
+          let front = front_read w.in-Ok.count c.loop.chunk.len c.read.new.buf (drop (length c.read.new.buf) c.loop.chunk.items) (omega (arith, long, same)) (omega (arith, within)) in
+          let items = w.in_ok-extend_from_slice-in-Ok.ensures.items ∙ ap (λ xs. before ++ take w.in-Ok.count xs) w.deref.ensures.value ∙ ap (λ xs. before ++ xs) front in
+          record {
+            bytes = rw (w.bytes-is, items) (reads_more (left c.args.reader.now) (left c.loop.reader) (left c.read.new.self) before (take w.in-Ok.count c.read.new.buf) c.loop.invariant.bytes w.in-Ok.ensures.bytes.0);
+            room = c.loop.invariant.room;
+          }
       | in-Err+in-Interrupted w ↦ record {
-          bytes = rw w.bytes-is (reads_kept (left c.args.reader.now) (left c.loop.reader) (left c.read.new.self) before c.loop.invariant.bytes w.in-Err.ensures.bytes);
-          room = c.loop.invariant.room;
-        }
+        bytes = rw w.bytes-is (reads_kept (left c.args.reader.now) (left c.loop.reader) (left c.read.new.self) before c.loop.invariant.bytes w.in-Err.ensures.bytes);
+        room = c.loop.invariant.room;
+      }
     ]
 
 pub returns-clause-bytes : goal.returns-clause-bytes
@@ -58,5 +58,5 @@ returns-clause-bytes g c =
     elim c.loop-test.branch [
       | else-loop-test w ↦ rw w.reader-is c.loop.invariant.bytes
       | then-loop-test+in-Err+in_default w ↦
-        rw w.reader-is (reads_kept (left c.args.reader.now) (left c.loop.reader) (left w.read.new.self) c.loop.bytes.items c.loop.invariant.bytes w.in-Err.ensures.bytes)
+          rw w.reader-is (reads_kept (left c.args.reader.now) (left c.loop.reader) (left w.read.new.self) c.loop.bytes.items c.loop.invariant.bytes w.in-Err.ensures.bytes)
     ]

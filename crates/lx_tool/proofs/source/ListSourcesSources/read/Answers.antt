@@ -10,7 +10,7 @@ pub returns-in_err-from_slice-clause-not_found : goal.returns-in_err-from_slice-
 returns-in_err-from_slice-clause-not_found c = λ none.
     let cut = map (λ name. name.now) c.self.inside.cut.now in
     absurd (not_none cut c.self.inside.files.now c.args.name.now c.loop-file.file-index _ c.loop-file-test.true c.eq.result c.eq.ensures c.if-eq.true
-        (subst (λ fs. NoneIsNamed fs c.args.name.now) (sym c.self.view_is) none))
+    (subst (λ fs. NoneIsNamed fs c.args.name.now) (sym c.self.view_is) none))
 
 pub returns-in_err-from_slice-clause-not_read : goal.returns-in_err-from_slice-clause-not_read
 returns-in_err-from_slice-clause-not_read c =
@@ -20,16 +20,18 @@ returns-in_err-from_slice-clause-not_read c =
 pub returns-then-eq-clause-found : goal.returns-then-eq-clause-found
 returns-then-eq-clause-found c =
     let cut = map (λ name. name.now) c.self.inside.cut.now in
-    let input : Input = record { bytes = c.in_ok-from_slice.field-0; cut = c.is_among.result } in
-    (refl, subst (λ fs. IsFirstNamed fs c.args.name.now (input_view input)) c.self.view_is
-        (first_named cut c.self.inside.files.now c.args.name.now c.loop-file.file-index _ c.loop-file-test.true c.eq.result c.eq.ensures (input_view input)
-            c.if-eq.true c.loop-file.invariant c.in_ok-from_slice.ensures.items c.is_among.ensures))
+    let input : Input = record { bytes = c.in_ok-from_slice.field-0; cut = c.is_among.result } in (
+      refl,
+      subst (λ fs. IsFirstNamed fs c.args.name.now (input_view input)) c.self.view_is
+          (first_named cut c.self.inside.files.now c.args.name.now c.loop-file.file-index _ c.loop-file-test.true c.eq.result c.eq.ensures (input_view input)
+          c.if-eq.true c.loop-file.invariant c.in_ok-from_slice.ensures.items c.is_among.ensures),
+    )
 
 pub returns-then-eq-clause-not_found : goal.returns-then-eq-clause-not_found
 returns-then-eq-clause-not_found c = λ none.
     let cut = map (λ name. name.now) c.self.inside.cut.now in
     absurd (not_none cut c.self.inside.files.now c.args.name.now c.loop-file.file-index _ c.loop-file-test.true c.eq.result c.eq.ensures c.if-eq.true
-        (subst (λ fs. NoneIsNamed fs c.args.name.now) (sym c.self.view_is) none))
+    (subst (λ fs. NoneIsNamed fs c.args.name.now) (sym c.self.view_is) none))
 
 pub loop-file-preserved : goal.loop-file-preserved
 loop-file-preserved c =
