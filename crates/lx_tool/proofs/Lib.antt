@@ -8,6 +8,9 @@ pub mod ItemsRead
 pub mod Obeyed
 pub mod Pieces
 pub mod Placing
+pub mod PlainNames
+pub mod PlainOrders
+pub mod PlainWords
 pub mod Planned
 pub mod Queues
 pub mod ReadOn

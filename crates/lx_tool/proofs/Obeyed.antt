@@ -1,17 +1,17 @@
 -- What was done by what the words ask for, or why it wasn't.
-use Rattle.std.proofs.Common.{ℕ, suc, ◌≡◌, ◌≢◌, ◌<◌, List, [], ◌∷◌, Option, Some, None, inl, inr, All, length, arith, refl, sym, ◌∙◌, ap, subst}
-use Rattle.std.specs.Prelude.{Contains, IsSomeAnd}
+use Rattle.std.proofs.Common.{ℕ, suc, ◌≢◌, ◌<◌, List, [], ◌∷◌, Option, Some, None, All, arith, refl, ◌∙◌}
+use Rattle.std.specs.Prelude.{Contains}
 use Rattle.std.specs.Io.KnownBytes.{Keeps, Appends}
 use Rattle.std.proofs.lemmas.List.Elements.{All-cons, All-nil, All-from_recursion}
 use Rattle.lx_piece.specs.Plans.{PlainInput}
 use Rattle.lx_tables.specs.Output.{Wrote}
 use Rattle.lx_tool.specs.CommandLine.{Asked, PlainOrder, stored, run, scan, gen, up}
-use Rattle.lx_tool.specs.Commands.{AreListedBy, AreRulesRefused, HasCause, HasDone, HasEnded, HasFailed, HasObeyed, IsCutShort, IsPrinted, IsRefused, names_asked, stored_specification, stored_text}
-use Rattle.lx_tool.specs.Given.{AreListed, FailsListing, IsNoTable, IsUnread}
-use Rattle.lx_tool.specs.Planning.{AreBytes, ListsBy, ListsByRules, ListsByText}
+use Rattle.lx_tool.specs.Commands.{AreRulesRefused, HasFailed, HasObeyed, IsCutShort, names_asked, stored_specification, stored_text}
+use Rattle.lx_tool.specs.Given.{AreListed, FailsListing, IsNoTable}
+use Rattle.lx_tool.specs.Planning.{AreBytes, ListsByRules, ListsByText}
 use Rattle.lx_tool.specs.Sources.{whole}
 use Rattle.lx_tool.specs.Statuses.{HidesNoMemory, status_of}
-use Rattle.lx_tool.specs.Tabling.{FailsGenerating, FailsUpgrading, Generates, HasNoTables, Upgrades}
+use Rattle.lx_tool.specs.Tabling.{FailsGenerating, Generates, HasNoTables, Upgrades}
 use Rattle.lx_tool.specs.declared.failure.Failure.{Failure}
 use Rattle.lx_tool.specs.declared.failure.Failure.TheVariants.{Specification, Automaton, Tables, Words, TooManyFiles, NotRead, Output, Memory}
 

@@ -1,5 +1,5 @@
 -- Plans by tables, and by the rules of a specification.
-use Rattle.std.proofs.Common.{◌≡◌, ℕ, ◌<◌, List, Option, inl, inr, All, length, refl, sym, ◌∙◌, ap, arith}
+use Rattle.std.proofs.Common.{◌≡◌, ℕ, ◌<◌, List, Option, inl, inr, All, refl, sym, ◌∙◌, ap, arith}
 use Rattle.std.specs.Prelude.{slice_index}
 use Rattle.lx_spec.specs.Plain.{PlainSpec}
 use Rattle.lx_tables.specs.Model.{Table, IsTable, AreTablesOf}

@@ -1,5 +1,5 @@
 -- What is listed of the files that sources give, and why they aren't listed.
-use Rattle.std.specs.Prelude.{◌≡◌, ℕ, ◌⊎◌, ⊤, List, ◌∷◌, [], Option, Contains}
+use Rattle.std.specs.Prelude.{◌≡◌, ℕ, ◌⊎◌, ⊤, List, Option, Contains}
 use Rattle.std.specs.Io.KnownBytes.{Keeps}
 use Rattle.lx_piece.specs.Plans.{PlainInput}
 use Rattle.lx_tables.specs.Reading.{IsNoText}

@@ -1,6 +1,6 @@
 use Rattle.std.proofs.Common.{ℕ, List, Bor, map}
 use Rattle.std.proofs.lemmas.Result.{IfOk-weaker, IfErr-weaker}
-use Rattle.lx_tool.specs.Given.{ArePartlyListed, FailsListing}
+use Rattle.lx_tool.specs.Given.{ArePartlyListed}
 use Rattle.lx_tool.specs.Planning.{ListsBy, ListsPrefixBy, ListsByRules, ListsPrefixByRules}
 use Rattle.lx_tool.specs.Tabling.{HasNoTables}
 use Rattle.lx_tool.proofs.GivenListed.{listed_as_well, partly_as_well, fails_as_well}

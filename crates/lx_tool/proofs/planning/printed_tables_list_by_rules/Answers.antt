@@ -1,4 +1,4 @@
-use Rattle.std.proofs.Common.{subst, sym}
+use Rattle.std.proofs.Common.{subst}
 use Rattle.lx_tool.specs.Planning.{ListsBy}
 use Rattle.lx_tool.proofs.Planned.{one_table}
 use Rattle.lx_tool.proofs.planning.printed_tables_list_by_rules.Goals as goal

@@ -1,4 +1,4 @@
-use Rattle.std.proofs.Common.{ℕ, List, [], ◌≡◌, ◌<◌, Bor, inl, inr, length, map, ap, sym, arith}
+use Rattle.std.proofs.Common.{ℕ, List, ◌≡◌, Bor, inl, inr, length, map, ap, arith}
 use Rattle.std.proofs.lemmas.List.{length-map}
 use Rattle.lx_tool.specs.CommandLine.{asked_by}
 use Rattle.lx_tool.proofs.Obeyed.{ended_cut}
