@@ -10,6 +10,8 @@ mod commands;
 #[cfg(test)]
 mod comparison;
 #[cfg(test)]
+mod cut_files;
+#[cfg(test)]
 mod equality;
 #[cfg(test)]
 mod examples;
@@ -35,6 +37,8 @@ mod relay;
 mod rows;
 #[cfg(test)]
 mod running;
+#[cfg(test)]
+mod scanning;
 #[cfg(test)]
 mod specifications;
 #[cfg(test)]
