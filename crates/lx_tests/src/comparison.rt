@@ -70,7 +70,11 @@ fn cuts<R: Abort + AllocGlobal>(
     let files = vec![in rt.alloc(); Input { bytes, cut: false }]?;
     let plan = Plan::new(tables, files, per_piece, 1);
     let items = items_of_pieces(rt.alloc(), &plan)?;
-    assert_eq!(rt; items.as_slice(), wanted.items.as_slice(), "{per_piece} a piece");
+    assert_eq!(rt;
+        items.as_slice(),
+        wanted.items.as_slice(),
+        "{per_piece} a piece"
+    );
     Ok(())
 }
 

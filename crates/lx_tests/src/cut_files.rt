@@ -106,26 +106,24 @@ fn each_cut_file_among_others_is_named_in_order(rt: HostRuntime) -> Result<(), A
                 "0 ! cut\n1 T ID 1 0 1 a\n2 ! cut\n",
                 "lx: cut short empty\nlx: cut short empty\n",
             ),
-            (
-                &["run", "S", "a"],
-                &["words"],
-                0,
-                "0 T ID 1 0 1 a\n",
-                "",
-            ),
+            (&["run", "S", "a"], &["words"], 0, "0 T ID 1 0 1 a\n", ""),
         ],
     )
 }
 
 #[test]
-fn a_cut_specification_and_cut_tables_count_as_not_read(
-    rt: HostRuntime,
-) -> Result<(), AllocError> {
+fn a_cut_specification_and_cut_tables_count_as_not_read(rt: HostRuntime) -> Result<(), AllocError> {
     expect(
         &rt,
         &[
             (&["run", "S", "a"], &["S"], 3, "", "lx: cannot read S\n"),
-            (&["run", "S", "a"], &["a", "S"], 3, "", "lx: cannot read S\n"),
+            (
+                &["run", "S", "a"],
+                &["a", "S"],
+                3,
+                "",
+                "lx: cannot read S\n",
+            ),
             (
                 &["run", "refused", "a"],
                 &["refused"],
@@ -166,12 +164,19 @@ fn other_faults_come_before_cut_files(rt: HostRuntime) -> Result<(), AllocError>
 
 #[test]
 fn an_output_that_fails_is_all_that_is_said(rt: HostRuntime) -> Result<(), AllocError> {
-    let lines = ["", "0 T ID 1 0 2 ab\n", "0 T ID 1 0 2 ab\n0 T NUM 1 3 2 12\n"];
+    let lines = [
+        "",
+        "0 T ID 1 0 2 ab\n",
+        "0 T ID 1 0 2 ab\n0 T NUM 1 3 2 12\n",
+    ];
     for (call, written) in (1..).zip(lines) {
         let mut out = failing_writer(rt.alloc(), 4_096, call, false);
         let mut err: Vec<u8> = Vec::new(rt.alloc());
         let ended = status(&rt, &["run", "S", "words"], &["words"], &mut out, &mut err)?;
-        assert_eq!(rt; (ended, err.as_slice()), (4, b"lx: cannot write\n".as_slice()));
+        assert_eq!(rt;
+            (ended, err.as_slice()),
+            (4, b"lx: cannot write\n".as_slice())
+        );
         assert_eq!(rt; out.held.as_slice(), written.as_bytes());
     }
     let mut out = Unflushed {
@@ -179,7 +184,10 @@ fn an_output_that_fails_is_all_that_is_said(rt: HostRuntime) -> Result<(), Alloc
     };
     let mut err: Vec<u8> = Vec::new(rt.alloc());
     let ended = status(&rt, &["run", "S", "words"], &["words"], &mut out, &mut err)?;
-    assert_eq!(rt; (ended, err.as_slice()), (4, b"lx: cannot write\n".as_slice()));
+    assert_eq!(rt;
+        (ended, err.as_slice()),
+        (4, b"lx: cannot write\n".as_slice())
+    );
     Ok(())
 }
 

@@ -20,7 +20,11 @@ fn lists_each_form_of_line_whatever_the_pieces_are(rt: HostRuntime) -> Result<()
         let plan = mixed_plan(alloc, per_piece)?;
         let mut out = Vec::new(alloc);
         print_listing(alloc, &plan, &mut out)?;
-        assert_eq!(rt; out.as_slice(), MIXED.as_bytes(), "with {per_piece} items a piece");
+        assert_eq!(rt;
+            out.as_slice(),
+            MIXED.as_bytes(),
+            "with {per_piece} items a piece"
+        );
     }
     Ok(())
 }
@@ -33,7 +37,11 @@ fn lists_files_by_tables(rt: HostRuntime) -> Result<(), Fail> {
         let files = inputs(alloc, MIXED_FILES.as_slice())?;
         let mut out = Vec::new(alloc);
         list_files(alloc, tables, files, per_piece, &mut out)?;
-        assert_eq!(rt; out.as_slice(), MIXED.as_bytes(), "with {per_piece} items a piece");
+        assert_eq!(rt;
+            out.as_slice(),
+            MIXED.as_bytes(),
+            "with {per_piece} items a piece"
+        );
     }
     Ok(())
 }
@@ -59,7 +67,10 @@ fn ends_where_the_writer_fails(rt: HostRuntime) -> Result<(), Fail> {
         for (call, lines) in [(1, ""), (2, "0 E - 1 0 1 h\n"), (3, HI)] {
             let mut out = failing_writer(alloc, 4_096, call, takes_nothing);
             let ended = print_listing(alloc, &plan, &mut out);
-            assert!(rt; ended == Err(RunFault::Reader) && out.calls == call, "{call}");
+            assert!(rt;
+                ended == Err(RunFault::Reader) && out.calls == call,
+                "{call}"
+            );
             assert_eq!(rt; out.held.as_slice(), lines.as_bytes(), "{call}");
         }
     }

@@ -7,7 +7,8 @@ use crate::collector::{delivered, reply_of};
 use crate::plans::{echo, echo_plan, last_file_first};
 use crate::relay::fresh_tally;
 use lx_piece::{
-    Collector, Cutter, Items, ListArrivals, Mark, Piece, Plan, Refused, RelayFault, Reply, Why, relay,
+    Collector, Cutter, Items, ListArrivals, Mark, Piece, Plan, Refused, RelayFault, Reply, Why,
+    relay,
 };
 use std::alloc::{AllocError, Global};
 use std::process::Abort;

@@ -43,12 +43,7 @@ fn empty(file: u32, mark: Mark) -> Shape {
 }
 
 /// Asserts that the pieces of a plan, the last file first, have these shapes.
-fn expect(
-    rt: &impl Abort,
-    alloc: Global,
-    plan: &Plan,
-    wanted: &[Shape],
-) -> Result<(), AllocError> {
+fn expect(rt: &impl Abort, alloc: Global, plan: &Plan, wanted: &[Shape]) -> Result<(), AllocError> {
     let mut found = Vec::new(alloc);
     for piece in &last_file_first(alloc, plan)? {
         found.push(shape(piece))?;

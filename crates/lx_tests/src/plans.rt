@@ -55,7 +55,11 @@ fn inputs_of_lens(alloc: Global, lens: &[usize]) -> Result<Vec<Input>, AllocErro
 }
 
 /// The plan of run 1 of files of so many bytes, each of which is an Echo.
-pub(crate) fn echo_plan(alloc: Global, lens: &[usize], per_piece: u32) -> Result<Plan, Failure<'static>>
+pub(crate) fn echo_plan(
+    alloc: Global,
+    lens: &[usize],
+    per_piece: u32,
+) -> Result<Plan, Failure<'static>>
     requires some_files { 0 < length lens.now }
     requires few_files { length lens.now ≤ 65536 }
     requires some_items { 0 < per_piece }

@@ -7,7 +7,8 @@ ghost use Rattle.lx_piece.specs.Arrivals.{AreHonest};
 
 use crate::plans::{NO_RULES, echo_plan, last_file_first, piece, plan_of};
 use lx_piece::{
-    Arrivals, Cutter, ListArrivals, Mark, Piece, Plan, Reader, ReaderFault, RelayFault, Reply, Why, relay,
+    Arrivals, Cutter, ListArrivals, Mark, Piece, Plan, Reader, ReaderFault, RelayFault, Reply, Why,
+    relay,
 };
 use std::alloc::{AllocError, Global};
 use std::process::Abort;

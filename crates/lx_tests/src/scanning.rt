@@ -29,14 +29,14 @@ fn items_have_the_lines_on_which_they_begin(rt: HostRuntime) -> Result<(), Fail>
             b"a\nb",
             &[token(0, 0, 2), after(2, 2, 1)],
         ),
-        (
-            LINE_END,
-            b"foo\nfoo",
-            &[after(1, 0, 3), echo(1, 3), last],
-        ),
+        (LINE_END, b"foo\nfoo", &[after(1, 0, 3), echo(1, 3), last]),
     ];
     for (spec, text, wanted) in rows {
-        let items = scan(rt.alloc(), &tables_of_text(rt.alloc(), spec.as_bytes())?, text)?;
+        let items = scan(
+            rt.alloc(),
+            &tables_of_text(rt.alloc(), spec.as_bytes())?,
+            text,
+        )?;
         assert_eq!(rt; items.as_slice(), wanted, "{spec}");
     }
     Ok(())
@@ -64,7 +64,8 @@ fn a_match_leads_to_the_place_behind_it(rt: HostRuntime) -> Result<(), Fail> {
 }
 
 /// A rule that ends with `$`, and steps that take no newline: after an `a` alone there is no token.
-const MADE_UP: &str = "lx-tables 1\nconditions 1\nstart 0 0\nkinds 1\nkind E\nrules 1\nrule 1 k0\nstates 2\nstate - 97-97:1\nstate 0\nend\n";
+const MADE_UP: &str =
+    "lx-tables 1\nconditions 1\nstart 0 0\nkinds 1\nkind E\nrules 1\nrule 1 k0\nstates 2\nstate - 97-97:1\nstate 0\nend\n";
 
 #[test]
 fn tables_of_no_specification_are_scanned_by_to_the_end(rt: HostRuntime) -> Result<(), Fail> {
