@@ -23,6 +23,7 @@ pub fn merge(alloc: Global, automaton: &Automaton) -> Result<Automaton, AllocErr
     ensures told { IfOk result (λ m. IsLeast m) }
     ensures live { IfOk result (λ m. HasLiveSteps m) }
 {
+    // its contract says what holds of all automata
     let _conditions = automaton.conditions();
     let m = completion_of(alloc, automaton)?;
     let start = by_labels(alloc, &m)?;

@@ -7,6 +7,7 @@ use Rattle.lx_piece.specs.declared.piece.Piece.{Piece}
 use Rattle.lx_piece.specs.declared.reply.Why.{Why}
 use Rattle.lx_piece.specs.Plans.{Planned, files_of}
 use Rattle.lx_piece.specs.Pieces.{is_closing, top_number, IsPieceOf, piece_at, pieces_of}
+use Rattle.lx_piece.specs.PieceLaws.{marked_last}
 use Rattle.lx_piece.specs.Arrivals.{site_of, IsHonest, AreHonest, accepted_behind, accepted_of, with_arrival, joined, cause_against, has_piece, is_numbered, closes_before, is_later}
 use Rattle.lx_piece.specs.Relayed.{AllDelivered, AreAllAmong}
 use Rattle.lx_piece.proofs.AnyOf.{any_last, any_of}
@@ -14,7 +15,7 @@ use Rattle.lx_piece.proofs.Deliveries.{with_planned, has_more}
 
 -- a closing piece of the plan is the last of its file
 closing_number : (plan : Planned) (p : Piece) → IsPieceOf plan p → is_closing p ≡ true → p.number + 1 ≡ pieces_of plan p.file
-closing_number plan p is closing = eqb-true (p.number + 1) (pieces_of plan p.file) (sym (ap is_closing is.whole) ∙ closing)
+closing_number plan p is closing = eqb-true (p.number + 1) (pieces_of plan p.file) (sym (marked_last plan p.file p.number) ∙ sym (ap is_closing is.whole) ∙ closing)
 
 -- among pieces of the plan, none closes the file before one of its pieces
 none_before : (plan : Planned) (accepted : List Piece) (p : Piece) → All (IsPieceOf plan) accepted → IsPieceOf plan p → list_any (closes_before p) accepted ≡ false

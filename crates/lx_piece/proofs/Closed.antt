@@ -5,8 +5,8 @@ use Rattle.std.proofs.lemmas.List.{get_or_default}
 use Rattle.std.proofs.lemmas.List.Elements.{All-get_or}
 use Rattle.std.proofs.lemmas.Option.{slice_get-get_or}
 use Rattle.lx_piece.specs.declared.piece.Piece.{Piece}
-use Rattle.lx_piece.specs.Arrivals.{accepted_of, IsClosedBelow}
-use Rattle.lx_piece.specs.Kept.{Lane, Kept, LaneStandsFor, StandsFor, site_of_kept, delivered_counts, fresh_lane, is_lane_closed}
+use Rattle.lx_piece.specs.Arrivals.{accepted_of, IsClosedBelow, IsCutBelow}
+use Rattle.lx_piece.specs.Kept.{Lane, Kept, LaneStandsFor, StandsFor, site_of_kept, delivered_counts, fresh_lane, is_lane_closed, is_lane_cut}
 use Rattle.lx_piece.proofs.Lanes.{number_closes, closing_number}
 use Rattle.lx_piece.proofs.Relays.{count_at}
 
@@ -39,3 +39,18 @@ files_closed kept came closed s all =
       λ h file within. (lane_closed_at kept came file (lane file) s (at file within)).0 (All-get_or (λ (l : Lane). is_lane_closed l ≡ true) kept.lanes file fresh_lane within (all.0 h)),
       λ each. all.1 (λ file d within. subst (λ (l : Lane). is_lane_closed l ≡ true) (get_or_default kept.lanes file fresh_lane d within) ((lane_closed_at kept came file (lane file) s (at file within)).1 (each file within))),
     )
+
+-- a lane is cut exactly where a piece marked Cut was accepted among those that were delivered
+lane_cut : (lane : Lane) (file : ℕ) (accepted : List Piece) → LaneStandsFor lane file accepted → (is_lane_cut lane ≡ true) ↔ IsCutBelow accepted file lane.next
+lane_cut lane file accepted s =
+    (λ h. let k = closing_number lane.cut lane.next h in (k.0, ltb-true k.0 lane.next k.2, s.cut k.0 ∙ k.1), λ w. number_closes lane.cut w.0 lane.next (sym (s.cut w.0) ∙ w.2) (lt-ltb w.0 lane.next w.1))
+
+-- what says whether a file's lane is cut says whether the file is
+pub file_cut : (kept : Kept) (came : List Piece) (file : ℕ) (cut : Bool) → StandsFor kept came → file < length kept.lanes → ((lane : Lane) → slice_get kept.lanes file ≡ Some lane → cut ≡ is_lane_cut lane) → (cut ≡ true) ↔ IsCutBelow (accepted_of (site_of_kept kept) came) file (slice_index (delivered_counts kept) file)
+file_cut kept came file cut s within tells =
+    let accepted = accepted_of (site_of_kept kept) came in
+    let lane = get_or kept.lanes file fresh_lane in
+    let at : slice_get kept.lanes file ≡ Some lane = slice_get-get_or kept.lanes file fresh_lane within in
+    let both = lane_cut lane file accepted (s.each file lane at) in
+    let count : slice_index (delivered_counts kept) file ≡ lane.next = count_at kept.lanes file lane at in
+    (λ h. subst (λ (n : ℕ). IsCutBelow accepted file n) (sym count) (both.0 (sym (tells lane at) ∙ h)), λ w. tells lane at ∙ both.1 (subst (λ (n : ℕ). IsCutBelow accepted file n) count w))

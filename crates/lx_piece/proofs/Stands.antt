@@ -1,12 +1,14 @@
-use Rattle.std.proofs.Common.{ℕ, ◌≡◌, ◌+◌, true, false, ◌&&◌, ◌||◌, nat_lt, nat_eq, is_some, List, [], ◌∷◌, ◌++◌, Option, Some, None, inl, inr, refl, sym, ◌∙◌, ap, subst, arith}
+use Rattle.std.proofs.Common.{ℕ, ◌≡◌, ◌+◌, Bool, true, false, ◌&&◌, ◌||◌, nat_lt, nat_eq, is_some, List, [], ◌∷◌, ◌++◌, Option, Some, None, inl, inr, refl, sym, ◌∙◌, ap, subst, arith}
 use Rattle.std.specs.Prelude.{if◌then◌else◌, Contains}
 use Rattle.std.specs.List.{list_any}
 use Rattle.std.proofs.lemmas.Bool.{both_ways, or_left, or_right, or_from, and_parts, and_from, and_left, and_right, eqb-true, eq-eqb, ne_eqb, ltb-true, lt-ltb, cases_eq, cases_order, cases_Bool, or_parts, false_from_ne_true}
 use Rattle.std.proofs.lemmas.List.Elements.{Contains-append_left, Contains-append_right}
 use Rattle.lx_piece.specs.declared.piece.Piece.{Piece}
 use Rattle.lx_piece.specs.declared.reply.Why.TheVariants.{Double, AfterLast, Contradicts}
-use Rattle.lx_piece.specs.Pieces.{is_closing, top_number}
-use Rattle.lx_piece.specs.Arrivals.{has_piece, has_closing, closes_before, is_later, is_numbered, cause_among}
+use Rattle.lx_piece.specs.declared.piece.Mark.{Mark}
+use Rattle.lx_piece.specs.declared.piece.Mark.TheVariants.{More, Whole, Cut}
+use Rattle.lx_piece.specs.Pieces.{is_closing, is_closing_mark, is_cut_mark, is_cut_short, top_number}
+use Rattle.lx_piece.specs.Arrivals.{has_piece, has_closing, has_cut, closes_before, is_later, is_numbered, cause_among}
 use Rattle.lx_piece.specs.Kept.{Lane, LaneStandsFor, KeepsPiece, Advances, is_ready, held_at, is_number}
 use Rattle.lx_piece.proofs.AnyOf.{same_tests, any_witness, any_last, choice_none, or_none}
 
@@ -25,23 +27,57 @@ no_cause accepted p h =
     let d = or_parts (nat_eq p.number top_number) (list_any (closes_before p) accepted) b.0 in
     record { new = a.0; countable = d.0; before_closing = d.1; consistent = c.0 }
 
--- no other closing piece of the file was accepted
-no_other_closing : (accepted : List Piece) (p : Piece) (n : ℕ) → NoCause accepted p → (is_closing p) ≡ true → (p.number ≡ n → ⊥) → has_closing p.file n accepted ≡ false
-no_other_closing accepted p n none last other = false_from_ne_true (has_closing p.file n accepted) (λ h.
-    let w = any_witness (λ r. (is_closing r) && is_numbered p.file n r) accepted h in
+-- no other piece of the file with a mark that only last pieces have was accepted
+no_other_marked : (test : Piece → Bool) (accepted : List Piece) (p : Piece) (n : ℕ) → NoCause accepted p → ((q : Piece) → test q ≡ true → is_closing q ≡ true) → is_closing p ≡ true → (p.number ≡ n → ⊥) →
+    list_any (λ r. test r && is_numbered p.file n r) accepted ≡ false
+no_other_marked test accepted p n none closes last other = false_from_ne_true (list_any (λ r. test r && is_numbered p.file n r) accepted) (λ h.
+    let w = any_witness (λ r. test r && is_numbered p.file n r) accepted h in
     let q = w.0 in
-    let a = and_parts (is_closing q) (is_numbered p.file n q) w.1 in
+    let a = and_parts (test q) (is_numbered p.file n q) w.1 in
     let b = and_parts (nat_eq q.file p.file) (nat_eq q.number n) a.1 in
     let same : q.number ≡ n = eqb-true q.number n b.1 in
     elim (cases_order q.number p.number) [
       | inl e ↦ other (sym e ∙ same)
       | inr o ↦ elim o [
         | inl lt ↦ both_ways (list_any (closes_before p) accepted) none.before_closing
-            (w.2 (closes_before p) (and_from (is_closing q) (nat_eq q.file p.file && nat_lt q.number p.number) a.0 (and_from (nat_eq q.file p.file) (nat_lt q.number p.number) b.0 (lt-ltb q.number p.number lt))))
+            (w.2 (closes_before p) (and_from (is_closing q) (nat_eq q.file p.file && nat_lt q.number p.number) (closes q a.0) (and_from (nat_eq q.file p.file) (nat_lt q.number p.number) b.0 (lt-ltb q.number p.number lt))))
         | inr gt ↦ both_ways ((is_closing p) && list_any (is_later p) accepted) none.consistent
             (and_from (is_closing p) (list_any (is_later p) accepted) last (w.2 (is_later p) (and_from (nat_eq q.file p.file) (nat_lt p.number q.number) b.0 (lt-ltb p.number q.number gt))))
       ]
     ])
+
+-- a piece that is marked Cut is a last one
+cut_closes : (mark : Mark) → is_cut_mark mark ≡ true → is_closing_mark mark ≡ true
+cut_closes More h = absurd (both_ways false refl h)
+cut_closes Whole h = absurd (both_ways false refl h)
+cut_closes Cut h = refl
+
+-- The number of an accepted piece with a mark that only last pieces have, once p is accepted too.
+kept_mark : (test : Piece → Bool) (accepted : List Piece) (p : Piece) (old new : Option ℕ) (n : ℕ) → NoCause accepted p → ((q : Piece) → test q ≡ true → is_closing q ≡ true) →
+    new ≡ (if test p then Some p.number else old) → list_any (λ r. test r && is_numbered p.file n r) accepted ≡ is_number old n →
+    list_any (λ r. test r && is_numbered p.file n r) (accepted ++ p ∷ []) ≡ is_number new n
+kept_mark test accepted p old new n clear closes is stands =
+    let marked : Piece → Bool = λ r. test r && is_numbered p.file n r in
+    let more = any_last marked accepted p in
+    elim (cases_Bool (test p)) [
+      | inl has ↦
+          let now : new ≡ Some p.number = is ∙ ap (λ b. if b then Some p.number else old) has in
+          elim (cases_eq p.number n) [
+            | inl e ↦
+                more
+                ∙ or_right (list_any marked accepted) (marked p) (and_from (test p) (is_numbered p.file n p) has (and_from (nat_eq p.file p.file) (nat_eq p.number n) (eq-eqb p.file p.file refl) (eq-eqb p.number n e)))
+                ∙ sym (ap (λ o. is_number o n) now ∙ eq-eqb p.number n e)
+            | inr d ↦
+                more
+                ∙ or_from (list_any marked accepted) (marked p) (no_other_marked test accepted p n clear closes (closes p has) d) (and_right (test p) (is_numbered p.file n p) (and_right (nat_eq p.file p.file) (nat_eq p.number n) (ne_eqb p.number n d)))
+                ∙ sym (ap (λ o. is_number o n) now ∙ ne_eqb p.number n d)
+          ]
+      | inr hasnt ↦
+          more
+          ∙ or_none (list_any marked accepted) (marked p) (and_left (test p) (is_numbered p.file n p) hasnt)
+          ∙ stands
+          ∙ sym (ap (λ o. is_number o n) (is ∙ ap (λ b. if b then Some p.number else old) hasnt))
+    ]
 
 -- a lane that keeps an accepted piece stands for it too
 pub kept_stands : (old new : Lane) (accepted : List Piece) (p : Piece) → LaneStandsFor old p.file accepted → KeepsPiece old p new → None ≡ cause_among accepted p → LaneStandsFor new p.file (accepted ++ p ∷ [])
@@ -68,27 +104,8 @@ kept_stands old new accepted p s k none =
             let was = s.held n q (sym (k.held n ∙ ap (λ b. if b then Some p else held_at old n) (ne_eqb n p.number d)) ∙ h) in
             (was.0, was.1, Contains-append_left accepted (p ∷ []) q was.2)
       ];
-      closing = λ n.
-          let more = any_last (λ r. (is_closing r) && is_numbered p.file n r) accepted p in
-          elim (cases_Bool (is_closing p)) [
-            | inl last ↦
-                let now : new.closing ≡ Some p.number = k.closing ∙ ap (λ b. if b then Some p.number else old.closing) last in
-                elim (cases_eq p.number n) [
-                  | inl e ↦
-                      more
-                      ∙ or_right (has_closing p.file n accepted) ((is_closing p) && is_numbered p.file n p) (and_from (is_closing p) (is_numbered p.file n p) last (and_from (nat_eq p.file p.file) (nat_eq p.number n) (eq-eqb p.file p.file refl) (eq-eqb p.number n e)))
-                      ∙ sym (ap (λ o. is_number o n) now ∙ eq-eqb p.number n e)
-                  | inr d ↦
-                      more
-                      ∙ or_from (has_closing p.file n accepted) ((is_closing p) && is_numbered p.file n p) (no_other_closing accepted p n clear last d) (and_right (is_closing p) (is_numbered p.file n p) (and_right (nat_eq p.file p.file) (nat_eq p.number n) (ne_eqb p.number n d)))
-                      ∙ sym (ap (λ o. is_number o n) now ∙ ne_eqb p.number n d)
-                ]
-            | inr open_ ↦
-                more
-                ∙ or_none (has_closing p.file n accepted) ((is_closing p) && is_numbered p.file n p) (and_left (is_closing p) (is_numbered p.file n p) open_)
-                ∙ s.closing n
-                ∙ sym (ap (λ o. is_number o n) (k.closing ∙ ap (λ b. if b then Some p.number else old.closing) open_))
-          ];
+      closing = λ n. kept_mark is_closing accepted p old.closing new.closing n clear (λ q h. h) k.closing (s.closing n);
+      cut = λ n. kept_mark is_cut_short accepted p old.cut new.cut n clear (λ q. cut_closes q.mark) k.cut (s.cut n);
     }
 
 -- a piece of another file changes nothing for a lane
@@ -99,6 +116,7 @@ other_stands lane file accepted p s other =
       numbers = λ n. any_last (is_numbered file n) accepted p ∙ or_none (has_piece file n accepted) (is_numbered file n p) (away n) ∙ s.numbers n;
       held = λ n q h. let was = s.held n q h in (was.0, was.1, Contains-append_left accepted (p ∷ []) q was.2);
       closing = λ n. any_last (λ r. (is_closing r) && is_numbered file n r) accepted p ∙ or_none (has_closing file n accepted) ((is_closing p) && is_numbered file n p) (and_right (is_closing p) (is_numbered file n p) (away n)) ∙ s.closing n;
+      cut = λ n. any_last (λ r. is_cut_short r && is_numbered file n r) accepted p ∙ or_none (has_cut file n accepted) (is_cut_short p && is_numbered file n p) (and_right (is_cut_short p) (is_numbered file n p) (away n)) ∙ s.cut n;
     }
 
 one_more : (n k : ℕ) → (n ≡ k → ⊥) → nat_lt n (k + 1) ≡ nat_lt n k
@@ -124,4 +142,5 @@ advanced_stands old new file accepted s m ready =
         | inr d ↦ s.held n q (sym (m.held n ∙ ap (λ b. if b then None else held_at old n) (ne_eqb n old.next d)) ∙ h)
       ];
       closing = λ n. s.closing n ∙ sym (ap (λ o. is_number o n) m.closing);
+      cut = λ n. s.cut n ∙ sym (ap (λ o. is_number o n) m.cut);
     }

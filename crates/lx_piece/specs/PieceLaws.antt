@@ -1,4 +1,4 @@
-use Rattle.std.proofs.Common.{ℕ, zero, suc, ◌≡◌, ◌+◌, ◌*◌, ◌<◌, ◌≤◌, inl, inr, Bool, true, false, ◌||◌, List, [], ◌∷◌, ◌++◌, length, take, drop, max, refl, sym, ◌∙◌, ap, arith, nat_eq, append-nil}
+use Rattle.std.proofs.Common.{ℕ, zero, suc, ◌≡◌, ◌+◌, ◌*◌, ◌<◌, ◌≤◌, inl, inr, Bool, true, false, ◌&&◌, ◌||◌, ◌==◌, if◌then◌else◌, List, [], ◌∷◌, ◌++◌, length, take, drop, max, refl, sym, ◌∙◌, ap, arith, append-nil}
 use Rattle.std.specs.List.{list_any}
 use Rattle.std.specs.Int.{div_ceil}
 use Rattle.std.proofs.lemmas.Bool.{both_ways, eq-eqb, ne_eqb, or_right, or_from, cases_lt}
@@ -9,9 +9,10 @@ use Rattle.std.proofs.Math.Bool.{or-false}
 use Rattle.std.proofs.Math.Seq.{take-add}
 use Rattle.std.proofs.Math.Nat.{suc-mul, mul-le-mul_right, zero-mul}
 use Rattle.lx_scan.specs.declared.item.Item.{Item}
+use Rattle.lx_piece.specs.declared.piece.Mark.TheVariants.{More, Whole, Cut}
 use Rattle.lx_piece.specs.declared.piece.Piece.{Piece}
-use Rattle.lx_piece.specs.Plans.{Planned, items_of}
-use Rattle.lx_piece.specs.Pieces.{is_closing, piece_at, pieces_of, piece_count, pieces_to, contents, part, IsPrefix, TakesInOrder}
+use Rattle.lx_piece.specs.Plans.{Planned, is_cut, items_of}
+use Rattle.lx_piece.specs.Pieces.{is_closing, is_closing_mark, is_cut_mark, is_cut_short, piece_at, pieces_of, piece_count, pieces_to, contents, part, IsPrefix, TakesInOrder}
 
 -- a test of a list with one element more
 any_last : {X : Type 0} (test : X → Bool) (xs : List X) (x : X) → list_any test (xs ++ x ∷ []) ≡ (list_any test xs || test x)
@@ -30,19 +31,55 @@ pub prefix_to : (plan : Planned) (file count : ℕ) → IsPrefix (contents (piec
 prefix_to plan file count =
     (drop (count * plan.per_piece) (items_of plan file), ap (λ items. items ++ drop (count * plan.per_piece) (items_of plan file)) (contents_to plan file count) ∙ take-append-drop (count * plan.per_piece) (items_of plan file))
 
+-- a mark is a last piece's exactly where it is the last
+pub closing_mark : (last cut : Bool) → is_closing_mark (if last then (if cut then Cut else Whole) else More) ≡ last
+closing_mark false cut = refl
+closing_mark true false = refl
+closing_mark true true = refl
+
+pub marked_last : (plan : Planned) (file number : ℕ) → is_closing (piece_at plan file number) ≡ (number + 1 == pieces_of plan file)
+marked_last plan file number = closing_mark (number + 1 == pieces_of plan file) (is_cut plan file)
+
+-- it is Cut where besides the file's reading failed
+cut_mark : (last cut : Bool) → is_cut_mark (if last then (if cut then Cut else Whole) else More) ≡ (last && cut)
+cut_mark false cut = refl
+cut_mark true false = refl
+cut_mark true true = refl
+
+pub marked_cut : (plan : Planned) (file number : ℕ) → is_cut_short (piece_at plan file number) ≡ ((number + 1 == pieces_of plan file) && is_cut plan file)
+marked_cut plan file number = cut_mark (number + 1 == pieces_of plan file) (is_cut plan file)
+
 -- no piece before the last one is marked
 pub open_below : (plan : Planned) (file count : ℕ) → count < pieces_of plan file → list_any is_closing (pieces_to plan file count) ≡ false
 open_below plan file zero l = refl
 open_below plan file (suc count) l =
     any_last is_closing (pieces_to plan file count) (piece_at plan file count)
-    ∙ or_from (list_any is_closing (pieces_to plan file count)) (nat_eq (count + 1) (pieces_of plan file)) (open_below plan file count (omega arith)) (ne_eqb (count + 1) (pieces_of plan file) (λ e. absurd (omega arith)))
+    ∙ or_from (list_any is_closing (pieces_to plan file count)) (is_closing (piece_at plan file count)) (open_below plan file count (omega arith))
+    (marked_last plan file count ∙ ne_eqb (count + 1) (pieces_of plan file) (λ e. absurd (omega arith)))
 
 -- the last one is
 pub closed_at : (plan : Planned) (file count : ℕ) → count ≡ pieces_of plan file → list_any is_closing (pieces_to plan file count) ≡ true
 closed_at plan file zero e = absurd (omega arith)
 closed_at plan file (suc count) e =
     any_last is_closing (pieces_to plan file count) (piece_at plan file count)
-    ∙ or_right (list_any is_closing (pieces_to plan file count)) (nat_eq (count + 1) (pieces_of plan file)) (eq-eqb (count + 1) (pieces_of plan file) (omega arith))
+    ∙ or_right (list_any is_closing (pieces_to plan file count)) (is_closing (piece_at plan file count)) (marked_last plan file count ∙ eq-eqb (count + 1) (pieces_of plan file) (omega arith))
+
+-- none before the last one is marked Cut
+uncut_below : (plan : Planned) (file count : ℕ) → count < pieces_of plan file → list_any is_cut_short (pieces_to plan file count) ≡ false
+uncut_below plan file zero l = refl
+uncut_below plan file (suc count) l =
+    any_last is_cut_short (pieces_to plan file count) (piece_at plan file count)
+    ∙ or_from (list_any is_cut_short (pieces_to plan file count)) (is_cut_short (piece_at plan file count)) (uncut_below plan file count (omega arith))
+    (marked_cut plan file count ∙ ap (λ b. b && is_cut plan file) (ne_eqb (count + 1) (pieces_of plan file) (λ e. absurd (omega arith))))
+
+-- the last one is, exactly where the file's reading failed
+pub cut_at : (plan : Planned) (file count : ℕ) → count ≡ pieces_of plan file → list_any is_cut_short (pieces_to plan file count) ≡ is_cut plan file
+cut_at plan file zero e = absurd (omega arith)
+cut_at plan file (suc count) e =
+    any_last is_cut_short (pieces_to plan file count) (piece_at plan file count)
+    ∙ ap (λ b. b || is_cut_short (piece_at plan file count)) (uncut_below plan file count (omega arith))
+    ∙ marked_cut plan file count
+    ∙ ap (λ b. b && is_cut plan file) (eq-eqb (count + 1) (pieces_of plan file) (omega arith))
 
 -- all pieces hold all items
 pub pieces_hold : (per_piece : ℕ) (items : List Item) → 0 < per_piece → length items ≤ piece_count per_piece items * per_piece
@@ -68,4 +105,5 @@ takes_in_order plan file count some within =
       prefix = prefix_to plan file count;
       closed = (all, closed_at plan file count);
       whole = λ closed. whole_at plan file count some (all closed);
+      cut = λ closed. cut_at plan file count (all closed);
     }

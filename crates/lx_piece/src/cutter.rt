@@ -1,6 +1,6 @@
 //! The pieces of a file, cut as they are asked for.
 
-ghost use Rattle.std.specs.Prelude.{◌≡◌, ◌+◌, ◌<◌, ◌++◌, [], ℕ, List, drop, take, IfNone, IfOk, OnErr, MatchOption, None};
+ghost use Rattle.std.specs.Prelude.{if◌then◌else◌, ◌≡◌, ◌+◌, ◌<◌, ◌++◌, [], ℕ, List, drop, take, IfNone, IfOk, OnErr, MatchOption, None};
 ghost use Rattle.lx_scan.specs.Cursors.{IsInText, items_left, listed};
 ghost use Rattle.lx_scan.specs.declared.item.Item.{Item};
 ghost use Rattle.lx_piece.specs.Cutting.{IsCutterOf, items_ahead};
@@ -32,7 +32,10 @@ fn take_items(
     ensures rest { IfOk result (λ next. items_ahead tables.now text.now next cursor.new ≡ drop most (items_ahead tables.now text.now first cursor.old)) }
     ensures end { IfOk result (λ next. IfNone next (drop most (items_ahead tables.now text.now first cursor.old) ≡ [])) }
 {
-    let mut next = first.or_else(|| cursor.next_item(tables, text));
+    let mut next = match first {
+        Some(item) => Some(item),
+        None => cursor.next_item(tables, text),
+    };
     while items.len() < most {
         let Some(item) = next else {
             return Ok(None);
@@ -104,6 +107,7 @@ impl Cutter {
             (λ piece. IsPieceOf plan.now piece × (piece ≡ piece_at plan.now self.old.file self.old.next) × (self.new.next ≡ self.old.next + 1))) }
         ensures err { OnErr result (self.new ≡ self.old) }
     {
+        let most = plan.per_piece() as usize;
         if self.number > 0 && self.ahead.is_none() {
             return Ok(None);
         }
@@ -112,7 +116,6 @@ impl Cutter {
             return Err(AllocError);
         }
         let text = plan.bytes(self.file);
-        let most = plan.per_piece() as usize;
         let mut cursor = self.cursor;
         // few items are left where few bytes are, but for those that are echoed more than once
         let expected = most.min(text.len() - cursor.place.offset + 1);

@@ -18,6 +18,7 @@ use lx_spec::rule::{Kind, Step};
 use std::alloc::{AllocError, Global};
 use std::collections::BTreeMap;
 
+// Whether the lists are as long as they are to be. What is read leniently is, but for the conditions; to test it is cheaper than to prove that.
 fn have_lengths(raw: &RawTables) -> bool
     ensures { result ≡ limits.have_lengths raw.now.starts.items raw.now.classes.items raw.now.width raw.now.accepted.items raw.now.targets.items }
 {

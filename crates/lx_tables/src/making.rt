@@ -25,6 +25,7 @@ impl Tables {
         ensures answers { IfOk result (λ tables. AnswerAlike automaton.now tables.machine) }
     {
         specs_are_well_formed();
+        // its contract says what holds of all automata
         let _conditions = automaton.conditions();
         let numbering = numbering_of(alloc, automaton)?;
         let starts = starts_of(alloc, automaton, &numbering)?;

@@ -64,8 +64,8 @@ fn is_text_of(alloc: Global, tables: &Tables, text: &[u8]) -> Result<bool, Alloc
 }
 
 impl Tables {
-    /// The tables whose text this is, of either version, in time linear in it. It fails with [`TableFault::NoTables`] exactly where it
-    /// is no table's text: where a number has a leading zero, say, or a byte stands behind the end.
+    /// The tables whose text this is, of either version. It fails with [`TableFault::NoTables`], B01, only where it is no table's text: where a
+    /// number has a leading zero, say, or a byte stands behind the end; and with [`TableFault::Memory`], B90, where memory is refused.
     pub fn read(alloc: Global, text: &[u8]) -> Result<Tables, TableFault>
         ensures tables { IfOk result (λ tables. IsTextOf tables text.now) }
         ensures refused { IfErr result (λ fault. fault ≡ TableFault.NoTables → IsNoText text.now) }

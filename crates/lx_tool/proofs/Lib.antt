@@ -1,7 +1,9 @@
 pub mod AllPrinted
 pub mod Appending
+pub mod Asked
 pub mod Cutting
 pub mod Files
+pub mod ItemsRead
 pub mod Pieces
 pub mod Placing
 pub mod Planned

@@ -1,0 +1,44 @@
+use Rattle.std.proofs.Common.{◌≡◌, ◌∙◌, sym, ap, List, map, is_some}
+use Rattle.std.proofs.lemmas.List.{length-map}
+use Rattle.clap.specs.Words.{Text, app_of, kind_of}
+use Rattle.clap.specs.declared.error.kind.ErrorKind.TheVariants as kind
+use Rattle.lx_tool.proofs.Asked.{asked_where_refused, asked_where_stored, asked_where_taken, met_asks, no_help}
+use Rattle.lx_tool.proofs.command_line.reading.read_words.Goals as goal
+
+pub returns-then-words-le1-clause-asked : goal.returns-then-words-le1-clause-asked
+returns-then-words-le1-clause-asked c =
+    asked_where_stored _ (rw length-map c.if-words-le1.true)
+
+pub order_of-requires : goal.order_of-requires
+order_of-requires c =
+    let words : List Text = map (λ word. word.bytes.items) c.args.words.now in
+    met_asks (app_of c.in_ok-command.command) words c.in_ok-command.ensures (rw length-map c.if-words-le1.false) c.in-Ok.matches c.in-Ok.ensures.kinds c.in-Ok.ensures.matches
+
+pub returns-in-Ok-clause-asked : goal.returns-in-Ok-clause-asked
+returns-in-Ok-clause-asked c =
+    let words : List Text = map (λ word. word.bytes.items) c.args.words.now in
+    asked_where_taken (app_of c.in_ok-command.command) words c.in_ok-command.ensures (rw length-map c.if-words-le1.false) c.in-Ok.matches c.in-Ok.ensures.kinds c.in-Ok.ensures.matches
+    ∙ c.in_ok-order_of-in-Ok.ensures
+
+pub returns-in-Ok-clause-help : goal.returns-in-Ok-clause-help
+returns-in-Ok-clause-help c text is =
+    let words : List Text = map (λ word. word.bytes.items) c.args.words.now in
+    let asks = met_asks (app_of c.in_ok-command.command) words c.in_ok-command.ensures (rw length-map c.if-words-le1.false) c.in-Ok.matches c.in-Ok.ensures.kinds c.in-Ok.ensures.matches in
+    absurd (no_help c.in_ok-order_of-in-Ok.field-0 text (cc) (ap is_some (sym c.in_ok-order_of-in-Ok.ensures) ∙ asks))
+
+pub returns-in-DisplayHelp-clause-asked : goal.returns-in-DisplayHelp-clause-asked
+returns-in-DisplayHelp-clause-asked c =
+    let words : List Text = map (λ word. word.bytes.items) c.args.words.now in
+    let help : kind_of c.in-Err.error ≡ kind.DisplayHelp = sym c.kind.ensures ∙ c.in-DisplayHelp.is in
+    asked_where_refused (app_of c.in_ok-command.command) words c.in_ok-command.ensures (rw length-map c.if-words-le1.false) c.in-Err.error c.in-Err.ensures.kinds (λ e. let bad = sym help ∙ e in cc)
+
+pub returns-clause-refused : goal.returns-clause-refused
+returns-clause-refused c text is =
+    let words : List Text = map (λ word. word.bytes.items) c.args.words.now in
+    asked_where_refused (app_of c.in_ok-command.command) words c.in_ok-command.ensures (rw length-map c.if-words-le1.false) c.in-Err.error c.in-Err.ensures.kinds
+    (λ e. c.in_default.not-OutOfMemory (c.kind.ensures ∙ e))
+
+pub returns-clause-words : goal.returns-clause-words
+returns-clause-words c text is e =
+    let same : c.in-Err.error ≡ text = cc in
+    c.in_default.not-OutOfMemory (c.kind.ensures ∙ (ap kind_of same ∙ e))

@@ -1,0 +1,113 @@
+-- The command line of `lx`, and what its words ask for.
+use Rattle.std.specs.Prelude.{ℕ, Bool, true, List, [], ◌∷◌, map, length, nat_le, Option, Some, None, pos, codes, unwrap_or, if◌then◌else◌, option_and_then}
+use Rattle.std.specs.Option.{option_map_or}
+use Rattle.std.specs.Str.{bytes_eq}
+use Rattle.std.specs.Str.Parse.{digits_value, without_leading_plus}
+use Rattle.clap.specs.declared.builder.action.ArgAction.TheVariants.{Append}
+use Rattle.clap.specs.declared.builder.value_parser.ValueParser.TheVariants.{Signed}
+use Rattle.clap.specs.Lexer.{usize_max}
+use Rattle.clap.specs.Simple.{on_top}
+use Rattle.clap.specs.ValueTests.{is_unsigned_in}
+use Rattle.clap.specs.Walk.{is_empty}
+use Rattle.clap.specs.Words.{App, Row, Rule, Text, all_of, fault_of, first_of, new_app, new_rule, one_of, subcommand_of, with_rule, with_subcommand}
+use Rattle.lx_tool.specs.declared.command_line.ListOrder.{ListOrder}
+use Rattle.lx_tool.specs.declared.command_line.Order.{Order}
+use Rattle.lx_tool.specs.declared.command_line.Order.TheVariants as order
+
+-- ---- the command line, as `clap` reads it
+
+-- SPEC or TABLES, the name of a file
+abbrev pub rules_rule : Text → Rule
+rules_rule id = record (new_rule id) { required = true }
+
+-- `-b K`, from 1 to 4096, and 256 where it isn't given
+abbrev pub items_rule : Rule
+items_rule = record (new_rule (codes "items")) {
+  short = Some 98;
+  value_names = 1;
+  parser = Some (Signed (pos 1) (pos 4096));
+  defaults = codes "256" ∷ [];
+}
+
+-- FILE.., at least one
+abbrev pub files_rule : Rule
+files_rule = record (new_rule (codes "FILE")) {
+  required = true;
+  range = Some (record { start_inclusive = 1; end_inclusive = usize_max });
+  action = Some Append;
+}
+
+-- `gen SPEC` and `up TABLES`
+abbrev pub one_file_app : Text → Text → App
+one_file_app name id = with_rule (new_app name) (rules_rule id)
+
+-- `run [-b K] SPEC FILE..` and `scan [-b K] TABLES FILE..`
+abbrev pub list_app : Text → Text → App
+list_app name id = with_rule (with_rule (with_rule (new_app name) items_rule) (rules_rule id)) files_rule
+
+abbrev pub bare_app : App
+bare_app = on_top (λ s. record s { disable_help_subcommand = true; subcommand_required = true }) (new_app (codes "lx"))
+
+unfoldable pub lx_app : App
+lx_app = with_subcommand (with_subcommand (with_subcommand (with_subcommand bare_app
+    (one_file_app (codes "gen") (codes "SPEC")).top) (one_file_app (codes "up") (codes "TABLES")).top)
+    (list_app (codes "scan") (codes "TABLES")).top) (list_app (codes "run") (codes "SPEC")).top
+
+-- ---- what words ask for
+
+-- a listing: how many items a piece has, the name of the specification or of the tables, and the names of the files
+pub record PlainOrder : Type 0 where
+  pub per_piece : ℕ
+  pub rules : Text
+  pub files : List Text
+
+pub data Asked : Type 0 where
+  stored : Asked
+  run : PlainOrder → Asked
+  scan : PlainOrder → Asked
+  gen : Text → Asked
+  up : Text → Asked
+
+-- the number of `-b`
+abbrev pub items_in : List Row → ℕ
+items_in rows = option_map_or (λ t. if is_unsigned_in 1 4096 t then digits_value 10 (without_leading_plus t) else 256) (one_of (codes "items") rows) 256
+
+abbrev pub rules_in : Text → List Row → Text
+rules_in id rows = unwrap_or (first_of id rows) []
+
+abbrev pub files_in : List Row → List Text
+files_in rows = unwrap_or (all_of (codes "FILE") rows) []
+
+abbrev pub order_in : Text → List Row → PlainOrder
+order_in id rows = record { per_piece = items_in rows; rules = rules_in id rows; files = files_in rows }
+
+-- what a subcommand asks for, by the rows of its arguments
+abbrev pub asked_of : Text × List Row → Option Asked
+asked_of p =
+    if bytes_eq p.0 (codes "gen") then Some (gen (rules_in (codes "SPEC") p.1))
+    else (if bytes_eq p.0 (codes "up") then Some (up (rules_in (codes "TABLES") p.1))
+    else (if bytes_eq p.0 (codes "scan") then Some (scan (order_in (codes "TABLES") p.1))
+    else (if bytes_eq p.0 (codes "run") then Some (run (order_in (codes "SPEC") p.1)) else None)))
+
+-- `clap` has nothing to find fault with, nor to answer of itself
+abbrev pub is_taken : List Text → Bool
+is_taken words = is_empty (fault_of lx_app words)
+
+-- what the words ask for, of which the first is the program's name; nothing, where they are refused or ask for help
+unfoldable pub asked_by : List Text → Option Asked
+asked_by words = if nat_le (length words) 1 then Some stored
+    else (if is_taken words then option_and_then asked_of (subcommand_of lx_app words) else None)
+
+-- ---- the code's orders
+
+abbrev pub plain_order : ListOrder → PlainOrder
+plain_order o = record { per_piece = o.per_piece; rules = o.rules.now; files = map (λ name. name.now) o.files.items }
+
+-- what an order was asked by; the help is no order
+abbrev pub asked_as : Order → Option Asked
+asked_as order.Stored = Some stored
+asked_as (order.Help text) = None
+asked_as (order.Run o) = Some (run (plain_order o))
+asked_as (order.Scan o) = Some (scan (plain_order o))
+asked_as (order.Gen name) = Some (gen name.now)
+asked_as (order.Up name) = Some (up name.now)

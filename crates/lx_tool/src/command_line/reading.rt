@@ -1,0 +1,103 @@
+//! The words of the command line, as an order.
+
+ghost use Rattle.std.specs.Prelude.{◌≡◌, ◌≢◌, ◌≤◌, ◌<◌, IfOk, Ok, Err, None, codes, length, map, true, is_some, option_and_then};
+ghost use Rattle.clap.specs.Words.{found_of, kind_of, rows_of, subcommand_rows_of};
+ghost use Rattle.lx_tool.specs.CommandLine.{asked_as, asked_by, asked_of, files_in, items_in, order_in, plain_order, rules_in};
+
+use super::app::command;
+use super::{ITEMS, ListOrder, Order, Refusal};
+use clap::error::ErrorKind;
+use clap::{ArgMatches, Error};
+use std::alloc::{AllocError, Global};
+
+/// What the words ask for; the first is the program's name.
+pub(crate) fn read_words(alloc: Global, words: &[String]) -> Result<Order<'_>, Refusal>
+    ensures asked { IfOk result (λ order. asked_by (map (λ word. word.bytes.items) words.now) ≡ asked_as order) }
+    ensures refused { (text : Error) → result ≡ Err (Refusal.Words text) → asked_by (map (λ word. word.bytes.items) words.now) ≡ None }
+    ensures stored { length words.now ≤ 1 → result ≡ Ok Order.Stored }
+    ensures help { (text : Error) → result ≡ Ok (Order.Help text) → kind_of text ≡ ErrorKind.DisplayHelp }
+    // That memory was refused is no fault of the words.
+    ensures words { (text : Error) → result ≡ Err (Refusal.Words text) → kind_of text ≢ ErrorKind.OutOfMemory }
+{
+    if words.len() <= 1 {
+        return Ok(Order::Stored);
+    }
+    let command = command(alloc)?;
+    match command.try_get_matches_from(words) {
+        Ok(matches) => Ok(order_of(alloc, &matches)?),
+        Err(error) => match error.kind() {
+            ErrorKind::DisplayHelp => Ok(Order::Help(error)),
+            ErrorKind::OutOfMemory => Err(Refusal::Memory),
+            _ => Err(Refusal::Words(error)),
+        },
+    }
+}
+
+// What the matches ask for, which have a subcommand of the command's.
+fn order_of<'a>(alloc: Global, matches: &ArgMatches<'a>) -> Result<Order<'a>, AllocError>
+    requires { is_some (option_and_then asked_of (subcommand_rows_of matches.now)) ≡ true }
+    ensures { IfOk result (λ order. option_and_then asked_of (subcommand_rows_of matches.now) ≡ asked_as order) }
+{
+    match matches.subcommand() {
+        Some((name, found)) => named_order_of(alloc, name, found),
+        None => unreachable!(),
+    }
+}
+
+// What the subcommand with this name asks for.
+fn named_order_of<'a>(
+    alloc: Global,
+    name: &str,
+    found: &ArgMatches<'a>,
+) -> Result<Order<'a>, AllocError>
+    requires { is_some (asked_of (name.now, rows_of (found_of found.now))) ≡ true }
+    ensures { IfOk result (λ order. asked_of (name.now, rows_of (found_of found.now)) ≡ asked_as order) }
+{
+    match name {
+        "gen" => Ok(Order::Gen(rules_of(found, "SPEC"))),
+        "up" => Ok(Order::Up(rules_of(found, "TABLES"))),
+        "scan" => Ok(Order::Scan(list_order_of(alloc, found, "TABLES")?)),
+        _ => Ok(Order::Run(list_order_of(alloc, found, "SPEC")?)),
+    }
+}
+
+fn list_order_of<'a>(
+    alloc: Global,
+    found: &ArgMatches<'a>,
+    rules: &str,
+) -> Result<ListOrder<'a>, AllocError>
+    ensures { IfOk result (λ order. plain_order order ≡ order_in rules.now (rows_of (found_of found.now))) }
+{
+    Ok(ListOrder {
+        per_piece: items_of(found),
+        rules: rules_of(found, rules),
+        files: files_of(alloc, found)?,
+    })
+}
+
+fn rules_of<'a>(found: &ArgMatches<'a>, id: &str) -> &'a str
+    ensures { result.now ≡ rules_in id.now (rows_of (found_of found.now)) }
+{
+    found.get_str(id).unwrap_or("")
+}
+
+fn files_of<'a>(alloc: Global, found: &ArgMatches<'a>) -> Result<Vec<&'a str>, AllocError>
+    ensures { IfOk result (λ files. map (λ name. name.now) files.items ≡ files_in (rows_of (found_of found.now))) }
+{
+    match found.get_strs("FILE") {
+        Some(names) => Vec::from_slice(alloc, names),
+        None => Ok(Vec::new(alloc)),
+    }
+}
+
+// How many items a piece has.
+fn items_of(found: &ArgMatches<'_>) -> u32
+    ensures items { result ≡ items_in (rows_of (found_of found.now)) }
+    ensures some { 0 < result }
+    ensures few { result ≤ 4096 }
+{
+    match found.get_one::<u32>("items") {
+        Some(items) if 0 < items && items <= 4096 => items,
+        _ => ITEMS,
+    }
+}
