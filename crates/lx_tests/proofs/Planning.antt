@@ -1,9 +1,6 @@
-use Rattle.std.proofs.Common.{ℕ, ◌≡◌, ◌+◌, ◌<◌, ◌≤◌, List, [], inl, inr, get_or, length, map, Global, Vec, sym, ◌∙◌, ap, subst, arith, replicate}
-use Rattle.std.specs.Prelude.{slice_index, All}
-use Rattle.std.proofs.lemmas.List.{get_or-replicate, get_or-map}
-use Rattle.std.proofs.lemmas.Bool.{cases_eq}
-use Rattle.lx_scan.specs.declared.item.Item.{Item}
-use Rattle.lx_scan.specs.ItemParts.{IsItemOf}
+use Rattle.std.proofs.Common.{ℕ, ◌≡◌, ◌≤◌, List, sym, ◌∙◌, ap, subst, arith, replicate}
+use Rattle.std.specs.Prelude.{slice_index}
+use Rattle.std.proofs.lemmas.List.{get_or-replicate}
 use Rattle.lx_piece.specs.declared.piece.Piece.{Piece}
 use Rattle.lx_piece.specs.Plans.{Planned, IsPlan, files_of}
 use Rattle.lx_piece.specs.Pieces.{IsPieceOf, TakesInOrder, piece_at, pieces_of}

@@ -99,6 +99,8 @@ fn refuses_more_than_65536_files(rt: HostRuntime) -> Result<(), AllocError> {
 struct Exhausted;
 
 impl Sources for Exhausted {
+    ghost gives = { λ _ _ _ _. ⊥ };
+
     fn read(&mut self, _alloc: Global, _name: &str) -> Result<Input, SourceFault> {
         Err(SourceFault::Memory)
     }

@@ -30,6 +30,8 @@ mod plain;
 #[cfg(test)]
 mod plans;
 #[cfg(test)]
+mod readers;
+#[cfg(test)]
 mod refusals;
 #[cfg(test)]
 mod relay;
