@@ -1,5 +1,5 @@
 -- What the words of the command line ask for: something known where `clap` takes them, and nothing where it doesn't.
-use Rattle.std.proofs.Common.{◌≡◌, ◌∙◌, ◌<◌, ◌≤◌, ◌&&◌, Bool, true, false, not, refl, sym, ap, subst, inl, inr, arith, List, [], ◌∷◌, length, Option, Some, None, is_some, find, option_and_then, option_map}
+use Rattle.std.proofs.Common.{◌≡◌, ◌∙◌, ◌<◌, ◌≤◌, ◌&&◌, Bool, true, false, not, refl, sym, ap, subst, inl, inr, arith, List, [], ◌∷◌, length, Option, Some, None, ⊎_elim, is_some, find, option_and_then, option_map}
 use Rattle.std.specs.Prelude.{⊤}
 use Rattle.std.proofs.lemmas.Bool.{le-leb, lt-leb, ne_eqb, true≢false}
 use Rattle.clap.proofs.WalkLemmas.{both}
@@ -14,7 +14,7 @@ use Rattle.clap.specs.Walk.{Held, Names, answers_to, finished, is_empty, settled
 use Rattle.clap.specs.Takes.{is_given}
 use Rattle.clap.specs.Words.{App, HasMatchesOf, Row, Shape, Text, built, fault_of, is_simple_and_free, kind_of, subcommand_of, subcommand_rows_of}
 use Rattle.clap.specs.declared.parser.ArgMatches.{ArgMatches}
-use Rattle.lx_tool.specs.CommandLine.{asked_as, asked_by, asked_of, lx_app, stored}
+use Rattle.lx_tool.specs.CommandLine.{IsFault, asked_as, asked_by, asked_of, lx_app, stored}
 use Rattle.lx_tool.specs.declared.command_line.Order.{Order}
 use Rattle.lx_tool.specs.declared.command_line.Order.TheVariants.{Help}
 
@@ -125,3 +125,6 @@ module _ (a : App) (words : List Text) (is : a ≡ lx_app) (some : 1 < length wo
   unfolding asked_by
   asked_where_refused e h other =
       rw (lt-leb (length words) 1 some, faulty (fault_of lx_app words) e (subst (λ (b : App). HasKind (fault_of b words) e) is (h simple)) other) refl
+
+  pub fault_is : (e : Error) → (is_simple_and_free a ≡ true → HasKind (fault_of a words) e) → (kind_of e ≡ kind.OutOfMemory → ⊥) → IsFault words (kind_of e)
+  fault_is e h other = ⊎_elim (λ memory. absurd (other memory)) (λ k. k) (subst (λ (b : App). HasKind (fault_of b words) e) is (h simple))

@@ -3,11 +3,17 @@ pub mod Appending
 pub mod Asked
 pub mod Cutting
 pub mod Files
+pub mod GivenListed
 pub mod ItemsRead
+pub mod Obeyed
 pub mod Pieces
 pub mod Placing
+pub mod PlainNames
+pub mod PlainOrders
+pub mod PlainWords
 pub mod Planned
 pub mod Queues
+pub mod ReadOn
 pub mod SourceLemmas
 pub mod Steps
 pub mod Tabled

@@ -12,9 +12,9 @@ use Rattle.lx_scan.specs.ItemParts.{IsItemOf}
 use Rattle.lx_piece.specs.Plans.{Planned, IsPlan, files_of, bytes_of, kinds_of}
 use Rattle.lx_piece.specs.Pieces.{is_closing, contents, pieces_to}
 use Rattle.lx_piece.specs.PieceLaws.{prefix_to}
-use Rattle.lx_tool.specs.Lines.{line_of, lines_of}
+use Rattle.lx_tool.specs.Lines.{piece_lines, pieces_lines}
 use Rattle.lx_tool.specs.Listings.{AppendsPrefix}
-use Rattle.lx_tool.specs.ListingLaws.{appends_both}
+use Rattle.lx_tool.specs.ListingLaws.{appends_both, lines_one}
 use Rattle.lx_tool.proofs.Appending.{appends_prefix, prefix_more}
 
 -- what holds of each element holds of those of a part
@@ -39,28 +39,21 @@ first_items plan file count is within =
     let begins = prefix_to plan file count in
     all_left (IsItemOf (kinds_of plan) (bytes_of plan file)) (contents (pieces_to plan file count)) begins.0 (subst (All (IsItemOf (kinds_of plan) (bytes_of plan file))) (sym begins.1) (is.items file))
 
--- the lines of pieces and then of further ones
-pub lines_both : (plan : Planned) (file : ℕ) (xs ys : List Piece) → lines_of plan file (contents (xs ++ ys)) ≡ lines_of plan file (contents xs) ++ lines_of plan file (contents ys)
-lines_both plan file xs ys = ap (λ items. lines_of plan file items) (contents_both xs ys) ∙ flat_map-append (line_of plan file) (contents xs) (contents ys)
-
-pub lines_one : (plan : Planned) (file : ℕ) (xs : List Piece) (piece : Piece) → lines_of plan file (contents (xs ++ piece ∷ [])) ≡ lines_of plan file (contents xs) ++ lines_of plan file piece.items
-lines_one plan file xs piece = lines_both plan file xs (piece ∷ []) ∙ ap (λ items. lines_of plan file (contents xs) ++ lines_of plan file items) (append-nil piece.items)
-
 -- in the midst of what waits of a file: what was written, and what is left
 pub record WroteSome (plan : Planned) (file : ℕ) (all rest : List Piece) (closed : Bool) (before after : Option (List ℕ)) : Type 0 where
   pub done : List Piece
   pub parts : all ≡ done ++ rest
   pub closing : closed ≡ list_any is_closing done
-  pub wrote : Appends before after (lines_of plan file (contents done))
+  pub wrote : Appends before after (pieces_lines plan file done)
 
 -- the next piece
-pub some_next : (plan : Planned) (file : ℕ) (all rest : List Piece) (closed : Bool) (a b c : Option (List ℕ)) (left : List Piece) (piece : Piece) → WroteSome plan file all left closed a b → left ≡ (piece ∷ []) ++ rest → Appends b c (lines_of plan file piece.items) → WroteSome plan file all rest (closed || is_closing piece) a c
+pub some_next : (plan : Planned) (file : ℕ) (all rest : List Piece) (closed : Bool) (a b c : Option (List ℕ)) (left : List Piece) (piece : Piece) → WroteSome plan file all left closed a b → left ≡ (piece ∷ []) ++ rest → Appends b c (piece_lines plan file piece) → WroteSome plan file all rest (closed || is_closing piece) a c
 some_next plan file all rest closed a b c left piece some e w =
     record {
       done = some.done ++ piece ∷ [];
       parts = some.parts ∙ ap (λ ps. some.done ++ ps) e ∙ sym (append_assoc some.done (piece ∷ []) rest);
       closing = ap (λ t. t || is_closing piece) some.closing ∙ sym (list_any-append is_closing some.done (piece ∷ []) ∙ ap (λ t. list_any is_closing some.done || t) (or-false (is_closing piece)));
-      wrote = subst (λ (bs : List ℕ). Appends a c bs) (sym (lines_one plan file some.done piece)) (appends_both a b c (lines_of plan file (contents some.done)) (lines_of plan file piece.items) some.wrote w);
+      wrote = subst (λ (bs : List ℕ). Appends a c bs) (sym (lines_one plan file some.done piece)) (appends_both a b c (pieces_lines plan file some.done) (piece_lines plan file piece) some.wrote w);
     }
 
 -- its items
@@ -69,16 +62,15 @@ some_items P plan file all rest left closed a b piece some e h =
     items_within P some.done rest piece (subst (λ ps. All P (contents ps)) (some.parts ∙ ap (λ ps. some.done ++ ps) e) h)
 
 -- a fault in the next piece
-pub some_fault : (plan : Planned) (file : ℕ) (all rest left : List Piece) (closed : Bool) (a b c : Option (List ℕ)) (piece : Piece) → WroteSome plan file all left closed a b → left ≡ (piece ∷ []) ++ rest → AppendsPrefix b c (lines_of plan file piece.items) → AppendsPrefix a c (lines_of plan file (contents all))
+pub some_fault : (plan : Planned) (file : ℕ) (all rest left : List Piece) (closed : Bool) (a b c : Option (List ℕ)) (piece : Piece) → WroteSome plan file all left closed a b → left ≡ (piece ∷ []) ++ rest → AppendsPrefix b c (piece_lines plan file piece) → AppendsPrefix a c (pieces_lines plan file all)
 some_fault plan file all rest left closed a b c piece some e w =
     let parts = some.parts ∙ ap (λ ps. some.done ++ ps) e in
-    let lines = lines_both plan file some.done (piece ∷ rest) ∙ ap (λ bs. lines_of plan file (contents some.done) ++ bs) (flat_map-append (line_of plan file) piece.items (contents rest)) in
-    subst (λ ps. AppendsPrefix a c (lines_of plan file (contents ps))) (sym parts)
-    (subst (λ (bs : List ℕ). AppendsPrefix a c bs) (sym lines)
-    (appends_prefix a b c (lines_of plan file (contents some.done)) (lines_of plan file piece.items ++ lines_of plan file (contents rest)) some.wrote (prefix_more b c (lines_of plan file piece.items) (lines_of plan file (contents rest)) w)))
+    subst (λ ps. AppendsPrefix a c (pieces_lines plan file ps)) (sym parts)
+    (subst (λ (bs : List ℕ). AppendsPrefix a c bs) (sym (flat_map-append (piece_lines plan file) some.done (piece ∷ rest)))
+    (appends_prefix a b c (pieces_lines plan file some.done) (piece_lines plan file piece ++ pieces_lines plan file rest) some.wrote (prefix_more b c (piece_lines plan file piece) (pieces_lines plan file rest) w)))
 
 -- the end
-pub some_all : (plan : Planned) (file : ℕ) (all rest : List Piece) (closed : Bool) (a b : Option (List ℕ)) → WroteSome plan file all rest closed a b → rest ≡ [] → (closed ≡ list_any is_closing all) × Appends a b (lines_of plan file (contents all))
+pub some_all : (plan : Planned) (file : ℕ) (all rest : List Piece) (closed : Bool) (a b : Option (List ℕ)) → WroteSome plan file all rest closed a b → rest ≡ [] → (closed ≡ list_any is_closing all) × Appends a b (pieces_lines plan file all)
 some_all plan file all rest closed a b some e =
     let parts = some.parts ∙ ap (λ ps. some.done ++ ps) e ∙ append-nil some.done in
-    (some.closing ∙ sym (ap (λ ps. list_any is_closing ps) parts), subst (λ ps. Appends a b (lines_of plan file (contents ps))) (sym parts) some.wrote)
+    (some.closing ∙ sym (ap (λ ps. list_any is_closing ps) parts), subst (λ ps. Appends a b (pieces_lines plan file ps)) (sym parts) some.wrote)

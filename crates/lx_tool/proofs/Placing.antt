@@ -9,13 +9,13 @@ use Rattle.lx_piece.specs.declared.piece.Piece.{Piece}
 use Rattle.lx_scan.specs.ItemParts.{IsItemOf}
 use Rattle.lx_piece.specs.Plans.{Planned, IsPlan, files_of, bytes_of, kinds_of}
 use Rattle.lx_piece.specs.Pieces.{IsPrefix, contents, is_closing, piece_at, pieces_of, pieces_to}
-use Rattle.lx_piece.specs.PieceLaws.{prefix_to, takes_in_order, closed_at, whole_at}
+use Rattle.lx_piece.specs.PieceLaws.{closed_at, marked_last, takes_in_order}
 use Rattle.lx_piece.specs.Relayed.{IsNextPiece}
-use Rattle.lx_tool.specs.Lines.{lines_of}
+use Rattle.lx_tool.specs.Lines.{piece_lines, pieces_lines}
 use Rattle.lx_tool.specs.Listings.{AppendsPrefix, IsFirstOpen, listing_to, listing_of, taken_lines}
-use Rattle.lx_tool.specs.ListingLaws.{appends_both, appends_nothing, prefix_then, prefix_behind, lines_begin, due_begins}
+use Rattle.lx_tool.specs.ListingLaws.{appends_both, appends_nothing, prefix_then, prefix_behind, lines_one, lines_begin, whole_lines, due_begins}
 use Rattle.lx_tool.specs.Waiting.{waiting_of, Waits, KeepsUp, WritesOn, WritesInPart, Places, counted, due_by}
-use Rattle.lx_tool.proofs.Pieces.{first_items, items_within, lines_one}
+use Rattle.lx_tool.proofs.Pieces.{first_items, items_within}
 
 -- the pieces taken of a file and its next one
 pub next_to : (plan : Planned) (counts : List ℕ) (p : Piece) → IsNextPiece plan counts p → pieces_to plan p.file (slice_index counts p.file + 1) ≡ pieces_to plan p.file (slice_index counts p.file) ++ p ∷ []
@@ -24,9 +24,9 @@ next_to plan counts p next =
     let is : piece_at plan p.file count ≡ p = ap (λ (n : ℕ). piece_at plan p.file n) (sym next.number) ∙ sym next.planned.whole in
     ap (λ (n : ℕ). pieces_to plan p.file n) (add-one count) ∙ ap (λ (q : Piece). pieces_to plan p.file count ++ q ∷ []) is
 
-pub next_lines : (plan : Planned) (counts : List ℕ) (p : Piece) → IsNextPiece plan counts p → taken_lines plan p.file (slice_index counts p.file + 1) ≡ taken_lines plan p.file (slice_index counts p.file) ++ lines_of plan p.file p.items
+pub next_lines : (plan : Planned) (counts : List ℕ) (p : Piece) → IsNextPiece plan counts p → taken_lines plan p.file (slice_index counts p.file + 1) ≡ taken_lines plan p.file (slice_index counts p.file) ++ piece_lines plan p.file p
 next_lines plan counts p next =
-    ap (λ ps. lines_of plan p.file (contents ps)) (next_to plan counts p next) ∙ lines_one plan p.file (pieces_to plan p.file (slice_index counts p.file)) p
+    ap (λ ps. pieces_lines plan p.file ps) (next_to plan counts p next) ∙ lines_one plan p.file (pieces_to plan p.file (slice_index counts p.file)) p
 
 -- its items are the file's
 pub next_items : (plan : Planned) (counts : List ℕ) (p : Piece) → IsPlan plan → IsNextPiece plan counts p → All (IsItemOf (kinds_of plan) (bytes_of plan p.file)) p.items
@@ -37,14 +37,14 @@ next_items plan counts p is next =
 -- it is marked exactly where it is the file's last one
 pub next_closing : (plan : Planned) (counts : List ℕ) (p : Piece) → IsNextPiece plan counts p → is_closing p ≡ true → slice_index counts p.file + 1 ≡ pieces_of plan p.file
 next_closing plan counts p next closing =
-    let last = eqb-true (p.number + 1) (pieces_of plan p.file) (sym (ap is_closing next.planned.whole) ∙ closing) in
+    let last = eqb-true (p.number + 1) (pieces_of plan p.file) (sym (ap is_closing next.planned.whole ∙ marked_last plan p.file p.number) ∙ closing) in
     let number = next.number in
     omega arith
 
 pub next_open : (plan : Planned) (counts : List ℕ) (p : Piece) → IsNextPiece plan counts p → is_closing p ≡ false → slice_index counts p.file + 1 ≢ pieces_of plan p.file
 next_open plan counts p next unmarked = λ e.
     let number = next.number in
-    eqb-false (p.number + 1) (pieces_of plan p.file) (sym (ap is_closing next.planned.whole) ∙ unmarked) (omega arith)
+    eqb-false (p.number + 1) (pieces_of plan p.file) (sym (ap is_closing next.planned.whole ∙ marked_last plan p.file p.number) ∙ unmarked) (omega arith)
 
 -- how many pieces of a file were taken afterwards
 pub counted_same : (counts : List ℕ) (file : ℕ) → file < length counts → slice_index (counted counts file) file ≡ slice_index counts file + 1
@@ -108,30 +108,30 @@ placed_nothing plan counts first waiting a k begins =
     record { bytes = []; wrote = appends_nothing a; prefix = subst (λ (bs : List ℕ). IsPrefix bs (listing_of plan)) (sym (append-nil (due_by plan counts first))) begins }
 
 -- what is due begins the listing
-pub due_by_begins : (plan : Planned) (counts : List ℕ) (first : ℕ) → IsFirstOpen plan counts first → IsPrefix (due_by plan counts first) (listing_of plan)
-due_by_begins plan counts first open_first = due_begins plan counts (due_by plan counts first) (record { first = first; first_open = open_first; lines = refl })
+pub due_by_begins : (plan : Planned) (counts : List ℕ) (first : ℕ) → IsPlan plan → IsFirstOpen plan counts first → IsPrefix (due_by plan counts first) (listing_of plan)
+due_by_begins plan counts first is open_first = due_begins plan counts (due_by plan counts first) (record { plan_is = is; first = first; first_open = open_first; lines = refl })
 
 -- what is due with the next piece of the first open file
-due_more : (plan : Planned) (counts : List ℕ) (first : ℕ) (p : Piece) → IsNextPiece plan counts p → p.file ≡ first → due_by plan counts first ++ lines_of plan first p.items ≡ listing_to plan first ++ taken_lines plan first (slice_index counts first + 1)
+due_more : (plan : Planned) (counts : List ℕ) (first : ℕ) (p : Piece) → IsNextPiece plan counts p → p.file ≡ first → due_by plan counts first ++ piece_lines plan first p ≡ listing_to plan first ++ taken_lines plan first (slice_index counts first + 1)
 due_more plan counts first p next e =
-    subst (λ (f : ℕ). due_by plan counts f ++ lines_of plan f p.items ≡ listing_to plan f ++ taken_lines plan f (slice_index counts f + 1)) e
-    (append_assoc (listing_to plan p.file) (taken_lines plan p.file (slice_index counts p.file)) (lines_of plan p.file p.items)
+    subst (λ (f : ℕ). due_by plan counts f ++ piece_lines plan f p ≡ listing_to plan f ++ taken_lines plan f (slice_index counts f + 1)) e
+    (append_assoc (listing_to plan p.file) (taken_lines plan p.file (slice_index counts p.file)) (piece_lines plan p.file p)
     ∙ ap (λ bs. listing_to plan p.file ++ bs) (sym (next_lines plan counts p next)))
 
 -- where it can't be written, a prefix of the listing was
-pub placed_fault : (plan : Planned) (counts : List ℕ) (first : ℕ) (p : Piece) (a b : Option (List ℕ)) → first < files_of plan → IsNextPiece plan counts p → p.file ≡ first → AppendsPrefix a b (lines_of plan first p.items) → WritesInPart plan (due_by plan counts first) a b
-placed_fault plan counts first p a b within next e fault =
+pub placed_fault : (plan : Planned) (counts : List ℕ) (first : ℕ) (p : Piece) (a b : Option (List ℕ)) → IsPlan plan → first < files_of plan → IsNextPiece plan counts p → p.file ≡ first → AppendsPrefix a b (piece_lines plan first p) → WritesInPart plan (due_by plan counts first) a b
+placed_fault plan counts first p a b is within next e fault =
     record {
       bytes = fault.0;
       wrote = fault.2;
-      prefix = prefix_then (due_by plan counts first ++ fault.0) (due_by plan counts first ++ lines_of plan first p.items) (listing_of plan)
-          (prefix_behind (due_by plan counts first) fault.0 (lines_of plan first p.items) fault.1)
+      prefix = prefix_then (due_by plan counts first ++ fault.0) (due_by plan counts first ++ piece_lines plan first p) (listing_of plan)
+          (prefix_behind (due_by plan counts first) fault.0 (piece_lines plan first p) fault.1)
           (subst (λ (bs : List ℕ). IsPrefix bs (listing_of plan)) (sym (due_more plan counts first p next e))
-          (lines_begin plan first (contents (pieces_to plan first (slice_index counts first + 1))) within (prefix_to plan first (slice_index counts first + 1))));
+          (lines_begin plan first (slice_index counts first + 1) is within));
     }
 
 -- it doesn't close its file
-pub placed_open : (plan : Planned) (counts : List ℕ) (first : ℕ) (waiting : List (List Piece)) (p : Piece) (a b : Option (List ℕ)) → KeepsUp plan counts first waiting → IsNextPiece plan counts p → p.file ≡ first → is_closing p ≡ false → Appends a b (lines_of plan first p.items) → Places plan counts first p.file first waiting a b
+pub placed_open : (plan : Planned) (counts : List ℕ) (first : ℕ) (waiting : List (List Piece)) (p : Piece) (a b : Option (List ℕ)) → KeepsUp plan counts first waiting → IsNextPiece plan counts p → p.file ≡ first → is_closing p ≡ false → Appends a b (piece_lines plan first p) → Places plan counts first p.file first waiting a b
 placed_open plan counts first waiting p a b k next e unmarked wrote =
     let files = k.first_open.files in
     let there = next.planned.file in
@@ -150,7 +150,7 @@ placed_open plan counts first waiting p a b k next e unmarked wrote =
         within = λ g l m. subst (λ (count : ℕ). count ≤ pieces_of plan g) (sym (other g (λ s. absurd (omega arith)))) (k.within g l m);
         waits = λ g l m. k.waits g l m ∙ sym (ap (λ (count : ℕ). pieces_to plan g count) (other g (λ s. absurd (omega arith))));
       };
-      bytes = lines_of plan first p.items;
+      bytes = piece_lines plan first p;
       wrote = wrote;
       due = due_more plan counts first p next e ∙ sym (ap (λ (count : ℕ). listing_to plan first ++ taken_lines plan first count) same_first);
     }
@@ -164,25 +164,25 @@ waits_behind plan counts first waiting k =
     }
 
 -- what is due once the first open file is closed
-due_closed : (plan : Planned) (counts : List ℕ) (first : ℕ) (p : Piece) → IsPlan plan → IsNextPiece plan counts p → p.file ≡ first → is_closing p ≡ true → due_by plan counts first ++ lines_of plan first p.items ≡ listing_to plan (first + 1)
+due_closed : (plan : Planned) (counts : List ℕ) (first : ℕ) (p : Piece) → IsPlan plan → IsNextPiece plan counts p → p.file ≡ first → is_closing p ≡ true → due_by plan counts first ++ piece_lines plan first p ≡ listing_to plan (first + 1)
 due_closed plan counts first p is next e marked =
     let full = subst (λ (f : ℕ). slice_index counts f + 1 ≡ pieces_of plan f) e (next_closing plan counts p next marked) in
     due_more plan counts first p next e
-    ∙ ap (λ items. listing_to plan first ++ lines_of plan first items) (whole_at plan first (slice_index counts first + 1) is.some_items full)
+    ∙ ap (λ bs. listing_to plan first ++ bs) (whole_lines plan first (slice_index counts first + 1) is.some_items (omega arith))
     ∙ sym (ap (λ (n : ℕ). listing_to plan n) (add-one first))
 
 -- it closes its file, and a fault comes in the files behind it
-pub placed_part : (plan : Planned) (counts : List ℕ) (first : ℕ) (p : Piece) (a m b : Option (List ℕ)) → IsPlan plan → IsNextPiece plan counts p → p.file ≡ first → is_closing p ≡ true → Appends a m (lines_of plan first p.items) → WritesInPart plan (listing_to plan (first + 1)) m b → WritesInPart plan (due_by plan counts first) a b
+pub placed_part : (plan : Planned) (counts : List ℕ) (first : ℕ) (p : Piece) (a m b : Option (List ℕ)) → IsPlan plan → IsNextPiece plan counts p → p.file ≡ first → is_closing p ≡ true → Appends a m (piece_lines plan first p) → WritesInPart plan (listing_to plan (first + 1)) m b → WritesInPart plan (due_by plan counts first) a b
 placed_part plan counts first p a m b is next e marked wrote w =
     record {
-      bytes = lines_of plan first p.items ++ w.bytes;
-      wrote = appends_both a m b (lines_of plan first p.items) w.bytes wrote w.wrote;
+      bytes = piece_lines plan first p ++ w.bytes;
+      wrote = appends_both a m b (piece_lines plan first p) w.bytes wrote w.wrote;
       prefix = subst (λ (bs : List ℕ). IsPrefix bs (listing_of plan))
-          (ap (λ bs. bs ++ w.bytes) (sym (due_closed plan counts first p is next e marked)) ∙ append_assoc (due_by plan counts first) (lines_of plan first p.items) w.bytes) w.prefix;
+          (ap (λ bs. bs ++ w.bytes) (sym (due_closed plan counts first p is next e marked)) ∙ append_assoc (due_by plan counts first) (piece_lines plan first p) w.bytes) w.prefix;
     }
 
 -- it closes its file, and what waits behind it is written
-pub placed_closed : (plan : Planned) (counts : List ℕ) (first : ℕ) (waiting : List (List Piece)) (next_file : ℕ) (new : List (List Piece)) (p : Piece) (a m b : Option (List ℕ)) → IsPlan plan → KeepsUp plan counts first waiting → IsNextPiece plan counts p → p.file ≡ first → is_closing p ≡ true → Appends a m (lines_of plan first p.items) → WritesOn plan (first + 1) waiting next_file new m b → Places plan counts first p.file next_file new a b
+pub placed_closed : (plan : Planned) (counts : List ℕ) (first : ℕ) (waiting : List (List Piece)) (next_file : ℕ) (new : List (List Piece)) (p : Piece) (a m b : Option (List ℕ)) → IsPlan plan → KeepsUp plan counts first waiting → IsNextPiece plan counts p → p.file ≡ first → is_closing p ≡ true → Appends a m (piece_lines plan first p) → WritesOn plan (first + 1) waiting next_file new m b → Places plan counts first p.file next_file new a b
 placed_closed plan counts first waiting next_file new p a m b is k next e marked wrote w =
     let files = k.first_open.files in
     let lists = k.lists in
@@ -221,13 +221,13 @@ placed_closed plan counts first waiting next_file new p a m b is k next e marked
         within = λ g l m. subst (λ (count : ℕ). count ≤ pieces_of plan g) (sym (other g (λ s. absurd (omega arith)))) (k.within g (omega arith) m);
         waits = λ g l m. w.others g l ∙ k.waits g (omega arith) m ∙ sym (ap (λ (count : ℕ). pieces_to plan g count) (other g (λ s. absurd (omega arith))));
       };
-      bytes = lines_of plan first p.items ++ w.bytes;
-      wrote = appends_both a m b (lines_of plan first p.items) w.bytes wrote w.wrote;
+      bytes = piece_lines plan first p ++ w.bytes;
+      wrote = appends_both a m b (piece_lines plan first p) w.bytes wrote w.wrote;
       due =
-          sym (append_assoc (due_by plan counts first) (lines_of plan first p.items) w.bytes)
+          sym (append_assoc (due_by plan counts first) (piece_lines plan first p) w.bytes)
           ∙ ap (λ bs. bs ++ w.bytes) (due_closed plan counts first p is next e marked)
           ∙ w.lines
-          ∙ ap (λ ps. listing_to plan next_file ++ lines_of plan next_file (contents ps)) left;
+          ∙ ap (λ ps. listing_to plan next_file ++ pieces_lines plan next_file ps) left;
     }
 
 -- a clause for each variant of a result, from what is known of each

@@ -3,7 +3,7 @@ use Rattle.std.specs.Prelude.{slice_index, slice_set}
 use Rattle.std.proofs.lemmas.Bool.{both_ways, cases_order, cases_lt}
 use Rattle.std.proofs.lemmas.List.{get_or_default, get_or-replicate, get_or_past, length-replicate}
 use Rattle.lx_piece.specs.declared.piece.Piece.{Piece}
-use Rattle.lx_piece.specs.Plans.{Planned, files_of}
+use Rattle.lx_piece.specs.Plans.{Planned, IsPlan, files_of}
 use Rattle.lx_piece.specs.Pieces.{IsPrefix, pieces_to}
 use Rattle.lx_piece.specs.Relayed.{IsNextPiece}
 use Rattle.lx_tool.specs.Listings.{IsFirstOpen, taken_lines, IsDue, Prints, listing_of, printed}
@@ -30,6 +30,7 @@ due_is plan counts first text a d = d.lines ∙ ap (λ (n : ℕ). due_by plan co
 due_then : (plan : Planned) (counts : List ℕ) (first file next : ℕ) (waiting new : List (List Piece)) (text : List ℕ) (a b : Option (List ℕ)) → KeepsUp plan counts first waiting → (p : Places plan counts first file next new a b) → IsDue plan counts text → IsDue plan (counted counts file) (text ++ p.bytes)
 due_then plan counts first file next waiting new text a b k p d =
     record {
+      plan_is = d.plan_is;
       first = next;
       first_open = p.keeps.first_open;
       lines = ap (λ bs. bs ++ p.bytes) (due_is plan counts first text k.first_open d) ∙ p.due;
@@ -99,13 +100,14 @@ fresh_keeps plan counts waiting e w =
       waits = λ g l m. ap (λ ws. waiting_of ws g) w ∙ get_or-replicate (files_of plan) g [] [] m ∙ sym (ap (λ (count : ℕ). pieces_to plan g count) (none g m));
     }
 
-pub fresh_due : (plan : Planned) (counts : List ℕ) → counts ≡ replicate (files_of plan) 0 → IsDue plan counts []
-fresh_due plan counts e =
+pub fresh_due : (plan : Planned) (counts : List ℕ) → IsPlan plan → counts ≡ replicate (files_of plan) 0 → IsDue plan counts []
+fresh_due plan counts is e =
     let none : slice_index counts 0 ≡ 0 = elim (cases_lt 0 (files_of plan)) [
       | inl l ↦ ap (λ (ns : List ℕ). slice_index ns 0) e ∙ get_or-replicate (files_of plan) 0 0 0 l
       | inr past ↦ get_or_past counts 0 0 (let size = ap length e ∙ length-replicate (files_of plan) 0 in omega arith)
     ] in
     record {
+      plan_is = is;
       first = 0;
       first_open = fresh_open plan counts e;
       lines = sym (ap (λ (count : ℕ). taken_lines plan 0 count) none);

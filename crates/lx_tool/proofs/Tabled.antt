@@ -8,9 +8,8 @@ use Rattle.lx_auto.specs.Counts.{count_of_spec}
 use Rattle.lx_auto.specs.PositionSets.{HasMoreReachedSets}
 use Rattle.lx_auto.specs.declared.fault.BuildFault.{BuildFault}
 use Rattle.lx_auto.specs.declared.fault.BuildFault.TheVariants as build
-use Rattle.lx_tool.specs.Statuses.{status_of, failure_of_build, FailsBy, HidesNoMemory}
+use Rattle.lx_tool.specs.Statuses.{status_of, failure_of_build, HidesNoMemory}
 use Rattle.lx_tool.specs.Tabling.{HasNoTables, FailsGenerating, FailsUpgrading}
-use Rattle.lx_tool.specs.declared.command_line.ListOrder.{ListOrder}
 use Rattle.lx_tool.specs.declared.failure.Failure.{Failure}
 use Rattle.lx_tool.specs.declared.failure.Failure.TheVariants.{Specification, Automaton, Tables, Words, TooManyFiles, NotRead, Output, Memory}
 
@@ -70,14 +69,3 @@ upgrading_tells text old new TooManyFiles fails = tt
 upgrading_tells text old new (NotRead name) fails = tt
 upgrading_tells text old new Output fails = tt
 upgrading_tells text old new Memory fails = tt
-
--- what is known of an order whose specification has no tables
-pub order_fails : (ends : List ℕ → ℕ) (text : List ℕ) (order : ListOrder) (failure : Failure) → HasNoTables ends text failure → FailsBy order failure
-order_fails ends text order (Specification fault) none = none.0
-order_fails ends text order (Automaton fault) none = none.known
-order_fails ends text order (Tables fault) none = absurd none
-order_fails ends text order (Words error) none = absurd none
-order_fails ends text order TooManyFiles none = absurd none
-order_fails ends text order (NotRead name) none = absurd none
-order_fails ends text order Output none = tt
-order_fails ends text order Memory none = tt

@@ -1,15 +1,16 @@
 -- The command line of `lx`, and what its words ask for.
-use Rattle.std.specs.Prelude.{ℕ, Bool, true, List, [], ◌∷◌, map, length, nat_le, Option, Some, None, pos, codes, unwrap_or, if◌then◌else◌, option_and_then}
+use Rattle.std.specs.Prelude.{ℕ, Bool, true, List, [], ◌∷◌, map, length, nat_le, Option, Some, None, pos, codes, unwrap_or, if◌then◌else◌, option_and_then, slice_index, ◌≡◌, ◌≢◌, IfSome, All, ◌<◌, ◌++◌}
 use Rattle.std.specs.Option.{option_map_or}
 use Rattle.std.specs.Str.{bytes_eq}
 use Rattle.std.specs.Str.Parse.{digits_value, without_leading_plus}
 use Rattle.clap.specs.declared.builder.action.ArgAction.TheVariants.{Append}
 use Rattle.clap.specs.declared.builder.value_parser.ValueParser.TheVariants.{Signed}
+use Rattle.clap.specs.declared.error.ErrorKind.{ErrorKind}
 use Rattle.clap.specs.Lexer.{usize_max}
 use Rattle.clap.specs.Simple.{on_top}
 use Rattle.clap.specs.ValueTests.{is_unsigned_in}
 use Rattle.clap.specs.Walk.{is_empty}
-use Rattle.clap.specs.Words.{App, Row, Rule, Text, all_of, fault_of, first_of, new_app, new_rule, one_of, subcommand_of, with_rule, with_subcommand}
+use Rattle.clap.specs.Words.{App, IsAmong, Row, Rule, Text, all_of, fault_of, first_of, new_app, new_rule, one_of, subcommand_of, with_rule, with_subcommand}
 use Rattle.lx_tool.specs.declared.command_line.ListOrder.{ListOrder}
 use Rattle.lx_tool.specs.declared.command_line.Order.{Order}
 use Rattle.lx_tool.specs.declared.command_line.Order.TheVariants as order
@@ -45,6 +46,7 @@ one_file_app name id = with_rule (new_app name) (rules_rule id)
 abbrev pub list_app : Text → Text → App
 list_app name id = with_rule (with_rule (with_rule (new_app name) items_rule) (rules_rule id)) files_rule
 
+-- a subcommand has to be given, and none is `help`
 abbrev pub bare_app : App
 bare_app = on_top (λ s. record s { disable_help_subcommand = true; subcommand_required = true }) (new_app (codes "lx"))
 
@@ -89,7 +91,11 @@ asked_of p =
     else (if bytes_eq p.0 (codes "scan") then Some (scan (order_in (codes "TABLES") p.1))
     else (if bytes_eq p.0 (codes "run") then Some (run (order_in (codes "SPEC") p.1)) else None)))
 
--- `clap` has nothing to find fault with, nor to answer of itself
+-- `clap` may answer the words by an error of this kind, of which the help is one
+abbrev pub IsFault : List Text → ErrorKind → Type 0
+IsFault words k = IsAmong k (fault_of lx_app words)
+
+-- it takes them
 abbrev pub is_taken : List Text → Bool
 is_taken words = is_empty (fault_of lx_app words)
 
@@ -111,3 +117,30 @@ asked_as (order.Run o) = Some (run (plain_order o))
 asked_as (order.Scan o) = Some (scan (plain_order o))
 asked_as (order.Gen name) = Some (gen name.now)
 asked_as (order.Up name) = Some (up name.now)
+
+-- ---- what that comes to, for words that are no flags
+
+-- the word begins with no hyphen
+abbrev pub IsPlainWord : Text → Type 0
+IsPlainWord word = slice_index word 0 ≢ 45
+
+-- the words of `-b`, where it is given, and its number
+abbrev pub items_words : Option Text → List Text
+items_words None = []
+items_words (Some number) = codes "-b" ∷ number ∷ []
+
+abbrev pub items_given : Option Text → ℕ
+items_given None = 256
+items_given (Some number) = digits_value 10 (without_leading_plus number)
+
+abbrev pub IsItems : Option Text → Type 0
+IsItems number = IfSome number (λ n. is_unsigned_in 1 4096 n ≡ true)
+
+-- Such words ask for what they say.
+pub record PlainWordsAsk : Type 0 where
+  pub gens : (program spec : Text) → IsPlainWord spec → asked_by (program ∷ codes "gen" ∷ spec ∷ []) ≡ Some (gen spec)
+  pub ups : (program tables : Text) → IsPlainWord tables → asked_by (program ∷ codes "up" ∷ tables ∷ []) ≡ Some (up tables)
+  pub runs : (program : Text) (number : Option Text) (spec file : Text) (files : List Text) → IsItems number → All IsPlainWord (spec ∷ file ∷ files) → length files < usize_max
+      → asked_by (program ∷ codes "run" ∷ (items_words number ++ spec ∷ file ∷ files)) ≡ Some (run (record { per_piece = items_given number; rules = spec; files = file ∷ files }))
+  pub scans : (program : Text) (number : Option Text) (tables file : Text) (files : List Text) → IsItems number → All IsPlainWord (tables ∷ file ∷ files) → length files < usize_max
+      → asked_by (program ∷ codes "scan" ∷ (items_words number ++ tables ∷ file ∷ files)) ≡ Some (scan (record { per_piece = items_given number; rules = tables; files = file ∷ files }))

@@ -1,11 +1,13 @@
-use Rattle.std.specs.Prelude.{ℕ, ◌+◌, ◌/◌, ◌%◌, ◌==◌, ◌&&◌, nat_lt, nat_le, if◌then◌else◌, List, [], ◌∷◌, ◌++◌, codes, decimal}
+use Rattle.std.specs.Prelude.{ℕ, Bool, ◌+◌, ◌/◌, ◌%◌, ◌==◌, ◌&&◌, nat_lt, nat_le, if◌then◌else◌, List, [], ◌∷◌, ◌++◌, codes, decimal}
 use Rattle.std.specs.List.{flat_map}
 use Rattle.lx_spec.specs.declared.rule.Kind.{Kind}
 use Rattle.lx_spec.specs.declared.rule.Kind.TheVariants.{Name, Number}
 use Rattle.lx_scan.specs.declared.item.Item.{Item}
 use Rattle.lx_scan.specs.declared.item.Item.TheVariants.{Token, Echo}
 use Rattle.lx_scan.specs.ItemParts.{line_of as line_number, start_of, len_of, text_of}
-use Rattle.lx_piece.specs.Plans.{Planned, bytes_of, kind_of}
+use Rattle.lx_piece.specs.declared.piece.Piece.{Piece}
+use Rattle.lx_piece.specs.Pieces.{is_cut_short}
+use Rattle.lx_piece.specs.Plans.{Planned, bytes_of, is_cut, items_of, kind_of}
 
 -- an upper-case hexadecimal digit
 abbrev pub hex_digit : ℕ → ℕ
@@ -45,3 +47,23 @@ line_of plan file item =
 -- the lines of items of a file, in order
 abbrev pub lines_of : Planned → ℕ → List Item → List ℕ
 lines_of plan file items = flat_map (line_of plan file) items
+
+-- the line of a file whose reading failed
+abbrev pub cut_line : ℕ → List ℕ
+cut_line file = decimal file ++ codes " ! cut\n"
+
+-- what stands behind the lines of items: that line where the reading failed, else nothing
+abbrev pub cut_lines : ℕ → Bool → List ℕ
+cut_lines file cut = if cut then cut_line file else []
+
+-- the lines of a piece of a file: those of its items, and behind them that line where it is marked Cut
+abbrev pub piece_lines : Planned → ℕ → Piece → List ℕ
+piece_lines plan file piece = lines_of plan file piece.items ++ cut_lines file (is_cut_short piece)
+
+-- the lines of pieces of a file, in order
+abbrev pub pieces_lines : Planned → ℕ → List Piece → List ℕ
+pieces_lines plan file pieces = flat_map (piece_lines plan file) pieces
+
+-- the lines of a file: those of its items, and behind them that line where its reading failed
+abbrev pub file_lines : Planned → ℕ → List ℕ
+file_lines plan file = lines_of plan file (items_of plan file) ++ cut_lines file (is_cut plan file)

@@ -1,14 +1,16 @@
-use Rattle.std.proofs.Common.{ℕ, zero, suc, ◌≡◌, ◌<◌, ◌≤◌, List, [], ◌++◌, Option, Some, None, inl, inr, refl, sym, ◌∙◌, ap, subst, arith, append_assoc, append-nil}
+use Rattle.std.proofs.Common.{ℕ, zero, suc, ◌≡◌, ◌+◌, ◌*◌, ◌<◌, ◌≤◌, ◌&&◌, List, [], ◌∷◌, ◌++◌, Option, Some, None, inl, inr, take, refl, sym, ◌∙◌, ap, subst, arith, append_assoc, append-nil}
 use Rattle.std.specs.Prelude.{slice_index}
 use Rattle.std.specs.Io.KnownBytes.{Appends}
-use Rattle.std.proofs.lemmas.Bool.{cases_Bool, cases_eq, cases_lt, both_ways}
+use Rattle.std.proofs.Math.Nat.{mul-le-mul_right}
+use Rattle.std.proofs.lemmas.Bool.{cases_Bool, cases_eq, cases_lt, both_ways, eq-eqb, ne_eqb}
 use Rattle.std.proofs.lemmas.Grind.{flat_map-append}
-use Rattle.std.proofs.lemmas.List.{get_or_past}
+use Rattle.std.proofs.lemmas.List.{drop_all, get_or_past, take_all}
 use Rattle.lx_scan.specs.declared.item.Item.{Item}
-use Rattle.lx_piece.specs.Plans.{Planned, files_of, items_of}
-use Rattle.lx_piece.specs.Pieces.{IsPrefix, contents, pieces_to}
-use Rattle.lx_piece.specs.PieceLaws.{prefix_to}
-use Rattle.lx_tool.specs.Lines.{line_of, lines_of}
+use Rattle.lx_piece.specs.declared.piece.Piece.{Piece}
+use Rattle.lx_piece.specs.Plans.{Planned, IsPlan, files_of, is_cut, items_of}
+use Rattle.lx_piece.specs.Pieces.{IsPrefix, contents, part, piece_at, pieces_of, pieces_to}
+use Rattle.lx_piece.specs.PieceLaws.{marked_cut, pieces_hold, prefix_to, whole_at}
+use Rattle.lx_tool.specs.Lines.{cut_lines, file_lines, line_of, lines_of, piece_lines, pieces_lines}
 use Rattle.lx_tool.specs.Listings.{listing_to, listing_of, taken_lines, IsDue, AreAllClosed, HasOpenFile, Printed, Prints}
 
 -- nothing was appended
@@ -40,9 +42,79 @@ pub prefix_before : {X : Type 0} (xs ys : List X) → IsPrefix xs (xs ++ ys)
 prefix_before xs ys = (ys, refl)
 
 -- the lines of some first items begin those of all
-pub prefix_lines : (plan : Planned) (file : ℕ) (xs ys : List Item) → IsPrefix xs ys → IsPrefix (lines_of plan file xs) (lines_of plan file ys)
+prefix_lines : (plan : Planned) (file : ℕ) (xs ys : List Item) → IsPrefix xs ys → IsPrefix (lines_of plan file xs) (lines_of plan file ys)
 prefix_lines plan file xs ys f =
     (lines_of plan file f.0, sym (flat_map-append (line_of plan file) xs f.0) ∙ ap (λ items. lines_of plan file items) f.1)
+
+-- the lines of pieces and then of one more
+pub lines_one : (plan : Planned) (file : ℕ) (xs : List Piece) (piece : Piece) → pieces_lines plan file (xs ++ piece ∷ []) ≡ pieces_lines plan file xs ++ piece_lines plan file piece
+lines_one plan file xs piece =
+    flat_map-append (piece_lines plan file) xs (piece ∷ []) ∙ ap (λ bytes. pieces_lines plan file xs ++ bytes) (append-nil (piece_lines plan file piece))
+
+-- the items of the first pieces, and of the next one
+items_one : (plan : Planned) (file count : ℕ) → lines_of plan file (contents (pieces_to plan file (suc count))) ≡ lines_of plan file (contents (pieces_to plan file count)) ++ lines_of plan file (part plan.per_piece (items_of plan file) count)
+items_one plan file count =
+    let items = part plan.per_piece (items_of plan file) count in
+    ap (λ all. lines_of plan file all)
+    (flat_map-append (λ (piece : Piece). piece.items) (pieces_to plan file count) (piece_at plan file count ∷ []) ∙ ap (λ more. contents (pieces_to plan file count) ++ more) (append-nil items))
+    ∙ flat_map-append (line_of plan file) (contents (pieces_to plan file count)) items
+
+-- but for the last one, a piece has the lines of its items
+open_piece : (plan : Planned) (file number : ℕ) → (number + 1 ≡ pieces_of plan file → ⊥) → piece_lines plan file (piece_at plan file number) ≡ lines_of plan file (part plan.per_piece (items_of plan file) number)
+open_piece plan file number d =
+    let items = part plan.per_piece (items_of plan file) number in
+    ap (λ cut. lines_of plan file items ++ cut_lines file cut) (marked_cut plan file number ∙ ap (λ last. last && is_cut plan file) (ne_eqb (number + 1) (pieces_of plan file) d))
+    ∙ append-nil (lines_of plan file items)
+
+-- the last one has besides the cut line where the file's reading failed
+last_piece : (plan : Planned) (file number : ℕ) → number + 1 ≡ pieces_of plan file → piece_lines plan file (piece_at plan file number) ≡ lines_of plan file (part plan.per_piece (items_of plan file) number) ++ cut_lines file (is_cut plan file)
+last_piece plan file number e =
+    ap (λ cut. lines_of plan file (part plan.per_piece (items_of plan file) number) ++ cut_lines file cut)
+    (marked_cut plan file number ∙ ap (λ last. last && is_cut plan file) (eq-eqb (number + 1) (pieces_of plan file) e))
+
+-- before the last one, the lines of the first pieces are those of their items
+pub open_lines : (plan : Planned) (file count : ℕ) → count < pieces_of plan file → taken_lines plan file count ≡ lines_of plan file (contents (pieces_to plan file count))
+open_lines plan file zero l = refl
+open_lines plan file (suc count) l =
+    lines_one plan file (pieces_to plan file count) (piece_at plan file count)
+    ∙ ap (λ bytes. bytes ++ piece_lines plan file (piece_at plan file count)) (open_lines plan file count (omega arith))
+    ∙ ap (λ bytes. lines_of plan file (contents (pieces_to plan file count)) ++ bytes) (open_piece plan file count (λ e. absurd (omega arith)))
+    ∙ sym (items_one plan file count)
+
+-- behind the last one there are no items
+no_part : (plan : Planned) (file count : ℕ) → 0 < plan.per_piece → pieces_of plan file ≤ count → part plan.per_piece (items_of plan file) count ≡ []
+no_part plan file count some past =
+    let all = pieces_hold plan.per_piece (items_of plan file) some in
+    let more = mul-le-mul_right plan.per_piece past in
+    ap (λ (rest : List Item). take plan.per_piece rest) (drop_all (count * plan.per_piece) (items_of plan file) (omega arith)) ∙ take_all plan.per_piece [] (omega arith)
+
+-- from the last one on, the lines of the first pieces are those of the file
+pub whole_lines : (plan : Planned) (file count : ℕ) → 0 < plan.per_piece → pieces_of plan file ≤ count → taken_lines plan file count ≡ file_lines plan file
+whole_lines plan file zero some l = absurd (omega arith)
+whole_lines plan file (suc count) some l = elim (cases_lt count (pieces_of plan file)) [
+  | inl last ↦
+      lines_one plan file (pieces_to plan file count) (piece_at plan file count)
+      ∙ ap (λ bytes. bytes ++ piece_lines plan file (piece_at plan file count)) (open_lines plan file count last)
+      ∙ ap (λ bytes. lines_of plan file (contents (pieces_to plan file count)) ++ bytes) (last_piece plan file count (omega arith))
+      ∙ sym (append_assoc (lines_of plan file (contents (pieces_to plan file count))) (lines_of plan file (part plan.per_piece (items_of plan file) count)) (cut_lines file (is_cut plan file)))
+      ∙ ap (λ bytes. bytes ++ cut_lines file (is_cut plan file)) (sym (items_one plan file count) ∙ ap (λ items. lines_of plan file items) (whole_at plan file (suc count) some (omega arith)))
+  | inr past ↦
+      lines_one plan file (pieces_to plan file count) (piece_at plan file count)
+      ∙ ap (λ bytes. bytes ++ piece_lines plan file (piece_at plan file count)) (whole_lines plan file count some past)
+      ∙ ap (λ bytes. file_lines plan file ++ bytes) (open_piece plan file count (λ e. absurd (omega arith)) ∙ ap (λ items. lines_of plan file items) (no_part plan file count some past))
+      ∙ append-nil (file_lines plan file)
+]
+
+-- the lines of the first pieces begin those of the file
+pub taken_begin : (plan : Planned) (file count : ℕ) → 0 < plan.per_piece → IsPrefix (taken_lines plan file count) (file_lines plan file)
+taken_begin plan file count some = elim (cases_lt count (pieces_of plan file)) [
+  | inl open_file ↦
+      subst (λ (bytes : List ℕ). IsPrefix bytes (file_lines plan file)) (sym (open_lines plan file count open_file))
+      (prefix_then (lines_of plan file (contents (pieces_to plan file count))) (lines_of plan file (items_of plan file)) (file_lines plan file)
+      (prefix_lines plan file (contents (pieces_to plan file count)) (items_of plan file) (prefix_to plan file count))
+      (prefix_before (lines_of plan file (items_of plan file)) (cut_lines file (is_cut plan file))))
+  | inr closed ↦ subst (λ (bytes : List ℕ). IsPrefix bytes (file_lines plan file)) (sym (whole_lines plan file count some closed)) (prefix_all (file_lines plan file))
+]
 
 -- the lines of the files below one begin those of the files below a later one
 pub listing_rises : (plan : Planned) (low high : ℕ) → low ≤ high → IsPrefix (listing_to plan low) (listing_to plan high)
@@ -51,14 +123,14 @@ listing_rises plan low zero l =
     subst (λ (n : ℕ). IsPrefix (listing_to plan n) []) (sym none) (prefix_all [])
 listing_rises plan low (suc high) l = elim (cases_eq low (suc high)) [
   | inl same ↦ subst (λ (n : ℕ). IsPrefix (listing_to plan n) (listing_to plan (suc high))) (sym same) (prefix_all (listing_to plan (suc high)))
-  | inr d ↦ prefix_then (listing_to plan low) (listing_to plan high) (listing_to plan (suc high)) (listing_rises plan low high (omega arith)) (prefix_before (listing_to plan high) (lines_of plan high (items_of plan high)))
+  | inr d ↦ prefix_then (listing_to plan low) (listing_to plan high) (listing_to plan (suc high)) (listing_rises plan low high (omega arith)) (prefix_before (listing_to plan high) (file_lines plan high))
 ]
 
--- the lines of pieces of a file, behind those of the files before it, begin the listing
-pub lines_begin : (plan : Planned) (file : ℕ) (items : List Item) → file < files_of plan → IsPrefix items (items_of plan file) → IsPrefix (listing_to plan file ++ lines_of plan file items) (listing_of plan)
-lines_begin plan file items l f =
-    prefix_then (listing_to plan file ++ lines_of plan file items) (listing_to plan (suc file)) (listing_of plan)
-    (prefix_behind (listing_to plan file) (lines_of plan file items) (lines_of plan file (items_of plan file)) (prefix_lines plan file items (items_of plan file) f))
+-- the lines of the first pieces of a file, behind those of the files before it, begin the listing
+pub lines_begin : (plan : Planned) (file count : ℕ) → IsPlan plan → file < files_of plan → IsPrefix (listing_to plan file ++ taken_lines plan file count) (listing_of plan)
+lines_begin plan file count is l =
+    prefix_then (listing_to plan file ++ taken_lines plan file count) (listing_to plan (suc file)) (listing_of plan)
+    (prefix_behind (listing_to plan file) (taken_lines plan file count) (file_lines plan file) (taken_begin plan file count is.some_items))
     (listing_rises plan (suc file) (files_of plan) (omega arith))
 
 -- what is due begins the listing
@@ -68,7 +140,7 @@ due_begins plan counts text d =
     let within = d.first_open.within in
     subst (λ (bytes : List ℕ). IsPrefix bytes (listing_of plan)) (sym d.lines)
     (elim (cases_lt d.first (files_of plan)) [
-      | inl l ↦ lines_begin plan d.first (contents (pieces_to plan d.first (slice_index counts d.first))) l (prefix_to plan d.first (slice_index counts d.first))
+      | inl l ↦ lines_begin plan d.first (slice_index counts d.first) d.plan_is l
       | inr past ↦
           let none : slice_index counts d.first ≡ 0 = get_or_past counts d.first 0 (omega arith) in
           let all : d.first ≡ files_of plan = omega arith in

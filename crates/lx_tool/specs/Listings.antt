@@ -1,13 +1,13 @@
 use Rattle.std.specs.Prelude.{ℕ, zero, suc, ◌≡◌, ◌≢◌, ◌<◌, ◌≤◌, ◌⊎◌, Bool, true, false, List, [], ◌∷◌, ◌++◌, Option, length, slice_index}
 use Rattle.std.specs.Io.KnownBytes.{Appends}
-use Rattle.lx_piece.specs.Plans.{Planned, files_of, items_of}
-use Rattle.lx_piece.specs.Pieces.{IsPrefix, contents, pieces_of, pieces_to}
-use Rattle.lx_tool.specs.Lines.{lines_of}
+use Rattle.lx_piece.specs.Plans.{Planned, IsPlan, files_of}
+use Rattle.lx_piece.specs.Pieces.{IsPrefix, pieces_of, pieces_to}
+use Rattle.lx_tool.specs.Lines.{file_lines, pieces_lines}
 
 -- the lines of the files below this one, in order
 abbrev pub listing_to : Planned → ℕ → List ℕ
 listing_to plan zero = []
-listing_to plan (suc file) = listing_to plan file ++ lines_of plan file (items_of plan file)
+listing_to plan (suc file) = listing_to plan file ++ file_lines plan file
 
 -- the lines of all files, in order
 abbrev pub listing_of : Planned → List ℕ
@@ -15,7 +15,7 @@ listing_of plan = listing_to plan (files_of plan)
 
 -- the lines of the first pieces of a file, this many
 abbrev pub taken_lines : Planned → ℕ → ℕ → List ℕ
-taken_lines plan file count = lines_of plan file (contents (pieces_to plan file count))
+taken_lines plan file count = pieces_lines plan file (pieces_to plan file count)
 
 -- By these counts of pieces taken, it is the first file that isn't closed, or the number of files where each is.
 pub record IsFirstOpen (plan : Planned) (counts : List ℕ) (first : ℕ) : Type 0 where
@@ -26,6 +26,7 @@ pub record IsFirstOpen (plan : Planned) (counts : List ℕ) (first : ℕ) : Type
 
 -- text is the lines of the pieces taken of the files up to and with the first that isn't closed
 pub record IsDue (plan : Planned) (counts : List ℕ) (text : List ℕ) : Type 0 where
+  pub plan_is : IsPlan plan
   pub first : ℕ
   pub first_open : IsFirstOpen plan counts first
   pub lines : text ≡ listing_to plan first ++ taken_lines plan first (slice_index counts first)

@@ -1,13 +1,47 @@
--- Files by name.
-use Rattle.std.specs.Prelude.{◌≡◌, ◌≢◌, ℕ, List, ◌∷◌, ◌++◌, All}
+-- Files by name, and what sources give for names.
+use Rattle.std.specs.Prelude.{◌≡◌, ◌≢◌, ℕ, Bool, false, ◌||◌, if◌then◌else◌, List, [], ◌∷◌, ◌++◌, All, map}
+use Rattle.std.specs.Borrow.{Bor}
+use Rattle.std.specs.Str.{bytes_eq}
+use Rattle.lx_piece.specs.Plans.{PlainInput}
+
+-- a file that was read to its end
+abbrev pub whole : List ℕ → PlainInput
+whole bytes = record { bytes = bytes; cut = false }
+
+-- Between one state of the sources and a later one these inputs were given for these names, in this order.
+pub data AreGiven {S : Type 0} (gives : S → List ℕ → PlainInput → S → Type 0) : S → List (List ℕ) → List PlainInput → S → Type 0 where
+  none : {s : S} → AreGiven gives s [] [] s
+  first : {s t u : S} {name : List ℕ} {input : PlainInput} {names : List (List ℕ)} {inputs : List PlainInput} →
+      gives s name input t → AreGiven gives t names inputs u → AreGiven gives s (name ∷ names) (input ∷ inputs) u
+
+-- of files with these names, the names of those that were cut short
+abbrev pub cut_names : List (List ℕ) → List PlainInput → List (List ℕ)
+cut_names [] inputs = []
+cut_names (name ∷ names) [] = []
+cut_names (name ∷ names) (input ∷ inputs) = if input.cut then name ∷ cut_names names inputs else cut_names names inputs
+
+-- ---- sources that are a list
 
 -- no file has this name
-abbrev pub NoneIsNamed : List (List ℕ × List ℕ) → List ℕ → Type 0
+abbrev pub NoneIsNamed : List (List ℕ × PlainInput) → List ℕ → Type 0
 NoneIsNamed files name = All (λ file. file.0 ≢ name) files
 
--- The bytes are those of the first file with this name.
-pub record IsFirstNamed (files : List (List ℕ × List ℕ)) (name bytes : List ℕ) : Type 0 where
-  pub before : List (List ℕ × List ℕ)
-  pub behind : List (List ℕ × List ℕ)
-  pub there : files ≡ before ++ (name, bytes) ∷ behind
+-- The input is that of the first file with this name.
+pub record IsFirstNamed (files : List (List ℕ × PlainInput)) (name : List ℕ) (input : PlainInput) : Type 0 where
+  pub before : List (List ℕ × PlainInput)
+  pub behind : List (List ℕ × PlainInput)
+  pub there : files ≡ before ++ (name, input) ∷ behind
   pub first : NoneIsNamed before name
+
+-- whether a name is one of these
+abbrev pub is_among : List (List ℕ) → List ℕ → Bool
+is_among [] name = false
+is_among (known ∷ names) name = bytes_eq known name || is_among names name
+
+-- a file of a name and bytes, whose reading failed behind them where its name is one of these
+abbrev pub named_input : List (List ℕ) → Bor (List ℕ) × Bor (List ℕ) → List ℕ × PlainInput
+named_input cut file = (file.0.now, record { bytes = file.1.now; cut = is_among cut file.0.now })
+
+-- files of names and bytes, all whole but those with one of these names
+abbrev pub inputs_of : List (List ℕ) → List (Bor (List ℕ) × Bor (List ℕ)) → List (List ℕ × PlainInput)
+inputs_of cut files = map (named_input cut) files

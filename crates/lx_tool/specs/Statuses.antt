@@ -1,6 +1,5 @@
 -- Why a command is not done, and the exit statuses of the program.
-use Rattle.std.specs.Prelude.{ℕ, ◌≡◌, ◌≢◌, ◌<◌, ◌⊎◌, ⊤, List, ◌∷◌, Any, vec_len}
-use Rattle.std.specs.Borrow.{Bor}
+use Rattle.std.specs.Prelude.{ℕ, ◌≡◌, ◌≢◌, ◌⊎◌, ⊤}
 use Rattle.clap.specs.declared.error.kind.ErrorKind.TheVariants as kind
 use Rattle.clap.specs.Words.{kind_of}
 use Rattle.lx_auto.specs.declared.fault.BuildFault.{BuildFault}
@@ -11,7 +10,6 @@ use Rattle.lx_tables.specs.declared.fault.TableFault.{TableFault}
 use Rattle.lx_tables.specs.declared.fault.TableFault.TheVariants as table
 use Rattle.lx_piece.specs.declared.relaying.RelayFault.{RelayFault}
 use Rattle.lx_piece.specs.declared.relaying.RelayFault.TheVariants as relay
-use Rattle.lx_tool.specs.declared.command_line.ListOrder.{ListOrder}
 use Rattle.lx_tool.specs.declared.printing.RunFault.{RunFault}
 use Rattle.lx_tool.specs.declared.printing.RunFault.TheVariants as run
 use Rattle.lx_tool.specs.declared.failure.Failure.{Failure}
@@ -63,18 +61,3 @@ HidesNoMemory TooManyFiles = ⊤
 HidesNoMemory (NotRead name) = ⊤
 HidesNoMemory Output = ⊤
 HidesNoMemory Memory = ⊤
-
--- the file with this name is not read, or memory was refused for it
-abbrev pub IsUnread : Bor (List ℕ) → Failure → Type 0
-IsUnread name failure = (failure ≡ NotRead name) ⊎ (failure ≡ Memory)
-
--- What is known of an order to list files that is not done.
-abbrev pub FailsBy : ListOrder → Failure → Type 0
-FailsBy order (Specification fault) = fault.code ≢ code.Memory
-FailsBy order (Automaton fault) = fault ≢ build.Memory
-FailsBy order (Tables fault) = fault ≢ table.Memory
-FailsBy order (Words error) = ⊥
-FailsBy order TooManyFiles = 65536 < vec_len order.files
-FailsBy order (NotRead name) = Any (λ known. known ≡ name) (order.rules ∷ order.files.items)
-FailsBy order Output = ⊤
-FailsBy order Memory = ⊤

@@ -5,8 +5,8 @@ use Rattle.std.specs.Io.KnownBytes.{Appends}
 use Rattle.std.specs.List.{list_any}
 use Rattle.lx_piece.specs.declared.piece.Piece.{Piece}
 use Rattle.lx_piece.specs.Plans.{Planned, IsPlan, files_of}
-use Rattle.lx_piece.specs.Pieces.{IsPrefix, contents, is_closing, pieces_of, pieces_to}
-use Rattle.lx_tool.specs.Lines.{lines_of}
+use Rattle.lx_piece.specs.Pieces.{IsPrefix, is_closing, pieces_of, pieces_to}
+use Rattle.lx_tool.specs.Lines.{pieces_lines}
 use Rattle.lx_tool.specs.Listings.{listing_to, listing_of, taken_lines, IsFirstOpen}
 
 -- the pieces in the queue of each file
@@ -45,7 +45,7 @@ pub record WritesOn (plan : Planned) (from : ℕ) (old : List (List Piece)) (nex
   pub others : (file : ℕ) → next < file → waiting_of new file ≡ waiting_of old file
   pub bytes : List ℕ
   pub wrote : Appends before after bytes
-  pub lines : listing_to plan from ++ bytes ≡ listing_to plan next ++ lines_of plan next (contents (waiting_of old next))
+  pub lines : listing_to plan from ++ bytes ≡ listing_to plan next ++ pieces_lines plan next (waiting_of old next)
 
 -- behind some text of the listing, more of it was written
 pub record WritesInPart (plan : Planned) (text : List ℕ) (before after : Option (List ℕ)) : Type 0 where

@@ -1,5 +1,5 @@
 ghost use Rattle.std.specs.Prelude.{◌≡◌, ◌+◌, ◌<◌, [], ◌∷◌, ◌++◌, IfOk, OnErr, MatchOption, false};
-ghost use Rattle.lx_piece.specs.Plans.{files_of};
+ghost use Rattle.lx_piece.specs.Plans.{IsPlan, files_of};
 ghost use Rattle.lx_piece.specs.Pieces.{IsPieceOf};
 ghost use Rattle.lx_piece.specs.Cutting.{IsCutterOf};
 ghost use Rattle.lx_tool.specs.Cuts.{pieces_below, pieces_before};
@@ -61,7 +61,8 @@ impl<'a> Model for Cuts<'a> {
 
 impl<'a> Cuts<'a> {
     pub(crate) fn new(alloc: Global, plan: &'a Plan) -> Self
-        ensures { result ≡ record { plan = plan.now; cut = []; refused = false } }
+        ensures cuts { result ≡ record { plan = plan.now; cut = []; refused = false } }
+        ensures plan { IsPlan plan.now }
     {
         let _files = plan.files();
         Cuts {

@@ -1,9 +1,9 @@
-ghost use Rattle.std.specs.Prelude.{◌≡◌, ◌<◌, ◌++◌, OnOk, decimal};
+ghost use Rattle.std.specs.Prelude.{◌≡◌, ◌<◌, ◌≤◌, ◌++◌, OnOk, codes, decimal, length, take};
 ghost use Rattle.std.specs.List.{flat_map};
 ghost use Rattle.lx_scan.specs.ItemParts as parts;
 ghost use Rattle.lx_scan.specs.ItemParts.{start_of, len_of, IsItemOf, IsKindAmong, NamesKindAmong};
 ghost use Rattle.lx_piece.specs.Plans.{files_of, bytes_of, kinds_of};
-ghost use Rattle.lx_tool.specs.Lines.{hex_digit, escaped, class_text, name_text, kind_text, line_of};
+ghost use Rattle.lx_tool.specs.Lines.{hex_digit, escaped, class_text, name_text, kind_text, line_of, cut_line};
 
 use itoa::Buffer;
 use lx_piece::Plan;
@@ -28,10 +28,25 @@ fn push_escaped(line: &mut Vec<u8>, byte: u8) -> Result<(), AllocError>
     }
 }
 
+/// How many bytes at the front of a text stand in a line as they are.
+fn plain_front(text: &[u8]) -> usize
+    ensures within { result ≤ length text.now }
+    ensures plain { flat_map escaped (take result text.now) ≡ take result text.now }
+{
+    let mut plain = 0;
+    while plain < text.len() && matches!(text[plain], b' '..=b'[' | b']'..=b'~') {
+        plain += 1;
+    }
+    plain
+}
+
+/// Most texts are plain, and are copied at once.
 fn push_text(line: &mut Vec<u8>, text: &[u8]) -> Result<(), AllocError>
     ensures { OnOk result (line.new.items ≡ line.old.items ++ flat_map escaped text.now) }
 {
-    for byte in text {
+    let plain = plain_front(text);
+    line.extend_from_slice(&text[..plain])?;
+    for byte in &text[plain..] {
         push_escaped(line, *byte)?;
     }
     Ok(())
@@ -44,32 +59,42 @@ fn push_number(line: &mut Vec<u8>, number: u64) -> Result<(), AllocError>
     line.extend_from_slice(buffer.format(number).as_bytes())
 }
 
-fn push_class(line: &mut Vec<u8>, item: &Item) -> Result<(), AllocError>
-    ensures { OnOk result (line.new.items ≡ line.old.items ++ class_text item.now) }
+/// A number and a space. Most numbers of files and most lengths have one digit.
+fn push_field(line: &mut Vec<u8>, number: u64) -> Result<(), AllocError>
+    ensures { OnOk result (line.new.items ≡ line.old.items ++ decimal number ++ codes " ") }
 {
-    match item {
-        Item::Token { .. } => line.extend_from_slice(b"T"),
-        Item::Echo { .. } => line.extend_from_slice(b"E"),
+    if number < 10 {
+        return line.extend_from_slice(&[b'0' + number as u8, b' ']);
     }
+    push_number(line, number)?;
+    line.extend_from_slice(b" ")
 }
 
+/// The kind of a token.
 fn push_name(line: &mut Vec<u8>, plan: &Plan, kind: Kind) -> Result<(), AllocError>
     requires { IsKindAmong (kinds_of plan.now) kind }
-    ensures { OnOk result (line.new.items ≡ line.old.items ++ name_text plan.now kind) }
+    ensures { OnOk result (line.new.items ≡ line.old.items ++ name_text plan.now kind ++ codes " ") }
 {
     match kind {
-        Kind::Name(place) => line.extend_from_slice(plan.kind(place)),
-        Kind::Number(number) => push_number(line, u64::from(number)),
+        Kind::Name(place) => {
+            line.extend_from_slice(plan.kind(place))?;
+            line.extend_from_slice(b" ")
+        }
+        Kind::Number(number) => push_field(line, u64::from(number)),
     }
 }
 
+/// Whether it is a token or an Echo, and the kind.
 fn push_kind(line: &mut Vec<u8>, plan: &Plan, item: &Item) -> Result<(), AllocError>
     requires { NamesKindAmong (kinds_of plan.now) item.now }
-    ensures { OnOk result (line.new.items ≡ line.old.items ++ kind_text plan.now item.now) }
+    ensures { OnOk result (line.new.items ≡ line.old.items ++ class_text item.now ++ codes " " ++ kind_text plan.now item.now ++ codes " ") }
 {
     match item {
-        Item::Token { kind, .. } => push_name(line, plan, *kind),
-        Item::Echo { .. } => line.extend_from_slice(b"-"),
+        Item::Token { kind, .. } => {
+            line.extend_from_slice(b"T ")?;
+            push_name(line, plan, *kind)
+        }
+        Item::Echo { .. } => line.extend_from_slice(b"E - "),
     }
 }
 
@@ -106,18 +131,21 @@ pub(crate) fn make_line(
 {
     let (start, len) = extent(item);
     line.clear();
-    push_number(line, u64::from(file))?;
-    line.extend_from_slice(b" ")?;
-    push_class(line, item)?;
-    line.extend_from_slice(b" ")?;
+    push_field(line, u64::from(file))?;
     push_kind(line, plan, item)?;
-    line.extend_from_slice(b" ")?;
-    push_number(line, line_number(item))?;
-    line.extend_from_slice(b" ")?;
-    push_number(line, start as u64)?;
-    line.extend_from_slice(b" ")?;
-    push_number(line, len as u64)?;
-    line.extend_from_slice(b" ")?;
+    push_field(line, line_number(item))?;
+    push_field(line, start as u64)?;
+    push_field(line, len as u64)?;
     push_text(line, item.text(plan.bytes(file)))?;
     line.extend_from_slice(b"\n")
+}
+
+/// Makes the line behind the items of a file whose reading failed, in place of what the buffer held. Where memory is
+/// refused the buffer holds a part of it.
+pub(crate) fn make_cut_line(line: &mut Vec<u8>, file: u32) -> Result<(), AllocError>
+    ensures { OnOk result (line.new.items ≡ cut_line file) }
+{
+    line.clear();
+    push_number(line, u64::from(file))?;
+    line.extend_from_slice(b" ! cut\n")
 }

@@ -1,5 +1,5 @@
 ghost use Rattle.std.specs.Prelude.{◌≡◌, ◌+◌, ◌<◌, [], IfOk, OnOk, OnErr, Err, replicate, slice_set, slice_index, true, false};
-ghost use Rattle.lx_piece.specs.Plans.{files_of};
+ghost use Rattle.lx_piece.specs.Plans.{IsPlan, files_of};
 ghost use Rattle.lx_piece.specs.Pieces.{top_number};
 ghost use Rattle.lx_piece.specs.Relayed.{IsNextPiece};
 ghost use Rattle.lx_tool.specs.Listings.{AppendsWhole, IsDue, Prints, printed};
@@ -42,7 +42,8 @@ impl<'a> Model for Lister<'a> {
 impl<'a> Lister<'a> {
     /// A listing that has taken nothing.
     pub(crate) fn new(alloc: Global, plan: &'a Plan) -> Result<Lister<'a>, AllocError>
-        ensures { IfOk result (λ lister. lister ≡ record { plan = plan.now; counts = replicate (files_of plan.now) 0; faults = 0; failed = false }) }
+        ensures lister { IfOk result (λ lister. lister ≡ record { plan = plan.now; counts = replicate (files_of plan.now) 0; faults = 0; failed = false }) }
+        ensures plan { IsPlan plan.now }
     {
         let files = plan.files();
         let mut waiting = Vec::new(alloc);
@@ -116,10 +117,11 @@ impl<'a> Lister<'a> {
     }
 }
 
-/// Writes the lines of a plan's files in their order, and holds the pieces of later files until the earlier ones
-/// are closed. Each line is written at once, or in further writes for the rest of what was taken in part. A write
-/// of 0 bytes or an error is a fault of the device. Where memory is refused for a line, nothing of it is
-/// written. After a fault of either kind nothing more is written, and Device is answered and counted.
+/// Writes the lines of a plan's files in their order, with the cut line behind those of a file whose reading failed, and
+/// holds the pieces of later files until the earlier ones are closed. Each line is written at once, or in further writes
+/// for the rest of what was taken in part. A write of 0 bytes or an error is a fault of the device. Where memory is
+/// refused for a line, nothing of it is written. After a fault of either kind nothing more is written, and Device is
+/// answered and counted.
 #[derive(Drop)]
 pub struct Listing<'a, W: Write> {
     lister: Lister<'a>,

@@ -1,36 +1,41 @@
 //! The program `lx`, but for the real files and streams.
 
-ghost use Rattle.std.specs.Prelude.{◌≡◌, ◌<◌, ◌≤◌, [], ◌∷◌, Any, Err, IfOk, IfErr, codes, length, map, vec_len};
+ghost use Rattle.std.specs.Prelude.{◌≡◌, ◌<◌, ◌≤◌, ℕ, List, [], ◌∷◌, Some, IfOk, IfErr, OnOk, IfSome, length, map};
 ghost use Rattle.std.specs.Io.KnownBytes.{Keeps};
-ghost use Rattle.lx_tool.specs.Statuses.{FailsBy, HidesNoMemory, IsUnread, status_of};
+ghost use Rattle.lx_spec.specs.RuleLines.{EndsPatterns};
+ghost use Rattle.lx_tool.specs.CommandLine.{asked_as, asked_by, plain_order, run as run-asked, scan as scan-asked, gen as gen-asked, up as up-asked};
+ghost use Rattle.lx_tool.specs.Commands.{HasDone, HasEnded, HasFailed, HasObeyed, stored_specification, stored_text};
+ghost use Rattle.lx_tool.specs.Planning.{ListsByRules};
+ghost use Rattle.lx_tool.specs.Sources.{whole};
+ghost use Rattle.lx_tool.specs.Statuses.{status_of};
+ghost use Rattle.lx_tool.specs.Tabling.{HasNoTables};
 
 use crate::command_line::{ITEMS, ListOrder, Order, Refusal, read_words};
 use crate::failure::Failure;
-use crate::planning::list_files;
-use crate::source::{ListSources, SourceFault, Sources};
+use crate::given::{list_by_specification, list_by_tables, read_whole};
+use crate::planning::{list_files, listings_are_by_rules};
+use crate::source::Sources;
 use crate::tabling::{generate, tables_of_text, upgrade};
-use lx_spec::read::patterns_end;
-use lx_tables::Tables;
-use std::alloc::{AllocError, Global};
+use lx_piece::Input;
+use std::alloc::Global;
 use std::io::Write;
 
 // The most files that one listing has.
 const MOST_FILES: usize = 65_536;
 
-// The files of the stored run.
-static STORED: [(&str, &[u8]); 2] = [
-    (
-        "words.l",
-        b"%%\n[a-z]+ return ID;\n[0-9]+ return NUM;\n[ \\n]+ ;\n",
-    ),
-    ("words.txt", b"ab 12\n"),
-];
+// The exit status where all is listed and a file was cut short.
+const CUT_SHORT: u8 = 3;
+
+// The specification of the stored run, and its file.
+static STORED_SPECIFICATION: &[u8] = b"%%\n[a-z]+ return ID;\n[0-9]+ return NUM;\n[ \\n]+ ;\n";
+
+static STORED_TEXT: &[u8] = b"ab 12\n";
 
 /// The whole program: `words` are the command line, the program's name first. Files are read from `sources`; the listing,
-/// the tables or the help go to `out`, which is flushed, and one line on what went wrong to `err`, whose own faults change nothing.
+/// the tables or the help go to `out`, which is flushed, and what went wrong to `err`, whose own faults change nothing.
 /// The result is the exit status: 0, all was done; 1, the specification was refused, or is too large for an automaton, or the tables
-/// were refused; 2, the
-/// command line was refused; 3, a file can't be read; 4, the output failed; 5, memory was refused.
+/// were refused; 2, the command line was refused; 3, a file can't be read, or all was listed and a file was cut short; 4, the output
+/// failed; 5, memory was refused.
 pub fn run<R, S: Sources, O: Write, E: Write>(
     _rt: &R,
     alloc: Global,
@@ -40,11 +45,14 @@ pub fn run<R, S: Sources, O: Write, E: Write>(
     err: &mut E,
 ) -> u8
     ensures known { result ≤ 5 }
+    ensures done { result ≡ 0 → (ends : List ℕ → ℕ) → EndsPatterns ends →
+        IfSome (asked_by (map (λ word. word.bytes.items) words.now)) (HasDone S.gives ends sources.old sources.new (O.contents out.old) (O.contents out.new) []) }
     // Where the specification, the command line or a file is refused, nothing was written.
-    ensures refused { 0 < result → result < 4 → Keeps (O.contents out.old) (O.contents out.new) }
+    ensures ended { 0 < result → result < 4 → (ends : List ℕ → ℕ) → EndsPatterns ends →
+        HasEnded S.gives ends (asked_by (map (λ word. word.bytes.items) words.now)) sources.old sources.new (O.contents out.old) (O.contents out.new) result }
 {
     match obey(alloc, words, sources, out) {
-        Ok(()) => 0,
+        Ok(cut) => tell_cut(&cut, err),
         Err(failure) => {
             let _ = match &failure {
                 // Its text ends with a newline.
@@ -56,32 +64,124 @@ pub fn run<R, S: Sources, O: Write, E: Write>(
     }
 }
 
-// Does what the words ask for.
+// Names the files that were cut short; the result is the exit status.
+fn tell_cut<E: Write>(cut: &[&str], err: &mut E) -> u8
+    ensures none { length cut.now ≡ 0 → result ≡ 0 }
+    ensures some { 0 < length cut.now → result ≡ 3 }
+{
+    for name in cut {
+        let _ = writeln!(err, "lx: cut short {name}");
+    }
+    if cut.is_empty() { 0 } else { CUT_SHORT }
+}
+
+// Does what the words ask for. The result are the names of the files that were cut short.
 fn obey<'a, S: Sources, O: Write>(
     alloc: Global,
     words: &'a [String],
     sources: &mut S,
     out: &mut O,
-) -> Result<(), Failure<'a>>
-    ensures refused { IfErr result (λ failure. status_of failure < 4 → Keeps (O.contents out.old) (O.contents out.new)) }
-    ensures memory { IfErr result HidesNoMemory }
+) -> Result<Vec<&'a str>, Failure<'a>>
+    ensures ok { (ends : List ℕ → ℕ) → EndsPatterns ends → IfOk result (λ cut.
+        HasObeyed S.gives ends sources.old sources.new (O.contents out.old) (O.contents out.new) (map (λ name. name.now) cut.items) (asked_by (map (λ word. word.bytes.items) words.now))) }
+    ensures err { (ends : List ℕ → ℕ) → EndsPatterns ends →
+        IfErr result (HasFailed S.gives ends (asked_by (map (λ word. word.bytes.items) words.now)) sources.old (O.contents out.old) (O.contents out.new)) }
 {
-    match read_words(alloc, words) {
-        Ok(Order::Stored) => list_by_specification(
-            alloc,
-            &stored_order(alloc)?,
-            &mut ListSources::new(STORED.as_slice()),
-            out,
-        )?,
-        Ok(Order::Help(text)) => write!(out, "{text}").map_err(|_| Failure::Output)?,
-        Ok(Order::Run(order)) => list_by_specification(alloc, &order, sources, out)?,
-        Ok(Order::Scan(order)) => list_by_tables(alloc, &order, sources, out)?,
-        Ok(Order::Gen(name)) => generate_named(alloc, name, sources, out)?,
-        Ok(Order::Up(name)) => upgrade_named(alloc, name, sources, out)?,
+    let cut = match read_words(alloc, words) {
+        Ok(order) => carry_out(alloc, order, sources, out)?,
         Err(Refusal::Words(error)) => return Err(Failure::Words(error)),
         Err(Refusal::Memory) => return Err(Failure::Memory),
+    };
+    out.flush().map_err(|_| Failure::Output)?;
+    Ok(cut)
+}
+
+// Does what an order asks for. Nothing but a listing has files.
+fn carry_out<'a, S: Sources, O: Write>(
+    alloc: Global,
+    order: Order<'a>,
+    sources: &mut S,
+    out: &mut O,
+) -> Result<Vec<&'a str>, Failure<'a>>
+    ensures ok { (ends : List ℕ → ℕ) → EndsPatterns ends → IfOk result (λ cut.
+        HasObeyed S.gives ends sources.old sources.new (O.contents out.old) (O.contents out.new) (map (λ name. name.now) cut.items) (asked_as order.entry)) }
+    ensures err { (ends : List ℕ → ℕ) → EndsPatterns ends → IfErr result (HasFailed S.gives ends (asked_as order.entry) sources.old (O.contents out.old) (O.contents out.new)) }
+{
+    match order {
+        Order::Stored => {
+            list_stored(alloc, out)?;
+            Ok(Vec::new(alloc))
+        }
+        Order::Help(text) => {
+            write!(out, "{text}").map_err(|_| Failure::Output)?;
+            Ok(Vec::new(alloc))
+        }
+        Order::Run(order) => list_by_rules_of(alloc, &order, sources, out),
+        Order::Scan(order) => list_by_tables_of(alloc, &order, sources, out),
+        Order::Gen(name) => {
+            generate_named(alloc, name, sources, out)?;
+            Ok(Vec::new(alloc))
+        }
+        Order::Up(name) => {
+            upgrade_named(alloc, name, sources, out)?;
+            Ok(Vec::new(alloc))
+        }
     }
-    out.flush().map_err(|_| Failure::Output)
+}
+
+// The stored run.
+fn list_stored<'a, O: Write>(alloc: Global, out: &mut O) -> Result<(), Failure<'a>>
+    ensures ok { (ends : List ℕ → ℕ) → EndsPatterns ends → OnOk result (ListsByRules ends stored_specification (whole stored_text ∷ []) (O.contents out.old) (O.contents out.new)) }
+    ensures err { (ends : List ℕ → ℕ) → EndsPatterns ends → IfErr result (λ failure. status_of failure < 4 → HasNoTables ends stored_specification failure × Keeps (O.contents out.old) (O.contents out.new)) }
+{
+    listings_are_by_rules();
+    let tables = tables_of_text(alloc, STORED_SPECIFICATION)?;
+    // its contract says what holds of all tables
+    let _conditions = tables.conditions();
+    let file = Input {
+        bytes: Vec::from_slice(alloc, STORED_TEXT)?,
+        cut: false,
+    };
+    list_files(alloc, tables, vec![in alloc; file]?, ITEMS, out)?;
+    Ok(())
+}
+
+// Lists the order's files by its specification.
+fn list_by_rules_of<'a, S: Sources, O: Write>(
+    alloc: Global,
+    order: &ListOrder<'a>,
+    sources: &mut S,
+    out: &mut O,
+) -> Result<Vec<&'a str>, Failure<'a>>
+    ensures ok { (ends : List ℕ → ℕ) → EndsPatterns ends → IfOk result (λ cut.
+        HasDone S.gives ends sources.old sources.new (O.contents out.old) (O.contents out.new) (map (λ name. name.now) cut.items) (run-asked (plain_order order.now))) }
+    ensures err { (ends : List ℕ → ℕ) → EndsPatterns ends →
+        IfErr result (HasFailed S.gives ends (Some (run-asked (plain_order order.now))) sources.old (O.contents out.old) (O.contents out.new)) }
+{
+    if order.files.len() > MOST_FILES {
+        return Err(Failure::TooManyFiles);
+    }
+    let text = read_whole(alloc, sources, order.rules)?;
+    list_by_specification(alloc, &text, &order.files, order.per_piece, sources, out)
+}
+
+// Lists the order's files by its tables.
+fn list_by_tables_of<'a, S: Sources, O: Write>(
+    alloc: Global,
+    order: &ListOrder<'a>,
+    sources: &mut S,
+    out: &mut O,
+) -> Result<Vec<&'a str>, Failure<'a>>
+    ensures ok { (ends : List ℕ → ℕ) → EndsPatterns ends → IfOk result (λ cut.
+        HasDone S.gives ends sources.old sources.new (O.contents out.old) (O.contents out.new) (map (λ name. name.now) cut.items) (scan-asked (plain_order order.now))) }
+    ensures err { (ends : List ℕ → ℕ) → EndsPatterns ends →
+        IfErr result (HasFailed S.gives ends (Some (scan-asked (plain_order order.now))) sources.old (O.contents out.old) (O.contents out.new)) }
+{
+    if order.files.len() > MOST_FILES {
+        return Err(Failure::TooManyFiles);
+    }
+    let text = read_whole(alloc, sources, order.rules)?;
+    list_by_tables(alloc, &text, &order.files, order.per_piece, sources, out)
 }
 
 // Prints the tables of the specification with this name.
@@ -91,12 +191,10 @@ fn generate_named<'a, S: Sources, O: Write>(
     sources: &mut S,
     out: &mut O,
 ) -> Result<(), Failure<'a>>
-    ensures refused { IfErr result (λ failure. status_of failure < 4 → Keeps (O.contents out.old) (O.contents out.new)) }
-    ensures memory { IfErr result HidesNoMemory }
+    ensures ok { (ends : List ℕ → ℕ) → EndsPatterns ends → OnOk result (HasDone S.gives ends sources.old sources.new (O.contents out.old) (O.contents out.new) [] (gen-asked name.now)) }
+    ensures err { (ends : List ℕ → ℕ) → EndsPatterns ends → IfErr result (HasFailed S.gives ends (Some (gen-asked name.now)) sources.old (O.contents out.old) (O.contents out.new)) }
 {
-    // a law: the contracts of `generate` ask for what it says is there
-    patterns_end();
-    let text = read_file(alloc, sources, name)?;
+    let text = read_whole(alloc, sources, name)?;
     generate(alloc, &text, out)
 }
 
@@ -107,112 +205,9 @@ fn upgrade_named<'a, S: Sources, O: Write>(
     sources: &mut S,
     out: &mut O,
 ) -> Result<(), Failure<'a>>
-    ensures refused { IfErr result (λ failure. status_of failure < 4 → Keeps (O.contents out.old) (O.contents out.new)) }
-    ensures memory { IfErr result HidesNoMemory }
+    ensures ok { (ends : List ℕ → ℕ) → EndsPatterns ends → OnOk result (HasDone S.gives ends sources.old sources.new (O.contents out.old) (O.contents out.new) [] (up-asked name.now)) }
+    ensures err { (ends : List ℕ → ℕ) → EndsPatterns ends → IfErr result (HasFailed S.gives ends (Some (up-asked name.now)) sources.old (O.contents out.old) (O.contents out.new)) }
 {
-    let text = read_file(alloc, sources, name)?;
+    let text = read_whole(alloc, sources, name)?;
     upgrade(alloc, &text, out)
-}
-
-// Lists the order's files by its specification. All are read before the first line is written.
-fn list_by_specification<'a, S: Sources, O: Write>(
-    alloc: Global,
-    order: &ListOrder<'a>,
-    sources: &mut S,
-    out: &mut O,
-) -> Result<(), Failure<'a>>
-    ensures refused { IfErr result (λ failure. status_of failure < 4 → Keeps (O.contents out.old) (O.contents out.new)) }
-    ensures too_many { 65536 < vec_len order.now.files → result ≡ Err Failure.TooManyFiles }
-    ensures err { IfErr result (FailsBy order.now) }
-{
-    if order.files.len() > MOST_FILES {
-        return Err(Failure::TooManyFiles);
-    }
-    // a law: the contract of `tables_of_text` asks for what it says is there
-    patterns_end();
-    let text = read_file(alloc, sources, order.rules)?;
-    let tables = tables_of_text(alloc, &text)?;
-    list(alloc, &tables, order, sources, out)
-}
-
-// Lists the order's files by its tables. All are read before the first line is written.
-fn list_by_tables<'a, S: Sources, O: Write>(
-    alloc: Global,
-    order: &ListOrder<'a>,
-    sources: &mut S,
-    out: &mut O,
-) -> Result<(), Failure<'a>>
-    ensures refused { IfErr result (λ failure. status_of failure < 4 → Keeps (O.contents out.old) (O.contents out.new)) }
-    ensures too_many { 65536 < vec_len order.now.files → result ≡ Err Failure.TooManyFiles }
-    ensures err { IfErr result (FailsBy order.now) }
-{
-    if order.files.len() > MOST_FILES {
-        return Err(Failure::TooManyFiles);
-    }
-    let text = read_file(alloc, sources, order.rules)?;
-    let tables = Tables::read(alloc, &text)?;
-    list(alloc, &tables, order, sources, out)
-}
-
-// Lists the order's files by these tables.
-fn list<'a, S: Sources, O: Write>(
-    alloc: Global,
-    tables: &Tables,
-    order: &ListOrder<'a>,
-    sources: &mut S,
-    out: &mut O,
-) -> Result<(), Failure<'a>>
-    requires { vec_len order.now.files ≤ 65536 }
-    ensures refused { IfErr result (λ failure. status_of failure < 4 → Keeps (O.contents out.old) (O.contents out.new)) }
-    ensures err { IfErr result (FailsBy order.now) }
-{
-    let files = read_files(alloc, sources, &order.files)?;
-    if files.is_empty() {
-        return Ok(());
-    }
-    list_files(alloc, tables, files, order.per_piece, out)?;
-    Ok(())
-}
-
-// The files with these names, in order.
-fn read_files<'a, S: Sources>(
-    alloc: Global,
-    sources: &mut S,
-    names: &[&'a str],
-) -> Result<Vec<Vec<u8>>, Failure<'a>>
-    ensures ok { IfOk result (λ files. vec_len files ≡ length names.now) }
-    ensures err { IfErr result (λ failure. Any (λ name. IsUnread name failure) names.now) }
-{
-    let mut files = Vec::new(alloc);
-    for name in names {
-        files.push(read_file(alloc, sources, name)?)?;
-    }
-    Ok(files)
-}
-
-fn read_file<'a, S: Sources>(
-    alloc: Global,
-    sources: &mut S,
-    name: &'a str,
-) -> Result<Vec<u8>, Failure<'a>>
-    ensures { IfErr result (IsUnread name.entry) }
-{
-    match sources.read(alloc, name) {
-        Ok(bytes) => Ok(bytes),
-        Err(SourceFault::NotRead) => Err(Failure::NotRead(name)),
-        Err(SourceFault::Memory) => Err(Failure::Memory),
-    }
-}
-
-// The order of the stored run.
-fn stored_order(alloc: Global) -> Result<ListOrder<'static>, AllocError>
-    ensures per_piece { IfOk result (λ order. order.per_piece ≡ 256) }
-    ensures rules { IfOk result (λ order. order.rules.now ≡ codes "words.l") }
-    ensures files { IfOk result (λ order. map (λ name. name.now) order.files.items ≡ codes "words.txt" ∷ []) }
-{
-    Ok(ListOrder {
-        per_piece: ITEMS,
-        rules: "words.l",
-        files: vec![in alloc; "words.txt"]?,
-    })
 }

@@ -1,7 +1,10 @@
 //! Where the program's files come from.
 
-ghost use Rattle.std.specs.Prelude.{◌≡◌, map};
+ghost use Rattle.std.specs.Prelude.{◌≡◌, ℕ, List, [], IfOk, map};
+ghost use Rattle.lx_piece.specs.Plans.{PlainInput, input_view};
+ghost use Rattle.lx_tool.specs.Sources.{inputs_of, is_among};
 
+use lx_piece::Input;
 use std::alloc::{AllocError, Global};
 use std::marker::Model;
 use thiserror::Error;
@@ -9,7 +12,7 @@ use thiserror::Error;
 /// Why a file was not read.
 #[derive(Clone, Copy, Debug, PartialEq, Eq, Error)]
 pub enum SourceFault {
-    /// The file can't be opened or read.
+    /// The file can't be opened.
     #[error("not read")]
     NotRead,
     /// Memory was refused.
@@ -30,47 +33,80 @@ impl From<AllocError> for SourceFault {
 
 /// Files by name.
 pub trait Sources {
-    /// All bytes of the file with this name.
-    fn read(&mut self, alloc: Global, name: &str) -> Result<Vec<u8>, SourceFault>;
+    /// Between one state and a later one this input was given for this name.
+    ghost gives: { Self → List ℕ → PlainInput → Self → Type 0 };
+
+    /// The file with this name, as far as it can be read. NotRead is for what can't be opened.
+    fn read(&mut self, alloc: Global, name: &str) -> Result<Input, SourceFault>
+        ensures { IfOk result (λ input. gives self.old name.now (input_view input) self.new) };
 }
 
 /// Files that are given as a list of names and bytes; of two with one name the first is read.
 #[derive(Drop)]
 pub struct ListSources<'a> {
     files: &'a [(&'a str, &'a [u8])],
+    // The names of the files whose reading fails behind their bytes.
+    cut: &'a [&'a str],
 }
 
 impl<'a> Model for ListSources<'a> {
     ghost use Rattle.std.specs.Prelude.{ℕ, List, map};
+    ghost use Rattle.lx_piece.specs.Plans.{PlainInput};
+    ghost use Rattle.lx_tool.specs.Sources.{inputs_of};
 
-    ghost Value = { List (List ℕ × List ℕ) };
+    ghost Value = { List (List ℕ × PlainInput) };
 
-    ghost view = { λ s. map (λ file. (file.0.now, file.1.now)) s.files.now };
+    ghost view = { λ s. inputs_of (map (λ name. name.now) s.cut.now) s.files.now };
 }
 
 impl<'a> ListSources<'a> {
-    /// The files of the list.
+    /// The files of the list, all whole.
     pub fn new(files: &'a [(&'a str, &'a [u8])]) -> ListSources<'a>
-        ensures { result ≡ map (λ file. (file.0.now, file.1.now)) files.now }
+        ensures { result ≡ inputs_of [] files.now }
     {
-        ListSources { files }
+        ListSources { files, cut: &[] }
     }
+
+    /// The files of the list, of which those with a name in `cut` are cut short: their reading fails behind their bytes.
+    pub fn with_cut(files: &'a [(&'a str, &'a [u8])], cut: &'a [&'a str]) -> ListSources<'a>
+        ensures { result ≡ inputs_of (map (λ name. name.now) cut.now) files.now }
+    {
+        ListSources { files, cut }
+    }
+}
+
+// Whether a name is one of these.
+fn is_among(names: &[&str], name: &str) -> bool
+    ensures { result ≡ is_among (map (λ known. known.now) names.now) name.now }
+{
+    for known in names {
+        if *known == name {
+            return true;
+        }
+    }
+    false
 }
 
 impl Sources for ListSources<'_> {
     ghost use Rattle.std.specs.Prelude.{◌≡◌, IfOk, Err};
+    ghost use Rattle.lx_piece.specs.Plans.{input_view};
     ghost use Rattle.lx_tool.specs.Sources.{IsFirstNamed, NoneIsNamed};
 
-    /// The bytes of the first file with this name, and NotRead exactly where there is none.
-    fn read(&mut self, alloc: Global, name: &str) -> Result<Vec<u8>, SourceFault>
+    ghost gives = { λ old name input new. (new ≡ old) × IsFirstNamed old name input };
+
+    /// The first file with this name, and NotRead exactly where there is none.
+    fn read(&mut self, alloc: Global, name: &str) -> Result<Input, SourceFault>
         ensures unchanged { self.new ≡ self.old }
-        ensures found { IfOk result (λ bytes. IsFirstNamed self.old name.now bytes.items) }
+        ensures found { IfOk result (λ input. (self.new ≡ self.old) × IsFirstNamed self.old name.now (input_view input)) }
         ensures not_found { NoneIsNamed self.old name.now → result ≡ Err SourceFault.NotRead }
         ensures not_read { result ≡ Err SourceFault.NotRead → NoneIsNamed self.old name.now }
     {
         for (file, bytes) in self.files {
             if *file == name {
-                return Ok(Vec::from_slice(alloc, bytes)?);
+                return Ok(Input {
+                    bytes: Vec::from_slice(alloc, bytes)?,
+                    cut: is_among(self.cut, name),
+                });
             }
         }
         Err(SourceFault::NotRead)

@@ -6,11 +6,11 @@ ghost use Rattle.lx_scan.specs.ItemParts.{IsItemOf};
 ghost use Rattle.lx_piece.specs.Plans.{IsPlan, files_of, bytes_of, kinds_of};
 ghost use Rattle.lx_piece.specs.Pieces.{contents, is_closing};
 ghost use Rattle.lx_piece.specs.Relayed.{IsNextPiece};
-ghost use Rattle.lx_tool.specs.Lines.{lines_of};
+ghost use Rattle.lx_tool.specs.Lines.{pieces_lines};
 ghost use Rattle.lx_tool.specs.Listings.{AppendsPrefix, AppendsWhole, listing_to};
 ghost use Rattle.lx_tool.specs.Waiting.{Waits, WritesOn, WritesInPart, KeepsUp, Places, due_by, queued, waiting_of};
 
-use crate::writing::write_items;
+use crate::writing::write_piece;
 use lx_piece::{Piece, Plan, ReaderFault};
 use std::collections::VecDeque;
 use std::io::Write;
@@ -26,13 +26,13 @@ fn write_waiting<W: Write>(
     requires file { file < files_of plan.now }
     requires items { All (IsItemOf (kinds_of plan.now) (bytes_of plan.now file)) (contents waiting.old.items) }
     ensures closed { IfOk result (λ closed. closed ≡ list_any is_closing waiting.old.items) }
-    ensures ok { OnOk result (Appends (W.contents out.old) (W.contents out.new) (lines_of plan.now file (contents waiting.old.items))) }
-    ensures err { OnErr result (AppendsPrefix (W.contents out.old) (W.contents out.new) (lines_of plan.now file (contents waiting.old.items))) }
+    ensures ok { OnOk result (Appends (W.contents out.old) (W.contents out.new) (pieces_lines plan.now file waiting.old.items)) }
+    ensures err { OnErr result (AppendsPrefix (W.contents out.old) (W.contents out.new) (pieces_lines plan.now file waiting.old.items)) }
     ensures memory { IfErr result (λ fault. fault ≡ ReaderFault.Memory → AppendsWhole (W.contents out.old) (W.contents out.new)) }
 {
     let mut closed = false;
     while let Some(piece) = waiting.pop_front() {
-        write_items(out, line, plan, file, piece.items.as_slice())?;
+        write_piece(out, line, plan, file, &piece)?;
         closed = closed || piece.is_closing();
     }
     Ok(closed)
@@ -99,7 +99,7 @@ pub(crate) fn place<W: Write>(
         hold(waiting, piece)?;
         return Ok(first);
     }
-    write_items(out, line, plan, first, piece.items.as_slice())?;
+    write_piece(out, line, plan, first, &piece)?;
     if !piece.is_closing() {
         return Ok(first);
     }

@@ -6,7 +6,7 @@ use Rattle.std.proofs.lemmas.Result.{err_from_is_err_and}
 use Rattle.lx_scan.specs.ItemParts.{IsItemOf}
 use Rattle.lx_piece.specs.Plans.{files_of, bytes_of, kinds_of}
 use Rattle.lx_piece.specs.Pieces.{contents, is_closing}
-use Rattle.lx_tool.specs.Lines.{lines_of}
+use Rattle.lx_tool.specs.Lines.{pieces_lines}
 use Rattle.lx_tool.specs.Listings.{AppendsPrefix}
 use Rattle.lx_tool.specs.Waiting.{WritesOn, queued}
 use Rattle.lx_tool.proofs.Pieces.{first_items}
@@ -36,8 +36,8 @@ returns-in_err-write_waiting-clause-err g c =
     let here : file < length queues = omega (arith, queue_count queues, w.lists, c.requires.waits.lists) in
     let read = queue_read queues file c.index_mut.result.now here c.index_mut.ensures.value in
     let p = err_from_is_err_and c.from_residual.result c.from_residual.ensures.1 in
-    rw p.1 (files_fault plan c.args.from (queued c.args.waiting.now.items) file (queued queues) (g.W.Write.contents c.args.out.now) (g.W.Write.contents c.loop-file.out) (g.W.Write.contents c.write_waiting.new.out) c.requires.waits w within
-    (subst (λ ps. AppendsPrefix (g.W.Write.contents c.loop-file.out) (g.W.Write.contents c.write_waiting.new.out) (lines_of plan file (contents ps))) (sym read) c.in_err-write_waiting.ensures.err))
+    rw p.1 (files_fault plan c.args.from (queued c.args.waiting.now.items) file (queued queues) (g.W.Write.contents c.args.out.now) (g.W.Write.contents c.loop-file.out) (g.W.Write.contents c.write_waiting.new.out) c.files.ensures.plan c.requires.waits w within
+    (subst (λ ps. AppendsPrefix (g.W.Write.contents c.loop-file.out) (g.W.Write.contents c.write_waiting.new.out) (pieces_lines plan file ps)) (sym read) c.in_err-write_waiting.ensures.err))
 
 pub returns-in_err-write_waiting-clause-memory : goal.returns-in_err-write_waiting-clause-memory
 returns-in_err-write_waiting-clause-memory g c =
@@ -57,7 +57,7 @@ returns-then-not-branch-clause-ok g c =
     subst (λ ws. WritesOn plan c.args.from (queued c.args.waiting.now.items) file ws (g.W.Write.contents c.args.out.now) (g.W.Write.contents c.write_waiting.new.out)) (sym (queue_set queues file c.write_waiting.new.waiting))
     (files_open plan c.args.from (queued c.args.waiting.now.items) file (queued queues) c.write_waiting.new.waiting.items (g.W.Write.contents c.args.out.now) (g.W.Write.contents c.loop-file.out) (g.W.Write.contents c.write_waiting.new.out) w within
     (ap (λ ps. list_any is_closing ps) read ∙ sym e.closed ∙ c.if-not-branch.true)
-    (subst (λ ps. Appends (g.W.Write.contents c.loop-file.out) (g.W.Write.contents c.write_waiting.new.out) (lines_of plan file (contents ps))) (sym read) e.ok))
+    (subst (λ ps. Appends (g.W.Write.contents c.loop-file.out) (g.W.Write.contents c.write_waiting.new.out) (pieces_lines plan file ps)) (sym read) e.ok))
 
 pub loop-file-preserved : goal.loop-file-preserved
 loop-file-preserved g c =
@@ -72,4 +72,4 @@ loop-file-preserved g c =
     subst (λ ws. WroteFiles plan c.args.from (queued c.args.waiting.now.items) (file + 1) ws (g.W.Write.contents c.args.out.now) (g.W.Write.contents c.write_waiting.new.out)) (sym (queue_set queues file c.write_waiting.new.waiting))
     (files_more plan c.args.from (queued c.args.waiting.now.items) file (queued queues) c.write_waiting.new.waiting.items (g.W.Write.contents c.args.out.now) (g.W.Write.contents c.loop-file.out) (g.W.Write.contents c.write_waiting.new.out) c.files.ensures.plan c.requires.waits w within
     (ap (λ ps. list_any is_closing ps) read ∙ sym e.closed ∙ c.if-not-branch.false)
-    (subst (λ ps. Appends (g.W.Write.contents c.loop-file.out) (g.W.Write.contents c.write_waiting.new.out) (lines_of plan file (contents ps))) (sym read) e.ok))
+    (subst (λ ps. Appends (g.W.Write.contents c.loop-file.out) (g.W.Write.contents c.write_waiting.new.out) (pieces_lines plan file ps)) (sym read) e.ok))

@@ -1,8 +1,10 @@
-use Rattle.std.proofs.Common.{◌≡◌, ◌∙◌, sym, ap, List, map, is_some}
+use Rattle.std.proofs.Common.{◌≡◌, ◌∙◌, sym, subst, ap, List, map, is_some}
 use Rattle.std.proofs.lemmas.List.{length-map}
 use Rattle.clap.specs.Words.{Text, app_of, kind_of}
 use Rattle.clap.specs.declared.error.kind.ErrorKind.TheVariants as kind
-use Rattle.lx_tool.proofs.Asked.{asked_where_refused, asked_where_stored, asked_where_taken, met_asks, no_help}
+use Rattle.lx_tool.proofs.Asked.{asked_where_refused, asked_where_stored, asked_where_taken, fault_is, met_asks, no_help}
+use Rattle.lx_tool.specs.CommandLine.{IsFault}
+use Rattle.clap.specs.declared.error.Error.{Error}
 use Rattle.lx_tool.proofs.command_line.reading.read_words.Goals as goal
 
 pub returns-then-words-le1-clause-asked : goal.returns-then-words-le1-clause-asked
@@ -42,3 +44,24 @@ pub returns-clause-words : goal.returns-clause-words
 returns-clause-words c text is e =
     let same : c.in-Err.error ≡ text = cc in
     c.in_default.not-OutOfMemory (c.kind.ensures ∙ (ap kind_of same ∙ e))
+
+pub returns-in-Ok-clause-help_asked : goal.returns-in-Ok-clause-help_asked
+returns-in-Ok-clause-help_asked c text is =
+    let words : List Text = map (λ word. word.bytes.items) c.args.words.now in
+    let asks = met_asks (app_of c.in_ok-command.command) words c.in_ok-command.ensures (rw length-map c.if-words-le1.false) c.in-Ok.matches c.in-Ok.ensures.kinds c.in-Ok.ensures.matches in
+    absurd (no_help c.in_ok-order_of-in-Ok.field-0 text (cc) (ap is_some (sym c.in_ok-order_of-in-Ok.ensures) ∙ asks))
+
+pub returns-in-DisplayHelp-clause-help_asked : goal.returns-in-DisplayHelp-clause-help_asked
+returns-in-DisplayHelp-clause-help_asked c text is =
+    let words : List Text = map (λ word. word.bytes.items) c.args.words.now in
+    let help : kind_of c.in-Err.error ≡ kind.DisplayHelp = sym c.kind.ensures ∙ c.in-DisplayHelp.is in
+    let fault = fault_is (app_of c.in_ok-command.command) words c.in_ok-command.ensures (rw length-map c.if-words-le1.false) c.in-Err.error c.in-Err.ensures.kinds (λ e. let bad = sym help ∙ e in cc) in
+    subst (IsFault words) help fault
+
+pub returns-clause-faulty : goal.returns-clause-faulty
+returns-clause-faulty c text is =
+    let words : List Text = map (λ word. word.bytes.items) c.args.words.now in
+    let same : c.in-Err.error ≡ text = cc in
+    let fault = fault_is (app_of c.in_ok-command.command) words c.in_ok-command.ensures (rw length-map c.if-words-le1.false) c.in-Err.error c.in-Err.ensures.kinds
+    (λ e. c.in_default.not-OutOfMemory (c.kind.ensures ∙ e)) in
+    (λ e. c.in_default.not-DisplayHelp (c.kind.ensures ∙ (ap kind_of same ∙ e)), subst (λ (x : Error). IsFault words (kind_of x)) same fault)

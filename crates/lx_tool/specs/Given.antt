@@ -1,0 +1,64 @@
+-- What is listed of the files that sources give, and why they aren't listed.
+use Rattle.std.specs.Prelude.{◌≡◌, ℕ, ◌⊎◌, ⊤, List, Option, Contains}
+use Rattle.std.specs.Io.KnownBytes.{Keeps}
+use Rattle.lx_piece.specs.Plans.{PlainInput}
+use Rattle.lx_tables.specs.Reading.{IsNoText}
+use Rattle.lx_tables.specs.declared.fault.TableFault.TheVariants as table
+use Rattle.lx_tool.specs.Planning.{AreBytes}
+use Rattle.lx_tool.specs.Sources.{AreGiven, cut_names}
+use Rattle.lx_tool.specs.declared.failure.Failure.{Failure}
+use Rattle.lx_tool.specs.declared.failure.Failure.TheVariants.{Specification, Automaton, Tables, Words, TooManyFiles, NotRead, Output, Memory}
+
+-- The sources gave inputs for these names, in this order, which were listed as `Lists` says; `cut` names those that were cut short.
+pub record AreListed {S : Type 0} (gives : S → List ℕ → PlainInput → S → Type 0) (Lists : List PlainInput → Type 0) (names : List (List ℕ)) (before after : S) (cut : List (List ℕ)) : Type 0 where
+  pub inputs : List PlainInput
+  pub given : AreGiven gives before names inputs after
+  pub bytes : AreBytes inputs
+  pub listed : Lists inputs
+  pub cut_are : cut ≡ cut_names names inputs
+
+-- They gave them, and a prefix was listed.
+pub record ArePartlyListed {S : Type 0} (gives : S → List ℕ → PlainInput → S → Type 0) (ListsPrefix : List PlainInput → Type 0) (names : List (List ℕ)) (before after : S) : Type 0 where
+  pub inputs : List PlainInput
+  pub given : AreGiven gives before names inputs after
+  pub bytes : AreBytes inputs
+  pub listed : ListsPrefix inputs
+
+-- one of the files with these names can't be opened, or memory was refused
+abbrev pub IsUnread : List (List ℕ) → Failure → Type 0
+IsUnread names (Specification fault) = ⊥
+IsUnread names (Automaton fault) = ⊥
+IsUnread names (Tables fault) = ⊥
+IsUnread names (Words error) = ⊥
+IsUnread names TooManyFiles = ⊥
+IsUnread names (NotRead name) = Contains names name.now
+IsUnread names Output = ⊥
+IsUnread names Memory = ⊤
+
+-- why a text is no table's, or that memory was refused
+abbrev pub IsNoTable : List ℕ → Failure → Type 0
+IsNoTable text (Specification fault) = ⊥
+IsNoTable text (Automaton fault) = ⊥
+IsNoTable text (Tables fault) = (fault ≡ table.NoTables) × IsNoText text
+IsNoTable text (Words error) = ⊥
+IsNoTable text TooManyFiles = ⊥
+IsNoTable text (NotRead name) = ⊥
+IsNoTable text Output = ⊥
+IsNoTable text Memory = ⊤
+
+-- Nothing was read and nothing written.
+pub record IsUntouched {S : Type 0} (before after : S) (old new : Option (List ℕ)) : Type 0 where
+  pub sources : after ≡ before
+  pub output : Keeps old new
+
+-- The text that files are listed by was refused, as `Refused` says, before a file was read; or a file can't be opened, and nothing was written;
+-- or the output failed behind a prefix, as `Part` says; or memory was refused, and nothing was written or a prefix.
+abbrev pub FailsListing : {S : Type 0} → (Failure → Type 0) → Type 0 → List (List ℕ) → S → S → Option (List ℕ) → Option (List ℕ) → Failure → Type 0
+FailsListing Refused Part names before after old new (Specification fault) = Refused (Specification fault) × IsUntouched before after old new
+FailsListing Refused Part names before after old new (Automaton fault) = Refused (Automaton fault) × IsUntouched before after old new
+FailsListing Refused Part names before after old new (Tables fault) = Refused (Tables fault) × IsUntouched before after old new
+FailsListing Refused Part names before after old new (Words error) = ⊥
+FailsListing Refused Part names before after old new TooManyFiles = ⊥
+FailsListing Refused Part names before after old new (NotRead name) = Contains names name.now × Keeps old new
+FailsListing Refused Part names before after old new Output = Part
+FailsListing Refused Part names before after old new Memory = Keeps old new ⊎ Part

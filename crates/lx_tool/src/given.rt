@@ -1,0 +1,174 @@
+//! The files that sources give for names, and their listing.
+
+ghost use Rattle.std.specs.Prelude.{◌≡◌, ◌<◌, ◌≤◌, ℕ, List, [], ◌∷◌, All, IfOk, IfErr, length, map, vec_len};
+ghost use Rattle.lx_piece.specs.Plans.{input_view};
+ghost use Rattle.lx_spec.specs.RuleLines.{EndsPatterns};
+ghost use Rattle.lx_tool.specs.Given.{AreListed, ArePartlyListed, FailsListing, IsNoTable, IsUnread};
+ghost use Rattle.lx_tool.specs.Planning.{AreBytes, ListsBy, ListsPrefixBy, ListsByRules, ListsPrefixByRules, ListsByText, ListsPrefixByText};
+ghost use Rattle.lx_tool.specs.Sources.{AreGiven, cut_names, whole};
+ghost use Rattle.lx_tool.specs.Tabling.{HasNoTables};
+
+use crate::failure::Failure;
+use crate::planning::list_files;
+use crate::source::{SourceFault, Sources};
+use crate::tabling::tables_of_text;
+use lx_piece::Input;
+use lx_scan::ruling::items_are_by_rules;
+use lx_tables::Tables;
+use std::alloc::{AllocError, Global};
+use std::io::Write;
+
+// A fact, of what a slice of bytes has.
+fn are_bytes(bytes: &[u8])
+    ensures { All (λ b. b < 256) bytes.now }
+{}
+
+// The file with this name, as far as it can be read.
+fn read_file<'a, S: Sources>(
+    alloc: Global,
+    sources: &mut S,
+    name: &'a str,
+) -> Result<Input, Failure<'a>>
+    ensures ok { IfOk result (λ input. S.gives sources.old name.now (input_view input) sources.new) }
+    ensures bytes { IfOk result (λ input. All (λ b. b < 256) input.bytes.items) }
+    ensures err { IfErr result (λ failure. IsUnread (name.now ∷ []) failure) }
+{
+    match sources.read(alloc, name) {
+        Ok(input) => {
+            are_bytes(&input.bytes);
+            Ok(input)
+        }
+        Err(SourceFault::NotRead) => Err(Failure::NotRead(name)),
+        Err(SourceFault::Memory) => Err(Failure::Memory),
+    }
+}
+
+/// The text with this name. One that is cut counts as not read, since what it says isn't known.
+pub(crate) fn read_whole<'a, S: Sources>(
+    alloc: Global,
+    sources: &mut S,
+    name: &'a str,
+) -> Result<Vec<u8>, Failure<'a>>
+    ensures ok { IfOk result (λ text. S.gives sources.old name.now (whole text.items) sources.new) }
+    ensures err { IfErr result (λ failure. IsUnread (name.now ∷ []) failure) }
+{
+    let input = read_file(alloc, sources, name)?;
+    if input.cut {
+        return Err(Failure::NotRead(name));
+    }
+    Ok(input.bytes)
+}
+
+// The files with these names, in order.
+fn read_files<'a, S: Sources>(
+    alloc: Global,
+    sources: &mut S,
+    names: &[&'a str],
+) -> Result<Vec<Input>, Failure<'a>>
+    ensures ok { IfOk result (λ files. AreGiven S.gives sources.old (map (λ name. name.now) names.now) (map input_view files.items) sources.new) }
+    ensures bytes { IfOk result (λ files. AreBytes (map input_view files.items)) }
+    ensures len { IfOk result (λ files. vec_len files ≡ length names.now) }
+    ensures err { IfErr result (λ failure. IsUnread (map (λ name. name.now) names.now) failure) }
+{
+    let mut files = Vec::new(alloc);
+    for name in names {
+        files.push(read_file(alloc, sources, name)?)?;
+    }
+    Ok(files)
+}
+
+// The names of the files that were cut short.
+fn names_of_cut<'a>(
+    alloc: Global,
+    names: &[&'a str],
+    files: &[Input],
+) -> Result<Vec<&'a str>, AllocError>
+    requires { length files.now ≡ length names.now }
+    ensures { IfOk result (λ cut. map (λ name. name.now) cut.items ≡ cut_names (map (λ name. name.now) names.now) (map input_view files.now)) }
+{
+    let mut cut = Vec::new(alloc);
+    for i in 0..files.len() {
+        if files[i].cut {
+            cut.push(names[i])?;
+        }
+    }
+    Ok(cut)
+}
+
+// Lists the files with these names by the tables. All are read before the first line is written.
+fn list_given<'a, S: Sources, W: Write>(
+    alloc: Global,
+    tables: Tables,
+    names: &[&'a str],
+    per_piece: u32,
+    sources: &mut S,
+    out: &mut W,
+) -> Result<Vec<&'a str>, Failure<'a>>
+    requires few_files { length names.now ≤ 65536 }
+    requires some_items { 0 < per_piece }
+    requires few_items { per_piece ≤ 4096 }
+    ensures ok { IfOk result (λ cut. AreListed S.gives (λ inputs. ListsBy tables inputs (W.contents out.old) (W.contents out.new))
+        (map (λ name. name.now) names.now) sources.old sources.new (map (λ name. name.now) cut.items)) }
+    ensures err { IfErr result (λ failure. FailsListing (λ _. ⊥) (ArePartlyListed S.gives (λ inputs. ListsPrefixBy tables inputs (W.contents out.old) (W.contents out.new))
+        (map (λ name. name.now) names.now) sources.old sources.new) (map (λ name. name.now) names.now) sources.old sources.new (W.contents out.old) (W.contents out.new) failure) }
+{
+    let files = read_files(alloc, sources, names)?;
+    let cut = names_of_cut(alloc, names, &files)?;
+    if files.is_empty() {
+        return Ok(cut);
+    }
+    list_files(alloc, tables, files, per_piece, out)?;
+    Ok(cut)
+}
+
+/// Lists the files with these names by the specification that a text says, with `per_piece` items a piece. The text is judged before a file
+/// is read, and all files are read before the first line is written. The result are the names of those that were cut short, in order.
+pub fn list_by_specification<'a, S: Sources, W: Write>(
+    alloc: Global,
+    text: &[u8],
+    names: &[&'a str],
+    per_piece: u32,
+    sources: &mut S,
+    out: &mut W,
+) -> Result<Vec<&'a str>, Failure<'a>>
+    requires few_files { length names.now ≤ 65536 }
+    requires some_items { 0 < per_piece }
+    requires few_items { per_piece ≤ 4096 }
+    ensures ok { (ends : List ℕ → ℕ) → EndsPatterns ends → IfOk result (λ cut. AreListed S.gives (λ inputs. ListsByRules ends text.now inputs (W.contents out.old) (W.contents out.new))
+        (map (λ name. name.now) names.now) sources.old sources.new (map (λ name. name.now) cut.items)) }
+    ensures err { (ends : List ℕ → ℕ) → EndsPatterns ends → IfErr result (λ failure. FailsListing (HasNoTables ends text.now)
+        (ArePartlyListed S.gives (λ inputs. ListsPrefixByRules ends text.now inputs (W.contents out.old) (W.contents out.new)) (map (λ name. name.now) names.now) sources.old sources.new)
+        (map (λ name. name.now) names.now) sources.old sources.new (W.contents out.old) (W.contents out.new) failure) }
+{
+    items_are_by_rules();
+    let tables = tables_of_text(alloc, text)?;
+    // its contract says what holds of all tables
+    let _conditions = tables.conditions();
+    list_given(alloc, tables, names, per_piece, sources, out)
+}
+
+/// Lists the files with these names by the tables whose text it is, in either version, with `per_piece` items a piece. The text is judged
+/// before a file is read, and all files are read before the first line is written. The result are the names of those that were cut short,
+/// in order.
+pub fn list_by_tables<'a, S: Sources, W: Write>(
+    alloc: Global,
+    text: &[u8],
+    names: &[&'a str],
+    per_piece: u32,
+    sources: &mut S,
+    out: &mut W,
+) -> Result<Vec<&'a str>, Failure<'a>>
+    requires few_files { length names.now ≤ 65536 }
+    requires some_items { 0 < per_piece }
+    requires few_items { per_piece ≤ 4096 }
+    ensures ok { IfOk result (λ cut. AreListed S.gives (λ inputs. ListsByText text.now inputs (W.contents out.old) (W.contents out.new))
+        (map (λ name. name.now) names.now) sources.old sources.new (map (λ name. name.now) cut.items)) }
+    ensures err { IfErr result (λ failure. FailsListing (IsNoTable text.now)
+        (ArePartlyListed S.gives (λ inputs. ListsPrefixByText text.now inputs (W.contents out.old) (W.contents out.new)) (map (λ name. name.now) names.now) sources.old sources.new)
+        (map (λ name. name.now) names.now) sources.old sources.new (W.contents out.old) (W.contents out.new) failure) }
+{
+    let tables = Tables::read(alloc, text)?;
+    // its contract says what holds of all tables
+    let _conditions = tables.conditions();
+    list_given(alloc, tables, names, per_piece, sources, out)
+}
