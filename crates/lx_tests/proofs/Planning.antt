@@ -1,9 +1,6 @@
-use Rattle.std.proofs.Common.{ℕ, ◌≡◌, ◌+◌, ◌<◌, ◌≤◌, List, [], inl, inr, get_or, length, map, Global, Vec, sym, ◌∙◌, ap, subst, arith, replicate}
-use Rattle.std.specs.Prelude.{slice_index, All}
-use Rattle.std.proofs.lemmas.List.{get_or-replicate, get_or-map}
-use Rattle.std.proofs.lemmas.Bool.{cases_eq}
-use Rattle.lx_scan.specs.declared.item.Item.{Item}
-use Rattle.lx_scan.specs.ItemParts.{IsItemOf}
+use Rattle.std.proofs.Common.{ℕ, ◌≡◌, ◌≤◌, List, sym, ◌∙◌, ap, subst, arith, replicate}
+use Rattle.std.specs.Prelude.{slice_index}
+use Rattle.std.proofs.lemmas.List.{get_or-replicate}
 use Rattle.lx_piece.specs.declared.piece.Piece.{Piece}
 use Rattle.lx_piece.specs.Plans.{Planned, IsPlan, files_of}
 use Rattle.lx_piece.specs.Pieces.{IsPieceOf, TakesInOrder, piece_at, pieces_of}
@@ -20,15 +17,3 @@ first_next plan counts file p sound is first e =
       number = ap (λ (q : Piece). q.number) first ∙ sym none;
       taken = subst (λ (n : ℕ). TakesInOrder plan p.file n) (sym none) (takes_in_order plan p.file 0 sound.some_items few);
     }
-
--- the items of one file more lie in it
-pub fit_more : (names : List (List ℕ)) (files : List (Vec ℕ Global)) (items : List (Vec Item Global)) (i : ℕ) (text : Vec ℕ Global) (list : Vec Item Global) → i < length files → i < length items → text ≡ get_or files i text → list ≡ get_or items i list → All (IsItemOf names text.items) list.items
-    → ((file : ℕ) → file < i → All (IsItemOf names (get_or (map (λ (v : Vec ℕ Global). v.items) files) file [])) (get_or (map (λ (v : Vec Item Global). v.items) items) file []))
-    → (file : ℕ) → file < i + 1 → All (IsItemOf names (get_or (map (λ (v : Vec ℕ Global). v.items) files) file [])) (get_or (map (λ (v : Vec Item Global). v.items) items) file [])
-fit_more names files items i text list f g t l all before = λ file below. elim (cases_eq file i) [
-  | inl e ↦
-      subst (λ (n : ℕ). All (IsItemOf names (get_or (map (λ (v : Vec ℕ Global). v.items) files) n [])) (get_or (map (λ (v : Vec Item Global). v.items) items) n [])) (sym e)
-      (subst (λ (bytes : List ℕ). All (IsItemOf names bytes) (get_or (map (λ (v : Vec Item Global). v.items) items) i [])) (ap (λ (v : Vec ℕ Global). v.items) t ∙ sym (get_or-map (λ (v : Vec ℕ Global). v.items) files i text [] f))
-      (subst (λ (parts : List Item). All (IsItemOf names text.items) parts) (ap (λ (v : Vec Item Global). v.items) l ∙ sym (get_or-map (λ (v : Vec Item Global). v.items) items i list [] g)) all))
-  | inr d ↦ before file (omega arith)
-]

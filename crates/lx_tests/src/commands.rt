@@ -2,6 +2,7 @@
 
 use crate::running::{expect, lx, status_of, status_over};
 use crate::writers::{Unflushed, failing_writer};
+use lx_piece::Input;
 use lx_tool::{ListSources, SourceFault, Sources, run};
 use std::alloc::{AllocError, Global};
 use std::process::Abort;
@@ -98,7 +99,9 @@ fn refuses_more_than_65536_files(rt: HostRuntime) -> Result<(), AllocError> {
 struct Exhausted;
 
 impl Sources for Exhausted {
-    fn read(&mut self, _alloc: Global, _name: &str) -> Result<Vec<u8>, SourceFault> {
+    ghost gives = { λ _ _ _ _. ⊥ };
+
+    fn read(&mut self, _alloc: Global, _name: &str) -> Result<Input, SourceFault> {
         Err(SourceFault::Memory)
     }
 }

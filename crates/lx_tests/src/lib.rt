@@ -10,6 +10,8 @@ mod commands;
 #[cfg(test)]
 mod comparison;
 #[cfg(test)]
+mod cut_files;
+#[cfg(test)]
 mod equality;
 #[cfg(test)]
 mod examples;
@@ -28,6 +30,8 @@ mod plain;
 #[cfg(test)]
 mod plans;
 #[cfg(test)]
+mod readers;
+#[cfg(test)]
 mod refusals;
 #[cfg(test)]
 mod relay;
@@ -35,6 +39,8 @@ mod relay;
 mod rows;
 #[cfg(test)]
 mod running;
+#[cfg(test)]
+mod scanning;
 #[cfg(test)]
 mod specifications;
 #[cfg(test)]

@@ -3,10 +3,12 @@
 ghost use Rattle.std.specs.Prelude.{◌≡◌, ◌+◌, ◌<◌, ◌≤◌, IfOk, OnErr, replicate};
 ghost use Rattle.lx_piece.specs.Plans.{files_of};
 
-use crate::plans::{MIXED, NO_PLAN, echo_plan, last_file_first, mixed_plan};
+use crate::plans::{
+    MIXED, MIXED_FILES, MIXED_RULES, NO_RULES, inputs, last_file_first, mixed_plan, plan_of,
+};
 use crate::writers::failing_writer;
 use lx_piece::{Cutter, ListArrivals, Plan, Reader, ReaderFault, relay};
-use lx_tool::{Listing, RunFault, print_listing};
+use lx_tool::{Listing, RunFault, list_files, print_listing, tables_of_text};
 use std::alloc::{AllocError, Global};
 use std::io::Write;
 use std::test::Fail;
@@ -15,10 +17,31 @@ use std::test::Fail;
 fn lists_each_form_of_line_whatever_the_pieces_are(rt: HostRuntime) -> Result<(), Fail> {
     let alloc = rt.alloc();
     for per_piece in [1, 2, 256] {
-        let plan = mixed_plan(alloc, per_piece)?.ok_or(NO_PLAN)?;
+        let plan = mixed_plan(alloc, per_piece)?;
         let mut out = Vec::new(alloc);
         print_listing(alloc, &plan, &mut out)?;
-        assert_eq!(rt; out.as_slice(), MIXED, "with {per_piece} items a piece");
+        assert_eq!(rt;
+            out.as_slice(),
+            MIXED.as_bytes(),
+            "with {per_piece} items a piece"
+        );
+    }
+    Ok(())
+}
+
+#[test]
+fn lists_files_by_tables(rt: HostRuntime) -> Result<(), Fail> {
+    let alloc = rt.alloc();
+    for per_piece in [1, 256] {
+        let tables = tables_of_text(alloc, MIXED_RULES.as_bytes())?;
+        let files = inputs(alloc, MIXED_FILES.as_slice())?;
+        let mut out = Vec::new(alloc);
+        list_files(alloc, tables, files, per_piece, &mut out)?;
+        assert_eq!(rt;
+            out.as_slice(),
+            MIXED.as_bytes(),
+            "with {per_piece} items a piece"
+        );
     }
     Ok(())
 }
@@ -26,24 +49,30 @@ fn lists_each_form_of_line_whatever_the_pieces_are(rt: HostRuntime) -> Result<()
 #[test]
 fn writes_the_rest_of_what_was_taken_in_part(rt: HostRuntime) -> Result<(), Fail> {
     let alloc = rt.alloc();
-    let plan = mixed_plan(alloc, 1)?.ok_or(NO_PLAN)?;
+    let plan = mixed_plan(alloc, 1)?;
     let mut out = failing_writer(alloc, 1, 0, true);
     print_listing(alloc, &plan, &mut out)?;
-    assert_eq!(rt; out.held.as_slice(), MIXED);
+    assert_eq!(rt; out.held.as_slice(), MIXED.as_bytes());
     Ok(())
 }
+
+/// The lines of the text `hi` without rules; where it is cut a third one stands behind them.
+const HI: &str = "0 E - 1 0 1 h\n0 E - 1 1 1 i\n";
 
 #[test]
 fn ends_where_the_writer_fails(rt: HostRuntime) -> Result<(), Fail> {
     let alloc = rt.alloc();
-    let plan = echo_plan(alloc, &[3], 256)?.ok_or(NO_PLAN)?;
+    let plan = plan_of(alloc, NO_RULES, &[(b"hi", true)], 256)?;
     for takes_nothing in [false, true] {
-        let mut out = failing_writer(alloc, 4_096, 3, takes_nothing);
-        let ended = print_listing(alloc, &plan, &mut out);
-        let lines = b"0 E - 1 0 1 x\n0 E - 1 1 1 x\n".as_slice();
-        assert!(rt;
-            ended == Err(RunFault::Reader) && out.calls == 3 && out.held.as_slice() == lines
-        );
+        for (call, lines) in [(1, ""), (2, "0 E - 1 0 1 h\n"), (3, HI)] {
+            let mut out = failing_writer(alloc, 4_096, call, takes_nothing);
+            let ended = print_listing(alloc, &plan, &mut out);
+            assert!(rt;
+                ended == Err(RunFault::Reader) && out.calls == call,
+                "{call}"
+            );
+            assert_eq!(rt; out.held.as_slice(), lines.as_bytes(), "{call}");
+        }
     }
     Ok(())
 }
@@ -51,7 +80,7 @@ fn ends_where_the_writer_fails(rt: HostRuntime) -> Result<(), Fail> {
 #[test]
 fn holds_the_pieces_of_later_files(rt: HostRuntime) -> Result<(), Fail> {
     let alloc = rt.alloc();
-    let plan = mixed_plan(alloc, 1)?.ok_or(NO_PLAN)?;
+    let plan = mixed_plan(alloc, 1)?;
     let mut out = Vec::new(alloc);
     {
         let mut listing = Listing::new(alloc, &plan, &mut out)?;
@@ -59,7 +88,7 @@ fn holds_the_pieces_of_later_files(rt: HostRuntime) -> Result<(), Fail> {
         relay(alloc, &plan, &mut arrivals, &mut listing)?;
         assert_eq!(rt; listing.faults(), 0);
     }
-    assert_eq!(rt; out.as_slice(), MIXED);
+    assert_eq!(rt; out.as_slice(), MIXED.as_bytes());
     Ok(())
 }
 
@@ -87,7 +116,7 @@ fn takes_first<W: Write>(
 #[test]
 fn answers_device_once_it_has_failed(rt: HostRuntime) -> Result<(), Fail> {
     let alloc = rt.alloc();
-    let plan = mixed_plan(alloc, 1)?.ok_or(NO_PLAN)?;
+    let plan = mixed_plan(alloc, 1)?;
     let mut out = failing_writer(alloc, 4_096, 1, false);
     {
         let mut listing = Listing::new(alloc, &plan, &mut out)?;

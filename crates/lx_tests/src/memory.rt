@@ -7,7 +7,8 @@ use crate::collector::{delivered, reply_of};
 use crate::plans::{echo, echo_plan, last_file_first};
 use crate::relay::fresh_tally;
 use lx_piece::{
-    Collector, Cutter, Items, ListArrivals, Piece, Plan, Refused, RelayFault, Reply, Why, relay,
+    Collector, Cutter, Items, ListArrivals, Mark, Piece, Plan, Refused, RelayFault, Reply, Why,
+    relay,
 };
 use std::alloc::{AllocError, Global};
 use std::process::Abort;
@@ -16,28 +17,28 @@ use std::process::Abort;
 const MANY: u32 = 40;
 
 /// A piece of run 1 with one item, which begins at the piece's number.
-fn with_item(alloc: Global, file: u32, number: u32, last: bool) -> Result<Piece, AllocError> {
+fn with_item(alloc: Global, file: u32, number: u32, mark: Mark) -> Result<Piece, AllocError> {
     let start = number as usize;
     let items = vec![in alloc; echo(1, start); 1]?;
     Ok(Piece {
         run: 1,
         file,
         number: u64::from(number),
-        last,
+        mark,
         items: Items::from_vec(items),
     })
 }
 
 /// Offers a piece of `with_item`. Where it comes back, it is for want of memory, and whole.
 fn offer_again<R: Abort>(rt: &R, collector: &mut Collector, offered: Piece) -> Option<Piece> {
-    let (file, number, last) = (offered.file, offered.number, offered.last);
+    let (file, number, mark) = (offered.file, offered.number, offered.mark);
     let Err(Refused { why, piece }) = collector.offer(offered) else {
         return None;
     };
     assert_eq!(rt; why, Why::Memory);
     assert_eq!(rt;
-        (piece.run, piece.file, piece.number, piece.last),
-        (1, file, number, last)
+        (piece.run, piece.file, piece.number, piece.mark),
+        (1, file, number, mark)
     );
     let item = echo(1, number as usize);
     assert_eq!(rt; piece.items.as_slice(), [item].as_slice());
@@ -68,7 +69,7 @@ fn a_file_whose_piece_came_back_has_none_to_deliver(rt: HostRuntime) {
     let mut end = MANY;
     for index in 0..MANY {
         let file = MANY - 1 - index;
-        let Ok(offered) = with_item(alloc, file, 0, true) else {
+        let Ok(offered) = with_item(alloc, file, 0, Mark::Whole) else {
             return;
         };
         if let Some(piece) = offer_again(&rt, &mut collector, offered) {
@@ -90,7 +91,8 @@ fn a_number_that_came_back_is_not_held(rt: HostRuntime) {
     };
     for index in 0..MANY {
         let number = MANY - 1 - index;
-        let Ok(offered) = with_item(alloc, 0, number, index == 0) else {
+        let mark = if index == 0 { Mark::Cut } else { Mark::More };
+        let Ok(offered) = with_item(alloc, 0, number, mark) else {
             return;
         };
         if let Some(piece) = offer_again(&rt, &mut collector, offered) {
@@ -113,7 +115,7 @@ fn expect_piece<R: Abort>(
     plan: &Plan,
     number: u64,
     len: usize,
-    last: bool,
+    mark: Mark,
 )
     requires { IsCutterOf plan.now cutter.old }
     ensures { IsCutterOf plan.now cutter.new }
@@ -124,8 +126,8 @@ fn expect_piece<R: Abort>(
     };
     match next {
         Ok(Some(piece)) => assert_eq!(rt;
-            (piece.number, piece.items.as_slice().len(), piece.last),
-            (number, len, last)
+            (piece.number, piece.items.as_slice().len(), piece.mark),
+            (number, len, mark)
         ),
         _ => assert!(rt; false, "piece {number}"),
     }
@@ -134,13 +136,13 @@ fn expect_piece<R: Abort>(
 #[test]
 fn a_cutter_gives_the_piece_that_was_refused(rt: HostRuntime) {
     let alloc = rt.alloc();
-    let Ok(Some(plan)) = echo_plan(alloc, &[600], 256) else {
+    let Ok(plan) = echo_plan(alloc, &[600], 256) else {
         return;
     };
     let mut cutter = Cutter::new(alloc, &plan, 0);
-    expect_piece(&rt, &mut cutter, &plan, 0, 256, false);
-    expect_piece(&rt, &mut cutter, &plan, 1, 256, false);
-    expect_piece(&rt, &mut cutter, &plan, 2, 88, true);
+    expect_piece(&rt, &mut cutter, &plan, 0, 256, Mark::More);
+    expect_piece(&rt, &mut cutter, &plan, 1, 256, Mark::More);
+    expect_piece(&rt, &mut cutter, &plan, 2, 88, Mark::Whole);
     assert!(rt; matches!(cutter.next_piece(&plan), Ok(None)));
 }
 
@@ -191,7 +193,7 @@ fn relay_three<R: Abort>(rt: &R, alloc: Global, plan: &Plan) -> Outcome {
 #[test]
 fn a_relay_takes_a_part_where_memory_is_refused(rt: HostRuntime) {
     let alloc = rt.alloc();
-    let Ok(Some(plan)) = echo_plan(alloc, &[600, 3, 512], 256) else {
+    let Ok(plan) = echo_plan(alloc, &[600, 3, 512], 256) else {
         return;
     };
     if relay_three(&rt, alloc, &plan) == Outcome::Part {

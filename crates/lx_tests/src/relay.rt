@@ -5,11 +5,13 @@ ghost use Rattle.lx_piece.specs.Plans.{files_of};
 ghost use Rattle.lx_piece.specs.Pieces.{IsPieceOf};
 ghost use Rattle.lx_piece.specs.Arrivals.{AreHonest};
 
-use crate::plans::{NO_PLAN, echo_plan, last_file_first, piece};
+use crate::plans::{NO_RULES, echo_plan, last_file_first, piece, plan_of};
 use lx_piece::{
-    Arrivals, Cutter, ListArrivals, Piece, Plan, Reader, ReaderFault, RelayFault, Reply, Why, relay,
+    Arrivals, Cutter, ListArrivals, Mark, Piece, Plan, Reader, ReaderFault, RelayFault, Reply, Why,
+    relay,
 };
 use std::alloc::{AllocError, Global};
+use std::process::Abort;
 use std::test::Fail;
 
 /// The first piece of a file.
@@ -31,20 +33,22 @@ fn among_strangers(alloc: Global, plan: &Plan) -> Result<Vec<Piece>, AllocError>
 {
     let mut pieces = Vec::new(alloc);
     pieces.push(first_piece(alloc, plan, 1)?)?;
-    pieces.push(piece(alloc, 2, 0, 0, true))?;
-    pieces.push(piece(alloc, 1, 9, 0, true))?;
+    pieces.push(piece(alloc, 2, 0, 0, Mark::Whole))?;
+    pieces.push(piece(alloc, 1, 9, 0, Mark::Whole))?;
     pieces.push(first_piece(alloc, plan, 0)?)?;
     Ok(pieces)
 }
 
-/// A reader that counts the pieces of each file, and fails once it has taken so many.
+/// A reader that counts the pieces of each file, keeps the last one's mark, and fails once it has taken so many.
 #[derive(Drop)]
 pub(crate) struct Tally<'a> {
     plan: &'a Plan,
     pub(crate) counts: Vec<u64>,
+    marks: Vec<Mark>,
     room: u64,
     faults: u64,
-    ghost each: { length counts.items ≡ files_of plan.now },
+    ghost each_count: { length counts.items ≡ files_of plan.now },
+    ghost each_mark: { length marks.items ≡ files_of plan.now },
 }
 
 /// A tally that has counted nothing.
@@ -56,6 +60,7 @@ pub(crate) fn fresh_tally(alloc: Global, plan: &Plan, room: u64) -> Result<Tally
     Ok(Tally {
         plan,
         counts: vec![in alloc; 0; plan.files() as usize]?,
+        marks: vec![in alloc; Mark::More; plan.files() as usize]?,
         room,
         faults: 0,
     })
@@ -79,6 +84,7 @@ impl<'a> Reader for Tally<'a> {
         }
         self.room -= 1;
         self.counts[piece.file as usize] += 1;
+        self.marks[piece.file as usize] = piece.mark;
         Ok(())
     }
 
@@ -91,10 +97,9 @@ impl<'a> Reader for Tally<'a> {
     ghost follows_on = { λ _ _ _ _ _. tt };
 }
 
-#[test]
-fn relays_pieces_among_strangers(rt: HostRuntime) -> Result<(), Fail> {
-    let alloc = rt.alloc();
-    let plan = echo_plan(alloc, &[0, 0], 256)?.ok_or(NO_PLAN)?;
+/// Relays the pieces of two empty files among strangers, the second of which is cut or not.
+fn relay_among_strangers<R: Abort>(rt: &R, alloc: Global, cut: bool) -> Result<(), Fail> {
+    let plan = plan_of(alloc, NO_RULES, &[(b"", false), (b"", cut)], 256)?;
     assert!(rt; plan.files() == 2);
     let mut tally = fresh_tally(alloc, &plan, u64::MAX)?;
     let mut arrivals = ListArrivals::new(&plan, among_strangers(alloc, &plan)?);
@@ -109,26 +114,35 @@ fn relays_pieces_among_strangers(rt: HostRuntime) -> Result<(), Fail> {
         (replies.as_slice(), tally.counts.as_slice()),
         (wanted.as_slice(), [1, 1].as_slice())
     );
+    let second = if cut { Mark::Cut } else { Mark::Whole };
+    assert_eq!(rt; tally.marks.as_slice(), [Mark::Whole, second].as_slice());
     Ok(())
+}
+
+#[test]
+fn relays_whole_and_cut_files_among_strangers(rt: HostRuntime) -> Result<(), Fail> {
+    relay_among_strangers(&rt, rt.alloc(), false)?;
+    relay_among_strangers(&rt, rt.alloc(), true)
 }
 
 #[test]
 fn relays_as_many_files_as_there_may_be(rt: HostRuntime) -> Result<(), Fail> {
     let alloc = rt.alloc();
     let lens = vec![in alloc; 0; 65_536]?;
-    let plan = echo_plan(alloc, &lens, 1)?.ok_or(NO_PLAN)?;
+    let plan = echo_plan(alloc, &lens, 1)?;
     let mut tally = fresh_tally(alloc, &plan, u64::MAX)?;
     let mut arrivals = ListArrivals::new(&plan, last_file_first(alloc, &plan)?);
     let replies = relay(alloc, &plan, &mut arrivals, &mut tally)?;
     assert_eq!(rt; replies.len(), 65_536);
     assert!(rt; tally.counts.iter().all(|count| *count == 1));
+    assert!(rt; tally.marks.iter().all(|mark| *mark == Mark::Whole));
     Ok(())
 }
 
 #[test]
 fn a_reader_that_fails_ends_the_relay_before_the_next_arrival(rt: HostRuntime) -> Result<(), Fail> {
     let alloc = rt.alloc();
-    let plan = echo_plan(alloc, &[4], 1)?.ok_or(NO_PLAN)?;
+    let plan = echo_plan(alloc, &[4], 1)?;
     let mut tally = fresh_tally(alloc, &plan, 1)?;
     let mut arrivals = ListArrivals::new(&plan, last_file_first(alloc, &plan)?);
     let ended = relay(alloc, &plan, &mut arrivals, &mut tally);

@@ -27,8 +27,8 @@ const ROWS: [Row; 3] = [
     ),
 ];
 
-/// The tables of a specification.
-fn tables_of(alloc: Global, spec: &str) -> Result<Tables, Fail> {
+/// The tables of a specification by the automaton as it is built.
+pub(crate) fn unmerged_tables_of(alloc: Global, spec: &str) -> Result<Tables, Fail> {
     let spec = read_spec(alloc, spec.as_bytes())?;
     let automaton = build(alloc, &spec)?;
     Ok(Tables::of(alloc, &spec, &automaton)?)
@@ -37,7 +37,7 @@ fn tables_of(alloc: Global, spec: &str) -> Result<Tables, Fail> {
 #[test]
 fn tables_print_their_two_texts(rt: HostRuntime) -> Result<(), Fail> {
     for (spec, first, second) in ROWS {
-        let tables = tables_of(rt.alloc(), spec)?;
+        let tables = unmerged_tables_of(rt.alloc(), spec)?;
         let mut out = Vec::new(rt.alloc());
         tables.print_first(&mut out)?;
         assert_eq!(rt; out.as_slice(), first.as_bytes());

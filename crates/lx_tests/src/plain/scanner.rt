@@ -1,7 +1,6 @@
 //! The items of a text, match after match by the plain choice. What it relies on it asks of the choice each time.
 
 use crate::plain::choice::choose;
-use crate::plans::newlines_in;
 use lx_scan::Item;
 use lx_spec::rule::Step;
 use lx_spec::spec::Spec;
@@ -53,6 +52,11 @@ fn chosen<'a>(
         Some(rule) => Ok((rule.action.as_slice(), len)),
         None => Ok((ECHO, 1)),
     }
+}
+
+// How many of the bytes are newlines.
+fn newlines_in(bytes: &[u8]) -> u64 {
+    bytes.iter().filter(|byte| **byte == b'\n').count() as u64
 }
 
 /// The items of the text by the rules of the specification.
