@@ -1,0 +1,2 @@
+pub mod ViewSums
+pub mod DrawSteps
