@@ -1,2 +1,5 @@
 pub mod ViewSums
 pub mod DrawSteps
+pub mod NoteLists
+pub mod PostSteps
+pub mod Comings

@@ -1,2 +1,6 @@
 pub mod Claimed
 pub mod Draws
+pub mod Notes
+pub mod Posted
+pub mod Posting
+pub mod Arrived

@@ -5,6 +5,18 @@
 mod claim_seat;
 mod claims;
 mod draw_rule;
+mod finishing;
+mod note;
+mod passes;
+mod patience;
+mod post;
+mod post_arrivals;
+mod post_rule;
 
 pub use claim_seat::ClaimSeat;
 pub use claims::{Claims, Unsettled};
+pub use finishing::{Unfinished, finish};
+pub use note::{Note, WorkerFault};
+pub use passes::{SendPass, TakePass};
+pub use post::Post;
+pub use post_arrivals::PostArrivals;
