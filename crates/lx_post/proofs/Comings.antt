@@ -1,12 +1,11 @@
 -- What came by a post, after one note more.
 use Rattle.std.proofs.Common.{◌≡◌, ℕ, List, [], ◌∷◌, ◌++◌, Option, None, Some, length, drop, sym, refl, ap, ◌∙◌, append_assoc}
-use Rattle.std.specs.Option.{option_or}
 use Rattle.std.proofs.Math.Seq.{drop-append_seam}
 use Rattle.lx_piece.specs.declared.piece.Piece.{Piece}
 use Rattle.lx_post.specs.declared.note.Note.{Note}
 use Rattle.lx_post.specs.declared.note.Note.TheVariants.{Piece as note_piece, End as note_end}
 use Rattle.lx_post.specs.declared.note.WorkerFault.{WorkerFault}
-use Rattle.lx_post.specs.Notes.{first_fault, pieces_among}
+use Rattle.lx_post.specs.Notes.{fault_with, first_fault, pieces_among}
 use Rattle.lx_post.specs.Posted.{Taken, Arriving, CameBetween, with_arrival}
 use Rattle.lx_post.specs.Arrived.{came_on}
 
@@ -23,19 +22,15 @@ before_since before all n is =
     ∙ append_assoc before (drop (length before) all) (n ∷ [])
     ∙ ap (λ l. before ++ l) (sym (since_push before all n is))
 
--- the fault of an end counts where none came before
-pub fault_of_end : (notes : List Note) (worker files : ℕ) (fault : Option WorkerFault) → first_fault (notes ++ note_end worker files fault ∷ []) ≡ option_or (first_fault notes) fault
-fault_of_end [] worker files None = refl
-fault_of_end [] worker files (Some fault) = refl
-fault_of_end (note_piece w p ∷ notes) worker files fault = fault_of_end notes worker files fault
-fault_of_end (note_end w f None ∷ notes) worker files fault = fault_of_end notes worker files fault
-fault_of_end (note_end w f (Some first) ∷ notes) worker files fault = refl
-
-pub fault_of_piece : (notes : List Note) (worker : ℕ) (piece : Piece) → first_fault (notes ++ note_piece worker piece ∷ []) ≡ first_fault notes
-fault_of_piece [] worker piece = refl
-fault_of_piece (note_piece w p ∷ notes) worker piece = fault_of_piece notes worker piece
-fault_of_piece (note_end w f None ∷ notes) worker piece = fault_of_piece notes worker piece
-fault_of_piece (note_end w f (Some first) ∷ notes) worker piece = refl
+-- the first fault with one note more
+pub fault_push : (notes : List Note) (n : Note) → first_fault (notes ++ n ∷ []) ≡ fault_with (first_fault notes) n
+fault_push [] (note_piece worker piece) = refl
+fault_push [] (note_end worker files None) = refl
+fault_push [] (note_end worker files (Some fault)) = refl
+fault_push (note_piece w p ∷ notes) n = fault_push notes n
+fault_push (note_end w f None ∷ notes) n = fault_push notes n
+fault_push (note_end w f (Some first) ∷ notes) (note_piece worker piece) = refl
+fault_push (note_end w f (Some first) ∷ notes) (note_end worker files fault) = refl
 
 came_note : (s : Arriving) (n : Note) → CameBetween s (pieces_among (n ∷ [])) (with_arrival s n)
 came_note s n = record { notes = n ∷ []; received = refl; since = refl; pieces = refl }

@@ -1,5 +1,6 @@
 -- Notes that workers send to a post: pieces, and at last an end.
 use Rattle.std.specs.Prelude.{◌≡◌, ℕ, ◌==◌, ◌||◌, Bool, true, false, List, [], ◌∷◌, Option, Some, None, filter}
+use Rattle.std.specs.Option.{option_or}
 use Rattle.lx_piece.specs.declared.piece.Piece.{Piece}
 use Rattle.lx_piece.specs.Plans.{Planned}
 use Rattle.lx_piece.specs.Arrivals.{IsHonest}
@@ -51,3 +52,8 @@ first_fault [] = None
 first_fault (note_piece worker piece ∷ notes) = first_fault notes
 first_fault (note_end worker files None ∷ notes) = first_fault notes
 first_fault (note_end worker files (Some fault) ∷ notes) = Some fault
+
+-- the first fault, once this note has come behind those that named this one
+abbrev pub fault_with : Option WorkerFault → Note → Option WorkerFault
+fault_with fault (note_piece worker piece) = fault
+fault_with fault (note_end worker files named) = option_or fault named

@@ -1,6 +1,6 @@
 //! The pieces that come by a post, for a relay.
 ghost use Rattle.std.specs.Prelude.{◌≡◌, [], IfNone, IfSome};
-ghost use Rattle.lx_post.specs.Notes.{first_fault};
+ghost use Rattle.lx_post.specs.Notes.{fault_with, first_fault};
 ghost use Rattle.lx_post.specs.Posted.{AllEnded, IsTakePassOf, MayCome, with_arrival};
 
 use crate::note::{Note, WorkerFault};
@@ -10,6 +10,16 @@ use lx_piece::{Arrivals, Piece};
 use std::marker::Model;
 use std::snapshot::Snapshot;
 use std::sync::Wait;
+
+// The first fault once this note has come.
+fn fault_with(fault: Option<WorkerFault>, note: &Note) -> Option<WorkerFault>
+    ensures { result ≡ fault_with fault note.now }
+{
+    match note {
+        Note::Piece { .. } => fault,
+        Note::End { fault: named, .. } => fault.or(*named),
+    }
+}
 
 /// The pieces that a post receives. They end once every worker's end was received.
 #[derive(Drop)]
@@ -69,9 +79,7 @@ impl<'a, R: Wait> PostArrivals<'a, R> {
         ensures none { IfNone result ((self.new ≡ self.old) × AllEnded self.old.pass) }
     {
         let note = self.post.receive(self.rt, &mut self.pass)?;
-        if let Note::End { fault, .. } = &note {
-            self.fault = self.fault.or(*fault);
-        }
+        self.fault = fault_with(self.fault, &note);
         Some(note)
     }
 }
