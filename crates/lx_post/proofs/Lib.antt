@@ -3,3 +3,4 @@ pub mod DrawSteps
 pub mod NoteLists
 pub mod PostSteps
 pub mod Comings
+pub mod Sendings

@@ -4,3 +4,4 @@ pub mod Notes
 pub mod Posted
 pub mod Posting
 pub mod Arrived
+pub mod Working

@@ -7,6 +7,7 @@ mod claims;
 mod draw_rule;
 mod finishing;
 mod gate;
+mod job;
 mod meeting_gate;
 mod note;
 mod passes;
@@ -14,6 +15,7 @@ mod patience;
 mod post;
 mod post_arrivals;
 mod post_rule;
+mod working;
 
 pub use claim_seat::ClaimSeat;
 pub use claims::{Claims, Unsettled};

@@ -1,5 +1,5 @@
 //! With what workers send notes, and the thread that hands pieces on takes them.
-ghost use Rattle.std.specs.Prelude.{◌↔◌, IsTrue};
+ghost use Rattle.std.specs.Prelude.{◌≡◌, ◌↔◌, IsTrue};
 ghost use Rattle.lx_post.specs.Posted.{AllEnded};
 
 use crate::note::Note;
@@ -52,6 +52,15 @@ impl Model for TakePass {
         × (known p.pass ≡ taker (known p.pass).plan p.workers (known p.pass).received (known p.pass).worker (known p.pass).sent)
         × (p.workers ≤ 8)
         × ((w : ℕ) → w < 8 → slice_index_or p.ended w false ≡ has_end (notes_of w (known p.pass).received)) };
+}
+
+impl SendPass {
+    // Whose notes it sends.
+    pub(crate) fn worker(&self) -> u8
+        ensures { result ≡ self.now.worker }
+    {
+        self.worker
+    }
 }
 
 impl TakePass {
