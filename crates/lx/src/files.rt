@@ -1,16 +1,11 @@
 //! Real files as the program's sources.
 
-use lx_tool::{SourceFault, Sources};
+use lx_piece::Input;
+use lx_tool::{SourceFault, Sources, read_to_end};
 use std::alloc::Global;
 use std::fs::File;
-use std::io::{Error, ErrorKind, Read};
+use std::io::{Error, ErrorKind};
 use std::rt::Files;
-
-// How many bytes one read asks for.
-const CHUNK: usize = 65_536;
-
-// How many reads a file has at most; one that hasn't ended by then counts as not read.
-const MOST_READS: u64 = 4_294_967_296;
 
 /// The files of the system, by their paths.
 #[derive(Drop)]
@@ -26,25 +21,15 @@ impl<'a, R: Files> FileSources<'a, R> {
 }
 
 impl<R: Files> Sources for FileSources<'_, R> {
-    fn read(&mut self, alloc: Global, name: &str) -> Result<Vec<u8>, SourceFault> {
-        let mut file = File::open(self.rt, name).map_err(fault_of)?;
-        read_all(alloc, &mut file)
-    }
-}
+    ghost use Rattle.std.specs.Prelude.{⊤};
 
-// The bytes of a file to its end.
-fn read_all<F: Read>(alloc: Global, file: &mut F) -> Result<Vec<u8>, SourceFault> {
-    let mut bytes = Vec::new(alloc);
-    let mut chunk = vec![in alloc; 0u8; CHUNK]?;
-    for _ in 0..MOST_READS {
-        match file.read(&mut chunk) {
-            Ok(0) => return Ok(bytes),
-            Ok(count) => bytes.extend_from_slice(&chunk[..count])?,
-            Err(error) if error.kind() == ErrorKind::Interrupted => {}
-            Err(error) => return Err(fault_of(error)),
-        }
+    // Nothing is claimed of what the system gives for a path.
+    ghost gives = { λ _ _ _ _. ⊤ };
+
+    fn read(&mut self, alloc: Global, name: &str) -> Result<Input, SourceFault> {
+        let mut file = File::open(self.rt, name).map_err(fault_of)?;
+        read_to_end(alloc, &mut file)
     }
-    Err(SourceFault::NotRead)
 }
 
 fn fault_of(error: Error) -> SourceFault {

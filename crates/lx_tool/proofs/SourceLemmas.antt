@@ -151,3 +151,5 @@ module _ (names : List (Bor (List ℕ))) (files : List Input) (i : ℕ) (d : Bor
 
   pub with_whole_name : (slice_index_or files i e).cut ≡ false → names_now cut ≡ cut_names (take (i + 1) (names_now names)) (take (i + 1) (map input_view files))
   with_whole_name is = sym (append-nil (names_now cut)) ∙ turn false is
+
+pub ruleset name_steps = (given_next, bytes_next)

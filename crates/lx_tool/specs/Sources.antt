@@ -1,6 +1,7 @@
 -- Files by name, and what sources give for names.
-use Rattle.std.specs.Prelude.{◌≡◌, ◌≢◌, ℕ, Bool, false, ◌||◌, if◌then◌else◌, List, [], ◌∷◌, ◌++◌, All, map}
+use Rattle.std.specs.Prelude.{◌≡◌, ◌≢◌, ℕ, Bool, false, ◌||◌, if◌then◌else◌, List, [], ◌∷◌, ◌++◌, All, Option, map}
 use Rattle.std.specs.Borrow.{Bor}
+use Rattle.std.specs.Io.KnownBytes.{Consumes}
 use Rattle.std.specs.Str.{bytes_eq}
 use Rattle.lx_piece.specs.Plans.{PlainInput}
 
@@ -45,3 +46,11 @@ named_input cut file = (file.0.now, record { bytes = file.1.now; cut = is_among 
 -- files of names and bytes, all whole but those with one of these names
 abbrev pub inputs_of : List (List ℕ) → List (Bor (List ℕ) × Bor (List ℕ)) → List (List ℕ × PlainInput)
 inputs_of cut files = map (named_input cut) files
+
+-- ---- reading
+
+-- Bytes were read, which stand behind those that were read before.
+pub record ReadsOn (before after : Option (List ℕ)) (old new : List ℕ) : Type 0 where
+  pub more : List ℕ
+  pub behind : new ≡ old ++ more
+  pub read : Consumes before after more

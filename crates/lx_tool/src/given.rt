@@ -60,6 +60,7 @@ pub(crate) fn read_whole<'a, S: Sources>(
 }
 
 // The files with these names, in order.
+#[tactic(auto, using(crate::proofs::SourceLemmas::name_steps))]
 fn read_files<'a, S: Sources>(
     alloc: Global,
     sources: &mut S,

@@ -1,8 +1,9 @@
 //! Readers, read to their end.
 
-ghost use Rattle.std.specs.Prelude.{◌≡◌, ◌<◌, ◌⊎◌, false, IfOk, IfErr, OnOk, OnErr, MatchResult, take, length};
-ghost use Rattle.std.specs.Io.KnownBytes.{Consumes, IsAtEnd, Keeps};
+ghost use Rattle.std.specs.Prelude.{◌≡◌, ◌<◌, ◌++◌, ℕ, List, false, IfOk, IfErr, OnOk, length};
+ghost use Rattle.std.specs.Io.KnownBytes.{Consumes, IsAtEnd};
 ghost use Rattle.lx_tool.specs.declared.source.SourceFault.{SourceFault};
+ghost use Rattle.lx_tool.specs.Sources.{ReadsOn};
 
 use crate::source::SourceFault;
 use lx_piece::Input;
@@ -15,6 +16,42 @@ const CHUNK: usize = 65_536;
 // How many reads there are at most.
 const MOST_READS: u64 = 4_294_967_296;
 
+/// How a read went.
+#[derive(Clone, Copy, Debug, PartialEq, Eq)]
+enum Turn {
+    /// It gave bytes, or was interrupted: another one may give more.
+    More,
+    /// The reader is at its end.
+    End,
+    /// It failed.
+    Failed,
+}
+
+// One read, whose bytes go behind those before it. A short one isn't the end: only no bytes at all are.
+fn read_on<R: Read>(
+    reader: &mut R,
+    chunk: &mut [u8],
+    bytes: &mut Vec<u8>,
+) -> Result<Turn, SourceFault>
+    requires { 0 < length chunk.old }
+    ensures bytes { OnOk result (ReadsOn (R.remaining reader.old) (R.remaining reader.new) bytes.old.items bytes.new.items) }
+    ensures end { IfOk result (λ turn. turn ≡ Turn.End → IsAtEnd (R.remaining reader.new)) }
+    ensures memory { IfErr result (λ fault. fault ≡ SourceFault.Memory) }
+{
+    match reader.read(chunk) {
+        Ok(0) => Ok(Turn::End),
+        Ok(count) => {
+            bytes.extend_from_slice(&chunk[..count])?;
+            Ok(Turn::More)
+        }
+        Err(error) => match error.kind() {
+            ErrorKind::Interrupted => Ok(Turn::More),
+            ErrorKind::OutOfMemory => Err(SourceFault::Memory),
+            _ => Ok(Turn::Failed),
+        },
+    }
+}
+
 /// All that a reader gives: its bytes to their end, or those before the read that failed, and then the input is cut. It is cut too where
 /// 4,294,967,296 reads weren't enough. A read that was interrupted is tried again. The one fault is that memory was refused.
 pub fn read_to_end<R: Read>(alloc: Global, reader: &mut R) -> Result<Input, SourceFault>
@@ -25,18 +62,10 @@ pub fn read_to_end<R: Read>(alloc: Global, reader: &mut R) -> Result<Input, Sour
     let mut bytes = Vec::new(alloc);
     let mut chunk = vec![in alloc; 0u8; CHUNK]?;
     for _ in 0..MOST_READS {
-        match reader.read(&mut chunk) {
-            Ok(count) => {
-                bytes.extend_from_slice(&chunk[..count])?;
-                if count == 0 {
-                    return Ok(Input { bytes, cut: false });
-                }
-            }
-            Err(error) => match error.kind() {
-                ErrorKind::Interrupted => {}
-                ErrorKind::OutOfMemory => return Err(SourceFault::Memory),
-                _ => break,
-            },
+        match read_on(reader, &mut chunk, &mut bytes)? {
+            Turn::More => {}
+            Turn::End => return Ok(Input { bytes, cut: false }),
+            Turn::Failed => break,
         }
     }
     Ok(Input { bytes, cut: true })

@@ -4,7 +4,6 @@ use Rattle.lx_piece.specs.declared.input.Input.{Input}
 use Rattle.lx_piece.specs.Plans.{input_view}
 use Rattle.lx_tool.specs.Planning.{AreBytes}
 use Rattle.lx_tool.specs.Sources.{AreGiven, none}
-use Rattle.lx_tool.proofs.SourceLemmas.{bytes_next, given_next}
 use Rattle.lx_tool.proofs.given.read_files.Goals as goal
 
 pub loop-name-init : goal.loop-name-init
@@ -13,17 +12,6 @@ loop-name-init g c = record {
   bytes = subst (λ (files : List Input). AreBytes (map input_view files)) (sym c.new-files.ensures.items) (λ k d l. absurd (omega (arith, l)));
   len = c.new-files.ensures.len;
 }
-
-pub loop-name-preserved : goal.loop-name-preserved
-loop-name-preserved g c =
-    let long = c.in_ok-push.ensures.len in
-    let len = c.loop-name.invariant.len in
-    record {
-      given = given_next g.S.Sources.gives c.args.sources.now c.loop-name.sources c.read_file.new.sources c.args.names.now c.loop-name.files.items c.push.new.self.items c.loop-name.name-index _
-          c.in_ok-read_file.field-0 c.loop-name-test.true c.loop-name.invariant.given c.in_ok-read_file.ensures.ok c.in_ok-push.ensures.items;
-      bytes = bytes_next c.loop-name.files.items c.push.new.self.items c.in_ok-read_file.field-0 c.loop-name.invariant.bytes c.in_ok-read_file.ensures.bytes c.in_ok-push.ensures.items;
-      len = omega (arith, long, len);
-    }
 
 pub returns-clause-ok : goal.returns-clause-ok
 returns-clause-ok g c =

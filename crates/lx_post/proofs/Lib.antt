@@ -1,0 +1,6 @@
+pub mod ViewSums
+pub mod DrawSteps
+pub mod NoteLists
+pub mod PostSteps
+pub mod Comings
+pub mod Sendings

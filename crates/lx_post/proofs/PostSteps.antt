@@ -1,0 +1,234 @@
+-- Each step on the queue keeps the rule of the post.
+use Rattle.std.proofs.Common.{◌≡◌, ◌≢◌, ◌⊎◌, inl, inr, ⊎_elim, ℕ, zero, suc, ◌+◌, ◌<◌, List, [], ◌∷◌, ◌++◌, length, set, sym, refl, ap, ◌∙◌, subst, arith, cond, eqb, eq-eqb, ne_eqb, Bool, true, false, append_assoc}
+use mathlib.Core.Logic.{dite}
+use native.Mathlib.Decide.{ℕ_discrete, dec_lt}
+use mathlib.Core.Option.{some, some-injective, some-ne-none}
+use Rattle.std.proofs.lemmas.List.{append-nil}
+use lib.ListN.{get_elem?}
+use Rattle.crossbeam_queue.specs.Fifo.{Pushes, Pops, Forks, Merges, Learns}
+use Rattle.crossbeam_queue.proofs.Lists.{at_set}
+use Rattle.lx_piece.specs.Plans.{Planned}
+use Rattle.lx_post.specs.declared.note.Note.{Note}
+use Rattle.lx_post.specs.declared.post_rule.PassView.{PassView}
+use Rattle.lx_post.specs.declared.post_rule.Role.TheVariants.{Blank, Sends, Takes}
+use Rattle.lx_post.specs.Notes.{worker_of, IsHonestNote, AreHonestNotes, notes_of, has_end, NothingFollowsEnd}
+use Rattle.lx_post.specs.Posting.{blank, spent_pass, sender, taker, opened, no_worker, hiring, hired, joined, Sending, Taking, IsWhole, Shared, Fits, IsRunning, IsPosting}
+use Rattle.lx_post.proofs.NoteLists.{notes_of-append, of_push_same, of_push_other, of_here, honest_push, honest_at, ends_push, ends_here}
+
+only : (u : PassView) (k : ℕ) (v : PassView) → get_elem? (u ∷ []) k ≡ some v → u ≡ v
+only u zero v e = some-injective u v e
+only u (suc k) v e = absurd (some-ne-none v (sym e))
+
+only_zero : (u : PassView) (k : ℕ) (v : PassView) → get_elem? (u ∷ []) k ≡ some v → k ≡ 0
+only_zero u zero v e = refl
+only_zero u (suc k) v e = absurd (some-ne-none v (sym e))
+
+at_snoc_end : (l : List PassView) (a b : PassView) (j : ℕ) → get_elem? (l ++ a ∷ []) j ≡ some b → (get_elem? l j ≡ some b) ⊎ ((j ≡ length l) × (a ≡ b))
+at_snoc_end [] a b zero e = inr (refl, some-injective a b e)
+at_snoc_end [] a b (suc j) e = absurd (some-ne-none b (sym e))
+at_snoc_end (x ∷ xs) a b zero e = inl e
+at_snoc_end (x ∷ xs) a b (suc j) e = ⊎_elim (λ h. inl h) (λ (h : (j ≡ length xs) × (a ≡ b)). inr (ap suc h.0, h.1)) (at_snoc_end xs a b j e)
+
+not_nil : (xs : List Note) (y : Note) (ys : List Note) → xs ++ y ∷ ys ≡ [] → ⊥
+not_nil [] y ys e = cc
+not_nil (x ∷ xs) y ys e = cc
+
+not_true : (b : Bool) → (b ≡ true → ⊥) → b ≡ false
+not_true true h = absurd (h refl)
+not_true false h = refl
+
+-- once a pass isn't blank, the plan is named
+running : (items : List Note) (views : List PassView) (id : ℕ) (v : PassView) → IsPosting items views → get_elem? views id ≡ some v → v.role ≢ Blank → IsRunning items views
+running items views id v (inl b) at not = absurd (not (sym (ap (λ (u : PassView). u.role) (only blank id v (subst (λ (l : List PassView). get_elem? l id ≡ some v) b.1 at)))))
+running items views id v (inr r) at not = r
+
+pub begins : IsPosting [] (blank ∷ [])
+begins = inl (refl, refl)
+
+spent_fits : (shared : Shared) (all : List Note) (id : ℕ) → Fits shared all id spent_pass
+spent_fits shared all id = record { not_blank = λ e. cc; sends = λ e. absurd (cc); takes = λ e. absurd (cc) }
+
+-- what fits holds as well of an equal number and an equal view
+fits_as : (shared : Shared) (all : List Note) (id j : ℕ) (v u : PassView) → j ≡ id → v ≡ u → Fits shared all id v → Fits shared all j u
+fits_as shared all id j v u same is fits = let P : ℕ × PassView → Type 0 = λ z. Fits shared all z.0 z.1 in subst P (λ i. (sym same i, is i)) fits
+
+abbrev first_shared : Planned → Shared
+first_shared plan = record { plan = plan; taker = 0; pass_of = λ _. 0; made = 0; received = [] }
+
+opened_fits : (plan : Planned) → Fits (first_shared plan) [] 0 (opened plan)
+opened_fits plan = record { not_blank = λ e. cc; sends = λ e. absurd (cc); takes = λ e. record { plan = refl; alone = refl; made = refl; received = refl; joined = refl; sent = refl } }
+
+open_first : (plan : Planned) (v : PassView) (id : ℕ) → get_elem? (blank ∷ []) id ≡ some v → IsPosting [] (set (blank ∷ []) id (opened plan) ++ spent_pass ∷ [])
+open_first plan v zero e =
+    let shared = first_shared plan in
+    inr record {
+      shared = shared;
+      honest = tt;
+      ended = λ _. tt;
+      unmade = λ _ _. refl;
+      fits = λ j u at'. ⊎_elim
+          (λ h. fits_as shared [] 0 j (opened plan) u (only_zero (opened plan) j u h) (only (opened plan) j u h) (opened_fits plan))
+          (λ (h : (j ≡ 1) × (spent_pass ≡ u)). fits_as shared [] j j spent_pass u refl h.1 (spent_fits shared [] j))
+          (at_snoc_end (opened plan ∷ []) spent_pass u j at');
+    }
+open_first plan v (suc k) e = absurd (some-ne-none v (sym e))
+
+pub opens : (id : ℕ) (v : PassView) (plan : Planned) → v ≡ blank → Forks IsPosting id v (opened plan) spent_pass
+opens id v plan is items views (inl b) at =
+    let first : get_elem? (blank ∷ []) id ≡ some v = subst (λ (l : List PassView). get_elem? l id ≡ some v) b.1 at in
+    let P : List Note × List PassView → Type 0 = λ z. IsPosting z.0 (set z.1 id (opened plan) ++ spent_pass ∷ []) in
+    subst P (λ i. (sym b.0 i, sym b.1 i)) (open_first plan v id first)
+opens id v plan is items views (inr r) at = absurd ((r.fits id v at).not_blank (ap (λ (u : PassView). u.role) is))
+
+pub hires : (id : ℕ) (v : PassView) → v.role ≡ Takes → v.worker ≡ no_worker → v.made < no_worker → Forks IsPosting id v (hiring v) (hired v)
+hires id v role none room items views rule at =
+    let r = running items views id v rule at (λ e. cc) in
+    let mine = (r.fits id v at).takes role in
+    let all = r.shared.received ++ items in
+    let views' = set views id (hiring v) in
+    let new = length views' in
+    let pass_of : ℕ → ℕ = λ k. cond (eqb k v.made) new (r.shared.pass_of k) in
+    let apart : (k : ℕ) → k ≢ v.made → pass_of k ≡ r.shared.pass_of k = λ k not. ap (λ (b : Bool). cond b new (r.shared.pass_of k)) (ne_eqb k v.made not) in
+    let shared : Shared = record r.shared { pass_of = pass_of; made = r.shared.made + 1 } in
+    let made = mine.made in
+    inr record {
+      shared = shared;
+      honest = r.honest;
+      ended = r.ended;
+      unmade = λ w le. r.unmade w (omega arith);
+      fits = λ j u at'. ⊎_elim
+          (λ old. ⊎_elim
+          (λ (h : (j ≡ id) × (hiring v ≡ u)). fits_as shared all id j (hiring v) u h.0 h.1 record {
+            not_blank = λ e. cc;
+            sends = λ e. absurd (cc);
+            takes = λ e. record { plan = mine.plan; alone = mine.alone; made = ap (λ (n : ℕ). n + 1) made; received = mine.received; joined = apart v.worker (λ is. omega arith) ∙ mine.joined; sent = mine.sent };
+          })
+          (λ (h : (j ≢ id) × (get_elem? views j ≡ some u)). let f = r.fits j u h.1 in record {
+            not_blank = f.not_blank;
+            sends = λ s. let g = f.sends s in let lower = g.hired in record { plan = g.plan; alone = apart u.worker (λ is. omega arith) ∙ g.alone; hired = omega arith; sent = g.sent };
+            takes = λ t. let g = f.takes t in absurd (h.0 (sym g.alone ∙ mine.alone));
+          })
+          (at_set views id j (hiring v) u old))
+          (λ (h : (j ≡ new) × (hired v ≡ u)). fits_as shared all new j (hired v) u h.0 h.1 record {
+            not_blank = λ e. cc;
+            sends = λ e. record { plan = mine.plan; alone = ap (λ (b : Bool). cond b new (r.shared.pass_of v.made)) (eq-eqb v.made v.made refl); hired = omega arith; sent = sym (r.unmade v.made (omega arith)) };
+            takes = λ e. absurd (cc);
+          })
+          (at_snoc_end views' (hired v) u j at');
+    }
+
+pub sends_one : (n id : ℕ) (v : PassView) (x : Note) → v.role ≡ Sends → worker_of x ≡ v.worker → IsHonestNote v.plan x → has_end v.sent ≡ false → Pushes IsPosting n id v x (Sending v x)
+sends_one n id v x role own honest going items views _ rule at =
+    let r = running items views id v rule at (λ e. cc) in
+    let mine = (r.fits id v at).sends role in
+    let all = r.shared.received ++ items in
+    let same : all ++ x ∷ [] ≡ r.shared.received ++ (items ++ x ∷ []) = append_assoc r.shared.received items (x ∷ []) in
+    let w = sender v.plan v.worker (v.sent ++ x ∷ []) in
+    let not_others : (k : ℕ) → k ≢ v.worker → notes_of k (all ++ x ∷ []) ≡ notes_of k all = λ k not. of_push_other k all x (λ is. not (sym is ∙ own)) in (
+      w,
+      inr record {
+        shared = r.shared;
+        honest = subst (AreHonestNotes r.shared.plan) same (honest_push r.shared.plan all x r.honest (subst (λ (p : Planned). IsHonestNote p x) mine.plan honest));
+        ended = λ k. subst (λ (l : List Note). NothingFollowsEnd (notes_of k l)) same (dite (ℕ_discrete k v.worker)
+            (λ is. subst NothingFollowsEnd (sym (of_push_same k all x (own ∙ sym is))) (ends_push (notes_of k all) x (r.ended k) (ap has_end (ap (λ (q : ℕ). notes_of q all) is ∙ sym mine.sent) ∙ going)))
+            (λ not. subst NothingFollowsEnd (sym (not_others k not)) (r.ended k)));
+        unmade = λ k le. subst (λ (l : List Note). notes_of k l ≡ []) same (not_others k (λ is. let lower = mine.hired in omega arith) ∙ r.unmade k le);
+        fits = λ j u at'. subst (λ (l : List Note). Fits r.shared l j u) same (⊎_elim
+            (λ (h : (j ≡ id) × (w ≡ u)). fits_as r.shared (all ++ x ∷ []) id j w u h.0 h.1 record {
+              not_blank = λ e. cc;
+              sends = λ e. record { plan = mine.plan; alone = mine.alone; hired = mine.hired; sent = ap (λ (l : List Note). l ++ x ∷ []) mine.sent ∙ sym (of_push_same v.worker all x own) };
+              takes = λ e. absurd (cc);
+            })
+            (λ (h : (j ≢ id) × (get_elem? views j ≡ some u)). let f = r.fits j u h.1 in record {
+              not_blank = f.not_blank;
+              sends = λ s. let g = f.sends s in record { plan = g.plan; alone = g.alone; hired = g.hired; sent = g.sent ∙ sym (not_others u.worker (λ is. h.0 (sym g.alone ∙ ap r.shared.pass_of is ∙ mine.alone))) };
+              takes = λ t. let g = f.takes t in record { plan = g.plan; alone = g.alone; made = g.made; received = g.received; joined = g.joined; sent = g.sent ∙ sym (not_others u.worker (λ is. h.0 (sym g.joined ∙ ap r.shared.pass_of is ∙ mine.alone))) };
+            })
+            (at_set views id j w u at'));
+      },
+      refl,
+    )
+
+pub takes_one : (id : ℕ) (v : PassView) → v.role ≡ Takes → Pops IsPosting id v (Taking v)
+takes_one id v role x items views rule at =
+    let r = running (x ∷ items) views id v rule at (λ e. cc) in
+    let mine = (r.fits id v at).takes role in
+    let received = r.shared.received in
+    let all = received ++ x ∷ items in
+    let same : all ≡ (received ++ x ∷ []) ++ items = sym (append_assoc received (x ∷ []) items) in
+    let k = worker_of x in
+    let here = of_here k received x items refl in
+    let w = taker v.plan v.made (v.received ++ x ∷ []) v.worker v.sent in
+    let shared : Shared = record r.shared { received = received ++ x ∷ [] } in
+    let made = mine.made in (
+      w,
+      inr record {
+        shared = shared;
+        honest = subst (AreHonestNotes r.shared.plan) same r.honest;
+        ended = λ q. subst (λ (l : List Note). NothingFollowsEnd (notes_of q l)) same (r.ended q);
+        unmade = λ q le. subst (λ (l : List Note). notes_of q l ≡ []) same (r.unmade q le);
+        fits = λ j u at'. subst (λ (l : List Note). Fits shared l j u) same (⊎_elim
+            (λ (h : (j ≡ id) × (w ≡ u)). fits_as shared all id j w u h.0 h.1 record {
+              not_blank = λ e. cc;
+              sends = λ e. absurd (cc);
+              takes = λ e. record { plan = mine.plan; alone = mine.alone; made = made; received = ap (λ (l : List Note). l ++ x ∷ []) mine.received; joined = mine.joined; sent = mine.sent };
+            })
+            (λ (h : (j ≢ id) × (get_elem? views j ≡ some u)). let f = r.fits j u h.1 in record {
+              not_blank = f.not_blank;
+              sends = λ s. let g = f.sends s in record { plan = g.plan; alone = g.alone; hired = g.hired; sent = g.sent };
+              takes = λ t. let g = f.takes t in absurd (h.0 (sym g.alone ∙ mine.alone));
+            })
+            (at_set views id j w u at'));
+      },
+      record {
+        view = refl;
+        honest = subst (λ (p : Planned). IsHonestNote p x) (sym mine.plan) (honest_at r.shared.plan received x items r.honest);
+        hired = dite (dec_lt k v.made) (λ lt. lt) (λ not. absurd (not_nil (notes_of k received) x (notes_of k items) (sym here ∙ r.unmade k (omega arith))));
+        going = not_true (has_end (notes_of k v.received)) (λ some_end. not_nil [] x (notes_of k items) (ends_here (notes_of k received) (x ∷ notes_of k items) (subst NothingFollowsEnd here (r.ended k)) (ap (λ (l : List Note). has_end (notes_of k l)) (sym mine.received) ∙ some_end)));
+      },
+    )
+
+pub joins : (id : ℕ) (v : PassView) (other : ℕ) (w : PassView) → v.role ≡ Takes → w.role ≡ Sends → Merges IsPosting id v other w (joined v w) spent_pass
+joins id v other w role role' items views rule at apart at' =
+    let r = running items views id v rule at (λ e. cc) in
+    let mine = (r.fits id v at).takes role in
+    let all = r.shared.received ++ items in
+    let both = joined v w in
+    let was : get_elem? views other ≡ some w = ⊎_elim (λ (h : (other ≡ id) × (both ≡ w)). absurd (apart h.0)) (λ (h : (other ≢ id) × (get_elem? views other ≡ some w)). h.1) (at_set views id other both w at') in
+    let theirs = (r.fits other w was).sends role' in
+    let pass_of : ℕ → ℕ = λ k. cond (eqb k w.worker) id (r.shared.pass_of k) in
+    let here : pass_of w.worker ≡ id = ap (λ (b : Bool). cond b id (r.shared.pass_of w.worker)) (eq-eqb w.worker w.worker refl) in
+    let else_where : (k : ℕ) → k ≢ w.worker → pass_of k ≡ r.shared.pass_of k = λ k not. ap (λ (b : Bool). cond b id (r.shared.pass_of k)) (ne_eqb k w.worker not) in
+    let shared : Shared = record r.shared { pass_of = pass_of } in
+    inr record {
+      shared = shared;
+      honest = r.honest;
+      ended = r.ended;
+      unmade = r.unmade;
+      fits = λ j u at''. ⊎_elim
+          (λ (h : (j ≡ other) × (spent_pass ≡ u)). fits_as shared all j j spent_pass u refl h.1 (spent_fits shared all j))
+          (λ (h : (j ≢ other) × (get_elem? (set views id both) j ≡ some u)). ⊎_elim
+          (λ (g : (j ≡ id) × (both ≡ u)). fits_as shared all id j both u g.0 g.1 record {
+            not_blank = λ e. cc;
+            sends = λ e. absurd (cc);
+            takes = λ e. record { plan = mine.plan; alone = mine.alone; made = mine.made; received = mine.received; joined = here; sent = theirs.sent };
+          })
+          (λ (g : (j ≢ id) × (get_elem? views j ≡ some u)). let f = r.fits j u g.1 in record {
+            not_blank = f.not_blank;
+            sends = λ s. let p = f.sends s in record { plan = p.plan; alone = else_where u.worker (λ is. h.0 (sym p.alone ∙ ap r.shared.pass_of is ∙ theirs.alone)) ∙ p.alone; hired = p.hired; sent = p.sent };
+            takes = λ t. let p = f.takes t in absurd (g.0 (sym p.alone ∙ mine.alone));
+          })
+          (at_set views id j both u h.1))
+          (at_set (set views id both) other j spent_pass u at'');
+    }
+
+pub whole : (id : ℕ) (v : PassView) → v.role ≡ Takes → Learns IsPosting id v (λ items. IsWhole v)
+whole id v role items views rule at some_end =
+    let r = running items views id v rule at (λ e. cc) in
+    let mine = (r.fits id v at).takes role in
+    let received = r.shared.received in
+    let k = v.worker in
+    let split = notes_of-append k received items in
+    let same = ap (λ (l : List Note). notes_of k l) mine.received in
+    let rest : notes_of k items ≡ [] = ends_here (notes_of k received) (notes_of k items) (subst NothingFollowsEnd split (r.ended k)) (ap has_end (sym same) ∙ some_end) in
+    sym (mine.sent ∙ split ∙ ap (λ (l : List Note). notes_of k received ++ l) rest ∙ append-nil (notes_of k received) ∙ sym same)

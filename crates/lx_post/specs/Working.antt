@@ -1,0 +1,61 @@
+-- What a worker has drawn and sent, in its work and at its end.
+use Rattle.std.specs.Prelude.{◌≡◌, ◌<◌, ◌≤◌, ℕ, true, false, List, [], ◌∷◌, ◌++◌, Option, None, All, Contains, length}
+use Rattle.lx_piece.specs.Plans.{Planned}
+use Rattle.lx_piece.specs.Pieces.{piece_at}
+use Rattle.lx_piece.specs.Relayed.{AreAllAmong}
+use Rattle.lx_post.specs.declared.job.Job.{Job}
+use Rattle.lx_post.specs.declared.note.Note.{Note}
+use Rattle.lx_post.specs.declared.note.Note.TheVariants.{End as note_end}
+use Rattle.lx_post.specs.declared.note.WorkerFault.{WorkerFault}
+use Rattle.lx_post.specs.Claimed.{Claimed, Drawn, fresh_seat, times}
+use Rattle.lx_post.specs.Notes.{has_end, pieces_among}
+use Rattle.lx_post.specs.Posted.{Posted, Sent, fresh_send}
+
+-- the pass sends to this post for this plan, and hasn't ended
+pub record IsGoing (post : Posted) (plan : Planned) (pass : Sent) : Type 0 where
+  pub queue : pass.queue ≡ post.queue
+  pub plan_of : pass.plan ≡ plan
+  pub going : has_end pass.sent ≡ false
+
+-- the first pieces of the file, this many, were sent by this pass
+pub record HasSentTo (plan : Planned) (file count : ℕ) (pass : Sent) : Type 0 where
+  pub each : (number : ℕ) → number < count → Contains (pieces_among pass.sent) (piece_at plan file number)
+
+-- every piece of the file was sent by this pass
+pub record HasSent (plan : Planned) (file : ℕ) (pass : Sent) : Type 0 where
+  pub all : AreAllAmong plan file (pieces_among pass.sent)
+
+-- between one state of a pass and a later one pieces alone were sent
+pub record SendsPieces (old new : Sent) : Type 0 where
+  pub notes : List Note
+  pub pass : new ≡ record old { sent = old.sent ++ notes }
+  pub pieces : has_end notes ≡ false
+
+-- the list is no longer than any number above all in it
+abbrev pub IsSparse : List ℕ → Type 0
+IsSparse xs = (n : ℕ) → All (λ x. x < n) xs → length xs ≤ n
+
+-- The seat drew this many files, and every piece of each of them was sent.
+pub record HasDrawn (plan : Planned) (files : ℕ) (seat : Drawn) (pass : Sent) : Type 0 where
+  pub count : files ≡ length seat.drawn
+  pub sparse : IsSparse seat.drawn
+  pub sent : (file : ℕ) → 0 < times file seat.drawn → HasSent plan file pass
+
+-- a worker that hasn't begun
+pub record IsReady (claims : Claimed) (post : Posted) (plan : Planned) (job : Job) : Type 0 where
+  pub seat : job.seat ≡ fresh_seat claims
+  pub pass : job.pass ≡ fresh_send post plan job.pass.worker
+  pub worker : job.pass.worker < post.workers
+
+-- A worker that ended: pieces and at last its end were sent. Where that has no fault, it drew until it was answered that no file is left, the end has the number of the
+-- files that it drew, and every piece of each was sent.
+pub record HasWorked (old new : Job) : Type 0 where
+  pub word : new.seat.word ≡ old.seat.word
+  pub total : new.seat.files ≡ old.seat.files
+  pub before : List Note
+  pub files : ℕ
+  pub fault : Option WorkerFault
+  pub pieces : has_end before ≡ false
+  pub pass : new.pass ≡ record old.pass { sent = before ++ note_end old.pass.worker files fault ∷ [] }
+  pub done : fault ≡ None → new.seat.done ≡ true
+  pub drawn : fault ≡ None → HasDrawn old.pass.plan files new.seat new.pass

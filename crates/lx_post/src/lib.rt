@@ -1,0 +1,28 @@
+//! Numbers of files that threads draw, each once, and the post by which they send the pieces of these files
+//! to the thread that hands them on.
+#![tactic(auto)]
+
+mod claim_seat;
+mod claims;
+mod draw_rule;
+mod finishing;
+mod gate;
+mod job;
+mod meeting_gate;
+mod note;
+mod passes;
+mod patience;
+mod post;
+mod post_arrivals;
+mod post_rule;
+mod working;
+
+pub use claim_seat::ClaimSeat;
+pub use claims::{Claims, Unsettled};
+pub use finishing::{Unfinished, finish};
+pub use gate::{Gate, OpenGate};
+pub use meeting_gate::MeetingGate;
+pub use note::{Note, WorkerFault};
+pub use passes::{SendPass, TakePass};
+pub use post::Post;
+pub use post_arrivals::PostArrivals;

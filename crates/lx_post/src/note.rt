@@ -1,0 +1,25 @@
+use lx_piece::Piece;
+use thiserror::Error;
+
+/// Why a worker ended before its files did.
+#[derive(Clone, Copy, Debug, PartialEq, Eq, Error)]
+pub enum WorkerFault {
+    #[error("out of memory")]
+    Memory,
+}
+
+/// What a worker sends.
+#[derive(Debug, Drop)]
+pub enum Note {
+    /// A piece, as it was cut.
+    Piece {
+        worker: u8,
+        piece: Piece,
+    },
+    /// The worker's last note, with the number of files that it finished.
+    End {
+        worker: u8,
+        files: u32,
+        fault: Option<WorkerFault>,
+    },
+}

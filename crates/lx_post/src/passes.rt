@@ -1,0 +1,78 @@
+//! With what workers send notes, and the thread that hands pieces on takes them.
+ghost use Rattle.std.specs.Prelude.{◌≡◌, ◌↔◌, IsTrue};
+ghost use Rattle.lx_post.specs.Posted.{AllEnded};
+
+use crate::note::Note;
+use crate::post_rule::PassView;
+use crossbeam_queue::Pass;
+use std::marker::Model;
+
+/// The right of one worker to send notes. Contracts see what it sent.
+#[derive(Drop)]
+pub struct SendPass {
+    pub(crate) pass: Pass<Note, PassView>,
+    pub(crate) worker: u8,
+}
+
+impl Model for SendPass {
+    ghost use Rattle.std.specs.Prelude.{◌≡◌, []};
+    ghost use Rattle.crossbeam_queue.specs.Passes.{view as known};
+    ghost use Rattle.lx_post.specs.Posting.{sender};
+    ghost use Rattle.lx_post.specs.Posted.{Sent};
+
+    ghost Value = { Sent };
+
+    ghost view = { λ p. record { queue = p.pass.table_id; plan = (known p.pass).plan; worker = p.worker; sent = (known p.pass).sent } };
+
+    ghost invariant = { λ p. (p.pass.me.1 ≡ []) × (known p.pass ≡ sender (known p.pass).plan p.worker (known p.pass).sent) };
+}
+
+/// The right to receive notes. Contracts see what was received.
+#[derive(Drop)]
+pub struct TakePass {
+    pub(crate) pass: Pass<Note, PassView>,
+    pub(crate) workers: u8,
+    // Of each worker: its end was received.
+    pub(crate) ended: [bool; 8],
+}
+
+impl Model for TakePass {
+    ghost use Rattle.std.specs.Prelude.{◌≡◌, ◌≤◌, ◌<◌, ℕ, [], false, slice_index_or};
+    ghost use Rattle.crossbeam_queue.specs.Passes.{view as known};
+    ghost use Rattle.lx_post.specs.Notes.{notes_of, has_end};
+    ghost use Rattle.lx_post.specs.Posting.{taker};
+    ghost use Rattle.lx_post.specs.Posted.{Taken};
+
+    ghost Value = { Taken };
+
+    ghost view = { λ p. record { queue = p.pass.table_id; plan = (known p.pass).plan; workers = p.workers; received = (known p.pass).received } };
+
+    ghost invariant = { λ p.
+        (p.pass.me.1 ≡ [])
+        × (known p.pass ≡ taker (known p.pass).plan p.workers (known p.pass).received (known p.pass).worker (known p.pass).sent)
+        × (p.workers ≤ 8)
+        × ((w : ℕ) → w < 8 → slice_index_or p.ended w false ≡ has_end (notes_of w (known p.pass).received)) };
+}
+
+impl SendPass {
+    // Whose notes it sends.
+    pub(crate) fn worker(&self) -> u8
+        ensures { result ≡ self.now.worker }
+    {
+        self.worker
+    }
+}
+
+impl TakePass {
+    // Whether every worker's end was received.
+    pub(crate) fn all_ended(&self) -> bool
+        ensures { IsTrue result ↔ AllEnded self.now }
+    {
+        for w in 0..usize::from(self.workers) {
+            if !self.ended[w] {
+                return false;
+            }
+        }
+        true
+    }
+}
