@@ -1,22 +1,15 @@
 //! Files whose reading failed: they are listed as far as they were read, which is said on the output and on the error stream.
 
-use crate::running::status_of;
+use crate::running::status_with_cut;
 use crate::table_texts::{THREE_RULES, THREE_RULES_TEXTS};
 use crate::writers::{Unflushed, failing_writer};
-use lx_tool::ListSources;
 use std::alloc::AllocError;
 use std::io::Write;
 use std::process::Abort;
 
-/// The status of a run over small files, of which those with these names are cut.
-fn status<R: AllocGlobal, O: Write, E: Write>(
-    rt: &R,
-    words: &[&str],
-    cut: &[&str],
-    out: &mut O,
-    err: &mut E,
-) -> Result<u8, AllocError> {
-    let files: [(&str, &[u8]); 7] = [
+/// Specifications, tables and files by their names.
+fn files() -> [(&'static str, &'static [u8]); 7] {
+    [
         ("S", THREE_RULES.as_bytes()),
         ("refused", b"%%\na/b ;\n"),
         ("T", THREE_RULES_TEXTS.0.as_bytes()),
@@ -24,9 +17,7 @@ fn status<R: AllocGlobal, O: Write, E: Write>(
         ("a", b"a"),
         ("empty", b""),
         ("lines", b"1\n2"),
-    ];
-    let mut sources = ListSources::with_cut(&files, cut);
-    status_of(rt, words, &mut sources, out, err)
+    ]
 }
 
 /// The words of a run, the files that are cut, and its status, output and lines on the error stream.
@@ -40,10 +31,11 @@ type Row = (
 
 /// Asserts that such runs end so.
 fn expect<R: Abort + AllocGlobal>(rt: &R, rows: &[Row]) -> Result<(), AllocError> {
+    let files = files();
     for (words, cut, wanted, listing, lines) in rows {
         let mut out: Vec<u8> = Vec::new(rt.alloc());
         let mut err: Vec<u8> = Vec::new(rt.alloc());
-        let ended = status(rt, words, cut, &mut out, &mut err)?;
+        let ended = status_with_cut(rt, words, &files, cut, &mut out, &mut err)?;
         assert_eq!(rt; ended, *wanted, "{words:?}");
         assert_eq!(rt; out.as_slice(), listing.as_bytes(), "{words:?}");
         assert_eq!(rt; err.as_slice(), lines.as_bytes(), "{words:?}");
@@ -162,42 +154,40 @@ fn other_faults_come_before_cut_files(rt: HostRuntime) -> Result<(), AllocError>
     )
 }
 
-#[test]
-fn an_output_that_fails_is_all_that_is_said(rt: HostRuntime) -> Result<(), AllocError> {
-    let lines = [
-        "",
-        "0 T ID 1 0 2 ab\n",
-        "0 T ID 1 0 2 ab\n0 T NUM 1 3 2 12\n",
-    ];
-    for (call, written) in (1..).zip(lines) {
-        let mut out = failing_writer(rt.alloc(), 4_096, call, false);
-        let mut err: Vec<u8> = Vec::new(rt.alloc());
-        let ended = status(&rt, &["run", "S", "words"], &["words"], &mut out, &mut err)?;
-        assert_eq!(rt;
-            (ended, err.as_slice()),
-            (4, b"lx: cannot write\n".as_slice())
-        );
-        assert_eq!(rt; out.held.as_slice(), written.as_bytes());
-    }
-    let mut out = Unflushed {
-        bytes: Vec::new(rt.alloc()),
-    };
+/// Asserts that a run over the cut file `words` whose output fails says that and nothing else.
+fn fails<R: Abort + AllocGlobal, O: Write>(rt: &R, out: &mut O) -> Result<(), AllocError> {
     let mut err: Vec<u8> = Vec::new(rt.alloc());
-    let ended = status(&rt, &["run", "S", "words"], &["words"], &mut out, &mut err)?;
-    assert_eq!(rt;
-        (ended, err.as_slice()),
-        (4, b"lx: cannot write\n".as_slice())
-    );
+    let words = ["run", "S", "words"];
+    let ended = status_with_cut(rt, &words, &files(), &["words"], out, &mut err)?;
+    let said = b"lx: cannot write\n".as_slice();
+    assert_eq!(rt; (ended, err.as_slice()), (4, said));
     Ok(())
 }
 
 #[test]
+fn an_output_that_fails_is_all_that_is_said(rt: HostRuntime) -> Result<(), AllocError> {
+    let lines = [
+        (1, ""),
+        (2, "0 T ID 1 0 2 ab\n"),
+        (3, "0 T ID 1 0 2 ab\n0 T NUM 1 3 2 12\n"),
+    ];
+    for (call, written) in lines {
+        let mut out = failing_writer(rt.alloc(), 4_096, call, false);
+        fails(&rt, &mut out)?;
+        assert_eq!(rt; out.held.as_slice(), written.as_bytes());
+    }
+    let bytes = Vec::new(rt.alloc());
+    fails(&rt, &mut Unflushed { bytes })
+}
+
+#[test]
 fn an_error_stream_that_fails_changes_no_status(rt: HostRuntime) -> Result<(), AllocError> {
+    let words = ["run", "S", "words", "empty"];
+    let cut = ["words", "empty"];
     for call in [1, 2] {
         let mut out: Vec<u8> = Vec::new(rt.alloc());
         let mut err = failing_writer(rt.alloc(), 4_096, call, false);
-        let words = ["run", "S", "words", "empty"];
-        let ended = status(&rt, &words, &["words", "empty"], &mut out, &mut err)?;
+        let ended = status_with_cut(&rt, &words, &files(), &cut, &mut out, &mut err)?;
         let listing = format!(in rt.alloc(); "{WORDS}1 ! cut\n")?;
         assert_eq!(rt; (ended, out.as_slice()), (3, listing.as_bytes()));
     }

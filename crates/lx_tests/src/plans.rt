@@ -1,7 +1,6 @@
 //! Plans of files by the tables of small specifications, and their pieces.
 
 ghost use Rattle.std.specs.Prelude.{◌≡◌, ◌<◌, ◌≤◌, IfOk, length, vec_len};
-ghost use Rattle.lx_piece.specs.Plans.{files_of};
 ghost use Rattle.lx_piece.specs.Arrivals.{AreHonest};
 
 use lx_piece::{Cutter, Input, Items, Mark, Piece, Plan};

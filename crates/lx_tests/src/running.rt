@@ -38,6 +38,18 @@ pub(crate) fn status_over<R: AllocGlobal, O: Write, E: Write>(
     status_of(rt, words, &mut ListSources::new(files), out, err)
 }
 
+/// The status of such a run over these files, of which those with these names are cut.
+pub(crate) fn status_with_cut<R: AllocGlobal, O: Write, E: Write>(
+    rt: &R,
+    words: &[&str],
+    files: &[(&str, &[u8])],
+    cut: &[&str],
+    out: &mut O,
+    err: &mut E,
+) -> Result<u8, AllocError> {
+    status_of(rt, words, &mut ListSources::with_cut(files, cut), out, err)
+}
+
 /// What a run of the program left.
 #[derive(Drop)]
 pub(crate) struct Ran {
