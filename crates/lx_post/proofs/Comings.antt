@@ -6,7 +6,7 @@ use Rattle.lx_post.specs.declared.note.Note.{Note}
 use Rattle.lx_post.specs.declared.note.Note.TheVariants.{Piece as note_piece, End as note_end}
 use Rattle.lx_post.specs.declared.note.WorkerFault.{WorkerFault}
 use Rattle.lx_post.specs.Notes.{fault_with, first_fault, pieces_among}
-use Rattle.lx_post.specs.Posted.{Taken, Arriving, CameBetween, with_arrival}
+use Rattle.lx_post.specs.Posted.{Arriving, CameBetween, with_arrival}
 use Rattle.lx_post.specs.Arrived.{came_on}
 
 -- what was received since then has the note as its last

@@ -1,6 +1,6 @@
 -- Each step on the word keeps the rule of the draws.
-use Rattle.std.proofs.Common.{◌≡◌, ◌≢◌, ◌⊎◌, inl, inr, ⊎_elim, ℕ, zero, suc, ◌+◌, ◌-◌, ◌%◌, ◌^◌, ◌<◌, ◌≤◌, List, [], ◌∷◌, ◌++◌, length, set, get_or, sym, refl, ap, ◌∙◌, subst, arith, All, length-set, get_or-set_same, min, cond, eqb, ltb, true, false}
-use Rattle.std.specs.List.{sum_by, count_by}
+use Rattle.std.proofs.Common.{◌≡◌, ◌≢◌, ⊎_elim, ℕ, zero, suc, ◌+◌, ◌%◌, ◌^◌, ◌<◌, ◌≤◌, List, [], ◌∷◌, ◌++◌, length, set, get_or, sym, refl, ap, ◌∙◌, subst, arith, All, length-set, get_or-set_same, min, cond, eqb}
+use Rattle.std.specs.List.{sum_by}
 use Rattle.std.proofs.lemmas.List.Sums.{sum_by-cons, sum_by_push, sum_by-append}
 use Rattle.std.proofs.lemmas.List.Elements.{All-nil, All-cons}
 use Rattle.std.proofs.lemmas.Bool.Decides.{nat_tests}
@@ -13,7 +13,7 @@ use Rattle.atomic_table.proofs.Lists.{at_set, at_snoc, set_again}
 use Rattle.lx_post.specs.declared.draw_rule.SeatView.{SeatView}
 use Rattle.lx_post.specs.Claimed.{times, once_below}
 use Rattle.lx_post.specs.Draws.{seat_view, IsFair, AreDrawnOnce, one_part_less, one_part, together, spent_seat, Draws, Counts}
-use Rattle.lx_post.proofs.ViewSums.{sum_set, two_le_sum, sum_le_sum, sum_alone, sum_none}
+use Rattle.lx_post.proofs.ViewSums.{sum_set, two_le_sum, sum_le_sum, sum_alone}
 
 abbrev St : Type 0
 St = State (Unit {0}) SeatView

@@ -1,5 +1,5 @@
 -- The notes of one worker in a longer list, what follows an end, and the flags of the workers that ended.
-use Rattle.std.proofs.Common.{◌≡◌, ◌≢◌, ◌⊎◌, inl, inr, ⊎_elim, ℕ, zero, suc, ◌+◌, ◌<◌, ◌≤◌, List, [], ◌∷◌, ◌++◌, length, set, sym, refl, ap, ◌∙◌, subst, arith, Option, cond, eqb, eq-eqb, ne_eqb, Bool, true, false, ◌||◌, append_assoc, true≢false, get_or, get_or-set_same, get_or-set_other}
+use Rattle.std.proofs.Common.{◌≡◌, ◌≢◌, ℕ, ◌<◌, List, [], ◌∷◌, ◌++◌, length, set, sym, refl, ap, ◌∙◌, subst, arith, Option, cond, eqb, eq-eqb, ne_eqb, Bool, true, false, ◌||◌, true≢false, get_or, get_or-set_same, get_or-set_other}
 use mathlib.Core.Logic.{dite}
 use native.Mathlib.Decide.{ℕ_discrete}
 use Rattle.std.proofs.lemmas.List.Elements.{filter-append}
@@ -10,7 +10,7 @@ use Rattle.lx_post.specs.declared.note.Note.TheVariants.{Piece as note_piece, En
 use Rattle.lx_post.specs.declared.post_rule.PassView.{PassView}
 use Rattle.lx_post.specs.Posting.{taker}
 use Rattle.lx_piece.specs.Plans.{Planned}
-use Rattle.lx_post.specs.Notes.{worker_of, is_end, IsHonestNote, AreHonestNotes, notes_of, has_end, NothingFollowsEnd, pieces_among, first_fault}
+use Rattle.lx_post.specs.Notes.{worker_of, is_end, IsHonestNote, AreHonestNotes, notes_of, has_end, NothingFollowsEnd}
 
 pub notes_of-append : (w : ℕ) (xs ys : List Note) → notes_of w (xs ++ ys) ≡ notes_of w xs ++ notes_of w ys
 notes_of-append w xs ys = filter-append (λ n. eqb (worker_of n) w) xs ys

@@ -5,7 +5,6 @@ use lib.ListN.{get_elem?}
 use Rattle.lx_piece.specs.Plans.{Planned}
 use Rattle.lx_post.specs.declared.note.Note.{Note}
 use Rattle.lx_post.specs.declared.post_rule.PassView.{PassView}
-use Rattle.lx_post.specs.declared.post_rule.Role.{Role}
 use Rattle.lx_post.specs.declared.post_rule.Role.TheVariants.{Blank, Sends, Takes, Spent}
 use Rattle.lx_post.specs.Notes.{worker_of, IsHonestNote, AreHonestNotes, notes_of, has_end, NothingFollowsEnd}
 

@@ -7,7 +7,7 @@ use Rattle.lx_post.specs.declared.job.Job.{Job}
 use Rattle.lx_post.specs.declared.note.Note.{Note}
 use Rattle.lx_post.specs.declared.note.Note.TheVariants.{End as note_end}
 use Rattle.lx_post.specs.declared.note.WorkerFault.{WorkerFault}
-use Rattle.lx_post.specs.Claimed.{Claimed, Drawn, IsSeatOf, fresh_seat, times}
+use Rattle.lx_post.specs.Claimed.{Claimed, Drawn, fresh_seat, times}
 use Rattle.lx_post.specs.Notes.{has_end, pieces_among}
 use Rattle.lx_post.specs.Posted.{Posted, Sent, fresh_send}
 

@@ -1,4 +1,4 @@
-use Rattle.std.proofs.Common.{◌≡◌, ◌<◌, ◌≤◌, ℕ, List, inl, inr, sym, ap, subst, ◌∙◌, true≢false, arith}
+use Rattle.std.proofs.Common.{◌≡◌, ◌<◌, List, inr, sym, ap, subst, arith}
 use Rattle.std.specs.Prelude.{Any}
 use Rattle.lx_post.specs.Posted.{Sent, Taken}
 use Rattle.lx_post.proofs.finishing.finish.Goals as goal

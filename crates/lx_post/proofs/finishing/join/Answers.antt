@@ -1,4 +1,4 @@
-use Rattle.std.proofs.Common.{◌≡◌, ap, sym, ◌∙◌}
+use Rattle.std.proofs.Common.{ap}
 use Rattle.crossbeam_queue.specs.Passes.{view}
 use Rattle.lx_post.specs.declared.post_rule.PassView.{PassView}
 use Rattle.lx_post.proofs.PostSteps.{joins, whole}

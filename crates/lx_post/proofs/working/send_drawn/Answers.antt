@@ -1,4 +1,4 @@
-use Rattle.std.proofs.Common.{◌≡◌, ◌∙◌, sym, ap, subst}
+use Rattle.std.proofs.Common.{◌∙◌, ap}
 use Rattle.lx_post.specs.Claimed.{Drawn}
 use Rattle.lx_post.proofs.Sendings.{sends_on, goes_on, drawn_same, drawn_one}
 use Rattle.lx_post.proofs.working.send_drawn.Goals as goal

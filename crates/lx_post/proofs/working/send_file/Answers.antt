@@ -1,4 +1,4 @@
-use Rattle.std.proofs.Common.{◌≡◌, ◌∙◌, sym, ap, subst}
+use Rattle.std.proofs.Common.{◌∙◌, sym, ap, subst}
 use Rattle.lx_piece.specs.Pieces.{piece_at}
 use Rattle.lx_post.specs.Working.{HasSent}
 use Rattle.lx_post.proofs.Sendings.{may_send_piece, sent_last}

@@ -1,6 +1,5 @@
-use Rattle.std.proofs.Common.{◌≡◌, ℕ, ◌+◌, List, [], ◌++◌, sym, ap, ◌∙◌, arith, length}
+use Rattle.std.proofs.Common.{◌≡◌, ℕ, ◌+◌, List, [], ap, arith}
 use Rattle.std.specs.List.{sum_by}
-use Rattle.std.specs.Option.{option_to_list}
 use Rattle.lx_post.specs.Claimed.{times, once_below}
 use Rattle.lx_post.specs.Claimed.{Drawn}
 use Rattle.lx_post.proofs.claims.Claims.count.Goals as goal

@@ -1,4 +1,4 @@
-use Rattle.std.proofs.Common.{◌≡◌, ℕ, ◌<◌, ◌≤◌, ◌+◌, All, true, length, vec_len}
+use Rattle.std.proofs.Common.{◌≡◌, ℕ, ◌<◌, ◌≤◌, ◌+◌, All, true, vec_len}
 use Rattle.std.specs.List.{sum_by}
 use Rattle.lx_post.specs.Claimed.{times}
 use Rattle.lx_post.specs.Claimed.{Drawn, IsSeatOf}

@@ -1,4 +1,4 @@
-use Rattle.std.proofs.Common.{◌≡◌, ◌∙◌, sym, ap, arith}
+use Rattle.std.proofs.Common.{◌∙◌, sym, ap, arith}
 use Rattle.lx_post.specs.Claimed.{Claimed, Drawn}
 use Rattle.lx_post.proofs.DrawSteps.{draws}
 use Rattle.lx_post.proofs.claims.Claims.draw.Goals as goal

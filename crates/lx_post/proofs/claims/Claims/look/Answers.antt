@@ -1,4 +1,4 @@
-use Rattle.std.proofs.Common.{◌≡◌, ◌≤◌, ◌∙◌, sym, ap, arith}
+use Rattle.std.proofs.Common.{◌≤◌, ◌∙◌, sym, ap, arith}
 use Rattle.lx_post.specs.Claimed.{Claimed}
 use Rattle.lx_post.proofs.DrawSteps.{counts}
 use Rattle.lx_post.proofs.claims.Claims.look.Goals as goal

@@ -1,6 +1,6 @@
-use Rattle.std.proofs.Common.{◌≡◌, ◌∙◌, sym, ap, arith}
+use Rattle.std.proofs.Common.{◌∙◌, sym, ap, arith}
 use Rattle.lx_post.specs.declared.draw_rule.SeatView.{SeatView}
-use Rattle.lx_post.specs.Claimed.{Claimed, Drawn}
+use Rattle.lx_post.specs.Claimed.{Claimed}
 use Rattle.atomic_table.specs.Table.{Me}
 use Rattle.lx_post.proofs.DrawSteps.{splits}
 use Rattle.lx_post.proofs.claims.Claims.split.Goals as goal

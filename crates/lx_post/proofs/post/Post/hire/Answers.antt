@@ -1,4 +1,4 @@
-use Rattle.std.proofs.Common.{◌≡◌, ap, sym, ◌∙◌, arith, ◌<◌}
+use Rattle.std.proofs.Common.{ap, arith, ◌<◌}
 use Rattle.crossbeam_queue.specs.Passes.{view}
 use Rattle.lx_post.specs.declared.post_rule.PassView.{PassView}
 use Rattle.lx_post.specs.Posting.{no_worker}

@@ -1,6 +1,5 @@
-use Rattle.std.proofs.Common.{◌≡◌, ℕ, ◌<◌, ◌∙◌, sym, arith, vec_len}
+use Rattle.std.proofs.Common.{◌<◌, sym, arith}
 use Rattle.std.proofs.lemmas.Option.{slice_get_read}
-use Rattle.lx_post.specs.Posted.{fresh_send}
 use Rattle.lx_post.proofs.post.Post.new.Goals as goal
 
 pub returns-clause-passes : goal.returns-clause-passes

@@ -1,4 +1,4 @@
-use Rattle.std.proofs.Common.{◌≡◌, ◌∙◌, sym, ap, refl, subst, set, true, arith}
+use Rattle.std.proofs.Common.{◌∙◌, sym, ap, set, true, arith}
 use Rattle.lx_post.specs.declared.post_rule.PassView.{PassView}
 use Rattle.lx_post.specs.Notes.{worker_of, is_end}
 use Rattle.crossbeam_queue.specs.Passes.{view}

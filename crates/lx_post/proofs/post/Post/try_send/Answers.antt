@@ -1,4 +1,4 @@
-use Rattle.std.proofs.Common.{◌≡◌, ◌∙◌, sym, ap}
+use Rattle.std.proofs.Common.{◌∙◌, sym, ap}
 use Rattle.lx_post.specs.declared.post_rule.PassView.{PassView}
 use Rattle.lx_post.specs.Notes.{has_end}
 use Rattle.lx_post.specs.Posted.{Sent}

@@ -1,4 +1,4 @@
-use Rattle.std.proofs.Common.{◌≡◌, List, ◌∷◌, ◌++◌, [], length, drop, ap, sym, ◌∙◌}
+use Rattle.std.proofs.Common.{◌++◌, length, drop, ap, sym, ◌∙◌}
 use Rattle.lx_post.specs.Notes.{fault_with, first_fault}
 use Rattle.lx_post.specs.Posted.{Taken}
 use Rattle.lx_post.proofs.Comings.{since_push, before_since, fault_push}

@@ -1,4 +1,4 @@
-use Rattle.std.proofs.Common.{◌≡◌, []}
+use Rattle.std.proofs.Common.{[]}
 use Rattle.lx_post.specs.Posted.{CameBetween}
 use Rattle.lx_post.proofs.post_arrivals.PostArrivalsArrivals.next.Given as goal
 
