@@ -4,6 +4,8 @@ use Rattle.lx_piece.specs.Plans.{Planned}
 use Rattle.lx_piece.specs.Pieces.{piece_at}
 use Rattle.lx_piece.specs.Relayed.{AreAllAmong}
 use Rattle.lx_post.specs.declared.job.Job.{Job}
+use Rattle.lx_post.specs.declared.job.Outcome.{Outcome}
+use Rattle.lx_post.specs.declared.job.Outcome.TheVariants.{Done, Back}
 use Rattle.lx_post.specs.declared.note.Note.{Note}
 use Rattle.lx_post.specs.declared.note.Note.TheVariants.{End as note_end}
 use Rattle.lx_post.specs.declared.note.WorkerFault.{WorkerFault}
@@ -59,3 +61,8 @@ pub record HasWorked (old new : Job) : Type 0 where
   pub pass : new.pass ≡ record old.pass { sent = before ++ note_end old.pass.worker files fault ∷ [] }
   pub done : fault ≡ None → new.seat.done ≡ true
   pub drawn : fault ≡ None → HasDrawn old.pass.plan files new.seat new.pass
+
+-- what may become of a job: the worker ended, or never began
+abbrev pub IsOutcome : Job → Outcome → Type 0
+IsOutcome job (Done new) = HasWorked job new
+IsOutcome job (Back new) = new ≡ job
