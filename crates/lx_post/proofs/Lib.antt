@@ -4,3 +4,4 @@ pub mod NoteLists
 pub mod PostSteps
 pub mod Comings
 pub mod Sendings
+pub mod NothingLost

@@ -12,7 +12,7 @@ use Rattle.lx_post.specs.declared.note.Note.{Note}
 use Rattle.lx_post.specs.declared.post_rule.PassView.{PassView}
 use Rattle.lx_post.specs.declared.post_rule.Role.TheVariants.{Blank, Sends, Takes}
 use Rattle.lx_post.specs.Notes.{worker_of, IsHonestNote, AreHonestNotes, notes_of, has_end, NothingFollowsEnd}
-use Rattle.lx_post.specs.Posting.{blank, spent_pass, sender, taker, opened, no_worker, hiring, hired, joined, Sending, Taking, IsWhole, Shared, Fits, IsRunning, IsPosting}
+use Rattle.lx_post.specs.Posting.{blank, spent_pass, sender, taker, opened, no_worker, with_next_worker, next_worker, joined, Sending, Taking, IsWhole, Shared, Fits, IsRunning, IsPosting}
 use Rattle.lx_post.proofs.NoteLists.{notes_of-append, of_push_same, of_push_other, of_here, honest_push, honest_at, ends_push, ends_here}
 
 only : (u : PassView) (k : ℕ) (v : PassView) → get_elem? (u ∷ []) k ≡ some v → u ≡ v
@@ -80,12 +80,12 @@ opens id v plan is items views (inl b) at =
     subst P (λ i. (sym b.0 i, sym b.1 i)) (open_first plan v id first)
 opens id v plan is items views (inr r) at = absurd ((r.fits id v at).not_blank (ap (λ (u : PassView). u.role) is))
 
-pub hires : (id : ℕ) (v : PassView) → v.role ≡ Takes → v.worker ≡ no_worker → v.made < no_worker → Forks IsPosting id v (hiring v) (hired v)
-hires id v role none room items views rule at =
+pub adds_worker : (id : ℕ) (v : PassView) → v.role ≡ Takes → v.worker ≡ no_worker → v.made < no_worker → Forks IsPosting id v (with_next_worker v) (next_worker v)
+adds_worker id v role none room items views rule at =
     let r = running items views id v rule at (λ e. cc) in
     let mine = (r.fits id v at).takes role in
     let all = r.shared.received ++ items in
-    let views' = set views id (hiring v) in
+    let views' = set views id (with_next_worker v) in
     let new = length views' in
     let pass_of : ℕ → ℕ = λ k. cond (eqb k v.made) new (r.shared.pass_of k) in
     let apart : (k : ℕ) → k ≢ v.made → pass_of k ≡ r.shared.pass_of k = λ k not. ap (λ (b : Bool). cond b new (r.shared.pass_of k)) (ne_eqb k v.made not) in
@@ -98,23 +98,23 @@ hires id v role none room items views rule at =
       unmade = λ w le. r.unmade w (omega arith);
       fits = λ j u at'. ⊎_elim
           (λ old. ⊎_elim
-          (λ (h : (j ≡ id) × (hiring v ≡ u)). fits_as shared all id j (hiring v) u h.0 h.1 record {
+          (λ (h : (j ≡ id) × (with_next_worker v ≡ u)). fits_as shared all id j (with_next_worker v) u h.0 h.1 record {
             not_blank = λ e. cc;
             sends = λ e. absurd (cc);
             takes = λ e. record { plan = mine.plan; alone = mine.alone; made = ap (λ (n : ℕ). n + 1) made; received = mine.received; joined = apart v.worker (λ is. omega arith) ∙ mine.joined; sent = mine.sent };
           })
           (λ (h : (j ≢ id) × (get_elem? views j ≡ some u)). let f = r.fits j u h.1 in record {
             not_blank = f.not_blank;
-            sends = λ s. let g = f.sends s in let lower = g.hired in record { plan = g.plan; alone = apart u.worker (λ is. omega arith) ∙ g.alone; hired = omega arith; sent = g.sent };
+            sends = λ s. let g = f.sends s in let lower = g.has_pass in record { plan = g.plan; alone = apart u.worker (λ is. omega arith) ∙ g.alone; has_pass = omega arith; sent = g.sent };
             takes = λ t. let g = f.takes t in absurd (h.0 (sym g.alone ∙ mine.alone));
           })
-          (at_set views id j (hiring v) u old))
-          (λ (h : (j ≡ new) × (hired v ≡ u)). fits_as shared all new j (hired v) u h.0 h.1 record {
+          (at_set views id j (with_next_worker v) u old))
+          (λ (h : (j ≡ new) × (next_worker v ≡ u)). fits_as shared all new j (next_worker v) u h.0 h.1 record {
             not_blank = λ e. cc;
-            sends = λ e. record { plan = mine.plan; alone = ap (λ (b : Bool). cond b new (r.shared.pass_of v.made)) (eq-eqb v.made v.made refl); hired = omega arith; sent = sym (r.unmade v.made (omega arith)) };
+            sends = λ e. record { plan = mine.plan; alone = ap (λ (b : Bool). cond b new (r.shared.pass_of v.made)) (eq-eqb v.made v.made refl); has_pass = omega arith; sent = sym (r.unmade v.made (omega arith)) };
             takes = λ e. absurd (cc);
           })
-          (at_snoc_end views' (hired v) u j at');
+          (at_snoc_end views' (next_worker v) u j at');
     }
 
 pub sends_one : (n id : ℕ) (v : PassView) (x : Note) → v.role ≡ Sends → worker_of x ≡ v.worker → IsHonestNote v.plan x → has_end v.sent ≡ false → Pushes IsPosting n id v x (Sending v x)
@@ -132,16 +132,16 @@ sends_one n id v x role own honest going items views _ rule at =
         ended = λ k. subst (λ (l : List Note). NothingFollowsEnd (notes_of k l)) same (dite (ℕ_discrete k v.worker)
             (λ is. subst NothingFollowsEnd (sym (of_push_same k all x (own ∙ sym is))) (ends_push (notes_of k all) x (r.ended k) (ap has_end (ap (λ (q : ℕ). notes_of q all) is ∙ sym mine.sent) ∙ going)))
             (λ not. subst NothingFollowsEnd (sym (not_others k not)) (r.ended k)));
-        unmade = λ k le. subst (λ (l : List Note). notes_of k l ≡ []) same (not_others k (λ is. let lower = mine.hired in omega arith) ∙ r.unmade k le);
+        unmade = λ k le. subst (λ (l : List Note). notes_of k l ≡ []) same (not_others k (λ is. let lower = mine.has_pass in omega arith) ∙ r.unmade k le);
         fits = λ j u at'. subst (λ (l : List Note). Fits r.shared l j u) same (⊎_elim
             (λ (h : (j ≡ id) × (w ≡ u)). fits_as r.shared (all ++ x ∷ []) id j w u h.0 h.1 record {
               not_blank = λ e. cc;
-              sends = λ e. record { plan = mine.plan; alone = mine.alone; hired = mine.hired; sent = ap (λ (l : List Note). l ++ x ∷ []) mine.sent ∙ sym (of_push_same v.worker all x own) };
+              sends = λ e. record { plan = mine.plan; alone = mine.alone; has_pass = mine.has_pass; sent = ap (λ (l : List Note). l ++ x ∷ []) mine.sent ∙ sym (of_push_same v.worker all x own) };
               takes = λ e. absurd (cc);
             })
             (λ (h : (j ≢ id) × (get_elem? views j ≡ some u)). let f = r.fits j u h.1 in record {
               not_blank = f.not_blank;
-              sends = λ s. let g = f.sends s in record { plan = g.plan; alone = g.alone; hired = g.hired; sent = g.sent ∙ sym (not_others u.worker (λ is. h.0 (sym g.alone ∙ ap r.shared.pass_of is ∙ mine.alone))) };
+              sends = λ s. let g = f.sends s in record { plan = g.plan; alone = g.alone; has_pass = g.has_pass; sent = g.sent ∙ sym (not_others u.worker (λ is. h.0 (sym g.alone ∙ ap r.shared.pass_of is ∙ mine.alone))) };
               takes = λ t. let g = f.takes t in record { plan = g.plan; alone = g.alone; made = g.made; received = g.received; joined = g.joined; sent = g.sent ∙ sym (not_others u.worker (λ is. h.0 (sym g.joined ∙ ap r.shared.pass_of is ∙ mine.alone))) };
             })
             (at_set views id j w u at'));
@@ -175,7 +175,7 @@ takes_one id v role x items views rule at =
             })
             (λ (h : (j ≢ id) × (get_elem? views j ≡ some u)). let f = r.fits j u h.1 in record {
               not_blank = f.not_blank;
-              sends = λ s. let g = f.sends s in record { plan = g.plan; alone = g.alone; hired = g.hired; sent = g.sent };
+              sends = λ s. let g = f.sends s in record { plan = g.plan; alone = g.alone; has_pass = g.has_pass; sent = g.sent };
               takes = λ t. let g = f.takes t in absurd (h.0 (sym g.alone ∙ mine.alone));
             })
             (at_set views id j w u at'));
@@ -183,7 +183,7 @@ takes_one id v role x items views rule at =
       record {
         view = refl;
         honest = subst (λ (p : Planned). IsHonestNote p x) (sym mine.plan) (honest_at r.shared.plan received x items r.honest);
-        hired = dite (dec_lt k v.made) (λ lt. lt) (λ not. absurd (not_nil (notes_of k received) x (notes_of k items) (sym here ∙ r.unmade k (omega arith))));
+        has_pass = dite (dec_lt k v.made) (λ lt. lt) (λ not. absurd (not_nil (notes_of k received) x (notes_of k items) (sym here ∙ r.unmade k (omega arith))));
         going = not_true (has_end (notes_of k v.received)) (λ some_end. not_nil [] x (notes_of k items) (ends_here (notes_of k received) (x ∷ notes_of k items) (subst NothingFollowsEnd here (r.ended k)) (ap (λ (l : List Note). has_end (notes_of k l)) (sym mine.received) ∙ some_end)));
       },
     )
@@ -215,7 +215,7 @@ joins id v other w role role' items views rule at apart at' =
           })
           (λ (g : (j ≢ id) × (get_elem? views j ≡ some u)). let f = r.fits j u g.1 in record {
             not_blank = f.not_blank;
-            sends = λ s. let p = f.sends s in record { plan = p.plan; alone = else_where u.worker (λ is. h.0 (sym p.alone ∙ ap r.shared.pass_of is ∙ theirs.alone)) ∙ p.alone; hired = p.hired; sent = p.sent };
+            sends = λ s. let p = f.sends s in record { plan = p.plan; alone = else_where u.worker (λ is. h.0 (sym p.alone ∙ ap r.shared.pass_of is ∙ theirs.alone)) ∙ p.alone; has_pass = p.has_pass; sent = p.sent };
             takes = λ t. let p = f.takes t in absurd (g.0 (sym p.alone ∙ mine.alone));
           })
           (at_set views id j both u h.1))

@@ -42,11 +42,11 @@ abbrev pub opened : Planned → PassView
 opened plan = taker plan 0 [] no_worker []
 
 -- the pass that takes once the next worker has one, and that worker's
-abbrev pub hiring : PassView → PassView
-hiring v = taker v.plan (v.made + 1) v.received v.worker v.sent
+abbrev pub with_next_worker : PassView → PassView
+with_next_worker v = taker v.plan (v.made + 1) v.received v.worker v.sent
 
-abbrev pub hired : PassView → PassView
-hired v = sender v.plan v.made []
+abbrev pub next_worker : PassView → PassView
+next_worker v = sender v.plan v.made []
 
 -- the pass that takes, joined by a worker's
 abbrev pub joined : PassView → PassView → PassView
@@ -60,7 +60,7 @@ Sending v n w = w ≡ sender v.plan v.worker (v.sent ++ n ∷ [])
 pub record Taking (v : PassView) (n : Note) (w : PassView) : Type 0 where
   pub view : w ≡ taker v.plan v.made (v.received ++ n ∷ []) v.worker v.sent
   pub honest : IsHonestNote v.plan n
-  pub hired : worker_of n < v.made
+  pub has_pass : worker_of n < v.made
   pub going : has_end (notes_of (worker_of n) v.received) ≡ false
 
 -- where the end of the worker that joined last was received, all that it sent was
@@ -79,7 +79,7 @@ pub record Shared : Type 0 where
 pub record IsSender (shared : Shared) (all : List Note) (id : ℕ) (v : PassView) : Type 0 where
   pub plan : v.plan ≡ shared.plan
   pub alone : shared.pass_of v.worker ≡ id
-  pub hired : v.worker < shared.made
+  pub has_pass : v.worker < shared.made
   pub sent : v.sent ≡ notes_of v.worker all
 
 -- The pass that takes: it is the only one, knows how many workers have a pass and what was received, and all that was sent by the worker that joined last.

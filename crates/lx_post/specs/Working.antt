@@ -4,11 +4,13 @@ use Rattle.lx_piece.specs.Plans.{Planned}
 use Rattle.lx_piece.specs.Pieces.{piece_at}
 use Rattle.lx_piece.specs.Relayed.{AreAllAmong}
 use Rattle.lx_post.specs.declared.job.Job.{Job}
+use Rattle.lx_post.specs.declared.job.Outcome.{Outcome}
+use Rattle.lx_post.specs.declared.job.Outcome.TheVariants.{Done, Back}
 use Rattle.lx_post.specs.declared.note.Note.{Note}
 use Rattle.lx_post.specs.declared.note.Note.TheVariants.{End as note_end}
 use Rattle.lx_post.specs.declared.note.WorkerFault.{WorkerFault}
 use Rattle.lx_post.specs.Claimed.{Claimed, Drawn, fresh_seat, times}
-use Rattle.lx_post.specs.Notes.{has_end, pieces_among}
+use Rattle.lx_post.specs.Notes.{first_fault, has_end, pieces_among}
 use Rattle.lx_post.specs.Posted.{Posted, Sent, fresh_send}
 
 -- the pass sends to this post for this plan, and hasn't ended
@@ -59,3 +61,17 @@ pub record HasWorked (old new : Job) : Type 0 where
   pub pass : new.pass ≡ record old.pass { sent = before ++ note_end old.pass.worker files fault ∷ [] }
   pub done : fault ≡ None → new.seat.done ≡ true
   pub drawn : fault ≡ None → HasDrawn old.pass.plan files new.seat new.pass
+
+-- what may become of a job: the worker ended, or never began
+abbrev pub IsOutcome : Job → Outcome → Type 0
+IsOutcome job (Done new) = HasWorked job new
+IsOutcome job (Back new) = new ≡ job
+
+-- A worker's job at its end: its seat and its pass are of these, and where its end named no fault, it drew until no file was left and sent every piece of each that it drew.
+pub record IsDone (claims : Claimed) (post : Posted) (plan : Planned) (job : Job) : Type 0 where
+  pub word : job.seat.word ≡ claims.word
+  pub total : job.seat.files ≡ claims.files
+  pub queue : job.pass.queue ≡ post.queue
+  pub worker : job.pass.worker < post.workers
+  pub done : first_fault job.pass.sent ≡ None → job.seat.done ≡ true
+  pub sent : first_fault job.pass.sent ≡ None → (file : ℕ) → 0 < times file job.seat.drawn → HasSent plan file job.pass

@@ -7,3 +7,12 @@ pub struct Job {
     pub seat: ClaimSeat,
     pub pass: SendPass,
 }
+
+/// What became of a job.
+#[derive(Drop)]
+pub enum Outcome {
+    /// The worker ended.
+    Done(Job),
+    /// The worker never began.
+    Back(Job),
+}

@@ -15,6 +15,7 @@ mod patience;
 mod post;
 mod post_arrivals;
 mod post_rule;
+mod starting;
 mod working;
 
 pub use claim_seat::ClaimSeat;

@@ -7,7 +7,7 @@ ghost use Rattle.lx_post.specs.Posting.{blank, no_worker, opened, taker};
 use crate::note::Note;
 use crate::passes::{SendPass, TakePass};
 use crate::patience::Patience;
-use crate::post_rule::{Hiring, Naming, Opening, PassView, PostRule, Sending, Taking};
+use crate::post_rule::{Naming, NextWorker, Opening, PassView, PostRule, Sending, Taking};
 use crossbeam_queue::{Pass, RuledArrayQueue};
 use lx_piece::Plan;
 use std::alloc::{AllocError, Global};
@@ -61,7 +61,7 @@ impl Post {
         let mut passes = Vec::with_capacity(alloc, usize::from(workers))?;
         let (post, mut pass) = Post::open(alloc, plan, workers, room)?;
         for worker in 0..workers {
-            let other = post.hire(&mut pass, worker);
+            let other = post.add_worker(&mut pass, worker);
             passes.push_reserved(other);
         }
         let pass = TakePass {
@@ -89,14 +89,14 @@ impl Post {
     }
 
     // A pass for the next worker.
-    fn hire(&self, pass: &mut Pass<Note, PassView>, worker: u8) -> SendPass
+    fn add_worker(&self, pass: &mut Pass<Note, PassView>, worker: u8) -> SendPass
         requires post { (pass.old.table_id ≡ self.now.queue) × (pass.old.me.1 ≡ []) }
         requires next { (view pass.old ≡ taker (view pass.old).plan worker [] no_worker []) × (worker < 8) }
         ensures post { (pass.new.table_id ≡ self.now.queue) × (pass.new.me.1 ≡ []) }
         ensures next { view pass.new ≡ taker (view pass.old).plan (worker + 1) [] no_worker [] }
         ensures pass { result ≡ fresh_send self.now (view pass.old).plan worker }
     {
-        let pass = self.queue.another::<Hiring>(pass);
+        let pass = self.queue.another::<NextWorker>(pass);
         SendPass { pass, worker }
     }
 

@@ -70,14 +70,14 @@ impl<J: Naming> Split<PassView> for Opening<J> {
 }
 
 /// The pass that takes gives the next worker one.
-pub struct Hiring;
+pub struct NextWorker;
 
-impl Split<PassView> for Hiring {
-    ghost use Rattle.lx_post.specs.Posting.{hiring, hired};
+impl Split<PassView> for NextWorker {
+    ghost use Rattle.lx_post.specs.Posting.{with_next_worker, next_worker};
 
-    ghost left = { hiring };
+    ghost left = { with_next_worker };
 
-    ghost right = { hired };
+    ghost right = { next_worker };
 }
 
 /// A worker's pass goes into the one that takes.

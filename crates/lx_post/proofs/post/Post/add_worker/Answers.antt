@@ -2,8 +2,8 @@ use Rattle.std.proofs.Common.{ap, arith, ◌<◌}
 use Rattle.crossbeam_queue.specs.Passes.{view}
 use Rattle.lx_post.specs.declared.post_rule.PassView.{PassView}
 use Rattle.lx_post.specs.Posting.{no_worker}
-use Rattle.lx_post.proofs.PostSteps.{hires}
-use Rattle.lx_post.proofs.post.Post.hire.Goals as goal
+use Rattle.lx_post.proofs.PostSteps.{adds_worker}
+use Rattle.lx_post.proofs.post.Post.add_worker.Goals as goal
 
 pub another-pass-requires-clause-rule : goal.another-pass-requires-clause-rule
 another-pass-requires-clause-rule c =
@@ -12,4 +12,4 @@ another-pass-requires-clause-rule c =
     let made = ap (λ (u : PassView). u.made) is in
     let few = c.requires.next.1 in
     let room : v.made < no_worker = omega arith in
-    hires c.args.pass.now.id v (ap (λ (u : PassView). u.role) is) (ap (λ (u : PassView). u.worker) is) room
+    adds_worker c.args.pass.now.id v (ap (λ (u : PassView). u.role) is) (ap (λ (u : PassView). u.worker) is) room
