@@ -41,14 +41,14 @@ module _ (cut : List (List ℕ)) (files : List NamedBytes) (name : List ℕ) (i 
         All-more (λ (file : List ℕ × PlainInput). file.0 ≢ name) (inputs_of cut files) i (named_input cut d) shown_within none_before other
 
     -- the first one of this name
-    pub first_named : (input : PlainInput) → same ≡ true → NoneIsNamed (take i (inputs_of cut files)) name → input.bytes ≡ (slice_index_or files i d).1.now → input.cut ≡ is_among cut name →
+    pub first_named : (input : PlainInput) (is_cut : Bool) → same ≡ true → NoneIsNamed (take i (inputs_of cut files)) name → input ≡ plain (slice_index_or files i d).1.now is_cut → is_cut ≡ is_among cut name →
         IsFirstNamed (inputs_of cut files) name input
-    first_named input equal none_before bytes is_cut =
+    first_named input is_cut equal none_before given among =
         let all = inputs_of cut files in
         let at : named_input cut (slice_index_or files i d) ≡ (name, input)
         = ap (λ (n : List ℕ). (n, plain (slice_index_or files i d).1.now (is_among cut n))) (is_name equal)
-        ∙ ap (λ (bs : List ℕ). (name, plain bs (is_among cut name))) (sym bytes)
-        ∙ ap (λ (c : Bool). (name, plain input.bytes c)) (sym is_cut) in
+        ∙ ap (λ (c : Bool). (name, plain (slice_index_or files i d).1.now c)) (sym among)
+        ∙ ap (λ (held : PlainInput). (name, held)) (sym given) in
         let here : slice_index_or all i (named_input cut d) ≡ (name, input) = shown_at ∙ at in
         record {
           before = take i all;

@@ -14,9 +14,8 @@ use crate::command_line::{ITEMS, ListOrder, Order, Refusal, read_words};
 use crate::failure::Failure;
 use crate::given::{list_by_specification, list_by_tables, read_whole};
 use crate::planning::{list_files, listings_are_by_rules};
-use crate::source::Sources;
+use crate::source::{Sources, make_input};
 use crate::tabling::{generate, tables_of_text, upgrade};
-use lx_piece::Input;
 use std::alloc::Global;
 use std::io::Write;
 
@@ -138,10 +137,7 @@ fn list_stored<'a, O: Write>(alloc: Global, out: &mut O) -> Result<(), Failure<'
     let tables = tables_of_text(alloc, STORED_SPECIFICATION)?;
     // its contract says what holds of all tables
     let _conditions = tables.conditions();
-    let file = Input {
-        bytes: Vec::from_slice(alloc, STORED_TEXT)?,
-        cut: false,
-    };
+    let file = make_input(alloc, STORED_TEXT, false)?;
     list_files(alloc, tables, vec![in alloc; file]?, ITEMS, out)?;
     Ok(())
 }

@@ -75,6 +75,16 @@ impl<'a> ListSources<'a> {
     }
 }
 
+/// A file that has these bytes, cut short or not.
+pub(crate) fn make_input(alloc: Global, bytes: &[u8], cut: bool) -> Result<Input, AllocError>
+    ensures { IfOk result (λ input. input_view input ≡ record { bytes = bytes.now; cut = cut }) }
+{
+    Ok(Input {
+        bytes: Vec::from_slice(alloc, bytes)?,
+        cut,
+    })
+}
+
 // Whether a name is one of these.
 fn is_among(names: &[&str], name: &str) -> bool
     ensures { result ≡ is_among (map (λ known. known.now) names.now) name.now }
@@ -103,10 +113,7 @@ impl Sources for ListSources<'_> {
     {
         for (file, bytes) in self.files {
             if *file == name {
-                return Ok(Input {
-                    bytes: Vec::from_slice(alloc, bytes)?,
-                    cut: is_among(self.cut, name),
-                });
+                return Ok(make_input(alloc, bytes, is_among(self.cut, name))?);
             }
         }
         Err(SourceFault::NotRead)

@@ -1,4 +1,4 @@
-use Rattle.std.proofs.Common.{ℕ, List, [], ◌∷◌, ap, map, subst, ◌∙◌}
+use Rattle.std.proofs.Common.{List, [], ◌∷◌, ap, map, subst, ◌∙◌}
 use Rattle.std.proofs.lemmas.Result.{err_from_is_err_and}
 use Rattle.lx_piece.specs.declared.input.Input.{Input}
 use Rattle.lx_piece.specs.Plans.{PlainInput, input_view}
@@ -18,6 +18,6 @@ returns-clause-ok g c = λ ends is.
     let old = g.O.Write.contents c.args.out.now in
     let new = g.O.Write.contents c.list_files.new.out in
     let table = c.in_ok-tables.tables in
-    let inputs = ap (λ (files : List Input). map input_view files) c.in_ok-vec.ensures.items ∙ ap (λ (bytes : List ℕ). whole bytes ∷ []) c.in_ok-from_slice.ensures.items in
+    let inputs = ap (λ (files : List Input). map input_view files) c.in_ok-vec.ensures.items ∙ ap (λ (input : PlainInput). input ∷ []) c.in_ok-file.ensures in
     c.listings_are_by_rules.ensures ends stored_specification table (whole stored_text ∷ []) old new c.conditions-conditions.ensures.table (c.in_ok-tables.ensures.ok ends is) stored_bytes
     (subst (λ (inputs : List PlainInput). ListsBy table inputs old new) inputs (subst (λ t. ListsBy t (map input_view c.in_ok-vec.field-0.items) old new) c.tables.view_is c.in_ok-list_files.ensures.ok))
