@@ -46,7 +46,7 @@ pub fn run<R, S: Sources, O: Write, E: Write>(
     ensures known { result ≤ 5 }
     ensures done { result ≡ 0 → (ends : List ℕ → ℕ) → EndsPatterns ends →
         IfSome (asked_by (map (λ word. word.bytes.items) words.now)) (HasDone S.gives ends sources.old sources.new (O.contents out.old) (O.contents out.new) []) }
-    // Where the specification, the command line or a file is refused, nothing was written.
+    // All was listed and a file was cut short; or the words, the specification, the tables or a file were refused, and nothing was written.
     ensures ended { 0 < result → result < 4 → (ends : List ℕ → ℕ) → EndsPatterns ends →
         HasEnded S.gives ends (asked_by (map (λ word. word.bytes.items) words.now)) sources.old sources.new (O.contents out.old) (O.contents out.new) result }
 {
