@@ -5,3 +5,4 @@ pub mod PostSteps
 pub mod Comings
 pub mod Sendings
 pub mod NothingLost
+pub mod Received

@@ -1,21 +1,23 @@
 -- From what each worker drew and sent to what was received of all.
-use Rattle.std.proofs.Common.{◌≡◌, ⊎_elim, ℕ, ◌<◌, Bool, true, false, List, [], ◌∷◌, None, Some, Contains, cond, eqb, sym, refl, ap, ◌∙◌, subst, arith}
+use Rattle.std.proofs.Common.{◌≡◌, ⊎_elim, ℕ, suc, ◌<◌, Bool, true, false, List, [], ◌∷◌, ◌++◌, None, Some, Contains, map, All, cond, eqb, sym, refl, ap, ◌∙◌, subst, arith}
 use mathlib.Core.Logic.{dite}
 use native.Mathlib.Decide.{dec_lt}
+use Rattle.std.proofs.lemmas.Bool.Decides.{nat_tests}
 use Rattle.std.specs.List.{sum_by}
 use Rattle.std.specs.Option.{option_or}
 use Rattle.std.proofs.lemmas.List.Sums.{sum_by-cons}
-use Rattle.std.proofs.lemmas.List.Elements.{Contains-append_left, Contains-append_right, Contains-append_cases, Contains-push}
+use Rattle.std.proofs.lemmas.List.Elements.{All-append, Contains-append_left, Contains-append_right, Contains-append_cases, Contains-push, All-nil, All-cons, All-map, All-same, All-get_or, All-contains}
 use Rattle.lx_piece.specs.declared.piece.Piece.{Piece}
-use Rattle.lx_piece.specs.Plans.{Planned}
+use Rattle.lx_piece.specs.Plans.{Planned, files_of}
 use Rattle.lx_piece.specs.Pieces.{piece_at}
 use Rattle.lx_piece.specs.Relayed.{AreAllAmong}
 use Rattle.lx_post.specs.declared.job.Job.{Job}
 use Rattle.lx_post.specs.declared.note.Note.{Note}
 use Rattle.lx_post.specs.declared.note.Note.TheVariants.{Piece as note_piece, End as note_end}
-use Rattle.lx_post.specs.Claimed.{Claimed, Drawn}
+use Rattle.lx_post.specs.Claimed.{Claimed, Drawn, IsSeatOf, times, times_drawn, once_below}
+use Rattle.lx_post.specs.Collected.{AreAllReceived}
 use Rattle.lx_post.specs.Notes.{worker_of, has_end, first_fault, notes_of, pieces_among}
-use Rattle.lx_post.specs.Posted.{Posted, Sent, Taken, IsAllReceived}
+use Rattle.lx_post.specs.Posted.{Posted, Sent, Taken, IsAllReceived, IsSendPassOf}
 use Rattle.lx_post.specs.Working.{HasSent, IsReady, HasWorked, IsDone}
 use Rattle.lx_post.proofs.Comings.{fault_push}
 
@@ -82,3 +84,48 @@ done_of claims post plan old new ready has =
 -- what was received of a worker that sent all pieces of a file
 pub all_received : (plan : Planned) (file : ℕ) (take : Taken) (pass : Sent) → IsAllReceived take pass → HasSent plan file pass → AreAllAmong plan file (pieces_among take.received)
 all_received plan file take pass is has number below = piece_of_one pass.worker take.received (piece_at plan file number) (subst (λ ns. Contains (pieces_among ns) (piece_at plan file number)) (sym is) (has.all number below))
+
+sum_mapped : {X Y : Type 0} (f : Y → ℕ) (g : X → Y) (xs : List X) → sum_by f (map g xs) ≡ sum_by (λ x. f (g x)) xs
+sum_mapped f g [] = refl
+sum_mapped f g (x ∷ xs) = let a = sum_by-cons f (g x) (map g xs) in let b = sum_mapped f g xs in let c = sum_by-cons (λ x. f (g x)) x xs in omega arith
+
+-- what holds of each element of a mapped list
+all_of_map : {X Y : Type 0} (P : Y → Type 0) (f : X → Y) (xs : List X) → All P (map f xs) → All (λ x. P (f x)) xs
+all_of_map P f [] all = All-nil (λ x. P (f x))
+all_of_map P f (x ∷ xs) all =
+    All-cons (λ x. P (f x)) x xs (All-get_or P (f x ∷ map f xs) 0 (f x) (omega arith) all) (all_of_map P f xs (λ k d lt. all (suc k) d (omega (arith, lt))))
+
+-- the seats and the passes of ended jobs are of the claims and of the post
+pub seats_of : (claims : Claimed) (post : Posted) (plan : Planned) (jobs : List Job) (seats : List Drawn) → All (IsDone claims post plan) jobs → seats ≡ map (λ (job : Job). job.seat) jobs → All (IsSeatOf claims) seats
+seats_of claims post plan jobs seats done s =
+    All-same (IsSeatOf claims) seats (map (λ (job : Job). job.seat) jobs) s (All-map (IsSeatOf claims) (λ (job : Job). job.seat) jobs (λ k d lt. ((done k d lt).word, (done k d lt).total)))
+
+pub passes_of : (claims : Claimed) (post : Posted) (plan : Planned) (jobs : List Job) (passes : List Sent) → All (IsDone claims post plan) jobs → passes ≡ map (λ (job : Job). job.pass) jobs → All (IsSendPassOf post) passes
+passes_of claims post plan jobs passes done p =
+    All-same (IsSendPassOf post) passes (map (λ (job : Job). job.pass) jobs) p (All-map (IsSendPassOf post) (λ (job : Job). job.pass) jobs (λ k d lt. ((done k d lt).queue, (done k d lt).worker)))
+
+drawn_once : (file files n : ℕ) → n ≡ once_below file files → file < files → 0 < n
+drawn_once file files n is lt = grind (arith, nat_tests)
+
+-- where all seats together drew each file once, and all that each pass sent was received without a fault, every piece of every file was received
+pub every_file_received : (claims : Claimed) (post : Posted) (plan : Planned) (take : Taken) (jobs : List Job) (seats : List Drawn) (passes : List Sent) (files : ℕ)
+    → All (IsDone claims post plan) jobs → seats ≡ map (λ (job : Job). job.seat) jobs → passes ≡ map (λ (job : Job). job.pass) jobs → files ≡ files_of plan
+    → ((file : ℕ) → times_drawn file seats ≡ once_below file files) → All (IsAllReceived take) passes → first_fault take.received ≡ None → AreAllReceived plan take
+every_file_received claims post plan take jobs seats passes files done s p f once received faultless =
+    let here : All (λ (job : Job). IsAllReceived take job.pass) jobs =
+    all_of_map (IsAllReceived take) (λ (job : Job). job.pass) jobs (All-same (IsAllReceived take) (map (λ (job : Job). job.pass) jobs) passes (sym p) received) in
+    record {
+      each = λ file below.
+          let count = λ (seat : Drawn). times file seat.drawn in
+          let is = sym (ap (sum_by count) s ∙ sum_mapped count (λ (job : Job). job.seat) jobs) ∙ once file in
+          let found = some_part (λ (job : Job). times file job.seat.drawn) jobs (drawn_once file files _ is (omega (arith, below, f))) in
+          let own = All-contains (IsDone claims post plan) jobs found.0 done found.1 in
+          let all = All-contains (λ (job : Job). IsAllReceived take job.pass) jobs found.0 here found.1 in
+          let none : first_fault found.0.pass.sent ≡ None = sym (ap first_fault all) ∙ faultless_of_one found.0.pass.worker take.received faultless in
+          all_received plan file take found.0.pass all (own.sent none file found.2);
+    }
+
+-- with one more ended job
+pub done_more : (claims : Claimed) (post : Posted) (plan : Planned) (new : Job) (jobs jobs' : List Job) → All (IsDone claims post plan) jobs → IsDone claims post plan new → jobs' ≡ jobs ++ new ∷ [] → All (IsDone claims post plan) jobs'
+done_more claims post plan new jobs jobs' all done is =
+    All-same (IsDone claims post plan) jobs' (jobs ++ new ∷ []) is (All-append (IsDone claims post plan) jobs (new ∷ []) all (All-cons (IsDone claims post plan) new [] done (All-nil (IsDone claims post plan))))

@@ -5,3 +5,5 @@ pub mod Posted
 pub mod Posting
 pub mod Arrived
 pub mod Working
+pub mod Collected
+pub mod RunFaults

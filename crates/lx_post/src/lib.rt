@@ -4,10 +4,12 @@
 
 mod claim_seat;
 mod claims;
+mod collecting;
 mod draw_rule;
 mod finishing;
 mod gate;
 mod job;
+mod joining;
 mod meeting_gate;
 mod note;
 mod passes;
@@ -15,6 +17,8 @@ mod patience;
 mod post;
 mod post_arrivals;
 mod post_rule;
+mod run_fault;
+mod scanning;
 mod starting;
 mod working;
 
@@ -27,3 +31,5 @@ pub use note::{Note, WorkerFault};
 pub use passes::{SendPass, TakePass};
 pub use post::Post;
 pub use post_arrivals::PostArrivals;
+pub use run_fault::RunFault;
+pub use scanning::scan_all;

@@ -101,7 +101,12 @@ impl Post {
     }
 
     // Sends a note where there is room.
-    fn try_send<R: Wait>(&self, rt: &R, pass: &mut SendPass, note: Note) -> Result<(), Note>
+    pub(crate) fn try_send<R: Wait>(
+        &self,
+        rt: &R,
+        pass: &mut SendPass,
+        note: Note,
+    ) -> Result<(), Note>
         requires post { pass.old.queue ≡ self.now.queue }
         requires note { MaySend pass.old note }
         ensures sent { IfOk result (λ _. pass.new ≡ with_sent pass.old note) }
