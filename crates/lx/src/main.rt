@@ -5,8 +5,11 @@ mod files;
 
 use crate::files::FileSources;
 use lx_tool::run;
-use std::io::{BufWriter, ErrorKind, Write};
+use std::io::{BufWriter, ErrorKind, Print, Write};
 use std::process::ExitCode;
+use std::rt::{Env, Files};
+use std::sync::Wait;
+use std::thread::Threads;
 use std::{env, io};
 
 // How many bytes of the listing are written at once.
@@ -18,7 +21,7 @@ const NO_WORDS: u8 = 2;
 const NO_MEMORY: u8 = 5;
 
 fn main(rt: HostRuntime) -> ExitCode {
-    match start(&rt) {
+    match start(&rt, &mut rt.stderr()) {
         Ok(status) => ExitCode::from(status),
         Err(error) if error.kind() == ErrorKind::OutOfMemory => {
             let _ = eprintln!(rt; "lx: out of memory");
@@ -32,11 +35,14 @@ fn main(rt: HostRuntime) -> ExitCode {
 }
 
 // Two faults there are here: a word isn't UTF-8, or memory is refused for the words or the buffer.
-fn start(rt: &HostRuntime) -> io::Result<u8> {
+fn start<R: AllocGlobal + Env + Files + Print + Threads + Wait + Sync, E: Write>(
+    rt: &R,
+    err: &mut E,
+) -> io::Result<u8> {
     let alloc = rt.alloc();
     let words: Vec<String> = env::args(rt)?.collect(alloc)?;
     let mut out = BufWriter::with_capacity(alloc, BUFFER, io::writer(rt))?;
     let mut sources = FileSources::new(rt);
-    let status = run(rt, alloc, &words, &mut sources, &mut out, &mut rt.stderr());
+    let status = run(rt, alloc, &words, &mut sources, &mut out, err);
     Ok(status)
 }

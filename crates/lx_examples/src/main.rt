@@ -2,7 +2,10 @@
 #![tactic(auto)]
 
 use lx_tool::{ListSources, run};
-use std::io::Write;
+use std::io::{Print, Write};
+use std::rt::Files;
+use std::sync::Wait;
+use std::thread::Threads;
 use std::{fs, io};
 
 // The examples: NAME.l is the specification, and NAME.txt the input.
@@ -17,7 +20,10 @@ fn main(rt: HostRuntime) -> io::Result<()> {
 }
 
 // Prints the listing of an example, or what the program says of it.
-fn list(rt: &HostRuntime, name: &str) -> io::Result<()> {
+fn list<R: AllocGlobal + Files + Print + Threads + Wait + Sync>(
+    rt: &R,
+    name: &str,
+) -> io::Result<()> {
     let alloc = rt.alloc();
     let spec = format!(in alloc; "{name}.l")?;
     let input = format!(in alloc; "{name}.txt")?;
@@ -30,8 +36,8 @@ fn list(rt: &HostRuntime, name: &str) -> io::Result<()> {
     )
 }
 
-fn list_input<'a>(
-    rt: &HostRuntime,
+fn list_input<'a, R: AllocGlobal + Print + Threads + Wait + Sync>(
+    rt: &R,
     spec: (&'a str, &'a [u8]),
     input: (&'a str, &'a [u8]),
 ) -> io::Result<()> {

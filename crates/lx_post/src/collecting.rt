@@ -7,6 +7,7 @@ ghost use Rattle.lx_post.specs.declared.run_fault.RunFault.{RunFault};
 ghost use Rattle.lx_post.specs.Collected.{IsCollected};
 ghost use Rattle.lx_post.specs.Posted.{IsTakePassOf, fresh_take};
 
+use crate::pace::Pace;
 use crate::passes::TakePass;
 use crate::post::Post;
 use crate::post_arrivals::PostArrivals;
@@ -71,6 +72,7 @@ pub fn receive_all<W: Wait, R: Reader>(
     plan: &Plan,
     post: &Post,
     mut take: TakePass,
+    pace: &Pace,
     refused: bool,
     reader: &mut R,
 ) -> (TakePass, Result<(), RunFault>)
@@ -87,11 +89,13 @@ pub fn receive_all<W: Wait, R: Reader>(
     ensures no_fault { OnOk result.1 (R.fault_count reader.new ≡ R.fault_count reader.old) }
 {
     if refused {
+        pace.end();
         drain(rt, post, &mut take);
         return (take, Err(RunFault::Memory));
     }
     let (mut take, answer) = collect(rt, alloc, plan, post, take, reader);
     if let Err(fault) = answer {
+        pace.end();
         drain(rt, post, &mut take);
         return (take, Err(fault));
     }

@@ -12,6 +12,8 @@ mod job;
 mod joining;
 mod meeting_gate;
 mod note;
+mod pace;
+mod paced_reader;
 mod passes;
 mod patience;
 mod post;
@@ -19,6 +21,7 @@ mod post_arrivals;
 mod post_rule;
 mod run_fault;
 mod scanning;
+mod signals;
 mod starting;
 mod working;
 

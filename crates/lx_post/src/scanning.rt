@@ -15,14 +15,15 @@ use crate::collecting::receive_all;
 use crate::gate::Gate;
 use crate::job::Job;
 use crate::joining::{join_all, settle_all};
+use crate::paced_reader::{PacedReader, Taken};
 use crate::passes::{SendPass, TakePass};
 use crate::post::Post;
 use crate::run_fault::RunFault;
+use crate::signals::Signals;
 use crate::starting::{Worker, start_all};
 use lx_piece::{Plan, Reader};
 use std::alloc::{AllocError, Global};
 use std::sync::Wait;
-use std::sync::atomic::AtomicBool;
 use std::thread;
 use std::thread::{Scope, Threads};
 
@@ -59,6 +60,7 @@ struct Ready {
     post: Post,
     take: TakePass,
     jobs: Vec<Job>,
+    taken: Taken,
     reserved: Reserved,
 }
 
@@ -94,12 +96,14 @@ fn prepare<W: Wait>(rt: &W, alloc: Global, plan: &Plan, workers: u8) -> Result<R
     let (claims, seats) = Claims::new(alloc, plan.files(), workers)?;
     let (post, passes, take) = Post::new(rt, alloc, plan, workers, ROOM)?;
     let jobs = jobs_of(alloc, seats, passes, &claims, &post, plan)?;
+    let taken = Taken::new(alloc, plan.files())?;
     let reserved = reserve(alloc, usize::from(workers))?;
     Ok(Ready {
         claims,
         post,
         take,
         jobs,
+        taken,
         reserved,
     })
 }
@@ -121,7 +125,7 @@ fn run<'s, E, W: Threads + Wait + Sync, G: Gate + Sync, R: Reader + Drop>(
     claims: &'s Claims,
     post: &'s Post,
     gate: &'s G,
-    refused: &'s [AtomicBool; 8],
+    signals: &'s Signals,
     jobs: Vec<Job>,
     mut take: TakePass,
     mut handles: Vec<Worker>,
@@ -150,14 +154,23 @@ fn run<'s, E, W: Threads + Wait + Sync, G: Gate + Sync, R: Reader + Drop>(
         claims,
         post,
         gate,
-        refused,
+        signals,
         jobs,
         &mut take,
         &mut handles,
         &mut ended,
     );
     let is_refused = !ended.is_empty();
-    let (take, answer) = receive_all(rt, alloc, plan, post, take, is_refused, &mut reader);
+    let (take, answer) = receive_all(
+        rt,
+        alloc,
+        plan,
+        post,
+        take,
+        &signals.pace,
+        is_refused,
+        &mut reader,
+    );
     join_all(rt, claims, post, plan, handles, &mut ended);
     (
         reader,
@@ -177,6 +190,7 @@ fn run_scoped<W: Threads + Wait + Sync, G: Gate + Sync, R: Reader + Drop>(
     claims: &Claims,
     post: &Post,
     gate: &G,
+    signals: &Signals,
     jobs: Vec<Job>,
     take: TakePass,
     handles: Vec<Worker>,
@@ -197,8 +211,6 @@ fn run_scoped<W: Threads + Wait + Sync, G: Gate + Sync, R: Reader + Drop>(
     ensures reader_fault { result.1.answer ≡ Err RunFault.Reader → R.fault_count reader < R.fault_count result.0 }
     ensures no_fault { OnOk result.1.answer (R.fault_count result.0 ≡ R.fault_count reader) }
 {
-    let flags: [AtomicBool; 8] = std::array::from_fn(|_| AtomicBool::new(false));
-    let refused = &flags;
     thread::scope(
         thread::scope_env(),
         rt,
@@ -218,7 +230,7 @@ fn run_scoped<W: Threads + Wait + Sync, G: Gate + Sync, R: Reader + Drop>(
                 × OnOk result.1.answer (R.fault_count result.0 ≡ R.fault_count reader) }
         {
             run(
-                rt, alloc, scope, plan, claims, post, gate, refused, jobs, take, handles, ended,
+                rt, alloc, scope, plan, claims, post, gate, signals, jobs, take, handles, ended,
                 reader,
             )
         },
@@ -258,6 +270,7 @@ pub fn scan_all<W: Threads + Wait + Sync, G: Gate + Sync, R: Reader + Drop>(
         post,
         take,
         jobs,
+        taken,
         reserved,
     } = ready;
     let Reserved {
@@ -266,9 +279,16 @@ pub fn scan_all<W: Threads + Wait + Sync, G: Gate + Sync, R: Reader + Drop>(
         seats,
         passes,
     } = reserved;
-    let (reader, ran) = run_scoped(
-        rt, alloc, plan, &claims, &post, gate, jobs, take, handles, ended, reader,
+    let signals = Signals::new();
+    let paced = PacedReader {
+        reader,
+        taken,
+        pace: &signals.pace,
+    };
+    let (paced, ran) = run_scoped(
+        rt, alloc, plan, &claims, &post, gate, &signals, jobs, take, handles, ended, paced,
     );
+    let reader = paced.reader;
     let Ran {
         take,
         ended,

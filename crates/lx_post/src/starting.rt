@@ -10,8 +10,10 @@ use crate::claims::Claims;
 use crate::gate::Gate;
 use crate::job::{Job, Outcome};
 use crate::note::{Note, WorkerFault};
+use crate::pace::Pace;
 use crate::passes::{SendPass, TakePass};
 use crate::post::Post;
+use crate::signals::Signals;
 use crate::working::work;
 use lx_piece::Plan;
 use std::alloc::Global;
@@ -43,6 +45,7 @@ fn begin<W: Wait, G: Gate>(
     claims: &Claims,
     post: &Post,
     gate: &G,
+    pace: &Pace,
     refused: &AtomicBool,
     job: Job,
 ) -> Outcome
@@ -53,7 +56,7 @@ fn begin<W: Wait, G: Gate>(
     if refused.load(Ordering::SeqCst) {
         return Outcome::Back(job);
     }
-    Outcome::Done(work(rt, alloc, plan, claims, post, gate, job))
+    Outcome::Done(work(rt, alloc, plan, claims, post, gate, pace, job))
 }
 
 // Starts a worker. Where no thread can be made, its job comes back.
@@ -65,6 +68,7 @@ fn start<'s, E, W: Wait + Sync, G: Gate + Sync>(
     claims: &'s Claims,
     post: &'s Post,
     gate: &'s G,
+    pace: &'s Pace,
     refused: &'s AtomicBool,
     job: Job,
 ) -> Result<Worker, Outcome>
@@ -79,7 +83,7 @@ fn start<'s, E, W: Wait + Sync, G: Gate + Sync>(
     let run = move || -> Outcome
         requires { IsReady claims.now post.now plan.now job × (claims.now.files ≡ files_of plan.now) × (claims.now.files ≤ 65536) }
         ensures { IsOutcome job result }
-    { begin(rt, alloc, plan, claims, post, gate, refused, job) };
+    { begin(rt, alloc, plan, claims, post, gate, pace, refused, job) };
     match scope.spawn_with(promise, run) {
         Ok(handle) => Ok(handle),
         Err(back) => {
@@ -147,7 +151,7 @@ fn start_or_end<'s, E, W: Wait + Sync, G: Gate + Sync>(
     claims: &'s Claims,
     post: &'s Post,
     gate: &'s G,
-    refused: &'s [AtomicBool; 8],
+    signals: &'s Signals,
     job: Job,
     take: &mut TakePass,
     handles: &mut Vec<Worker>,
@@ -169,8 +173,8 @@ fn start_or_end<'s, E, W: Wait + Sync, G: Gate + Sync>(
         → All (λ job. IsDone claims.now post.now plan.now job) ended.new.items }
 {
     let before = Snapshot::of(&job);
-    let flag = &refused[usize::from(job.pass.worker())];
-    let outcome = match start(rt, alloc, scope, plan, claims, post, gate, flag, job) {
+    let refused = &signals.refused[usize::from(job.pass.worker())];
+    let outcome = match start(rt, alloc, scope, plan, claims, post, gate, &signals.pace, refused, job) {
         Ok(handle) => {
             handles.push_reserved(handle);
             return;
@@ -190,7 +194,7 @@ pub fn start_all<'s, E, W: Wait + Sync, G: Gate + Sync>(
     claims: &'s Claims,
     post: &'s Post,
     gate: &'s G,
-    refused: &'s [AtomicBool; 8],
+    signals: &'s Signals,
     jobs: Vec<Job>,
     take: &mut TakePass,
     handles: &mut Vec<Worker>,
@@ -211,7 +215,7 @@ pub fn start_all<'s, E, W: Wait + Sync, G: Gate + Sync>(
 {
     for job in jobs {
         start_or_end(
-            rt, alloc, scope, plan, claims, post, gate, refused, job, take, handles, ended,
+            rt, alloc, scope, plan, claims, post, gate, signals, job, take, handles, ended,
         );
     }
 }

@@ -9,6 +9,7 @@ use crate::claims::Claims;
 use crate::gate::Gate;
 use crate::job::Job;
 use crate::note::{Note, WorkerFault};
+use crate::pace::Pace;
 use crate::passes::SendPass;
 use crate::post::Post;
 use lx_piece::{Cutter, Plan};
@@ -23,6 +24,7 @@ fn send_file<W: Wait, G: Gate>(
     plan: &Plan,
     post: &Post,
     gate: &G,
+    pace: &Pace,
     pass: &mut SendPass,
     file: u32,
 ) -> Result<(), AllocError>
@@ -34,6 +36,7 @@ fn send_file<W: Wait, G: Gate>(
     let worker = pass.worker();
     let mut cutter = Cutter::new(alloc, plan, file);
     for number in 0..u64::MAX {
+        pace.wait(rt, file);
         gate.pass(worker, file, number);
         let Some(piece) = cutter.next_piece(plan)? else {
             return Ok(());
@@ -57,6 +60,7 @@ fn send_drawn<W: Wait, G: Gate>(
     claims: &Claims,
     post: &Post,
     gate: &G,
+    pace: &Pace,
     seat: &mut ClaimSeat,
     pass: &mut SendPass,
 ) -> (u32, Option<WorkerFault>)
@@ -72,7 +76,7 @@ fn send_drawn<W: Wait, G: Gate>(
         let Some(file) = claims.draw(seat) else {
             return (files, None);
         };
-        let Ok(()) = send_file(rt, alloc, plan, post, gate, pass, file) else {
+        let Ok(()) = send_file(rt, alloc, plan, post, gate, pace, pass, file) else {
             return (files, Some(WorkerFault::Memory));
         };
         files += 1;
@@ -88,6 +92,7 @@ pub fn work<W: Wait, G: Gate>(
     claims: &Claims,
     post: &Post,
     gate: &G,
+    pace: &Pace,
     job: Job,
 ) -> Job
     requires ready { IsReady claims.now post.now plan.now job }
@@ -95,7 +100,11 @@ pub fn work<W: Wait, G: Gate>(
     ensures { HasWorked job result }
 {
     let Job { mut seat, mut pass } = job;
-    let (files, fault) = send_drawn(rt, alloc, plan, claims, post, gate, &mut seat, &mut pass);
+    let (files, fault) = send_drawn(rt, alloc, plan, claims, post, gate, pace, &mut seat, &mut pass);
+    // a file of its stays open, which is nothing to wait for
+    if fault.is_some() {
+        pace.end();
+    }
     let worker = pass.worker();
     post.send(
         rt,

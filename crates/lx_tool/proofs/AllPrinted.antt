@@ -36,18 +36,22 @@ all_came plan old new came start led ended file within = λ number l.
     sym (led.1 ∙ ap (λ (s : CutSoFar). s.cut ++ came) start) ∙ (ended ∙ ap (λ (p : Planned). pieces_below p (files_of p)) same) in
     subst (λ pieces. Contains pieces (piece_at plan file number)) (sym came_is) (piece_below plan (files_of plan) file number within l)
 
--- a new printer that took all pieces of all files printed the listing
+-- a new printer that took every piece of every file printed the listing
+pub printed_whole : (plan : Planned) (old new : Progress) (a b : Option (List ℕ)) → IsPlan plan → old ≡ record { plan = plan; counts = replicate (files_of plan) 0; faults = 0; failed = false } → new.plan ≡ old.plan → Prints (printed old a) (printed new b) → AreAllClosed plan new.counts → Appends a b (listing_of plan)
+printed_whole plan old new a b is start same f closed =
+    let plan_is : new.plan ≡ plan = same ∙ ap (λ (s : Progress). s.plan) start in
+    let due = subst (λ (s : Progress). IsDue s.plan s.counts []) (sym start) (fresh_due plan (replicate (files_of plan) 0) is refl) in
+    let text = f.whole (ap (λ (s : Progress). s.failed) start) (subst (λ (p : Planned). AreAllClosed p new.counts) (sym plan_is) closed) [] due in
+    subst (λ (bs : List ℕ). Appends a b bs) (text ∙ ap listing_of plan_is) f.wrote
+
+-- and so does one to which all pieces of all files came
 pub printed_all : (plan : Planned) (old new : Progress) (a b : Option (List ℕ)) (cut_old cut_new : CutSoFar) (came : List Piece) → IsPlan plan → old ≡ record { plan = plan; counts = replicate (files_of plan) 0; faults = 0; failed = false } → new.plan ≡ old.plan → Prints (printed old a) (printed new b) → cut_old ≡ record { plan = plan; cut = []; refused = false } → Cuts cut_old came cut_new → (cut_new.refused ≡ true) ⊎ (cut_new.cut ≡ pieces_below cut_new.plan (files_of cut_new.plan)) → cut_new.refused ≡ false → ((file : ℕ) → file < files_of plan → AreAllAmong plan file came → slice_index new.counts file ≡ pieces_of plan file) → Appends a b (listing_of plan)
 printed_all plan old new a b cut_old cut_new came is start same f cuts_start led ended going whole =
     let all : (file : ℕ) → file < files_of plan → AreAllAmong plan file came = elim ended [
       | inl refused ↦ absurd (both_ways cut_new.refused going refused)
       | inr done ↦ all_came plan cut_old cut_new came cuts_start led done
     ] in
-    let plan_is : new.plan ≡ plan = same ∙ ap (λ (s : Progress). s.plan) start in
-    let closed : AreAllClosed plan new.counts = λ file within. whole file within (all file within) in
-    let due = subst (λ (s : Progress). IsDue s.plan s.counts []) (sym start) (fresh_due plan (replicate (files_of plan) 0) is refl) in
-    let text = f.whole (ap (λ (s : Progress). s.failed) start) (subst (λ (p : Planned). AreAllClosed p new.counts) (sym plan_is) closed) [] due in
-    subst (λ (bs : List ℕ). Appends a b bs) (text ∙ ap listing_of plan_is) f.wrote
+    printed_whole plan old new a b is start same f (λ file within. whole file within (all file within))
 
 -- one that failed printed a prefix
 pub printed_part : (plan : Planned) (old new : Progress) (a b : Option (List ℕ)) → IsPlan plan → old ≡ record { plan = plan; counts = replicate (files_of plan) 0; faults = 0; failed = false } → Prints (printed old a) (printed new b) → AppendsPrefix a b (listing_of plan)

@@ -8,10 +8,8 @@ use Rattle.lx_spec.specs.declared.fault.Code.TheVariants as code
 use Rattle.lx_spec.specs.declared.fault.SpecFault.{SpecFault}
 use Rattle.lx_tables.specs.declared.fault.TableFault.{TableFault}
 use Rattle.lx_tables.specs.declared.fault.TableFault.TheVariants as table
-use Rattle.lx_piece.specs.declared.relaying.RelayFault.{RelayFault}
-use Rattle.lx_piece.specs.declared.relaying.RelayFault.TheVariants as relay
-use Rattle.lx_tool.specs.declared.printing.RunFault.{RunFault}
-use Rattle.lx_tool.specs.declared.printing.RunFault.TheVariants as run
+use Rattle.lx_post.specs.declared.run_fault.RunFault.{RunFault}
+use Rattle.lx_post.specs.declared.run_fault.RunFault.TheVariants as run
 use Rattle.lx_tool.specs.declared.failure.Failure.{Failure}
 use Rattle.lx_tool.specs.declared.failure.Failure.TheVariants.{Specification, Automaton, Tables, Words, TooManyFiles, NotRead, Output, Memory}
 
@@ -25,11 +23,6 @@ status_of TooManyFiles = 2
 status_of (NotRead name) = 3
 status_of Output = 4
 status_of Memory = 5
-
--- why a listing is not written whole whose relay ended early
-abbrev pub run_fault_of : RelayFault → RunFault
-run_fault_of relay.Reader = run.Reader
-run_fault_of relay.Memory = run.Memory
 
 -- why a command is not done whose listing is not written whole
 abbrev pub failure_of_run : RunFault → Failure

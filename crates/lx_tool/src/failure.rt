@@ -3,9 +3,9 @@
 ghost use Rattle.std.specs.Prelude.{◌≡◌};
 ghost use Rattle.lx_tool.specs.Statuses.{status_of};
 
-use crate::printing::RunFault;
 use clap::Error as WordsError;
 use lx_auto::BuildFault;
+use lx_post::RunFault;
 use lx_spec::fault::{Code, SpecFault};
 use lx_tables::TableFault;
 use std::alloc::{AllocError, AllocFailed};

@@ -9,14 +9,16 @@ ghost use Rattle.lx_tool.specs.Sources.{AreGiven, cut_names, whole};
 ghost use Rattle.lx_tool.specs.Tabling.{HasNoTables};
 
 use crate::failure::Failure;
-use crate::planning::list_files;
 use crate::source::{SourceFault, Sources};
 use crate::tabling::tables_of_text;
+use crate::threading::{OneThread, Threading, Workers};
 use lx_piece::Input;
 use lx_scan::ruling::items_are_by_rules;
 use lx_tables::Tables;
 use std::alloc::{AllocError, Global};
 use std::io::Write;
+use std::sync::Wait;
+use std::thread::Threads;
 
 // A fact, of what a slice of bytes has.
 fn are_bytes(bytes: &[u8])
@@ -97,7 +99,8 @@ fn names_of_cut<'a>(
 }
 
 // Lists the files with these names by the tables. All are read before the first line is written.
-fn list_given<'a, S: Sources, W: Write>(
+fn list_given<'a, H: Threading<W>, S: Sources, W: Write>(
+    threading: &H,
     alloc: Global,
     tables: Tables,
     names: &[&'a str],
@@ -118,7 +121,7 @@ fn list_given<'a, S: Sources, W: Write>(
     if files.is_empty() {
         return Ok(cut);
     }
-    list_files(alloc, tables, files, per_piece, out)?;
+    threading.list(alloc, tables, files, per_piece, out)?;
     Ok(cut)
 }
 
@@ -145,16 +148,18 @@ pub fn list_by_specification<'a, S: Sources, W: Write>(
     let tables = tables_of_text(alloc, text)?;
     // its contract says what holds of all tables
     let _conditions = tables.conditions();
-    list_given(alloc, tables, names, per_piece, sources, out)
+    list_given(&OneThread, alloc, tables, names, per_piece, sources, out)
 }
 
-/// Lists the files with these names by the tables whose text it is, in either version, with `per_piece` items a piece. The text is judged
-/// before a file is read, and all files are read before the first line is written. The result are the names of those that were cut short,
-/// in order.
-pub fn list_by_tables<'a, S: Sources, W: Write>(
+/// Lists the files with these names by the tables whose text it is, in either version, by 1 to 8 workers and with `per_piece` items a piece.
+/// The text is judged before a file is read, and all files are read before the first line is written. The result are the names of those that were
+/// cut short, in order.
+pub fn list_by_tables<'a, T: Threads + Wait + Sync, S: Sources, W: Write>(
+    rt: &T,
     alloc: Global,
     text: &[u8],
     names: &[&'a str],
+    workers: u8,
     per_piece: u32,
     sources: &mut S,
     out: &mut W,
@@ -162,6 +167,8 @@ pub fn list_by_tables<'a, S: Sources, W: Write>(
     requires few_files { length names.now ≤ 65536 }
     requires some_items { 0 < per_piece }
     requires few_items { per_piece ≤ 4096 }
+    requires some_workers { 0 < workers }
+    requires few_workers { workers ≤ 8 }
     ensures ok { IfOk result (λ cut. AreListed S.gives (λ inputs. ListsByText text.now inputs (W.contents out.old) (W.contents out.new))
         (map (λ name. name.now) names.now) sources.old sources.new (map (λ name. name.now) cut.items)) }
     ensures err { IfErr result (λ failure. FailsListing (IsNoTable text.now)
@@ -171,5 +178,6 @@ pub fn list_by_tables<'a, S: Sources, W: Write>(
     let tables = Tables::read(alloc, text)?;
     // its contract says what holds of all tables
     let _conditions = tables.conditions();
-    list_given(alloc, tables, names, per_piece, sources, out)
+    let threading = Workers { rt, count: workers };
+    list_given(&threading, alloc, tables, names, per_piece, sources, out)
 }

@@ -14,14 +14,15 @@ mod program;
 mod reading;
 mod source;
 mod tabling;
+mod threading;
 mod waiting;
 mod writing;
 
 pub use failure::Failure;
 pub use given::{list_by_specification, list_by_tables};
 pub use listing::Listing;
-pub use planning::{list_files, listings_are_by_rules, printed_tables_list_by_rules};
-pub use printing::{RunFault, print_listing};
+pub use planning::{list_files, listings_are_by_rules, printed_tables_list_by_rules, scan_files};
+pub use printing::{print_listing, scan_listing};
 pub use program::run;
 pub use reading::read_to_end;
 pub use source::{ListSources, SourceFault, Sources};

@@ -7,13 +7,16 @@ ghost use Rattle.lx_tables.specs.Reading.{IsTextOf};
 ghost use Rattle.lx_tool.specs.Planning.{AreBytes, ListsBy, ListsPrefixBy, ListsByRules};
 ghost use Rattle.lx_tool.specs.Tabling.{AreTablesOfText};
 
-use crate::printing::{RunFault, print_listing};
+use crate::printing::{print_listing, scan_listing};
 use lx_piece::{Input, Plan};
+use lx_post::RunFault;
 use lx_scan::ruling::items_are_by_rules;
 use lx_tables::Tables;
 use lx_tables::uniqueness::texts_are_one_to_one;
 use std::alloc::Global;
 use std::io::Write;
+use std::sync::Wait;
+use std::thread::Threads;
 
 // The number that the pieces of a run of the program carry.
 const RUN: u64 = 1;
@@ -36,6 +39,29 @@ pub fn list_files<W: Write>(
 {
     let plan = Plan::new(tables, files, per_piece, RUN);
     print_listing(alloc, &plan, out)
+}
+
+/// Writes the same lines as `list_files`, where 1 to 8 workers scan the files.
+pub fn scan_files<T: Threads + Wait + Sync, W: Write>(
+    rt: &T,
+    alloc: Global,
+    tables: Tables,
+    files: Vec<Input>,
+    per_piece: u32,
+    workers: u8,
+    out: &mut W,
+) -> Result<(), RunFault>
+    requires some_files { 0 < vec_len files }
+    requires few_files { vec_len files ≤ 65536 }
+    requires some_items { 0 < per_piece }
+    requires few_items { per_piece ≤ 4096 }
+    requires some_workers { 0 < workers }
+    requires few_workers { workers ≤ 8 }
+    ensures ok { OnOk result (ListsBy tables (map input_view files.items) (W.contents out.old) (W.contents out.new)) }
+    ensures err { OnErr result (ListsPrefixBy tables (map input_view files.items) (W.contents out.old) (W.contents out.new)) }
+{
+    let plan = Plan::new(tables, files, per_piece, RUN);
+    scan_listing(rt, alloc, &plan, workers, out)
 }
 
 /// A law: what is listed by tables of the specification that a text says are the items by its rules.

@@ -1,47 +1,17 @@
-ghost use Rattle.std.specs.Prelude.{◌≡◌, ◌<◌, OnOk, OnErr, Err, replicate, false};
+ghost use Rattle.std.specs.Prelude.{◌≡◌, ◌<◌, ◌≤◌, OnOk, OnErr, Err, replicate, false};
 ghost use Rattle.std.specs.Io.KnownBytes.{Appends};
-ghost use Rattle.lx_piece.specs.Plans.{files_of};
+ghost use Rattle.lx_piece.specs.Plans.{IsPlan, files_of};
+ghost use Rattle.lx_post.specs.declared.run_fault.RunFault.{RunFault};
 ghost use Rattle.lx_tool.specs.Listings.{AppendsPrefix, listing_of};
 
 use crate::cuts::Cuts;
 use crate::listing::Lister;
-use lx_piece::{Piece, Plan, Reader, ReaderFault, RelayFault, relay};
-use std::alloc::{AllocError, Global};
+use lx_piece::{Piece, Plan, Reader, ReaderFault, relay};
+use lx_post::{OpenGate, RunFault, scan_all};
+use std::alloc::Global;
 use std::io::Write;
-use thiserror::Error;
-
-/// Why a listing wasn't written whole.
-#[derive(Clone, Copy, Debug, PartialEq, Eq, Error)]
-pub enum RunFault {
-    #[error("out of memory")]
-    Memory,
-    /// The writer failed.
-    #[error("the output failed")]
-    Reader,
-}
-
-impl From<AllocError> for RunFault {
-    ghost use Rattle.lx_tool.specs.declared.printing.RunFault.{RunFault};
-
-    ghost from_gives = { λ _ fault. fault ≡ RunFault.Memory };
-
-    fn from(_error: AllocError) -> Self {
-        RunFault::Memory
-    }
-}
-
-impl From<RelayFault> for RunFault {
-    ghost use Rattle.lx_tool.specs.Statuses.{run_fault_of};
-
-    ghost from_gives = { λ relayed fault. fault ≡ run_fault_of relayed };
-
-    fn from(fault: RelayFault) -> Self {
-        match fault {
-            RelayFault::Reader => RunFault::Reader,
-            RelayFault::Memory => RunFault::Memory,
-        }
-    }
-}
+use std::sync::Wait;
+use std::thread::Threads;
 
 /// A listing over a writer that is lent. It owns nothing, so that what the writer holds in the end is known.
 #[derive(Drop)]
@@ -111,4 +81,48 @@ pub fn print_listing<W: Write>(alloc: Global, plan: &Plan, out: &mut W) -> Resul
         out,
     };
     print_all(alloc, plan, &mut printer)
+}
+
+// Hands a new printer all pieces of the plan, as workers cut them. It comes back, since it was moved to the thread that hands them on.
+fn scan_to<'l, 'p, 'w, T: Threads + Wait + Sync, W: Write>(
+    rt: &T,
+    alloc: Global,
+    plan: &Plan,
+    workers: u8,
+    printer: Printer<'l, 'p, 'w, W>,
+) -> (Printer<'l, 'p, 'w, W>, Result<(), RunFault>)
+    requires some_workers { 0 < workers }
+    requires few_workers { workers ≤ 8 }
+    requires fresh { printer.lister.now ≡ record { plan = plan.now; counts = replicate (files_of plan.now) 0; faults = 0; failed = false } }
+    requires plan { IsPlan plan.now }
+    ensures same_reference { result.0.out.ghost_name ≡ printer.out.ghost_name }
+    ensures ok { OnOk result.1 (Appends (W.contents printer.out.now) (W.contents result.0.out.now) (listing_of plan.now)) }
+    ensures err { OnErr result.1 (AppendsPrefix (W.contents printer.out.now) (W.contents result.0.out.now) (listing_of plan.now)) }
+    // The writer is blamed only where it failed.
+    ensures reader { result.1 ≡ Err RunFault.Reader → 0 < result.0.lister.now.faults }
+{
+    scan_all(rt, alloc, plan, workers, &OpenGate, printer)
+}
+
+/// Writes the listing of a plan's files, which 1 to 8 workers scan, the lines of each file in order and the files in order.
+/// After a fault a prefix of it was written.
+pub fn scan_listing<T: Threads + Wait + Sync, W: Write>(
+    rt: &T,
+    alloc: Global,
+    plan: &Plan,
+    workers: u8,
+    out: &mut W,
+) -> Result<(), RunFault>
+    requires some_workers { 0 < workers }
+    requires few_workers { workers ≤ 8 }
+    ensures ok { OnOk result (Appends (W.contents out.old) (W.contents out.new) (listing_of plan.now)) }
+    ensures err { OnErr result (AppendsPrefix (W.contents out.old) (W.contents out.new) (listing_of plan.now)) }
+{
+    let mut lister = Lister::new(alloc, plan)?;
+    let printer = Printer {
+        lister: &mut lister,
+        out,
+    };
+    let (_printer, answer) = scan_to(rt, alloc, plan, workers, printer);
+    answer
 }
