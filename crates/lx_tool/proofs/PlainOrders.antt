@@ -32,11 +32,11 @@ pub data Listing : Type 0 where
 
 abbrev name : Listing → Text
 name of_run = codes "run"
-name (of_scan j) = codes "scan"
+name (of_scan w) = codes "scan"
 
 abbrev id : Listing → Text
 id of_run = codes "SPEC"
-id (of_scan j) = codes "TABLES"
+id (of_scan w) = codes "TABLES"
 
 abbrev one_value : Rule → Rule
 one_value a = record a { action = Some Set; range = Some (record { start_inclusive = 1; end_inclusive = 1 }) }
@@ -50,10 +50,10 @@ files = record files_rule { index = Some 2; parser = Some parser.String }
 abbrev help : Rule
 help = record help_rule { range = Some (record { start_inclusive = 0; end_inclusive = 0 }); parser = Some parser.String }
 
--- those that only `scan` takes
+-- the flag that only `scan` takes
 abbrev own_rules : Listing → List Rule
 own_rules of_run = []
-own_rules (of_scan j) = one_value workers_rule ∷ []
+own_rules (of_scan w) = one_value workers_rule ∷ []
 
 abbrev listing : Listing → Shape
 listing b = record (new_shape (name b)) {
@@ -65,7 +65,7 @@ listing b = record (new_shape (name b)) {
 enters : (b : Listing) → Enters (name b) (listing b)
 unfolding lx_app walked
 enters of_run = record { passes = refl; goes = refl; found = refl }
-enters (of_scan j) = record { passes = refl; goes = refl; found = refl }
+enters (of_scan w) = record { passes = refl; goes = refl; found = refl }
 
 -- ---- the numbers of `-b` and `-j`
 
@@ -97,18 +97,19 @@ number_row id k = record { id = id; values = k ∷ []; count = None; source = So
 abbrev at_number : Text → Text → Held
 at_number id k = record { rows = []; pending = Some (id, k ∷ []); skip = 0 }
 
--- what is held before the word of `-b`, and once it is met
+-- what is held behind the words of `-j`
 abbrev held_first : Listing → Held
 held_first of_run = nothing_held
 held_first (of_scan None) = nothing_held
 held_first (of_scan (Some j)) = at_number (codes "workers") j
 
+-- the rows once they are settled
 abbrev rows_first : Listing → List Row
 rows_first of_run = []
 rows_first (of_scan None) = []
 rows_first (of_scan (Some j)) = number_row (codes "workers") j ∷ []
 
--- the same before the first name
+-- the same behind the words of `-b`
 abbrev held_before : Listing → Option Text → Held
 held_before b None = held_first b
 held_before b (Some k) = record (at_number (codes "items") k) { rows = rows_first b }
@@ -117,7 +118,7 @@ abbrev rows_before : Listing → Option Text → List Row
 rows_before b None = rows_first b
 rows_before b (Some k) = rows_first b ++ number_row (codes "items") k ∷ []
 
--- the numbers are some
+-- the numbers are ones that the flags take
 abbrev AreGiven : Listing → Option Text → Type 0
 AreGiven of_run o = IsItems o
 AreGiven (of_scan w) o = IsWorkers w × IsItems o
@@ -289,7 +290,7 @@ items_steps b (Some k) r f fs ready plain first more =
     (step_then _ _ _ _ _ k _ (number_passes b k ready.1.0) (number_goes b k ready.1.0)
     (name_steps b (Some k) r f fs ready plain first more))
 
--- the words of the flags that only `scan` takes
+-- the words of `-j`, which only `scan` takes
 abbrev first_words : Listing → List Text
 first_words of_run = []
 first_words (of_scan w) = workers_words w
