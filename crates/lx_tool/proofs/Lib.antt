@@ -4,7 +4,7 @@ pub mod Asked
 pub mod Cutting
 pub mod Files
 pub mod GivenListed
-pub mod ItemsRead
+pub mod NumbersRead
 pub mod Obeyed
 pub mod Pieces
 pub mod Placing

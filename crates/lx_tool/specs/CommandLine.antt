@@ -30,6 +30,15 @@ items_rule = record (new_rule (codes "items")) {
   defaults = codes "256" ∷ [];
 }
 
+-- `-j N`, from 1 to 8, and 4 where it isn't given
+abbrev pub workers_rule : Rule
+workers_rule = record (new_rule (codes "workers")) {
+  short = Some 106;
+  value_names = 1;
+  parser = Some (Signed (pos 1) (pos 8));
+  defaults = codes "4" ∷ [];
+}
+
 -- FILE.., at least one
 abbrev pub files_rule : Rule
 files_rule = record (new_rule (codes "FILE")) {
@@ -42,9 +51,17 @@ files_rule = record (new_rule (codes "FILE")) {
 abbrev pub one_file_app : Text → Text → App
 one_file_app name id = with_rule (new_app name) (rules_rule id)
 
--- `run [-b K] SPEC FILE..` and `scan [-b K] TABLES FILE..`
+-- `[-b K]`, SPEC or TABLES, and FILE..
+abbrev pub with_list : App → Text → App
+with_list a id = with_rule (with_rule (with_rule a items_rule) (rules_rule id)) files_rule
+
+-- `run [-b K] SPEC FILE..`
 abbrev pub list_app : Text → Text → App
-list_app name id = with_rule (with_rule (with_rule (new_app name) items_rule) (rules_rule id)) files_rule
+list_app name id = with_list (new_app name) id
+
+-- `scan [-j N] [-b K] TABLES FILE..`
+abbrev pub scan_app : App
+scan_app = with_list (with_rule (new_app (codes "scan")) workers_rule) (codes "TABLES")
 
 -- a subcommand has to be given, and none is `help`
 abbrev pub bare_app : App
@@ -53,7 +70,7 @@ bare_app = on_top (λ s. record s { disable_help_subcommand = true; subcommand_r
 unfoldable pub lx_app : App
 lx_app = with_subcommand (with_subcommand (with_subcommand (with_subcommand bare_app
     (one_file_app (codes "gen") (codes "SPEC")).top) (one_file_app (codes "up") (codes "TABLES")).top)
-    (list_app (codes "scan") (codes "TABLES")).top) (list_app (codes "run") (codes "SPEC")).top
+    scan_app.top) (list_app (codes "run") (codes "SPEC")).top
 
 -- ---- what words ask for
 
@@ -66,13 +83,22 @@ pub record PlainOrder : Type 0 where
 pub data Asked : Type 0 where
   stored : Asked
   run : PlainOrder → Asked
-  scan : PlainOrder → Asked
+  -- with how many threads the files are scanned, and what is listed
+  scan : ℕ → PlainOrder → Asked
   gen : Text → Asked
   up : Text → Asked
 
+-- the number of an option, from 1 to `most`, and `default` where it isn't given
+abbrev pub number_in : Text → ℕ → ℕ → List Row → ℕ
+number_in id most default rows = option_map_or (λ t. if is_unsigned_in 1 most t then digits_value 10 (without_leading_plus t) else default) (one_of id rows) default
+
 -- the number of `-b`
 abbrev pub items_in : List Row → ℕ
-items_in rows = option_map_or (λ t. if is_unsigned_in 1 4096 t then digits_value 10 (without_leading_plus t) else 256) (one_of (codes "items") rows) 256
+items_in rows = number_in (codes "items") 4096 256 rows
+
+-- the number of `-j`
+abbrev pub workers_in : List Row → ℕ
+workers_in rows = number_in (codes "workers") 8 4 rows
 
 abbrev pub rules_in : Text → List Row → Text
 rules_in id rows = unwrap_or (first_of id rows) []
@@ -88,7 +114,7 @@ abbrev pub asked_of : Text × List Row → Option Asked
 asked_of p =
     if bytes_eq p.0 (codes "gen") then Some (gen (rules_in (codes "SPEC") p.1))
     else (if bytes_eq p.0 (codes "up") then Some (up (rules_in (codes "TABLES") p.1))
-    else (if bytes_eq p.0 (codes "scan") then Some (scan (order_in (codes "TABLES") p.1))
+    else (if bytes_eq p.0 (codes "scan") then Some (scan (workers_in p.1) (order_in (codes "TABLES") p.1))
     else (if bytes_eq p.0 (codes "run") then Some (run (order_in (codes "SPEC") p.1)) else None)))
 
 -- `clap` may answer the words by an error of this kind, of which the help is one
@@ -114,7 +140,7 @@ abbrev pub asked_as : Order → Option Asked
 asked_as order.Stored = Some stored
 asked_as (order.Help text) = None
 asked_as (order.Run o) = Some (run (plain_order o))
-asked_as (order.Scan o) = Some (scan (plain_order o))
+asked_as (order.Scan o) = Some (scan o.workers (plain_order o.list))
 asked_as (order.Gen name) = Some (gen name.now)
 asked_as (order.Up name) = Some (up name.now)
 
@@ -124,17 +150,37 @@ asked_as (order.Up name) = Some (up name.now)
 abbrev pub IsPlainWord : Text → Type 0
 IsPlainWord word = slice_index word 0 ≢ 45
 
+-- the words of a flag, where its number is given
+abbrev pub number_words : Text → Option Text → List Text
+number_words flag None = []
+number_words flag (Some number) = flag ∷ number ∷ []
+
+abbrev pub number_given : ℕ → Option Text → ℕ
+number_given default None = default
+number_given default (Some number) = digits_value 10 (without_leading_plus number)
+
+abbrev pub IsNumber : ℕ → Option Text → Type 0
+IsNumber most number = IfSome number (λ n. is_unsigned_in 1 most n ≡ true)
+
 -- the words of `-b`, where it is given, and its number
 abbrev pub items_words : Option Text → List Text
-items_words None = []
-items_words (Some number) = codes "-b" ∷ number ∷ []
+items_words number = number_words (codes "-b") number
 
 abbrev pub items_given : Option Text → ℕ
-items_given None = 256
-items_given (Some number) = digits_value 10 (without_leading_plus number)
+items_given number = number_given 256 number
 
 abbrev pub IsItems : Option Text → Type 0
-IsItems number = IfSome number (λ n. is_unsigned_in 1 4096 n ≡ true)
+IsItems number = IsNumber 4096 number
+
+-- the words of `-j`, where it is given, and its number
+abbrev pub workers_words : Option Text → List Text
+workers_words number = number_words (codes "-j") number
+
+abbrev pub workers_given : Option Text → ℕ
+workers_given number = number_given 4 number
+
+abbrev pub IsWorkers : Option Text → Type 0
+IsWorkers number = IsNumber 8 number
 
 -- Such words ask for what they say.
 pub record PlainWordsAsk : Type 0 where
@@ -142,5 +188,5 @@ pub record PlainWordsAsk : Type 0 where
   pub ups : (program tables : Text) → IsPlainWord tables → asked_by (program ∷ codes "up" ∷ tables ∷ []) ≡ Some (up tables)
   pub runs : (program : Text) (number : Option Text) (spec file : Text) (files : List Text) → IsItems number → All IsPlainWord (spec ∷ file ∷ files) → length files < usize_max
       → asked_by (program ∷ codes "run" ∷ (items_words number ++ spec ∷ file ∷ files)) ≡ Some (run (record { per_piece = items_given number; rules = spec; files = file ∷ files }))
-  pub scans : (program : Text) (number : Option Text) (tables file : Text) (files : List Text) → IsItems number → All IsPlainWord (tables ∷ file ∷ files) → length files < usize_max
-      → asked_by (program ∷ codes "scan" ∷ (items_words number ++ tables ∷ file ∷ files)) ≡ Some (scan (record { per_piece = items_given number; rules = tables; files = file ∷ files }))
+  pub scans : (program : Text) (workers number : Option Text) (tables file : Text) (files : List Text) → IsWorkers workers → IsItems number → All IsPlainWord (tables ∷ file ∷ files) → length files < usize_max
+      → asked_by (program ∷ codes "scan" ∷ (workers_words workers ++ (items_words number ++ tables ∷ file ∷ files))) ≡ Some (scan (workers_given workers) (record { per_piece = items_given number; rules = tables; files = file ∷ files }))

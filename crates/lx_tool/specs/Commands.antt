@@ -37,7 +37,7 @@ pub record IsPrinted {S : Type 0} (gives : S → List ℕ → PlainInput → S �
 abbrev pub HasDone : {S : Type 0} → (S → List ℕ → PlainInput → S → Type 0) → (List ℕ → ℕ) → S → S → Option (List ℕ) → Option (List ℕ) → List (List ℕ) → Asked → Type 0
 HasDone gives ends before after old new cut stored = ListsByRules ends stored_specification (whole stored_text ∷ []) old new × (cut ≡ [])
 HasDone gives ends before after old new cut (run order) = AreListedBy gives (λ text inputs. ListsByRules ends text inputs old new) order before after cut
-HasDone gives ends before after old new cut (scan order) = AreListedBy gives (λ text inputs. ListsByText text inputs old new) order before after cut
+HasDone gives ends before after old new cut (scan workers order) = AreListedBy gives (λ text inputs. ListsByText text inputs old new) order before after cut
 HasDone gives ends before after old new cut (gen name) = IsPrinted gives (λ text. Generates ends text old new) name before after × (cut ≡ [])
 HasDone gives ends before after old new cut (up name) = IsPrinted gives (λ text. Upgrades text old new) name before after × (cut ≡ [])
 
@@ -47,7 +47,7 @@ HasDone gives ends before after old new cut (up name) = IsPrinted gives (λ text
 abbrev pub files_asked : Asked → List (List ℕ)
 files_asked stored = []
 files_asked (run order) = order.files
-files_asked (scan order) = order.files
+files_asked (scan workers order) = order.files
 files_asked (gen name) = []
 files_asked (up name) = []
 
@@ -55,7 +55,7 @@ files_asked (up name) = []
 abbrev pub names_asked : Asked → List (List ℕ)
 names_asked stored = []
 names_asked (run order) = order.rules ∷ order.files
-names_asked (scan order) = order.rules ∷ order.files
+names_asked (scan workers order) = order.rules ∷ order.files
 names_asked (gen name) = name ∷ []
 names_asked (up name) = name ∷ []
 
@@ -70,7 +70,7 @@ pub record IsTextRefused {S : Type 0} (gives : S → List ℕ → PlainInput →
 abbrev pub AreRulesRefused : {S : Type 0} → (S → List ℕ → PlainInput → S → Type 0) → (List ℕ → ℕ) → S → Asked → Failure → Type 0
 AreRulesRefused gives ends before stored failure = HasNoTables ends stored_specification failure
 AreRulesRefused gives ends before (run order) failure = IsTextRefused gives (λ text. HasNoTables ends text failure) order.rules before
-AreRulesRefused gives ends before (scan order) failure = IsTextRefused gives (λ text. IsNoTable text failure) order.rules before
+AreRulesRefused gives ends before (scan workers order) failure = IsTextRefused gives (λ text. IsNoTable text failure) order.rules before
 AreRulesRefused gives ends before (gen name) failure = IsTextRefused gives (λ text. HasNoTables ends text failure) name before
 AreRulesRefused gives ends before (up name) failure = IsTextRefused gives (λ text. IsNoTable text failure) name before
 

@@ -12,6 +12,9 @@ use std::alloc::AllocError;
 /// How many items a piece has where `-b` is not given.
 pub(crate) const ITEMS: u32 = 256;
 
+/// With how many threads files are scanned where `-j` is not given.
+pub(crate) const WORKERS: u8 = 4;
+
 /// What the words of the command line ask for.
 #[derive(Drop)]
 pub(crate) enum Order<'a> {
@@ -22,14 +25,25 @@ pub(crate) enum Order<'a> {
     /// `run`: the listing of files by a specification.
     Run(ListOrder<'a>),
     /// `scan`: the listing of files by tables.
-    Scan(ListOrder<'a>),
+    Scan(ScanOrder<'a>),
     /// `gen`: the tables of the specification with this name.
     Gen(&'a str),
     /// `up`: the tables with this name, printed in version 2.
     Up(&'a str),
 }
 
-/// The words of `run` and of `scan`.
+/// The words of `scan`.
+#[derive(Drop)]
+pub(crate) struct ScanOrder<'a> {
+    /// With how many threads the files are scanned.
+    pub(crate) workers: u8,
+    /// What is listed, by tables.
+    pub(crate) list: ListOrder<'a>,
+    ghost some_workers: { 0 < workers },
+    ghost few_workers: { workers ≤ 8 },
+}
+
+/// The words of `run`, and those of `scan` but for the threads.
 #[derive(Drop)]
 pub(crate) struct ListOrder<'a> {
     /// How many items a piece has.

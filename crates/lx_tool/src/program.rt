@@ -116,7 +116,7 @@ fn carry_out<'a, S: Sources, O: Write>(
             Ok(Vec::new(alloc))
         }
         Order::Run(order) => list_by_rules_of(alloc, &order, sources, out),
-        Order::Scan(order) => list_by_tables_of(alloc, &order, sources, out),
+        Order::Scan(order) => list_by_tables_of(alloc, &order.list, sources, out),
         Order::Gen(name) => {
             generate_named(alloc, name, sources, out)?;
             Ok(Vec::new(alloc))
@@ -161,17 +161,17 @@ fn list_by_rules_of<'a, S: Sources, O: Write>(
     list_by_specification(alloc, &text, &order.files, order.per_piece, sources, out)
 }
 
-// Lists the order's files by its tables.
+// Lists the order's files by its tables. What is done does not depend on the number of workers.
 fn list_by_tables_of<'a, S: Sources, O: Write>(
     alloc: Global,
     order: &ListOrder<'a>,
     sources: &mut S,
     out: &mut O,
 ) -> Result<Vec<&'a str>, Failure<'a>>
-    ensures ok { (ends : List ℕ → ℕ) → EndsPatterns ends → IfOk result (λ cut.
-        HasDone S.gives ends sources.old sources.new (O.contents out.old) (O.contents out.new) (map (λ name. name.now) cut.items) (scan-asked (plain_order order.now))) }
-    ensures err { (ends : List ℕ → ℕ) → EndsPatterns ends →
-        IfErr result (HasFailed S.gives ends (Some (scan-asked (plain_order order.now))) sources.old (O.contents out.old) (O.contents out.new)) }
+    ensures ok { (ends : List ℕ → ℕ) → EndsPatterns ends → (workers : ℕ) → IfOk result (λ cut.
+        HasDone S.gives ends sources.old sources.new (O.contents out.old) (O.contents out.new) (map (λ name. name.now) cut.items) (scan-asked workers (plain_order order.now))) }
+    ensures err { (ends : List ℕ → ℕ) → EndsPatterns ends → (workers : ℕ) →
+        IfErr result (HasFailed S.gives ends (Some (scan-asked workers (plain_order order.now))) sources.old (O.contents out.old) (O.contents out.new)) }
 {
     if order.files.len() > MOST_FILES {
         return Err(Failure::TooManyFiles);

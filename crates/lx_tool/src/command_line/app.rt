@@ -3,7 +3,7 @@
 ghost use Rattle.std.specs.Prelude.{◌≡◌, IfOk, codes, false};
 ghost use Rattle.clap.specs.Words.{app_of, rule_of};
 ghost use Rattle.clap.specs.declared.builder.Command.TheViews.{out-Command as fields_of};
-ghost use Rattle.lx_tool.specs.CommandLine.{files_rule, items_rule, list_app, lx_app, one_file_app, rules_rule};
+ghost use Rattle.lx_tool.specs.CommandLine.{files_rule, items_rule, list_app, lx_app, one_file_app, rules_rule, scan_app, workers_rule};
 
 use clap::{Arg, ArgAction, Command, value_parser};
 use std::alloc::{AllocError, Global};
@@ -52,11 +52,12 @@ fn run_command<'a>(alloc: Global) -> Result<Command<'a>, AllocError>
 }
 
 fn scan_command<'a>(alloc: Global) -> Result<Command<'a>, AllocError>
-    ensures app { IfOk result (λ command. app_of command ≡ list_app (codes "scan") (codes "TABLES")) }
+    ensures app { IfOk result (λ command. app_of command ≡ scan_app) }
     ensures local { IfOk result (λ command. (fields_of command).has_globals ≡ false) }
 {
     Command::new(alloc, "scan")
         .about("Lists the tokens and the echoed bytes of files by tables")
+        .arg(workers(alloc))?
         .arg(items(alloc))?
         .arg(tables(alloc))?
         .arg(files(alloc))
@@ -90,6 +91,18 @@ fn items<'a>(alloc: Global) -> Arg<'a>
         .help("How many items a piece has, from 1 to 4096")
         .value_parser(value_parser!(u32).range(1..=4096))
         .default_value("256")
+}
+
+fn workers<'a>(alloc: Global) -> Arg<'a>
+    ensures rule { rule_of result ≡ workers_rule }
+    ensures local { result.global ≡ false }
+{
+    Arg::new(alloc, "workers")
+        .short('j')
+        .value_name("N")
+        .help("With how many threads the files are scanned, from 1 to 8")
+        .value_parser(value_parser!(u8).range(1..=8))
+        .default_value("4")
 }
 
 fn files<'a>(alloc: Global) -> Arg<'a>

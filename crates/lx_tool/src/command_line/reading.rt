@@ -2,10 +2,10 @@
 
 ghost use Rattle.std.specs.Prelude.{◌≡◌, ◌≢◌, ◌≤◌, ◌<◌, IfOk, Ok, Err, None, codes, length, map, true, is_some, option_and_then};
 ghost use Rattle.clap.specs.Words.{found_of, kind_of, rows_of, subcommand_rows_of};
-ghost use Rattle.lx_tool.specs.CommandLine.{IsFault, PlainWordsAsk, asked_as, asked_by, asked_of, files_in, items_in, order_in, plain_order, rules_in};
+ghost use Rattle.lx_tool.specs.CommandLine.{IsFault, PlainWordsAsk, asked_as, asked_by, asked_of, files_in, items_in, order_in, plain_order, rules_in, workers_in};
 
 use super::app::command;
-use super::{ITEMS, ListOrder, Order, Refusal};
+use super::{ITEMS, ListOrder, Order, Refusal, ScanOrder, WORKERS};
 use clap::error::ErrorKind;
 use clap::{ArgMatches, Error};
 use std::alloc::{AllocError, Global};
@@ -59,9 +59,19 @@ fn named_order_of<'a>(
     match name {
         "gen" => Ok(Order::Gen(rules_of(found, "SPEC"))),
         "up" => Ok(Order::Up(rules_of(found, "TABLES"))),
-        "scan" => Ok(Order::Scan(list_order_of(alloc, found, "TABLES")?)),
+        "scan" => Ok(Order::Scan(scan_order_of(alloc, found)?)),
         _ => Ok(Order::Run(list_order_of(alloc, found, "SPEC")?)),
     }
+}
+
+fn scan_order_of<'a>(alloc: Global, found: &ArgMatches<'a>) -> Result<ScanOrder<'a>, AllocError>
+    ensures workers { IfOk result (λ order. order.workers ≡ workers_in (rows_of (found_of found.now))) }
+    ensures list { IfOk result (λ order. plain_order order.list ≡ order_in (codes "TABLES") (rows_of (found_of found.now))) }
+{
+    Ok(ScanOrder {
+        workers: workers_of(found),
+        list: list_order_of(alloc, found, "TABLES")?,
+    })
 }
 
 fn list_order_of<'a>(
@@ -105,7 +115,19 @@ fn items_of(found: &ArgMatches<'_>) -> u32
     }
 }
 
-/// A law: `gen`, `up`, `run` and `scan` ask for what they say, where the words after them begin with no hyphen, but for `-b`.
+// With how many threads the files are scanned.
+fn workers_of(found: &ArgMatches<'_>) -> u8
+    ensures workers { result ≡ workers_in (rows_of (found_of found.now)) }
+    ensures some { 0 < result }
+    ensures few { result ≤ 8 }
+{
+    match found.get_one::<u8>("workers") {
+        Some(workers) if 0 < workers && workers <= 8 => workers,
+        _ => WORKERS,
+    }
+}
+
+/// A law: `gen`, `up`, `run` and `scan` ask for what they say, where the words after them begin with no hyphen, but for `-b` and `-j`.
 pub(crate) fn plain_words_ask()
     ensures { PlainWordsAsk }
 {}

@@ -1,12 +1,13 @@
 use Rattle.std.proofs.Common.{true, false}
 use Rattle.lx_tool.proofs.PlainNames.{plain_name_asks}
-use Rattle.lx_tool.proofs.PlainOrders.{plain_words_ask}
+use Rattle.lx_tool.proofs.PlainOrders.{of_run, of_scan, plain_words_ask}
 use Rattle.lx_tool.proofs.command_line.reading.plain_words_ask.Goals as goal
 
 pub returns : goal.returns
 returns c = record {
   gens = plain_name_asks true;
   ups = plain_name_asks false;
-  runs = plain_words_ask true;
-  scans = plain_words_ask false;
+  runs = plain_words_ask of_run;
+  scans = λ program workers number tables file files some_workers some_items.
+      plain_words_ask (of_scan workers) program number tables file files (some_workers, some_items);
 }
