@@ -95,9 +95,9 @@ fn scan_to<'l, 'p, 'w, T: Threads + Wait + Sync, W: Write>(
     requires few_workers { workers ≤ 8 }
     requires fresh { printer.lister.now ≡ record { plan = plan.now; counts = replicate (files_of plan.now) 0; faults = 0; failed = false } }
     requires plan { IsPlan plan.now }
-    ensures same_reference { result.0.out.ghost_name ≡ printer.out.ghost_name }
-    ensures ok { OnOk result.1 (Appends (W.contents printer.out.now) (W.contents result.0.out.now) (listing_of plan.now)) }
-    ensures err { OnErr result.1 (AppendsPrefix (W.contents printer.out.now) (W.contents result.0.out.now) (listing_of plan.now)) }
+    ensures same_reference { result.0.out.ghost_name ≡ printer.entry.out.ghost_name }
+    ensures ok { OnOk result.1 (Appends (W.contents printer.entry.out.now) (W.contents result.0.out.now) (listing_of plan.now)) }
+    ensures err { OnErr result.1 (AppendsPrefix (W.contents printer.entry.out.now) (W.contents result.0.out.now) (listing_of plan.now)) }
     // The writer is blamed only where it failed.
     ensures reader { result.1 ≡ Err RunFault.Reader → 0 < result.0.lister.now.faults }
 {

@@ -10,7 +10,7 @@ ghost use Rattle.lx_tool.specs.Sources.{whole};
 ghost use Rattle.lx_tool.specs.Statuses.{status_of};
 ghost use Rattle.lx_tool.specs.Tabling.{HasNoTables};
 
-use crate::command_line::{ITEMS, ListOrder, Order, Refusal, read_words};
+use crate::command_line::{ITEMS, ListOrder, Order, Refusal, ScanOrder, read_words};
 use crate::failure::Failure;
 use crate::given::{list_by_specification, list_by_tables, read_whole};
 use crate::planning::{list_files, listings_are_by_rules};
@@ -18,6 +18,8 @@ use crate::source::{Sources, make_input};
 use crate::tabling::{generate, tables_of_text, upgrade};
 use std::alloc::Global;
 use std::io::Write;
+use std::sync::Wait;
+use std::thread::Threads;
 
 // The most files that one listing has.
 const MOST_FILES: usize = 65_536;
@@ -35,8 +37,8 @@ static STORED_TEXT: &[u8] = b"ab 12\n";
 /// The result is the exit status: 0, all was done; 1, the specification was refused, or is too large for an automaton, or the tables
 /// were refused; 2, the command line was refused; 3, a file can't be read, or all was listed and a file was cut short; 4, the output
 /// failed; 5, memory was refused.
-pub fn run<R, S: Sources, O: Write, E: Write>(
-    _rt: &R,
+pub fn run<R: Threads + Wait + Sync, S: Sources, O: Write, E: Write>(
+    rt: &R,
     alloc: Global,
     words: &[String],
     sources: &mut S,
@@ -50,7 +52,7 @@ pub fn run<R, S: Sources, O: Write, E: Write>(
     ensures ended { 0 < result → result < 4 → (ends : List ℕ → ℕ) → EndsPatterns ends →
         HasEnded S.gives ends (asked_by (map (λ word. word.bytes.items) words.now)) sources.old sources.new (O.contents out.old) (O.contents out.new) result }
 {
-    match obey(alloc, words, sources, out) {
+    match obey(rt, alloc, words, sources, out) {
         Ok(cut) => tell_cut(&cut, err),
         Err(failure) => {
             let _ = match &failure {
@@ -75,7 +77,8 @@ fn tell_cut<E: Write>(cut: &[&str], err: &mut E) -> u8
 }
 
 // Does what the words ask for. The result are the names of the files that were cut short.
-fn obey<'a, S: Sources, O: Write>(
+fn obey<'a, R: Threads + Wait + Sync, S: Sources, O: Write>(
+    rt: &R,
     alloc: Global,
     words: &'a [String],
     sources: &mut S,
@@ -87,7 +90,7 @@ fn obey<'a, S: Sources, O: Write>(
         IfErr result (HasFailed S.gives ends (asked_by (map (λ word. word.bytes.items) words.now)) sources.old (O.contents out.old) (O.contents out.new)) }
 {
     let cut = match read_words(alloc, words) {
-        Ok(order) => carry_out(alloc, order, sources, out)?,
+        Ok(order) => carry_out(rt, alloc, order, sources, out)?,
         Err(Refusal::Words(error)) => return Err(Failure::Words(error)),
         Err(Refusal::Memory) => return Err(Failure::Memory),
     };
@@ -96,7 +99,8 @@ fn obey<'a, S: Sources, O: Write>(
 }
 
 // Does what an order asks for. Nothing but a listing has files.
-fn carry_out<'a, S: Sources, O: Write>(
+fn carry_out<'a, R: Threads + Wait + Sync, S: Sources, O: Write>(
+    rt: &R,
     alloc: Global,
     order: Order<'a>,
     sources: &mut S,
@@ -116,7 +120,7 @@ fn carry_out<'a, S: Sources, O: Write>(
             Ok(Vec::new(alloc))
         }
         Order::Run(order) => list_by_rules_of(alloc, &order, sources, out),
-        Order::Scan(order) => list_by_tables_of(alloc, &order.list, sources, out),
+        Order::Scan(order) => list_by_tables_of(rt, alloc, &order, sources, out),
         Order::Gen(name) => {
             generate_named(alloc, name, sources, out)?;
             Ok(Vec::new(alloc))
@@ -161,23 +165,34 @@ fn list_by_rules_of<'a, S: Sources, O: Write>(
     list_by_specification(alloc, &text, &order.files, order.per_piece, sources, out)
 }
 
-// Lists the order's files by its tables. What is done does not depend on the number of workers.
-fn list_by_tables_of<'a, S: Sources, O: Write>(
+// Lists the order's files by its tables, with its number of workers.
+fn list_by_tables_of<'a, R: Threads + Wait + Sync, S: Sources, O: Write>(
+    rt: &R,
     alloc: Global,
-    order: &ListOrder<'a>,
+    order: &ScanOrder<'a>,
     sources: &mut S,
     out: &mut O,
 ) -> Result<Vec<&'a str>, Failure<'a>>
-    ensures ok { (ends : List ℕ → ℕ) → EndsPatterns ends → (workers : ℕ) → IfOk result (λ cut.
-        HasDone S.gives ends sources.old sources.new (O.contents out.old) (O.contents out.new) (map (λ name. name.now) cut.items) (scan-asked workers (plain_order order.now))) }
-    ensures err { (ends : List ℕ → ℕ) → EndsPatterns ends → (workers : ℕ) →
-        IfErr result (HasFailed S.gives ends (Some (scan-asked workers (plain_order order.now))) sources.old (O.contents out.old) (O.contents out.new)) }
+    ensures ok { (ends : List ℕ → ℕ) → EndsPatterns ends → IfOk result (λ cut.
+        HasDone S.gives ends sources.old sources.new (O.contents out.old) (O.contents out.new) (map (λ name. name.now) cut.items) (scan-asked order.now.workers (plain_order order.now.list))) }
+    ensures err { (ends : List ℕ → ℕ) → EndsPatterns ends →
+        IfErr result (HasFailed S.gives ends (Some (scan-asked order.now.workers (plain_order order.now.list))) sources.old (O.contents out.old) (O.contents out.new)) }
 {
-    if order.files.len() > MOST_FILES {
+    let list = &order.list;
+    if list.files.len() > MOST_FILES {
         return Err(Failure::TooManyFiles);
     }
-    let text = read_whole(alloc, sources, order.rules)?;
-    list_by_tables(alloc, &text, &order.files, order.per_piece, sources, out)
+    let text = read_whole(alloc, sources, list.rules)?;
+    list_by_tables(
+        rt,
+        alloc,
+        &text,
+        &list.files,
+        order.workers,
+        list.per_piece,
+        sources,
+        out,
+    )
 }
 
 // Prints the tables of the specification with this name.

@@ -25,4 +25,4 @@ pub returns-in-Run-clause-ok : goal.returns-in-Run-clause-ok
 returns-in-Run-clause-ok g c = λ ends is. rw c.in-Run.is (c.list_by_rules_of.ensures.ok ends is)
 
 pub returns-in-Scan-clause-ok : goal.returns-in-Scan-clause-ok
-returns-in-Scan-clause-ok g c = λ ends is. rw c.in-Scan.is (c.list_by_tables_of.ensures.ok ends is c.in-Scan.order.workers)
+returns-in-Scan-clause-ok g c = λ ends is. rw c.in-Scan.is (c.list_by_tables_of.ensures.ok ends is)
