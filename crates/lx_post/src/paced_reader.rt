@@ -80,7 +80,8 @@ impl<R: Reader> Reader for PacedReader<'_, R> {
         let closing = piece.is_closing();
         self.reader.take(piece)?;
         self.taken.add(file, items, closing);
-        self.pace.note(self.taken.first_open as u64, self.taken.ahead);
+        self.pace
+            .note(self.taken.first_open as u64, self.taken.ahead);
         Ok(())
     }
 

@@ -174,7 +174,18 @@ fn start_or_end<'s, E, W: Wait + Sync, G: Gate + Sync>(
 {
     let before = Snapshot::of(&job);
     let refused = &signals.refused[usize::from(job.pass.worker())];
-    let outcome = match start(rt, alloc, scope, plan, claims, post, gate, &signals.pace, refused, job) {
+    let outcome = match start(
+        rt,
+        alloc,
+        scope,
+        plan,
+        claims,
+        post,
+        gate,
+        &signals.pace,
+        refused,
+        job,
+    ) {
         Ok(handle) => {
             handles.push_reserved(handle);
             return;

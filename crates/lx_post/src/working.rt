@@ -100,7 +100,9 @@ pub fn work<W: Wait, G: Gate>(
     ensures { HasWorked job result }
 {
     let Job { mut seat, mut pass } = job;
-    let (files, fault) = send_drawn(rt, alloc, plan, claims, post, gate, pace, &mut seat, &mut pass);
+    let (files, fault) = send_drawn(
+        rt, alloc, plan, claims, post, gate, pace, &mut seat, &mut pass,
+    );
     // a file of its stays open, which is nothing to wait for
     if fault.is_some() {
         pace.end();

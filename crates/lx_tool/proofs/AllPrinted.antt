@@ -1,4 +1,4 @@
-use Rattle.std.proofs.Common.{ℕ, zero, suc, ◌≡◌, ◌<◌, ◌⊎◌, inl, inr, true, false, List, [], ◌∷◌, ◌++◌, Option, refl, sym, ◌∙◌, ap, subst, arith, replicate}
+use Rattle.std.proofs.Common.{ℕ, zero, suc, Result, Ok, Err, OnErr, ◌≡◌, ◌<◌, ◌⊎◌, inl, inr, true, false, List, [], ◌∷◌, ◌++◌, Option, refl, sym, ◌∙◌, ap, subst, arith, replicate}
 use Rattle.std.specs.Prelude.{slice_index, Contains}
 use Rattle.std.specs.Io.KnownBytes.{Appends}
 use Rattle.std.proofs.lemmas.Bool.{cases_eq, both_ways}
@@ -58,3 +58,7 @@ pub printed_part : (plan : Planned) (old new : Progress) (a b : Option (List ℕ
 printed_part plan old new a b is start f =
     let due = subst (λ (s : Progress). IsDue s.plan s.counts []) (sym start) (fresh_due plan (replicate (files_of plan) 0) is refl) in
     (f.bytes, subst (λ (p : Planned). IsPrefix f.bytes (listing_of p)) (ap (λ (s : Progress). s.plan) start) (f.prefix (ap (λ (s : Progress). s.failed) start) [] due), f.wrote)
+
+pub on_err_where : {T E P : Type 0} (r : Result T E) → P → OnErr r P
+on_err_where (Ok value) p = tt
+on_err_where (Err error) p = p

@@ -4,7 +4,7 @@ use Rattle.std.proofs.lemmas.List.{nil_from_length}
 use Rattle.lx_piece.specs.Plans.{PlainInput}
 use Rattle.lx_tables.specs.Model.{Table}
 use Rattle.lx_tool.specs.ListingLaws.{appends_nothing}
-use Rattle.lx_tool.specs.Given.{AreListed, ArePartlyListed, FailsListing}
+use Rattle.lx_tool.specs.Given.{AreListed, ArePartlyListed, AreRead, FailsListing}
 use Rattle.lx_tool.specs.Planning.{AreBytes, ListsBy}
 use Rattle.lx_tool.specs.Statuses.{failure_of_run}
 use Rattle.lx_tool.specs.declared.failure.Failure.{Failure}
@@ -19,6 +19,14 @@ listed_nothing table inputs written none = subst (λ (xs : List PlainInput). Lis
   by_tables = record { table_is = refl; inputs_are = refl };
   wrote = appends_nothing written;
 })
+
+-- what was read was listed
+module _ {S : Type 0} (gives : S → List ℕ → PlainInput → S → Type 0) (names : List (List ℕ)) (before after : S) (inputs : List PlainInput) (cut : List (List ℕ)) where
+  pub listed_of : (Lists : List PlainInput → Type 0) → AreRead gives names before after inputs cut → Lists inputs → AreListed gives Lists names before after cut
+  listed_of Lists read listed = record { inputs = inputs; given = read.given; bytes = read.bytes; listed = listed; cut_are = read.cut_are }
+
+  pub partly_of : (ListsPrefix : List PlainInput → Type 0) → AreRead gives names before after inputs cut → ListsPrefix inputs → ArePartlyListed gives ListsPrefix names before after
+  partly_of ListsPrefix read listed = record { inputs = inputs; given = read.given; bytes = read.bytes; listed = listed }
 
 module _ {S : Type 0} (gives : S → List ℕ → PlainInput → S → Type 0) (P Q : List PlainInput → Type 0) (as_well : (inputs : List PlainInput) → AreBytes inputs → P inputs → Q inputs)
     (names : List (List ℕ)) (before after : S) where

@@ -9,6 +9,12 @@ use Rattle.lx_tool.specs.Sources.{AreGiven, cut_names}
 use Rattle.lx_tool.specs.declared.failure.Failure.{Failure}
 use Rattle.lx_tool.specs.declared.failure.Failure.TheVariants.{Specification, Automaton, Tables, Words, TooManyFiles, NotRead, Output, Memory}
 
+-- The sources gave these inputs for these names, in this order; `cut` names those that were cut short.
+pub record AreRead {S : Type 0} (gives : S → List ℕ → PlainInput → S → Type 0) (names : List (List ℕ)) (before after : S) (inputs : List PlainInput) (cut : List (List ℕ)) : Type 0 where
+  pub given : AreGiven gives before names inputs after
+  pub bytes : AreBytes inputs
+  pub cut_are : cut ≡ cut_names names inputs
+
 -- The sources gave inputs for these names, in this order, which were listed as `Lists` says; `cut` names those that were cut short.
 pub record AreListed {S : Type 0} (gives : S → List ℕ → PlainInput → S → Type 0) (Lists : List PlainInput → Type 0) (names : List (List ℕ)) (before after : S) (cut : List (List ℕ)) : Type 0 where
   pub inputs : List PlainInput

@@ -3,15 +3,15 @@
 ghost use Rattle.std.specs.Prelude.{◌≡◌, ◌<◌, ◌≤◌, ℕ, List, [], ◌∷◌, All, IfOk, IfErr, length, map, vec_len};
 ghost use Rattle.lx_piece.specs.Plans.{input_view};
 ghost use Rattle.lx_spec.specs.RuleLines.{EndsPatterns};
-ghost use Rattle.lx_tool.specs.Given.{AreListed, ArePartlyListed, FailsListing, IsNoTable, IsUnread};
+ghost use Rattle.lx_tool.specs.Given.{AreListed, ArePartlyListed, AreRead, FailsListing, IsNoTable, IsUnread};
 ghost use Rattle.lx_tool.specs.Planning.{AreBytes, ListsBy, ListsPrefixBy, ListsByRules, ListsPrefixByRules, ListsByText, ListsPrefixByText};
 ghost use Rattle.lx_tool.specs.Sources.{AreGiven, cut_names, whole};
 ghost use Rattle.lx_tool.specs.Tabling.{HasNoTables};
 
 use crate::failure::Failure;
+use crate::planning::{list_files, scan_files};
 use crate::source::{SourceFault, Sources};
 use crate::tabling::tables_of_text;
-use crate::threading::{OneThread, Threading, Workers};
 use lx_piece::Input;
 use lx_scan::ruling::items_are_by_rules;
 use lx_tables::Tables;
@@ -98,9 +98,31 @@ fn names_of_cut<'a>(
     Ok(cut)
 }
 
-// Lists the files with these names by the tables. All are read before the first line is written.
-fn list_given<'a, H: Threading<W>, S: Sources, W: Write>(
-    threading: &H,
+// What sources gave for names.
+#[derive(Drop)]
+struct Given<'a> {
+    files: Vec<Input>,
+    // The names of those that were cut short.
+    cut: Vec<&'a str>,
+}
+
+// Reads all files with these names.
+fn read_given<'a, S: Sources>(
+    alloc: Global,
+    sources: &mut S,
+    names: &[&'a str],
+) -> Result<Given<'a>, Failure<'a>>
+    ensures ok { IfOk result (λ given. AreRead S.gives (map (λ name. name.now) names.now) sources.old sources.new (map input_view given.files.items) (map (λ name. name.now) given.cut.items)) }
+    ensures len { IfOk result (λ given. vec_len given.files ≡ length names.now) }
+    ensures err { IfErr result (λ failure. IsUnread (map (λ name. name.now) names.now) failure) }
+{
+    let files = read_files(alloc, sources, names)?;
+    let cut = names_of_cut(alloc, names, &files)?;
+    Ok(Given { files, cut })
+}
+
+// Lists the files with these names by the tables, on one thread. All are read before the first line is written.
+fn list_given<'a, S: Sources, W: Write>(
     alloc: Global,
     tables: Tables,
     names: &[&'a str],
@@ -116,13 +138,41 @@ fn list_given<'a, H: Threading<W>, S: Sources, W: Write>(
     ensures err { IfErr result (λ failure. FailsListing (λ _. ⊥) (ArePartlyListed S.gives (λ inputs. ListsPrefixBy tables inputs (W.contents out.old) (W.contents out.new))
         (map (λ name. name.now) names.now) sources.old sources.new) (map (λ name. name.now) names.now) sources.old sources.new (W.contents out.old) (W.contents out.new) failure) }
 {
-    let files = read_files(alloc, sources, names)?;
-    let cut = names_of_cut(alloc, names, &files)?;
-    if files.is_empty() {
-        return Ok(cut);
+    let given = read_given(alloc, sources, names)?;
+    if given.files.is_empty() {
+        return Ok(given.cut);
     }
-    threading.list(alloc, tables, files, per_piece, out)?;
-    Ok(cut)
+    list_files(alloc, tables, given.files, per_piece, out)?;
+    Ok(given.cut)
+}
+
+// Lists them in the same way, by workers.
+fn scan_given<'a, T: Threads + Wait + Sync, S: Sources, W: Write>(
+    rt: &T,
+    alloc: Global,
+    tables: Tables,
+    names: &[&'a str],
+    workers: u8,
+    per_piece: u32,
+    sources: &mut S,
+    out: &mut W,
+) -> Result<Vec<&'a str>, Failure<'a>>
+    requires few_files { length names.now ≤ 65536 }
+    requires some_items { 0 < per_piece }
+    requires few_items { per_piece ≤ 4096 }
+    requires some_workers { 0 < workers }
+    requires few_workers { workers ≤ 8 }
+    ensures ok { IfOk result (λ cut. AreListed S.gives (λ inputs. ListsBy tables inputs (W.contents out.old) (W.contents out.new))
+        (map (λ name. name.now) names.now) sources.old sources.new (map (λ name. name.now) cut.items)) }
+    ensures err { IfErr result (λ failure. FailsListing (λ _. ⊥) (ArePartlyListed S.gives (λ inputs. ListsPrefixBy tables inputs (W.contents out.old) (W.contents out.new))
+        (map (λ name. name.now) names.now) sources.old sources.new) (map (λ name. name.now) names.now) sources.old sources.new (W.contents out.old) (W.contents out.new) failure) }
+{
+    let given = read_given(alloc, sources, names)?;
+    if given.files.is_empty() {
+        return Ok(given.cut);
+    }
+    scan_files(rt, alloc, tables, given.files, per_piece, workers, out)?;
+    Ok(given.cut)
 }
 
 /// Lists the files with these names by the specification that a text says, with `per_piece` items a piece. The text is judged before a file
@@ -148,7 +198,7 @@ pub fn list_by_specification<'a, S: Sources, W: Write>(
     let tables = tables_of_text(alloc, text)?;
     // its contract says what holds of all tables
     let _conditions = tables.conditions();
-    list_given(&OneThread, alloc, tables, names, per_piece, sources, out)
+    list_given(alloc, tables, names, per_piece, sources, out)
 }
 
 /// Lists the files with these names by the tables whose text it is, in either version, by 1 to 8 workers and with `per_piece` items a piece.
@@ -178,6 +228,5 @@ pub fn list_by_tables<'a, T: Threads + Wait + Sync, S: Sources, W: Write>(
     let tables = Tables::read(alloc, text)?;
     // its contract says what holds of all tables
     let _conditions = tables.conditions();
-    let threading = Workers { rt, count: workers };
-    list_given(&threading, alloc, tables, names, per_piece, sources, out)
+    scan_given(rt, alloc, tables, names, workers, per_piece, sources, out)
 }

@@ -14,7 +14,6 @@ mod program;
 mod reading;
 mod source;
 mod tabling;
-mod threading;
 mod waiting;
 mod writing;
 

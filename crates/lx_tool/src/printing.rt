@@ -123,6 +123,11 @@ pub fn scan_listing<T: Threads + Wait + Sync, W: Write>(
         lister: &mut lister,
         out,
     };
-    let (_printer, answer) = scan_to(rt, alloc, plan, workers, printer);
+    let (printer, answer) = scan_to(rt, alloc, plan, workers, printer);
+    // taken apart, so that what the writer holds in the end is known
+    let Printer {
+        lister: _lister,
+        out: _out,
+    } = printer;
     answer
 }
