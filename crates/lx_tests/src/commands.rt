@@ -6,6 +6,8 @@ use lx_piece::Input;
 use lx_tool::{ListSources, SourceFault, Sources, run};
 use std::alloc::{AllocError, Global};
 use std::process::Abort;
+use std::sync::Wait;
+use std::thread::Threads;
 
 /// The listing of the text that the program holds.
 const STORED: &[u8] = b"0 T ID 1 0 2 ab\n0 T NUM 1 3 2 12\n";
@@ -27,10 +29,12 @@ fn a_command_line_without_a_name_counts_as_the_name_alone(rt: HostRuntime) {
 
 #[test]
 fn refuses_command_lines(rt: HostRuntime) -> Result<(), AllocError> {
-    let some: [&[&str]; 8] = [
+    let some: [&[&str]; 10] = [
         &["none"],
         &["scan", "T"],
         &["scan", "-j", "9", "T", "F"],
+        &["scan", "-j", "0", "T", "F"],
+        &["run", "-j", "2", "S", "F"],
         &["run"],
         &["run", "S"],
         &["run", "-b", "0", "S", "F"],
@@ -118,7 +122,7 @@ fn says_so_where_memory_is_refused(rt: HostRuntime) -> Result<(), AllocError> {
 }
 
 /// Asserts that a run whose output fails at this write ends there with status 4.
-fn fails_at<R: Abort + AllocGlobal>(
+fn fails_at<R: Abort + AllocGlobal + Threads + Wait + Sync>(
     rt: &R,
     words: &[&str],
     call: u64,

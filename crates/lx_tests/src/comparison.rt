@@ -16,7 +16,9 @@ use lx_tables::Tables;
 use lx_tool::tables_of_text;
 use std::alloc::{AllocError, Global};
 use std::process::Abort;
+use std::sync::Wait;
 use std::test::Fail;
+use std::thread::Threads;
 
 /// A text, its items and its listing by the plain scanner.
 #[derive(Drop)]
@@ -79,7 +81,7 @@ fn cuts<R: Abort + AllocGlobal>(
 }
 
 /// Asserts that the tables of this text give the items and the listing.
-fn compare_printed<R: Abort + AllocGlobal>(
+fn compare_printed<R: Abort + AllocGlobal + Threads + Wait + Sync>(
     rt: &R,
     tables: &[u8],
     wanted: &Wanted,
@@ -96,7 +98,11 @@ fn compare_printed<R: Abort + AllocGlobal>(
 
 /// Asserts that all ways to the items and to the listing of a text lead to those of the plain scanner: by the specification, by its tables with
 /// and without merging, and by both texts of its tables.
-fn compare<R: Abort + AllocGlobal>(rt: &R, spec: &str, text: &[u8]) -> Result<(), Fail> {
+fn compare<R: Abort + AllocGlobal + Threads + Wait + Sync>(
+    rt: &R,
+    spec: &str,
+    text: &[u8],
+) -> Result<(), Fail> {
     let wanted = wanted_of(rt.alloc(), spec, text)?;
     let files = [("S", spec.as_bytes()), ("F", text)];
     let listing = wanted.listing.as_bytes();
@@ -112,7 +118,10 @@ fn compare<R: Abort + AllocGlobal>(rt: &R, spec: &str, text: &[u8]) -> Result<()
 }
 
 /// Asserts it of the specification and the text of each row.
-fn compare_all<R: Abort + AllocGlobal>(rt: &R, rows: &[(&str, &[u8], &str)]) -> Result<(), Fail> {
+fn compare_all<R: Abort + AllocGlobal + Threads + Wait + Sync>(
+    rt: &R,
+    rows: &[(&str, &[u8], &str)],
+) -> Result<(), Fail> {
     for (spec, text, _) in rows {
         compare(rt, spec, text)?;
     }

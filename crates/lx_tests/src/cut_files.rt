@@ -6,6 +6,8 @@ use crate::writers::{Unflushed, failing_writer};
 use std::alloc::AllocError;
 use std::io::Write;
 use std::process::Abort;
+use std::sync::Wait;
+use std::thread::Threads;
 
 /// Specifications, tables and files by their names.
 fn files() -> [(&'static str, &'static [u8]); 7] {
@@ -30,7 +32,10 @@ type Row = (
 );
 
 /// Asserts that such runs end so.
-fn expect<R: Abort + AllocGlobal>(rt: &R, rows: &[Row]) -> Result<(), AllocError> {
+fn expect<R: Abort + AllocGlobal + Threads + Wait + Sync>(
+    rt: &R,
+    rows: &[Row],
+) -> Result<(), AllocError> {
     let files = files();
     for (words, cut, wanted, listing, lines) in rows {
         let mut out: Vec<u8> = Vec::new(rt.alloc());
@@ -42,6 +47,9 @@ fn expect<R: Abort + AllocGlobal>(rt: &R, rows: &[Row]) -> Result<(), AllocError
     }
     Ok(())
 }
+
+/// The listing of `a`, which is cut, and of `empty` and `lines`.
+const FIRST_CUT: &str = "0 T ID 1 0 1 a\n0 ! cut\n2 T NUM 1 0 1 1\n2 T NUM 2 2 1 2\n";
 
 /// The listing of `words`, cut.
 const WORDS: &str = "0 T ID 1 0 2 ab\n0 T NUM 1 3 2 12\n0 ! cut\n";
@@ -78,10 +86,24 @@ fn each_cut_file_among_others_is_named_in_order(rt: HostRuntime) -> Result<(), A
         &rt,
         &[
             (
-                &["scan", "-b", "1", "T", "a", "empty", "lines"],
+                &["scan", "-j", "1", "-b", "1", "T", "a", "empty", "lines"],
                 &["a"],
                 3,
-                "0 T ID 1 0 1 a\n0 ! cut\n2 T NUM 1 0 1 1\n2 T NUM 2 2 1 2\n",
+                FIRST_CUT,
+                "lx: cut short a\n",
+            ),
+            (
+                &["scan", "-j", "2", "-b", "1", "T", "a", "empty", "lines"],
+                &["a"],
+                3,
+                FIRST_CUT,
+                "lx: cut short a\n",
+            ),
+            (
+                &["scan", "-j", "8", "-b", "1", "T", "a", "empty", "lines"],
+                &["a"],
+                3,
+                FIRST_CUT,
                 "lx: cut short a\n",
             ),
             (
@@ -155,7 +177,10 @@ fn other_faults_come_before_cut_files(rt: HostRuntime) -> Result<(), AllocError>
 }
 
 /// Asserts that a run over the cut file `words` whose output fails says that and nothing else.
-fn fails<R: Abort + AllocGlobal, O: Write>(rt: &R, out: &mut O) -> Result<(), AllocError> {
+fn fails<R: Abort + AllocGlobal + Threads + Wait + Sync, O: Write>(
+    rt: &R,
+    out: &mut O,
+) -> Result<(), AllocError> {
     let mut err: Vec<u8> = Vec::new(rt.alloc());
     let words = ["run", "S", "words"];
     let ended = status_with_cut(rt, &words, &files(), &["words"], out, &mut err)?;

@@ -3,9 +3,11 @@
 use crate::running::{lists, refuses};
 use std::alloc::{AllocError, Global};
 use std::process::Abort;
+use std::sync::Wait;
+use std::thread::Threads;
 
 /// Asserts that the first specification lists `a` as a token, and that the second is refused with this line.
-fn ends_at<R: Abort + AllocGlobal>(
+fn ends_at<R: Abort + AllocGlobal + Threads + Wait + Sync>(
     rt: &R,
     most: &String,
     more: &String,

@@ -8,7 +8,8 @@ use crate::plans::{
 };
 use crate::writers::failing_writer;
 use lx_piece::{Cutter, ListArrivals, Plan, Reader, ReaderFault, relay};
-use lx_tool::{Listing, RunFault, list_files, print_listing, tables_of_text};
+use lx_post::RunFault;
+use lx_tool::{Listing, list_files, print_listing, tables_of_text};
 use std::alloc::{AllocError, Global};
 use std::io::Write;
 use std::test::Fail;

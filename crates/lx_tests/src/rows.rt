@@ -1,7 +1,10 @@
 //! Specifications and texts with their listings, worked out by hand.
 
-use crate::running::{expect, lists};
+use crate::running::{expect, lists, lx};
 use std::alloc::AllocError;
+use std::process::Abort;
+use std::sync::Wait;
+use std::thread::Threads;
 
 /// The longest match is chosen, and then the earliest rule.
 const LONGEST_THEN_EARLIEST: &[(&str, &[u8], &str)] = &[
@@ -177,15 +180,28 @@ fn texts_are_listed_as_worked_out_by_hand(rt: HostRuntime) -> Result<(), AllocEr
     Ok(())
 }
 
+/// The listing of three files, of which the second is empty.
+const THREE_FILES: &[u8] = b"0 T ID 1 0 1 a\n2 T NUM 1 0 1 1\n2 T NUM 2 2 1 2\n";
+
+/// Asserts that three files are listed in their order by these words, over the rules that they name.
+fn lists_three<R: Abort + AllocGlobal + Threads + Wait + Sync>(
+    rt: &R,
+    words: &[&str],
+    rules: (&str, &[u8]),
+) -> Result<(), AllocError> {
+    let files = [rules, ("a", b"a"), ("empty", b""), ("n", b"1\n2")];
+    expect(rt, words, &files, 0, THREE_FILES, "")
+}
+
 #[test]
 fn lists_several_files_in_their_order(rt: HostRuntime) -> Result<(), AllocError> {
     let spec: &[u8] = b"%%\n[a-z]+ return ID;\n[0-9]+ return NUM;\n[ \\n]+ ;\n";
-    expect(
-        &rt,
-        &["run", "-b", "1", "S", "a", "empty", "n"],
-        &[("S", spec), ("a", b"a"), ("empty", b""), ("n", b"1\n2")],
-        0,
-        b"0 T ID 1 0 1 a\n2 T NUM 1 0 1 1\n2 T NUM 2 2 1 2\n",
-        "",
-    )
+    let words = ["run", "-b", "1", "S", "a", "empty", "n"];
+    lists_three(&rt, &words, ("S", spec))?;
+    let tables = lx(&rt, &["gen", "S"], &[("S", spec)])?.out;
+    for workers in ["1", "2", "8"] {
+        let words = ["scan", "-j", workers, "-b", "1", "T", "a", "empty", "n"];
+        lists_three(&rt, &words, ("T", tables.as_slice()))?;
+    }
+    Ok(())
 }

@@ -4,6 +4,8 @@ use lx_tool::{ListSources, Sources, run};
 use std::alloc::{AllocError, Global};
 use std::io::Write;
 use std::process::Abort;
+use std::sync::Wait;
+use std::thread::Threads;
 
 pub(crate) fn words_of(alloc: Global, words: &[&str]) -> Result<Vec<String>, AllocError> {
     let mut all = Vec::new(alloc);
@@ -15,7 +17,7 @@ pub(crate) fn words_of(alloc: Global, words: &[&str]) -> Result<Vec<String>, All
 }
 
 /// The status of a run of the program with these words behind its name.
-pub(crate) fn status_of<R: AllocGlobal, S: Sources, O: Write, E: Write>(
+pub(crate) fn status_of<R: AllocGlobal + Threads + Wait + Sync, S: Sources, O: Write, E: Write>(
     rt: &R,
     words: &[&str],
     sources: &mut S,
@@ -28,7 +30,7 @@ pub(crate) fn status_of<R: AllocGlobal, S: Sources, O: Write, E: Write>(
 }
 
 /// The status of such a run over these files.
-pub(crate) fn status_over<R: AllocGlobal, O: Write, E: Write>(
+pub(crate) fn status_over<R: AllocGlobal + Threads + Wait + Sync, O: Write, E: Write>(
     rt: &R,
     words: &[&str],
     files: &[(&str, &[u8])],
@@ -39,7 +41,7 @@ pub(crate) fn status_over<R: AllocGlobal, O: Write, E: Write>(
 }
 
 /// The status of such a run over these files, of which those with these names are cut.
-pub(crate) fn status_with_cut<R: AllocGlobal, O: Write, E: Write>(
+pub(crate) fn status_with_cut<R: AllocGlobal + Threads + Wait + Sync, O: Write, E: Write>(
     rt: &R,
     words: &[&str],
     files: &[(&str, &[u8])],
@@ -59,7 +61,7 @@ pub(crate) struct Ran {
 }
 
 /// Runs the program with these words behind its name, over these files.
-pub(crate) fn lx<R: AllocGlobal>(
+pub(crate) fn lx<R: AllocGlobal + Threads + Wait + Sync>(
     rt: &R,
     words: &[&str],
     files: &[(&str, &[u8])],
@@ -71,7 +73,7 @@ pub(crate) fn lx<R: AllocGlobal>(
 }
 
 /// Asserts that such a run has this status and writes this to the output and to the error stream.
-pub(crate) fn expect<R: Abort + AllocGlobal>(
+pub(crate) fn expect<R: Abort + AllocGlobal + Threads + Wait + Sync>(
     rt: &R,
     words: &[&str],
     files: &[(&str, &[u8])],
@@ -88,7 +90,7 @@ pub(crate) fn expect<R: Abort + AllocGlobal>(
 }
 
 /// Asserts that each text is listed so by the specification before it.
-pub(crate) fn lists<R: Abort + AllocGlobal>(
+pub(crate) fn lists<R: Abort + AllocGlobal + Threads + Wait + Sync>(
     rt: &R,
     rows: &[(&str, &[u8], &str)],
 ) -> Result<(), AllocError> {
@@ -100,7 +102,7 @@ pub(crate) fn lists<R: Abort + AllocGlobal>(
 }
 
 /// Asserts that each specification is refused with the line behind it, and nothing is listed.
-pub(crate) fn refuses<R: Abort + AllocGlobal>(
+pub(crate) fn refuses<R: Abort + AllocGlobal + Threads + Wait + Sync>(
     rt: &R,
     rows: &[(&str, &str)],
 ) -> Result<(), AllocError> {

@@ -6,7 +6,9 @@ use crate::writers::{Failing, Unflushed, failing_writer};
 use lx_tables::Tables;
 use std::alloc::AllocError;
 use std::process::Abort;
+use std::sync::Wait;
 use std::test::Fail;
+use std::thread::Threads;
 
 #[test]
 fn refuses_command_lines_of_gen_and_up(rt: HostRuntime) -> Result<(), AllocError> {
@@ -73,7 +75,7 @@ fn holds_front<R: Abort>(rt: &R, out: &Failing, most: usize, call: u64, text: &[
 }
 
 /// Asserts of a command that writes this text what becomes of it where the output fails at this call.
-fn fails_at<R: Abort + AllocGlobal>(
+fn fails_at<R: Abort + AllocGlobal + Threads + Wait + Sync>(
     rt: &R,
     words: &[&str],
     (most, takes_nothing): (usize, bool),
