@@ -1,7 +1,8 @@
 -- The rules of a specification, from the last one to the first.
 use Rattle.std.proofs.Common.{◌≡◌, ◌∙◌, ℕ, zero, suc, ◌-◌, ◌<◌, List, [], ◌∷◌, ◌++◌, length, map, take, drop, get_or, Some, refl, ap, sym, subst, arith}
-use Rattle.std.specs.Prelude.{slice_get, reverse}
+use Rattle.std.specs.Prelude.{Result, MatchResult, IfOk, slice_get, reverse}
 use Rattle.std.proofs.lemmas.List.{reverse-append}
+use Rattle.std.proofs.lemmas.Result.{MatchResult-weaker}
 use Rattle.lx_spec.specs.Plain.{StartCondition, PlainRule}
 use Rattle.lx_spec.specs.Sections.{RawRule}
 use Rattle.lx_spec.specs.Actions.{Action, shared, own}
@@ -13,14 +14,19 @@ use Rattle.lx_spec.specs.declared.resolved_rule.ResolvedRule.{ResolvedRule as Co
 use Rattle.lx_spec.specs.declared.rule.Rule.{Rule}
 use Rattle.lx_spec.specs.declared.rule.Step.{Step}
 
-last-at : (x : Rule) (rules : List Rule) (r : Rule) → slice_get (x ∷ rules) (length rules) ≡ Some r → steps_at_end (map rule_view (x ∷ rules)) ≡ r.action.items
-last-at x [] r e = let same : x ≡ r = cc in ap (λ (y : Rule). y.action.items) same
+last-at : (x : Rule) (rules : List Rule) (r : Rule) → slice_get (x ∷ rules) (length rules) ≡ Some r → steps_at_end (map rule_view (x ∷ rules)) ≡ r.action
+last-at x [] r e = let same : x ≡ r = cc in ap (λ (y : Rule). y.action) same
 last-at x (y ∷ rules) r e = last-at y rules r e
 
 -- the steps of the last rule
-pub last-rule : (rules : List Rule) (r : Rule) → slice_get rules (length rules - 1) ≡ Some r → steps_at_end (map rule_view rules) ≡ r.action.items
+pub last-rule : (rules : List Rule) (r : Rule) → slice_get rules (length rules - 1) ≡ Some r → steps_at_end (map rule_view rules) ≡ r.action
 last-rule [] r e = cc
 last-rule (x ∷ rules) r e = last-at x rules r (subst (λ (n : ℕ). slice_get (x ∷ rules) n ≡ Some r) (omega arith) e)
+
+-- what is a clone of the steps of the last rule
+pub last-shared : {E : Type 0} (Q : E → Type 0) (result : Result (List Step) E) (rules : List Rule) (r : Rule) → Some r ≡ slice_get rules (length rules - 1) → MatchResult result (λ steps. steps ≡ r.action) Q →
+    IfOk result (λ steps. steps ≡ steps_at_end (map rule_view rules))
+last-shared Q result rules r at clone = MatchResult-weaker result clone (λ steps e. e ∙ sym (last-rule rules r (sym at))) (λ _ _. tt)
 
 pub end-push : (rules : List PlainRule) (r : PlainRule) → steps_at_end (rules ++ r ∷ []) ≡ r.steps
 end-push [] r = refl
