@@ -1,5 +1,5 @@
 // The specification that rules without a fault say.
-ghost use Rattle.std.specs.Prelude.{◌≡◌, Some, ◌+◌, ◌<◌, ◌≤◌, length, drop, map, IfOk, vec_len};
+ghost use Rattle.std.specs.Prelude.{◌≡◌, [], ◌∷◌, Some, ◌+◌, ◌<◌, ◌≤◌, length, map, IfOk, vec_len};
 ghost use Rattle.std.specs.Option.{option_map};
 ghost use Rattle.lx_spec.specs.views.Actions.{value_view, statements_view, action_view};
 ghost use Rattle.lx_spec.specs.views.Steps.{steps_at_end, steps_before, with_steps};
@@ -70,17 +70,14 @@ fn with_returned(
     }
 }
 
-// The statements of the first action from rule i on that isn't the next rule's.
-fn own_from<'s, 'r>(resolved: &'s [ResolvedRule<'r>], i: usize) -> &'s [Statement<'r>]
-    requires { i ≤ length resolved.now }
-    ensures { statements_view result.now ≡ plain.first_own (plain.actions_in (map resolved_view (drop i resolved.now))) }
+// The statements of an action: none where it is the next rule's, which returns the same.
+fn own_statements<'s, 'r>(action: &'s Action<'r>) -> &'s [Statement<'r>]
+    ensures { statements_view result.now ≡ plain.first_own (action_view action.now ∷ []) }
 {
-    for rule in &resolved[i..] {
-        if let Action::Own(statements) = &rule.action {
-            return statements;
-        }
+    match action {
+        Action::Shared => &[],
+        Action::Own(statements) => statements,
     }
-    &[]
 }
 
 // The names that the rules return, in order of first appearance.
@@ -90,7 +87,11 @@ fn kinds_of(alloc: Global, resolved: &[ResolvedRule]) -> Result<KindIndex, Alloc
 {
     let mut kinds = KindIndex::new(alloc);
     for i in 0..resolved.len() {
-        kinds = with_returned(alloc, kinds, returned_by(own_from(resolved, i)))?;
+        kinds = with_returned(
+            alloc,
+            kinds,
+            returned_by(own_statements(&resolved[i].action)),
+        )?;
     }
     Ok(kinds)
 }
