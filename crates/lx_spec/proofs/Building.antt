@@ -1,26 +1,34 @@
 -- The rules of a specification, from the last one to the first.
 use Rattle.std.proofs.Common.{◌≡◌, ◌∙◌, ℕ, zero, suc, ◌-◌, ◌<◌, List, [], ◌∷◌, ◌++◌, length, map, take, drop, get_or, Some, refl, ap, sym, subst, arith}
-use Rattle.std.specs.Prelude.{slice_get, reverse}
+use Rattle.std.specs.Prelude.{Result, MatchResult, IfOk, slice_get, reverse}
 use Rattle.std.proofs.lemmas.List.{reverse-append}
+use Rattle.std.proofs.lemmas.Result.{MatchResult-weaker}
 use Rattle.lx_spec.specs.Plain.{StartCondition, PlainRule}
 use Rattle.lx_spec.specs.Sections.{RawRule}
 use Rattle.lx_spec.specs.Actions.{Action, shared, own}
 use Rattle.lx_spec.specs.Outcome.{ResolvedRule, actions_in, first_own, steps_of, rules_of, with_kind, returned_by, kinds_behind, statements_in}
 use Rattle.lx_spec.specs.views.Steps.{steps_at_end, steps_before}
 use Rattle.lx_spec.specs.views.Rules.{rule_view}
+use Rattle.lx_spec.specs.views.Actions.{action_view}
 use Rattle.lx_spec.specs.views.ResolvedRules.{resolved_view}
 use Rattle.lx_spec.specs.declared.resolved_rule.ResolvedRule.{ResolvedRule as CodeRule}
 use Rattle.lx_spec.specs.declared.rule.Rule.{Rule}
 use Rattle.lx_spec.specs.declared.rule.Step.{Step}
+use Rattle.lx_spec.proofs.Returned.{kinds-own}
 
-last-at : (x : Rule) (rules : List Rule) (r : Rule) → slice_get (x ∷ rules) (length rules) ≡ Some r → steps_at_end (map rule_view (x ∷ rules)) ≡ r.action.items
-last-at x [] r e = let same : x ≡ r = cc in ap (λ (y : Rule). y.action.items) same
+last-at : (x : Rule) (rules : List Rule) (r : Rule) → slice_get (x ∷ rules) (length rules) ≡ Some r → steps_at_end (map rule_view (x ∷ rules)) ≡ r.action
+last-at x [] r e = let same : x ≡ r = cc in ap (λ (y : Rule). y.action) same
 last-at x (y ∷ rules) r e = last-at y rules r e
 
 -- the steps of the last rule
-pub last-rule : (rules : List Rule) (r : Rule) → slice_get rules (length rules - 1) ≡ Some r → steps_at_end (map rule_view rules) ≡ r.action.items
+pub last-rule : (rules : List Rule) (r : Rule) → slice_get rules (length rules - 1) ≡ Some r → steps_at_end (map rule_view rules) ≡ r.action
 last-rule [] r e = cc
 last-rule (x ∷ rules) r e = last-at x rules r (subst (λ (n : ℕ). slice_get (x ∷ rules) n ≡ Some r) (omega arith) e)
+
+-- what is a clone of the steps of the last rule
+pub last-shared : {E : Type 0} (Q : E → Type 0) (result : Result (List Step) E) (rules : List Rule) (r : Rule) → Some r ≡ slice_get rules (length rules - 1) → MatchResult result (λ steps. steps ≡ r.action) Q →
+    IfOk result (λ steps. steps ≡ steps_at_end (map rule_view rules))
+last-shared Q result rules r at clone = MatchResult-weaker result clone (λ steps e. e ∙ sym (last-rule rules r (sym at))) (λ _ _. tt)
 
 pub end-push : (rules : List PlainRule) (r : PlainRule) → steps_at_end (rules ++ r ∷ []) ≡ r.steps
 end-push [] r = refl
@@ -66,10 +74,11 @@ rules-more start_conditions kinds raws resolved raw s raw-rest resolved-rest rul
     ap (λ (r : PlainRule). r ∷ rules) h ∙ ap (λ (l : List PlainRule). record { line = raw.line; conditions = s.conditions; reading = s.reading; steps = steps_of start_conditions kinds (first_own (actions_in (s ∷ resolved-rest))) } ∷ l) g
     ∙ ap (λ (l : List RawRule). rules_of start_conditions kinds l (s ∷ resolved-rest)) (sym e) ∙ ap (λ (l : List ResolvedRule). rules_of start_conditions kinds raws l) (sym f)
 
--- one more rule whose kind was added
-pub kinds-next : (resolved : List CodeRule) (i : ℕ) (old new : List (List ℕ)) (all : List (List ℕ)) → i < length resolved →
-    new ≡ with_kind old (returned_by (first_own (actions_in (map resolved_view (drop i resolved))))) →
+-- one more rule whose kind was added, if its action is its own
+pub kinds-next : (resolved : List CodeRule) (i : ℕ) (d : CodeRule) (old new all : List (List ℕ)) → i < length resolved →
+    new ≡ with_kind old (returned_by (first_own (action_view (get_or resolved i d).action ∷ []))) →
     kinds_behind old (statements_in (map resolved_view (drop i resolved))) ≡ all → kinds_behind new (statements_in (map resolved_view (drop (suc i) resolved))) ≡ all
-kinds-next [] i old new all less e f = absurd (omega arith)
-kinds-next (r ∷ resolved) zero old new all less e f = ap (λ (k : List (List ℕ)). kinds_behind k (statements_in (map resolved_view resolved))) e ∙ f
-kinds-next (r ∷ resolved) (suc i) old new all less e f = kinds-next resolved i old new all (omega arith) e f
+kinds-next resolved i d old new all less e f =
+    let rest = drop (suc i) resolved in
+    ap (λ (k : List (List ℕ)). kinds_behind k (statements_in (map resolved_view rest))) e ∙ kinds-own (map resolved_view rest) (resolved_view (get_or resolved i d)) old
+    ∙ ap (λ (l : List CodeRule). kinds_behind old (statements_in (map resolved_view l))) (sym (drop-item resolved i d less)) ∙ f

@@ -8,7 +8,7 @@ use Rattle.std.proofs.lemmas.Bool.Decides.{nat_tests}
 use Rattle.lx_spec.specs.Plain.{StartCondition, PlainRule}
 use Rattle.lx_spec.specs.Bytes.{is_identifier}
 use Rattle.lx_spec.specs.Sections.{RawRule}
-use Rattle.lx_spec.specs.Actions.{Value, name, number, Statement, nothing, echo, begin, return}
+use Rattle.lx_spec.specs.Actions.{Value, name, number, Statement, nothing, echo, begin, return, Action, shared, own}
 use Rattle.lx_spec.specs.Outcome.{ResolvedRule, actions_in, first_own, statements_in, returned_by, with_kind, kinds_behind, kind_of, steps_of, rules_of, number_or_first}
 use Rattle.lx_spec.specs.Invariant.{are_distinct, is_kind, are_steps, returned_names, next_number}
 use Rattle.lx_spec.proofs.Conjunctions.{both, left-of, right-of, all-push}
@@ -142,6 +142,28 @@ pushed-found (k ∷ kinds) text = by (pointwise nat_eq k text) (pushed-found kin
   by : (b : Bool) → is_found (kinds ++ text ∷ []) text ≡ true → (b || is_found (kinds ++ text ∷ []) text) ≡ true
   by true rest = refl
   by false rest = rest
+
+-- a name that was added is there
+with-same : (kinds : List (List ℕ)) (o : Option Value) → with_kind (with_kind kinds o) o ≡ with_kind kinds o
+with-same kinds None = refl
+with-same kinds (Some (number n)) = refl
+with-same kinds (Some (name text)) = by (is_found kinds text) refl where
+  by : (b : Bool) → is_found kinds text ≡ b → with_kind (cond b kinds (kinds ++ text ∷ [])) (Some (name text)) ≡ cond b kinds (kinds ++ text ∷ [])
+  by true e = ap (λ (b : Bool). cond b kinds (kinds ++ text ∷ [])) e
+  by false e = ap (λ (b : Bool). cond b (kinds ++ text ∷ []) ((kinds ++ text ∷ []) ++ text ∷ [])) (pushed-found kinds text)
+
+-- what the first of some rules returns is found behind
+first-again : (resolved : List ResolvedRule) (kinds : List (List ℕ)) → kinds_behind (with_kind kinds (returned_by (first_own (actions_in resolved)))) (statements_in resolved) ≡ kinds_behind kinds (statements_in resolved)
+first-again [] kinds = refl
+first-again (s ∷ resolved) kinds = ap (λ (k : List (List ℕ)). kinds_behind k (statements_in resolved)) (with-same kinds (returned_by (first_own (actions_in (s ∷ resolved)))))
+
+-- one more rule, whose own action was looked at
+pub kinds-own : (resolved : List ResolvedRule) (s : ResolvedRule) (kinds : List (List ℕ)) →
+    kinds_behind (with_kind kinds (returned_by (first_own (s.action ∷ [])))) (statements_in resolved) ≡ kinds_behind kinds (statements_in (s ∷ resolved))
+kinds-own resolved s kinds = by s.action where
+  by : (a : Action) → kinds_behind (with_kind kinds (returned_by (first_own (a ∷ [])))) (statements_in resolved) ≡ kinds_behind (with_kind kinds (returned_by (first_own (a ∷ actions_in resolved)))) (statements_in resolved)
+  by shared = sym (first-again resolved kinds)
+  by (own ss) = refl
 
 with-found : (kinds : List (List ℕ)) (text : List ℕ) → is_found (with_kind kinds (Some (name text))) text ≡ true
 with-found kinds text = by (is_found kinds text) refl where

@@ -1,5 +1,5 @@
 // The specification that rules without a fault say.
-ghost use Rattle.std.specs.Prelude.{◌≡◌, Some, ◌+◌, ◌<◌, ◌≤◌, length, drop, map, IfOk, vec_len};
+ghost use Rattle.std.specs.Prelude.{◌≡◌, [], ◌∷◌, Some, ◌+◌, ◌<◌, ◌≤◌, length, map, IfOk, vec_len};
 ghost use Rattle.std.specs.Option.{option_map};
 ghost use Rattle.lx_spec.specs.views.Actions.{value_view, statements_view, action_view};
 ghost use Rattle.lx_spec.specs.views.Steps.{steps_at_end, steps_before, with_steps};
@@ -28,6 +28,7 @@ use crate::resolved_rule::{ResolvedRule, number_or_first};
 use crate::returned_value::Value;
 use crate::rule::{Kind, Rule, Step};
 use crate::spec::Spec;
+use crate::steps::Steps;
 use lx_ere::read::bounds_are_ordered;
 use std::alloc::{AllocError, Global};
 
@@ -69,17 +70,14 @@ fn with_returned(
     }
 }
 
-// The statements of the first action from rule i on that isn't the next rule's.
-fn own_from<'s, 'r>(resolved: &'s [ResolvedRule<'r>], i: usize) -> &'s [Statement<'r>]
-    requires { i ≤ length resolved.now }
-    ensures { statements_view result.now ≡ plain.first_own (plain.actions_in (map resolved_view (drop i resolved.now))) }
+// The statements of an action: none where it is the next rule's, which returns the same.
+fn own_statements<'s, 'r>(action: &'s Action<'r>) -> &'s [Statement<'r>]
+    ensures { statements_view result.now ≡ plain.first_own (action_view action.now ∷ []) }
 {
-    for rule in &resolved[i..] {
-        if let Action::Own(statements) = &rule.action {
-            return statements;
-        }
+    match action {
+        Action::Shared => &[],
+        Action::Own(statements) => statements,
     }
-    &[]
 }
 
 // The names that the rules return, in order of first appearance.
@@ -89,7 +87,11 @@ fn kinds_of(alloc: Global, resolved: &[ResolvedRule]) -> Result<KindIndex, Alloc
 {
     let mut kinds = KindIndex::new(alloc);
     for i in 0..resolved.len() {
-        kinds = with_returned(alloc, kinds, returned_by(own_from(resolved, i)))?;
+        kinds = with_returned(
+            alloc,
+            kinds,
+            returned_by(own_statements(&resolved[i].action)),
+        )?;
     }
     Ok(kinds)
 }
@@ -133,37 +135,40 @@ fn steps_of(
     Ok(steps)
 }
 
-// The steps of an action, behind which a rule with these steps follows.
+// The steps of the last rule, shared with it.
+fn shared_steps(alloc: Global, rules: &[Rule]) -> Result<Steps, AllocError>
+    ensures { IfOk result (λ steps. steps ≡ steps_at_end (map rule_view rules.now)) }
+{
+    match rules.last() {
+        Some(rule) => rule.action.clone(),
+        None => Steps::from_vec(Vec::new(alloc)),
+    }
+}
+
+// The steps of an action, where the rules behind it are these, from the last one to the first.
 fn steps_before(
     alloc: Global,
     start_conditions: &[StartCondition],
     kinds: &KindIndex,
     action: &Action,
-    next: &[Step],
-) -> Result<Vec<Step>, AllocError>
+    rules: &[Rule],
+) -> Result<Steps, AllocError>
     requires some { 0 < length start_conditions.now }
     requires few { length start_conditions.now ≤ 64 }
     requires kinds { vec_len kinds.now.kinds ≤ 4096 }
-    ensures { IfOk result (λ steps. steps.items ≡ steps_before (map start_condition_view start_conditions.now) (names_view kinds.now.kinds.items) (action_view action.now) next.now) }
+    ensures { IfOk result (λ steps. steps ≡ steps_before (map start_condition_view start_conditions.now) (names_view kinds.now.kinds.items) (action_view action.now) (steps_at_end (map rule_view rules.now))) }
 {
     match action {
-        Action::Shared => Vec::from_slice(alloc, next),
-        Action::Own(statements) => steps_of(alloc, start_conditions, kinds, statements),
+        Action::Shared => shared_steps(alloc, rules),
+        Action::Own(statements) => {
+            let steps = steps_of(alloc, start_conditions, kinds, statements)?;
+            Steps::from_vec(steps)
+        }
     }
 }
 
-// The steps of the last rule.
-fn last_steps(rules: &[Rule]) -> &[Step]
-    ensures { result.now ≡ steps_at_end (map rule_view rules.now) }
-{
-    match rules.last() {
-        Some(rule) => &rule.action,
-        None => &[],
-    }
-}
-
-fn rule_of(line: u32, rule: ResolvedRule, action: Vec<Step>) -> Rule
-    ensures { rule_view result ≡ with_steps line (resolved_view rule.entry) action.items }
+fn rule_of(line: u32, rule: ResolvedRule, action: Steps) -> Rule
+    ensures { rule_view result ≡ with_steps line (resolved_view rule.entry) action }
 {
     let ResolvedRule {
         conditions,
@@ -196,13 +201,7 @@ fn rules_of(
     let mut rules = Vec::new(alloc);
     while let Some(rule) = resolved.pop() {
         let line = raws[resolved.len()].line;
-        let action = steps_before(
-            alloc,
-            start_conditions,
-            kinds,
-            &rule.action,
-            last_steps(&rules),
-        )?;
+        let action = steps_before(alloc, start_conditions, kinds, &rule.action, &rules)?;
         rules.push(rule_of(line, rule, action))?;
     }
     rules.reverse();

@@ -28,6 +28,7 @@ pub mod rule;
 pub mod rule_line;
 pub mod section;
 pub mod spec;
+pub mod steps;
 pub mod symbol_table;
 pub mod word;
 
@@ -37,3 +38,4 @@ pub use crate::fault::{Code, SpecFault};
 pub use crate::read::read_spec;
 pub use crate::rule::{Kind, Rule, Step};
 pub use crate::spec::Spec;
+pub use crate::steps::Steps;

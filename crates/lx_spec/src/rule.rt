@@ -1,5 +1,6 @@
 // Rules, and what they do.
 
+use crate::steps::Steps;
 use lx_ere::expr::Pattern;
 
 /// The kind of a token that an action returns (XCU `lex`, "Actions in lex": `return`).
@@ -30,6 +31,6 @@ pub struct Rule {
     /// The numbers of the conditions in which the rule is active, rising; with none it is active in each inclusive condition.
     pub conditions: Option<Vec<u16>>,
     pub pattern: Pattern,
-    /// The steps of the action in order; a return stands last.
-    pub action: Vec<Step>,
+    /// The steps of the action in order; a return stands last. A rule whose action is that of the next shares its steps.
+    pub action: Steps,
 }

@@ -159,5 +159,5 @@ module _ (rules : ℕ) (starts : List (ℕ × ℕ)) (classes : List ℕ) (width 
 
 -- the steps of the code's rules
 pub steps_are : (rules now : List CodeRule) (c k conditions kinds : ℕ) → now ≡ rules → c ≡ conditions → k ≡ kinds →
-    are_rules conditions kinds (rules_view rules) ≡ list_all (λ rule. are_steps c k rule.steps.items) now
+    are_rules conditions kinds (rules_view rules) ≡ list_all (λ rule. are_steps c k rule.steps) now
 steps_are rules now c k conditions kinds e f g = rw (e, f, g) (list_all-map (λ rule. are_steps conditions kinds rule.steps) rule_view rules)

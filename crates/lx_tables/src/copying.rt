@@ -27,7 +27,7 @@ pub(crate) fn rules_of(alloc: Global, spec: &Spec) -> Result<Vec<TableRule>, All
 {
     let mut rules = Vec::new(alloc);
     for rule in &spec.rules {
-        let steps = Vec::from_slice(alloc, &rule.action)?;
+        let steps = rule.action.clone()?;
         rules.push(TableRule {
             cut: rule.pattern.line_end,
             steps,

@@ -12,6 +12,7 @@ use crate::raw::{RawFront, RawTables};
 use crate::table_rule::TableRule;
 use crate::version::Version;
 use lx_spec::rule::Step;
+use lx_spec::steps::Steps;
 use std::alloc::{AllocError, Global};
 
 /// A count of conditions and their starts.
@@ -66,6 +67,7 @@ fn rule(alloc: Global, text: &[u8]) -> Result<(TableRule, &[u8]), AllocError>
 {
     let cut = byte_at(text, 5) == b'1';
     let (steps, rest) = steps(alloc, behind(text, 6), text.len())?;
+    let steps = Steps::from_vec(steps)?;
     Ok((TableRule { cut, steps }, rest))
 }
 

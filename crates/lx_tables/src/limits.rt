@@ -95,11 +95,11 @@ fn are_steps(conditions: usize, kinds: usize, steps: &[Step]) -> bool
 }
 
 fn are_rules(conditions: usize, kinds: usize, rules: &[TableRule]) -> bool
-    ensures { result ≡ list_all (λ rule. invariant.are_steps conditions kinds rule.steps.items) rules.now }
+    ensures { result ≡ list_all (λ rule. invariant.are_steps conditions kinds rule.steps) rules.now }
 {
     rules
         .iter()
-        .all(|rule| are_steps(conditions, kinds, &rule.steps))
+        .all(|rule| are_steps(conditions, kinds, rule.steps.as_slice()))
 }
 
 fn are_identifiers(names: &[Vec<u8>]) -> bool

@@ -121,7 +121,7 @@ impl Tables {
         requires { rule < length self.now.rules }
         ensures { result.now ≡ (rule_at self.now rule).steps }
     {
-        &self.rules[rule as usize].steps
+        self.rules[rule as usize].steps.as_slice()
     }
 
     /// How many kinds with names there are: at most 4,096.

@@ -42,7 +42,7 @@ fn show_definitions(out: &mut String, spec: &Spec) -> Result<(), AllocError> {
 fn show_rules(alloc: Global, out: &mut String, spec: &Spec) -> Result<(), AllocError> {
     for rule in &spec.rules {
         let pattern = show_pattern(alloc, &rule.pattern)?;
-        let (line, conditions, action) = (rule.line, &rule.conditions, &rule.action);
+        let (line, conditions, action) = (rule.line, &rule.conditions, rule.action.as_slice());
         writeln!(out, "{line} {pattern} {conditions:?} {action:?}")?;
     }
     Ok(())

@@ -9,7 +9,7 @@ use Rattle.lx_spec.specs.declared.definition.Definition.{Definition}
 use Rattle.lx_spec.specs.declared.rule.Rule.{Rule}
 
 abbrev pub rule_view : Rule → PlainRule
-rule_view r = record { line = r.line; conditions = option_map (λ v. v.items) r.conditions; reading = reading_of r.pattern; steps = r.action.items }
+rule_view r = record { line = r.line; conditions = option_map (λ v. v.items) r.conditions; reading = reading_of r.pattern; steps = r.action }
 
 abbrev pub definition_view : Definition → PlainDefinition
 definition_view d = record { name = d.name.items; tree = regex_of d.expr }

@@ -27,8 +27,8 @@ loop-rule-preserved c =
     let taken : c.pop.new.self.items ++ rule ∷ [] ≡ take (suc m) all = sym c.in-Some.ensures.items ∙ c.loop-rule.invariant.rest ∙ ap (λ (n : ℕ). take n all) more in
     let here : drop m all ≡ rule ∷ drop (suc m) all = drop-last all c.pop.new.self.items rule m len taken in
     let steps-behind = c.loop-rule.invariant.steps ∙ ap (λ (n : ℕ). plain.steps_of S K (plain.first_own (plain.actions_in (map resolved_view (drop n all))))) more in
-    let next = c.last_steps.ensures ∙ ap (λ (l : List Rule). steps_at_end (map rule_view l)) c.deref.ensures.value ∙ steps-behind in
-    let own = c.in_ok-action.ensures ∙ before-is S K (action_view rule.action) (plain.actions_in (map resolved_view (drop (suc m) all))) c.last_steps.result.now next in
+    let next = ap (λ (l : List Rule). steps_at_end (map rule_view l)) c.deref.ensures.value ∙ steps-behind in
+    let own = c.in_ok-action.ensures ∙ before-is S K (action_view rule.action) (plain.actions_in (map resolved_view (drop (suc m) all))) _ next in
     let pushed : map rule_view c.push.new.self.items ≡ map rule_view c.loop-rule.rules.items ++ _ ∷ [] = ap (map rule_view) c.in_ok-push.ensures.items ∙ map_push rule_view c.loop-rule.rules.items _ in
     record {
       rest = take-front all c.pop.new.self.items rule m len taken;
@@ -39,5 +39,5 @@ loop-rule-preserved c =
           (ap (map raw_rule_view) (drop-item c.args.raws.now m c.index-raws-len.result (omega (arith, more, c.loop-rule.invariant.within, c.requires.same)) ∙ ap (λ (r : RawRule). r ∷ drop (suc m) c.args.raws.now) (ap (λ (n : ℕ). get_or c.args.raws.now n c.index-raws-len.result) (sym c.len.ensures) ∙ sym c.index-raws-len.is)))
           (ap (map resolved_view) here)
           (c.loop-rule.invariant.rules ∙ ap (λ (n : ℕ). plain.rules_of S K (map raw_rule_view (drop n c.args.raws.now)) (map resolved_view (drop n all))) more)
-          (c.rule_of.ensures ∙ ap (λ (r : RawRule). with_steps r.line (resolved_view rule) c.in_ok-action.action.items) (sym c.index-raws-len.is) ∙ ap (λ (l : List Step). with_steps c.index-raws-len.result.line (resolved_view rule) l) own);
+          (c.rule_of.ensures ∙ ap (λ (r : RawRule). with_steps r.line (resolved_view rule) c.in_ok-action.action) (sym c.index-raws-len.is) ∙ ap (λ (l : List Step). with_steps c.index-raws-len.result.line (resolved_view rule) l) own);
     }
