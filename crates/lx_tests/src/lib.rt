@@ -4,6 +4,8 @@
 #[cfg(test)]
 mod automata;
 #[cfg(test)]
+mod claims;
+#[cfg(test)]
 mod collector;
 #[cfg(test)]
 mod commands;
@@ -18,6 +20,10 @@ mod examples;
 #[cfg(test)]
 mod expressions;
 #[cfg(test)]
+mod gates;
+#[cfg(test)]
+mod keeper;
+#[cfg(test)]
 mod limits;
 #[cfg(test)]
 mod listing;
@@ -29,6 +35,8 @@ mod pieces;
 mod plain;
 #[cfg(test)]
 mod plans;
+#[cfg(test)]
+mod posting;
 #[cfg(test)]
 mod readers;
 #[cfg(test)]
@@ -55,5 +63,13 @@ mod table_limits;
 mod table_texts;
 #[cfg(test)]
 mod tables;
+#[cfg(test)]
+mod thread_listings;
+#[cfg(test)]
+mod thread_memory;
+#[cfg(test)]
+mod thread_pieces;
+#[cfg(test)]
+mod threads;
 #[cfg(test)]
 mod writers;

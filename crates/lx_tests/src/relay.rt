@@ -15,7 +15,7 @@ use std::process::Abort;
 use std::test::Fail;
 
 /// The first piece of a file.
-fn first_piece(alloc: Global, plan: &Plan, file: u32) -> Result<Piece, AllocError>
+pub(crate) fn first_piece(alloc: Global, plan: &Plan, file: u32) -> Result<Piece, AllocError>
     requires { file < files_of plan.now }
     ensures { IfOk result (IsPieceOf plan.now) }
 {

@@ -1,0 +1,113 @@
+//! Gates that hold one pass until something else has come to be. They turn 10,000,000 times at most, and yield the processor each
+//! time.
+
+use lx_post::Gate;
+use std::sync::atomic::{AtomicBool, AtomicU64, Ordering};
+use std::thread;
+
+const TURNS: u32 = 10_000_000;
+
+/// Whether all of these flags are set, but for the one at this index.
+fn are_set(flags: &[AtomicBool], but: usize) -> bool {
+    flags.iter().enumerate().all(|(index, flag)| index == but || flag.load(Ordering::SeqCst))
+}
+
+/// Turns until all of these flags are set, but for the one at this index. False where the limit is met.
+fn turns_until_set(flags: &[AtomicBool], but: usize) -> bool {
+    for _ in 0..TURNS {
+        if are_set(flags, but) {
+            return true;
+        }
+        thread::yield_now();
+    }
+    false
+}
+
+/// A gate that holds the pass for one of three files until the two others were passed.
+#[derive(Drop)]
+pub(crate) struct FileGate {
+    held: u32,
+    passed: [AtomicBool; 3],
+    passes: [AtomicU64; 3],
+    gave_up: AtomicBool,
+}
+
+impl FileGate {
+    pub(crate) fn new(held: u32) -> FileGate {
+        FileGate {
+            held,
+            passed: [
+                AtomicBool::new(false),
+                AtomicBool::new(false),
+                AtomicBool::new(false),
+            ],
+            passes: [AtomicU64::new(0), AtomicU64::new(0), AtomicU64::new(0)],
+            gave_up: AtomicBool::new(false),
+        }
+    }
+
+    /// How often each file was passed.
+    pub(crate) fn passes(&self) -> [u64; 3] {
+        [
+            self.passes[0].load(Ordering::SeqCst),
+            self.passes[1].load(Ordering::SeqCst),
+            self.passes[2].load(Ordering::SeqCst),
+        ]
+    }
+
+    pub(crate) fn gave_up(&self) -> bool {
+        self.gave_up.load(Ordering::SeqCst)
+    }
+}
+
+impl Gate for FileGate {
+    fn pass(&self, _worker: u8, file: u32, _number: u64) {
+        let index = file as usize;
+        if file == self.held && !turns_until_set(self.passed.as_slice(), index) {
+            self.gave_up.store(true, Ordering::SeqCst);
+        }
+        if index < 3 {
+            self.passed[index].store(true, Ordering::SeqCst);
+            self.passes[index].fetch_add(1, Ordering::SeqCst);
+        }
+    }
+}
+
+/// A gate that holds the pass for piece 1 of one of two files until a reader has said that it took the other file's last piece.
+#[derive(Drop)]
+pub(crate) struct PieceGate {
+    held: u32,
+    pub(crate) closed: [AtomicBool; 2],
+    passes: AtomicU64,
+    gave_up: AtomicBool,
+}
+
+impl PieceGate {
+    pub(crate) fn new(held: u32) -> PieceGate {
+        PieceGate {
+            held,
+            closed: [AtomicBool::new(false), AtomicBool::new(false)],
+            passes: AtomicU64::new(0),
+            gave_up: AtomicBool::new(false),
+        }
+    }
+
+    /// How many passes there were.
+    pub(crate) fn passes(&self) -> u64 {
+        self.passes.load(Ordering::SeqCst)
+    }
+
+    pub(crate) fn gave_up(&self) -> bool {
+        self.gave_up.load(Ordering::SeqCst)
+    }
+}
+
+impl Gate for PieceGate {
+    fn pass(&self, _worker: u8, file: u32, number: u64) {
+        self.passes.fetch_add(1, Ordering::SeqCst);
+        let is_held = (file, number) == (self.held, 1);
+        if is_held && !turns_until_set(self.closed.as_slice(), file as usize) {
+            self.gave_up.store(true, Ordering::SeqCst);
+        }
+    }
+}

@@ -1,0 +1,129 @@
+//! A reader that keeps what it takes.
+
+ghost use Rattle.std.specs.Prelude.{◌≡◌, IfOk, length, replicate};
+ghost use Rattle.lx_piece.specs.Plans.{files_of};
+
+use lx_piece::{Piece, Plan, Reader, ReaderFault};
+use std::alloc::{AllocError, Global};
+use std::sync::atomic::{AtomicBool, Ordering};
+
+/// A reader that keeps the pieces that it takes, and fails at each call behind the first so many.
+#[derive(Drop)]
+pub(crate) struct Keeper<'a> {
+    plan: &'a Plan,
+    counts: Vec<u64>,
+    pub(crate) pieces: Vec<Piece>,
+    pub(crate) calls: u64,
+    room: u64,
+    fault: ReaderFault,
+    faults: u64,
+    /// Of each of the first files, whether its last piece was taken.
+    closed: &'a [AtomicBool],
+    ghost each_count: { length counts.items ≡ files_of plan.now },
+}
+
+/// A keeper that has taken nothing.
+fn keeper_of<'a>(
+    alloc: Global,
+    plan: &'a Plan,
+    room: u64,
+    fault: ReaderFault,
+    closed: &'a [AtomicBool],
+) -> Result<Keeper<'a>, AllocError>
+    ensures plan { IfOk result (λ keeper. keeper.plan.now ≡ plan.now) }
+    ensures counts { IfOk result (λ keeper. keeper.counts.items ≡ replicate (files_of plan.now) 0) }
+    ensures faults { IfOk result (λ keeper. keeper.faults ≡ 0) }
+{
+    Ok(Keeper {
+        plan,
+        counts: vec![in alloc; 0; plan.files() as usize]?,
+        pieces: Vec::new(alloc),
+        calls: 0,
+        room,
+        fault,
+        faults: 0,
+        closed,
+    })
+}
+
+/// A keeper that takes all pieces.
+pub(crate) fn fresh_keeper(alloc: Global, plan: &Plan) -> Result<Keeper<'_>, AllocError>
+    ensures plan { IfOk result (λ keeper. keeper.plan.now ≡ plan.now) }
+    ensures counts { IfOk result (λ keeper. keeper.counts.items ≡ replicate (files_of plan.now) 0) }
+    ensures faults { IfOk result (λ keeper. keeper.faults ≡ 0) }
+{
+    keeper_of(alloc, plan, u64::MAX, ReaderFault::Device, &[])
+}
+
+/// A keeper that takes so many pieces, and then fails so.
+pub(crate) fn failing_keeper(
+    alloc: Global,
+    plan: &Plan,
+    room: u64,
+    fault: ReaderFault,
+) -> Result<Keeper<'_>, AllocError>
+    ensures plan { IfOk result (λ keeper. keeper.plan.now ≡ plan.now) }
+    ensures counts { IfOk result (λ keeper. keeper.counts.items ≡ replicate (files_of plan.now) 0) }
+    ensures faults { IfOk result (λ keeper. keeper.faults ≡ 0) }
+{
+    keeper_of(alloc, plan, room, fault, &[])
+}
+
+/// A keeper that takes all pieces, and says of the first files when it took the last piece.
+pub(crate) fn telling_keeper<'a>(
+    alloc: Global,
+    plan: &'a Plan,
+    closed: &'a [AtomicBool],
+) -> Result<Keeper<'a>, AllocError>
+    ensures plan { IfOk result (λ keeper. keeper.plan.now ≡ plan.now) }
+    ensures counts { IfOk result (λ keeper. keeper.counts.items ≡ replicate (files_of plan.now) 0) }
+    ensures faults { IfOk result (λ keeper. keeper.faults ≡ 0) }
+{
+    keeper_of(alloc, plan, u64::MAX, ReaderFault::Device, closed)
+}
+
+impl<'a> Reader for Keeper<'a> {
+    ghost use Rattle.std.specs.Prelude.{ℕ};
+
+    ghost plan = { λ s. s.plan.now };
+
+    ghost counts = { λ s. s.counts.items };
+
+    ghost fault_count = { λ s. s.faults };
+
+    ghost follows = { λ _ _. Unit {0} };
+
+    fn take(&mut self, piece: Piece) -> Result<(), ReaderFault> {
+        let is_full = self.calls >= self.room;
+        self.calls = self.calls.saturating_add(1);
+        if is_full {
+            return match self.fault {
+                ReaderFault::Device => {
+                    self.faults += 1;
+                    Err(ReaderFault::Device)
+                }
+                ReaderFault::Memory => Err(ReaderFault::Memory),
+            };
+        }
+        let file = piece.file as usize;
+        let is_closing = piece.is_closing();
+        if self.pieces.push(piece).is_err() {
+            return Err(ReaderFault::Memory);
+        }
+        self.counts[file] += 1;
+        if is_closing {
+            if let Some(closed) = self.closed.get(file) {
+                closed.store(true, Ordering::SeqCst);
+            }
+        }
+        Ok(())
+    }
+
+    fn faults(&self) -> u64 {
+        self.faults
+    }
+
+    ghost follows_itself = { λ _. tt };
+
+    ghost follows_on = { λ _ _ _ _ _. tt };
+}
