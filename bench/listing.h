@@ -1,4 +1,4 @@
-/* What the scanners of bench/peers have beside their rules: the text in memory, and the lines of its items. */
+/* What the scanners of flex and re2c have beside their rules: a text in memory, the lines of its items, and the files one behind the other. */
 #include <fcntl.h>
 #include <stdint.h>
 #include <stdlib.h>
@@ -11,10 +11,15 @@ enum {
     /* An item's line without its text: the kind, three numbers and what is between. */
     FRONT_BYTES = 1 << 10,
     ESCAPED_BYTES = 4,
+    FILE_NUMBER_BYTES = 8,
 };
 
 static unsigned char *text;
-static size_t line = 1;
+static size_t text_room;
+static size_t line;
+/* The number of the file and a blank. All eight bytes are copied, which takes no loop, and so many of them count. */
+static char file_number[FILE_NUMBER_BYTES];
+static size_t file_number_length;
 static char output[OUTPUT_BYTES];
 static char *next = output;
 
@@ -31,26 +36,31 @@ static void fail(int status, const char *message)
     exit(status);
 }
 
-/* Reads the file that the command line names. Behind its bytes are two zeros: flex wants both, and re2c one. */
-static void read_text(int count, char **words, size_t *size)
+/* Reads a file, and gives its size. Behind its bytes are two zeros: flex wants both, and re2c one. */
+static size_t read_text(const char *name)
 {
     struct stat status;
-    size_t filled = 0;
-    int file = count == 2 ? open(words[1], O_RDONLY) : -1;
+    size_t size, filled = 0;
+    int file = open(name, O_RDONLY);
     if (file < 0 || fstat(file, &status) != 0)
         fail(3, "no file to read\n");
-    *size = status.st_size;
-    text = malloc(*size + 2);
+    size = status.st_size;
+    if (size + 2 > text_room) {
+        free(text);
+        text_room = size + 2;
+        text = malloc(text_room);
+    }
     if (text == NULL)
         fail(5, "out of memory\n");
-    while (filled < *size) {
-        ssize_t got = read(file, text + filled, *size - filled);
+    while (filled < size) {
+        ssize_t got = read(file, text + filled, size - filled);
         if (got <= 0)
             fail(3, "cannot read\n");
         filled += got;
     }
     close(file);
-    text[*size] = text[*size + 1] = 0;
+    text[size] = text[size + 1] = 0;
+    return size;
 }
 
 static void write_out(void)
@@ -108,6 +118,16 @@ static char *put_number(char *to, size_t number)
     return to + 1;
 }
 
+static void begin_file(size_t number)
+{
+    char digits[32];
+    file_number_length = put_number(digits, number) - digits;
+    if (file_number_length > FILE_NUMBER_BYTES)
+        fail(2, "too many files\n");
+    memcpy(file_number, digits, FILE_NUMBER_BYTES);
+    line = 1;
+}
+
 static char *put_escaped(char *to, unsigned char byte)
 {
     static const char digits[] = "0123456789ABCDEF";
@@ -151,14 +171,17 @@ static void list_rest(char *to, const unsigned char *from, const unsigned char *
 }
 
 /* Lists the item from `start` to `end`, whose class and kind are in a literal: so many bytes are copied without a loop. */
-#define LIST(kind, start, end)                                                      \
-    do {                                                                            \
-        static const char front[] = "0 " kind " ";                                  \
+#define LIST(kind, start, end)                                                       \
+    do {                                                                             \
+        static const char front[] = kind " ";                                        \
+        char *to;                                                                    \
         _Static_assert(sizeof front + 64 <= FRONT_BYTES, "a kind with a long name"); \
-        if (next > output + OUTPUT_BYTES - FRONT_BYTES)                             \
-            write_out();                                                            \
-        memcpy(next, front, sizeof front - 1);                                      \
-        list_rest(next + sizeof front - 1, start, end);                             \
+        if (next > output + OUTPUT_BYTES - FRONT_BYTES)                              \
+            write_out();                                                             \
+        memcpy(next, file_number, FILE_NUMBER_BYTES);                                \
+        to = next + file_number_length;                                              \
+        memcpy(to, front, sizeof front - 1);                                         \
+        list_rest(to + sizeof front - 1, start, end);                                \
     } while (0)
 
 /* Counts the newlines of a text that isn't listed. */
@@ -166,4 +189,25 @@ static inline void count_lines(const unsigned char *from, const unsigned char *e
 {
     for (; from < end; from++)
         line += *from == '\n';
+}
+
+/* Lists the items of the text, which has so many bytes. It stands behind the rules. */
+static void scan_text(size_t size);
+
+/* The first file has the number 0, or FIRST: [-nFIRST] FILE.. */
+int main(int count, char **words)
+{
+    int place = 1;
+    size_t number = 0;
+    if (count > 1 && strncmp(words[1], "-n", 2) == 0)
+        number = strtoul(words[place++] + 2, NULL, 10);
+    if (place == count)
+        fail(2, "no file to read\n");
+    for (; place < count; place++, number++) {
+        size_t size = read_text(words[place]);
+        begin_file(number);
+        scan_text(size);
+    }
+    write_out();
+    return 0;
 }

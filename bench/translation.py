@@ -323,14 +323,13 @@ FLEX_HEAD = """\
 """
 FLEX_TAIL = """\
 %%
-int main(int count, char **words)
+/* The buffer goes before its bytes do: flex puts one back as it leaves a buffer. */
+static void scan_text(size_t size)
 {
-    size_t size;
-    read_text(count, words, &size);
     yy_scan_buffer((char *)text, size + 2);
+    BEGIN(INITIAL);
     yylex();
-    write_out();
-    return 0;
+    yy_delete_buffer(YY_CURRENT_BUFFER);
 }
 """
 
@@ -349,13 +348,9 @@ def flex_text(specification):
 RE2C_HEAD = """\
 #include "listing.h"
 
-int main(int count, char **words)
+static void scan_text(size_t size)
 {
-    size_t size;
-    const unsigned char *start, *end, *marker, *limit;
-    read_text(count, words, &size);
-    end = text;
-    limit = text + size;
+    const unsigned char *start, *end = text, *marker, *limit = text + size;
     /*!re2c
     re2c:define:YYCTYPE = "unsigned char";
     re2c:define:YYCURSOR = end;
@@ -367,8 +362,6 @@ RE2C_TAIL = """\
 at_zero:
     if (start < limit)
         fail(6, "a zero in the text\\n");
-    write_out();
-    return 0;
 }
 """
 

@@ -1,0 +1,50 @@
+# What bench/peers and bench/threads have in common: scanners are built by flex and re2c, and what they list has to be what lx lists.
+import filecmp
+import itertools
+import shutil
+import subprocess
+import sys
+
+import translation
+from measuring import TOP, ending, run_once
+
+TOOLS = ["flex", "re2c", "gcc"]
+PEERS = {"flex -CF": translation.flex_text, "flex -Cem": translation.flex_text, "re2c": translation.re2c_text, "re2c -b": translation.re2c_text}
+
+
+class Failed(Exception):
+    """What is wrong, in a line."""
+
+
+def want_tools(script, tools):
+    """Ends the script where one of those programs isn't on the path. Each is in the package of its name."""
+    missing = [tool for tool in tools if not shutil.which(tool)]
+    if missing:
+        sys.exit(f"{script}: {' and '.join(missing)} missing on the path: apt-get update && apt-get install {' '.join(tools)}")
+
+
+def build_peer(peer, specification, folder):
+    """Has a scanner built, and gives its path."""
+    tool, *tables = peer.split()
+    program = folder / peer.replace(" ", "")
+    rules, source = program.with_suffix(f".{tool}"), program.with_suffix(".c")
+    rules.write_text(PEERS[peer](specification))
+    subprocess.run([tool, *tables, "-o", source, rules], check=True)
+    subprocess.run(["gcc", "-O2", "-I", TOP / "bench", "-o", program, source], check=True)
+    return program
+
+
+def run_well(program, command, listing, truncated=True):
+    run = run_once(command, listing, truncated)
+    if run.status != 0:
+        raise Failed(f"{program} ends with {ending(run)}")
+    return run
+
+
+def compare(program, listing, expected):
+    if filecmp.cmp(listing, expected, shallow=False):
+        return
+    with open(listing, "rb") as other, open(expected, "rb") as wanted:
+        for number, (line, due) in enumerate(itertools.zip_longest(other, wanted, fillvalue=b""), 1):
+            if line != due:
+                raise Failed(f"line {number} of {program} is {line[:200]!r}, and of lx run {due[:200]!r}")
