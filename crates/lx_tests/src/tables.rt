@@ -1,10 +1,9 @@
 //! Tables of specifications: the texts that they print, of both versions. The automata aren't merged.
 
 use lx_auto::build;
-use lx_spec::{Step, read_spec};
+use lx_spec::read_spec;
 use lx_tables::Tables;
 use std::alloc::Global;
-use std::ptr;
 use std::test::Fail;
 
 /// A specification, and the first and the second text of its tables.
@@ -33,23 +32,6 @@ pub(crate) fn unmerged_tables_of(alloc: Global, spec: &str) -> Result<Tables, Fa
     let spec = read_spec(alloc, spec.as_bytes())?;
     let automaton = build(alloc, &spec)?;
     Ok(Tables::of(alloc, &spec, &automaton)?)
-}
-
-#[test]
-fn rules_with_one_action_share_its_steps(rt: HostRuntime) -> Result<(), Fail> {
-    let spec = read_spec(rt.alloc(), b"%%\na |\nb |\nc { ECHO; }\nd { ECHO; }\n")?;
-    let automaton = build(rt.alloc(), &spec)?;
-    let tables = Tables::of(rt.alloc(), &spec, &automaton)?;
-    assert_eq!(rt; spec.rules.len(), 4);
-    assert_eq!(rt; tables.rules(), 4);
-    let owner = tables.steps(2).as_ptr();
-    for rule in 0..4 {
-        let of_rule = spec.rules[usize::from(rule)].action.as_slice();
-        assert_eq!(rt; of_rule, [Step::Echo].as_slice());
-        assert!(rt; ptr::eq(of_rule.as_ptr(), tables.steps(rule).as_ptr()));
-        assert_eq!(rt; ptr::eq(of_rule.as_ptr(), owner), rule < 3);
-    }
-    Ok(())
 }
 
 #[test]
