@@ -90,6 +90,16 @@ fn of_two_files_with_one_name_the_first_is_read(rt: HostRuntime) -> Result<(), A
 }
 
 #[test]
+fn lists_65536_files(rt: HostRuntime) -> Result<(), AllocError> {
+    let mut words = vec![in rt.alloc(); "run"; 1]?;
+    words.push("S")?;
+    for _name in 0..65_536 {
+        words.push("F")?;
+    }
+    expect(&rt, &words, &[("S", b"%%\n"), ("F", b"")], 0, b"", "")
+}
+
+#[test]
 fn refuses_more_than_65536_files(rt: HostRuntime) -> Result<(), AllocError> {
     let mut words = vec![in rt.alloc(); "run"; 1]?;
     for _name in 0..65_538 {

@@ -199,8 +199,8 @@ fn lists_several_files_in_their_order(rt: HostRuntime) -> Result<(), AllocError>
     let words = ["run", "-b", "1", "S", "a", "empty", "n"];
     lists_three(&rt, &words, ("S", spec))?;
     let tables = lx(&rt, &["gen", "S"], &[("S", spec)])?.out;
-    for workers in ["1", "2", "8"] {
-        let words = ["scan", "-j", workers, "-b", "1", "T", "a", "empty", "n"];
+    for (workers, items) in [("1", "1"), ("2", "1"), ("8", "1"), ("8", "4096")] {
+        let words = ["scan", "-j", workers, "-b", items, "T", "a", "empty", "n"];
         lists_three(&rt, &words, ("T", tables.as_slice()))?;
     }
     Ok(())
