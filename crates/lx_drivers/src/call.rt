@@ -1,0 +1,204 @@
+//! The calls, by their names.
+
+use crate::stop::Stop;
+use crate::{automata, collecting, expressions, lasting, listings, posts, relays, threads};
+use std::alloc::Global;
+use std::io;
+use std::sync::Wait;
+use std::thread::Threads;
+
+/// A call of a library.
+#[derive(Clone, Copy)]
+pub(crate) enum Call {
+    ReadPattern,
+    ReadSubstitute,
+    ReadSpec,
+    Build,
+    Merge,
+    TablesOf,
+    TablesRead,
+    Scan,
+    NextPiece,
+    CollectorNew,
+    Offer,
+    Relay,
+    ClaimsNew,
+    PostNew,
+    ScanAll,
+    PrintListing,
+    ListingNew,
+    ListingTake,
+    Has,
+    PatternEnd,
+    Automaton,
+    Tables,
+    Print,
+    PrintFirst,
+    NextMatch,
+    Text,
+    Plan,
+    ListArrivals,
+    Deliver,
+    Faults,
+    Draw,
+    Send,
+    PostArrivals,
+    OpenGate,
+    MeetingGate,
+}
+
+/// All of them, those that take memory first.
+pub(crate) const ALL: [Call; 35] = [
+    Call::ReadPattern,
+    Call::ReadSubstitute,
+    Call::ReadSpec,
+    Call::Build,
+    Call::Merge,
+    Call::TablesOf,
+    Call::TablesRead,
+    Call::Scan,
+    Call::NextPiece,
+    Call::CollectorNew,
+    Call::Offer,
+    Call::Relay,
+    Call::ClaimsNew,
+    Call::PostNew,
+    Call::ScanAll,
+    Call::PrintListing,
+    Call::ListingNew,
+    Call::ListingTake,
+    Call::Has,
+    Call::PatternEnd,
+    Call::Automaton,
+    Call::Tables,
+    Call::Print,
+    Call::PrintFirst,
+    Call::NextMatch,
+    Call::Text,
+    Call::Plan,
+    Call::ListArrivals,
+    Call::Deliver,
+    Call::Faults,
+    Call::Draw,
+    Call::Send,
+    Call::PostArrivals,
+    Call::OpenGate,
+    Call::MeetingGate,
+];
+
+impl Call {
+    /// The sign that stands before its name: `==` where it takes memory, and else `--`.
+    pub(crate) fn heading(self) -> (&'static str, &'static str) {
+        match self {
+            Call::ReadPattern => ("==", "read_pattern"),
+            Call::ReadSubstitute => ("==", "read_substitute"),
+            Call::ReadSpec => ("==", "read_spec"),
+            Call::Build => ("==", "build"),
+            Call::Merge => ("==", "merge"),
+            Call::TablesOf => ("==", "Tables::of"),
+            Call::TablesRead => ("==", "Tables::read"),
+            Call::Scan => ("==", "scan"),
+            Call::NextPiece => ("==", "next_piece"),
+            Call::CollectorNew => ("==", "Collector::new"),
+            Call::Offer => ("==", "offer"),
+            Call::Relay => ("==", "relay"),
+            Call::ClaimsNew => ("==", "Claims::new"),
+            Call::PostNew => ("==", "Post::new"),
+            Call::ScanAll => ("==", "scan_all"),
+            Call::PrintListing => ("==", "print_listing"),
+            Call::ListingNew => ("==", "Listing::new"),
+            Call::ListingTake => ("==", "Listing::take"),
+            Call::Has => ("--", "has"),
+            Call::PatternEnd => ("--", "pattern_end"),
+            Call::Automaton => ("--", "automaton"),
+            Call::Tables => ("--", "tables"),
+            Call::Print => ("--", "print"),
+            Call::PrintFirst => ("--", "print_first"),
+            Call::NextMatch => ("--", "next_match"),
+            Call::Plan => ("--", "plan"),
+            Call::ListArrivals => ("--", "list_arrivals"),
+            Call::Deliver => ("--", "deliver"),
+            Call::Faults => ("--", "faults"),
+            Call::Draw => ("--", "draw"),
+            Call::Send => ("--", "send"),
+            Call::PostArrivals => ("--", "post_arrivals"),
+            Call::Text => ("--", "text"),
+            Call::OpenGate => ("--", "open_gate"),
+            Call::MeetingGate => ("--", "meeting_gate"),
+        }
+    }
+
+    fn make<R: Print + Threads + Wait + Sync>(self, rt: &R, alloc: Global) -> Result<(), Stop> {
+        match self {
+            Call::ReadPattern => expressions::reads_patterns(rt, alloc),
+            Call::ReadSubstitute => expressions::reads_substitutes(rt, alloc),
+            Call::ReadSpec => automata::reads_spec(rt, alloc),
+            Call::Build => automata::builds(rt, alloc),
+            Call::Merge => automata::merges(rt, alloc),
+            Call::TablesOf => automata::makes_tables(rt, alloc),
+            Call::TablesRead => automata::reads_tables(rt, alloc),
+            Call::Scan => automata::scans(rt, alloc),
+            Call::NextPiece => collecting::cuts(rt, alloc),
+            Call::CollectorNew => collecting::makes_collector(rt, alloc),
+            Call::Offer => collecting::offers(rt, alloc),
+            Call::Relay => relays::relays(rt, alloc),
+            Call::ClaimsNew => posts::makes_claims(rt, alloc),
+            Call::PostNew => posts::makes_post(rt, alloc),
+            Call::ScanAll => threads::scans_all(rt, alloc),
+            Call::PrintListing => listings::prints_listing(rt, alloc),
+            Call::ListingNew => listings::makes_listing(rt, alloc),
+            Call::ListingTake => listings::takes(rt, alloc),
+            Call::Has => expressions::has(rt, alloc),
+            Call::PatternEnd => expressions::ends_patterns(rt, alloc),
+            Call::Automaton => lasting::reads_automaton(rt, alloc),
+            Call::Tables => lasting::reads_tables(rt, alloc),
+            Call::Print => lasting::prints(rt, alloc),
+            Call::PrintFirst => lasting::prints_first(rt, alloc),
+            Call::NextMatch => lasting::matches(rt, alloc),
+            Call::Plan => lasting::plans(rt, alloc),
+            Call::ListArrivals => lasting::arrives(rt, alloc),
+            Call::Deliver => collecting::delivers(rt, alloc),
+            Call::Faults => listings::counts_faults(rt, alloc),
+            Call::Draw => posts::draws(rt, alloc),
+            Call::Send => posts::sends(rt, alloc),
+            Call::PostArrivals => posts::arrives(rt, alloc),
+            Call::Text => lasting::lends(rt, alloc),
+            Call::OpenGate => threads::passes_open(rt, alloc),
+            Call::MeetingGate => threads::meets(rt, alloc),
+        }
+    }
+}
+
+/// Makes a call, and prints what it answers.
+fn drive<R: Print + Threads + Wait + Sync>(rt: &R, alloc: Global, call: Call) -> io::Result<()> {
+    match call.make(rt, alloc) {
+        Ok(()) => Ok(()),
+        Err(Stop::NotBegun) => println!(rt; "not begun"),
+        Err(Stop::Refused) => println!(rt; "refused"),
+        Err(Stop::Output) => Err(io::Error::from(io::ErrorKind::Other)),
+    }
+}
+
+/// Makes the call of this name.
+pub(crate) fn drive_named<R: Print + Threads + Wait + Sync>(
+    rt: &R,
+    alloc: Global,
+    name: &str,
+) -> io::Result<()> {
+    for call in ALL {
+        if call.heading().1 == name {
+            return drive(rt, alloc, call);
+        }
+    }
+    Err(io::Error::from(io::ErrorKind::NotFound))
+}
+
+/// Makes each call, with its name before what it answers.
+pub(crate) fn drive_all<R: Print + Threads + Wait + Sync>(rt: &R, alloc: Global) -> io::Result<()> {
+    for call in ALL {
+        let (sign, name) = call.heading();
+        println!(rt; "{sign} {name}")?;
+        drive(rt, alloc, call)?;
+    }
+    Ok(())
+}

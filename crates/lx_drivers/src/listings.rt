@@ -1,0 +1,133 @@
+//! Listings.
+
+ghost use Rattle.std.specs.Prelude.{◌≡◌, ◌+◌, ◌<◌, ◌≤◌, IfOk, OnErr, replicate};
+ghost use Rattle.lx_piece.specs.Plans.{files_of};
+
+use crate::rows::{AB_12, THREE_RULES, plan_of};
+use crate::stop::{Stop, refuse_from_here};
+use lx_piece::{Cutter, Plan, Reader, ReaderFault};
+use lx_tool::{Listing, RunFault, print_listing};
+use std::alloc::{AllocError, Global};
+use std::io;
+use std::io::Write;
+
+/// More bytes than any listing here has.
+pub(crate) const ROOM: usize = 256;
+
+/// Prints what was written before memory was refused.
+pub(crate) fn print_part(rt: &impl Print, written: &[u8]) -> io::Result<()> {
+    let mut out = io::writer(rt);
+    let mut begins = true;
+    for byte in written {
+        if begins {
+            out.write_all(b"refused ")?;
+        }
+        out.write_all(&[*byte])?;
+        begins = *byte == b'\n';
+    }
+    out.write_all(b"refused\n")
+}
+
+/// `print_listing` of two words by the three rules.
+pub(crate) fn prints_listing(rt: &impl Print, alloc: Global) -> Result<(), Stop> {
+    let plan = plan_of(alloc, THREE_RULES, &[AB_12], 1)?;
+    let Ok(mut written) = Vec::with_capacity(alloc, ROOM) else {
+        return Err(Stop::NotBegun);
+    };
+    let mut printed = print_listing(alloc, &plan, &mut written);
+    if printed == Err(RunFault::Memory) {
+        print_part(rt, &written)?;
+        written.clear();
+        printed = print_listing(alloc, &plan, &mut written);
+    }
+    match printed {
+        Ok(()) => Ok(io::writer(rt).write_all(&written)?),
+        Err(RunFault::Memory) => Err(Stop::Refused),
+        Err(fault) => Ok(println!(rt; "{fault}")?),
+    }
+}
+
+/// Makes a listing over the output: how many faults it has.
+fn faults_of_new(rt: &impl Print, alloc: Global, plan: &Plan) -> Result<u64, AllocError> {
+    let listing = Listing::new(alloc, plan, io::writer(rt))?;
+    Ok(listing.faults())
+}
+
+/// `Listing::new` over the output.
+pub(crate) fn makes_listing(rt: &impl Print, alloc: Global) -> Result<(), Stop> {
+    let plan = plan_of(alloc, THREE_RULES, &[AB_12], 1)?;
+    let made = match faults_of_new(rt, alloc, &plan) {
+        Err(AllocError) => {
+            println!(rt; "refused")?;
+            faults_of_new(rt, alloc, &plan)
+        }
+        made => made,
+    };
+    match made {
+        Ok(faults) => Ok(println!(rt; "{faults} faults")?),
+        Err(AllocError) => Err(Stop::Refused),
+    }
+}
+
+/// Hands a listing that took nothing the first piece of the first file.
+fn takes_first<W: Write>(
+    alloc: Global,
+    plan: &Plan,
+    listing: &mut Listing<'_, W>,
+) -> Result<Result<(), ReaderFault>, AllocError>
+    requires plan { listing.old.progress.plan ≡ plan.now }
+    requires counts { listing.old.progress.counts ≡ replicate (files_of plan.now) 0 }
+    requires faults { listing.old.progress.faults < 9 }
+{
+    let _files = plan.files();
+    let mut cutter = Cutter::new(alloc, plan, 0);
+    match cutter.next_piece(plan)? {
+        Some(piece) => Ok(listing.take(piece)),
+        None => Ok(Err(ReaderFault::Memory)),
+    }
+}
+
+/// A new listing takes the only piece, and writes its lines.
+fn take_once(
+    alloc: Global,
+    plan: &Plan,
+    written: &mut Vec<u8>,
+) -> Result<Result<(), ReaderFault>, Stop> {
+    let Ok(mut listing) = Listing::new(alloc, plan, written) else {
+        return Err(Stop::NotBegun);
+    };
+    match takes_first(alloc, plan, &mut listing) {
+        Ok(taken) => Ok(taken),
+        Err(AllocError) => Err(Stop::NotBegun),
+    }
+}
+
+/// `Listing::take` of a piece with two words.
+pub(crate) fn takes(rt: &impl Print, alloc: Global) -> Result<(), Stop> {
+    let plan = plan_of(alloc, THREE_RULES, &[AB_12], 256)?;
+    let Ok(mut written) = Vec::with_capacity(alloc, ROOM) else {
+        return Err(Stop::NotBegun);
+    };
+    let mut taken = take_once(alloc, &plan, &mut written)?;
+    if taken == Err(ReaderFault::Memory) {
+        print_part(rt, &written)?;
+        written.clear();
+        taken = take_once(alloc, &plan, &mut written)?;
+    }
+    match taken {
+        Ok(()) => Ok(io::writer(rt).write_all(&written)?),
+        Err(ReaderFault::Memory) => Err(Stop::Refused),
+        Err(fault) => Ok(println!(rt; "{fault}")?),
+    }
+}
+
+/// `faults` of a listing.
+pub(crate) fn counts_faults(rt: &impl Print, alloc: Global) -> Result<(), Stop> {
+    let plan = plan_of(alloc, THREE_RULES, &[AB_12], 1)?;
+    let Ok(listing) = Listing::new(alloc, &plan, io::writer(rt)) else {
+        return Err(Stop::NotBegun);
+    };
+    refuse_from_here(alloc);
+    let faults = listing.faults();
+    Ok(println!(rt; "{faults} faults")?)
+}

@@ -1,0 +1,41 @@
+//! Makes one call of a library by its name, or without a word all of them, and prints what they answer. `tests/refuse-memory` refuses memory to
+//! them: a call that answers so is made once more.
+#![tactic(auto)]
+
+mod automata;
+mod call;
+mod collecting;
+mod expressions;
+mod lasting;
+mod listings;
+mod posts;
+mod relays;
+mod rows;
+mod stop;
+mod threads;
+
+use crate::call::{drive_all, drive_named};
+use std::process::ExitCode;
+use std::{env, io};
+
+// The exit status where a word is no call's name, or the output fails.
+const FAILED: u8 = 1;
+
+fn main(rt: HostRuntime) -> ExitCode {
+    let ended = match word(&rt) {
+        Ok(Some(name)) => drive_named(&rt, rt.alloc(), name.as_str()),
+        Ok(None) => drive_all(&rt, rt.alloc()),
+        Err(_) => println!(rt; "not begun"),
+    };
+    match ended {
+        Ok(()) => ExitCode::from(0),
+        Err(_) => ExitCode::from(FAILED),
+    }
+}
+
+// The first word behind the program's name.
+fn word(rt: &HostRuntime) -> io::Result<Option<String>> {
+    let mut words = env::args(rt)?;
+    let _program = words.next();
+    Ok(words.next())
+}

@@ -1,0 +1,71 @@
+//! Runs of several threads, and the gates that they pass.
+
+use crate::listings::{ROOM, print_part};
+use crate::rows::{THREE_FILES, THREE_RULES, plan_of};
+use crate::stop::{Stop, refuse_from_here};
+use lx_piece::Plan;
+use lx_post::{Gate, MeetingGate, OpenGate, RunFault, scan_all};
+use lx_tool::Listing;
+use std::alloc::Global;
+use std::io::Write;
+use std::sync::Wait;
+use std::thread::Threads;
+use std::{io, thread};
+
+/// Lists the files of a plan by two workers.
+fn list_once<R: Threads + Wait + Sync>(
+    rt: &R,
+    alloc: Global,
+    plan: &Plan,
+    written: &mut Vec<u8>,
+) -> Result<Result<(), RunFault>, Stop> {
+    let Ok(listing) = Listing::new(alloc, plan, written) else {
+        return Err(Stop::NotBegun);
+    };
+    let (_listing, ended) = scan_all(rt, alloc, plan, 2, &OpenGate, listing);
+    Ok(ended)
+}
+
+/// `scan_all` of three files by two workers.
+pub(crate) fn scans_all<R: Print + Threads + Wait + Sync>(
+    rt: &R,
+    alloc: Global,
+) -> Result<(), Stop> {
+    let plan = plan_of(alloc, THREE_RULES, THREE_FILES.as_slice(), 1)?;
+    let Ok(mut written) = Vec::with_capacity(alloc, ROOM) else {
+        return Err(Stop::NotBegun);
+    };
+    let mut ended = list_once(rt, alloc, &plan, &mut written)?;
+    if ended == Err(RunFault::Memory) {
+        print_part(rt, &written)?;
+        written.clear();
+        ended = list_once(rt, alloc, &plan, &mut written)?;
+    }
+    match ended {
+        Ok(()) => Ok(io::writer(rt).write_all(&written)?),
+        Err(RunFault::Memory) => Err(Stop::Refused),
+        Err(fault) => Ok(println!(rt; "{fault}")?),
+    }
+}
+
+/// `pass` of an open gate.
+pub(crate) fn passes_open(rt: &impl Print, alloc: Global) -> Result<(), Stop> {
+    refuse_from_here(alloc);
+    OpenGate.pass(0, 0, 0);
+    Ok(println!(rt; "passed")?)
+}
+
+/// `pass` of a meeting gate by two threads, and `met`.
+pub(crate) fn meets<R: Print + Threads>(rt: &R, alloc: Global) -> Result<(), Stop> {
+    let gate = MeetingGate::new();
+    let ((), ()) = thread::join(
+        rt,
+        || gate.pass(1, 0, 0),
+        || {
+            refuse_from_here(alloc);
+            gate.pass(0, 0, 0);
+        },
+    );
+    let met = gate.met();
+    Ok(println!(rt; "met {met}")?)
+}
