@@ -5,7 +5,7 @@
  *     REFUSE_FROM=N     the Nth and all behind it
  *     REFUSE_SIZE=N     the first of N bytes and all behind it
  *     REFUSE_MARK=PATH  a file that is made at the first refusal
- *     REFUSE_TOLD=PATH  a file that has, where the program has ended by exit, the number of requests and that of those refused
+ *     REFUSE_TOLD=PATH  a file that has, once the program has ended by exit or _exit, the number of requests and that of those refused
  *
  * What was handed out before stays usable, and free is the C library's own. */
 #define _GNU_SOURCE
@@ -15,6 +15,7 @@
 #include <stdbool.h>
 #include <stddef.h>
 #include <stdlib.h>
+#include <sys/syscall.h>
 #include <unistd.h>
 
 /* The C library's own, under the names that nothing stands in for. */
@@ -50,7 +51,7 @@ static void make(const char *path, const char *text, size_t length)
     if (file < 0)
         return;
     if (write(file, text, length) != (ssize_t)length)
-        _exit(99);
+        abort();
     close(file);
 }
 
@@ -71,6 +72,14 @@ __attribute__((destructor)) static void tell(void)
     *--begin = ' ';
     begin = digits(begin, requests);
     make(told, begin, (size_t)(end - begin));
+}
+
+/* A program with threads ends so, and runs no destructors. */
+void _exit(int status)
+{
+    tell();
+    for (;;)
+        syscall(SYS_exit_group, status);
 }
 
 static bool is_refused(size_t size)

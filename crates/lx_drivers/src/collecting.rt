@@ -1,5 +1,6 @@
 //! Pieces, and the collector that puts them in order.
 
+ghost use Rattle.std.specs.Prelude.{◌≤◌};
 ghost use Rattle.lx_piece.specs.Cutting.{IsCutterOf};
 
 use crate::rows::{AB_12, NO_RULES, THREE_RULES, plan_of};
@@ -42,15 +43,24 @@ fn print_first_pieces(rt: &impl Print, alloc: Global, plan: &Plan) -> Result<(),
     print_next(rt, plan, &mut cutter)
 }
 
+/// A file of so many bytes, each of which is an Echo, in pieces of 256.
+fn echo_plan(alloc: Global, len: usize) -> Result<Plan, Stop>
+    requires { len ≤ 512 }
+{
+    let bytes = [b'x'; 512];
+    plan_of(alloc, NO_RULES, &[&bytes[..len]], 256)
+}
+
 /// `next_piece` of files of 256, 257 and 512 bytes, and of two words one by one.
 pub(crate) fn cuts(rt: &impl Print, alloc: Global) -> Result<(), Stop> {
-    for len in [256, 257, 512] {
-        let bytes = [b'x'; 512];
-        let plan = plan_of(alloc, NO_RULES, &[&bytes[..len]], 256)?;
-        print_first_pieces(rt, alloc, &plan)?;
-    }
-    let plan = plan_of(alloc, THREE_RULES, &[AB_12], 1)?;
-    print_first_pieces(rt, alloc, &plan)
+    let full = echo_plan(alloc, 256)?;
+    let one_more = echo_plan(alloc, 257)?;
+    let two = echo_plan(alloc, 512)?;
+    let words = plan_of(alloc, THREE_RULES, &[AB_12], 1)?;
+    print_first_pieces(rt, alloc, &full)?;
+    print_first_pieces(rt, alloc, &one_more)?;
+    print_first_pieces(rt, alloc, &two)?;
+    print_first_pieces(rt, alloc, &words)
 }
 
 fn print_collector(rt: &impl Print, collector: &Collector) -> io::Result<()> {
