@@ -43,9 +43,6 @@ impl Pace {
 
     /// Waits while this file is behind the first open one, and the reader has taken much of such files.
     pub fn wait<W: Wait>(&self, rt: &W, file: u32) {
-        if !self.is_far_ahead(file) {
-            return;
-        }
         let mut patience = Patience::new();
         for _ in rt.forever() {
             if !self.is_far_ahead(file) {

@@ -4,10 +4,9 @@ use crate::pace::Pace;
 use lx_piece::{Piece, Reader, ReaderFault};
 use std::alloc::{AllocError, Global};
 
-/// What a reader has taken.
+/// How many items of each file a reader has taken.
 #[derive(Drop)]
-pub struct Taken {
-    // Of each file, how many items.
+pub struct TakenItems {
     items: Vec<u64>,
     // Of each file, whether its closing piece is among them.
     closed: Vec<bool>,
@@ -16,10 +15,10 @@ pub struct Taken {
     ahead: u64,
 }
 
-impl Taken {
-    /// Nothing.
-    pub fn new(alloc: Global, files: u32) -> Result<Taken, AllocError> {
-        Ok(Taken {
+impl TakenItems {
+    /// Those of a reader that has taken nothing.
+    pub fn new(alloc: Global, files: u32) -> Result<TakenItems, AllocError> {
+        Ok(TakenItems {
             items: vec![in alloc; 0; files as usize]?,
             closed: vec![in alloc; false; files as usize]?,
             first_open: 0,
@@ -61,7 +60,7 @@ impl Taken {
 #[derive(Drop)]
 pub struct PacedReader<'p, R: Reader> {
     pub reader: R,
-    pub taken: Taken,
+    pub taken: TakenItems,
     pub pace: &'p Pace,
 }
 

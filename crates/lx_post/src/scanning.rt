@@ -15,7 +15,7 @@ use crate::collecting::receive_all;
 use crate::gate::Gate;
 use crate::job::Job;
 use crate::joining::{join_all, settle_all};
-use crate::paced_reader::{PacedReader, Taken};
+use crate::paced_reader::{PacedReader, TakenItems};
 use crate::passes::{SendPass, TakePass};
 use crate::post::Post;
 use crate::run_fault::RunFault;
@@ -41,7 +41,8 @@ fn jobs_of(
 ) -> Result<Vec<Job>, AllocError>
     requires seats { All (λ seat. seat ≡ fresh_seat claims.now) seats.items }
     requires passes { All (λ pass. (pass ≡ fresh_send post.now plan.now pass.worker) × (pass.worker < post.now.workers)) passes.items }
-    ensures count { IfOk result (λ jobs. vec_len jobs ≤ vec_len passes) }
+    requires same { vec_len seats ≡ vec_len passes }
+    ensures count { IfOk result (λ jobs. vec_len jobs ≡ vec_len passes) }
     ensures ready { IfOk result (λ jobs. All (λ job. IsReady claims.now post.now plan.now job) jobs.items) }
 {
     let mut jobs = Vec::with_capacity(alloc, passes.len())?;
@@ -53,14 +54,14 @@ fn jobs_of(
     Ok(jobs)
 }
 
-/// What a run starts with: all that it takes memory for is reserved.
+/// What a run starts with. The room that joining needs is reserved.
 #[derive(Drop)]
 struct Ready {
     claims: Claims,
     post: Post,
     take: TakePass,
     jobs: Vec<Job>,
-    taken: Taken,
+    taken: TakenItems,
     reserved: Reserved,
 }
 
@@ -96,7 +97,7 @@ fn prepare<W: Wait>(rt: &W, alloc: Global, plan: &Plan, workers: u8) -> Result<R
     let (claims, seats) = Claims::new(alloc, plan.files(), workers)?;
     let (post, passes, take) = Post::new(rt, alloc, plan, workers, ROOM)?;
     let jobs = jobs_of(alloc, seats, passes, &claims, &post, plan)?;
-    let taken = Taken::new(alloc, plan.files())?;
+    let taken = TakenItems::new(alloc, plan.files())?;
     let reserved = reserve(alloc, usize::from(workers))?;
     Ok(Ready {
         claims,

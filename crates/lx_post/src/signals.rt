@@ -1,7 +1,7 @@
 use crate::pace::Pace;
 use std::sync::atomic::AtomicBool;
 
-/// What the threads of a run tell each other by plain words.
+/// What the threads of a run tell each other beside the post. No contract speaks of it.
 #[derive(Drop)]
 pub struct Signals {
     /// Of each worker: its thread can't be made, so its job comes back.
