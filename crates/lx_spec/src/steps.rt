@@ -31,6 +31,7 @@ impl Steps {
         Ok(Steps { shared })
     }
 
+    /// The steps, in order.
     pub fn as_slice(&self) -> &[Step]
         ensures { result.now ≡ self.now }
     {

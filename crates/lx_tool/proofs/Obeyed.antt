@@ -50,7 +50,7 @@ module _ (old mid new : Option (List ℕ)) (kept : Keeps mid new) where
 
   module _ {S : Type 0} (gives : S → List ℕ → PlainInput → S → Type 0) (ends : List ℕ → ℕ) (before after : S) (cut : List (List ℕ)) where
     listed_kept : (P Q : List PlainInput → Type 0) → ((inputs : List PlainInput) → P inputs → Q inputs) → (names : List (List ℕ)) (between : S) → AreListed gives P names between after cut → AreListed gives Q names between after cut
-    listed_kept P Q as_well names between l = record { inputs = l.inputs; given = l.given; bytes = l.bytes; listed = as_well l.inputs l.listed; cut_are = l.cut_are }
+    listed_kept P Q as_well names between l = record { inputs = l.inputs; read = l.read; listed = as_well l.inputs l.listed }
 
     -- what was done stands after the last flush
     pub obeyed_kept : (asked : Option Asked) → HasObeyed gives ends before after old mid cut asked → HasObeyed gives ends before after old new cut asked

@@ -18,10 +18,8 @@ pub record AreRead {S : Type 0} (gives : S → List ℕ → PlainInput → S →
 -- The sources gave inputs for these names, in this order, which were listed as `Lists` says; `cut` names those that were cut short.
 pub record AreListed {S : Type 0} (gives : S → List ℕ → PlainInput → S → Type 0) (Lists : List PlainInput → Type 0) (names : List (List ℕ)) (before after : S) (cut : List (List ℕ)) : Type 0 where
   pub inputs : List PlainInput
-  pub given : AreGiven gives before names inputs after
-  pub bytes : AreBytes inputs
+  pub read : AreRead gives names before after inputs cut
   pub listed : Lists inputs
-  pub cut_are : cut ≡ cut_names names inputs
 
 -- They gave them, and a prefix was listed.
 pub record ArePartlyListed {S : Type 0} (gives : S → List ℕ → PlainInput → S → Type 0) (ListsPrefix : List PlainInput → Type 0) (names : List (List ℕ)) (before after : S) : Type 0 where

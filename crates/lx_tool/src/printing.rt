@@ -58,7 +58,7 @@ fn print_all<W: Write>(
     ensures same_reference { printer.new.out.ghost_name ≡ printer.old.out.ghost_name }
     ensures ok { OnOk result (Appends (W.contents printer.old.out.now) (W.contents printer.new.out.now) (listing_of plan.now)) }
     ensures err { OnErr result (AppendsPrefix (W.contents printer.old.out.now) (W.contents printer.new.out.now) (listing_of plan.now)) }
-    // The writer is blamed only where it failed.
+    // Reader comes only where the lister has counted a fault.
     ensures reader { result ≡ Err RunFault.Reader → 0 < printer.new.lister.now.faults }
 {
     let mut cuts = Cuts::new(alloc, plan);
@@ -83,7 +83,7 @@ pub fn print_listing<W: Write>(alloc: Global, plan: &Plan, out: &mut W) -> Resul
     print_all(alloc, plan, &mut printer)
 }
 
-// Hands a new printer all pieces of the plan, as workers cut them. It comes back, since it was moved to the thread that hands them on.
+// Hands a new printer all pieces of the plan, as workers cut them. It comes back, since `scan_all` takes its reader by value.
 fn scan_to<'l, 'p, 'w, T: Threads + Wait + Sync, W: Write>(
     rt: &T,
     alloc: Global,
@@ -98,7 +98,7 @@ fn scan_to<'l, 'p, 'w, T: Threads + Wait + Sync, W: Write>(
     ensures same_reference { result.0.out.ghost_name ≡ printer.entry.out.ghost_name }
     ensures ok { OnOk result.1 (Appends (W.contents printer.entry.out.now) (W.contents result.0.out.now) (listing_of plan.now)) }
     ensures err { OnErr result.1 (AppendsPrefix (W.contents printer.entry.out.now) (W.contents result.0.out.now) (listing_of plan.now)) }
-    // The writer is blamed only where it failed.
+    // Reader comes only where the lister has counted a fault.
     ensures reader { result.1 ≡ Err RunFault.Reader → 0 < result.0.lister.now.faults }
 {
     scan_all(rt, alloc, plan, workers, &OpenGate, printer)
