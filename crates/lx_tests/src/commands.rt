@@ -1,4 +1,4 @@
-//! The command line: which status and which line come when, help, and streams that fail.
+//! The command line: which status and which line come when, help, and an error stream or a flush that fails.
 
 use crate::running::{expect, lx, status_of, status_over};
 use crate::writers::{Unflushed, failing_writer};
@@ -128,37 +128,6 @@ fn says_so_where_memory_is_refused(rt: HostRuntime) -> Result<(), AllocError> {
     assert!(rt;
         status == 5 && out.is_empty() && err.as_slice() == b"lx: out of memory\n".as_slice()
     );
-    Ok(())
-}
-
-/// Asserts that a run whose output fails at this write ends there with status 4.
-fn fails_at<R: Abort + AllocGlobal + Threads + Wait + Sync>(
-    rt: &R,
-    words: &[&str],
-    call: u64,
-    written: &[u8],
-) -> Result<(), AllocError> {
-    let files: [(&str, &[u8]); 2] = [("S", b"%%\n"), ("F", b"hi!")];
-    let mut out = failing_writer(rt.alloc(), 4_096, call, false);
-    let mut err: Vec<u8> = Vec::new(rt.alloc());
-    let status = status_over(rt, words, &files, &mut out, &mut err)?;
-    let says_so = err.as_slice() == b"lx: cannot write\n".as_slice();
-    assert!(rt; status == 4 && says_so && out.held.as_slice() == written);
-    Ok(())
-}
-
-#[test]
-fn an_output_that_fails_ends_the_run(rt: HostRuntime) -> Result<(), AllocError> {
-    let rows: [(&[&str], u64, &[u8]); 5] = [
-        (&["run", "S", "F"], 1, b""),
-        (&["run", "S", "F"], 2, b"0 E - 1 0 1 h\n"),
-        (&["run", "S", "F"], 3, b"0 E - 1 0 1 h\n0 E - 1 1 1 i\n"),
-        (&["--help"], 1, b""),
-        (&[], 1, b""),
-    ];
-    for (words, call, written) in rows {
-        fails_at(&rt, words, call, written)?;
-    }
     Ok(())
 }
 

@@ -30,6 +30,8 @@ mod listing;
 #[cfg(test)]
 mod memory;
 #[cfg(test)]
+mod outputs;
+#[cfg(test)]
 mod pieces;
 #[cfg(test)]
 mod plain;

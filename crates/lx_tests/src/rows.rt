@@ -180,8 +180,8 @@ fn texts_are_listed_as_worked_out_by_hand(rt: HostRuntime) -> Result<(), AllocEr
     Ok(())
 }
 
-/// The listing of three files, of which the second is empty.
-const THREE_FILES: &[u8] = b"0 T ID 1 0 1 a\n2 T NUM 1 0 1 1\n2 T NUM 2 2 1 2\n";
+/// The listing of the files `a`, an empty one, and `1` and `2` on two lines, by the three rules.
+pub(crate) const THREE_FILES_LISTING: &[u8] = b"0 T ID 1 0 1 a\n2 T NUM 1 0 1 1\n2 T NUM 2 2 1 2\n";
 
 /// Asserts that three files are listed in their order by these words, over the rules that they name.
 fn lists_three<R: Abort + AllocGlobal + Threads + Wait + Sync>(
@@ -190,7 +190,7 @@ fn lists_three<R: Abort + AllocGlobal + Threads + Wait + Sync>(
     rules: (&str, &[u8]),
 ) -> Result<(), AllocError> {
     let files = [rules, ("a", b"a"), ("empty", b""), ("n", b"1\n2")];
-    expect(rt, words, &files, 0, THREE_FILES, "")
+    expect(rt, words, &files, 0, THREE_FILES_LISTING, "")
 }
 
 #[test]

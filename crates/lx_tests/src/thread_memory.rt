@@ -5,6 +5,7 @@
 ghost use Rattle.std.specs.Prelude.{◌<◌, ◌≤◌};
 
 use crate::plans::plan_of;
+use crate::rows::THREE_FILES_LISTING;
 use crate::table_texts::THREE_RULES;
 use lx_piece::{Plan, Reader};
 use lx_post::{OpenGate, RunFault, scan_all};
@@ -13,9 +14,6 @@ use std::alloc::Global;
 use std::process::Abort;
 use std::sync::Wait;
 use std::thread::Threads;
-
-/// The listing of the files `a`, an empty one, and `1` and `2` on two lines.
-const LISTING: &[u8] = b"0 T ID 1 0 1 a\n2 T NUM 1 0 1 1\n2 T NUM 2 2 1 2\n";
 
 /// What became of a run.
 #[derive(Clone, Copy, Debug, PartialEq, Eq)]
@@ -38,7 +36,7 @@ fn list_three<R: Threads + Wait + Abort + Sync>(
     requires some_workers { 0 < workers }
     requires few_workers { workers ≤ 8 }
 {
-    let Ok(mut out) = Vec::with_capacity(alloc, LISTING.len()) else {
+    let Ok(mut out) = Vec::with_capacity(alloc, THREE_FILES_LISTING.len()) else {
         return Outcome::Untried;
     };
     let ended = {
@@ -50,11 +48,11 @@ fn list_three<R: Threads + Wait + Abort + Sync>(
         ended
     };
     if ended.is_ok() {
-        assert_eq!(rt; out.as_slice(), LISTING);
+        assert_eq!(rt; out.as_slice(), THREE_FILES_LISTING);
         return Outcome::Whole;
     }
     assert_eq!(rt; ended, Err(RunFault::Memory));
-    assert!(rt; LISTING.starts_with(out.as_slice()));
+    assert!(rt; THREE_FILES_LISTING.starts_with(out.as_slice()));
     Outcome::Part
 }
 

@@ -18,7 +18,9 @@ fn two_workers_meet_before_their_first_pieces(rt: HostRuntime) -> Result<(), Fai
 }
 
 #[test]
-fn a_worker_held_before_a_file_waits_for_no_file_behind_it(rt: HostRuntime) -> Result<(), Fail> {
+fn every_other_file_is_begun_while_a_worker_is_held_before_one(
+    rt: HostRuntime,
+) -> Result<(), Fail> {
     let alloc = rt.alloc();
     let plan = echo_plan(alloc, &[1, 1, 1], 1)?;
     for held in 0..3 {
