@@ -1,7 +1,9 @@
 //! The calls, by their names.
 
 use crate::stop::Stop;
-use crate::{automata, collecting, expressions, lasting, listings, posts, relays, threads};
+use crate::{
+    automata, collecting, expressions, listings, posts, readers, relays, sources, threads,
+};
 use std::alloc::Global;
 use std::io;
 use std::sync::Wait;
@@ -24,10 +26,13 @@ pub(crate) enum Call {
     Relay,
     ClaimsNew,
     PostNew,
-    ScanAll,
+    ScanAllByOne,
+    ScanAllByTwo,
+    ScanAllByEight,
     PrintListing,
     ListingNew,
     ListingTake,
+    SourcesRead,
     Has,
     PatternEnd,
     Automaton,
@@ -48,7 +53,7 @@ pub(crate) enum Call {
 }
 
 /// All of them, those that take memory first.
-pub(crate) const ALL: [Call; 35] = [
+pub(crate) const ALL: [Call; 38] = [
     Call::ReadPattern,
     Call::ReadSubstitute,
     Call::ReadSpec,
@@ -63,10 +68,13 @@ pub(crate) const ALL: [Call; 35] = [
     Call::Relay,
     Call::ClaimsNew,
     Call::PostNew,
-    Call::ScanAll,
+    Call::ScanAllByOne,
+    Call::ScanAllByTwo,
+    Call::ScanAllByEight,
     Call::PrintListing,
     Call::ListingNew,
     Call::ListingTake,
+    Call::SourcesRead,
     Call::Has,
     Call::PatternEnd,
     Call::Automaton,
@@ -104,10 +112,13 @@ impl Call {
             Call::Relay => ("==", "relay"),
             Call::ClaimsNew => ("==", "Claims::new"),
             Call::PostNew => ("==", "Post::new"),
-            Call::ScanAll => ("==", "scan_all"),
+            Call::ScanAllByOne => ("==", "scan_all by 1"),
+            Call::ScanAllByTwo => ("==", "scan_all by 2"),
+            Call::ScanAllByEight => ("==", "scan_all by 8"),
             Call::PrintListing => ("==", "print_listing"),
             Call::ListingNew => ("==", "Listing::new"),
             Call::ListingTake => ("==", "Listing::take"),
+            Call::SourcesRead => ("==", "Sources::read"),
             Call::Has => ("--", "has"),
             Call::PatternEnd => ("--", "pattern_end"),
             Call::Automaton => ("--", "automaton"),
@@ -144,25 +155,28 @@ impl Call {
             Call::Relay => relays::relays(rt, alloc),
             Call::ClaimsNew => posts::makes_claims(rt, alloc),
             Call::PostNew => posts::makes_post(rt, alloc),
-            Call::ScanAll => threads::scans_all(rt, alloc),
+            Call::ScanAllByOne => threads::scans_all(rt, alloc, 1),
+            Call::ScanAllByTwo => threads::scans_all(rt, alloc, 2),
+            Call::ScanAllByEight => threads::scans_all(rt, alloc, 8),
             Call::PrintListing => listings::prints_listing(rt, alloc),
             Call::ListingNew => listings::makes_listing(rt, alloc),
             Call::ListingTake => listings::takes(rt, alloc),
+            Call::SourcesRead => sources::reads_source(rt, alloc),
             Call::Has => expressions::has(rt, alloc),
             Call::PatternEnd => expressions::ends_patterns(rt, alloc),
-            Call::Automaton => lasting::reads_automaton(rt, alloc),
-            Call::Tables => lasting::reads_tables(rt, alloc),
-            Call::Print => lasting::prints(rt, alloc),
-            Call::PrintFirst => lasting::prints_first(rt, alloc),
-            Call::NextMatch => lasting::matches(rt, alloc),
-            Call::Plan => lasting::plans(rt, alloc),
-            Call::ListArrivals => lasting::arrives(rt, alloc),
+            Call::Automaton => readers::reads_automaton(rt, alloc),
+            Call::Tables => readers::reads_tables(rt, alloc),
+            Call::Print => readers::prints(rt, alloc),
+            Call::PrintFirst => readers::prints_first(rt, alloc),
+            Call::NextMatch => readers::matches(rt, alloc),
+            Call::Plan => readers::plans(rt, alloc),
+            Call::ListArrivals => readers::arrives(rt, alloc),
             Call::Deliver => collecting::delivers(rt, alloc),
             Call::Faults => listings::counts_faults(rt, alloc),
             Call::Draw => posts::draws(rt, alloc),
             Call::Send => posts::sends(rt, alloc),
             Call::PostArrivals => posts::arrives(rt, alloc),
-            Call::Text => lasting::lends(rt, alloc),
+            Call::Text => readers::lends(rt, alloc),
             Call::OpenGate => threads::passes_open(rt, alloc),
             Call::MeetingGate => threads::meets(rt, alloc),
         }

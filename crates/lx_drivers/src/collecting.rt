@@ -1,6 +1,6 @@
 //! Pieces, and the collector that puts them in order.
 
-ghost use Rattle.std.specs.Prelude.{◌≤◌};
+ghost use Rattle.std.specs.Prelude.{◌≡◌, ◌<◌, ◌≤◌, IfOk, length};
 ghost use Rattle.lx_piece.specs.Cutting.{IsCutterOf};
 
 use crate::rows::{AB_12, NO_RULES, THREE_RULES, plan_of};
@@ -63,9 +63,13 @@ pub(crate) fn cuts(rt: &impl Print, alloc: Global) -> Result<(), Stop> {
     print_first_pieces(rt, alloc, &words)
 }
 
-fn print_collector(rt: &impl Print, collector: &Collector) -> io::Result<()> {
+/// Prints whether a collector's first file is closed and cut, and whether all files are closed.
+fn print_collector(rt: &impl Print, collector: &Collector) -> io::Result<()>
+    requires { 0 < length collector.now.lanes }
+{
+    let (closed, cut) = (collector.is_closed(0), collector.is_cut(0));
     let all = collector.all_closed();
-    println!(rt; "all closed {all}")
+    println!(rt; "closed {closed}, cut {cut}, all closed {all}")
 }
 
 /// `Collector::new` of three files.
@@ -95,7 +99,9 @@ fn empty_piece(alloc: Global, number: u64, mark: Mark) -> Piece {
 }
 
 /// Offers a piece, and prints the reply.
-fn print_reply(rt: &impl Print, collector: &mut Collector, piece: Piece) -> Result<(), Stop> {
+fn print_reply(rt: &impl Print, collector: &mut Collector, piece: Piece) -> Result<(), Stop>
+    ensures { length collector.new.lanes ≡ length collector.old.lanes }
+{
     let replied = match collector.offer(piece) {
         Err(
             Refused {
@@ -121,7 +127,10 @@ fn print_reply(rt: &impl Print, collector: &mut Collector, piece: Piece) -> Resu
 }
 
 /// Prints what is delivered, four pieces at most.
-fn print_delivered(rt: &impl Print, collector: &mut Collector) -> io::Result<()> {
+fn print_delivered(rt: &impl Print, collector: &mut Collector) -> io::Result<()>
+    requires { 0 < length collector.old.lanes }
+    ensures { length collector.new.lanes ≡ length collector.old.lanes }
+{
     for _piece in 0..4 {
         if let Some(piece) = collector.deliver() {
             print_piece(rt, &piece)?;
@@ -151,7 +160,9 @@ pub(crate) fn offers(rt: &impl Print, alloc: Global) -> Result<(), Stop> {
     Ok(())
 }
 
-fn prepared(alloc: Global) -> Result<Collector, Stop> {
+fn prepared(alloc: Global) -> Result<Collector, Stop>
+    ensures { IfOk result (λ collector. length collector.lanes ≡ 1) }
+{
     let Ok(mut collector) = Collector::new(alloc, 1, 1) else {
         return Err(Stop::NotBegun);
     };

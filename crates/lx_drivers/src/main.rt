@@ -6,11 +6,12 @@ mod automata;
 mod call;
 mod collecting;
 mod expressions;
-mod lasting;
 mod listings;
 mod posts;
+mod readers;
 mod relays;
 mod rows;
+mod sources;
 mod stop;
 mod threads;
 

@@ -1,5 +1,7 @@
 //! Runs of several threads, and the gates that they pass.
 
+ghost use Rattle.std.specs.Prelude.{◌<◌, ◌≤◌};
+
 use crate::listings::{ROOM, print_part};
 use crate::rows::{THREE_FILES, THREE_RULES, plan_of};
 use crate::stop::{Stop, refuse_from_here};
@@ -12,34 +14,42 @@ use std::sync::Wait;
 use std::thread::Threads;
 use std::{io, thread};
 
-/// Lists the files of a plan by two workers.
+/// Lists the files of a plan by so many workers.
 fn list_once<R: Threads + Wait + Sync>(
     rt: &R,
     alloc: Global,
     plan: &Plan,
+    workers: u8,
     written: &mut Vec<u8>,
-) -> Result<Result<(), RunFault>, Stop> {
+) -> Result<Result<(), RunFault>, Stop>
+    requires some_workers { 0 < workers }
+    requires few_workers { workers ≤ 8 }
+{
     let Ok(listing) = Listing::new(alloc, plan, written) else {
         return Err(Stop::NotBegun);
     };
-    let (_listing, ended) = scan_all(rt, alloc, plan, 2, &OpenGate, listing);
+    let (_listing, ended) = scan_all(rt, alloc, plan, workers, &OpenGate, listing);
     Ok(ended)
 }
 
-/// `scan_all` of three files by two workers.
+/// `scan_all` of three files by so many workers.
 pub(crate) fn scans_all<R: Print + Threads + Wait + Sync>(
     rt: &R,
     alloc: Global,
-) -> Result<(), Stop> {
+    workers: u8,
+) -> Result<(), Stop>
+    requires some_workers { 0 < workers }
+    requires few_workers { workers ≤ 8 }
+{
     let plan = plan_of(alloc, THREE_RULES, THREE_FILES.as_slice(), 1)?;
     let Ok(mut written) = Vec::with_capacity(alloc, ROOM) else {
         return Err(Stop::NotBegun);
     };
-    let mut ended = list_once(rt, alloc, &plan, &mut written)?;
+    let mut ended = list_once(rt, alloc, &plan, workers, &mut written)?;
     if ended == Err(RunFault::Memory) {
         print_part(rt, &written)?;
         written.clear();
-        ended = list_once(rt, alloc, &plan, &mut written)?;
+        ended = list_once(rt, alloc, &plan, workers, &mut written)?;
     }
     match ended {
         Ok(()) => Ok(io::writer(rt).write_all(&written)?),

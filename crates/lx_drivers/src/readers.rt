@@ -1,4 +1,4 @@
-//! Calls that take no memory: readers, printers and the scanner's step.
+//! Readers, printers, makers and the scanner's step, which take no memory.
 
 use crate::automata::print_automaton;
 use crate::collecting::print_piece;
@@ -94,6 +94,9 @@ pub(crate) fn matches(rt: &impl Print, alloc: Global) -> Result<(), Stop> {
 /// `Plan::new`, its readers, and `Cutter::new`.
 pub(crate) fn plans(rt: &impl Print, alloc: Global) -> Result<(), Stop> {
     let tables = tables_of(alloc, THREE_RULES)?;
+    if tables.kinds() == 0 {
+        return Err(Stop::NotBegun);
+    }
     let Ok(bytes) = Vec::from_slice(alloc, AB_12) else {
         return Err(Stop::NotBegun);
     };
@@ -103,8 +106,8 @@ pub(crate) fn plans(rt: &impl Print, alloc: Global) -> Result<(), Stop> {
     refuse_from_here(alloc);
     let plan = Plan::new(tables, files, 1, 1);
     let count = plan.files();
-    let bytes = plan.bytes(0);
-    println!(rt; "{count} file, {bytes:?}")?;
+    let (bytes, kind) = (plan.bytes(0), plan.kind(0));
+    println!(rt; "{count} file, {bytes:?}, {kind:?}")?;
     let _cutter = Cutter::new(alloc, &plan, 0);
     Ok(())
 }
