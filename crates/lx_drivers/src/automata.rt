@@ -1,8 +1,9 @@
 //! Specifications, automata, tables and items.
 
-use crate::rows::{AB_12, THREE_RULES, THREE_RULES_FIRST, tables_of, three_rules};
+use crate::rows::{tables_of, three_rules};
 use crate::stop::Stop;
 use lx_auto::{Automaton, BuildFault, build, merge};
+use lx_fixtures::{THREE_RULES, THREE_RULES_TEXTS, TWO_WORDS};
 use lx_scan::{Item, scan};
 use lx_spec::{Code, Spec, SpecFault, read_spec};
 use lx_tables::{TableFault, Tables};
@@ -127,7 +128,7 @@ pub(crate) fn makes_tables(rt: &impl Print, alloc: Global) -> Result<(), Stop> {
 
 /// `Tables::read` of version 1 of their text.
 pub(crate) fn reads_tables(rt: &impl Print, alloc: Global) -> Result<(), Stop> {
-    let text = THREE_RULES_FIRST.as_bytes();
+    let text = THREE_RULES_TEXTS.0.as_bytes();
     let read = match Tables::read(alloc, text) {
         Err(TableFault::Memory) => {
             println!(rt; "refused")?;
@@ -152,10 +153,10 @@ fn print_items(rt: &impl Print, items: &[Item]) -> io::Result<()> {
 /// `scan` of two words by the three rules.
 pub(crate) fn scans(rt: &impl Print, alloc: Global) -> Result<(), Stop> {
     let tables = tables_of(alloc, THREE_RULES)?;
-    let scanned = match scan(alloc, &tables, AB_12) {
+    let scanned = match scan(alloc, &tables, TWO_WORDS) {
         Err(AllocError) => {
             println!(rt; "refused")?;
-            scan(alloc, &tables, AB_12)
+            scan(alloc, &tables, TWO_WORDS)
         }
         scanned => scanned,
     };

@@ -3,8 +3,9 @@
 ghost use Rattle.std.specs.Prelude.{◌≡◌, ◌<◌, ◌≤◌, IfOk, length};
 ghost use Rattle.lx_piece.specs.Cutting.{IsCutterOf};
 
-use crate::rows::{AB_12, NO_RULES, THREE_RULES, plan_of};
+use crate::rows::{TWO_WORDS, plan_of};
 use crate::stop::{Stop, refuse_from_here};
+use lx_fixtures::{NO_RULES, THREE_RULES};
 use lx_piece::{Collector, Cutter, Items, Mark, Piece, Plan, Refused, Why};
 use std::alloc::{AllocError, Global};
 use std::io;
@@ -48,7 +49,7 @@ fn echo_plan(alloc: Global, len: usize) -> Result<Plan, Stop>
     requires { len ≤ 512 }
 {
     let bytes = [b'x'; 512];
-    plan_of(alloc, NO_RULES, &[&bytes[..len]], 256)
+    plan_of(alloc, NO_RULES, &[(&bytes[..len], false)], 256)
 }
 
 /// `next_piece` of files of 256, 257 and 512 bytes, and of two words one by one.
@@ -56,7 +57,7 @@ pub(crate) fn cuts(rt: &impl Print, alloc: Global) -> Result<(), Stop> {
     let full = echo_plan(alloc, 256)?;
     let one_more = echo_plan(alloc, 257)?;
     let two = echo_plan(alloc, 512)?;
-    let words = plan_of(alloc, THREE_RULES, &[AB_12], 1)?;
+    let words = plan_of(alloc, THREE_RULES, TWO_WORDS, 1)?;
     print_first_pieces(rt, alloc, &full)?;
     print_first_pieces(rt, alloc, &one_more)?;
     print_first_pieces(rt, alloc, &two)?;

@@ -1,11 +1,9 @@
 //! Listings.
 
-ghost use Rattle.std.specs.Prelude.{◌≡◌, ◌+◌, ◌<◌, ◌≤◌, IfOk, OnErr, replicate};
-ghost use Rattle.lx_piece.specs.Plans.{files_of};
-
-use crate::rows::{AB_12, THREE_RULES, plan_of};
+use crate::rows::{TWO_WORDS, plan_of};
 use crate::stop::{Stop, refuse_from_here};
-use lx_piece::{Cutter, Plan, Reader, ReaderFault};
+use lx_fixtures::{THREE_RULES, take_first};
+use lx_piece::{Plan, Reader, ReaderFault};
 use lx_post::RunFault;
 use lx_tool::{Listing, print_listing};
 use std::alloc::{AllocError, Global};
@@ -31,7 +29,7 @@ pub(crate) fn print_part(rt: &impl Print, written: &[u8]) -> io::Result<()> {
 
 /// `print_listing` of two words by the three rules.
 pub(crate) fn prints_listing(rt: &impl Print, alloc: Global) -> Result<(), Stop> {
-    let plan = plan_of(alloc, THREE_RULES, &[AB_12], 1)?;
+    let plan = plan_of(alloc, THREE_RULES, TWO_WORDS, 1)?;
     let Ok(mut written) = Vec::with_capacity(alloc, ROOM) else {
         return Err(Stop::NotBegun);
     };
@@ -56,7 +54,7 @@ fn faults_of_new(rt: &impl Print, alloc: Global, plan: &Plan) -> Result<u64, All
 
 /// `Listing::new` over the output.
 pub(crate) fn makes_listing(rt: &impl Print, alloc: Global) -> Result<(), Stop> {
-    let plan = plan_of(alloc, THREE_RULES, &[AB_12], 1)?;
+    let plan = plan_of(alloc, THREE_RULES, TWO_WORDS, 1)?;
     let made = match faults_of_new(rt, alloc, &plan) {
         Err(AllocError) => {
             println!(rt; "refused")?;
@@ -70,24 +68,6 @@ pub(crate) fn makes_listing(rt: &impl Print, alloc: Global) -> Result<(), Stop> 
     }
 }
 
-/// Hands a listing that took nothing the first piece of the first file.
-fn takes_first<W: Write>(
-    alloc: Global,
-    plan: &Plan,
-    listing: &mut Listing<'_, W>,
-) -> Result<Result<(), ReaderFault>, AllocError>
-    requires plan { listing.old.progress.plan ≡ plan.now }
-    requires counts { listing.old.progress.counts ≡ replicate (files_of plan.now) 0 }
-    requires faults { listing.old.progress.faults < 9 }
-{
-    let _files = plan.files();
-    let mut cutter = Cutter::new(alloc, plan, 0);
-    match cutter.next_piece(plan)? {
-        Some(piece) => Ok(listing.take(piece)),
-        None => Ok(Err(ReaderFault::Memory)),
-    }
-}
-
 /// A new listing takes the only piece, and writes its lines.
 fn take_once(
     alloc: Global,
@@ -97,7 +77,7 @@ fn take_once(
     let Ok(mut listing) = Listing::new(alloc, plan, written) else {
         return Err(Stop::NotBegun);
     };
-    match takes_first(alloc, plan, &mut listing) {
+    match take_first(alloc, plan, &mut listing) {
         Ok(taken) => Ok(taken),
         Err(AllocError) => Err(Stop::NotBegun),
     }
@@ -105,7 +85,7 @@ fn take_once(
 
 /// `Listing::take` of a piece with two words.
 pub(crate) fn takes(rt: &impl Print, alloc: Global) -> Result<(), Stop> {
-    let plan = plan_of(alloc, THREE_RULES, &[AB_12], 256)?;
+    let plan = plan_of(alloc, THREE_RULES, TWO_WORDS, 256)?;
     let Ok(mut written) = Vec::with_capacity(alloc, ROOM) else {
         return Err(Stop::NotBegun);
     };
@@ -124,7 +104,7 @@ pub(crate) fn takes(rt: &impl Print, alloc: Global) -> Result<(), Stop> {
 
 /// `faults` of a listing.
 pub(crate) fn counts_faults(rt: &impl Print, alloc: Global) -> Result<(), Stop> {
-    let plan = plan_of(alloc, THREE_RULES, &[AB_12], 1)?;
+    let plan = plan_of(alloc, THREE_RULES, TWO_WORDS, 1)?;
     let Ok(listing) = Listing::new(alloc, &plan, io::writer(rt)) else {
         return Err(Stop::NotBegun);
     };

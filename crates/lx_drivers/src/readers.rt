@@ -3,9 +3,10 @@
 use crate::automata::print_automaton;
 use crate::collecting::print_piece;
 use crate::relays::among_strangers;
-use crate::rows::{AB_12, NO_RULES, THREE_RULES, plan_of, tables_of, three_rules};
+use crate::rows::{plan_of, tables_of, three_rules};
 use crate::stop::{Stop, refuse_from_here};
 use lx_auto::build;
+use lx_fixtures::{NO_RULES, THREE_RULES, TWO_WORDS};
 use lx_piece::{Arrivals, Cutter, Input, ListArrivals, Plan};
 use lx_scan::{Item, Place, next_match};
 use lx_spec::Kind;
@@ -85,7 +86,7 @@ pub(crate) fn matches(rt: &impl Print, alloc: Global) -> Result<(), Stop> {
     let tables = tables_of(alloc, THREE_RULES)?;
     refuse_from_here(alloc);
     let _conditions = tables.conditions();
-    let found = next_match(&tables, AB_12, Place::begin());
+    let found = next_match(&tables, TWO_WORDS, Place::begin());
     println!(rt; "{found:?}")?;
     let none = next_match(&tables, b"", Place::begin());
     Ok(println!(rt; "{none:?}")?)
@@ -97,7 +98,7 @@ pub(crate) fn plans(rt: &impl Print, alloc: Global) -> Result<(), Stop> {
     if tables.kinds() == 0 {
         return Err(Stop::NotBegun);
     }
-    let Ok(bytes) = Vec::from_slice(alloc, AB_12) else {
+    let Ok(bytes) = Vec::from_slice(alloc, TWO_WORDS) else {
         return Err(Stop::NotBegun);
     };
     let Ok(files) = vec![in alloc; Input { bytes, cut: false }] else {
@@ -114,7 +115,7 @@ pub(crate) fn plans(rt: &impl Print, alloc: Global) -> Result<(), Stop> {
 
 /// `ListArrivals::new` and `next`, of the pieces of two files and two strangers.
 pub(crate) fn arrives(rt: &impl Print, alloc: Global) -> Result<(), Stop> {
-    let plan = plan_of(alloc, NO_RULES, &[b"".as_slice(), b"".as_slice()], 256)?;
+    let plan = plan_of(alloc, NO_RULES, &[(b"", false), (b"", false)], 256)?;
     if plan.files() != 2 {
         return Err(Stop::NotBegun);
     }
@@ -141,6 +142,6 @@ pub(crate) fn lends(rt: &impl Print, alloc: Global) -> Result<(), Stop> {
         len: 2,
     };
     refuse_from_here(alloc);
-    let text = token.text(AB_12);
+    let text = token.text(TWO_WORDS);
     Ok(println!(rt; "{text:?}")?)
 }

@@ -5,8 +5,9 @@ ghost use Rattle.lx_piece.specs.Arrivals.{AreHonest};
 ghost use Rattle.lx_piece.specs.Pieces.{IsPieceOf};
 ghost use Rattle.lx_piece.specs.Plans.{files_of};
 
-use crate::rows::{NO_RULES, plan_of};
+use crate::rows::plan_of;
 use crate::stop::Stop;
+use lx_fixtures::NO_RULES;
 use lx_piece::{
     Cutter, Items, ListArrivals, Mark, Piece, Plan, Reader, ReaderFault, RelayFault, Reply, relay,
 };
@@ -125,7 +126,7 @@ fn print_counts(rt: &impl Print, counts: &[u64]) -> io::Result<()> {
 
 /// `relay` of two empty files among strangers.
 pub(crate) fn relays(rt: &impl Print, alloc: Global) -> Result<(), Stop> {
-    let plan = plan_of(alloc, NO_RULES, &[b"".as_slice(), b"".as_slice()], 256)?;
+    let plan = plan_of(alloc, NO_RULES, &[(b"", false), (b"", false)], 256)?;
     if plan.files() != 2 {
         return Err(Stop::NotBegun);
     }

@@ -1,29 +1,16 @@
-//! Specifications, tables and plans for the calls.
+//! Specifications, tables and plans for the calls: where they can't be made, the call isn't begun.
 
-ghost use Rattle.std.specs.Prelude.{◌≡◌, ◌<◌, ◌≤◌, IfOk, length, vec_len};
+ghost use Rattle.std.specs.Prelude.{◌≡◌, ◌<◌, ◌≤◌, IfOk, length};
 
 use crate::stop::Stop;
-use lx_piece::{Input, Plan};
+use lx_fixtures::THREE_RULES;
+use lx_piece::Plan;
 use lx_spec::{Spec, read_spec};
 use lx_tables::Tables;
-use lx_tool::tables_of_text;
-use std::alloc::{AllocError, Global};
+use std::alloc::Global;
 
-/// Words, numbers and what stands between them.
-pub(crate) const THREE_RULES: &str = "%%\n[a-z]+ return ID;\n[0-9]+ return NUM;\n[ \\n]+ ;\n";
-
-/// The tables of these rules, in version 1 of their text.
-pub(crate) const THREE_RULES_FIRST: &str =
-    "lx-tables 1\nconditions 1\nstart 0 0\nkinds 2\nkind ID\nkind NUM\nrules 3\nrule 0 k0\nrule 0 k1\nrule 0\nstates 4\nstate - 10-10:1 32-32:1 48-57:2 97-122:3\nstate 2 10-10:1 32-32:1\nstate 1 48-57:2\nstate 0 97-122:3\nend\n";
-
-/// No rules: each byte is an Echo.
-pub(crate) const NO_RULES: &str = "%%\n";
-
-/// Two words.
-pub(crate) const AB_12: &[u8] = b"ab 12\n";
-
-/// A file with a name, an empty one, and one with two numbers.
-pub(crate) const THREE_FILES: [&[u8]; 3] = [b"a", b"", b"1\n2"];
+/// Two words, in a file that was read to its end.
+pub(crate) const TWO_WORDS: &[(&[u8], bool)] = &[(lx_fixtures::TWO_WORDS, false)];
 
 /// The specification of the three rules.
 pub(crate) fn three_rules(alloc: Global) -> Result<Spec, Stop> {
@@ -35,28 +22,17 @@ pub(crate) fn three_rules(alloc: Global) -> Result<Spec, Stop> {
 
 /// The tables of a specification.
 pub(crate) fn tables_of(alloc: Global, spec: &str) -> Result<Tables, Stop> {
-    match tables_of_text(alloc, spec.as_bytes()) {
+    match lx_fixtures::tables_of(alloc, spec) {
         Ok(tables) => Ok(tables),
         Err(_) => Err(Stop::NotBegun),
     }
-}
-
-fn inputs(alloc: Global, files: &[&[u8]]) -> Result<Vec<Input>, AllocError>
-    ensures { IfOk result (λ inputs. vec_len inputs ≡ length files.now) }
-{
-    let mut inputs = Vec::new(alloc);
-    for bytes in files {
-        let bytes = Vec::from_slice(alloc, bytes)?;
-        inputs.push(Input { bytes, cut: false })?;
-    }
-    Ok(inputs)
 }
 
 /// The plan of run 1 of these files by the tables of a specification.
 pub(crate) fn plan_of(
     alloc: Global,
     spec: &str,
-    files: &[&[u8]],
+    files: &[(&[u8], bool)],
     per_piece: u32,
 ) -> Result<Plan, Stop>
     requires some_files { 0 < length files.now }
@@ -65,9 +41,8 @@ pub(crate) fn plan_of(
     requires few_items { per_piece ≤ 4096 }
     ensures { IfOk result (λ plan. plan.run ≡ 1) }
 {
-    let tables = tables_of(alloc, spec)?;
-    match inputs(alloc, files) {
-        Ok(inputs) => Ok(Plan::new(tables, inputs, per_piece, 1)),
-        Err(AllocError) => Err(Stop::NotBegun),
+    match lx_fixtures::plan_of(alloc, spec, files, per_piece) {
+        Ok(plan) => Ok(plan),
+        Err(_) => Err(Stop::NotBegun),
     }
 }

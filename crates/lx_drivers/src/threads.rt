@@ -3,8 +3,9 @@
 ghost use Rattle.std.specs.Prelude.{◌<◌, ◌≤◌};
 
 use crate::listings::{ROOM, print_part};
-use crate::rows::{THREE_FILES, THREE_RULES, plan_of};
+use crate::rows::plan_of;
 use crate::stop::{Stop, refuse_from_here};
+use lx_fixtures::{THREE_FILES, THREE_RULES};
 use lx_piece::Plan;
 use lx_post::{Gate, MeetingGate, OpenGate, RunFault, scan_all};
 use lx_tool::Listing;

@@ -1,0 +1,23 @@
+//! Tests of the public calls of the crates that read specifications, make tables and scan, which stand here so that those are proved once.
+#![tactic(auto)]
+
+#[cfg(test)]
+mod automata;
+#[cfg(test)]
+mod equality;
+#[cfg(test)]
+mod expressions;
+#[cfg(test)]
+mod scanning;
+#[cfg(test)]
+mod specifications;
+#[cfg(test)]
+mod table_changes;
+#[cfg(test)]
+mod table_damage;
+#[cfg(test)]
+mod table_limits;
+#[cfg(test)]
+mod table_texts;
+#[cfg(test)]
+mod tables;

@@ -1,0 +1,206 @@
+//! Texts of tables at the limits and just above them, and counts that promise more than there is.
+
+use crate::table_texts::expect_read;
+use std::alloc::{AllocError, Global};
+use std::fmt::Write;
+use std::test::Fail;
+
+/// Adds a line in which each `#` is a number.
+fn add_line(text: &mut String, line: &str, number: u32) -> Result<(), AllocError> {
+    for letter in line.chars() {
+        if letter == '#' {
+            write!(text, "{number}")?;
+        } else {
+            text.push(letter)?;
+        }
+    }
+    Ok(())
+}
+
+/// Adds a line with a count, and as many lines with their numbers.
+fn add_lines(text: &mut String, head: &str, count: u32, line: &str) -> Result<(), AllocError> {
+    add_line(text, head, count)?;
+    for number in 0..count {
+        add_line(text, line, number)?;
+    }
+    Ok(())
+}
+
+/// The lines of a text of tables: the one of each condition, kind, rule and state.
+type Lines = [&'static str; 4];
+
+/// How many conditions, kinds, rules and states there are.
+type Counts = [u32; 4];
+
+/// A text of tables: of version 1 where no lines of classes are given, else of version 2.
+fn made(alloc: Global, classes: &str, counts: Counts, lines: Lines) -> Result<String, AllocError> {
+    let head = if classes.is_empty() {
+        "lx-tables 1\n"
+    } else {
+        "lx-tables 2\n"
+    };
+    let [conditions, kinds, rules, states] = counts;
+    let [start, kind, rule, state] = lines;
+    let mut text = String::from_str(alloc, head)?;
+    add_lines(&mut text, "conditions #\n", conditions, start)?;
+    add_lines(&mut text, "kinds #\n", kinds, kind)?;
+    add_lines(&mut text, "rules #\n", rules, rule)?;
+    text.push_str(classes)?;
+    add_lines(&mut text, "states #\n", states, state)?;
+    text.push_str("end\n")?;
+    Ok(text)
+}
+
+/// One class of all bytes.
+const ONE_CLASS: &str = "classes 1\nclass 0-255:0\n";
+
+/// Counts and lines that are written in both versions alike, and whether there are such tables.
+const BOTH: [(Counts, Lines, bool); 15] = [
+    (
+        [64, 0, 1, 1],
+        ["start 0 0\n", "", "rule 0 b63\n", "state 0\n"],
+        true,
+    ),
+    (
+        [64, 0, 1, 1],
+        ["start 0 0\n", "", "rule 0 b64\n", "state 0\n"],
+        false,
+    ),
+    ([65, 0, 0, 1], ["start 0 0\n", "", "", "state -\n"], false),
+    ([0, 0, 0, 1], ["", "", "", "state -\n"], false),
+    (
+        [1, 4_096, 1, 1],
+        ["start 0 0\n", "kind K#\n", "rule 1 k4095\n", "state 0\n"],
+        true,
+    ),
+    (
+        [1, 4_096, 1, 1],
+        ["start 0 0\n", "kind K#\n", "rule 1 k4096\n", "state 0\n"],
+        false,
+    ),
+    (
+        [1, 4_096, 1, 1],
+        ["start 0 0\n", "kind #\n", "rule 1 k4095\n", "state 0\n"],
+        false,
+    ),
+    (
+        [1, 4_097, 0, 1],
+        ["start 0 0\n", "kind K#\n", "", "state -\n"],
+        false,
+    ),
+    (
+        [1, 0, 4_096, 1],
+        ["start 0 0\n", "", "rule 0 n#\n", "state 4095\n"],
+        true,
+    ),
+    (
+        [1, 0, 4_096, 1],
+        ["start 0 0\n", "", "rule 0 n#\n", "state 4096\n"],
+        false,
+    ),
+    (
+        [1, 0, 4_097, 1],
+        ["start 0 0\n", "", "rule 0 n#\n", "state 4095\n"],
+        false,
+    ),
+    ([1, 0, 0, 0], ["start 0 0\n", "", "", ""], false),
+    (
+        [1, 0, 0, 16_512],
+        ["start 16512 0\n", "", "", "state -\n"],
+        false,
+    ),
+    (
+        [1, 0, 0, 16_512],
+        ["start 0 16512\n", "", "", "state -\n"],
+        false,
+    ),
+    (
+        [1, 0, 0, 16_513],
+        ["start 0 0\n", "", "", "state -\n"],
+        false,
+    ),
+];
+
+/// The lines of 16,512 states, their classes, and whether there are such tables.
+const STATES: [(&str, &str, bool); 4] = [
+    ("", "state - 0-255:16511\n", true),
+    ("", "state - 0-255:16512\n", false),
+    (ONE_CLASS, "state - 0:16511\n", true),
+    (ONE_CLASS, "state - 0:16512\n", false),
+];
+
+#[test]
+fn counts_and_numbers_are_read_up_to_their_limits(rt: HostRuntime) -> Result<(), Fail> {
+    for (counts, lines, accepted) in BOTH {
+        for classes in ["", ONE_CLASS] {
+            let text = made(rt.alloc(), classes, counts, lines)?;
+            expect_read(&rt, text.as_str(), accepted)?;
+        }
+    }
+    for (classes, state, accepted) in STATES {
+        let lines = ["start 16511 0\n", "", "", state];
+        let text = made(rt.alloc(), classes, [1, 0, 0, 16_512], lines)?;
+        expect_read(&rt, text.as_str(), accepted)?;
+    }
+    Ok(())
+}
+
+/// Tables with a class for each byte: on each byte the first state steps to the state of its number.
+fn full_classes(alloc: Global, first: bool) -> Result<String, AllocError> {
+    let mut text = String::from_str(
+        alloc,
+        if first {
+            "lx-tables 1\nconditions 1\nstart 0 0\nkinds 0\nrules 0\n"
+        } else {
+            "lx-tables 2\nconditions 1\nstart 0 0\nkinds 0\nrules 0\nclasses 256\nclass"
+        },
+    )?;
+    if !first {
+        add_lines(&mut text, "", 256, " #-#:#")?;
+        text.push('\n')?;
+    }
+    text.push_str("states 256\nstate -")?;
+    add_lines(&mut text, "", 256, if first { " #-#:#" } else { " #:#" })?;
+    add_lines(&mut text, "\n", 255, "state -\n")?;
+    text.push_str("end\n")?;
+    Ok(text)
+}
+
+#[test]
+fn each_byte_may_have_a_class_of_its_own(rt: HostRuntime) -> Result<(), Fail> {
+    for first in [true, false] {
+        let text = full_classes(rt.alloc(), first)?;
+        expect_read(&rt, text.as_str(), true)?;
+    }
+    Ok(())
+}
+
+/// Counts behind which the text ends.
+const PROMISES: [&str; 12] = [
+    "conditions 64\n",
+    "conditions 4294967295\n",
+    "conditions 1\nstart 0 0\nkinds 4096\n",
+    "conditions 1\nstart 0 0\nkinds 4294967295\n",
+    "conditions 1\nstart 0 0\nkinds 0\nrules 4096\n",
+    "conditions 1\nstart 0 0\nkinds 0\nrules 4294967295\n",
+    "conditions 1\nstart 0 0\nkinds 0\nrules 0\nstates 16512\n",
+    "conditions 1\nstart 0 0\nkinds 0\nrules 0\nstates 4294967295\n",
+    "conditions 1\nstart 0 0\nkinds 0\nrules 0\nclasses 256\n",
+    "conditions 1\nstart 0 0\nkinds 0\nrules 0\nclasses 4294967295\nclass 0-255:0\nstates 1\nstate -\n",
+    "conditions 1\nstart 0 0\nkinds 0\nrules 0\nclasses 1\nclass 0-255:0\nstates 16512\n",
+    "conditions 1\nstart 0 0\nkinds 0\nrules 0\nclasses 1\nclass 0-255:0\nstates 99999999999999999999\n",
+];
+
+/// Each is read many times: a count costs no more than a text with as much.
+#[test]
+fn counts_that_promise_too_much_are_refused_at_once(rt: HostRuntime) -> Result<(), Fail> {
+    for head in ["lx-tables 1\n", "lx-tables 2\n"] {
+        for promise in PROMISES {
+            let text = format!(in rt.alloc(); "{head}{promise}")?;
+            for _time in 0..20 {
+                expect_read(&rt, text.as_str(), false)?;
+            }
+        }
+    }
+    Ok(())
+}

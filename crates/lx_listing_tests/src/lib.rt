@@ -1,0 +1,22 @@
+//! Tests of the public calls of the crate that lists, and of the program over sources and streams of a test's own, which stand here so that it is proved
+//! once.
+#![tactic(auto)]
+
+#[cfg(test)]
+mod commands;
+#[cfg(test)]
+mod cut_files;
+#[cfg(test)]
+mod listing;
+#[cfg(test)]
+mod outputs;
+#[cfg(test)]
+mod readers;
+#[cfg(test)]
+mod running;
+#[cfg(test)]
+mod thread_listings;
+#[cfg(test)]
+mod thread_memory;
+#[cfg(test)]
+mod writers;

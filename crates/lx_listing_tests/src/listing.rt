@@ -1,0 +1,106 @@
+//! Listings of plans: each form of line, pieces of later files, writers that take a part or fail.
+
+use crate::writers::failing_writer;
+use lx_fixtures::{
+    MIXED_FILES, MIXED_LISTING, MIXED_RULES, NO_RULES, inputs, last_file_first, mixed_plan,
+    plan_of, tables_of, take_first,
+};
+use lx_piece::{ListArrivals, Reader, ReaderFault, relay};
+use lx_post::RunFault;
+use lx_tool::{Listing, list_files, print_listing};
+use std::test::Fail;
+
+#[test]
+fn lists_each_form_of_line_whatever_the_pieces_are(rt: HostRuntime) -> Result<(), Fail> {
+    let alloc = rt.alloc();
+    for per_piece in [1, 2, 256] {
+        let plan = mixed_plan(alloc, per_piece)?;
+        let mut out = Vec::new(alloc);
+        print_listing(alloc, &plan, &mut out)?;
+        assert_eq!(rt;
+            out.as_slice(),
+            MIXED_LISTING.as_bytes(),
+            "with {per_piece} items a piece"
+        );
+    }
+    Ok(())
+}
+
+#[test]
+fn lists_files_by_tables(rt: HostRuntime) -> Result<(), Fail> {
+    let alloc = rt.alloc();
+    for per_piece in [1, 256] {
+        let tables = tables_of(alloc, MIXED_RULES)?;
+        let files = inputs(alloc, MIXED_FILES.as_slice())?;
+        let mut out = Vec::new(alloc);
+        list_files(alloc, tables, files, per_piece, &mut out)?;
+        assert_eq!(rt;
+            out.as_slice(),
+            MIXED_LISTING.as_bytes(),
+            "with {per_piece} items a piece"
+        );
+    }
+    Ok(())
+}
+
+#[test]
+fn writes_the_rest_of_what_was_taken_in_part(rt: HostRuntime) -> Result<(), Fail> {
+    let alloc = rt.alloc();
+    let plan = mixed_plan(alloc, 1)?;
+    let mut out = failing_writer(alloc, 1, 0, true);
+    print_listing(alloc, &plan, &mut out)?;
+    assert_eq!(rt; out.held.as_slice(), MIXED_LISTING.as_bytes());
+    Ok(())
+}
+
+/// The lines of the text `hi` without rules; where it is cut a third one stands behind them.
+const HI: &str = "0 E - 1 0 1 h\n0 E - 1 1 1 i\n";
+
+#[test]
+fn ends_where_the_writer_fails(rt: HostRuntime) -> Result<(), Fail> {
+    let alloc = rt.alloc();
+    let plan = plan_of(alloc, NO_RULES, &[(b"hi", true)], 256)?;
+    for takes_nothing in [false, true] {
+        for (call, lines) in [(1, ""), (2, "0 E - 1 0 1 h\n"), (3, HI)] {
+            let mut out = failing_writer(alloc, 4_096, call, takes_nothing);
+            let ended = print_listing(alloc, &plan, &mut out);
+            assert!(rt;
+                ended == Err(RunFault::Reader) && out.calls == call,
+                "{call}"
+            );
+            assert_eq!(rt; out.held.as_slice(), lines.as_bytes(), "{call}");
+        }
+    }
+    Ok(())
+}
+
+#[test]
+fn holds_the_pieces_of_later_files(rt: HostRuntime) -> Result<(), Fail> {
+    let alloc = rt.alloc();
+    let plan = mixed_plan(alloc, 1)?;
+    let mut out = Vec::new(alloc);
+    {
+        let mut listing = Listing::new(alloc, &plan, &mut out)?;
+        let mut arrivals = ListArrivals::new(&plan, last_file_first(alloc, &plan)?);
+        relay(alloc, &plan, &mut arrivals, &mut listing)?;
+        assert_eq!(rt; listing.faults(), 0);
+    }
+    assert_eq!(rt; out.as_slice(), MIXED_LISTING.as_bytes());
+    Ok(())
+}
+
+#[test]
+fn answers_device_once_it_has_failed(rt: HostRuntime) -> Result<(), Fail> {
+    let alloc = rt.alloc();
+    let plan = mixed_plan(alloc, 1)?;
+    let mut out = failing_writer(alloc, 4_096, 1, false);
+    {
+        let mut listing = Listing::new(alloc, &plan, &mut out)?;
+        let first = take_first(alloc, &plan, &mut listing)?;
+        assert!(rt; first == Err(ReaderFault::Device) && listing.faults() == 1);
+        let second = take_first(alloc, &plan, &mut listing)?;
+        assert!(rt; second == Err(ReaderFault::Device) && listing.faults() == 2);
+    }
+    assert!(rt; out.calls == 1 && out.held.is_empty());
+    Ok(())
+}

@@ -1,0 +1,68 @@
+//! Memory refused to a run of several threads: it answers so, every worker is joined, and what was listed by then is a prefix of the listing; the
+//! next run goes on as if nothing had been. With ample memory each run succeeds; `rt try --test --fail-alloc N` refuses the Nth allocation of each
+//! test. A test whose own memory is refused ends there.
+
+ghost use Rattle.std.specs.Prelude.{◌<◌, ◌≤◌};
+
+use lx_fixtures::{THREE_FILES, THREE_FILES_LISTING, THREE_RULES, plan_of};
+use lx_piece::{Plan, Reader};
+use lx_post::{OpenGate, RunFault, scan_all};
+use lx_tool::Listing;
+use std::alloc::Global;
+use std::process::Abort;
+use std::sync::Wait;
+use std::thread::Threads;
+
+/// What became of a run.
+#[derive(Clone, Copy, Debug, PartialEq, Eq)]
+enum Outcome {
+    /// All was listed.
+    Whole,
+    /// Memory was refused, and a prefix was listed.
+    Part,
+    /// The test itself had no memory.
+    Untried,
+}
+
+/// Lists these files by so many workers, into memory that is reserved.
+fn list_three<R: Threads + Wait + Abort + Sync>(
+    rt: &R,
+    alloc: Global,
+    plan: &Plan,
+    workers: u8,
+) -> Outcome
+    requires some_workers { 0 < workers }
+    requires few_workers { workers ≤ 8 }
+{
+    let Ok(mut out) = Vec::with_capacity(alloc, THREE_FILES_LISTING.len()) else {
+        return Outcome::Untried;
+    };
+    let ended = {
+        let Ok(listing) = Listing::new(alloc, plan, &mut out) else {
+            return Outcome::Untried;
+        };
+        let (listing, ended) = scan_all(rt, alloc, plan, workers, &OpenGate, listing);
+        assert_eq!(rt; listing.faults(), 0);
+        ended
+    };
+    if ended.is_ok() {
+        assert_eq!(rt; out.as_slice(), THREE_FILES_LISTING);
+        return Outcome::Whole;
+    }
+    assert_eq!(rt; ended, Err(RunFault::Memory));
+    assert!(rt; THREE_FILES_LISTING.starts_with(out.as_slice()));
+    Outcome::Part
+}
+
+#[test]
+fn a_run_lists_a_prefix_where_memory_is_refused(rt: HostRuntime) {
+    let alloc = rt.alloc();
+    let Ok(plan) = plan_of(alloc, THREE_RULES, THREE_FILES.as_slice(), 1) else {
+        return;
+    };
+    for workers in [1, 2, 8] {
+        if list_three(&rt, alloc, &plan, workers) == Outcome::Part {
+            assert_eq!(rt; list_three(&rt, alloc, &plan, workers), Outcome::Whole);
+        }
+    }
+}

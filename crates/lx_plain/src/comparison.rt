@@ -1,0 +1,110 @@
+//! All ways to the items of a text: by tables with and without merging, by both of their texts read again, in one scan and piece by piece.
+
+ghost use Rattle.std.specs.Prelude.{◌<◌, ◌≤◌};
+
+use crate::fault::Fault;
+use lx_auto::{build, merge};
+use lx_fixtures::inputs;
+use lx_piece::{Cutter, Plan};
+use lx_scan::{Item, scan};
+use lx_spec::spec::Spec;
+use lx_tables::Tables;
+use std::alloc::{AllocError, Global};
+
+/// A fault where this doesn't hold, by the name of what differs.
+fn holds(is_same: bool, what: &'static str) -> Result<(), Fault> {
+    if is_same {
+        Ok(())
+    } else {
+        Err(Fault::Differs(what))
+    }
+}
+
+/// The items of the pieces of a plan's first file, one piece after the other.
+fn items_of_pieces(alloc: Global, plan: &Plan) -> Result<Vec<Item>, AllocError> {
+    let _files = plan.files();
+    let mut items = Vec::new(alloc);
+    let mut cutter = Cutter::new(alloc, plan, 0);
+    while let Some(piece) = cutter.next_piece(plan)? {
+        items.extend_from_slice(piece.items.as_slice())?;
+    }
+    Ok(items)
+}
+
+/// Compares the items of a text that tables cut in pieces of so many.
+fn compare_pieces(
+    alloc: Global,
+    tables: Tables,
+    text: &[u8],
+    items: &[Item],
+    per_piece: u32,
+) -> Result<(), Fault>
+    requires some_items { 0 < per_piece }
+    requires few_items { per_piece ≤ 4096 }
+{
+    let files = inputs(alloc, &[(text, false)])?;
+    let plan = Plan::new(tables, files, per_piece, 1);
+    let found = items_of_pieces(alloc, &plan)?;
+    holds(found.as_slice() == items, "the items of pieces")
+}
+
+/// Compares what a printed text of tables gives, once it is read.
+fn compare_printed(
+    alloc: Global,
+    printed: &[u8],
+    text: &[u8],
+    items: &[Item],
+) -> Result<(), Fault> {
+    for per_piece in [1, 2, 256] {
+        let tables = Tables::read(alloc, printed)?;
+        compare_pieces(alloc, tables, text, items, per_piece)?;
+    }
+    let tables = Tables::read(alloc, printed)?;
+    let found = scan(alloc, &tables, text)?;
+    holds(found.as_slice() == items, "the items by printed tables")
+}
+
+/// Compares both texts of the tables that are read from a printed text with those that were printed.
+fn compare_texts(alloc: Global, printed: &[u8], first: &[u8], second: &[u8]) -> Result<(), Fault> {
+    let tables = Tables::read(alloc, printed)?;
+    let mut again = Vec::new(alloc);
+    tables.print_first(&mut again)?;
+    holds(
+        again.as_slice() == first,
+        "the first text of printed tables",
+    )?;
+    again.clear();
+    tables.print(&mut again)?;
+    holds(
+        again.as_slice() == second,
+        "the second text of printed tables",
+    )
+}
+
+/// Compares the items of a text by a specification with those that all ways by tables lead to.
+pub(crate) fn compare(
+    alloc: Global,
+    spec: &Spec,
+    text: &[u8],
+    items: &[Item],
+) -> Result<(), Fault> {
+    let automaton = build(alloc, spec)?;
+    let unmerged = Tables::of(alloc, spec, &automaton)?;
+    let found = scan(alloc, &unmerged, text)?;
+    holds(
+        found.as_slice() == items,
+        "the items by tables that aren't merged",
+    )?;
+    let tables = Tables::of(alloc, spec, &merge(alloc, &automaton)?)?;
+    let found = scan(alloc, &tables, text)?;
+    holds(found.as_slice() == items, "the items by tables")?;
+    let mut first = Vec::new(alloc);
+    tables.print_first(&mut first)?;
+    let mut second = Vec::new(alloc);
+    tables.print(&mut second)?;
+    for printed in [&first, &second] {
+        compare_texts(alloc, printed, &first, &second)?;
+        compare_printed(alloc, printed, text, items)?;
+    }
+    Ok(())
+}

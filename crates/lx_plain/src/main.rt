@@ -1,0 +1,50 @@
+//! Lists a file by the rules of a specification with a plain matcher, which has no automaton, and compares all other ways to the items with it.
+//!
+//! The words are the names of the specification and of the file. Where a way leads to other items it says which, and ends with status 1; what can't
+//! be read, or is refused, has status 2.
+#![tactic(auto)]
+
+mod choice;
+mod comparison;
+mod fault;
+mod lines;
+mod matcher;
+mod places;
+mod scanner;
+
+use crate::comparison::compare;
+use crate::fault::Fault;
+use crate::lines::lines_of;
+use crate::scanner::plain_items;
+use lx_spec::read_spec;
+use std::io::{Print, Write};
+use std::process::ExitCode;
+use std::rt::{Env, Files};
+use std::{env, fs, io};
+
+fn main(rt: HostRuntime) -> ExitCode {
+    let Err(fault) = list(&rt) else {
+        return ExitCode::SUCCESS;
+    };
+    let _ = eprintln!(rt; "lx_plain: {fault}");
+    match fault {
+        Fault::Differs(_) => ExitCode::from(1),
+        _ => ExitCode::from(2),
+    }
+}
+
+/// Lists the file, and compares its items.
+fn list<R: AllocGlobal + Env + Files + Print>(rt: &R) -> Result<(), Fault> {
+    let alloc = rt.alloc();
+    let words: Vec<String> = env::args(rt)?.collect(alloc)?;
+    let [_, rules, file] = words.as_slice() else {
+        return Err(Fault::Words);
+    };
+    let rules = fs::read(rt, rules.as_str())?;
+    let text = fs::read(rt, file.as_str())?;
+    let spec = read_spec(alloc, &rules)?;
+    let items = plain_items(alloc, &spec, &text)?;
+    compare(alloc, &spec, &text, &items)?;
+    let listing = lines_of(alloc, &spec.kinds, &text, &items)?;
+    Ok(io::writer(rt).write_all(listing.as_bytes())?)
+}

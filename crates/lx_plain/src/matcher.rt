@@ -1,0 +1,155 @@
+//! The plain matcher: from sets of places, the places to which the words of an expression lead.
+
+ghost use Rattle.std.specs.Prelude.{◌≡◌, IfOk, map};
+ghost use Rattle.lx_ere.specs.Regex.{regex_of};
+ghost use Rattle.lx_ere.specs.Matching.{Matches, Repeats};
+ghost use Rattle.lx_spec.specs.Names.{NameMatches};
+ghost use Rattle.lx_spec.specs.views.Rules.{definition_view};
+ghost use Rattle.lx_plain.specs.Places.{AreEnds, AreWithin, AnyNumber, AtMost};
+
+use crate::places::{add_new, behind_byte, copy_of};
+use lx_ere::expr::Expr;
+use lx_spec::definition::Definition;
+use std::alloc::{AllocError, Global};
+use std::collections::BTreeSet;
+
+/// The places to which words of the expression lead from the starts, names unfolded at most `depth` deep.
+#[cycle(matcher)]
+pub(crate) fn ends(
+    alloc: Global,
+    definitions: &[Definition],
+    depth: u8,
+    expr: &Expr,
+    text: &[u8],
+    starts: &BTreeSet<usize>,
+) -> Result<BTreeSet<usize>, AllocError>
+    requires { AreWithin text.now starts.now }
+    ensures { IfOk result (λ ends. AreEnds (Matches (NameMatches (map definition_view definitions.now) depth) (regex_of expr.now)) text.now starts.now ends) }
+{
+    // Names that double and intervals in one another would else be gone into for nothing, many times over.
+    if starts.is_empty() {
+        return Ok(BTreeSet::new(alloc));
+    }
+    match expr {
+        Expr::Nil => copy_of(starts),
+        Expr::Set(set) => behind_byte(alloc, set, text, starts),
+        Expr::Then(first, second) => {
+            let cuts = ends(alloc, definitions, depth, first, text, starts)?;
+            ends(alloc, definitions, depth, second, text, &cuts)
+        }
+        Expr::Or(one, other) => {
+            let mut both = ends(alloc, definitions, depth, one, text, starts)?;
+            let further = ends(alloc, definitions, depth, other, text, starts)?;
+            add_new(alloc, &mut both, &further)?;
+            Ok(both)
+        }
+        Expr::Times { body, low, high } => {
+            let owed = exactly(alloc, definitions, depth, body, *low, text, starts)?;
+            match high {
+                None => any_number(alloc, definitions, depth, body, text, &owed),
+                Some(high) if *high < *low => Ok(BTreeSet::new(alloc)),
+                Some(high) => at_most(alloc, definitions, depth, body, *high - *low, text, &owed),
+            }
+        }
+        Expr::Name(name) => named(alloc, definitions, depth, name, text, starts),
+    }
+}
+
+// The places to which exactly so many words of the body lead.
+#[cycle(matcher)]
+fn exactly(
+    alloc: Global,
+    definitions: &[Definition],
+    depth: u8,
+    body: &Expr,
+    count: u8,
+    text: &[u8],
+    starts: &BTreeSet<usize>,
+) -> Result<BTreeSet<usize>, AllocError>
+    requires { AreWithin text.now starts.now }
+    ensures { IfOk result (λ ends. AreEnds (Repeats (Matches (NameMatches (map definition_view definitions.now) depth) (regex_of body.now)) count) text.now starts.now ends) }
+{
+    let mut places = copy_of(starts)?;
+    for _round in 0..count {
+        places = ends(alloc, definitions, depth, body, text, &places)?;
+    }
+    Ok(places)
+}
+
+// The places to which at most so many words of the body lead.
+#[cycle(matcher)]
+fn at_most(
+    alloc: Global,
+    definitions: &[Definition],
+    depth: u8,
+    body: &Expr,
+    most: u8,
+    text: &[u8],
+    starts: &BTreeSet<usize>,
+) -> Result<BTreeSet<usize>, AllocError>
+    requires { AreWithin text.now starts.now }
+    ensures { IfOk result (λ ends. AreEnds (AtMost (Matches (NameMatches (map definition_view definitions.now) depth) (regex_of body.now)) most) text.now starts.now ends) }
+{
+    let mut reached = copy_of(starts)?;
+    let mut places = copy_of(starts)?;
+    for _round in 0..most {
+        places = ends(alloc, definitions, depth, body, text, &places)?;
+        add_new(alloc, &mut reached, &places)?;
+    }
+    Ok(reached)
+}
+
+// The places to which any number of words of the body leads. Only from places that are new does it go on.
+#[cycle(matcher)]
+fn any_number(
+    alloc: Global,
+    definitions: &[Definition],
+    depth: u8,
+    body: &Expr,
+    text: &[u8],
+    starts: &BTreeSet<usize>,
+) -> Result<BTreeSet<usize>, AllocError>
+    requires { AreWithin text.now starts.now }
+    ensures { IfOk result (λ ends. AreEnds (AnyNumber (Matches (NameMatches (map definition_view definitions.now) depth) (regex_of body.now))) text.now starts.now ends) }
+{
+    let mut reached = copy_of(starts)?;
+    let mut fresh = copy_of(starts)?;
+    'closing: while !fresh.is_empty() {
+        let next = ends(alloc, definitions, depth, body, text, &fresh)?;
+        fresh = add_new(alloc, &mut reached, &next)?;
+    }
+    Ok(reached)
+}
+
+// The places to which words lead that the name stands for.
+#[cycle(matcher)]
+fn named(
+    alloc: Global,
+    definitions: &[Definition],
+    depth: u8,
+    name: &[u8],
+    text: &[u8],
+    starts: &BTreeSet<usize>,
+) -> Result<BTreeSet<usize>, AllocError>
+    requires { AreWithin text.now starts.now }
+    ensures { IfOk result (λ ends. AreEnds (NameMatches (map definition_view definitions.now) depth name.now) text.now starts.now ends) }
+{
+    let mut found = BTreeSet::new(alloc);
+    if depth == 0 {
+        return Ok(found);
+    }
+    for definition in definitions {
+        if definition.name.as_slice() == name {
+            let further = ends(
+                alloc,
+                definitions,
+                depth - 1,
+                &definition.expr,
+                text,
+                starts,
+            )?;
+            add_new(alloc, &mut found, &further)?;
+        }
+    }
+    Ok(found)
+}

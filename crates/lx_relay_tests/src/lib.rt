@@ -1,0 +1,26 @@
+//! Tests of the public calls of the crates that cut files into pieces and hand them on, by one thread and by several, which stand here so that those are
+//! proved once.
+#![tactic(auto)]
+
+#[cfg(test)]
+mod claims;
+#[cfg(test)]
+mod collector;
+#[cfg(test)]
+mod gates;
+#[cfg(test)]
+mod keeper;
+#[cfg(test)]
+mod memory;
+#[cfg(test)]
+mod pieces;
+#[cfg(test)]
+mod plans;
+#[cfg(test)]
+mod posting;
+#[cfg(test)]
+mod relay;
+#[cfg(test)]
+mod thread_pieces;
+#[cfg(test)]
+mod threads;

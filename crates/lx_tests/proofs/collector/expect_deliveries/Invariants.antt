@@ -1,5 +1,0 @@
-use Rattle.std.proofs.Common.{◌≡◌, length}
-use Rattle.lx_tests.proofs.collector.expect_deliveries.Given as goal
-
-abbrev pub invariant-loop-next : goal.invariant-loop-next
-invariant-loop-next g l = length l.collector.lanes ≡ length l.fn.collector.lanes
