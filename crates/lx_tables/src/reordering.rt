@@ -2,7 +2,7 @@
 
 ghost use Rattle.std.specs.Prelude.{◌≡◌, ◌<◌, ◌≤◌, ◌+◌, ◌*◌, ℕ, IfOk, OnOk, length, slice_index};
 ghost use Rattle.lx_auto.specs.Automata.{state_count, accepted_by, class_target};
-ghost use Rattle.lx_auto.specs.Words.{from_word};
+ghost use Rattle.lx_auto.specs.EncodedOptions.{decoded_option};
 ghost use Rattle.lx_tables.specs.Numbered.{AreAllMet, AreStarts, AreAccepted, AreRows, word_of, rule_below};
 
 use crate::numbering::Numbering;
@@ -54,7 +54,7 @@ pub(crate) fn classes_of(alloc: Global, automaton: &Automaton) -> Result<Vec<u8>
 fn accepted_word(automaton: &Automaton, state: u32, rules: u16) -> u16
     requires state { state < state_count automaton.now }
     requires rules { rules ≤ 4096 }
-    ensures { from_word result ≡ rule_below rules (accepted_by automaton.now state) }
+    ensures { decoded_option result ≡ rule_below rules (accepted_by automaton.now state) }
 {
     match automaton.accepts(State(state)) {
         None => 0,
