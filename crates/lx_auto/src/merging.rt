@@ -23,8 +23,6 @@ pub fn merge(alloc: Global, automaton: &Automaton) -> Result<Automaton, AllocErr
     ensures minimal { IfOk result (λ m. IsMinimal m) }
     ensures live { IfOk result (λ m. HasLiveSteps m) }
 {
-    // its contract says what holds of all automata
-    let _conditions = automaton.conditions();
     let m = completion_of(alloc, automaton)?;
     let start = by_labels(alloc, &m)?;
     let p = refined(alloc, &m, start)?;

@@ -1,7 +1,7 @@
 // The automaton of the blocks of a partition.
 
 ghost use Rattle.std.specs.Prelude.{◌≡◌, ◌≢◌, ◌<◌, ◌≤◌, ◌+◌, ◌*◌, ℕ, Bool, true, false, if◌then◌else◌, IfOk, OnOk, length, slice_index};
-ghost use Rattle.lx_auto.specs.Automata.{IsMachine, HasByteClasses, state_count};
+ghost use Rattle.lx_auto.specs.Automata.{IsMachine, state_count};
 ghost use Rattle.lx_auto.specs.Completion.{total, IsComplete, IsCompletion};
 ghost use Rattle.lx_auto.specs.Equivalence.{AreEquivalentMachines, IsMinimal, HasLiveSteps};
 ghost use Rattle.lx_auto.specs.Partitions.{block, block_count, IsSound, IsStable};
@@ -137,8 +137,6 @@ pub(crate) fn quotient(
     m: &Complete,
     p: &Partition,
 ) -> Result<Draft, AllocError>
-    requires machine { IsMachine automaton.now }
-    requires classes { HasByteClasses automaton.now }
     requires completion { IsCompletion automaton.now m.now }
     requires sound { IsSound m.now p.now }
     requires stable { IsStable m.now p.now }

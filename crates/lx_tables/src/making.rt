@@ -25,8 +25,6 @@ impl Tables {
         ensures answers { IfOk result (λ tables. AreEquivalentMachines automaton.now tables.machine) }
     {
         specs_are_well_formed();
-        // its contract says what holds of all automata
-        let _conditions = automaton.conditions();
         let numbering = numbering_of(alloc, automaton)?;
         let starts = starts_of(alloc, automaton, &numbering)?;
         let classes = classes_of(alloc, automaton)?;

@@ -41,8 +41,6 @@ pub(crate) fn starts_of(
 pub(crate) fn classes_of(alloc: Global, automaton: &Automaton) -> Result<Vec<u8>, AllocError>
     ensures { IfOk result (λ classes. classes.items ≡ automaton.now.classes) }
 {
-    // its contract says what holds of all automata
-    let _conditions = automaton.conditions();
     let mut classes = Vec::new(alloc);
     for byte in 0..256u16 {
         classes.push(automaton.class(byte as u8))?;
@@ -108,8 +106,6 @@ fn add_row(
     requires rows { AreRows automaton.now numbering.now.states.items numbering.now.words.items targets.old.items (place * automaton.now.width) }
     ensures { OnOk result (AreRows automaton.now numbering.now.states.items numbering.now.words.items targets.new.items ((place + 1) * automaton.now.width)) }
 {
-    // its contract says what holds of all automata
-    let _conditions = automaton.conditions();
     for class in 0..automaton.classes() {
         let word = target_word(automaton, numbering, numbering.states[place], class as u8);
         targets.push(word)?;
