@@ -15,7 +15,7 @@ use Rattle.lx_spec.specs.views.Rules.{definition_view}
 use Rattle.lx_spec.specs.declared.definition.Definition.{Definition}
 use Rattle.lx_auto.specs.Unfolded.{Unfolded, empty, leaf}
 use Rattle.lx_auto.specs.Nodes.{PlainNode, nodes_of}
-use Rattle.lx_auto.specs.Trimmed.{cat_of, alt_of, trimmed_repeated, trimmed, trimmed_if_defined, trimmed_name}
+use Rattle.lx_auto.specs.Simplified.{cat_of, alt_of, simplified_repeated, simplified, simplified_if_defined, simplified_name}
 use Rattle.lx_auto.specs.Parts.{part_of}
 use Rattle.lx_auto.specs.NameViews.{place_of, tree_at}
 use Rattle.lx_auto.specs.NodeViews.{Appends, Joins, Changes}
@@ -85,8 +85,8 @@ unfolds-then definitions depth a b old mid new last left right p x y j = record 
   at = λ m le w.
       let f = x.at m le (then-left m definitions a b w) in
       let g = y.at m le (then-right m definitions a b w) in
-      let ta = trimmed (trimmed_name definitions m) a in
-      let tb = trimmed (trimmed_name definitions m) b in
+      let ta = simplified (simplified_name definitions m) a in
+      let tb = simplified (simplified_name definitions m) b in
       j old ta tb (two-appended ta tb old mid new left right f g) f.part g.part;
 }
 
@@ -96,12 +96,12 @@ unfolds-or definitions depth a b old mid new last left right p x y j = record {
   at = λ m le w.
       let f = x.at m le (or-left m definitions a b w) in
       let g = y.at m le (or-right m definitions a b w) in
-      let ta = trimmed (trimmed_name definitions m) a in
-      let tb = trimmed (trimmed_name definitions m) b in
+      let ta = simplified (simplified_name definitions m) a in
+      let tb = simplified (simplified_name definitions m) b in
       j old ta tb (two-appended ta tb old mid new left right f g) f.part g.part;
 }
 
-no-copies : (r : Unfolded) (low : ℕ) (high : Option ℕ) → is_no_copy high ≡ true → trimmed_repeated r low high ≡ empty
+no-copies : (r : Unfolded) (low : ℕ) (high : Option ℕ) → is_no_copy high ≡ true → simplified_repeated r low high ≡ empty
 no-copies r low None h = absurd (false≢true h)
 no-copies r low (Some zero) h = refl
 no-copies r low (Some (suc n)) h = absurd (let e : nat_eq (suc n) 0 ≡ true = h in grind (arith, nat_tests))
@@ -109,15 +109,15 @@ no-copies r low (Some (suc n)) h = absurd (let e : nat_eq (suc n) 0 ≡ true = h
 pub unfolds-none : (definitions : List PlainDefinition) (depth : ℕ) (body : Regex) (low : ℕ) (high : Option ℕ) (old : List PlainNode) → is_no_copy high ≡ true
     → Unfolds definitions depth (times body low high) old old (part_of empty)
 unfolds-none definitions depth body low high old h = record {
-  at = λ m le w. subst (λ (t : Unfolded). Appends t old old (part_of empty)) (sym (no-copies (trimmed (trimmed_name definitions m) body) low high h)) (appends-nothing old);
+  at = λ m le w. subst (λ (t : Unfolded). Appends t old old (part_of empty)) (sym (no-copies (simplified (simplified_name definitions m) body) low high h)) (appends-nothing old);
 }
 
 pub unfolds-times : (definitions : List PlainDefinition) (depth : ℕ) (body : Regex) (low : ℕ) (high : Option ℕ) (old new last : List PlainNode) (part p : Part)
-    → Unfolds definitions depth body old new part → Changes (λ r. trimmed_repeated r low high) new last part p → Unfolds definitions depth (times body low high) old last p
+    → Unfolds definitions depth body old new part → Changes (λ r. simplified_repeated r low high) new last part p → Unfolds definitions depth (times body low high) old last p
 unfolds-times definitions depth body low high old new last part p x j = record {
   at = λ m le w.
       let f = x.at m le (times-body m definitions body low high w) in
-      j old (trimmed (trimmed_name definitions m) body) f.nodes f.part;
+      j old (simplified (simplified_name definitions m) body) f.nodes f.part;
 }
 
 pub unfolds-named : (definitions : List Definition) (depth : ℕ) (name : List ℕ) (o : Option ℕ) (old new : List PlainNode) (p : Part) → place_of definitions name ≡ o
@@ -129,11 +129,11 @@ unfolds-named definitions depth name o old new p e h = record { at = by } where
   is : tree_at definitions o ≡ tree_named plain name
   is = ap (tree_at definitions) (sym e) ∙ sym (place-tree definitions name)
 
-  by : (m : ℕ) → m ≤ depth → IsTrue (is_within m plain (named name)) → Appends (trimmed (trimmed_name plain m) (named name)) old new p
+  by : (m : ℕ) → m ≤ depth → IsTrue (is_within m plain (named name)) → Appends (simplified (simplified_name plain m) (named name)) old new p
   by zero le w = absurd (false≢true w)
   by (suc m) le w =
       let holds : IsTrue (holds_of (is_within m plain) (tree_named plain name)) = and-left (holds_of (is_within m plain) (tree_named plain name)) true w in
-      subst (λ (t : Option Regex). Appends (trimmed_if_defined (trimmed_name plain m) t) old new p) is
+      subst (λ (t : Option Regex). Appends (simplified_if_defined (simplified_name plain m) t) old new p) is
       (h.at m le (subst (λ (t : Option Regex). IsTrue (holds_of (is_within m plain) t)) (sym is) holds))
 
 pub unfolds-undefined : (definitions : List PlainDefinition) (depth : ℕ) (o : Option Regex) (old new : List PlainNode) (p : Part) → o ≡ None → UnfoldsName definitions depth o old new p

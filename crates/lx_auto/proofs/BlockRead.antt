@@ -8,18 +8,18 @@ use Rattle.lx_auto.specs.Unfolded.{Unfolded, empty, leaf, cat, alt, opt, plus, p
 use Rattle.lx_auto.specs.Nodes.{PlainNode, nodes_of}
 use Rattle.lx_auto.specs.NodeLeaves.{leaves_in}
 use Rattle.lx_auto.specs.Marking.{flag, nulls_from, ends_from, reads_from}
-use Rattle.lx_auto.specs.Passing.{IsSolid, node_count, ended, end_list, EndsAt, read_list}
+use Rattle.lx_auto.specs.Passing.{HasNoEmptyPart, node_count, ended, end_list, EndsAt, read_list}
 use Rattle.lx_auto.specs.Outlines.{positions_of, HaveEnded, read_blocks}
 use Rattle.lx_auto.specs.Blocks.{IsBlockOver, AreBlocksOver, leaf_total, IsBlock, AreBlocks, HasEnds, HaveEnds, last_flag, IsClear}
-use Rattle.lx_auto.specs.Pieces.{block_nodes}
+use Rattle.lx_auto.specs.Chunks.{block_nodes}
 use Rattle.lx_auto.specs.declared.block.Block.{Block}
 use Rattle.lx_auto.specs.declared.node.Node.{Node}
 use Rattle.lx_auto.proofs.FlagLemmas.{flag_right, length_joined}
 use Rattle.lx_auto.proofs.LeafOrder.{tree_long}
-use Rattle.lx_auto.proofs.Passed.{some_nodes, end_length, ends_at, reads_pass}
-use Rattle.lx_auto.proofs.PartLists.{slice_get_push}
+use Rattle.lx_auto.proofs.PassResults.{some_nodes, end_length, ends_at, reads_pass}
+use Rattle.lx_auto.proofs.RulePartLists.{slice_get_push}
 use Rattle.lx_auto.proofs.Readable.{ended_means, reads_apart}
-use Rattle.lx_auto.proofs.RuleRead.{nulls_hold, solid_ends, ended_at_last}
+use Rattle.lx_auto.proofs.RuleRead.{nulls_hold, no_empty_ends, ended_at_last}
 use Rattle.lx_auto.proofs.Words.{in_last}
 
 either_way : (b : Bool) → (b ≡ true) ⊎ (b ≡ false)
@@ -100,13 +100,13 @@ module _ (marks : List Bool) where
   block_ends block e nodes nulls ends is n m to =
       let all : ends ≡ ends_from (nulls_from (nodes_of e) []) marks block.base (nodes_of e) [] =
       to ∙ ap₂ (λ x y. ends_from x marks block.base y []) m n in
-      let list = all ∙ solid_ends marks e block.base is.solid in
+      let list = all ∙ no_empty_ends marks e block.base is.no_empty in
       record {
-        at = ends_at marks e [] [] ends 0 block.base is.solid (list ∙ sym (append-nil (end_list marks e block.base))) refl;
-        last = ended_at_last marks e block.base ends (inr is.solid) all;
+        at = ends_at marks e [] [] ends 0 block.base is.no_empty (list ∙ sym (append-nil (end_list marks e block.base))) refl;
+        last = ended_at_last marks e block.base ends (inr is.no_empty) all;
         untouched = λ nil.
             let long = ap length (sym list ∙ nil) in
-            let some = some_nodes e is.solid in
+            let some = some_nodes e is.no_empty in
             let same = end_length marks e block.base in
             absurd (let zero_long : length (end_list marks e block.base) ≡ 0 = long in omega arith);
       }
@@ -118,7 +118,7 @@ module _ (marks : List Bool) where
       let real = nulls_from (nodes_of e) [] in
       ap₂ (λ x y. reads_from x ends (reverse y) (f ∷ []) (block.base + block.count) reads) m n
       ∙ ap (λ l. reads_from real ends l (f ∷ []) (block.base + block.count) reads) (sym (append-nil (reverse (nodes_of e))))
-      ∙ reads_pass marks real ends e [] f [] block.base (block.base + block.count) reads is.solid (ap (λ n. block.base + n) is.count) (nulls_hold marks e block.base is.solid) has.at
+      ∙ reads_pass marks real ends e [] f [] block.base (block.base + block.count) reads is.no_empty (ap (λ n. block.base + n) is.count) (nulls_hold marks e block.base is.no_empty) has.at
 
   -- nothing can be read in a block that isn't touched and isn't entered
   pub block_stays : (block : Block) (e : Unfolded) (ends reads : List Bool) (f : Bool) → IsBlock block e → HasEnds marks ends e block.base → ends ≡ [] → f ≡ false →
@@ -267,20 +267,20 @@ total_front nodes zero = omega arith
 total_front [] (suc n) = omega arith
 total_front (x ∷ xs) (suc n) = let h = total_front xs n in omega arith
 
-abbrev pub AreSolid : List Unfolded → Type 0
-AreSolid [] = Unit {0}
-AreSolid (e ∷ es) = IsSolid e × AreSolid es
+abbrev pub HaveNoEmptyPart : List Unfolded → Type 0
+HaveNoEmptyPart [] = Unit {0}
+HaveNoEmptyPart (e ∷ es) = HasNoEmptyPart e × HaveNoEmptyPart es
 
 pub tree_total : (es : List Unfolded) → leaf_total (map nodes_of es) ≡ positions_of es
 tree_total [] = refl
 tree_total (e ∷ es) = ap₂ (λ m n. m + n) (tree_long e) (tree_total es)
 
-pub over_trees : (blocks : List Block) (es : List Unfolded) (k : ℕ) → AreSolid es → AreBlocksOver blocks (map nodes_of es) k → AreBlocks blocks es k
-over_trees [] [] k solid are = tt
-over_trees [] (e ∷ es) k solid are = absurd are
-over_trees (b ∷ bs) [] k solid are = absurd are
-over_trees (b ∷ bs) (e ∷ es) k solid are = (
-  record { nodes = are.0.nodes; nulls = are.0.nulls; count = are.0.count ∙ tree_long e; solid = solid.0 },
+pub over_trees : (blocks : List Block) (es : List Unfolded) (k : ℕ) → HaveNoEmptyPart es → AreBlocksOver blocks (map nodes_of es) k → AreBlocks blocks es k
+over_trees [] [] k no_empty are = tt
+over_trees [] (e ∷ es) k no_empty are = absurd are
+over_trees (b ∷ bs) [] k no_empty are = absurd are
+over_trees (b ∷ bs) (e ∷ es) k no_empty are = (
+  record { nodes = are.0.nodes; nulls = are.0.nulls; count = are.0.count ∙ tree_long e; no_empty = no_empty.0 },
   are.0.base,
-  over_trees bs es (k + position_count e) solid.1 (subst (λ n. AreBlocksOver bs (map nodes_of es) (k + n)) (tree_long e) are.1),
+  over_trees bs es (k + position_count e) no_empty.1 (subst (λ n. AreBlocksOver bs (map nodes_of es) (k + n)) (tree_long e) are.1),
 )

@@ -3,7 +3,7 @@ use Rattle.std.proofs.Common.{◌≡◌, ◌∙◌, ℕ, ◌+◌, ◌<◌, ◌�
 use Rattle.std.proofs.lemmas.List.{length-append}
 use Rattle.lx_auto.specs.Unfolded.{Unfolded, empty, leaf, cat, alt, opt, plus, nullable}
 use Rattle.lx_auto.specs.Nodes.{PlainNode, cat_node, alt_node, opt_node, plus_node, nodes_of}
-use Rattle.lx_auto.specs.Trimmed.{cat_of, alt_of}
+use Rattle.lx_auto.specs.Simplified.{cat_of, alt_of}
 use Rattle.lx_auto.specs.Parts.{part_of}
 use Rattle.lx_auto.specs.NodeViews.{Appends, Joins}
 use Rattle.lx_auto.specs.declared.part.Part.{Part}

@@ -1,31 +1,31 @@
--- The completion of an automaton, out of its words.
+-- The completion of an automaton, out of its encoded lists.
 use Rattle.std.proofs.Common.{◌≡◌, ℕ, ◌+◌, ◌-◌, ◌*◌, ◌<◌, Some, List, ◌∷◌, ◌++◌, length, replicate, slice_index, refl, sym, ◌∙◌, ap, subst, arith, inl, inr, add-one, length-append}
 use Rattle.std.proofs.lemmas.Bool.{cases_eq}
 use Rattle.std.proofs.lemmas.List.{get_or_append_left, get_or-append_right, get_or-replicate, length-replicate, length-map}
 use Rattle.lx_auto.specs.Automata.{IsMachine, state_count}
-use Rattle.lx_auto.specs.Words.{from_word, machine_of}
+use Rattle.lx_auto.specs.EncodedOptions.{decoded_option, machine_of}
 use Rattle.lx_auto.specs.Completion.{total, label_of, step_of, IsComplete, IsCompletion}
 use Rattle.lx_auto.specs.declared.complete.Complete.{Complete}
-use Rattle.lx_auto.proofs.Grid.{suc_row}
-use Rattle.lx_auto.proofs.Reading.{word_at, from_word-some}
+use Rattle.lx_auto.proofs.RowMajor.{suc_row}
+use Rattle.lx_auto.proofs.EncodedLists.{decoded_at, decoded_option-some}
 
-pub word_below : (n word : ℕ) → ((t : ℕ) → from_word word ≡ Some t → t < n) → word < n + 1
-word_below n word f = elim (cases_eq word 0) [
+pub encoded_below : (n encoded : ℕ) → ((t : ℕ) → decoded_option encoded ≡ Some t → t < n) → encoded < n + 1
+encoded_below n encoded f = elim (cases_eq encoded 0) [
   | inl e ↦ omega arith
-  | inr ne ↦ let b = f (word - 1) (from_word-some word ne) in omega arith
+  | inr ne ↦ let b = f (encoded - 1) (decoded_option-some encoded ne) in omega arith
 ]
 
 module _ (starts : List (ℕ × ℕ)) (classes : List ℕ) (width : ℕ) (accepted targets : List ℕ) (m : Complete)
     (is : IsMachine (machine_of starts classes width accepted targets)) (same_width : m.width ≡ width)
     (next : m.next.items ≡ replicate width 0 ++ targets) (labels : m.labels.items ≡ 0 ∷ accepted) where
   count : length accepted ≡ state_count (machine_of starts classes width accepted targets)
-  count = sym (length-map accepted from_word)
+  count = sym (length-map accepted decoded_option)
 
   states : total m ≡ length accepted + 1
   states = rw labels (sym (add-one (length accepted)))
 
   long : length targets ≡ length accepted * width
-  long = sym (length-map targets from_word) ∙ is.rows ∙ ap (λ n. n * width) (sym count)
+  long = sym (length-map targets decoded_option) ∙ is.rows ∙ ap (λ n. n * width) (sym count)
 
   label_after : (s : ℕ) → label_of m (s + 1) ≡ slice_index accepted s
   label_after s = rw (labels, add-one) refl
@@ -44,8 +44,8 @@ module _ (starts : List (ℕ × ℕ)) (classes : List ℕ) (width : ℕ) (accept
 
   closed_after : (s c : ℕ) → s < length accepted → c < width → step_of m (s + 1) c < total m
   closed_after s c hs hc =
-      rw (step_after s c, states) (word_below (length accepted) (slice_index targets (s * width + c))
-      (λ t e. let b = is.closed s c t (rw (← count) hs) hc (word_at targets (s * width + c) ∙ e) in omega (arith, count)))
+      rw (step_after s c, states) (encoded_below (length accepted) (slice_index targets (s * width + c))
+      (λ t e. let b = is.closed s c t (rw (← count) hs) hc (decoded_at targets (s * width + c) ∙ e) in omega (arith, count)))
 
   closed : (s c : ℕ) → s < total m → c < width → step_of m s c < total m
   closed s c hs hc = elim (cases_eq s 0) [
@@ -72,6 +72,6 @@ module _ (starts : List (ℕ × ℕ)) (classes : List ℕ) (width : ℕ) (accept
     complete = complete;
     width = same_width;
     states = states ∙ ap (λ n. n + 1) count;
-    labels = λ s h. ap from_word (label_after s) ∙ sym (word_at accepted s);
-    steps = λ s c hs hc. ap from_word (step_after s c) ∙ sym (word_at targets (s * width + c));
+    labels = λ s h. ap decoded_option (label_after s) ∙ sym (decoded_at accepted s);
+    steps = λ s c hs hc. ap decoded_option (step_after s c) ∙ sym (decoded_at targets (s * width + c));
   }

@@ -4,7 +4,7 @@ use Rattle.std.specs.Prelude.{Contains}
 use Rattle.std.proofs.lemmas.Bool.{cases_lt}
 use Rattle.lx_auto.specs.Completion.{total, step_of, IsComplete}
 use Rattle.lx_auto.specs.Partitions.{flag}
-use Rattle.lx_auto.specs.Sources.{AddsBelow, AreSourcesOf, AreStatesBelow, HaveAllThatLand}
+use Rattle.lx_auto.specs.Sources.{AddsBelow, AreSourcesOf, AreStatesBelow, ContainPreimage}
 use Rattle.lx_auto.specs.declared.complete.Complete.{Complete}
 use Rattle.lx_auto.proofs.Membership.{contains_nil, contains_head, contains_tail, contains_cases}
 
@@ -63,17 +63,17 @@ sources_more m members old new listed i class are adds own = record {
   all = λ s l h. elim (take_cases members i (step_of m s class) h) [ inl k ↦ adds.kept s (are.all s l k) | inr k ↦ adds.added s l (own s l k.1) ];
 }
 
-pub that_land : (m : Complete) (inside : List Bool) (members states : List ℕ) (class : ℕ) → IsComplete m → class < m.width → AreSourcesOf m members class states →
-    ((s : ℕ) → s < total m → flag inside s ≡ true → Contains members s) → HaveAllThatLand m inside class states
-that_land m inside members states class complete narrow are within = record {
+pub contain_preimage : (m : Complete) (inside : List Bool) (members states : List ℕ) (class : ℕ) → IsComplete m → class < m.width → AreSourcesOf m members class states →
+    ((s : ℕ) → s < total m → flag inside s ≡ true → Contains members s) → ContainPreimage m inside class states
+contain_preimage m inside members states class complete narrow are within = record {
   below = are.below;
-  all = λ s l lands. are.all s l (within (step_of m s class) (complete.closed s class l narrow) lands);
+  all = λ s l target. are.all s l (within (step_of m s class) (complete.closed s class l narrow) target);
 }
 
-pub all_land : (m : Complete) (inside : List Bool) (states : List ℕ) (class count : ℕ) → count ≡ total m → AreStatesBelow count states → HaveAllThatLand m inside class states
-all_land m inside states class count e are = record {
+pub all_contain_preimage : (m : Complete) (inside : List Bool) (states : List ℕ) (class count : ℕ) → count ≡ total m → AreStatesBelow count states → ContainPreimage m inside class states
+all_contain_preimage m inside states class count e are = record {
   below = λ s h. let l = are.below s h in omega arith;
-  all = λ s l lands. are.all s (omega arith);
+  all = λ s l target. are.all s (omega arith);
 }
 
 -- what holds below n and of n

@@ -5,7 +5,7 @@ use Rattle.std.proofs.lemmas.List.{length-append, length-drop, append-nil, map-a
 use Rattle.std.proofs.Math.Seq.{drop-append_seam, take-append_seam}
 use Rattle.lx_auto.specs.Unfolded.{Unfolded, empty}
 use Rattle.lx_auto.specs.Nodes.{PlainNode, nodes_of}
-use Rattle.lx_auto.specs.Trimmed.{opt_of, plus_of, cat_of, trimmed_counted, trimmed_unbounded}
+use Rattle.lx_auto.specs.Simplified.{opt_of, plus_of, cat_of, simplified_counted, simplified_unbounded}
 use Rattle.lx_auto.specs.Parts.{part_of}
 use Rattle.lx_auto.specs.NodeViews.{node_view, nodes_view, Appends, Joins, Changes}
 use Rattle.lx_auto.specs.Copies.{copies, joined_as}
@@ -42,7 +42,7 @@ copied old new size n base r e f g =
 
 -- the last so many of the copies, closed
 abbrev pub last_counted : Unfolded → ℕ → ℕ → ℕ → Unfolded
-last_counted r low high closed = trimmed_counted r (low + closed - high) closed
+last_counted r low high closed = simplified_counted r (low + closed - high) closed
 
 -- what stands there while the copies are being closed
 pub record AreClosing (part : ℕ → Unfolded) (base : List PlainNode) (r : Unfolded) (left closed : ℕ) (nodes : List PlainNode) (p : Part) : Type 0 where
@@ -51,22 +51,22 @@ pub record AreClosing (part : ℕ → Unfolded) (base : List PlainNode) (r : Unf
 all-closed : (part : ℕ → Unfolded) (base : List PlainNode) (r : Unfolded) (n : ℕ) (nodes : List PlainNode) (p : Part) → AreClosing part base r 0 n nodes p → Appends (part n) base nodes p
 all-closed part base r n nodes p h = record { nodes = h.closing.nodes ∙ ap (λ l. l ++ nodes_of (part n)) (append-nil base); part = h.closing.part }
 
-pub counted-closed : (r : Unfolded) (low high : ℕ) (base nodes : List PlainNode) (p : Part) → AreClosing (last_counted r low high) base r 0 high nodes p → Appends (trimmed_counted r low high) base nodes p
+pub counted-closed : (r : Unfolded) (low high : ℕ) (base nodes : List PlainNode) (p : Part) → AreClosing (last_counted r low high) base r 0 high nodes p → Appends (simplified_counted r low high) base nodes p
 counted-closed r low high base nodes p h =
-    subst (λ (n : ℕ). Appends (trimmed_counted r n high) base nodes p) (let e : low + high - high ≡ low = omega arith in e) (all-closed (last_counted r low high) base r high nodes p h)
+    subst (λ (n : ℕ). Appends (simplified_counted r n high) base nodes p) (let e : low + high - high ≡ low = omega arith in e) (all-closed (last_counted r low high) base r high nodes p h)
 
-next-owed : (r : Unfolded) (low high closed : ℕ) → high ≤ low + closed → joined_as true r (last_counted r low high closed) ≡ last_counted r low high (suc closed)
-next-owed r low high closed h =
-    ap (λ (n : ℕ). trimmed_counted r n (suc closed)) (let e : suc (low + closed - high) ≡ low + suc closed - high = omega arith in e)
+next-required : (r : Unfolded) (low high closed : ℕ) → high ≤ low + closed → joined_as true r (last_counted r low high closed) ≡ last_counted r low high (suc closed)
+next-required r low high closed h =
+    ap (λ (n : ℕ). simplified_counted r n (suc closed)) (let e : suc (low + closed - high) ≡ low + suc closed - high = omega arith in e)
 
 next-free : (r : Unfolded) (low high closed : ℕ) → low + closed < high → joined_as false r (last_counted r low high closed) ≡ last_counted r low high (suc closed)
 next-free r low high closed h =
-    ap (λ (n : ℕ). opt_of (cat_of r (trimmed_counted r n closed))) (let e : low + closed - high ≡ 0 = omega arith in e)
-    ∙ ap (λ (n : ℕ). trimmed_counted r n (suc closed)) (let e : 0 ≡ low + suc closed - high = omega arith in e)
+    ap (λ (n : ℕ). opt_of (cat_of r (simplified_counted r n closed))) (let e : low + closed - high ≡ 0 = omega arith in e)
+    ∙ ap (λ (n : ℕ). simplified_counted r n (suc closed)) (let e : 0 ≡ low + suc closed - high = omega arith in e)
 
-pub next-counted : (r : Unfolded) (low high closed : ℕ) (owed : Bool) → closed < high → IsTrue owed ↔ (high - closed ≤ low)
-    → joined_as owed r (last_counted r low high closed) ≡ last_counted r low high (suc closed)
-next-counted r low high closed true less h = next-owed r low high closed (let f = h.0 refl in omega arith)
+pub next-counted : (r : Unfolded) (low high closed : ℕ) (required : Bool) → closed < high → IsTrue required ↔ (high - closed ≤ low)
+    → joined_as required r (last_counted r low high closed) ≡ last_counted r low high (suc closed)
+next-counted r low high closed true less h = next-required r low high closed (let f = h.0 refl in omega arith)
 next-counted r low high closed false less h = next-free r low high closed (elim (cases_lt (low + closed) high) [
   | inl f ↦ f
   | inr f ↦ absurd (false≢true (h.1 (omega arith)))
@@ -105,7 +105,7 @@ counted-begin r low high old new size base some e f g =
 
 pub unbounded-begin : (r : Unfolded) (low : ℕ) (old : List Node) (new : List Node) (last : List PlainNode) (size : ℕ) (base : List PlainNode) (body p : Part)
     → new ≡ old ++ copies (low - 1) (drop (length old - size) old) → nodes_view old ≡ base ++ nodes_of r → length (nodes_of r) ≡ size → body ≡ part_of r
-    → Changes plus_of (nodes_view new) last body p → AreClosing (trimmed_unbounded r) base r (low - 1 - 0) 0 last p
+    → Changes plus_of (nodes_view new) last body p → AreClosing (simplified_unbounded r) base r (low - 1 - 0) 0 last p
 unbounded-begin r low old new last size base body p e f g b h =
     let n : low - 1 ≡ low - 1 - 0 = omega arith in
     let all : nodes_view new ≡ (base ++ copies (low - 1 - 0) (nodes_of r)) ++ nodes_of r
@@ -118,28 +118,28 @@ closing-along : (part : ℕ → Unfolded) (base : List PlainNode) (r : Unfolded)
 closing-along part base r left left' closed closed' nodes p e f h =
     subst (λ (n : ℕ). AreClosing part base r n closed' nodes p) e (subst (λ (n : ℕ). AreClosing part base r left n nodes p) f h)
 
-pub counted-step : (r : Unfolded) (low high closed : ℕ) (owed : Bool) (base old new : List PlainNode) (body p q : Part) → closed < high → IsTrue owed ↔ (high - closed ≤ low)
-    → body ≡ part_of r → AreClosing (last_counted r low high) base r (high - closed) closed old p → Joins (joined_as owed) old new body p q
+pub counted-step : (r : Unfolded) (low high closed : ℕ) (required : Bool) (base old new : List PlainNode) (body p q : Part) → closed < high → IsTrue required ↔ (high - closed ≤ low)
+    → body ≡ part_of r → AreClosing (last_counted r low high) base r (high - closed) closed old p → Joins (joined_as required) old new body p q
     → AreClosing (last_counted r low high) base r (high - (closed + 1)) (closed + 1) new q
-counted-step r low high closed owed base old new body p q less o b h j =
+counted-step r low high closed required base old new body p q less o b h j =
     closing-along (last_counted r low high) base r (high - (closed + 1)) (high - (closed + 1)) (suc closed) (closed + 1) new q refl (sym (add-one closed))
-    (one-closed (joined_as owed) (last_counted r low high) base r (high - (closed + 1)) closed old new body p q (next-counted r low high closed owed less o) b
+    (one-closed (joined_as required) (last_counted r low high) base r (high - (closed + 1)) closed old new body p q (next-counted r low high closed required less o) b
     (closing-along (last_counted r low high) base r (high - closed) (suc (high - (closed + 1))) closed closed old p (let e : high - closed ≡ suc (high - (closed + 1)) = omega arith in e) refl h) j)
 
 pub unbounded-step : (r : Unfolded) (n closed : ℕ) (base old new : List PlainNode) (body p q : Part) → closed < n
-    → body ≡ part_of r → AreClosing (trimmed_unbounded r) base r (n - closed) closed old p → Joins cat_of old new body p q
-    → AreClosing (trimmed_unbounded r) base r (n - (closed + 1)) (closed + 1) new q
+    → body ≡ part_of r → AreClosing (simplified_unbounded r) base r (n - closed) closed old p → Joins cat_of old new body p q
+    → AreClosing (simplified_unbounded r) base r (n - (closed + 1)) (closed + 1) new q
 unbounded-step r n closed base old new body p q less b h j =
-    closing-along (trimmed_unbounded r) base r (n - (closed + 1)) (n - (closed + 1)) (suc closed) (closed + 1) new q refl (sym (add-one closed))
-    (one-closed cat_of (trimmed_unbounded r) base r (n - (closed + 1)) closed old new body p q refl b
-    (closing-along (trimmed_unbounded r) base r (n - closed) (suc (n - (closed + 1))) closed closed old p (let e : n - closed ≡ suc (n - (closed + 1)) = omega arith in e) refl h) j)
+    closing-along (simplified_unbounded r) base r (n - (closed + 1)) (n - (closed + 1)) (suc closed) (closed + 1) new q refl (sym (add-one closed))
+    (one-closed cat_of (simplified_unbounded r) base r (n - (closed + 1)) closed old new body p q refl b
+    (closing-along (simplified_unbounded r) base r (n - closed) (suc (n - (closed + 1))) closed closed old p (let e : n - closed ≡ suc (n - (closed + 1)) = omega arith in e) refl h) j)
 
 pub counted-end : (r : Unfolded) (low high closed : ℕ) (base nodes : List PlainNode) (p : Part) → closed ≡ high → AreClosing (last_counted r low high) base r (high - closed) closed nodes p
-    → Appends (trimmed_counted r low high) base nodes p
+    → Appends (simplified_counted r low high) base nodes p
 counted-end r low high closed base nodes p e h =
     counted-closed r low high base nodes p (closing-along (last_counted r low high) base r (high - closed) 0 closed high nodes p (let z : high - closed ≡ 0 = omega arith in z) e h)
 
-pub unbounded-end : (r : Unfolded) (n closed : ℕ) (base nodes : List PlainNode) (p : Part) → closed ≡ n → AreClosing (trimmed_unbounded r) base r (n - closed) closed nodes p
-    → Appends (trimmed_unbounded r n) base nodes p
+pub unbounded-end : (r : Unfolded) (n closed : ℕ) (base nodes : List PlainNode) (p : Part) → closed ≡ n → AreClosing (simplified_unbounded r) base r (n - closed) closed nodes p
+    → Appends (simplified_unbounded r n) base nodes p
 unbounded-end r n closed base nodes p e h =
-    all-closed (trimmed_unbounded r) base r n nodes p (closing-along (trimmed_unbounded r) base r (n - closed) 0 closed n nodes p (let z : n - closed ≡ 0 = omega arith in z) e h)
+    all-closed (simplified_unbounded r) base r n nodes p (closing-along (simplified_unbounded r) base r (n - closed) 0 closed n nodes p (let z : n - closed ≡ 0 = omega arith in z) e h)

@@ -11,28 +11,28 @@ use Rattle.lx_auto.specs.NameViews.{place_of, tree_at}
 use Rattle.lx_auto.specs.CountViews.{count_of_place, looked_up, counts_behind, counts_at}
 use Rattle.lx_auto.proofs.Naming.{place-tree}
 
-sum-alike : (a b c d : ℕ) → min 16385 a ≡ min 16385 b → min 16385 c ≡ min 16385 d → min 16385 (a + c) ≡ min 16385 (b + d)
-sum-alike a b c d e f = omega arith
+sum-equal : (a b c d : ℕ) → min 16385 a ≡ min 16385 b → min 16385 c ≡ min 16385 d → min 16385 (a + c) ≡ min 16385 (b + d)
+sum-equal a b c d e f = omega arith
 
 suc_times : (n c : ℕ) → suc n * c ≡ c + n * c
 suc_times n c = grind arith
 
-product-alike : (n a b : ℕ) → min 16385 a ≡ min 16385 b → min 16385 (n * a) ≡ min 16385 (n * b)
-product-alike zero a b e = let f : 0 * a ≡ 0 = omega arith in let g : 0 * b ≡ 0 = omega arith in omega arith
-product-alike (suc n) a b e =
+product-equal : (n a b : ℕ) → min 16385 a ≡ min 16385 b → min 16385 (n * a) ≡ min 16385 (n * b)
+product-equal zero a b e = let f : 0 * a ≡ 0 = omega arith in let g : 0 * b ≡ 0 = omega arith in omega arith
+product-equal (suc n) a b e =
     let f = suc_times n a in
     let g = suc_times n b in
-    let h = product-alike n a b e in
+    let h = product-equal n a b e in
     omega arith
 
--- counts of names that are alike up to the limit give counts of expressions that are
-pub count-alike : (f g : List ℕ → ℕ) → ((name : List ℕ) → min 16385 (f name) ≡ min 16385 (g name)) → (tree : Regex) → min 16385 (count_in f tree) ≡ min 16385 (count_in g tree)
-count-alike f g e nil = refl
-count-alike f g e (one_of s) = refl
-count-alike f g e (then a b) = sum-alike (count_in f a) (count_in g a) (count_in f b) (count_in g b) (count-alike f g e a) (count-alike f g e b)
-count-alike f g e (or a b) = sum-alike (count_in f a) (count_in g a) (count_in f b) (count_in g b) (count-alike f g e a) (count-alike f g e b)
-count-alike f g e (times body low high) = product-alike (copies_of low high) (count_in f body) (count_in g body) (count-alike f g e body)
-count-alike f g e (named name) = e name
+-- counts of names that are equal up to the limit give counts of expressions that are
+pub count-equal : (f g : List ℕ → ℕ) → ((name : List ℕ) → min 16385 (f name) ≡ min 16385 (g name)) → (tree : Regex) → min 16385 (count_in f tree) ≡ min 16385 (count_in g tree)
+count-equal f g e nil = refl
+count-equal f g e (one_of s) = refl
+count-equal f g e (then a b) = sum-equal (count_in f a) (count_in g a) (count_in f b) (count_in g b) (count-equal f g e a) (count-equal f g e b)
+count-equal f g e (or a b) = sum-equal (count_in f a) (count_in g a) (count_in f b) (count_in g b) (count-equal f g e a) (count-equal f g e b)
+count-equal f g e (times body low high) = product-equal (copies_of low high) (count_in f body) (count_in g body) (count-equal f g e body)
+count-equal f g e (named name) = e name
 
 -- what a list of numbers has at a place, where it is seen through a function
 of_option : {X : Type 0} → (X → ℕ) → Option X → ℕ
@@ -68,7 +68,7 @@ twice a = omega arith
 pub count-by_list : (definitions : List Definition) (n : ℕ) (tree : Regex)
     → min 16385 (count_in (looked_up definitions (counts_at definitions n)) tree) ≡ min 16385 (count_in (count_of_name (map definition_view definitions) (suc n)) tree)
 count-by_list definitions n tree =
-    count-alike (looked_up definitions (counts_at definitions n)) (count_of_name (map definition_view definitions) (suc n))
+    count-equal (looked_up definitions (counts_at definitions n)) (count_of_name (map definition_view definitions) (suc n))
     (λ name. ap (min 16385) (looked-up definitions n name) ∙ twice (count_of_name (map definition_view definitions) (suc n) name)) tree
 
 map-same : (f g : Definition → ℕ) → ((d : Definition) → f d ≡ g d) → (xs : List Definition) → map f xs ≡ map g xs
@@ -87,7 +87,7 @@ no-place (Some i) = refl
 pub counts-first : (definitions : List Definition) → counts_behind definitions [] ≡ counts_at definitions 0
 unfolding counts_at
 counts-first definitions =
-    map-same _ _ (λ d. count-alike (looked_up definitions []) (count_of_name (map definition_view definitions) 0) (λ name. ap (min 16385) (no-place (place_of definitions name))) (regex_of d.expr)) definitions
+    map-same _ _ (λ d. count-equal (looked_up definitions []) (count_of_name (map definition_view definitions) 0) (λ name. ap (min 16385) (no-place (place_of definitions name))) (regex_of d.expr)) definitions
 
 -- where nothing changes once, nothing does later
 settled : (definitions : List Definition) (n k : ℕ) → counts_behind definitions (counts_at definitions n) ≡ counts_at definitions n → counts_at definitions (k + n) ≡ counts_at definitions n

@@ -8,7 +8,7 @@ use Rattle.std.proofs.lemmas.Nat.{div-add-mod', mod_below}
 use Rattle.std.proofs.lemmas.Option.{slice_get_within}
 use Rattle.std.proofs.Math.ListN as math
 use Rattle.lx_spec.specs.Plain.{PlainSpec}
-use Rattle.lx_auto.specs.Automata.{Machine, IsMachine, StepsAlike, state_count, start_of, accepted_by, class_target, state_after, accepted_at, answer}
+use Rattle.lx_auto.specs.Automata.{Machine, IsMachine, HasSameSteps, state_count, start_of, accepted_by, class_target, state_after, accepted_at, answer}
 use Rattle.lx_auto.specs.Drafting.{AreAllBelow, IsDrafted}
 use Rattle.lx_auto.specs.Exploring.{IsExplored, start_count, start_number}
 use Rattle.lx_auto.specs.Leaves.{PlainLeaf, AreLeavesOf, AreGroupsOf}
@@ -17,18 +17,18 @@ use Rattle.lx_auto.specs.PositionSets.{numbered}
 use Rattle.lx_auto.specs.PositionTables.{AreMatchedBelow}
 use Rattle.lx_auto.specs.Sets.{IsEarliestMatched}
 use Rattle.lx_auto.specs.SetTable.{Positions, set_of, IsTarget}
-use Rattle.lx_auto.specs.Trimmed.{trimmed_pattern}
+use Rattle.lx_auto.specs.Simplified.{simplified_pattern}
 use Rattle.lx_auto.proofs.Drafted.{IsAfter, read_after, start_below}
-use Rattle.lx_auto.proofs.Grid.{in_row}
+use Rattle.lx_auto.proofs.RowMajor.{in_row}
 use Rattle.lx_auto.proofs.Membership.{contains_nil}
 use Rattle.lx_auto.proofs.Merged.{same_answers}
 use Rattle.lx_auto.proofs.Reached.{numbered_rules}
 use Rattle.lx_auto.proofs.RuleAnswers.{HasSoundPatterns, earliest_answer}
 
 module _ (spec : PlainSpec) (leaves : List PlainLeaf) (classes representatives : List ℕ) (sets : List Positions) (matched targets : List (Option ℕ))
-    (of : AreLeavesOf (numbered (trimmed_pattern spec.definitions) 0 spec.rules) leaves) (groups : AreGroupsOf leaves classes representatives)
-    (explored : IsExplored spec (trimmed_pattern spec.definitions) leaves representatives sets targets (start_count spec + length sets))
-    (are : AreMatchedBelow spec (trimmed_pattern spec.definitions) sets matched (length sets)) where
+    (of : AreLeavesOf (numbered (simplified_pattern spec.definitions) 0 spec.rules) leaves) (groups : AreGroupsOf leaves classes representatives)
+    (explored : IsExplored spec (simplified_pattern spec.definitions) leaves representatives sets targets (start_count spec + length sets))
+    (are : AreMatchedBelow spec (simplified_pattern spec.definitions) sets matched (length sets)) where
   -- each rule that a set matches, and each set that a step leads to, is there
   matched_rule : (j r : ℕ) → slice_index_or matched j None ≡ Some r → r < length spec.rules
   matched_rule j r is = elim (cases_lt j (length sets)) [
@@ -36,12 +36,12 @@ module _ (spec : PlainSpec) (leaves : List PlainLeaf) (classes representatives :
     | inr past ↦ absurd (let long = are.long in let f : None ≡ Some r = sym (get_or_past matched j None (omega arith)) ∙ is in cc)
   ]
     where
-      by : (found : Option ℕ) (S : List ℕ) → IsEarliestMatched (numbered (trimmed_pattern spec.definitions) 0 spec.rules) S found → found ≡ Some r → r < length spec.rules
+      by : (found : Option ℕ) (S : List ℕ) → IsEarliestMatched (numbered (simplified_pattern spec.definitions) 0 spec.rules) S found → found ≡ Some r → r < length spec.rules
       by None S first f = absurd (cc)
       by (Some i) S first f =
           let same : i ≡ r = (cc) in
           subst (λ x. x < length spec.rules) same
-          (slice_get_within spec.rules i first.0.rule.rule ((numbered_rules spec (trimmed_pattern spec.definitions)).rule_of i first.0.rule first.0.at))
+          (slice_get_within spec.rules i first.0.rule.rule ((numbered_rules spec (simplified_pattern spec.definitions)).rule_of i first.0.rule first.0.at))
 
   pub matched_below : (n : ℕ) → length spec.rules ≤ n → AreAllBelow matched n
   matched_below n most j h = by (slice_index_or matched j None) (λ r e. let l = matched_rule j r e in omega arith)
@@ -147,7 +147,7 @@ module _ (spec : PlainSpec) (leaves : List PlainLeaf) (classes representatives :
     -- and its answers are the specification's
     module _ (sound : HasSoundPatterns spec) where
       answer_after : (c : ℕ) (begin : Bool) (w : List ℕ) (s : Option ℕ) →
-          IsAfter spec (trimmed_pattern spec.definitions) leaves classes representatives sets matched targets m of groups explored draft (record { condition = c; begin = begin; word = w }) s →
+          IsAfter spec (simplified_pattern spec.definitions) leaves classes representatives sets matched targets m of groups explored draft (record { condition = c; begin = begin; word = w }) s →
           IsAnswer spec c begin w (accepted_at m s)
       answer_after c begin w None nothing =
           earliest_answer spec sound c begin w [] (λ q. ((λ h. absurd (contains_nil q h)), (λ h. absurd (nothing q h)))) None (λ j h. contains_nil h.last h.within)
@@ -166,16 +166,16 @@ module _ (spec : PlainSpec) (leaves : List PlainLeaf) (classes representatives :
           subst (IsAnswer spec c begin []) (sym none) (λ j h. nothing_empty c begin j h)
       answers_word c begin (b ∷ w) hc all =
           answer_after c begin (b ∷ w) (state_after m (Some (start_of m c begin)) (b ∷ w))
-          (read_after spec (trimmed_pattern spec.definitions) leaves classes representatives sets matched targets m of groups explored draft c begin (b ∷ w) hc (λ e. absurd (cc)) all)
+          (read_after spec (simplified_pattern spec.definitions) leaves classes representatives sets matched targets m of groups explored draft c begin (b ∷ w) hc (λ e. absurd (cc)) all)
 
       pub draft_answers : IsAutomatonOf spec m
       draft_answers = record { conditions = draft.conditions_are; answers = answers_word }
 
 -- an automaton that steps alike is one of the same specification
-pub alike_answers : (spec : PlainSpec) (q r : Machine) → IsMachine q → StepsAlike q r → IsAutomatonOf spec q → IsAutomatonOf spec r
-alike_answers spec q r is alike of = record {
-  conditions = ap length alike.starts ∙ of.conditions;
+pub same_steps_answers : (spec : PlainSpec) (q r : Machine) → IsMachine q → HasSameSteps q r → IsAutomatonOf spec q → IsAutomatonOf spec r
+same_steps_answers spec q r is same_steps of = record {
+  conditions = ap length same_steps.starts ∙ of.conditions;
   answers = λ c begin w hc all.
       let n = of.conditions in
-      subst (IsAnswer spec c begin w) (sym (same_answers q r is alike c begin w (omega arith) all)) (of.answers c begin w hc all);
+      subst (IsAnswer spec c begin w) (sym (same_answers q r is same_steps c begin w (omega arith) all)) (of.answers c begin w hc all);
 }

@@ -13,12 +13,12 @@ use Rattle.lx_auto.specs.SetSteps.{HasSomeByte, IsSetOf}
 use Rattle.lx_auto.specs.Sets.{AreFirst, AreFollowing}
 use Rattle.lx_auto.specs.Leaves.{PlainLeaf, has_byte, AreLeavesOf, AreGroupsOf}
 use Rattle.lx_auto.specs.SetTable.{Positions, set_of, IsTarget}
-use Rattle.lx_auto.specs.Exploring.{having, IsSource, IsExplored, start_number, start_count}
+use Rattle.lx_auto.specs.Exploring.{positions_with_byte, IsSource, IsExplored, start_number, start_count}
 use Rattle.lx_auto.specs.Automata.{Machine, start_of, class_target, target_of, state_after}
 use Rattle.lx_auto.specs.Drafting.{IsDrafted}
-use Rattle.lx_auto.proofs.Grid.{in_row}
+use Rattle.lx_auto.proofs.RowMajor.{in_row}
 use Rattle.lx_auto.proofs.Membership.{contains_nil}
-use Rattle.lx_auto.proofs.Reached.{having_means}
+use Rattle.lx_auto.proofs.Reached.{positions_with_byte_means}
 use Rattle.lx_auto.proofs.SetStepped.{first_set, next_set}
 
 pub start_below : (c : ℕ) (begin : Bool) (n : ℕ) → c < n → start_number c begin < 2 * n
@@ -43,24 +43,24 @@ module _ (spec : PlainSpec) (tree_of : Regex → Unfolded) (leaves : List PlainL
   -- a byte and the one that stands for its group
   has_representative : (b q : ℕ) → b < 256 → (has_byte leaves q (slice_index representatives (slice_index classes b)) ≡ true) ↔ HasSomeByte (numbered tree_of 0 spec.rules) q b
   has_representative b q h = (
-    (λ e. (of.each q b).0 (groups.alike q b h ∙ e)),
-    (λ e. sym (groups.alike q b h) ∙ (of.each q b).1 e),
+    (λ e. (of.each q b).0 (groups.same q b h ∙ e)),
+    (λ e. sym (groups.same q b h) ∙ (of.each q b).1 e),
   )
 
   -- a step to the target of those that have the byte
   step_after : (y : StartAndWord) (b : ℕ) (F : List ℕ) (t : Option ℕ) → b < 256
       → ((q : ℕ) → InPositionSet spec (numbered tree_of 0 spec.rules) y q ↔ (Contains F q × HasSomeByte (numbered tree_of 0 spec.rules) q b))
-      → IsTarget sets t (having leaves (slice_index representatives (slice_index classes b)) F) → IsAfter y (option_map (λ j. 2 * length spec.conditions + j) t)
+      → IsTarget sets t (positions_with_byte leaves (slice_index representatives (slice_index classes b)) F) → IsAfter y (option_map (λ j. 2 * length spec.conditions + j) t)
   step_after y b F None h each is = λ q r.
       let t = (each q).0 r in
       contains_nil q (subst (λ S. Contains S q) is
-      ((having_means leaves (slice_index representatives (slice_index classes b)) F q).1 (t.0, (has_representative b q h).1 t.1)))
+      ((positions_with_byte_means leaves (slice_index representatives (slice_index classes b)) F q).1 (t.0, (has_representative b q h).1 t.1)))
   step_after y b F (Some j) h each is = (
     j,
     is.1,
     refl,
     λ q.
-        let means = having_means leaves (slice_index representatives (slice_index classes b)) F q in (
+        let means = positions_with_byte_means leaves (slice_index representatives (slice_index classes b)) F q in (
           (λ k. let t = means.0 (subst (λ S. Contains S q) is.2 k) in (each q).1 (t.0, (has_representative b q h).0 t.1)),
           (λ r. let t = (each q).0 r in subst (λ S. Contains S q) (sym is.2) (means.1 (t.0, (has_representative b q h).1 t.1))),
         ),
@@ -77,7 +77,7 @@ module _ (spec : PlainSpec) (tree_of : Regex → Unfolded) (leaves : List PlainL
   -- what is known of a step of a state
   step_at : (i b : ℕ) → i < start_count spec + length sets → b < 256 →
       (F : List ℕ) × IsSource spec (numbered tree_of 0 spec.rules) sets i F
-      × IsTarget sets (slice_index_or targets (i * length representatives + slice_index classes b) None) (having leaves (slice_index representatives (slice_index classes b)) F)
+      × IsTarget sets (slice_index_or targets (i * length representatives + slice_index classes b) None) (positions_with_byte leaves (slice_index representatives (slice_index classes b)) F)
   step_at i b hi hb =
       explored.steps.each i (slice_index classes b) (groups.below b hb) (in_row i (slice_index classes b) (start_count spec + length sets) (length representatives) hi (groups.below b hb))
 

@@ -9,19 +9,19 @@ use Rattle.lx_spec.specs.Nesting.{tree_named}
 use Rattle.lx_spec.specs.Plain.{PlainDefinition}
 use Rattle.lx_auto.specs.Unfolded.{Unfolded, empty, leaf, cat, alt, opt, plus, position_count, nullable, Joined, WordOf}
 use Rattle.lx_auto.specs.WrittenOut.{counted, unbounded, repeated, written_out, written_if_defined, name_written_out, pattern_written_out}
-use Rattle.lx_auto.specs.Trimmed.{opt_unless, opt_of, plus_of, cat_of, alt_of, trimmed_counted, trimmed_unbounded, trimmed_repeated, trimmed, trimmed_if_defined, trimmed_name, trimmed_pattern}
+use Rattle.lx_auto.specs.Simplified.{opt_unless, opt_of, plus_of, cat_of, alt_of, simplified_counted, simplified_unbounded, simplified_repeated, simplified, simplified_if_defined, simplified_name, simplified_pattern}
 
 -- as many positions, and the same words
-pub record AreAlike (L : set.FinSet nat_cmp → ℕ → List ℕ → Type 0) (a b : Unfolded) : Type 0 where
+pub record HaveSameWords (L : set.FinSet nat_cmp → ℕ → List ℕ → Type 0) (a b : Unfolded) : Type 0 where
   pub count : position_count a ≡ position_count b
   pub into : (k : ℕ) (w : List ℕ) → WordOf L a k w → WordOf L b k w
   pub back : (k : ℕ) (w : List ℕ) → WordOf L b k w → WordOf L a k w
 
-alike : (L : set.FinSet nat_cmp → ℕ → List ℕ → Type 0) (a : Unfolded) → AreAlike L a a
-alike L a = record { count = refl; into = λ k w h. h; back = λ k w h. h }
+same_words-refl : (L : set.FinSet nat_cmp → ℕ → List ℕ → Type 0) (a : Unfolded) → HaveSameWords L a a
+same_words-refl L a = record { count = refl; into = λ k w h. h; back = λ k w h. h }
 
-alike-along : (L : set.FinSet nat_cmp → ℕ → List ℕ → Type 0) (a b c : Unfolded) → AreAlike L a b → AreAlike L b c → AreAlike L a c
-alike-along L a b c x y = record { count = x.count ∙ y.count; into = λ k w h. y.into k w (x.into k w h); back = λ k w h. x.back k w (y.back k w h) }
+same_words-trans : (L : set.FinSet nat_cmp → ℕ → List ℕ → Type 0) (a b c : Unfolded) → HaveSameWords L a b → HaveSameWords L b c → HaveSameWords L a c
+same_words-trans L a b c x y = record { count = x.count ∙ y.count; into = λ k w h. y.into k w (x.into k w h); back = λ k w h. x.back k w (y.back k w h) }
 
 moved : (L : set.FinSet nat_cmp → ℕ → List ℕ → Type 0) (a : Unfolded) (k m n : ℕ) (w : List ℕ) → m ≡ n → WordOf L a (k + m) w → WordOf L a (k + n) w
 moved L a k m n w e h = subst (λ (j : ℕ). WordOf L a (k + j) w) e h
@@ -106,16 +106,16 @@ nullable-word L (alt a b) k h = by (nullable a) refl h (nullable-word L a k) (nu
 nullable-word L (opt a) k h = inl refl
 nullable-word L (plus a) k h = (0, joined_one (WordOf L a k) [] (nullable-word L a k h))
 
--- each way to put expressions together keeps them alike
-alike-cat : (L : set.FinSet nat_cmp → ℕ → List ℕ → Type 0) (a b c d : Unfolded) → AreAlike L a c → AreAlike L b d → AreAlike L (cat a b) (cat c d)
-alike-cat L a b c d x y = record {
+-- each way to put expressions together keeps the words the same
+same_words-cat : (L : set.FinSet nat_cmp → ℕ → List ℕ → Type 0) (a b c d : Unfolded) → HaveSameWords L a c → HaveSameWords L b d → HaveSameWords L (cat a b) (cat c d)
+same_words-cat L a b c d x y = record {
   count = ap₂ (λ (m n : ℕ). m + n) x.count y.count;
   into = λ k w h. (h.0, h.1, h.2, x.into k h.0 h.3, moved L d k (position_count a) (position_count c) h.1 x.count (y.into (k + position_count a) h.1 h.4));
   back = λ k w h. (h.0, h.1, h.2, x.back k h.0 h.3, moved L b k (position_count c) (position_count a) h.1 (sym x.count) (y.back (k + position_count c) h.1 h.4));
 }
 
-alike-alt : (L : set.FinSet nat_cmp → ℕ → List ℕ → Type 0) (a b c d : Unfolded) → AreAlike L a c → AreAlike L b d → AreAlike L (alt a b) (alt c d)
-alike-alt L a b c d x y = record {
+same_words-alt : (L : set.FinSet nat_cmp → ℕ → List ℕ → Type 0) (a b c d : Unfolded) → HaveSameWords L a c → HaveSameWords L b d → HaveSameWords L (alt a b) (alt c d)
+same_words-alt L a b c d x y = record {
   count = ap₂ (λ (m n : ℕ). m + n) x.count y.count;
   into = λ k w h. elim h [
     | inl u ↦ inl (x.into k w u)
@@ -127,79 +127,79 @@ alike-alt L a b c d x y = record {
   ];
 }
 
-alike-opt : (L : set.FinSet nat_cmp → ℕ → List ℕ → Type 0) (a c : Unfolded) → AreAlike L a c → AreAlike L (opt a) (opt c)
-alike-opt L a c x = record {
+same_words-opt : (L : set.FinSet nat_cmp → ℕ → List ℕ → Type 0) (a c : Unfolded) → HaveSameWords L a c → HaveSameWords L (opt a) (opt c)
+same_words-opt L a c x = record {
   count = x.count;
   into = λ k w h. elim h [ inl e ↦ inl e | inr u ↦ inr (x.into k w u) ];
   back = λ k w h. elim h [ inl e ↦ inl e | inr u ↦ inr (x.back k w u) ];
 }
 
-alike-plus : (L : set.FinSet nat_cmp → ℕ → List ℕ → Type 0) (a c : Unfolded) → AreAlike L a c → AreAlike L (plus a) (plus c)
-alike-plus L a c x = record {
+same_words-plus : (L : set.FinSet nat_cmp → ℕ → List ℕ → Type 0) (a c : Unfolded) → HaveSameWords L a c → HaveSameWords L (plus a) (plus c)
+same_words-plus L a c x = record {
   count = x.count;
   into = λ k w h. (h.0, joined_map (WordOf L a k) (WordOf L c k) (x.into k) (suc h.0) w h.1);
   back = λ k w h. (h.0, joined_map (WordOf L c k) (WordOf L a k) (x.back k) (suc h.0) w h.1);
 }
 
 -- and so does leaving away what has no position
-opt_of-alike : (L : set.FinSet nat_cmp → ℕ → List ℕ → Type 0) (a : Unfolded) → AreAlike L (opt_of a) (opt a)
-opt_of-alike L a = by (nullable a) refl where
-  by : (b : Bool) → nullable a ≡ b → AreAlike L (opt_unless b a) (opt a)
-  by false e = alike L (opt a)
+opt_of-same_words : (L : set.FinSet nat_cmp → ℕ → List ℕ → Type 0) (a : Unfolded) → HaveSameWords L (opt_of a) (opt a)
+opt_of-same_words L a = by (nullable a) refl where
+  by : (b : Bool) → nullable a ≡ b → HaveSameWords L (opt_unless b a) (opt a)
+  by false e = same_words-refl L (opt a)
   by true e = record {
     count = refl;
     into = λ k w h. inr h;
     back = λ k w h. elim h [ inl z ↦ same_word L a k [] w (sym z) (nullable-word L a k e) | inr u ↦ u ];
   }
 
-cat_of-alike : (L : set.FinSet nat_cmp → ℕ → List ℕ → Type 0) (a b : Unfolded) → AreAlike L (cat_of a b) (cat a b)
-cat_of-alike L empty b = record {
+cat_of-same_words : (L : set.FinSet nat_cmp → ℕ → List ℕ → Type 0) (a b : Unfolded) → HaveSameWords L (cat_of a b) (cat a b)
+cat_of-same_words L empty b = record {
   count = omega arith;
   into = λ k w h. ([], w, refl, refl, to_zero L b k w h);
   back = λ k w h. same_word L b k h.1 w (sym (h.2 ∙ ap (λ (l : List ℕ). l ++ h.1) h.3)) (from_zero L b k h.1 h.4);
 }
-cat_of-alike L a empty = record {
+cat_of-same_words L a empty = record {
   count = omega arith;
   into = λ k w h. (w, [], sym (append-nil w), h, refl);
   back = λ k w h. same_word L a k h.0 w (sym (h.2 ∙ ap (λ (l : List ℕ). h.0 ++ l) h.4 ∙ append-nil h.0)) h.3;
 }
-cat_of-alike L a b = alike L (cat a b)
+cat_of-same_words L a b = same_words-refl L (cat a b)
 
-alt-left : (L : set.FinSet nat_cmp → ℕ → List ℕ → Type 0) (b : Unfolded) → AreAlike L (opt b) (alt empty b)
+alt-left : (L : set.FinSet nat_cmp → ℕ → List ℕ → Type 0) (b : Unfolded) → HaveSameWords L (opt b) (alt empty b)
 alt-left L b = record {
   count = omega arith;
   into = λ k w h. elim h [ inl e ↦ inl e | inr u ↦ inr (to_zero L b k w u) ];
   back = λ k w h. elim h [ inl e ↦ inl e | inr u ↦ inr (from_zero L b k w u) ];
 }
 
-alt-right : (L : set.FinSet nat_cmp → ℕ → List ℕ → Type 0) (a : Unfolded) → AreAlike L (opt a) (alt a empty)
+alt-right : (L : set.FinSet nat_cmp → ℕ → List ℕ → Type 0) (a : Unfolded) → HaveSameWords L (opt a) (alt a empty)
 alt-right L a = record {
   count = omega arith;
   into = λ k w h. elim h [ inl e ↦ inr e | inr u ↦ inl u ];
   back = λ k w h. elim h [ inl u ↦ inr u | inr e ↦ inl e ];
 }
 
-alt_of-alike : (L : set.FinSet nat_cmp → ℕ → List ℕ → Type 0) (a b : Unfolded) → AreAlike L (alt_of a b) (alt a b)
-alt_of-alike L empty b = alike-along L (opt_of b) (opt b) (alt empty b) (opt_of-alike L b) (alt-left L b)
-alt_of-alike L a empty = alike-along L (opt_of a) (opt a) (alt a empty) (opt_of-alike L a) (alt-right L a)
-alt_of-alike L a b = alike L (alt a b)
+alt_of-same_words : (L : set.FinSet nat_cmp → ℕ → List ℕ → Type 0) (a b : Unfolded) → HaveSameWords L (alt_of a b) (alt a b)
+alt_of-same_words L empty b = same_words-trans L (opt_of b) (opt b) (alt empty b) (opt_of-same_words L b) (alt-left L b)
+alt_of-same_words L a empty = same_words-trans L (opt_of a) (opt a) (alt a empty) (opt_of-same_words L a) (alt-right L a)
+alt_of-same_words L a b = same_words-refl L (alt a b)
 
-plus_of-alike : (L : set.FinSet nat_cmp → ℕ → List ℕ → Type 0) (a : Unfolded) → AreAlike L (plus_of a) (plus a)
-plus_of-alike L empty = record {
+plus_of-same_words : (L : set.FinSet nat_cmp → ℕ → List ℕ → Type 0) (a : Unfolded) → HaveSameWords L (plus_of a) (plus a)
+plus_of-same_words L empty = record {
   count = refl;
   into = λ k w h. (0, joined_one (WordOf L empty k) w h);
   back = λ k w h. joined_empty (suc h.0) w h.1;
 }
-plus_of-alike L (leaf s) = alike L (plus (leaf s))
-plus_of-alike L (cat a b) = alike L (plus (cat a b))
-plus_of-alike L (alt a b) = alike L (plus (alt a b))
-plus_of-alike L (opt (plus a)) = record {
+plus_of-same_words L (leaf s) = same_words-refl L (plus (leaf s))
+plus_of-same_words L (cat a b) = same_words-refl L (plus (cat a b))
+plus_of-same_words L (alt a b) = same_words-refl L (plus (alt a b))
+plus_of-same_words L (opt (plus a)) = record {
   count = refl;
   into = λ k w h. (0, joined_one (WordOf L (opt (plus a)) k) w h);
   back = λ k w h. let t = joined_any (WordOf L a k) (suc h.0) w h.1 in any_or_none (WordOf L a k) t.0 w t.1;
 }
-plus_of-alike L (opt a) = alike L (plus (opt a))
-plus_of-alike L (plus a) = record {
+plus_of-same_words L (opt a) = same_words-refl L (plus (opt a))
+plus_of-same_words L (plus a) = record {
   count = refl;
   into = λ k w h. (0, joined_one (WordOf L (plus a) k) w h);
   back = λ k w h.
@@ -209,54 +209,54 @@ plus_of-alike L (plus a) = record {
       (t.0, joined_same (WordOf L a k) (suc t.0) (x.0 ++ x.1) w (sym x.2) t.1);
 }
 
--- of expressions that are alike
-cat_of-along : (L : set.FinSet nat_cmp → ℕ → List ℕ → Type 0) (a b c d : Unfolded) → AreAlike L a c → AreAlike L b d → AreAlike L (cat_of a b) (cat c d)
-cat_of-along L a b c d x y = alike-along L (cat_of a b) (cat a b) (cat c d) (cat_of-alike L a b) (alike-cat L a b c d x y)
+-- of expressions with the same words
+cat_of-along : (L : set.FinSet nat_cmp → ℕ → List ℕ → Type 0) (a b c d : Unfolded) → HaveSameWords L a c → HaveSameWords L b d → HaveSameWords L (cat_of a b) (cat c d)
+cat_of-along L a b c d x y = same_words-trans L (cat_of a b) (cat a b) (cat c d) (cat_of-same_words L a b) (same_words-cat L a b c d x y)
 
-opt_of-along : (L : set.FinSet nat_cmp → ℕ → List ℕ → Type 0) (a c : Unfolded) → AreAlike L a c → AreAlike L (opt_of a) (opt c)
-opt_of-along L a c x = alike-along L (opt_of a) (opt a) (opt c) (opt_of-alike L a) (alike-opt L a c x)
+opt_of-along : (L : set.FinSet nat_cmp → ℕ → List ℕ → Type 0) (a c : Unfolded) → HaveSameWords L a c → HaveSameWords L (opt_of a) (opt c)
+opt_of-along L a c x = same_words-trans L (opt_of a) (opt a) (opt c) (opt_of-same_words L a) (same_words-opt L a c x)
 
-plus_of-along : (L : set.FinSet nat_cmp → ℕ → List ℕ → Type 0) (a c : Unfolded) → AreAlike L a c → AreAlike L (plus_of a) (plus c)
-plus_of-along L a c x = alike-along L (plus_of a) (plus a) (plus c) (plus_of-alike L a) (alike-plus L a c x)
+plus_of-along : (L : set.FinSet nat_cmp → ℕ → List ℕ → Type 0) (a c : Unfolded) → HaveSameWords L a c → HaveSameWords L (plus_of a) (plus c)
+plus_of-along L a c x = same_words-trans L (plus_of a) (plus a) (plus c) (plus_of-same_words L a) (same_words-plus L a c x)
 
-counted-along : (L : set.FinSet nat_cmp → ℕ → List ℕ → Type 0) (r s : Unfolded) (low high : ℕ) → AreAlike L r s → AreAlike L (trimmed_counted r low high) (counted s low high)
-counted-along L r s low zero x = alike L empty
+counted-along : (L : set.FinSet nat_cmp → ℕ → List ℕ → Type 0) (r s : Unfolded) (low high : ℕ) → HaveSameWords L r s → HaveSameWords L (simplified_counted r low high) (counted s low high)
+counted-along L r s low zero x = same_words-refl L empty
 counted-along L r s zero (suc high) x =
-    opt_of-along L (cat_of r (trimmed_counted r zero high)) (cat s (counted s zero high)) (cat_of-along L r (trimmed_counted r zero high) s (counted s zero high) x (counted-along L r s zero high x))
-counted-along L r s (suc low) (suc high) x = cat_of-along L r (trimmed_counted r low high) s (counted s low high) x (counted-along L r s low high x)
+    opt_of-along L (cat_of r (simplified_counted r zero high)) (cat s (counted s zero high)) (cat_of-along L r (simplified_counted r zero high) s (counted s zero high) x (counted-along L r s zero high x))
+counted-along L r s (suc low) (suc high) x = cat_of-along L r (simplified_counted r low high) s (counted s low high) x (counted-along L r s low high x)
 
-unbounded-along : (L : set.FinSet nat_cmp → ℕ → List ℕ → Type 0) (r s : Unfolded) (n : ℕ) → AreAlike L r s → AreAlike L (trimmed_unbounded r n) (unbounded s n)
+unbounded-along : (L : set.FinSet nat_cmp → ℕ → List ℕ → Type 0) (r s : Unfolded) (n : ℕ) → HaveSameWords L r s → HaveSameWords L (simplified_unbounded r n) (unbounded s n)
 unbounded-along L r s zero x = plus_of-along L r s x
-unbounded-along L r s (suc n) x = cat_of-along L r (trimmed_unbounded r n) s (unbounded s n) x (unbounded-along L r s n x)
+unbounded-along L r s (suc n) x = cat_of-along L r (simplified_unbounded r n) s (unbounded s n) x (unbounded-along L r s n x)
 
-repeated-along : (L : set.FinSet nat_cmp → ℕ → List ℕ → Type 0) (r s : Unfolded) (low : ℕ) (high : Option ℕ) → AreAlike L r s → AreAlike L (trimmed_repeated r low high) (repeated s low high)
+repeated-along : (L : set.FinSet nat_cmp → ℕ → List ℕ → Type 0) (r s : Unfolded) (low : ℕ) (high : Option ℕ) → HaveSameWords L r s → HaveSameWords L (simplified_repeated r low high) (repeated s low high)
 repeated-along L r s low (Some high) x = counted-along L r s low high x
 repeated-along L r s zero None x = opt_of-along L (plus_of r) (plus s) (plus_of-along L r s x)
 repeated-along L r s (suc low) None x = unbounded-along L r s low x
 
-trimmed-alike : (L : set.FinSet nat_cmp → ℕ → List ℕ → Type 0) (f g : List ℕ → Unfolded) → ((name : List ℕ) → AreAlike L (f name) (g name)) → (tree : Regex) → AreAlike L (trimmed f tree) (written_out g tree)
-trimmed-alike L f g h nil = alike L empty
-trimmed-alike L f g h (one_of s) = alike L (leaf s)
-trimmed-alike L f g h (then a b) = cat_of-along L (trimmed f a) (trimmed f b) (written_out g a) (written_out g b) (trimmed-alike L f g h a) (trimmed-alike L f g h b)
-trimmed-alike L f g h (or a b) =
-    alike-along L (alt_of (trimmed f a) (trimmed f b)) (alt (trimmed f a) (trimmed f b)) (alt (written_out g a) (written_out g b)) (alt_of-alike L (trimmed f a) (trimmed f b))
-    (alike-alt L (trimmed f a) (trimmed f b) (written_out g a) (written_out g b) (trimmed-alike L f g h a) (trimmed-alike L f g h b))
-trimmed-alike L f g h (times body low high) = repeated-along L (trimmed f body) (written_out g body) low high (trimmed-alike L f g h body)
-trimmed-alike L f g h (named name) = h name
+simplified-same_words : (L : set.FinSet nat_cmp → ℕ → List ℕ → Type 0) (f g : List ℕ → Unfolded) → ((name : List ℕ) → HaveSameWords L (f name) (g name)) → (tree : Regex) → HaveSameWords L (simplified f tree) (written_out g tree)
+simplified-same_words L f g h nil = same_words-refl L empty
+simplified-same_words L f g h (one_of s) = same_words-refl L (leaf s)
+simplified-same_words L f g h (then a b) = cat_of-along L (simplified f a) (simplified f b) (written_out g a) (written_out g b) (simplified-same_words L f g h a) (simplified-same_words L f g h b)
+simplified-same_words L f g h (or a b) =
+    same_words-trans L (alt_of (simplified f a) (simplified f b)) (alt (simplified f a) (simplified f b)) (alt (written_out g a) (written_out g b)) (alt_of-same_words L (simplified f a) (simplified f b))
+    (same_words-alt L (simplified f a) (simplified f b) (written_out g a) (written_out g b) (simplified-same_words L f g h a) (simplified-same_words L f g h b))
+simplified-same_words L f g h (times body low high) = repeated-along L (simplified f body) (written_out g body) low high (simplified-same_words L f g h body)
+simplified-same_words L f g h (named name) = h name
 
-if_defined-alike : (L : set.FinSet nat_cmp → ℕ → List ℕ → Type 0) (f g : List ℕ → Unfolded) → ((name : List ℕ) → AreAlike L (f name) (g name)) → (o : Option Regex) → AreAlike L (trimmed_if_defined f o) (written_if_defined g o)
-if_defined-alike L f g h None = alike L empty
-if_defined-alike L f g h (Some tree) = trimmed-alike L f g h tree
+if_defined-same_words : (L : set.FinSet nat_cmp → ℕ → List ℕ → Type 0) (f g : List ℕ → Unfolded) → ((name : List ℕ) → HaveSameWords L (f name) (g name)) → (o : Option Regex) → HaveSameWords L (simplified_if_defined f o) (written_if_defined g o)
+if_defined-same_words L f g h None = same_words-refl L empty
+if_defined-same_words L f g h (Some tree) = simplified-same_words L f g h tree
 
-name-alike : (L : set.FinSet nat_cmp → ℕ → List ℕ → Type 0) (definitions : List PlainDefinition) (n : ℕ) (name : List ℕ) → AreAlike L (trimmed_name definitions n name) (name_written_out definitions n name)
-name-alike L definitions zero name = alike L empty
-name-alike L definitions (suc n) name = if_defined-alike L (trimmed_name definitions n) (name_written_out definitions n) (name-alike L definitions n) (tree_named definitions name)
+name-same_words : (L : set.FinSet nat_cmp → ℕ → List ℕ → Type 0) (definitions : List PlainDefinition) (n : ℕ) (name : List ℕ) → HaveSameWords L (simplified_name definitions n name) (name_written_out definitions n name)
+name-same_words L definitions zero name = same_words-refl L empty
+name-same_words L definitions (suc n) name = if_defined-same_words L (simplified_name definitions n) (name_written_out definitions n) (name-same_words L definitions n) (tree_named definitions name)
 
-pub pattern-alike : (L : set.FinSet nat_cmp → ℕ → List ℕ → Type 0) (definitions : List PlainDefinition) (tree : Regex) → AreAlike L (trimmed_pattern definitions tree) (pattern_written_out definitions tree)
-unfolding trimmed_pattern pattern_written_out
-pattern-alike L definitions tree = trimmed-alike L (trimmed_name definitions 32) (name_written_out definitions 32) (name-alike L definitions 32) tree
+pub pattern-same_words : (L : set.FinSet nat_cmp → ℕ → List ℕ → Type 0) (definitions : List PlainDefinition) (tree : Regex) → HaveSameWords L (simplified_pattern definitions tree) (pattern_written_out definitions tree)
+unfolding simplified_pattern pattern_written_out
+pattern-same_words L definitions tree = simplified-same_words L (simplified_name definitions 32) (name_written_out definitions 32) (name-same_words L definitions 32) tree
 
 -- the words of a pattern are those of the expression as it is kept
-pub trimmed-words : (L : set.FinSet nat_cmp → ℕ → List ℕ → Type 0) (definitions : List PlainDefinition) (tree : Regex) (k : ℕ) (w : List ℕ)
-    → WordOf L (trimmed_pattern definitions tree) k w ↔ WordOf L (pattern_written_out definitions tree) k w
-trimmed-words L definitions tree k w = let x = pattern-alike L definitions tree in (x.into k w, x.back k w)
+pub simplified-words : (L : set.FinSet nat_cmp → ℕ → List ℕ → Type 0) (definitions : List PlainDefinition) (tree : Regex) (k : ℕ) (w : List ℕ)
+    → WordOf L (simplified_pattern definitions tree) k w ↔ WordOf L (pattern_written_out definitions tree) k w
+simplified-words L definitions tree k w = let x = pattern-same_words L definitions tree in (x.into k w, x.back k w)

@@ -6,30 +6,30 @@ use Rattle.std.proofs.lemmas.List.Elements.{All-head, All-tail}
 use Rattle.std.proofs.lemmas.Map.Steps.{length-le_from_distinct_below}
 use Rattle.std.proofs.lemmas.Map.Keys.{IsDistinct-from_apart}
 use Rattle.lx_spec.specs.Plain.{PlainSpec}
-use Rattle.lx_auto.specs.Automata.{Machine, IsMachine, StepsAlike, state_count, start_of, target_of, answer_from, answer}
-use Rattle.lx_auto.specs.Equivalence.{AnswerAlike, IsLeast, HasLiveSteps}
+use Rattle.lx_auto.specs.Automata.{Machine, IsMachine, HasSameSteps, state_count, start_of, target_of, answer_from, answer}
+use Rattle.lx_auto.specs.Equivalence.{AreEquivalentMachines, IsMinimal, HasLiveSteps}
 use Rattle.lx_auto.specs.Automata.{HasByteClasses}
 use Rattle.lx_auto.specs.Meaning.{IsAnswer, IsAutomatonOf}
-use Rattle.lx_auto.specs.Words.{machine_of}
+use Rattle.lx_auto.specs.EncodedOptions.{machine_of}
 use Rattle.lx_auto.specs.Completion.{total, IsCompletion}
 use Rattle.lx_auto.specs.Partitions.{block, block_count, member_of, IsSound, IsStable}
 use Rattle.lx_auto.specs.Quotients.{AreStates, AreStarts, HaveNoDeadStart, HasDeadStart, AreRowStates, AreLabels, AreTargets}
 use Rattle.lx_auto.specs.declared.complete.Complete.{Complete}
 use Rattle.lx_auto.specs.declared.partition.Partition.{Partition}
-use Rattle.lx_auto.proofs.Reading.{different}
+use Rattle.lx_auto.proofs.EncodedLists.{different}
 use Rattle.lx_auto.proofs.Simulating.{answer_at}
 use Rattle.lx_auto.proofs.Splits.{below_from_any, blocks_at_most}
-use Rattle.lx_auto.proofs.Quotients.{q, is_machine, quotient_answers, quotient_told, quotient_live}
+use Rattle.lx_auto.proofs.Quotients.{q, is_machine, quotient_answers, quotient_distinguishable, quotient_live}
 
-module _ (q r : Machine) (is : IsMachine q) (alike : StepsAlike q r) where
+module _ (q r : Machine) (is : IsMachine q) (same_steps : HasSameSteps q r) where
   count : state_count r ≡ state_count q
-  count = ap (λ (xs : List (Option ℕ)). length xs) alike.accepted
+  count = ap (λ (xs : List (Option ℕ)). length xs) same_steps.accepted
 
   same_answer : (v : List ℕ) (s : ℕ) → s < state_count q → All (λ b. b < 256) v → answer_from r s v ≡ answer_from q s v
-  same_answer [] s hs all = ap (λ (xs : List (Option ℕ)). slice_index_or xs s None) alike.accepted
+  same_answer [] s hs all = ap (λ (xs : List (Option ℕ)). slice_index_or xs s None) same_steps.accepted
   same_answer (b ∷ v) s hs all =
       let hb = All-head (λ b. b < 256) b v all in
-      ap (λ o. answer_at r o v) (alike.steps s b hs hb)
+      ap (λ o. answer_at r o v) (same_steps.steps s b hs hb)
       ∙ onwards v (λ t h. same_answer v t h (All-tail (λ b. b < 256) b v all)) (target_of q s b) (λ t e. is.closed s (slice_index q.classes b) t hs (is.below b hb) e)
     where
       onwards : (v : List ℕ) → ((t : ℕ) → t < state_count q → answer_from r t v ≡ answer_from q t v) → (o : Option ℕ) → ((t : ℕ) → o ≡ Some t → t < state_count q) →
@@ -42,18 +42,18 @@ module _ (q r : Machine) (is : IsMachine q) (alike : StepsAlike q r) where
   same_answers c begin v h all = ap (λ s. answer_from r s v) (same_start begin) ∙ same_answer v (start_of q c begin) (is.starts c begin h) all
     where
       same_start : (begin : Bool) → start_of r c begin ≡ start_of q c begin
-      same_start true = ap (λ (xs : List (ℕ × ℕ)). (slice_index_or xs c (0, 0)).1) alike.starts
-      same_start false = ap (λ (xs : List (ℕ × ℕ)). (slice_index_or xs c (0, 0)).0) alike.starts
+      same_start true = ap (λ (xs : List (ℕ × ℕ)). (slice_index_or xs c (0, 0)).1) same_steps.starts
+      same_start false = ap (λ (xs : List (ℕ × ℕ)). (slice_index_or xs c (0, 0)).0) same_steps.starts
 
-  pub kept_answers : (a : Machine) → length q.starts ≡ length a.starts → AnswerAlike a q → AnswerAlike a r
+  pub kept_answers : (a : Machine) → length q.starts ≡ length a.starts → AreEquivalentMachines a q → AreEquivalentMachines a r
   kept_answers a e old = record { answers = λ c begin v h all. same_answers c begin v (omega arith) all ∙ old.answers c begin v h all }
 
-  pub kept_told : IsLeast q → IsLeast r
-  kept_told old = record {
-    told = λ s t hs ht ne.
+  pub kept_minimal : IsMinimal q → IsMinimal r
+  kept_minimal old = record {
+    distinguishable = λ s t hs ht ne.
         let ls : s < state_count q = omega (arith, count) in
         let lt : t < state_count q = omega (arith, count) in
-        let d = old.told s t ls lt ne in
+        let d = old.distinguishable s t ls lt ne in
         record { word = d.word; bytes = d.bytes; differ = λ e. d.differ (sym (same_answer d.word s ls d.bytes) ∙ e ∙ same_answer d.word t lt d.bytes) };
   }
 
@@ -61,7 +61,7 @@ module _ (q r : Machine) (is : IsMachine q) (alike : StepsAlike q r) where
   kept_live old = record {
     live = λ s b t hs hb e.
         let ls : s < state_count q = omega (arith, count) in
-        let f : target_of q s b ≡ Some t = sym (alike.steps s b ls hb) ∙ e in
+        let f : target_of q s b ≡ Some t = sym (same_steps.steps s b ls hb) ∙ e in
         let d = old.live s b t ls hb f in
         let lt = is.closed s (slice_index q.classes b) t ls (is.below b hb) f in
         record { word = d.word; bytes = d.bytes; accepts = λ g. d.accepts (sym (same_answer d.word t lt d.bytes) ∙ g) };
@@ -170,20 +170,20 @@ module _ (a : Machine) (m : Complete) (p : Partition) (starts : List (ℕ × ℕ
   pub made_machine : IsMachine (machine_of starts classes width labels targets)
   made_machine = subst IsMachine is_made (is_machine a m p starts rows labels targets is has completion sound stable are_starts are_rows are_labels are_targets (has_state dead isnt_dead rows_long) (few_rows dead is_dead rows_long))
 
-  pub made_answers : AnswerAlike a (machine_of starts classes width labels targets)
-  made_answers = subst (AnswerAlike a) is_made (quotient_answers a m p starts rows labels targets is has completion sound stable are_starts are_rows are_labels are_targets (has_state dead isnt_dead rows_long) (few_rows dead is_dead rows_long))
+  pub made_answers : AreEquivalentMachines a (machine_of starts classes width labels targets)
+  made_answers = subst (AreEquivalentMachines a) is_made (quotient_answers a m p starts rows labels targets is has completion sound stable are_starts are_rows are_labels are_targets (has_state dead isnt_dead rows_long) (few_rows dead is_dead rows_long))
 
-  pub made_told : IsLeast (machine_of starts classes width labels targets)
-  made_told = subst IsLeast is_made (record { told = quotient_told a m p starts rows labels targets is has completion sound stable are_starts are_rows are_labels are_targets (has_state dead isnt_dead rows_long) (few_rows dead is_dead rows_long) })
+  pub made_minimal : IsMinimal (machine_of starts classes width labels targets)
+  made_minimal = subst IsMinimal is_made (record { distinguishable = quotient_distinguishable a m p starts rows labels targets is has completion sound stable are_starts are_rows are_labels are_targets (has_state dead isnt_dead rows_long) (few_rows dead is_dead rows_long) })
 
   pub made_live : HasLiveSteps (machine_of starts classes width labels targets)
   made_live = subst HasLiveSteps is_made (record { live = quotient_live a m p starts rows labels targets is has completion sound stable are_starts are_rows are_labels are_targets (has_state dead isnt_dead rows_long) (few_rows dead is_dead rows_long) })
 
--- an automaton that answers alike is one of the same specification
-pub alike_of : (spec : PlainSpec) (a m : Machine) → IsAutomatonOf spec a → length m.starts ≡ length a.starts → AnswerAlike a m → IsAutomatonOf spec m
-alike_of spec a m of starts alike = record {
+-- an equivalent automaton is one of the same specification
+pub equivalent_of : (spec : PlainSpec) (a m : Machine) → IsAutomatonOf spec a → length m.starts ≡ length a.starts → AreEquivalentMachines a m → IsAutomatonOf spec m
+equivalent_of spec a m of starts equivalent = record {
   conditions = starts ∙ of.conditions;
   answers = λ condition begin text known bytes.
       let conditions : length a.starts ≡ length spec.conditions = of.conditions in
-      subst (λ (found : Option ℕ). IsAnswer spec condition begin text found) (sym (alike.answers condition begin text (omega arith) bytes)) (of.answers condition begin text known bytes);
+      subst (λ (found : Option ℕ). IsAnswer spec condition begin text found) (sym (equivalent.answers condition begin text (omega arith) bytes)) (of.answers condition begin text known bytes);
 }

@@ -5,13 +5,13 @@ use Rattle.lx_ere.specs.Regex.{Regex}
 use Rattle.lx_spec.specs.Plain.{PlainRule, PlainSpec}
 use Rattle.lx_auto.specs.Unfolded.{Unfolded, position_count, PositionWord, own_position}
 use Rattle.lx_auto.specs.WrittenOut.{pattern_written_out}
-use Rattle.lx_auto.specs.Trimmed.{trimmed_pattern}
+use Rattle.lx_auto.specs.Simplified.{simplified_pattern}
 use Rattle.lx_auto.specs.Counts.{newline_count}
 use Rattle.lx_auto.specs.Positions.{HasByte, Spells}
 use Rattle.lx_auto.specs.PositionSets.{NumberedRule, newline_of, numbered, WordWithEnd, HasRuleByte, EndsRulePrefix, CanHaveReadLast, StartAndWord, InPositionSet, HasMoreReachedSets}
 use Rattle.lx_auto.specs.SetSteps.{IsSetOf}
 use Rattle.lx_auto.specs.Exploring.{IsReachedSet, HasMoreSets}
-use Rattle.lx_auto.proofs.KeptWords.{pattern-alike}
+use Rattle.lx_auto.proofs.KeptWords.{pattern-same_words}
 use Rattle.lx_auto.proofs.Membership.{contains_head, same_rising}
 use Rattle.lx_auto.proofs.SameLeaves.{pattern-bytes}
 
@@ -86,21 +86,21 @@ module _ (f g : Regex → Unfolded) (same : (tree : Regex) → HaveSamePositions
       let there = at_other 0 0 refl spec.rules h.place h.rule h.at in
       record { place = h.place; rule = with_tree g h.rule; at = there.1; active = h.active; ends = prefix_with h.rule there.0 w q h.ends }
 
-short_same : (spec : PlainSpec) (tree : Regex) → HaveSamePositions (trimmed_pattern spec.definitions tree) (pattern_written_out spec.definitions tree)
+short_same : (spec : PlainSpec) (tree : Regex) → HaveSamePositions (simplified_pattern spec.definitions tree) (pattern_written_out spec.definitions tree)
 short_same spec tree =
-    let alike = pattern-alike own_position spec.definitions tree in
-    record { count = alike.count; words = alike.into; bytes = λ k p c. (pattern-bytes spec.definitions tree k p c).0 }
+    let same_words = pattern-same_words own_position spec.definitions tree in
+    record { count = same_words.count; words = same_words.into; bytes = λ k p c. (pattern-bytes spec.definitions tree k p c).0 }
 
-long_same : (spec : PlainSpec) (tree : Regex) → HaveSamePositions (pattern_written_out spec.definitions tree) (trimmed_pattern spec.definitions tree)
+long_same : (spec : PlainSpec) (tree : Regex) → HaveSamePositions (pattern_written_out spec.definitions tree) (simplified_pattern spec.definitions tree)
 long_same spec tree =
-    let alike = pattern-alike own_position spec.definitions tree in
-    record { count = sym alike.count; words = alike.back; bytes = λ k p c. (pattern-bytes spec.definitions tree k p c).1 }
+    let same_words = pattern-same_words own_position spec.definitions tree in
+    record { count = sym same_words.count; words = same_words.back; bytes = λ k p c. (pattern-bytes spec.definitions tree k p c).1 }
 
 pub same_position_sets : (spec : PlainSpec) (x : StartAndWord) (q : ℕ)
-    → InPositionSet spec (numbered (trimmed_pattern spec.definitions) 0 spec.rules) x q ↔ InPositionSet spec (numbered (pattern_written_out spec.definitions) 0 spec.rules) x q
+    → InPositionSet spec (numbered (simplified_pattern spec.definitions) 0 spec.rules) x q ↔ InPositionSet spec (numbered (pattern_written_out spec.definitions) 0 spec.rules) x q
 same_position_sets spec x q = (
-  (λ h. read_last (trimmed_pattern spec.definitions) (pattern_written_out spec.definitions) (short_same spec) spec x.condition x.begin x.word q h),
-  (λ h. read_last (pattern_written_out spec.definitions) (trimmed_pattern spec.definitions) (long_same spec) spec x.condition x.begin x.word q h),
+  (λ h. read_last (simplified_pattern spec.definitions) (pattern_written_out spec.definitions) (short_same spec) spec x.condition x.begin x.word q h),
+  (λ h. read_last (pattern_written_out spec.definitions) (simplified_pattern spec.definitions) (long_same spec) spec x.condition x.begin x.word q h),
 )
 
 -- the pairs that lead to the sets, in order
@@ -143,9 +143,9 @@ some_member [] h = absurd (h refl)
 some_member (q ∷ S) h = (q, contains_head q S)
 
 -- too many sets over the expressions as they are kept, so too many of the specification
-pub more_reached : (spec : PlainSpec) (limit : ℕ) → HasMoreSets spec (numbered (trimmed_pattern spec.definitions) 0 spec.rules) limit → HasMoreReachedSets spec limit
+pub more_reached : (spec : PlainSpec) (limit : ℕ) → HasMoreSets spec (numbered (simplified_pattern spec.definitions) 0 spec.rules) limit → HasMoreReachedSets spec limit
 more_reached spec limit more =
-    let rules = numbered (trimmed_pattern spec.definitions) 0 spec.rules in
+    let rules = numbered (simplified_pattern spec.definitions) 0 spec.rules in
     let lead = pairs_to spec rules more.sets more.reached in
     record {
       pairs = lead.pairs;
@@ -156,11 +156,11 @@ more_reached spec limit more =
           let t = lead.each i x h in
           let m = some_member (slice_index_or more.sets i []) (more.reached i t.0).some in
           (m.0, (same_position_sets spec x m.0).0 ((t.2 m.0).0 m.1));
-      apart = λ i j x y less hi hj alike.
+      apart = λ i j x y less hi hj same_words.
           let s = lead.each i x hi in
           let t = lead.each j y hj in
           more.distinct i j less t.0 (same_rising (slice_index_or more.sets i []) (slice_index_or more.sets j []) (more.reached i s.0).rising (more.reached j t.0).rising (λ q. (
-            (λ h. (t.2 q).1 ((same_position_sets spec y q).1 ((alike q).0 ((same_position_sets spec x q).0 ((s.2 q).0 h))))),
-            (λ h. (s.2 q).1 ((same_position_sets spec x q).1 ((alike q).1 ((same_position_sets spec y q).0 ((t.2 q).0 h))))),
+            (λ h. (t.2 q).1 ((same_position_sets spec y q).1 ((same_words q).0 ((same_position_sets spec x q).0 ((s.2 q).0 h))))),
+            (λ h. (s.2 q).1 ((same_position_sets spec x q).1 ((same_words q).1 ((same_position_sets spec y q).0 ((t.2 q).0 h))))),
           )));
     }

@@ -8,15 +8,15 @@ use Rattle.lx_spec.specs.Nesting.{is_within, are_nested, expressions_of}
 use Rattle.lx_spec.specs.Plain.{PlainDefinition}
 use Rattle.lx_auto.specs.Nodes.{PlainNode}
 use Rattle.lx_auto.specs.NodeViews.{Appends}
-use Rattle.lx_auto.specs.Trimmed.{trimmed_pattern}
+use Rattle.lx_auto.specs.Simplified.{simplified_pattern}
 use Rattle.lx_auto.specs.Unfolding.{Unfolds}
 use Rattle.lx_auto.specs.declared.part.Part.{Part}
 use Rattle.lx_auto.proofs.Appending.{and-left, and-right}
 
 -- the nodes of a pattern whose names are nested
 pub unfolds-pattern : (definitions : List PlainDefinition) (tree : Regex) (old new : List PlainNode) (p : Part) → IsTrue (are_nested definitions (tree ∷ [])) → Unfolds definitions 32 tree old new p
-    → Appends (trimmed_pattern definitions tree) old new p
-unfolding are_nested trimmed_pattern
+    → Appends (simplified_pattern definitions tree) old new p
+unfolding are_nested simplified_pattern
 unfolds-pattern definitions tree old new p w h = h.at 32 (omega arith) (and-left (is_within 32 definitions tree) true w)
 
 both-true : (b : Bool) → IsTrue b → IsTrue (b && true)

@@ -12,10 +12,10 @@ use Rattle.lx_auto.specs.Leaves.{PlainLeaf, AreLeavesOf, AreGroupsOf}
 use Rattle.lx_auto.specs.PositionSets.{numbered, StartAndWord, InPositionSet, HasMoreReachedSets}
 use Rattle.lx_auto.specs.SetSteps.{IsSetOf}
 use Rattle.lx_auto.specs.SetTable.{Positions, set_of}
-use Rattle.lx_auto.specs.Trimmed.{trimmed_pattern}
+use Rattle.lx_auto.specs.Simplified.{simplified_pattern}
 use Rattle.lx_auto.proofs.Drafted.{IsAfter, read_after}
 use Rattle.lx_auto.proofs.MoreSets.{same_position_sets}
-use Rattle.lx_auto.proofs.Reading.{different}
+use Rattle.lx_auto.proofs.EncodedLists.{different}
 use Rattle.lx_auto.proofs.SetStepped.{nothing_read}
 use Rattle.lx_auto.proofs.Splits.{below_from_any}
 
@@ -31,8 +31,8 @@ some_at (y ∷ pairs) zero h = (y, refl)
 some_at (y ∷ pairs) (suc i) h = some_at pairs i (omega arith)
 
 module _ (spec : PlainSpec) (leaves : List PlainLeaf) (classes representatives : List ℕ) (sets : List Positions) (matched targets : List (Option ℕ)) (m : Machine)
-    (of : AreLeavesOf (numbered (trimmed_pattern spec.definitions) 0 spec.rules) leaves) (groups : AreGroupsOf leaves classes representatives)
-    (explored : IsExplored spec (trimmed_pattern spec.definitions) leaves representatives sets targets (start_count spec + length sets))
+    (of : AreLeavesOf (numbered (simplified_pattern spec.definitions) 0 spec.rules) leaves) (groups : AreGroupsOf leaves classes representatives)
+    (explored : IsExplored spec (simplified_pattern spec.definitions) leaves representatives sets targets (start_count spec + length sets))
     (draft : IsDrafted (length spec.conditions) classes (length representatives) matched targets m) where
   -- the number of the set that a word leads to
   set_number : Option ℕ → ℕ
@@ -43,24 +43,24 @@ module _ (spec : PlainSpec) (leaves : List PlainLeaf) (classes representatives :
   number x = set_number (state_after m (Some (start_of m x.condition x.begin)) x.word)
 
   -- a word that reaches a position leads to its set in the table
-  leads : (x : StartAndWord) (q : ℕ) → x.condition < length spec.conditions → All (λ b. b < 256) x.word → InPositionSet spec (numbered (trimmed_pattern spec.definitions) 0 spec.rules) x q →
-      (number x < length sets) × IsSetOf spec (numbered (trimmed_pattern spec.definitions) 0 spec.rules) x (set_of sets (number x))
+  leads : (x : StartAndWord) (q : ℕ) → x.condition < length spec.conditions → All (λ b. b < 256) x.word → InPositionSet spec (numbered (simplified_pattern spec.definitions) 0 spec.rules) x q →
+      (number x < length sets) × IsSetOf spec (numbered (simplified_pattern spec.definitions) 0 spec.rules) x (set_of sets (number x))
   unfolding set_number number
   leads x q start bytes reached =
       by (state_after m (Some (start_of m x.condition x.begin)) x.word)
-      (read_after spec (trimmed_pattern spec.definitions) leaves classes representatives sets matched targets m of groups explored draft x.condition x.begin x.word start some_word bytes)
+      (read_after spec (simplified_pattern spec.definitions) leaves classes representatives sets matched targets m of groups explored draft x.condition x.begin x.word start some_word bytes)
     where
       some_word : x.word ≢ []
       some_word e =
-          nothing_read spec (trimmed_pattern spec.definitions) 0 spec.rules x.condition x.begin q
-          (subst (λ w. InPositionSet spec (numbered (trimmed_pattern spec.definitions) 0 spec.rules) (record { condition = x.condition; begin = x.begin; word = w }) q) e reached)
+          nothing_read spec (simplified_pattern spec.definitions) 0 spec.rules x.condition x.begin q
+          (subst (λ w. InPositionSet spec (numbered (simplified_pattern spec.definitions) 0 spec.rules) (record { condition = x.condition; begin = x.begin; word = w }) q) e reached)
 
-      by : (s : Option ℕ) → IsAfter spec (trimmed_pattern spec.definitions) leaves classes representatives sets matched targets m of groups explored draft x s →
-          (set_number s < length sets) × IsSetOf spec (numbered (trimmed_pattern spec.definitions) 0 spec.rules) x (set_of sets (set_number s))
+      by : (s : Option ℕ) → IsAfter spec (simplified_pattern spec.definitions) leaves classes representatives sets matched targets m of groups explored draft x s →
+          (set_number s < length sets) × IsSetOf spec (numbered (simplified_pattern spec.definitions) 0 spec.rules) x (set_of sets (set_number s))
       by None none = absurd (none q reached)
       by (Some s) is =
           let e : is.0 ≡ s - start_count spec = (let f = is.2 in omega arith) in
-          (subst (λ j. j < length sets) e is.1, subst (λ j. IsSetOf spec (numbered (trimmed_pattern spec.definitions) 0 spec.rules) x (set_of sets j)) e is.3)
+          (subst (λ j. j < length sets) e is.1, subst (λ j. IsSetOf spec (numbered (simplified_pattern spec.definitions) 0 spec.rules) x (set_of sets j)) e is.3)
 
   pub no_more : (limit : ℕ) → length sets ≤ limit → HasMoreReachedSets spec limit → ⊥
   no_more limit few more =
@@ -76,7 +76,7 @@ module _ (spec : PlainSpec) (leaves : List PlainLeaf) (classes representatives :
       omega arith
     where
       known : (i : ℕ) (x : StartAndWord) → slice_get more.pairs i ≡ Some x →
-          (number x < length sets) × IsSetOf spec (numbered (trimmed_pattern spec.definitions) 0 spec.rules) x (set_of sets (number x))
+          (number x < length sets) × IsSetOf spec (numbered (simplified_pattern spec.definitions) 0 spec.rules) x (set_of sets (number x))
       known i x at =
           let some = more.filled i x at in
           leads x some.0 (more.starts i x at) (more.bytes i x at) ((same_position_sets spec x some.0).1 some.1)
@@ -90,7 +90,7 @@ module _ (spec : PlainSpec) (leaves : List PlainLeaf) (classes representatives :
           let y = some_at more.pairs j h in
           let same : number x.0 ≡ number y.0 = sym (at_map number more.pairs i x.0 x.1) ∙ e ∙ at_map number more.pairs j y.0 y.1 in
           let first = (known i x.0 x.1).1 in
-          let second = subst (λ n. IsSetOf spec (numbered (trimmed_pattern spec.definitions) 0 spec.rules) y.0 (set_of sets n)) (sym same) (known j y.0 y.1).1 in
+          let second = subst (λ n. IsSetOf spec (numbered (simplified_pattern spec.definitions) 0 spec.rules) y.0 (set_of sets n)) (sym same) (known j y.0 y.1).1 in
           more.apart i j x.0 y.0 less x.1 y.1 (λ q. (
             (λ r. (same_position_sets spec y.0 q).0 ((second q).0 ((first q).1 ((same_position_sets spec x.0 q).1 r)))),
             (λ r. (same_position_sets spec x.0 q).0 ((first q).0 ((second q).1 ((same_position_sets spec y.0 q).1 r)))),

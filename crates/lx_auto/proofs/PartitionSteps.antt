@@ -1,15 +1,15 @@
--- One state more: given a block by its label, found to be a mover, given a number.
+-- One state more: given a block by its label, found to be moved, given a number.
 use Rattle.std.proofs.Common.{◌≡◌, ◌≢◌, ℕ, ◌+◌, ◌<◌, Bool, List, [], ◌∷◌, ◌++◌, length, slice_index, slice_set, refl, sym, ◌∙◌, ap, subst, arith, inl, inr}
 use Rattle.std.proofs.lemmas.Bool.{cases_lt, cases_eq}
 use Rattle.std.proofs.lemmas.List.{get_or_append_left, get_or_push, length_push, length-set, get_or-set_same, get_or-set_other}
 use Rattle.lx_auto.specs.Completion.{total, step_of}
-use Rattle.lx_auto.specs.Partitions.{block, member_of, IsStable, IsMover, AreMovers, AreRenumbered, StepsLikeRepresentative}
+use Rattle.lx_auto.specs.Partitions.{block, member_of, IsStable, IsMoved, AreMovedStates, AreRenumbered, StepsLikeRepresentative}
 use Rattle.lx_auto.specs.declared.complete.Complete.{Complete}
 use Rattle.lx_auto.specs.declared.partition.Partition.{Partition}
 
-pub mover_push : (m : Complete) (bs : List ℕ) (inside : List Bool) (from class : ℕ) (wanted : Bool) (n : ℕ) (ms : List ℕ) →
-    AreMovers m bs inside from class wanted n ms → IsMover m bs inside from class wanted n → AreMovers m bs inside from class wanted (n + 1) (ms ++ n ∷ [])
-mover_push m bs inside from class wanted n ms are is =
+pub moved_push : (m : Complete) (bs : List ℕ) (inside : List Bool) (from class : ℕ) (wanted : Bool) (n : ℕ) (ms : List ℕ) →
+    AreMovedStates m bs inside from class wanted n ms → IsMoved m bs inside from class wanted n → AreMovedStates m bs inside from class wanted (n + 1) (ms ++ n ∷ [])
+moved_push m bs inside from class wanted n ms are is =
     let long : length (ms ++ n ∷ []) ≡ length ms + 1 = length_push ms n in
     let kept : (j : ℕ) → j < length ms → slice_index (ms ++ n ∷ []) j ≡ slice_index ms j = λ j h. get_or_append_left ms (n ∷ []) 0 j h in
     let last : slice_index (ms ++ n ∷ []) (length ms) ≡ n = get_or_push ms n 0 (length ms) refl in
@@ -28,14 +28,14 @@ mover_push m bs inside from class wanted n ms are is =
       ];
     }
 
-pub mover_skip : (m : Complete) (bs : List ℕ) (inside : List Bool) (from class : ℕ) (wanted : Bool) (n : ℕ) (ms : List ℕ) →
-    AreMovers m bs inside from class wanted n ms → (IsMover m bs inside from class wanted n → ⊥) → AreMovers m bs inside from class wanted (n + 1) ms
-mover_skip m bs inside from class wanted n ms are isnt = record {
+pub moved_skip : (m : Complete) (bs : List ℕ) (inside : List Bool) (from class : ℕ) (wanted : Bool) (n : ℕ) (ms : List ℕ) →
+    AreMovedStates m bs inside from class wanted n ms → (IsMoved m bs inside from class wanted n → ⊥) → AreMovedStates m bs inside from class wanted (n + 1) ms
+moved_skip m bs inside from class wanted n ms are isnt = record {
   below = λ j h. let g = are.below j h in omega arith;
   each = are.each;
   all = λ s h e. elim (cases_lt s n) [
     | inl k ↦ are.all s k e
-    | inr k ↦ let i : s ≡ n = omega arith in absurd (isnt (subst (λ x. IsMover m bs inside from class wanted x) i e))
+    | inr k ↦ let i : s ≡ n = omega arith in absurd (isnt (subst (λ x. IsMoved m bs inside from class wanted x) i e))
   ];
 }
 

@@ -4,17 +4,17 @@ use Rattle.std.proofs.lemmas.Bool.{cases_lt, cases_eq}
 use Rattle.std.proofs.lemmas.List.{length-map, get_or_past}
 use Rattle.std.proofs.lemmas.List.Elements.{All-head, All-tail}
 use Rattle.lx_auto.specs.Automata.{Machine, IsMachine, HasByteClasses, state_count, start_of, accepted_by, class_target, target_of, answer_from, answer}
-use Rattle.lx_auto.specs.Words.{from_word}
-use Rattle.lx_auto.specs.Equivalence.{AreTold, IsLive, AnswerAlike}
+use Rattle.lx_auto.specs.EncodedOptions.{decoded_option}
+use Rattle.lx_auto.specs.Equivalence.{AreDistinguishable, IsLive, AreEquivalentMachines}
 use Rattle.lx_auto.specs.Completion.{total, label_of, step_of, after, IsComplete, IsCompletion}
 use Rattle.lx_auto.specs.Partitions.{block, block_count, IsSound, IsStable}
 use Rattle.lx_auto.specs.Quotients.{number_of, AreStarts, AreRowStates, AreLabels, AreTargets}
 use Rattle.lx_auto.specs.Simulations.{Simulates}
 use Rattle.lx_auto.specs.declared.complete.Complete.{Complete}
 use Rattle.lx_auto.specs.declared.partition.Partition.{Partition}
-use Rattle.lx_auto.proofs.Grid.{in_row}
-use Rattle.lx_auto.proofs.Reading.{word_at, from_word-some, different}
-use Rattle.lx_auto.proofs.Simulating.{answer_at, classes_of, answered, from_word-same, simulates_itself, spelled}
+use Rattle.lx_auto.proofs.RowMajor.{in_row}
+use Rattle.lx_auto.proofs.EncodedLists.{decoded_at, decoded_option-some, different}
+use Rattle.lx_auto.proofs.Simulating.{answer_at, classes_of, answered, decoded_option-same, simulates_itself, spelled}
 
 module _ (a : Machine) (m : Complete) (p : Partition) (starts : List (ℕ × ℕ)) (rows labels targets : List ℕ)
     (is : IsMachine a) (has : HasByteClasses a) (completion : IsCompletion a m) (sound : IsSound m p) (stable : IsStable m p)
@@ -27,22 +27,22 @@ module _ (a : Machine) (m : Complete) (p : Partition) (starts : List (ℕ × ℕ
   complete = completion.complete
 
   abbrev pub q : Machine
-  q = record { starts = starts; classes = a.classes; width = a.width; accepted = map from_word labels; targets = map from_word targets }
+  q = record { starts = starts; classes = a.classes; width = a.width; accepted = map decoded_option labels; targets = map decoded_option targets }
 
   count : state_count q ≡ length rows
-  count = length-map labels from_word ∙ are_labels.long
+  count = length-map labels decoded_option ∙ are_labels.long
 
   blocks : 0 < block_count p
   blocks = (let b = sound.below 0 complete.some in omega arith)
 
-  accepted_row : (i : ℕ) → i < length rows → accepted_by q i ≡ from_word (label_of m (slice_index rows i))
-  accepted_row i h = word_at labels i ∙ ap from_word (are_labels.each i h)
+  accepted_row : (i : ℕ) → i < length rows → accepted_by q i ≡ decoded_option (label_of m (slice_index rows i))
+  accepted_row i h = decoded_at labels i ∙ ap decoded_option (are_labels.each i h)
 
-  target_row : (i c : ℕ) → i < length rows → c < m.width → class_target q i c ≡ from_word (block p (step_of m (slice_index rows i) c))
+  target_row : (i c : ℕ) → i < length rows → c < m.width → class_target q i c ≡ decoded_option (block p (step_of m (slice_index rows i) c))
   target_row i c hi hc =
       let w = completion.width in
-      word_at targets (i * a.width + c) ∙ ap (λ n. from_word (slice_index targets (i * n + c))) (sym w)
-      ∙ ap from_word (are_targets.each i c hc (in_row i c (length rows) m.width hi hc))
+      decoded_at targets (i * a.width + c) ∙ ap (λ n. decoded_option (slice_index targets (i * n + c))) (sym w)
+      ∙ ap decoded_option (are_targets.each i c hc (in_row i c (length rows) m.width hi hc))
 
   -- the block of a state of the quotient
   row_block : (i : ℕ) → i < length rows → (slice_index rows i < total m) × ((i + 1 < block_count p → block p (slice_index rows i) ≡ i + 1) × (i + 1 ≡ block_count p → slice_index rows i ≡ 0))
@@ -64,40 +64,40 @@ module _ (a : Machine) (m : Complete) (p : Partition) (starts : List (ℕ × ℕ
         let many = are_rows.many in
         let i : block p x - 1 < length rows = omega arith in
         let r = row_block (block p x - 1) i in
-        accepted_row (block p x - 1) i ∙ ap from_word (sound.labels (slice_index rows (block p x - 1)) x r.0 hx (r.1.0 (omega arith) ∙ omega arith));
+        accepted_row (block p x - 1) i ∙ ap decoded_option (sound.labels (slice_index rows (block p x - 1)) x r.0 hx (r.1.0 (omega arith) ∙ omega arith));
     steps = λ x c hx hc ne.
         let b = sound.below x hx in
         let many = are_rows.many in
         let i : block p x - 1 < length rows = omega arith in
         let r = row_block (block p x - 1) i in
-        target_row (block p x - 1) c i hc ∙ ap from_word (stable.steps (slice_index rows (block p x - 1)) x c r.0 hx hc (r.1.0 (omega arith) ∙ omega arith));
+        target_row (block p x - 1) c i hc ∙ ap decoded_option (stable.steps (slice_index rows (block p x - 1)) x c r.0 hx hc (r.1.0 (omega arith) ∙ omega arith));
   }
 
   -- from a state that stands for state 0 nothing is answered
   dead_answer : (i : ℕ) → i < length rows → slice_index rows i ≡ 0 → (v : List ℕ) → All (λ b. b < 256) v → answer_from q i v ≡ None
-  dead_answer i h e [] all = accepted_row i h ∙ ap (λ x. from_word (label_of m x)) e ∙ ap from_word complete.unlabelled
+  dead_answer i h e [] all = accepted_row i h ∙ ap (λ x. decoded_option (label_of m x)) e ∙ ap decoded_option complete.unlabelled
   dead_answer i h e (b ∷ v) all =
       let hc = simulates.classes b (head b v all) in
       ap (λ o. answer_at q o v) (target_row i (slice_index a.classes b) h hc
-      ∙ ap (λ x. from_word (block p (step_of m x (slice_index a.classes b)))) e
-      ∙ ap (λ x. from_word (block p x)) (complete.stays (slice_index a.classes b) hc) ∙ ap from_word sound.first)
+      ∙ ap (λ x. decoded_option (block p (step_of m x (slice_index a.classes b)))) e
+      ∙ ap (λ x. decoded_option (block p x)) (complete.stays (slice_index a.classes b) hc) ∙ ap decoded_option sound.first)
     where
       head : (b : ℕ) (v : List ℕ) → All (λ b. b < 256) (b ∷ v) → b < 256
       head b v all = All-head (λ b. b < 256) b v all
 
   row_answer : (i : ℕ) → i < length rows → (v : List ℕ) → All (λ b. b < 256) v →
-      answer_from q i v ≡ from_word (label_of m (after m (slice_index rows i) (classes_of a v)))
+      answer_from q i v ≡ decoded_option (label_of m (after m (slice_index rows i) (classes_of a v)))
   row_answer i h v all =
       let r = row_block i h in
       let s = answered q m (λ x. block p x) simulates v (slice_index rows i) r.0 all in
       elim (cases_lt (i + 1) (block_count p)) [
         | inl l ↦ let e = r.1.0 l in
             let n : i + 1 - 1 ≡ i = omega arith in
-            ap (λ x. answer_from q x v) (sym n) ∙ ap (λ o. answer_at q o v) (sym (from_word-some (i + 1) (omega arith)))
-            ∙ ap (λ x. answer_at q (from_word x) v) (sym e) ∙ s
+            ap (λ x. answer_from q x v) (sym n) ∙ ap (λ o. answer_at q o v) (sym (decoded_option-some (i + 1) (omega arith)))
+            ∙ ap (λ x. answer_at q (decoded_option x) v) (sym e) ∙ s
         | inr l ↦ let f = are_rows.few in
             let e = r.1.1 (omega arith) in
-            dead_answer i h e v all ∙ ap (λ x. answer_at q (from_word x) v) (sym (ap (λ x. block p x) e ∙ sound.first)) ∙ s
+            dead_answer i h e v all ∙ ap (λ x. answer_at q (decoded_option x) v) (sym (ap (λ x. block p x) e ∙ sound.first)) ∙ s
       ]
 
   start_row : (c : ℕ) (begin : Bool) → c < length a.starts → start_of q c begin ≡ number_of p (block p (start_of a c begin + 1))
@@ -131,8 +131,8 @@ module _ (a : Machine) (m : Complete) (p : Partition) (starts : List (ℕ × ℕ
       let x = answered q m (λ x. block p x) simulates v (s + 1) hs all in
       let y = answered a m (λ x. x) (simulates_itself a m is completion) v (s + 1) hs all in
       let one : s + 1 - 1 ≡ s = omega arith in
-      let z : answer_at a (from_word (s + 1)) v ≡ answer a c begin v =
-      ap (λ o. answer_at a o v) (from_word-some (s + 1) (omega arith)) ∙ ap (λ k. answer_from a k v) one in
+      let z : answer_at a (decoded_option (s + 1)) v ≡ answer a c begin v =
+      ap (λ o. answer_at a o v) (decoded_option-some (s + 1) (omega arith)) ∙ ap (λ k. answer_from a k v) one in
       elim (cases_eq b 0) [
         | inl e ↦ let n = start_row c begin h ∙ number_dead b e in
             let g = begins c begin h e in
@@ -140,28 +140,28 @@ module _ (a : Machine) (m : Complete) (p : Partition) (starts : List (ℕ × ℕ
             let i : block_count p - 1 < length rows = omega (arith, blocks) in
             let r = row_block (block_count p - 1) i in
             ap (λ k. answer_from q k v) n ∙ dead_answer (block_count p - 1) i (r.1.1 (omega (arith, blocks))) v all
-            ∙ ap (λ k. answer_at q (from_word k) v) (sym e) ∙ x ∙ sym y ∙ z
+            ∙ ap (λ k. answer_at q (decoded_option k) v) (sym e) ∙ x ∙ sym y ∙ z
         | inr ne ↦ let n = start_row c begin h ∙ number_live b ne in
-            ap (λ k. answer_from q k v) n ∙ ap (λ o. answer_at q o v) (sym (from_word-some b ne)) ∙ x ∙ sym y ∙ z
+            ap (λ k. answer_from q k v) n ∙ ap (λ o. answer_at q o v) (sym (decoded_option-some b ne)) ∙ x ∙ sym y ∙ z
       ]
 
-  pub quotient_answers : AnswerAlike a q
+  pub quotient_answers : AreEquivalentMachines a q
   quotient_answers = record { answers = λ c begin v h all. start_answer c begin v h all }
 
-  pub quotient_told : (i j : ℕ) → i < state_count q → j < state_count q → i ≢ j → AreTold q i j
-  quotient_told i j hi hj ne =
+  pub quotient_distinguishable : (i j : ℕ) → i < state_count q → j < state_count q → i ≢ j → AreDistinguishable q i j
+  quotient_distinguishable i j hi hj ne =
       let li : i < length rows = omega (arith, count) in
       let lj : j < length rows = omega (arith, count) in
       let ri = row_block i li in
       let rj = row_block j lj in
-      let d = sound.told (slice_index rows i) (slice_index rows j) ri.0 rj.0 (λ e. ne (same i j li lj e)) in
+      let d = sound.distinguishable (slice_index rows i) (slice_index rows j) ri.0 rj.0 (λ e. ne (same i j li lj e)) in
       let v = spelled a m.width is has completion.width d.word d.classes in
       record {
         word = v.0;
         bytes = v.1;
-        differ = λ e. d.differ (from_word-same _ _ (
-            ap (λ w. from_word (label_of m (after m (slice_index rows i) w))) (sym v.2) ∙ sym (row_answer i li v.0 v.1) ∙ e ∙ row_answer j lj v.0 v.1
-            ∙ ap (λ w. from_word (label_of m (after m (slice_index rows j) w))) v.2));
+        differ = λ e. d.differ (decoded_option-same _ _ (
+            ap (λ w. decoded_option (label_of m (after m (slice_index rows i) w))) (sym v.2) ∙ sym (row_answer i li v.0 v.1) ∙ e ∙ row_answer j lj v.0 v.1
+            ∙ ap (λ w. decoded_option (label_of m (after m (slice_index rows j) w))) v.2));
       }
     where
       number : (k : ℕ) → k < length rows → ((k + 1 < block_count p) × (block p (slice_index rows k) ≡ k + 1)) ⊎ ((k + 1 ≡ block_count p) × (block p (slice_index rows k) ≡ 0))
@@ -188,20 +188,20 @@ module _ (a : Machine) (m : Complete) (p : Partition) (starts : List (ℕ × ℕ
       let hc = simulates.classes b hb in
       let y = step_of m (slice_index rows s) (slice_index a.classes b) in
       let hy = complete.closed (slice_index rows s) (slice_index a.classes b) (row_block s ls).0 hc in
-      let w : from_word (block p y) ≡ Some t = sym (target_row s (slice_index a.classes b) ls hc) ∙ e in
-      let d = sound.told y 0 hy complete.some (λ f. none_of (block p y) t w (f ∙ sound.first)) in
+      let w : decoded_option (block p y) ≡ Some t = sym (target_row s (slice_index a.classes b) ls hc) ∙ e in
+      let d = sound.distinguishable y 0 hy complete.some (λ f. none_of (block p y) t w (f ∙ sound.first)) in
       let v = spelled a m.width is has completion.width d.word d.classes in
-      let r : answer_from q t v.0 ≡ from_word (label_of m (after m y d.word)) =
-      ap (λ o. answer_at q o v.0) (sym w) ∙ answered q m (λ x. block p x) simulates v.0 y hy v.1 ∙ ap (λ w. from_word (label_of m (after m y w))) v.2 in
+      let r : answer_from q t v.0 ≡ decoded_option (label_of m (after m y d.word)) =
+      ap (λ o. answer_at q o v.0) (sym w) ∙ answered q m (λ x. block p x) simulates v.0 y hy v.1 ∙ ap (λ w. decoded_option (label_of m (after m y w))) v.2 in
       record {
         word = v.0;
         bytes = v.1;
-        accepts = λ f. d.differ (from_word-same (label_of m (after m y d.word)) (label_of m (after m 0 d.word)) (
-            sym r ∙ f ∙ sym (ap (λ x. from_word (label_of m x)) (after_first d.word d.classes) ∙ ap from_word complete.unlabelled)));
+        accepts = λ f. d.differ (decoded_option-same (label_of m (after m y d.word)) (label_of m (after m 0 d.word)) (
+            sym r ∙ f ∙ sym (ap (λ x. decoded_option (label_of m x)) (after_first d.word d.classes) ∙ ap decoded_option complete.unlabelled)));
       }
     where
-      none_of : (b t : ℕ) → from_word b ≡ Some t → b ≢ 0
-      none_of b t e f = let g : None ≡ Some t = sym (ap from_word f) ∙ e in cc
+      none_of : (b t : ℕ) → decoded_option b ≡ Some t → b ≢ 0
+      none_of b t e f = let g : None ≡ Some t = sym (ap decoded_option f) ∙ e in cc
 
       after_first : (w : List ℕ) → All (λ c. c < m.width) w → after m 0 w ≡ 0
       after_first [] all = refl
@@ -215,33 +215,33 @@ module _ (a : Machine) (m : Complete) (p : Partition) (starts : List (ℕ × ℕ
     bytes = is.bytes;
     below = is.below;
     narrow = is.narrow;
-    rows = length-map targets from_word ∙ are_targets.long ∙ ap (λ n. length rows * n) completion.width ∙ ap (λ n. n * a.width) (sym count);
+    rows = length-map targets decoded_option ∙ are_targets.long ∙ ap (λ n. length rows * n) completion.width ∙ ap (λ n. n * a.width) (sym count);
     closed = λ s c t hs hc e.
         let ls : s < length rows = omega (arith, count) in
         let hm : c < m.width = (let w = completion.width in omega arith) in
         let y = step_of m (slice_index rows s) c in
         let hy = complete.closed (slice_index rows s) c (row_block s ls).0 hm in
         let b = sound.below y hy in
-        let w : from_word (block p y) ≡ Some t = sym (target_row s c ls hm) ∙ e in
+        let w : decoded_option (block p y) ≡ Some t = sym (target_row s c ls hm) ∙ e in
         let many = are_rows.many in
-        let n = word_above (block p y) t w in
+        let n = one_above (block p y) t w in
         omega (arith, count);
     states = omega (arith, count);
     rules = λ s r e. rule_below s r e;
   }
     where
-      word_above : (b t : ℕ) → from_word b ≡ Some t → b ≡ t + 1
-      word_above b t e = elim (cases_eq b 0) [
-        | inl f ↦ let g : None ≡ Some t = sym (ap from_word f) ∙ e in cc
-        | inr f ↦ let g : Some (b - 1) ≡ Some t = sym (from_word-some b f) ∙ e in let k : b - 1 ≡ t = cc in omega arith
+      one_above : (b t : ℕ) → decoded_option b ≡ Some t → b ≡ t + 1
+      one_above b t e = elim (cases_eq b 0) [
+        | inl f ↦ let g : None ≡ Some t = sym (ap decoded_option f) ∙ e in cc
+        | inr f ↦ let g : Some (b - 1) ≡ Some t = sym (decoded_option-some b f) ∙ e in let k : b - 1 ≡ t = cc in omega arith
       ]
 
-      labelled_below : (x r : ℕ) → x < total m → from_word (label_of m x) ≡ Some r → r < 4096
+      labelled_below : (x r : ℕ) → x < total m → decoded_option (label_of m x) ≡ Some r → r < 4096
       labelled_below x r h e = elim (cases_eq x 0) [
-        | inl f ↦ let g : None ≡ Some r = sym (ap (λ x. from_word (label_of m x)) f ∙ ap from_word complete.unlabelled) ∙ e in cc
+        | inl f ↦ let g : None ≡ Some r = sym (ap (λ x. decoded_option (label_of m x)) f ∙ ap decoded_option complete.unlabelled) ∙ e in cc
         | inr ne ↦ let i : x ≡ x - 1 + 1 = omega arith in
             let n = completion.states in
-            is.rules (x - 1) r (sym (completion.labels (x - 1) (omega arith)) ∙ ap (λ y. from_word (label_of m y)) (sym i) ∙ e)
+            is.rules (x - 1) r (sym (completion.labels (x - 1) (omega arith)) ∙ ap (λ y. decoded_option (label_of m y)) (sym i) ∙ e)
       ]
 
       rule_below : (s r : ℕ) → accepted_by q s ≡ Some r → r < 4096

@@ -15,8 +15,8 @@ use Rattle.lx_auto.specs.PositionSets.{NumberedRule, numbered, CanHaveReadLast}
 use Rattle.lx_auto.specs.SetSteps.{IsRising}
 use Rattle.lx_auto.specs.Sets.{AreFollowing, AreFirst}
 use Rattle.lx_auto.specs.Leaves.{PlainLeaf, has_byte, AreLeavesOf}
-use Rattle.lx_auto.specs.SetTable.{Positions, set_of, IsTarget, GoesOn}
-use Rattle.lx_auto.specs.Exploring.{having, IsReachedSet, AreReachedSets, HasMoreSets, IsSource, HaveSteps, IsExplored, IsRowOf}
+use Rattle.lx_auto.specs.SetTable.{Positions, set_of, IsTarget, IsExtendedBy}
+use Rattle.lx_auto.specs.Exploring.{positions_with_byte, IsReachedSet, AreReachedSets, HasMoreSets, IsSource, HaveSteps, IsExplored, IsRowOf}
 use Rattle.lx_auto.proofs.Membership.{contains_nil, contains_head, contains_tail, contains_cases, contains_at}
 use Rattle.lx_auto.proofs.SetLists.{target_kept, same_row}
 use Rattle.lx_auto.proofs.SetStepped.{nothing_read, first_set, next_set}
@@ -26,24 +26,24 @@ bool_cases true = inl refl
 bool_cases false = inr refl
 
 -- the members that have a byte
-pub having_means : (leaves : List PlainLeaf) (b : ℕ) (F : List ℕ) (q : ℕ) → Contains (having leaves b F) q ↔ (Contains F q × (has_byte leaves q b ≡ true))
-having_means leaves b [] q = ((λ h. absurd (contains_nil q h)), (λ h. absurd (contains_nil q h.0)))
-having_means leaves b (x ∷ F) q = elim (bool_cases (has_byte leaves x b)) [
+pub positions_with_byte_means : (leaves : List PlainLeaf) (b : ℕ) (F : List ℕ) (q : ℕ) → Contains (positions_with_byte leaves b F) q ↔ (Contains F q × (has_byte leaves q b ≡ true))
+positions_with_byte_means leaves b [] q = ((λ h. absurd (contains_nil q h)), (λ h. absurd (contains_nil q h.0)))
+positions_with_byte_means leaves b (x ∷ F) q = elim (bool_cases (has_byte leaves x b)) [
   | inl has ↦
-      let at : having leaves b (x ∷ F) ≡ x ∷ having leaves b F = grind (arith, common_steps) in
-      let m = having_means leaves b F q in (
-        (λ h. elim (contains_cases x q (having leaves b F) (subst (λ l. Contains l q) at h)) [
+      let at : positions_with_byte leaves b (x ∷ F) ≡ x ∷ positions_with_byte leaves b F = grind (arith, common_steps) in
+      let m = positions_with_byte_means leaves b F q in (
+        (λ h. elim (contains_cases x q (positions_with_byte leaves b F) (subst (λ l. Contains l q) at h)) [
           | inl e ↦ (subst (λ z. Contains (x ∷ F) z) e (contains_head x F), subst (λ z. has_byte leaves z b ≡ true) e has)
           | inr c ↦ let t = m.0 c in (contains_tail x q F t.0, t.1)
         ]),
         (λ h. subst (λ l. Contains l q) (sym at) (elim (contains_cases x q F h.0) [
-          | inl e ↦ subst (λ z. Contains (x ∷ having leaves b F) z) e (contains_head x (having leaves b F))
-          | inr c ↦ contains_tail x q (having leaves b F) (m.1 (c, h.1))
+          | inl e ↦ subst (λ z. Contains (x ∷ positions_with_byte leaves b F) z) e (contains_head x (positions_with_byte leaves b F))
+          | inr c ↦ contains_tail x q (positions_with_byte leaves b F) (m.1 (c, h.1))
         ])),
       )
   | inr lacks ↦
-      let at : having leaves b (x ∷ F) ≡ having leaves b F = grind (arith, common_steps) in
-      let m = having_means leaves b F q in (
+      let at : positions_with_byte leaves b (x ∷ F) ≡ positions_with_byte leaves b F = grind (arith, common_steps) in
+      let m = positions_with_byte_means leaves b F q in (
         (λ h. let t = m.0 (subst (λ l. Contains l q) at h) in (contains_tail x q F t.0, t.1)),
         (λ h. subst (λ l. Contains l q) (sym at) (elim (contains_cases x q F h.0) [
           | inl e ↦ let no : false ≡ true = sym (subst (λ z. has_byte leaves z b ≡ false) e lacks) ∙ h.1 in absurd (cc)
@@ -72,16 +72,16 @@ rising_cons x xs below rising zero (suc j) h l = below (get_or xs j 0) (contains
 rising_cons x xs below rising (suc i) zero h l = absurd (omega arith)
 rising_cons x xs below rising (suc i) (suc j) h l = rising i j (omega arith) (omega arith)
 
-pub having_rises : (leaves : List PlainLeaf) (b : ℕ) (F : List ℕ) → IsRising F → IsRising (having leaves b F)
-having_rises leaves b [] rising = λ i j h l. absurd (omega arith)
-having_rises leaves b (x ∷ F) rising = elim (bool_cases (has_byte leaves x b)) [
+pub positions_with_byte_rise : (leaves : List PlainLeaf) (b : ℕ) (F : List ℕ) → IsRising F → IsRising (positions_with_byte leaves b F)
+positions_with_byte_rise leaves b [] rising = λ i j h l. absurd (omega arith)
+positions_with_byte_rise leaves b (x ∷ F) rising = elim (bool_cases (has_byte leaves x b)) [
   | inl has ↦
-      let at : having leaves b (x ∷ F) ≡ x ∷ having leaves b F = grind (arith, common_steps) in
+      let at : positions_with_byte leaves b (x ∷ F) ≡ x ∷ positions_with_byte leaves b F = grind (arith, common_steps) in
       subst (λ l. IsRising l) (sym at)
-      (rising_cons x (having leaves b F) (λ q c. rising_head x F rising q ((having_means leaves b F q).0 c).0) (having_rises leaves b F (rising_tail x F rising)))
+      (rising_cons x (positions_with_byte leaves b F) (λ q c. rising_head x F rising q ((positions_with_byte_means leaves b F q).0 c).0) (positions_with_byte_rise leaves b F (rising_tail x F rising)))
   | inr lacks ↦
-      let at : having leaves b (x ∷ F) ≡ having leaves b F = grind (arith, common_steps) in
-      subst (λ l. IsRising l) (sym at) (having_rises leaves b F (rising_tail x F rising))
+      let at : positions_with_byte leaves b (x ∷ F) ≡ positions_with_byte leaves b F = grind (arith, common_steps) in
+      subst (λ l. IsRising l) (sym at) (positions_with_byte_rise leaves b F (rising_tail x F rising))
 ]
 
 -- a list that isn't empty has a member
@@ -93,35 +93,35 @@ module _ (spec : PlainSpec) (tree_of : Regex → Unfolded) (leaves : List PlainL
     (of : AreLeavesOf (numbered tree_of 0 spec.rules) leaves) where
   -- from a start
   pub reached_first : (c : ℕ) (begin : Bool) (b : ℕ) (F : List ℕ) → c < length spec.conditions → b < 256 → AreFirst spec (numbered tree_of 0 spec.rules) c begin F →
-      having leaves b F ≢ [] → IsReachedSet spec (numbered tree_of 0 spec.rules) (having leaves b F)
+      positions_with_byte leaves b F ≢ [] → IsReachedSet spec (numbered tree_of 0 spec.rules) (positions_with_byte leaves b F)
   reached_first c begin b F start byte first ne = record {
     from = record { condition = c; begin = begin; word = b ∷ [] };
     start = start;
     bytes = All-push (λ x. x < 256) [] b (All-nil (λ x. x < 256)) byte;
     leads = λ q.
         let step = first_set spec tree_of 0 spec.rules c begin b q in
-        let m = having_means leaves b F q in (
+        let m = positions_with_byte_means leaves b F q in (
           (λ h. let t = m.0 h in step.1 ((first.each q).0 t.0, (of.each q b).0 t.1)),
           (λ r. let t = step.0 r in m.1 ((first.each q).1 t.0, (of.each q b).1 t.1)),
         );
-    rising = having_rises leaves b F first.rising;
+    rising = positions_with_byte_rise leaves b F first.rising;
     some = ne;
   }
 
   -- from a set
   pub reached_next : (S : List ℕ) (b : ℕ) (F : List ℕ) → b < 256 → IsReachedSet spec (numbered tree_of 0 spec.rules) S → AreFollowing (numbered tree_of 0 spec.rules) S F →
-      having leaves b F ≢ [] → IsReachedSet spec (numbered tree_of 0 spec.rules) (having leaves b F)
+      positions_with_byte leaves b F ≢ [] → IsReachedSet spec (numbered tree_of 0 spec.rules) (positions_with_byte leaves b F)
   reached_next S b F byte reached next ne = record {
     from = record { condition = reached.from.condition; begin = reached.from.begin; word = reached.from.word ++ b ∷ [] };
     start = reached.start;
     bytes = All-push (λ x. x < 256) reached.from.word b reached.bytes byte;
     leads = λ q.
         let step = next_set spec tree_of 0 spec.rules reached.from.condition reached.from.begin reached.from.word S b q some_word reached.leads in
-        let m = having_means leaves b F q in (
+        let m = positions_with_byte_means leaves b F q in (
           (λ h. let t = m.0 h in step.1 ((next.each q).0 t.0, (of.each q b).0 t.1)),
           (λ r. let t = step.0 r in m.1 ((next.each q).1 t.0, (of.each q b).1 t.1)),
         );
-    rising = having_rises leaves b F next.rising;
+    rising = positions_with_byte_rise leaves b F next.rising;
     some = ne;
   }
     where
@@ -133,14 +133,14 @@ module _ (spec : PlainSpec) (tree_of : Regex → Unfolded) (leaves : List PlainL
 
   -- from either
   pub reached_from : (sets : List Positions) (i b : ℕ) (F : List ℕ) → b < 256 → AreReachedSets spec (numbered tree_of 0 spec.rules) sets →
-      IsSource spec (numbered tree_of 0 spec.rules) sets i F → having leaves b F ≢ [] → IsReachedSet spec (numbered tree_of 0 spec.rules) (having leaves b F)
+      IsSource spec (numbered tree_of 0 spec.rules) sets i F → positions_with_byte leaves b F ≢ [] → IsReachedSet spec (numbered tree_of 0 spec.rules) (positions_with_byte leaves b F)
   reached_from sets i b F byte are source ne = elim source [
     | inl s ↦ reached_first s.0 s.1 b F s.2 byte s.4 ne
     | inr s ↦ reached_next (set_of sets s.0) b F byte (are.reached s.0 s.1) s.3 ne
   ]
 
 -- the table goes on with a reached set
-pub reached_after : (spec : PlainSpec) (rules : List NumberedRule) (old new : List Positions) (set : List ℕ) → AreReachedSets spec rules old → GoesOn old new set →
+pub reached_after : (spec : PlainSpec) (rules : List NumberedRule) (old new : List Positions) (set : List ℕ) → AreReachedSets spec rules old → IsExtendedBy old new set →
     IsReachedSet spec rules set → (length new ≡ length old) ⊎ ((i : ℕ) → i < length old → set_of old i ≢ set) → AreReachedSets spec rules new
 reached_after spec rules old new set are on is fresh = record {
   reached = λ i h. elim (cases_lt i (length old)) [
@@ -156,7 +156,7 @@ reached_after spec rules old new set are on is fresh = record {
   ];
 }
 
-pub source_kept : (spec : PlainSpec) (rules : List NumberedRule) (old new : List Positions) (set F : List ℕ) (i : ℕ) → GoesOn old new set →
+pub source_kept : (spec : PlainSpec) (rules : List NumberedRule) (old new : List Positions) (set F : List ℕ) (i : ℕ) → IsExtendedBy old new set →
     IsSource spec rules old i F → IsSource spec rules new i F
 source_kept spec rules old new set F i on source = elim source [
   | inl s ↦ inl s
@@ -166,7 +166,7 @@ source_kept spec rules old new set F i on source = elim source [
 -- the steps that are known stay known, and one more is
 pub steps_push : (spec : PlainSpec) (rules : List NumberedRule) (leaves : List PlainLeaf) (reps : List ℕ) (old new : List Positions) (targets : List (Option ℕ))
     (state class : ℕ) (t : Option ℕ) (F : List ℕ) → HaveSteps spec rules leaves reps old targets (state * length reps + class) → class < length reps →
-    IsSource spec rules old state F → GoesOn old new (having leaves (slice_index reps class) F) → IsTarget new t (having leaves (slice_index reps class) F) →
+    IsSource spec rules old state F → IsExtendedBy old new (positions_with_byte leaves (slice_index reps class) F) → IsTarget new t (positions_with_byte leaves (slice_index reps class) F) →
     HaveSteps spec rules leaves reps new (targets ++ t ∷ []) (state * length reps + class + 1)
 steps_push spec rules leaves reps old new targets state class t F have hc source on is = record {
   long = let e = have.long in grind (arith, common_steps);
@@ -177,9 +177,9 @@ steps_push spec rules leaves reps old new targets state class t F have hc source
             let before = have.each i c h k in
             let g : get_or (targets ++ t ∷ []) (i * length reps + c) None ≡ get_or targets (i * length reps + c) None = grind (arith, common_steps) in (
               before.0,
-              source_kept spec rules old new (having leaves (slice_index reps class) F) before.0 i on before.1,
-              subst (λ x. IsTarget new x (having leaves (slice_index reps c) before.0)) (sym g)
-                  (target_kept old new (having leaves (slice_index reps class) F) on (get_or targets (i * length reps + c) None) (having leaves (slice_index reps c) before.0) before.2),
+              source_kept spec rules old new (positions_with_byte leaves (slice_index reps class) F) before.0 i on before.1,
+              subst (λ x. IsTarget new x (positions_with_byte leaves (slice_index reps c) before.0)) (sym g)
+                  (target_kept old new (positions_with_byte leaves (slice_index reps class) F) on (get_or targets (i * length reps + c) None) (positions_with_byte leaves (slice_index reps c) before.0) before.2),
             )
         | inr k ↦
             let e : i * length reps + c ≡ state * length reps + class = omega arith in
@@ -187,9 +187,9 @@ steps_push spec rules leaves reps old new targets state class t F have hc source
             let n : i * length reps + c ≡ length targets = omega arith in
             let g : get_or (targets ++ t ∷ []) (i * length reps + c) None ≡ t = ap (λ x. get_or (targets ++ t ∷ []) x None) n ∙ get_or-append_seam targets t [] None in (
               F,
-              source_kept spec rules old new (having leaves (slice_index reps class) F) F i on (subst (λ x. IsSource spec rules old x F) (sym s.0) source),
-              subst (λ x. IsTarget new x (having leaves (slice_index reps c) F)) (sym g)
-                  (subst (λ x. IsTarget new t (having leaves (slice_index reps x) F)) (sym s.1) is),
+              source_kept spec rules old new (positions_with_byte leaves (slice_index reps class) F) F i on (subst (λ x. IsSource spec rules old x F) (sym s.0) source),
+              subst (λ x. IsTarget new x (positions_with_byte leaves (slice_index reps c) F)) (sym g)
+                  (subst (λ x. IsTarget new t (positions_with_byte leaves (slice_index reps x) F)) (sym s.1) is),
             )
       ];
 }
@@ -233,7 +233,7 @@ more_sets spec rules xs set limit are is long fresh = record {
 }
 
 -- after a target was added
-pub reached_added : (spec : PlainSpec) (rules : List NumberedRule) (old new : List Positions) (set : List ℕ) → AreReachedSets spec rules old → GoesOn old new set →
+pub reached_added : (spec : PlainSpec) (rules : List NumberedRule) (old new : List Positions) (set : List ℕ) → AreReachedSets spec rules old → IsExtendedBy old new set →
     (set ≢ [] → IsReachedSet spec rules set) → (length new ≡ length old) ⊎ ((set ≢ []) × ((i : ℕ) → i < length old → set_of old i ≢ set)) → AreReachedSets spec rules new
 reached_added spec rules old new set are on is fresh = elim fresh [
   | inl same ↦ record {

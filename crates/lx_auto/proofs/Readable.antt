@@ -7,7 +7,7 @@ use Rattle.lx_auto.specs.Positions.{CanEnd, CanRead}
 use Rattle.lx_auto.specs.Marking.{flag}
 use Rattle.lx_auto.specs.Passing.{ended, read_list}
 use Rattle.lx_auto.proofs.Words.{and_true, or_true, or_left, or_right, in_first, in_follow}
-use Rattle.lx_auto.proofs.Passes.{end_of_cat, end_of_alt, read_in_cat, read_in_alt, read_in_plus}
+use Rattle.lx_auto.proofs.PassLaws.{end_of_cat, end_of_alt, read_in_cat, read_in_alt, read_in_plus}
 use Rattle.lx_auto.proofs.FlagLemmas.{flag_set_same, flag_set_other, length_set}
 
 both_true : (p q : Bool) → p ≡ true → q ≡ true → p && q ≡ true

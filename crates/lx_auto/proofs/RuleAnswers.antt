@@ -13,7 +13,7 @@ use Rattle.lx_spec.specs.Invariant.{are_definitions, are_ordered, IsWellFormed}
 use Rattle.lx_spec.specs.Nesting.{is_within, are_nested, expressions_of}
 use Rattle.lx_auto.specs.Unfolded.{Unfolded, position_count, ByteWord, byte_of_set}
 use Rattle.lx_auto.specs.Counts.{newline_count}
-use Rattle.lx_auto.specs.Trimmed.{trimmed_pattern}
+use Rattle.lx_auto.specs.Simplified.{simplified_pattern}
 use Rattle.lx_auto.specs.Starts.{IsActiveAt}
 use Rattle.lx_auto.specs.Meaning.{ReachesWhole, IsAnswer}
 use Rattle.lx_auto.specs.PositionSets.{NumberedRule, numbered}
@@ -21,7 +21,7 @@ use Rattle.lx_auto.specs.RuleReach.{WholeWithEnd, MatchesWhole}
 use Rattle.lx_auto.specs.SetSteps.{IsMatchedBy, IsSetOf}
 use Rattle.lx_auto.specs.Sets.{IsEarliestMatched}
 use Rattle.lx_auto.proofs.Appending.{and-left, and-right}
-use Rattle.lx_auto.proofs.KeptWords.{trimmed-words}
+use Rattle.lx_auto.proofs.KeptWords.{simplified-words}
 use Rattle.lx_auto.proofs.PatternWords.{AreOrdered, some-defined, pattern-words}
 use Rattle.lx_auto.proofs.Reached.{numbered_rules}
 use Rattle.lx_auto.proofs.SetStepped.{matched_by}
@@ -119,24 +119,24 @@ numbered_at f base (first ∷ plain) (suc i) rule h = numbered_at f (base + (pos
 
 module _ (spec : PlainSpec) (sound : HasSoundPatterns spec) where
   rules : List NumberedRule
-  rules = numbered (trimmed_pattern spec.definitions) 0 spec.rules
+  rules = numbered (simplified_pattern spec.definitions) 0 spec.rules
 
   -- what the pattern of a rule matches
-  rule_words : (i : ℕ) (r : NumberedRule) → slice_get (numbered (trimmed_pattern spec.definitions) 0 spec.rules) i ≡ Some r → (w : List ℕ) →
+  rule_words : (i : ℕ) (r : NumberedRule) → slice_get (numbered (simplified_pattern spec.definitions) 0 spec.rules) i ≡ Some r → (w : List ℕ) →
       Matches (SpecNames spec) r.rule.reading.tree w ↔ ByteWord r.tree r.base w
   unfolding SpecNames
   rule_words i r at w =
-      let plain = (numbered_rules spec (trimmed_pattern spec.definitions)).rule_of i r at in
+      let plain = (numbered_rules spec (simplified_pattern spec.definitions)).rule_of i r at in
       let whole = pattern-words spec.definitions r.rule.reading.tree sound.distinct sound.ordered (sound.bounds i r.rule plain) (sound.within i r.rule plain) r.base w in
-      let kept = trimmed-words byte_of_set spec.definitions r.rule.reading.tree r.base w in
-      let is = tree_at (trimmed_pattern spec.definitions) 0 spec.rules i r at in (
+      let kept = simplified-words byte_of_set spec.definitions r.rule.reading.tree r.base w in
+      let is = tree_at (simplified_pattern spec.definitions) 0 spec.rules i r at in (
         (λ h. subst (λ t. ByteWord t r.base w) (sym is) (kept.1 (whole.0 h))),
         (λ h. whole.1 (kept.0 (subst (λ t. ByteWord t r.base w) is h))),
       )
 
   module _ (c : ℕ) (begin : Bool) (w : List ℕ) where
     -- a rule that matches the text fits it
-    whole_fits : (i : ℕ) (r : NumberedRule) → slice_get (numbered (trimmed_pattern spec.definitions) 0 spec.rules) i ≡ Some r → (line_end : Bool) → r.rule.reading.line_end ≡ line_end →
+    whole_fits : (i : ℕ) (r : NumberedRule) → slice_get (numbered (simplified_pattern spec.definitions) 0 spec.rules) i ≡ Some r → (line_end : Bool) → r.rule.reading.line_end ≡ line_end →
         IsActiveAt spec r.rule c begin → WholeWithEnd line_end r w → (n : ℕ) × Fits spec r.rule c begin w n × (reach r.rule n ≡ length w)
     whole_fits i r at false is active h = (
       length w,
@@ -165,7 +165,7 @@ module _ (spec : PlainSpec) (sound : HasSoundPatterns spec) where
         )
 
     -- and one that fits it with such a reach matches it
-    fits_whole : (i : ℕ) (r : NumberedRule) → slice_get (numbered (trimmed_pattern spec.definitions) 0 spec.rules) i ≡ Some r → (line_end : Bool) → r.rule.reading.line_end ≡ line_end →
+    fits_whole : (i : ℕ) (r : NumberedRule) → slice_get (numbered (simplified_pattern spec.definitions) 0 spec.rules) i ≡ Some r → (line_end : Bool) → r.rule.reading.line_end ≡ line_end →
         (n : ℕ) → Fits spec r.rule c begin w n → reach r.rule n ≡ length w → WholeWithEnd line_end r w
     fits_whole i r at false is n h e =
         let long : n ≡ length w = sym (ap (λ (b : Bool). if b then n + 1 else n) is) ∙ e in (
@@ -180,7 +180,7 @@ module _ (spec : PlainSpec) (sound : HasSoundPatterns spec) where
           take_but_last w n 10 long (h.line_end is),
         )
 
-    reaches : (i : ℕ) (r : NumberedRule) → slice_get (numbered (trimmed_pattern spec.definitions) 0 spec.rules) i ≡ Some r →
+    reaches : (i : ℕ) (r : NumberedRule) → slice_get (numbered (simplified_pattern spec.definitions) 0 spec.rules) i ≡ Some r →
         ReachesWhole spec c begin w i ↔ (IsActiveAt spec r.rule c begin × MatchesWhole r w)
     reaches i r at = (
       (λ h.
@@ -194,19 +194,19 @@ module _ (spec : PlainSpec) (sound : HasSoundPatterns spec) where
     )
       where
         plain : slice_get spec.rules i ≡ Some r.rule
-        plain = (numbered_rules spec (trimmed_pattern spec.definitions)).rule_of i r at
+        plain = (numbered_rules spec (simplified_pattern spec.definitions)).rule_of i r at
 
     -- the rules with such a fit are those that the position set matches
-    reached_matched : (S : List ℕ) → IsSetOf spec (numbered (trimmed_pattern spec.definitions) 0 spec.rules) (record { condition = c; begin = begin; word = w }) S → (i : ℕ) →
-        ReachesWhole spec c begin w i ↔ IsMatchedBy (numbered (trimmed_pattern spec.definitions) 0 spec.rules) S i
+    reached_matched : (S : List ℕ) → IsSetOf spec (numbered (simplified_pattern spec.definitions) 0 spec.rules) (record { condition = c; begin = begin; word = w }) S → (i : ℕ) →
+        ReachesWhole spec c begin w i ↔ IsMatchedBy (numbered (simplified_pattern spec.definitions) 0 spec.rules) S i
     reached_matched S is i = (
       (λ h.
-          let r = numbered_at (trimmed_pattern spec.definitions) 0 spec.rules i h.rule h.at in
-          (matched_by spec (trimmed_pattern spec.definitions) 0 spec.rules c begin w S i r.0 is r.1).0 ((reaches i r.0 r.1).0 h)),
-      (λ h. (reaches i h.rule h.at).1 ((matched_by spec (trimmed_pattern spec.definitions) 0 spec.rules c begin w S i h.rule is h.at).1 h)),
+          let r = numbered_at (simplified_pattern spec.definitions) 0 spec.rules i h.rule h.at in
+          (matched_by spec (simplified_pattern spec.definitions) 0 spec.rules c begin w S i r.0 is r.1).0 ((reaches i r.0 r.1).0 h)),
+      (λ h. (reaches i h.rule h.at).1 ((matched_by spec (simplified_pattern spec.definitions) 0 spec.rules c begin w S i h.rule is h.at).1 h)),
     )
 
-    pub earliest_answer : (S : List ℕ) → IsSetOf spec (numbered (trimmed_pattern spec.definitions) 0 spec.rules) (record { condition = c; begin = begin; word = w }) S → (found : Option ℕ) →
-        IsEarliestMatched (numbered (trimmed_pattern spec.definitions) 0 spec.rules) S found → IsAnswer spec c begin w found
+    pub earliest_answer : (S : List ℕ) → IsSetOf spec (numbered (simplified_pattern spec.definitions) 0 spec.rules) (record { condition = c; begin = begin; word = w }) S → (found : Option ℕ) →
+        IsEarliestMatched (numbered (simplified_pattern spec.definitions) 0 spec.rules) S found → IsAnswer spec c begin w found
     earliest_answer S is None none = λ j h. none j ((reached_matched S is j).0 h)
     earliest_answer S is (Some i) first = ((reached_matched S is i).1 first.0, λ j less h. first.1 j less ((reached_matched S is j).0 h))

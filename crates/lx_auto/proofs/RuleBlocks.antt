@@ -8,18 +8,18 @@ use Rattle.lx_auto.specs.Nodes.{PlainNode, nodes_of}
 use Rattle.lx_auto.specs.NodeLeaves.{leaves_in}
 use Rattle.lx_auto.specs.NodeViews.{nodes_view}
 use Rattle.lx_auto.specs.Marking.{flag, nulls_from, ends_from, reads_from}
-use Rattle.lx_auto.specs.Passing.{IsSolid, IsTrim, ended, read_list}
-use Rattle.lx_auto.specs.Outlines.{Cutting, whole, cut_cat, cut_alt, cut_opt, cut_plus, tree_of, outline, blocks_of, positions_of, read_blocks}
+use Rattle.lx_auto.specs.Passing.{HasNoEmptyPart, IsSimplified, ended, read_list}
+use Rattle.lx_auto.specs.Outlines.{Chunking, one_block, chunked_cat, chunked_alt, chunked_opt, chunked_plus, tree_of, outline, blocks_of, positions_of, read_blocks}
 use Rattle.lx_auto.specs.Positions.{CanEnd}
 use Rattle.lx_auto.specs.PositionSets.{NumberedRule}
-use Rattle.lx_auto.specs.Pieces.{block_nodes, IsCutOf}
+use Rattle.lx_auto.specs.Chunks.{block_nodes, IsSplitOf}
 use Rattle.lx_auto.specs.Blocks.{AreBlocks, AreBlocksOver, HaveEnds, last_flag, leaf_total, IsClear}
 use Rattle.lx_auto.specs.RuleParts.{IsPartOf, IsPartOver, IsDivided, IsDividedBy, AreReadsOf}
 use Rattle.lx_auto.specs.declared.block.Block.{Block}
-use Rattle.lx_auto.specs.declared.piece.Outlined.{Outlined}
+use Rattle.lx_auto.specs.declared.chunk.Outlined.{Outlined}
 use Rattle.lx_auto.specs.declared.rule_part.RulePart.{RulePart}
-use Rattle.lx_auto.proofs.BlockRead.{have_ended, blocks_long, AreSolid, tree_total, over_trees}
-use Rattle.lx_auto.proofs.Outlined.{outline_solid, outline_count, outline_ended, outline_reads, blocks_count}
+use Rattle.lx_auto.proofs.BlockRead.{have_ended, blocks_long, HaveNoEmptyPart, tree_total, over_trees}
+use Rattle.lx_auto.proofs.Outlined.{outline_no_empty, outline_count, outline_ended, outline_reads, blocks_count}
 use Rattle.lx_auto.proofs.Readable.{ended_means, reads_length, reads_apart, reads_mean}
 use Rattle.lx_auto.proofs.RuleRead.{ended_at_last, reads_are}
 
@@ -40,7 +40,7 @@ module _ (part : RulePart) (r : NumberedRule) (marks flags ends : List Bool) (ow
     (have : HaveEnds marks part.blocks.items own (length part.blocks.items)) (tell : flags ≡ map last_flag own)
     (to : ends ≡ ends_from part.nulls.items flags 0 (nodes_view part.outline.items) []) where
   outline_ends : (d : IsDividedBy part r.tree r.base) →
-      ends ≡ ends_from (nulls_from (nodes_of (outline d.cutting)) []) flags 0 (nodes_of (outline d.cutting)) []
+      ends ≡ ends_from (nulls_from (nodes_of (outline d.chunking)) []) flags 0 (nodes_of (outline d.chunking)) []
   outline_ends d = to ∙ ap₂ (λ x y. ends_from x flags 0 y []) d.nulls d.outline
 
   same_ended : flag ends (length ends - 1) ≡ ended marks r.tree r.base
@@ -49,9 +49,9 @@ module _ (part : RulePart) (r : NumberedRule) (marks flags ends : List Bool) (ow
         let nil : ends ≡ [] = to ∙ ap (λ l. ends_from part.nulls.items flags 0 (nodes_view l) []) none.1 in
         ap (λ l. flag l (length l - 1)) nil ∙ sym (ap (λ e. ended marks e r.base) none.0)
     | inr d ↦
-        ended_at_last flags (outline d.cutting) 0 ends (inr (outline_solid d.cutting)) (outline_ends d)
-        ∙ outline_ended marks flags d.cutting 0 r.base (have_ended marks flags part.blocks.items own (blocks_of d.cutting) r.base d.blocks have tell)
-        ∙ d.alike.ends marks r.base
+        ended_at_last flags (outline d.chunking) 0 ends (inr (outline_no_empty d.chunking)) (outline_ends d)
+        ∙ outline_ended marks flags d.chunking 0 r.base (have_ended marks flags part.blocks.items own (blocks_of d.chunking) r.base d.blocks have tell)
+        ∙ d.equivalent.ends marks r.base
   ]
 
   pub rule_ended : (flag ends (length ends - 1) ≡ true) ↔ CanEnd (λ p. flag marks p ≡ true) r.tree r.base
@@ -70,64 +70,64 @@ module _ (part : RulePart) (r : NumberedRule) (marks flags ends : List Bool) (ow
             reads_of r marks old new f
             (set [] r.base (subst (λ l. AreBlocks l [] r.base) (sym none.2) tt) bare ∙ sym (ap (λ e. read_list marks e f r.base old) none.0)) (omega arith)
         | inr d ↦
-            let c = d.cutting in
+            let c = d.chunking in
             let out = outline c in
             let blocks = blocks_long part.blocks.items (blocks_of c) r.base d.blocks in
             let positions = outline_count c in
-            let size = blocks_count c ∙ d.alike.count in
+            let size = blocks_count c ∙ d.equivalent.count in
             let bare : IsClear old r.base (r.base + positions_of (blocks_of c)) = record { each = λ q low high. clear.each q (omega arith) (omega arith) } in
             let end : length part.blocks.items ≡ 0 + position_count out = omega arith in
-            let told : entered ≡ read_list flags out f 0 first =
+            let entered_is : entered ≡ read_list flags out f 0 first =
             enter ∙ ap₂ (λ x y. reads_from x ends (reverse y) (f ∷ []) (length part.blocks.items) first) d.nulls d.outline
             ∙ ap (λ n. reads_from (nulls_from (nodes_of out) []) ends (reverse (nodes_of out)) (f ∷ []) n first) end
-            ∙ reads_are flags out 0 ends first f (inr (outline_solid c)) (outline_ends d) in
+            ∙ reads_are flags out 0 ends first f (inr (outline_no_empty c)) (outline_ends d) in
             reads_of r marks old new f
             (set (blocks_of c) r.base d.blocks bare
             ∙ sym (outline_reads marks flags entered c f r.base first old
-            (have_ended marks flags part.blocks.items own (blocks_of c) r.base d.blocks have tell) (omega arith) told)
-            ∙ d.alike.reads marks f r.base old) (omega arith)
+            (have_ended marks flags part.blocks.items own (blocks_of c) r.base d.blocks have tell) (omega arith) entered_is)
+            ∙ d.equivalent.reads marks f r.base old) (omega arith)
       ]
 
 -- a rule that is made of nodes
-solid_joined : (xs ys : List Unfolded) → AreSolid xs → AreSolid ys → AreSolid (xs ++ ys)
-solid_joined [] ys h g = g
-solid_joined (x ∷ xs) ys h g = (h.0, solid_joined xs ys h.1 g)
+no_empty_joined : (xs ys : List Unfolded) → HaveNoEmptyPart xs → HaveNoEmptyPart ys → HaveNoEmptyPart (xs ++ ys)
+no_empty_joined [] ys h g = g
+no_empty_joined (x ∷ xs) ys h g = (h.0, no_empty_joined xs ys h.1 g)
 
-solid_blocks : (c : Cutting) → IsSolid (tree_of c) → AreSolid (blocks_of c)
-solid_blocks (whole s e) h = (h, tt)
-solid_blocks (cut_cat a b) h = solid_joined (blocks_of a) (blocks_of b) (solid_blocks a h.0) (solid_blocks b h.1)
-solid_blocks (cut_alt a b) h = solid_joined (blocks_of a) (blocks_of b) (solid_blocks a h.0) (solid_blocks b h.1)
-solid_blocks (cut_opt a) h = solid_blocks a h
-solid_blocks (cut_plus a) h = solid_blocks a h
+no_empty_blocks : (c : Chunking) → HasNoEmptyPart (tree_of c) → HaveNoEmptyPart (blocks_of c)
+no_empty_blocks (one_block s e) h = (h, tt)
+no_empty_blocks (chunked_cat a b) h = no_empty_joined (blocks_of a) (blocks_of b) (no_empty_blocks a h.0) (no_empty_blocks b h.1)
+no_empty_blocks (chunked_alt a b) h = no_empty_joined (blocks_of a) (blocks_of b) (no_empty_blocks a h.0) (no_empty_blocks b h.1)
+no_empty_blocks (chunked_opt a) h = no_empty_blocks a h
+no_empty_blocks (chunked_plus a) h = no_empty_blocks a h
 
 none_over : (blocks : List Block) (k : ℕ) → AreBlocksOver blocks [] k → blocks ≡ []
 none_over [] k are = refl
 none_over (b ∷ bs) k are = absurd are
 
-pub divided_of : (part : RulePart) (o : Outlined) (e : Unfolded) (k : ℕ) → IsCutOf o e → part.outline.items ≡ o.outline.items →
+pub divided_of : (part : RulePart) (o : Outlined) (e : Unfolded) (k : ℕ) → IsSplitOf o e → part.outline.items ≡ o.outline.items →
     part.nulls.items ≡ nulls_from (nodes_view o.outline.items) [] → AreBlocksOver part.blocks.items (block_nodes o.blocks.items) k → IsDivided part e k
 divided_of part o e k is out nulls blocks = elim is [
   | inl none ↦ inl (none.0, out ∙ none.1, none_over part.blocks.items k (subst (λ l. AreBlocksOver part.blocks.items (block_nodes l) k) none.2 blocks))
   | inr d ↦
-      let c = d.1.cutting in
-      let solid : IsSolid (tree_of c) = d.1.alike.solid d.0 in
+      let c = d.1.chunking in
+      let no_empty : HasNoEmptyPart (tree_of c) = d.1.equivalent.no_empty d.0 in
       inr (record {
-        cutting = c;
-        alike = d.1.alike;
+        chunking = c;
+        equivalent = d.1.equivalent;
         outline = ap nodes_view out ∙ d.1.outline;
         nulls = nulls ∙ ap (λ l. nulls_from l []) d.1.outline;
-        blocks = over_trees part.blocks.items (blocks_of c) k (solid_blocks c solid) (subst (λ l. AreBlocksOver part.blocks.items l k) d.1.blocks blocks);
+        blocks = over_trees part.blocks.items (blocks_of c) k (no_empty_blocks c no_empty) (subst (λ l. AreBlocksOver part.blocks.items l k) d.1.blocks blocks);
       })
 ]
 
-pub cut_total : (o : Outlined) (e : Unfolded) → IsCutOf o e → leaf_total (block_nodes o.blocks.items) ≡ position_count e
-cut_total o e is = elim is [
+pub split_total : (o : Outlined) (e : Unfolded) → IsSplitOf o e → leaf_total (block_nodes o.blocks.items) ≡ position_count e
+split_total o e is = elim is [
   | inl none ↦ ap (λ l. leaf_total (block_nodes l)) none.2 ∙ sym (ap position_count none.0)
-  | inr d ↦ ap leaf_total d.1.blocks ∙ tree_total (blocks_of d.1.cutting) ∙ blocks_count d.1.cutting ∙ d.1.alike.count
+  | inr d ↦ ap leaf_total d.1.blocks ∙ tree_total (blocks_of d.1.chunking) ∙ blocks_count d.1.chunking ∙ d.1.equivalent.count
 ]
 
 pub part_over : (part : RulePart) (o : Outlined) (over : List PlainNode) (first : ℕ) (line_end : Bool) → nodes_view part.nodes.items ≡ over →
-    ((e : Unfolded) → over ≡ nodes_of e → IsTrim e → IsCutOf o e) → part.outline.items ≡ o.outline.items →
+    ((e : Unfolded) → over ≡ nodes_of e → IsSimplified e → IsSplitOf o e) → part.outline.items ≡ o.outline.items →
     part.nulls.items ≡ nulls_from (nodes_view o.outline.items) [] → AreBlocksOver part.blocks.items (block_nodes o.blocks.items) first →
     part.base ≡ first → part.count ≡ length (leaves_in over) → part.line_end ≡ line_end → IsPartOver part over first line_end
 part_over part o over first line_end nodes is out nulls blocks base count end = record {

@@ -7,7 +7,7 @@ use Rattle.lx_auto.specs.PositionSets.{NumberedRule, newline_of, WordWithEnd, Ha
 use Rattle.lx_auto.specs.RuleReach.{RuleFollow, FinalWithEnd, IsFinal, IsReachedInRule, WholeWithEnd, MatchesWhole}
 use Rattle.lx_auto.proofs.Words.{in_first, in_last, in_follow, word_cons, cons_word, completes_cons, cons_completes, last_completes, completes_last}
 use Rattle.lx_auto.proofs.Prefixes.{reached_from_prefix, prefix_from_reached, leads_push, push_leads}
-use Rattle.lx_auto.proofs.Matched.{spelled, matched, spells_append, spells_split, spells_nil}
+use Rattle.lx_auto.proofs.SpelledWords.{spelled, matched, spells_append, spells_split, spells_nil}
 
 -- positions with bytes lie in the range of the expression
 pub in_bytes : (e : Unfolded) (k p b : ℕ) → HasByte e k p b → (k ≤ p) × (p < k + position_count e)

@@ -4,13 +4,13 @@ use Rattle.std.proofs.lemmas.Bool.{cases_eq}
 use Rattle.std.proofs.lemmas.Bool.Decides.{eqb_tells, nat_tests}
 use Rattle.std.proofs.lemmas.List.Elements.{All-head, All-tail, All-cons}
 use Rattle.lx_auto.specs.Automata.{Machine, IsMachine, HasByteClasses, state_after, accepted_at, are_numbered}
-use Rattle.lx_auto.specs.Words.{from_word}
+use Rattle.lx_auto.specs.EncodedOptions.{decoded_option}
 use Rattle.lx_auto.specs.Completion.{total, label_of, step_of, after, IsCompletion}
 use Rattle.lx_auto.specs.Simulations.{Simulates}
 use Rattle.lx_auto.specs.declared.complete.Complete.{Complete}
-use Rattle.lx_auto.proofs.Reading.{from_word-some}
+use Rattle.lx_auto.proofs.EncodedLists.{decoded_option-some}
 
--- the answer after a word from where a word of a table leads
+-- the answer after a word from where a step leads
 abbrev pub answer_at : Machine → Option ℕ → List ℕ → Option ℕ
 answer_at q s v = accepted_at q (state_after q s v)
 
@@ -21,8 +21,8 @@ answer_nowhere q v = refl
 abbrev pub classes_of : Machine → List ℕ → List ℕ
 classes_of q v = map (λ b. slice_index q.classes b) v
 
-module _ (q : Machine) (m : Complete) (word : ℕ → ℕ) (like : Simulates q m word) where
-  no_label_after : (v : List ℕ) (x : ℕ) → x < total m → word x ≡ 0 → All (λ b. b < 256) v → label_of m (after m x (classes_of q v)) ≡ 0
+module _ (q : Machine) (m : Complete) (encode : ℕ → ℕ) (like : Simulates q m encode) where
+  no_label_after : (v : List ℕ) (x : ℕ) → x < total m → encode x ≡ 0 → All (λ b. b < 256) v → label_of m (after m x (classes_of q v)) ≡ 0
   no_label_after [] x hx e all = like.no_label x hx e
   no_label_after (b ∷ v) x hx e all =
       let hc = like.classes b (All-head (λ b. b < 256) b v all) in
@@ -30,33 +30,33 @@ module _ (q : Machine) (m : Complete) (word : ℕ → ℕ) (like : Simulates q m
       (like.no_step x (slice_index q.classes b) hx hc e) (All-tail (λ b. b < 256) b v all)
 
   -- from a state without an answer nothing is answered
-  unanswered : (v : List ℕ) (x : ℕ) → x < total m → word x ≡ 0 → All (λ b. b < 256) v →
-      answer_at q (from_word (word x)) v ≡ from_word (label_of m (after m x (classes_of q v)))
+  unanswered : (v : List ℕ) (x : ℕ) → x < total m → encode x ≡ 0 → All (λ b. b < 256) v →
+      answer_at q (decoded_option (encode x)) v ≡ decoded_option (label_of m (after m x (classes_of q v)))
   unanswered v x hx e all = rw (no_label_after v x hx e all, e) refl
 
   pub answered : (v : List ℕ) (x : ℕ) → x < total m → All (λ b. b < 256) v →
-      answer_at q (from_word (word x)) v ≡ from_word (label_of m (after m x (classes_of q v)))
-  answered [] x hx all = elim (cases_eq (word x) 0) [
+      answer_at q (decoded_option (encode x)) v ≡ decoded_option (label_of m (after m x (classes_of q v)))
+  answered [] x hx all = elim (cases_eq (encode x) 0) [
     | inl e ↦ unanswered [] x hx e all
-    | inr ne ↦ rw (from_word-some (word x) ne) (like.labels x hx ne)
+    | inr ne ↦ rw (decoded_option-some (encode x) ne) (like.labels x hx ne)
   ]
-  answered (b ∷ v) x hx all = elim (cases_eq (word x) 0) [
+  answered (b ∷ v) x hx all = elim (cases_eq (encode x) 0) [
     | inl e ↦ unanswered (b ∷ v) x hx e all
     | inr ne ↦
         let hc = like.classes b (All-head (λ b. b < 256) b v all) in
-        ap (λ o. answer_at q o (b ∷ v)) (from_word-some (word x) ne) ∙ ap (λ o. answer_at q o v) (like.steps x (slice_index q.classes b) hx hc ne)
+        ap (λ o. answer_at q o (b ∷ v)) (decoded_option-some (encode x) ne) ∙ ap (λ o. answer_at q o v) (like.steps x (slice_index q.classes b) hx hc ne)
         ∙ answered v (step_of m x (slice_index q.classes b)) (like.closed x (slice_index q.classes b) hx hc) (All-tail (λ b. b < 256) b v all)
   ]
 
-pub from_word-same : (a b : ℕ) → from_word a ≡ from_word b → a ≡ b
-from_word-same a b e = elim (cases_eq a 0) [
+pub decoded_option-same : (a b : ℕ) → decoded_option a ≡ decoded_option b → a ≡ b
+decoded_option-same a b e = elim (cases_eq a 0) [
   | inl f ↦ elim (cases_eq b 0) [
     | inl g ↦ f ∙ sym g
-    | inr g ↦ let h : None ≡ Some (b - 1) = sym (ap from_word f) ∙ e ∙ from_word-some b g in cc
+    | inr g ↦ let h : None ≡ Some (b - 1) = sym (ap decoded_option f) ∙ e ∙ decoded_option-some b g in cc
   ]
   | inr f ↦ elim (cases_eq b 0) [
-    | inl g ↦ let h : Some (a - 1) ≡ None = sym (from_word-some a f) ∙ e ∙ ap from_word g in cc
-    | inr g ↦ let h : Some (a - 1) ≡ Some (b - 1) = sym (from_word-some a f) ∙ e ∙ from_word-some b g in
+    | inl g ↦ let h : Some (a - 1) ≡ None = sym (decoded_option-some a f) ∙ e ∙ ap decoded_option g in cc
+    | inr g ↦ let h : Some (a - 1) ≡ Some (b - 1) = sym (decoded_option-some a f) ∙ e ∙ decoded_option-some b g in
         let k : a - 1 ≡ b - 1 = cc in omega arith
   ]
 ]
@@ -73,10 +73,10 @@ simulates_itself a m is c =
       no_step = λ x class hx hc z. rw z (c.complete.stays class hc);
       labels = λ x hx ne.
           let i : x ≡ x - 1 + 1 = omega arith in
-          sym (c.labels (x - 1) (omega arith)) ∙ ap (λ y. from_word (label_of m y)) (sym i);
+          sym (c.labels (x - 1) (omega arith)) ∙ ap (λ y. decoded_option (label_of m y)) (sym i);
       steps = λ x class hx hc ne.
           let i : x ≡ x - 1 + 1 = omega arith in
-          sym (c.steps (x - 1) class (omega arith) (omega arith)) ∙ ap (λ y. from_word (step_of m y class)) (sym i);
+          sym (c.steps (x - 1) class (omega arith) (omega arith)) ∙ ap (λ y. decoded_option (step_of m y class)) (sym i);
     }
 
 -- each class is some byte's

@@ -8,7 +8,7 @@ use Rattle.lx_spec.specs.Plain.{PlainDefinition}
 use Rattle.lx_spec.specs.Nesting.{tree_named}
 use Rattle.lx_auto.specs.Unfolded.{Unfolded, empty, leaf, cat, alt, opt, plus, position_count, nullable}
 use Rattle.lx_auto.specs.Nodes.{PlainNode, cat_node, alt_node, opt_node, plus_node, nodes_of}
-use Rattle.lx_auto.specs.Trimmed.{opt_unless, opt_of, plus_of, cat_of, alt_of, trimmed_counted, trimmed_unbounded, trimmed_repeated, trimmed, trimmed_if_defined, trimmed_name, trimmed_pattern}
+use Rattle.lx_auto.specs.Simplified.{opt_unless, opt_of, plus_of, cat_of, alt_of, simplified_counted, simplified_unbounded, simplified_repeated, simplified, simplified_if_defined, simplified_name, simplified_pattern}
 use Rattle.lx_auto.specs.Parts.{is_repeated}
 
 pub unless : Bool → ℕ
@@ -143,37 +143,37 @@ small-plus (opt (plus a)) x = x
 small-plus (opt a) x = small-plus_at (opt a) (omega arith) x
 small-plus (plus a) x = x
 
-small-counted : (r : Unfolded) (low high : ℕ) → IsSmall r → IsSmall (trimmed_counted r low high)
+small-counted : (r : Unfolded) (low high : ℕ) → IsSmall r → IsSmall (simplified_counted r low high)
 small-counted r low zero x = small-empty
-small-counted r zero (suc high) x = small-opt (cat_of r (trimmed_counted r zero high)) (small-cat r (trimmed_counted r zero high) x (small-counted r zero high x))
-small-counted r (suc low) (suc high) x = small-cat r (trimmed_counted r low high) x (small-counted r low high x)
+small-counted r zero (suc high) x = small-opt (cat_of r (simplified_counted r zero high)) (small-cat r (simplified_counted r zero high) x (small-counted r zero high x))
+small-counted r (suc low) (suc high) x = small-cat r (simplified_counted r low high) x (small-counted r low high x)
 
-small-unbounded : (r : Unfolded) (n : ℕ) → IsSmall r → IsSmall (trimmed_unbounded r n)
+small-unbounded : (r : Unfolded) (n : ℕ) → IsSmall r → IsSmall (simplified_unbounded r n)
 small-unbounded r zero x = small-plus r x
-small-unbounded r (suc n) x = small-cat r (trimmed_unbounded r n) x (small-unbounded r n x)
+small-unbounded r (suc n) x = small-cat r (simplified_unbounded r n) x (small-unbounded r n x)
 
-small-repeated : (r : Unfolded) (low : ℕ) (high : Option ℕ) → IsSmall r → IsSmall (trimmed_repeated r low high)
+small-repeated : (r : Unfolded) (low : ℕ) (high : Option ℕ) → IsSmall r → IsSmall (simplified_repeated r low high)
 small-repeated r low (Some high) x = small-counted r low high x
 small-repeated r zero None x = small-opt (plus_of r) (small-plus r x)
 small-repeated r (suc low) None x = small-unbounded r low x
 
-small-trimmed : (names : List ℕ → Unfolded) → ((name : List ℕ) → IsSmall (names name)) → (tree : Regex) → IsSmall (trimmed names tree)
-small-trimmed names f nil = small-empty
-small-trimmed names f (one_of s) = small-leaf s
-small-trimmed names f (then a b) = small-cat (trimmed names a) (trimmed names b) (small-trimmed names f a) (small-trimmed names f b)
-small-trimmed names f (or a b) = small-alt (trimmed names a) (trimmed names b) (small-trimmed names f a) (small-trimmed names f b)
-small-trimmed names f (times body low high) = small-repeated (trimmed names body) low high (small-trimmed names f body)
-small-trimmed names f (named name) = f name
+small-simplified : (names : List ℕ → Unfolded) → ((name : List ℕ) → IsSmall (names name)) → (tree : Regex) → IsSmall (simplified names tree)
+small-simplified names f nil = small-empty
+small-simplified names f (one_of s) = small-leaf s
+small-simplified names f (then a b) = small-cat (simplified names a) (simplified names b) (small-simplified names f a) (small-simplified names f b)
+small-simplified names f (or a b) = small-alt (simplified names a) (simplified names b) (small-simplified names f a) (small-simplified names f b)
+small-simplified names f (times body low high) = small-repeated (simplified names body) low high (small-simplified names f body)
+small-simplified names f (named name) = f name
 
-small-if : (names : List ℕ → Unfolded) → ((name : List ℕ) → IsSmall (names name)) → (o : Option Regex) → IsSmall (trimmed_if_defined names o)
+small-if : (names : List ℕ → Unfolded) → ((name : List ℕ) → IsSmall (names name)) → (o : Option Regex) → IsSmall (simplified_if_defined names o)
 small-if names f None = small-empty
-small-if names f (Some tree) = small-trimmed names f tree
+small-if names f (Some tree) = small-simplified names f tree
 
-pub small-name : (definitions : List PlainDefinition) (n : ℕ) (name : List ℕ) → IsSmall (trimmed_name definitions n name)
+pub small-name : (definitions : List PlainDefinition) (n : ℕ) (name : List ℕ) → IsSmall (simplified_name definitions n name)
 small-name definitions zero name = small-empty
-small-name definitions (suc n) name = small-if (trimmed_name definitions n) (small-name definitions n) (tree_named definitions name)
+small-name definitions (suc n) name = small-if (simplified_name definitions n) (small-name definitions n) (tree_named definitions name)
 
 -- the nodes of a pattern are at most five times as many as its positions
-pub few_nodes : (definitions : List PlainDefinition) (tree : Regex) → length (nodes_of (trimmed_pattern definitions tree)) ≤ 5 * position_count (trimmed_pattern definitions tree)
-unfolding trimmed_pattern
-few_nodes definitions tree = let x = (small-trimmed (trimmed_name definitions 32) (small-name definitions 32) tree).few in omega arith
+pub few_nodes : (definitions : List PlainDefinition) (tree : Regex) → length (nodes_of (simplified_pattern definitions tree)) ≤ 5 * position_count (simplified_pattern definitions tree)
+unfolding simplified_pattern
+few_nodes definitions tree = let x = (small-simplified (simplified_name definitions 32) (small-name definitions 32) tree).few in omega arith

@@ -7,7 +7,7 @@ use Rattle.lx_auto.specs.Nodes.{PlainNode, nodes_of}
 use Rattle.lx_auto.specs.NodeLeaves.{leaves_in}
 use Rattle.lx_auto.specs.NodeViews.{nodes_view}
 use Rattle.lx_auto.specs.Marking.{flag, nulls_from}
-use Rattle.lx_auto.specs.Passing.{IsSolid, EndsAt, ended}
+use Rattle.lx_auto.specs.Passing.{HasNoEmptyPart, EndsAt, ended}
 use Rattle.lx_auto.specs.declared.block.Block.{Block}
 
 -- what is kept of a block with these nodes
@@ -33,7 +33,7 @@ pub record IsBlock (block : Block) (e : Unfolded) : Type 0 where
   pub nodes : nodes_view block.nodes.items ≡ nodes_of e
   pub nulls : block.nulls.items ≡ nulls_from (nodes_of e) []
   pub count : block.count ≡ position_count e
-  pub solid : IsSolid e
+  pub no_empty : HasNoEmptyPart e
 
 -- the blocks are those of expressions, one behind the other, whose positions are numbered from k on
 abbrev pub AreBlocks : List Block → List Unfolded → ℕ → Type 0

@@ -1,7 +1,7 @@
 -- Byte classes out of provisional ones, as far as they are numbered.
 use Rattle.std.specs.Prelude.{◌≡◌, ℕ, ◌+◌, ◌*◌, ◌<◌, ◌≤◌, IsTrue, List, length, slice_index}
 use Rattle.lx_auto.specs.Automata.{Machine, state_count, class_target, are_numbered}
-use Rattle.lx_auto.specs.Words.{from_word}
+use Rattle.lx_auto.specs.EncodedOptions.{decoded_option}
 
 -- every state steps alike on the two classes
 pub record HasSameColumns (m : Machine) (c d : ℕ) : Type 0 where
@@ -28,8 +28,8 @@ pub record IsNumberFor (m : Machine) (representatives : List ℕ) (class number 
   pub found : number < length representatives → HasSameColumns m (slice_index representatives number) class
   pub fresh : number ≡ length representatives → (j : ℕ) → j < length representatives → HasSameColumns m (slice_index representatives j) class → ⊥
 
--- the first n words of the rows over the representatives
-pub record AreRows (m : Machine) (representatives words : List ℕ) (n : ℕ) : Type 0 where
-  pub long : length words ≡ n
+-- the first n encoded targets of the rows over the representatives
+pub record AreRows (m : Machine) (representatives encoded : List ℕ) (n : ℕ) : Type 0 where
+  pub long : length encoded ≡ n
   pub each : (s j : ℕ) → j < length representatives → s * length representatives + j < n →
-      from_word (slice_index words (s * length representatives + j)) ≡ class_target m s (slice_index representatives j)
+      decoded_option (slice_index encoded (s * length representatives + j)) ≡ class_target m s (slice_index representatives j)

@@ -1,7 +1,7 @@
 -- An automaton in which no step is missing, over classes of bytes: state 0 stands for a missing step, s + 1 for the state s.
 use Rattle.std.specs.Prelude.{◌≡◌, ◌≢◌, ℕ, ◌+◌, ◌*◌, ◌<◌, ◌≤◌, List, [], ◌∷◌, length, slice_index, All}
 use Rattle.lx_auto.specs.Automata.{Machine, state_count, accepted_by, class_target}
-use Rattle.lx_auto.specs.Words.{from_word}
+use Rattle.lx_auto.specs.EncodedOptions.{decoded_option}
 use Rattle.lx_auto.specs.declared.complete.Complete.{Complete}
 
 abbrev pub total : Complete → ℕ
@@ -29,7 +29,7 @@ after m s [] = s
 after m s (c ∷ w) = after m (step_of m s c) w
 
 -- a word of classes after which the two have different labels
-pub record AreSeparate (m : Complete) (s t : ℕ) : Type 0 where
+pub record AreDistinguishableByClasses (m : Complete) (s t : ℕ) : Type 0 where
   pub word : List ℕ
   pub classes : All (λ c. c < m.width) word
   pub differ : label_of m (after m s word) ≢ label_of m (after m t word)
@@ -39,5 +39,5 @@ pub record IsCompletion (a : Machine) (m : Complete) : Type 0 where
   pub complete : IsComplete m
   pub width : m.width ≡ a.width
   pub states : total m ≡ state_count a + 1
-  pub labels : (s : ℕ) → s < state_count a → from_word (label_of m (s + 1)) ≡ accepted_by a s
-  pub steps : (s c : ℕ) → s < state_count a → c < a.width → from_word (step_of m (s + 1) c) ≡ class_target a s c
+  pub labels : (s : ℕ) → s < state_count a → decoded_option (label_of m (s + 1)) ≡ accepted_by a s
+  pub steps : (s c : ℕ) → s < state_count a → c < a.width → decoded_option (step_of m (s + 1) c) ≡ class_target a s c

@@ -1,7 +1,7 @@
 -- Copies of nodes.
 use Rattle.std.specs.Prelude.{ℕ, zero, suc, Bool, true, false, nat_eq, List, [], ◌++◌, Option, Some, None}
 use Rattle.lx_auto.specs.Unfolded.{Unfolded}
-use Rattle.lx_auto.specs.Trimmed.{cat_of, opt_of}
+use Rattle.lx_auto.specs.Simplified.{cat_of, opt_of}
 
 abbrev pub copies : {X : Type 0} → ℕ → List X → List X
 copies zero xs = []
@@ -12,7 +12,7 @@ abbrev pub is_no_copy : Option ℕ → Bool
 is_no_copy None = false
 is_no_copy (Some high) = nat_eq high 0
 
--- one and then the other, which may be left out together where they aren't owed
+-- one and then the other, which may be left out together where they aren't required
 abbrev pub joined_as : Bool → Unfolded → Unfolded → Unfolded
 joined_as true a b = cat_of a b
 joined_as false a b = opt_of (cat_of a b)

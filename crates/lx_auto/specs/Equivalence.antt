@@ -3,7 +3,7 @@ use Rattle.std.specs.Prelude.{◌≡◌, ◌≢◌, ℕ, ◌<◌, Bool, List, le
 use Rattle.lx_auto.specs.Automata.{Machine, state_count, target_of, answer_from, answer}
 
 -- a word of bytes after which two states answer differently
-pub record AreTold (m : Machine) (s t : ℕ) : Type 0 where
+pub record AreDistinguishable (m : Machine) (s t : ℕ) : Type 0 where
   pub word : List ℕ
   pub bytes : All (λ b. b < 256) word
   pub differ : answer_from m s word ≢ answer_from m t word
@@ -15,12 +15,12 @@ pub record IsLive (m : Machine) (s : ℕ) : Type 0 where
   pub accepts : answer_from m s word ≢ None
 
 -- two automata answer alike in every condition, at the beginning of a line or elsewhere, after every word of bytes
-pub record AnswerAlike (m q : Machine) : Type 0 where
+pub record AreEquivalentMachines (m q : Machine) : Type 0 where
   pub answers : (c : ℕ) (begin : Bool) (w : List ℕ) → c < length m.starts → All (λ b. b < 256) w → answer q c begin w ≡ answer m c begin w
 
--- any two states are told apart
-pub record IsLeast (m : Machine) : Type 0 where
-  pub told : (s t : ℕ) → s < state_count m → t < state_count m → s ≢ t → AreTold m s t
+-- any two states are distinguishable
+pub record IsMinimal (m : Machine) : Type 0 where
+  pub distinguishable : (s t : ℕ) → s < state_count m → t < state_count m → s ≢ t → AreDistinguishable m s t
 
 -- each step leads to a live state
 pub record HasLiveSteps (m : Machine) : Type 0 where

@@ -10,8 +10,8 @@ use Rattle.lx_auto.specs.Leaves.{PlainLeaf, has_byte, AreLeavesOf}
 use Rattle.lx_auto.specs.SetTable.{Positions, set_of, IsTarget}
 
 -- those of the positions that have the byte
-abbrev pub having : List PlainLeaf → ℕ → List ℕ → List ℕ
-having leaves b F = filter (λ q. has_byte leaves q b) F
+abbrev pub positions_with_byte : List PlainLeaf → ℕ → List ℕ → List ℕ
+positions_with_byte leaves b F = filter (λ q. has_byte leaves q b) F
 
 -- a rising set that isn't empty, and that some word of bytes leads to from a start
 pub record IsReachedSet (spec : PlainSpec) (rules : List NumberedRule) (S : List ℕ) : Type 0 where
@@ -53,7 +53,7 @@ pub record HaveSteps (spec : PlainSpec) (rules : List NumberedRule) (leaves : Li
     (targets : List (Option ℕ)) (n : ℕ) : Type 0 where
   pub long : length targets ≡ n
   pub each : (i c : ℕ) → c < length representatives → i * length representatives + c < n →
-      (F : List ℕ) × IsSource spec rules sets i F × IsTarget sets (slice_index_or targets (i * length representatives + c) None) (having leaves (slice_index representatives c) F)
+      (F : List ℕ) × IsSource spec rules sets i F × IsTarget sets (slice_index_or targets (i * length representatives + c) None) (positions_with_byte leaves (slice_index representatives c) F)
 
 -- one more target: that of a set
 pub record AddsTarget (sets : List Positions) (old new : List (Option ℕ)) (set : List ℕ) : Type 0 where

@@ -31,4 +31,4 @@ pub record AreGroupsOf (leaves : List PlainLeaf) (classes representatives : List
   pub bytes : length classes ≡ 256
   pub below : (b : ℕ) → b < 256 → slice_index classes b < length representatives
   pub few : length representatives < 257
-  pub alike : (q b : ℕ) → b < 256 → has_byte leaves q b ≡ has_byte leaves q (slice_index representatives (slice_index classes b))
+  pub same : (q b : ℕ) → b < 256 → has_byte leaves q b ≡ has_byte leaves q (slice_index representatives (slice_index classes b))

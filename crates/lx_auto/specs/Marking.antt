@@ -60,13 +60,13 @@ abbrev pub other_flags : List Bool → List Bool
 other_flags [] = []
 other_flags (f ∷ stack) = stack
 
--- what a node that stands behind i others tells its children
-abbrev pub told_by : List Bool → List Bool → PlainNode → ℕ → Bool → List Bool → List Bool
-told_by nulls ends (leaf_node s) i f stack = stack
-told_by nulls ends (cat_node n) i f stack = ((f && flag nulls (left_of i n)) || flag ends (left_of i n)) ∷ f ∷ stack
-told_by nulls ends (alt_node n) i f stack = f ∷ f ∷ stack
-told_by nulls ends opt_node i f stack = f ∷ stack
-told_by nulls ends plus_node i f stack = (f || flag ends (i - 1)) ∷ stack
+-- puts on the stack whether the children of a node that stands behind i others may be entered
+abbrev pub entered_children : List Bool → List Bool → PlainNode → ℕ → Bool → List Bool → List Bool
+entered_children nulls ends (leaf_node s) i f stack = stack
+entered_children nulls ends (cat_node n) i f stack = ((f && flag nulls (left_of i n)) || flag ends (left_of i n)) ∷ f ∷ stack
+entered_children nulls ends (alt_node n) i f stack = f ∷ f ∷ stack
+entered_children nulls ends opt_node i f stack = f ∷ stack
+entered_children nulls ends plus_node i f stack = (f || flag ends (i - 1)) ∷ stack
 
 -- a leaf that may be entered can be read
 abbrev pub read_at : PlainNode → ℕ → Bool → List Bool → List Bool
@@ -80,5 +80,5 @@ read_at plus_node p f reads = reads
 abbrev pub reads_from : List Bool → List Bool → List PlainNode → List Bool → ℕ → List Bool → List Bool
 reads_from nulls ends [] stack p reads = reads
 reads_from nulls ends (node ∷ nodes) stack p reads =
-    reads_from nulls ends nodes (told_by nulls ends node (length nodes) (first_flag stack) (other_flags stack)) (before_node node p)
+    reads_from nulls ends nodes (entered_children nulls ends node (length nodes) (first_flag stack) (other_flags stack)) (before_node node p)
     (read_at node p (first_flag stack) reads)

@@ -1,45 +1,46 @@
--- An expression cut into blocks, whose outline has one position for each of them.
+-- An expression split into blocks, whose outline has one position for each of them.
 use Rattle.std.specs.Prelude.{◌≡◌, ℕ, suc, ◌+◌, Bool, true, false, List, [], ◌∷◌, ◌++◌}
 use Rattle.std.specs.FinSet as set
 use Rattle.std.specs.Ordering.{nat_cmp}
 use Rattle.lx_auto.specs.Unfolded.{Unfolded, leaf, cat, alt, opt, plus, position_count, nullable}
 use Rattle.lx_auto.specs.Marking.{flag}
-use Rattle.lx_auto.specs.Passing.{IsSolid, ended, read_list}
+use Rattle.lx_auto.specs.Passing.{HasNoEmptyPart, ended, read_list}
 
-pub data Cutting : Type 0 where
+-- a way to split an expression into blocks
+pub data Chunking : Type 0 where
   -- one block; the set is what stands in the outline, where it means nothing
-  whole : set.FinSet nat_cmp → Unfolded → Cutting
-  cut_cat : Cutting → Cutting → Cutting
-  cut_alt : Cutting → Cutting → Cutting
-  cut_opt : Cutting → Cutting
-  cut_plus : Cutting → Cutting
+  one_block : set.FinSet nat_cmp → Unfolded → Chunking
+  chunked_cat : Chunking → Chunking → Chunking
+  chunked_alt : Chunking → Chunking → Chunking
+  chunked_opt : Chunking → Chunking
+  chunked_plus : Chunking → Chunking
 
--- the expression that was cut
-abbrev pub tree_of : Cutting → Unfolded
-tree_of (whole s e) = e
-tree_of (cut_cat a b) = cat (tree_of a) (tree_of b)
-tree_of (cut_alt a b) = alt (tree_of a) (tree_of b)
-tree_of (cut_opt a) = opt (tree_of a)
-tree_of (cut_plus a) = plus (tree_of a)
+-- the expression that was split
+abbrev pub tree_of : Chunking → Unfolded
+tree_of (one_block s e) = e
+tree_of (chunked_cat a b) = cat (tree_of a) (tree_of b)
+tree_of (chunked_alt a b) = alt (tree_of a) (tree_of b)
+tree_of (chunked_opt a) = opt (tree_of a)
+tree_of (chunked_plus a) = plus (tree_of a)
 
 -- what stands for a block
 abbrev pub outline_of_block : set.FinSet nat_cmp → Bool → Unfolded
 outline_of_block s true = opt (leaf s)
 outline_of_block s false = leaf s
 
-abbrev pub outline : Cutting → Unfolded
-outline (whole s e) = outline_of_block s (nullable e)
-outline (cut_cat a b) = cat (outline a) (outline b)
-outline (cut_alt a b) = alt (outline a) (outline b)
-outline (cut_opt a) = opt (outline a)
-outline (cut_plus a) = plus (outline a)
+abbrev pub outline : Chunking → Unfolded
+outline (one_block s e) = outline_of_block s (nullable e)
+outline (chunked_cat a b) = cat (outline a) (outline b)
+outline (chunked_alt a b) = alt (outline a) (outline b)
+outline (chunked_opt a) = opt (outline a)
+outline (chunked_plus a) = plus (outline a)
 
-abbrev pub blocks_of : Cutting → List Unfolded
-blocks_of (whole s e) = e ∷ []
-blocks_of (cut_cat a b) = blocks_of a ++ blocks_of b
-blocks_of (cut_alt a b) = blocks_of a ++ blocks_of b
-blocks_of (cut_opt a) = blocks_of a
-blocks_of (cut_plus a) = blocks_of a
+abbrev pub blocks_of : Chunking → List Unfolded
+blocks_of (one_block s e) = e ∷ []
+blocks_of (chunked_cat a b) = blocks_of a ++ blocks_of b
+blocks_of (chunked_alt a b) = blocks_of a ++ blocks_of b
+blocks_of (chunked_opt a) = blocks_of a
+blocks_of (chunked_plus a) = blocks_of a
 
 -- how many positions the blocks have
 abbrev pub positions_of : List Unfolded → ℕ
@@ -57,9 +58,9 @@ read_blocks marks entered [] j k reads = reads
 read_blocks marks entered (e ∷ es) j k reads = read_list marks e (flag entered j) k (read_blocks marks entered es (suc j) (k + position_count e) reads)
 
 -- two expressions of which the same is found from any marked positions
-pub record AreAlike (d e : Unfolded) : Type 0 where
+pub record AreEquivalentExpressions (d e : Unfolded) : Type 0 where
   pub count : position_count d ≡ position_count e
   pub null : nullable d ≡ nullable e
   pub ends : (marks : List Bool) (p : ℕ) → ended marks d p ≡ ended marks e p
   pub reads : (marks : List Bool) (f : Bool) (p : ℕ) (old : List Bool) → read_list marks d f p old ≡ read_list marks e f p old
-  pub solid : IsSolid e → IsSolid d
+  pub no_empty : HasNoEmptyPart e → HasNoEmptyPart d

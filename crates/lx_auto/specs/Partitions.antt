@@ -1,6 +1,6 @@
 -- Divisions of the states into blocks that are only ever split where a word tells states apart.
 use Rattle.std.specs.Prelude.{◌≡◌, ◌≢◌, ℕ, ◌<◌, ◌≤◌, Bool, true, false, List, length, slice_index, slice_index_or}
-use Rattle.lx_auto.specs.Completion.{total, label_of, step_of, AreSeparate}
+use Rattle.lx_auto.specs.Completion.{total, label_of, step_of, AreDistinguishableByClasses}
 use Rattle.lx_auto.specs.declared.complete.Complete.{Complete}
 use Rattle.lx_auto.specs.declared.partition.Partition.{Partition}
 
@@ -22,7 +22,7 @@ pub record IsSound (m : Complete) (p : Partition) : Type 0 where
   pub member : (b : ℕ) → b < block_count p → member_of p b < total m
   pub within : (b : ℕ) → b < block_count p → block p (member_of p b) ≡ b
   pub first : block p 0 ≡ 0
-  pub told : (s t : ℕ) → s < total m → t < total m → block p s ≢ block p t → AreSeparate m s t
+  pub distinguishable : (s t : ℕ) → s < total m → t < total m → block p s ≢ block p t → AreDistinguishableByClasses m s t
   pub labels : (s t : ℕ) → s < total m → t < total m → block p s ≡ block p t → label_of m s ≡ label_of m t
 
 -- s and its representative step to the same blocks, on the classes below n
@@ -52,7 +52,7 @@ flag inside s = slice_index_or inside s false
 -- a set such that a word tells each of its states from each state outside
 pub record IsSplitter (m : Complete) (inside : List Bool) : Type 0 where
   pub long : length inside ≡ total m
-  pub told : (s t : ℕ) → s < total m → t < total m → flag inside s ≢ flag inside t → AreSeparate m s t
+  pub distinguishable : (s t : ℕ) → s < total m → t < total m → flag inside s ≢ flag inside t → AreDistinguishableByClasses m s t
 
 -- the flags of a block, of the states below n
 pub record AreFlags (blocks : List ℕ) (number n : ℕ) (flags : List Bool) : Type 0 where
@@ -60,29 +60,29 @@ pub record AreFlags (blocks : List ℕ) (number n : ℕ) (flags : List Bool) : T
   pub inside : (s : ℕ) → s < n → slice_index blocks s ≡ number → flag flags s ≡ true
   pub outside : (s : ℕ) → s < n → slice_index blocks s ≢ number → flag flags s ≡ false
 
--- a state of the block that steps into the set, or where wanted is false, out of it
-pub record IsMover (m : Complete) (blocks : List ℕ) (inside : List Bool) (from class : ℕ) (wanted : Bool) (s : ℕ) : Type 0 where
+-- a state that is moved out of the block: it steps into the set, or where wanted is false, out of it
+pub record IsMoved (m : Complete) (blocks : List ℕ) (inside : List Bool) (from class : ℕ) (wanted : Bool) (s : ℕ) : Type 0 where
   pub within : slice_index blocks s ≡ from
-  pub lands : flag inside (step_of m s class) ≡ wanted
+  pub target : flag inside (step_of m s class) ≡ wanted
 
--- a state of the block that isn't a mover
-pub record IsStayer (m : Complete) (blocks : List ℕ) (inside : List Bool) (from class : ℕ) (wanted : Bool) (s : ℕ) : Type 0 where
+-- a state of the block that isn't moved, and so remains in it
+pub record IsRemaining (m : Complete) (blocks : List ℕ) (inside : List Bool) (from class : ℕ) (wanted : Bool) (s : ℕ) : Type 0 where
   pub within : slice_index blocks s ≡ from
-  pub lands : flag inside (step_of m s class) ≢ wanted
+  pub target : flag inside (step_of m s class) ≢ wanted
 
--- the list has exactly the movers below n
-pub record AreMovers (m : Complete) (blocks : List ℕ) (inside : List Bool) (from class : ℕ) (wanted : Bool) (n : ℕ) (movers : List ℕ) : Type 0 where
-  pub below : (j : ℕ) → j < length movers → slice_index movers j < n
-  pub each : (j : ℕ) → j < length movers → IsMover m blocks inside from class wanted (slice_index movers j)
-  pub all : (s : ℕ) → s < n → IsMover m blocks inside from class wanted s → (j : ℕ) × (j < length movers) × (slice_index movers j ≡ s)
+-- the list has exactly the moved states below n
+pub record AreMovedStates (m : Complete) (blocks : List ℕ) (inside : List Bool) (from class : ℕ) (wanted : Bool) (n : ℕ) (moved_states : List ℕ) : Type 0 where
+  pub below : (j : ℕ) → j < length moved_states → slice_index moved_states j < n
+  pub each : (j : ℕ) → j < length moved_states → IsMoved m blocks inside from class wanted (slice_index moved_states j)
+  pub all : (s : ℕ) → s < n → IsMoved m blocks inside from class wanted s → (j : ℕ) × (j < length moved_states) × (slice_index moved_states j ≡ s)
 
 -- the first n states of the list have the fresh number, the others what they had
-pub record AreRenumbered (old new movers : List ℕ) (fresh n : ℕ) : Type 0 where
+pub record AreRenumbered (old new moved_states : List ℕ) (fresh n : ℕ) : Type 0 where
   pub long : length new ≡ length old
-  pub moved : (j : ℕ) → j < n → slice_index new (slice_index movers j) ≡ fresh
-  pub other : (s : ℕ) → ((j : ℕ) → j < n → slice_index movers j ≢ s) → slice_index new s ≡ slice_index old s
+  pub moved : (j : ℕ) → j < n → slice_index new (slice_index moved_states j) ≡ fresh
+  pub other : (s : ℕ) → ((j : ℕ) → j < n → slice_index moved_states j ≢ s) → slice_index new s ≡ slice_index old s
 
 -- all states of the block step into the set, or all step out of it
-pub record LandAlike (m : Complete) (blocks : List ℕ) (inside : List Bool) (from class : ℕ) : Type 0 where
-  pub alike : (s t : ℕ) → s < total m → t < total m → slice_index blocks s ≡ from → slice_index blocks t ≡ from →
+pub record IsStableBlock (m : Complete) (blocks : List ℕ) (inside : List Bool) (from class : ℕ) : Type 0 where
+  pub stable : (s t : ℕ) → s < total m → t < total m → slice_index blocks s ≡ from → slice_index blocks t ≡ from →
       flag inside (step_of m s class) ≡ flag inside (step_of m t class)

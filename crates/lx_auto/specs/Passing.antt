@@ -5,13 +5,13 @@ use Rattle.lx_auto.specs.Nodes.{nodes_of}
 use Rattle.lx_auto.specs.Marking.{flag}
 
 -- no part of the expression is without nodes
-abbrev pub IsSolid : Unfolded → Type 0
-IsSolid empty = ⊥
-IsSolid (leaf s) = Unit {0}
-IsSolid (cat a b) = IsSolid a × IsSolid b
-IsSolid (alt a b) = IsSolid a × IsSolid b
-IsSolid (opt a) = IsSolid a
-IsSolid (plus a) = IsSolid a
+abbrev pub HasNoEmptyPart : Unfolded → Type 0
+HasNoEmptyPart empty = ⊥
+HasNoEmptyPart (leaf s) = Unit {0}
+HasNoEmptyPart (cat a b) = HasNoEmptyPart a × HasNoEmptyPart b
+HasNoEmptyPart (alt a b) = HasNoEmptyPart a × HasNoEmptyPart b
+HasNoEmptyPart (opt a) = HasNoEmptyPart a
+HasNoEmptyPart (plus a) = HasNoEmptyPart a
 
 abbrev pub node_count : Unfolded → ℕ
 node_count e = length (nodes_of e)
@@ -73,6 +73,6 @@ read_list marks (alt a b) f p reads = read_list marks a f p (read_list marks b f
 read_list marks (opt a) f p reads = read_list marks a f p reads
 read_list marks (plus a) f p reads = read_list marks a (f || ended marks a p) p reads
 
--- the expression is empty, or solid
-abbrev pub IsTrim : Unfolded → Type 0
-IsTrim e = (e ≡ empty) ⊎ IsSolid e
+-- the expression is empty, or no part of it is
+abbrev pub IsSimplified : Unfolded → Type 0
+IsSimplified e = (e ≡ empty) ⊎ HasNoEmptyPart e

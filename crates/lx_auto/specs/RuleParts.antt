@@ -5,20 +5,20 @@ use Rattle.lx_auto.specs.Nodes.{PlainNode, nodes_of}
 use Rattle.lx_auto.specs.NodeViews.{nodes_view}
 use Rattle.lx_auto.specs.NodeLeaves.{leaves_in}
 use Rattle.lx_auto.specs.Marking.{flag, nulls_from}
-use Rattle.lx_auto.specs.Passing.{IsTrim}
+use Rattle.lx_auto.specs.Passing.{IsSimplified}
 use Rattle.lx_auto.specs.Positions.{CanRead}
 use Rattle.lx_auto.specs.Blocks.{AreBlocks}
-use Rattle.lx_auto.specs.Outlines as cut
+use Rattle.lx_auto.specs.Outlines as outlines
 use Rattle.lx_auto.specs.PositionSets.{NumberedRule, size_of}
 use Rattle.lx_auto.specs.declared.rule_part.RulePart.{RulePart}
 
--- the outline and the blocks are those of a way to cut an expression alike to this one
+-- the outline and the blocks are those of a way to split an expression into blocks that is equivalent to this one
 pub record IsDividedBy (part : RulePart) (e : Unfolded) (k : ℕ) : Type 0 where
-  pub cutting : cut.Cutting
-  pub alike : cut.AreAlike (cut.tree_of cutting) e
-  pub outline : nodes_view part.outline.items ≡ nodes_of (cut.outline cutting)
-  pub nulls : part.nulls.items ≡ nulls_from (nodes_of (cut.outline cutting)) []
-  pub blocks : AreBlocks part.blocks.items (cut.blocks_of cutting) k
+  pub chunking : outlines.Chunking
+  pub equivalent : outlines.AreEquivalentExpressions (outlines.tree_of chunking) e
+  pub outline : nodes_view part.outline.items ≡ nodes_of (outlines.outline chunking)
+  pub nulls : part.nulls.items ≡ nulls_from (nodes_of (outlines.outline chunking)) []
+  pub blocks : AreBlocks part.blocks.items (outlines.blocks_of chunking) k
 
 -- an expression without nodes has no block
 abbrev pub IsDivided : RulePart → Unfolded → ℕ → Type 0
@@ -30,7 +30,7 @@ pub record IsPartOf (part : RulePart) (r : NumberedRule) : Type 0 where
   pub base : part.base ≡ r.base
   pub count : part.count ≡ position_count r.tree
   pub line_end : part.line_end ≡ r.rule.reading.line_end
-  pub trim : IsTrim r.tree
+  pub simplified : IsSimplified r.tree
 
 -- the parts are those of the rules, one by one, and the positions of the rules are below the total
 pub record ArePartsOf (parts : List RulePart) (rules : List NumberedRule) (total : ℕ) : Type 0 where
@@ -48,7 +48,7 @@ pub record AreReadsOf (r : NumberedRule) (marks : List Bool) (entered : Bool) (o
 -- the part is made of these nodes
 pub record IsPartOver (part : RulePart) (over : List PlainNode) (first : ℕ) (ends : Bool) : Type 0 where
   pub nodes : nodes_view part.nodes.items ≡ over
-  pub divided : (e : Unfolded) → over ≡ nodes_of e → IsTrim e → IsDivided part e first
+  pub divided : (e : Unfolded) → over ≡ nodes_of e → IsSimplified e → IsDivided part e first
   pub base : part.base ≡ first
   pub count : part.count ≡ length (leaves_in over)
   pub line_end : part.line_end ≡ ends
@@ -57,4 +57,4 @@ pub record IsPartOver (part : RulePart) (over : List PlainNode) (first : ℕ) (e
 pub record AreNodes (nodes : List PlainNode) : Type 0 where
   pub tree : Unfolded
   pub of : nodes ≡ nodes_of tree
-  pub trim : IsTrim tree
+  pub simplified : IsSimplified tree

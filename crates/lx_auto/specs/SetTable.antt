@@ -36,7 +36,7 @@ IsTarget sets None set = set ≡ []
 IsTarget sets (Some j) set = (set ≢ []) × (j < length sets) × (set_of sets j ≡ set)
 
 -- the later list goes on from the earlier one, with at most this set
-pub record GoesOn (old new : List Positions) (set : List ℕ) : Type 0 where
+pub record IsExtendedBy (old new : List Positions) (set : List ℕ) : Type 0 where
   pub more : length old ≤ length new
   pub at_most : length new ≤ length old + 1
   pub kept : (i : ℕ) → i < length old → set_of new i ≡ set_of old i

@@ -6,18 +6,18 @@ use Rattle.lx_spec.specs.Plain.{PlainDefinition}
 use Rattle.lx_spec.specs.views.Rules.{definition_view}
 use Rattle.lx_spec.specs.declared.definition.Definition.{Definition}
 use Rattle.lx_auto.specs.Nodes.{PlainNode}
-use Rattle.lx_auto.specs.Trimmed.{trimmed, trimmed_if_defined, trimmed_name}
+use Rattle.lx_auto.specs.Simplified.{simplified, simplified_if_defined, simplified_name}
 use Rattle.lx_auto.specs.NodeViews.{nodes_view, Appends}
 use Rattle.lx_auto.specs.declared.fragment.Fragment.{Fragment}
 use Rattle.lx_auto.specs.declared.part.Part.{Part}
 
 -- the nodes of the expression are appended, at each depth at which its names are defined
 pub record Unfolds (definitions : List PlainDefinition) (depth : ℕ) (tree : Regex) (old new : List PlainNode) (p : Part) : Type 0 where
-  pub at : (m : ℕ) → m ≤ depth → IsTrue (is_within m definitions tree) → Appends (trimmed (trimmed_name definitions m) tree) old new p
+  pub at : (m : ℕ) → m ≤ depth → IsTrue (is_within m definitions tree) → Appends (simplified (simplified_name definitions m) tree) old new p
 
 -- the same of what a name stands for, which is one level less deep
 pub record UnfoldsName (definitions : List PlainDefinition) (depth : ℕ) (tree : Option Regex) (old new : List PlainNode) (p : Part) : Type 0 where
-  pub at : (m : ℕ) → suc m ≤ depth → IsTrue (holds_of (is_within m definitions) tree) → Appends (trimmed_if_defined (trimmed_name definitions m) tree) old new p
+  pub at : (m : ℕ) → suc m ≤ depth → IsTrue (holds_of (is_within m definitions) tree) → Appends (simplified_if_defined (simplified_name definitions m) tree) old new p
 
 -- each fragment has the nodes of its definition
 pub record AreFragments (definitions : List Definition) (fragments : List (Option Fragment)) : Type 0 where

@@ -2,7 +2,7 @@
 ghost use Rattle.std.specs.Prelude.{◌≡◌, ◌+◌, ◌<◌, ◌≤◌, ℕ, List, IfOk, OnOk, Bool, false, length, map};
 ghost use Rattle.lx_auto.specs.Blocks.{IsBlock, AreBlocks, HasEnds, HaveEnds, IsClear, last_flag};
 ghost use Rattle.lx_auto.specs.Marking as plain;
-ghost use Rattle.lx_auto.specs.Outlines as cut;
+ghost use Rattle.lx_auto.specs.Outlines as outlines;
 ghost use Rattle.lx_auto.specs.Passing.{read_list};
 ghost use Rattle.lx_auto.specs.Unfolded.{Unfolded};
 
@@ -88,7 +88,7 @@ pub(crate) fn read_blocks(
     reads: &mut Vec<bool>,
 ) -> Result<(), AllocError>
     requires { length ends.now ≡ length blocks.now }
-    ensures set { (marks : List Bool) (es : List Unfolded) (k : ℕ) → AreBlocks blocks.now es k → HaveEnds marks blocks.now ends.now (length blocks.now) → IsClear reads.old.items k (k + cut.positions_of es) → OnOk result (reads.new.items ≡ cut.read_blocks marks entered.now es 0 k reads.old.items) }
+    ensures set { (marks : List Bool) (es : List Unfolded) (k : ℕ) → AreBlocks blocks.now es k → HaveEnds marks blocks.now ends.now (length blocks.now) → IsClear reads.old.items k (k + outlines.positions_of es) → OnOk result (reads.new.items ≡ outlines.read_blocks marks entered.now es 0 k reads.old.items) }
     ensures long { OnOk result (length reads.new.items ≡ length reads.old.items) }
 {
     let mut rest = blocks.len();

@@ -3,7 +3,7 @@ ghost use Rattle.std.specs.Prelude.{◌≡◌, ◌+◌, ◌<◌, ◌^◌, length
 ghost use Rattle.lx_auto.specs.Blocks.{IsBlockOver, AreBlocksOver, leaf_total};
 ghost use Rattle.lx_auto.specs.NodeLeaves.{leaves_in};
 ghost use Rattle.lx_auto.specs.NodeViews.{nodes_view};
-ghost use Rattle.lx_auto.specs.Pieces.{block_nodes};
+ghost use Rattle.lx_auto.specs.Chunks.{block_nodes};
 
 use crate::block::Block;
 use crate::marking::{behind, nulls_of};

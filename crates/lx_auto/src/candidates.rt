@@ -3,7 +3,7 @@
 ghost use Rattle.std.specs.Prelude.{◌≡◌, ◌<◌, ◌≤◌, ℕ, true, IfOk, OnOk, Contains, length};
 ghost use Rattle.lx_auto.specs.Completion.{total, IsComplete};
 ghost use Rattle.lx_auto.specs.Partitions.{flag};
-ghost use Rattle.lx_auto.specs.Sources.{AddsBelow, AreAllListed, AreSourcesOf, AreStatesBelow, HaveAllThatLand};
+ghost use Rattle.lx_auto.specs.Sources.{AddsBelow, AreAllListed, AreSourcesOf, AreStatesBelow, ContainPreimage};
 
 use crate::complete::Complete;
 use crate::predecessors::Predecessors;
@@ -83,7 +83,7 @@ pub(crate) fn sources_into(
     requires listed { listed ≡ true → AreAllListed m.now predecessors.now }
     requires members { (s : ℕ) → s < total m.now → flag inside.now s ≡ true → Contains members.now s }
     requires class { class < m.now.width }
-    ensures { IfOk result (λ states. HaveAllThatLand m.now inside.now class states.items) }
+    ensures { IfOk result (λ states. ContainPreimage m.now inside.now class states.items) }
 {
     if listed {
         return sources_of_all(alloc, m, predecessors, members, class);

@@ -1,9 +1,9 @@
 //! Byte classes: two bytes are of one class exactly where every state steps alike on both.
 
 ghost use Rattle.std.specs.Prelude.{◌≡◌, ◌<◌, ◌≤◌, ◌+◌, ◌*◌, ◌↔◌, ℕ, IsTrue, IfOk, OnOk, IfSome, IfNone, MatchOption, length, slice_index, vec_len};
-ghost use Rattle.lx_auto.specs.Automata.{IsMachine, HasByteClasses, StepsAlike, state_count};
+ghost use Rattle.lx_auto.specs.Automata.{IsMachine, HasByteClasses, HasSameSteps, state_count};
 ghost use Rattle.lx_auto.specs.Classing.{HasSameColumns, AreNumbersBelow, IsNumberFor, AreRows};
-ghost use Rattle.lx_auto.specs.Words.{machine_of};
+ghost use Rattle.lx_auto.specs.EncodedOptions.{machine_of};
 
 use crate::automaton::Automaton;
 use crate::draft::Draft;
@@ -12,14 +12,21 @@ use std::alloc::{AllocError, Global};
 // How many bytes there are.
 const BYTES: usize = 256;
 
-/// Whether one of these states tells the two classes apart.
-fn are_told(draft: &Draft, class: usize, other: usize, tellers: &[usize]) -> bool
+/// Whether one of these states steps differently on the two classes.
+fn are_distinguished(
+    draft: &Draft,
+    class: usize,
+    other: usize,
+    distinguishing_states: &[usize],
+) -> bool
     requires class { class < draft.now.width }
     requires other { other < draft.now.width }
     ensures { IsTrue result → HasSameColumns draft.now class other → ⊥ }
 {
-    for state in tellers {
-        if *state < draft.states() && draft.word(*state, class) != draft.word(*state, other) {
+    for state in distinguishing_states {
+        if *state < draft.states()
+            && draft.encoded_target(*state, class) != draft.encoded_target(*state, other)
+        {
             return true;
         }
     }
@@ -27,38 +34,38 @@ fn are_told(draft: &Draft, class: usize, other: usize, tellers: &[usize]) -> boo
 }
 
 /// The first state that steps differently on the two classes.
-fn first_teller(draft: &Draft, class: usize, other: usize) -> Option<usize>
+fn first_distinguishing_state(draft: &Draft, class: usize, other: usize) -> Option<usize>
     requires class { class < draft.now.width }
     requires other { other < draft.now.width }
     ensures { MatchOption result (HasSameColumns draft.now class other) (λ _. HasSameColumns draft.now class other → ⊥) }
 {
     for state in 0..draft.states() {
-        if draft.word(state, class) != draft.word(state, other) {
+        if draft.encoded_target(state, class) != draft.encoded_target(state, other) {
             return Some(state);
         }
     }
     None
 }
 
-/// Whether every state steps alike on the two classes. States that told classes apart are tried first; each one more of them splits
+/// Whether every state steps alike on the two classes. States that distinguish classes are tried first; each one more of them splits
 /// the classes further, so there are at most 255, and seldom are all states gone over.
 fn has_same_columns(
     draft: &Draft,
     class: usize,
     other: usize,
-    tellers: &mut Vec<usize>,
+    distinguishing_states: &mut Vec<usize>,
 ) -> Result<bool, AllocError>
     requires class { class < draft.now.width }
     requires other { other < draft.now.width }
     ensures { IfOk result (λ same. IsTrue same ↔ HasSameColumns draft.now class other) }
 {
-    if are_told(draft, class, other, tellers) {
+    if are_distinguished(draft, class, other, distinguishing_states) {
         return Ok(false);
     }
-    match first_teller(draft, class, other) {
+    match first_distinguishing_state(draft, class, other) {
         None => Ok(true),
         Some(state) => {
-            tellers.push(state)?;
+            distinguishing_states.push(state)?;
             Ok(false)
         }
     }
@@ -84,14 +91,19 @@ fn number_for(
     draft: &Draft,
     representatives: &[u8],
     class: usize,
-    tellers: &mut Vec<usize>,
+    distinguishing_states: &mut Vec<usize>,
 ) -> Result<usize, AllocError>
     requires class { class < draft.now.width }
     requires classes { (j : ℕ) → j < length representatives.now → slice_index representatives.now j < draft.now.width }
     ensures { IfOk result (IsNumberFor draft.now representatives.now class) }
 {
     for number in 0..representatives.len() {
-        if has_same_columns(draft, representatives[number] as usize, class, tellers)? {
+        if has_same_columns(
+            draft,
+            representatives[number] as usize,
+            class,
+            distinguishing_states,
+        )? {
             return Ok(number);
         }
     }
@@ -104,7 +116,7 @@ fn add_byte(
     byte: usize,
     numbers: &mut Vec<u8>,
     representatives: &mut Vec<u8>,
-    tellers: &mut Vec<usize>,
+    distinguishing_states: &mut Vec<usize>,
 ) -> Result<(), AllocError>
     requires byte { byte < 256 }
     requires numbers { AreNumbersBelow draft.now byte numbers.old.items representatives.old.items }
@@ -116,7 +128,7 @@ fn add_byte(
         return Ok(());
     }
     let class = draft.class(byte);
-    let number = number_for(draft, representatives, class, tellers)?;
+    let number = number_for(draft, representatives, class, distinguishing_states)?;
     numbers.push(number as u8)?;
     if number < representatives.len() {
         return Ok(());
@@ -130,16 +142,16 @@ fn add_row(
     draft: &Draft,
     representatives: &[u8],
     state: usize,
-    words: &mut Vec<u16>,
+    encoded: &mut Vec<u16>,
 ) -> Result<(), AllocError>
     requires state { state < state_count draft.now }
     requires classes { (j : ℕ) → j < length representatives.now → slice_index representatives.now j < draft.now.width }
-    requires rows { AreRows draft.now representatives.now words.old.items (state * length representatives.now) }
-    ensures { OnOk result (AreRows draft.now representatives.now words.new.items ((state + 1) * length representatives.now)) }
+    requires rows { AreRows draft.now representatives.now encoded.old.items (state * length representatives.now) }
+    ensures { OnOk result (AreRows draft.now representatives.now encoded.new.items ((state + 1) * length representatives.now)) }
 {
     for number in 0..representatives.len() {
-        let word = draft.word(state, representatives[number] as usize);
-        words.push(word)?;
+        let target = draft.encoded_target(state, representatives[number] as usize);
+        encoded.push(target)?;
     }
     Ok(())
 }
@@ -147,13 +159,13 @@ fn add_row(
 /// The rows of all states over the representatives.
 fn rows_over(alloc: Global, draft: &Draft, representatives: &[u8]) -> Result<Vec<u16>, AllocError>
     requires classes { (j : ℕ) → j < length representatives.now → slice_index representatives.now j < draft.now.width }
-    ensures { IfOk result (λ words. AreRows draft.now representatives.now words.items (state_count draft.now * length representatives.now)) }
+    ensures { IfOk result (λ encoded. AreRows draft.now representatives.now encoded.items (state_count draft.now * length representatives.now)) }
 {
-    let mut words = Vec::new(alloc);
+    let mut encoded = Vec::new(alloc);
     for state in 0..draft.states() {
-        add_row(draft, representatives, state, &mut words)?;
+        add_row(draft, representatives, state, &mut encoded)?;
     }
-    Ok(words)
+    Ok(encoded)
 }
 
 impl Automaton {
@@ -169,7 +181,7 @@ impl Automaton {
         requires { IsMachine (machine_of starts.items classes.items width accepted.items targets.items) }
         ensures machine { IfOk result (λ a. IsMachine a) }
         ensures classes { IfOk result (λ a. HasByteClasses a) }
-        ensures steps { IfOk result (λ a. StepsAlike (machine_of starts.items classes.items width accepted.items targets.items) a) }
+        ensures steps { IfOk result (λ a. HasSameSteps (machine_of starts.items classes.items width accepted.items targets.items) a) }
     {
         let draft = Draft::of(starts, classes, width, accepted, targets);
         with_byte_classes(alloc, &draft)
@@ -180,18 +192,18 @@ impl Automaton {
 pub(crate) fn with_byte_classes(alloc: Global, draft: &Draft) -> Result<Automaton, AllocError>
     ensures machine { IfOk result (λ a. IsMachine a) }
     ensures classes { IfOk result (λ a. HasByteClasses a) }
-    ensures steps { IfOk result (λ a. StepsAlike draft.now a) }
+    ensures steps { IfOk result (λ a. HasSameSteps draft.now a) }
 {
     let mut numbers = Vec::new(alloc);
     let mut representatives = Vec::new(alloc);
-    let mut tellers = Vec::new(alloc);
+    let mut distinguishing_states = Vec::new(alloc);
     for byte in 0..BYTES {
         add_byte(
             draft,
             byte,
             &mut numbers,
             &mut representatives,
-            &mut tellers,
+            &mut distinguishing_states,
         )?;
     }
     let targets = rows_over(alloc, draft, &representatives)?;

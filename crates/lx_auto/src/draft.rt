@@ -2,7 +2,7 @@
 
 ghost use Rattle.std.specs.Prelude.{◌≡◌, ◌<◌, ◌≤◌, slice_index};
 ghost use Rattle.lx_auto.specs.Automata.{Machine, IsMachine, state_count, class_target};
-ghost use Rattle.lx_auto.specs.Words.{machine_of, from_word};
+ghost use Rattle.lx_auto.specs.EncodedOptions.{machine_of, decoded_option};
 
 use std::marker::Model;
 
@@ -43,11 +43,11 @@ impl Draft {
         self.classes[byte] as usize
     }
 
-    /// Where a state steps on a class, as a word: 0, or one more than the target.
-    pub(crate) fn word(&self, state: usize, class: usize) -> u16
+    /// Where a state steps on a class, encoded: 0, or one more than the target.
+    pub(crate) fn encoded_target(&self, state: usize, class: usize) -> u16
         requires state { state < state_count self.now }
         requires class { class < self.now.width }
-        ensures { from_word result ≡ class_target self.now state class }
+        ensures { decoded_option result ≡ class_target self.now state class }
     {
         self.targets[state * self.width + class]
     }

@@ -4,7 +4,7 @@ ghost use Rattle.std.specs.Prelude.{◌≡◌, ◌+◌, ◌*◌, ◌<◌, ◌≤
 ghost use Rattle.std.specs.Option.{option_map};
 ghost use Rattle.lx_auto.specs.Automata.{Machine, IsMachine};
 ghost use Rattle.lx_auto.specs.Drafting.{AreAllBelow, AreStartStates, IsDrafted};
-ghost use Rattle.lx_auto.specs.Words.{from_word};
+ghost use Rattle.lx_auto.specs.EncodedOptions.{decoded_option};
 
 use crate::draft::Draft;
 use crate::explored::Explored;
@@ -24,10 +24,10 @@ fn start_states(alloc: Global, conditions: usize) -> Result<Vec<(u32, u32)>, All
     Ok(starts)
 }
 
-// The word of a rule.
-fn rule_word(rule: Option<usize>) -> u16
+// A rule, encoded: 0 for none, else one more than its number.
+fn encoded_rule(rule: Option<usize>) -> u16
     requires { IfSome rule (λ r. r < 4096) }
-    ensures { from_word result ≡ rule }
+    ensures { decoded_option result ≡ rule }
 {
     match rule {
         Some(rule) => rule as u16 + 1,
@@ -35,11 +35,11 @@ fn rule_word(rule: Option<usize>) -> u16
     }
 }
 
-// The word of the state of a set, behind so many starts.
-fn state_word(starts: usize, set: Option<usize>) -> u16
+// The state of a set, behind so many starts, encoded likewise.
+fn encoded_state(starts: usize, set: Option<usize>) -> u16
     requires starts { starts ≤ 128 }
     requires set { IfSome set (λ j. j < 16384) }
-    ensures { from_word result ≡ option_map (λ j. starts + j) set }
+    ensures { decoded_option result ≡ option_map (λ j. starts + j) set }
 {
     match set {
         Some(set) => (starts + set) as u16 + 1,
@@ -47,37 +47,37 @@ fn state_word(starts: usize, set: Option<usize>) -> u16
     }
 }
 
-// The words of what the states accept: nothing at the starts, and the rules that the sets match.
-fn accepted_words(
+// What the states accept, encoded: nothing at the starts, and the rules that the sets match.
+fn encoded_accepted(
     alloc: Global,
     starts: usize,
     matched: &[Option<usize>],
 ) -> Result<Vec<u16>, AllocError>
     requires { AreAllBelow matched.now 4096 }
-    ensures { IfOk result (λ words. map from_word words.items ≡ replicate starts None ++ matched.now) }
+    ensures { IfOk result (λ encoded. map decoded_option encoded.items ≡ replicate starts None ++ matched.now) }
 {
-    let mut words = vec![in alloc; 0u16; starts]?;
+    let mut encoded = vec![in alloc; 0u16; starts]?;
     for rule in matched {
-        words.push(rule_word(*rule))?;
+        encoded.push(encoded_rule(*rule))?;
     }
-    Ok(words)
+    Ok(encoded)
 }
 
-// The words of the targets of all states.
-fn target_words(
+// The targets of all states, encoded.
+fn encoded_targets(
     alloc: Global,
     starts: usize,
     targets: &[Option<usize>],
 ) -> Result<Vec<u16>, AllocError>
     requires starts { starts ≤ 128 }
     requires sets { AreAllBelow targets.now 16384 }
-    ensures { IfOk result (λ words. map from_word words.items ≡ map (option_map (λ j. starts + j)) targets.now) }
+    ensures { IfOk result (λ encoded. map decoded_option encoded.items ≡ map (option_map (λ j. starts + j)) targets.now) }
 {
-    let mut words = Vec::with_capacity(alloc, targets.len())?;
+    let mut encoded = Vec::with_capacity(alloc, targets.len())?;
     for set in targets {
-        words.push(state_word(starts, *set))?;
+        encoded.push(encoded_state(starts, *set))?;
     }
-    Ok(words)
+    Ok(encoded)
 }
 
 /// The draft over what was explored.
@@ -95,8 +95,8 @@ pub(crate) fn draft_of(
 {
     let starts = start_states(alloc, conditions)?;
     let classes = Vec::from_slice(alloc, &groups.classes)?;
-    let accepted = accepted_words(alloc, 2 * conditions, &explored.matched)?;
-    let targets = target_words(alloc, 2 * conditions, &explored.targets)?;
+    let accepted = encoded_accepted(alloc, 2 * conditions, &explored.matched)?;
+    let targets = encoded_targets(alloc, 2 * conditions, &explored.targets)?;
     let width = groups.representatives.len();
     Ok(Draft::of(starts, classes, width, accepted, targets))
 }

@@ -9,7 +9,7 @@ ghost use Rattle.lx_auto.specs.Unfolded.{Unfolded};
 ghost use Rattle.lx_auto.specs.Leaves as plain_leaves;
 ghost use Rattle.lx_auto.specs.LeafViews.{leaves_view};
 ghost use Rattle.lx_auto.specs.PositionSets.{numbered};
-ghost use Rattle.lx_auto.specs.SetTable.{GoesOn, IsNumbering, IsTarget, set_of};
+ghost use Rattle.lx_auto.specs.SetTable.{IsExtendedBy, IsNumbering, IsTarget, set_of};
 ghost use Rattle.lx_auto.specs.Exploring as plain;
 ghost use Rattle.lx_auto.specs.Exploring.{AddsTarget, AreReachedSets, HasMoreSets, HaveSteps, IsExplored, IsRowOf, start_count, start_number};
 
@@ -18,8 +18,8 @@ use crate::explored::Explored;
 use crate::fault::BuildFault;
 use crate::follow::{begin, follow};
 use crate::leaf::{Leaf, has};
-use crate::numbering::{empty_table, number_of};
 use crate::position_table::PositionTable;
+use crate::set_numbering::{empty_table, number_of};
 use crate::set_table::{PositionSet, SetTable};
 use lx_spec::spec::Spec;
 use smallvec::SmallVec;
@@ -36,8 +36,13 @@ fn has_byte(leaves: &[Leaf], position: u16, byte: u8) -> bool
 }
 
 // Those of the positions that have the byte.
-fn having(alloc: Global, leaves: &[Leaf], byte: u8, from: &[u16]) -> Result<PositionSet, AllocError>
-    ensures { IfOk result (λ set. set.items ≡ plain.having (leaves_view leaves.now) byte from.now) }
+fn positions_with_byte(
+    alloc: Global,
+    leaves: &[Leaf],
+    byte: u8,
+    from: &[u16],
+) -> Result<PositionSet, AllocError>
+    ensures { IfOk result (λ set. set.items ≡ plain.positions_with_byte (leaves_view leaves.now) byte from.now) }
 {
     let mut set = SmallVec::new(alloc);
     for position in from {
@@ -62,13 +67,13 @@ fn add_target(
     requires room { length table.old.sets.items ≤ limit }
     ensures numbering { OnOk result (IsNumbering table.new.sets.items table.new.numbers) }
     ensures room { OnOk result (length table.new.sets.items ≤ limit) }
-    ensures goes_on { OnOk result (GoesOn table.old.sets.items table.new.sets.items (plain.having (leaves_view leaves.now) byte from.now)) }
-    ensures fresh { OnOk result (length table.new.sets.items ≡ length table.old.sets.items ⊎ (plain.having (leaves_view leaves.now) byte from.now ≢ []) × ((i : ℕ) → i < length table.old.sets.items → set_of table.old.sets.items i ≢ plain.having (leaves_view leaves.now) byte from.now)) }
-    ensures target { OnOk result (AddsTarget table.new.sets.items targets.old.items targets.new.items (plain.having (leaves_view leaves.now) byte from.now)) }
-    ensures many { IfErr result (λ e. e ≡ BuildFault.TooManySets → (length table.old.sets.items ≡ limit) × (plain.having (leaves_view leaves.now) byte from.now ≢ []) × ((i : ℕ) → i < length table.old.sets.items → set_of table.old.sets.items i ≢ plain.having (leaves_view leaves.now) byte from.now)) }
+    ensures extended_by { OnOk result (IsExtendedBy table.old.sets.items table.new.sets.items (plain.positions_with_byte (leaves_view leaves.now) byte from.now)) }
+    ensures fresh { OnOk result (length table.new.sets.items ≡ length table.old.sets.items ⊎ (plain.positions_with_byte (leaves_view leaves.now) byte from.now ≢ []) × ((i : ℕ) → i < length table.old.sets.items → set_of table.old.sets.items i ≢ plain.positions_with_byte (leaves_view leaves.now) byte from.now)) }
+    ensures target { OnOk result (AddsTarget table.new.sets.items targets.old.items targets.new.items (plain.positions_with_byte (leaves_view leaves.now) byte from.now)) }
+    ensures many { IfErr result (λ e. e ≡ BuildFault.TooManySets → (length table.old.sets.items ≡ limit) × (plain.positions_with_byte (leaves_view leaves.now) byte from.now ≢ []) × ((i : ℕ) → i < length table.old.sets.items → set_of table.old.sets.items i ≢ plain.positions_with_byte (leaves_view leaves.now) byte from.now)) }
     ensures few { IfErr result (λ e. e ≢ BuildFault.TooManyPositions) }
 {
-    let Ok(set) = having(alloc, leaves, byte, from) else {
+    let Ok(set) = positions_with_byte(alloc, leaves, byte, from) else {
         return Err(BuildFault::Memory);
     };
     let target = target_of(alloc, table, set, limit)?;
@@ -89,7 +94,7 @@ fn target_of(
     requires room { length table.old.sets.items ≤ limit }
     ensures numbering { OnOk result (IsNumbering table.new.sets.items table.new.numbers) }
     ensures room { OnOk result (length table.new.sets.items ≤ limit) }
-    ensures goes_on { OnOk result (GoesOn table.old.sets.items table.new.sets.items set.items) }
+    ensures extended_by { OnOk result (IsExtendedBy table.old.sets.items table.new.sets.items set.items) }
     ensures fresh { OnOk result (length table.new.sets.items ≡ length table.old.sets.items ⊎ (set.items ≢ []) × ((i : ℕ) → i < length table.old.sets.items → set_of table.old.sets.items i ≢ set.items)) }
     ensures target { IfOk result (λ t. IsTarget table.new.sets.items t set.items) }
     ensures many { IfErr result (λ e. e ≡ BuildFault.TooManySets → (length table.old.sets.items ≡ limit) × (set.items ≢ []) × ((i : ℕ) → i < length table.old.sets.items → set_of table.old.sets.items i ≢ set.items)) }

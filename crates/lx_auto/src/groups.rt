@@ -2,7 +2,7 @@
 ghost use Rattle.std.specs.Prelude.{◌≡◌, ◌≤◌, ◌<◌, ◌+◌, ℕ, true, false, IfOk, OnOk, MatchOption, length, slice_index};
 ghost use Rattle.lx_auto.specs.Leaves.{PlainLeaf, AreGroupsOf};
 ghost use Rattle.lx_auto.specs.LeafViews.{leaf_view, leaves_view};
-ghost use Rattle.lx_auto.specs.Grouping.{representative_of, IsAlike, AreTogether, IsSplitBelow};
+ghost use Rattle.lx_auto.specs.Grouping.{representative_of, RespectsGroups, AreTogether, IsSplitBelow};
 
 use crate::leaf::{Leaf, has};
 use std::alloc::{AllocError, Global};
@@ -40,7 +40,7 @@ fn representative(groups: &Groups, byte: u8) -> u8
 
 // Whether the leaf tells a byte from the one that stands for it.
 fn splits(leaf: &Leaf, groups: &Groups) -> bool
-    ensures { result ≡ false → IsAlike (leaf_view leaf.now) groups.now.classes.items groups.now.representatives.items }
+    ensures { result ≡ false → RespectsGroups (leaf_view leaf.now) groups.now.classes.items groups.now.representatives.items }
 {
     for i in 0..256usize {
         let byte = i as u8;
@@ -60,7 +60,7 @@ fn are_together(leaf: &Leaf, groups: &Groups, first: u8, second: u8) -> bool
 }
 
 // The first of the new groups that the byte can go to.
-fn find_alike(leaf: &Leaf, groups: &Groups, representatives: &[u8], byte: u8) -> Option<usize>
+fn find_group(leaf: &Leaf, groups: &Groups, representatives: &[u8], byte: u8) -> Option<usize>
     ensures within { MatchOption result (Unit {0}) (λ class. class < length representatives.now) }
     ensures together { MatchOption result (Unit {0}) (λ class. AreTogether (leaf_view leaf.now) groups.now.classes.items (slice_index representatives.now class) byte) }
 {
@@ -86,7 +86,7 @@ fn place(
     ensures kept { OnOk result ((k : ℕ) → k < length representatives.old.items → slice_index representatives.new.items k ≡ slice_index representatives.old.items k) }
     ensures together { IfOk result (λ class. AreTogether (leaf_view leaf.now) groups.now.classes.items (slice_index representatives.new.items class) byte) }
 {
-    match find_alike(leaf, groups, representatives, byte) {
+    match find_group(leaf, groups, representatives, byte) {
         Some(class) => Ok(class),
         None => {
             let class = representatives.len();
@@ -114,8 +114,8 @@ fn split(alloc: Global, leaf: &Leaf, groups: &Groups) -> Result<Groups, AllocErr
 
 // The groups, split where the leaf tells bytes of one group apart.
 fn refine(alloc: Global, leaf: &Leaf, groups: Groups) -> Result<Groups, AllocError>
-    ensures own { IfOk result (λ new. IsAlike (leaf_view leaf.now) new.classes.items new.representatives.items) }
-    ensures others { (other : PlainLeaf) → IsAlike other groups.classes.items groups.representatives.items → IfOk result (λ new. IsAlike other new.classes.items new.representatives.items) }
+    ensures own { IfOk result (λ new. RespectsGroups (leaf_view leaf.now) new.classes.items new.representatives.items) }
+    ensures others { (other : PlainLeaf) → RespectsGroups other groups.classes.items groups.representatives.items → IfOk result (λ new. RespectsGroups other new.classes.items new.representatives.items) }
 {
     if splits(leaf, &groups) {
         let finer = split(alloc, leaf, &groups)?;

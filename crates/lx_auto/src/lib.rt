@@ -3,17 +3,17 @@
 #![tactic(auto)]
 
 mod active;
-mod arena;
 pub mod automaton;
 mod block;
 mod block_steps;
 mod blocks;
 pub mod building;
 mod candidates;
+mod chunk;
+mod chunking;
 pub mod classes;
 mod complete;
 mod count;
-mod cutting;
 mod definition_order;
 mod draft;
 mod drafting;
@@ -29,23 +29,23 @@ mod marking;
 pub mod merging;
 mod names;
 mod node;
-mod numbering;
-mod order;
 mod part;
 mod partition;
-mod piece;
 mod position_table;
 mod predecessors;
 mod quotient;
 mod repeat;
 mod rule_part;
 mod rule_steps;
+mod rule_unfolding;
+mod set_numbering;
 mod set_steps;
 mod set_table;
 mod spec_positions;
 mod split;
 mod unfold;
 mod unfolded_rules;
+mod worklist;
 
 pub use crate::automaton::{Automaton, State};
 pub use crate::building::build;

@@ -1,7 +1,7 @@
 // Where a set of positions can end in an expression, and which positions can be read next: two passes over its nodes.
 ghost use Rattle.std.specs.Prelude.{◌≡◌, ◌+◌, ◌<◌, ◌≤◌, ◌^◌, ◌∷◌, [], ℕ, false, IfOk, OnOk, reverse, slice_set, length};
 ghost use Rattle.lx_auto.specs.Marking as plain;
-ghost use Rattle.lx_auto.specs.Marking.{null_of, nulls_from, end_of, ends_from, behind_node, before_node, first_flag, other_flags, told_by, read_at, reads_from};
+ghost use Rattle.lx_auto.specs.Marking.{null_of, nulls_from, end_of, ends_from, behind_node, before_node, first_flag, other_flags, entered_children, read_at, reads_from};
 ghost use Rattle.lx_auto.specs.NodeViews.{node_view, nodes_view};
 
 use crate::node::Node;
@@ -126,8 +126,8 @@ fn pop_flag(stack: &mut Vec<bool>) -> bool
     }
 }
 
-// Tells the children of a node that has `before` nodes before it whether they may be entered.
-fn tell(
+// Puts on the stack whether the children of a node that has `before` nodes before it may be entered.
+fn push_entered(
     nulls: &[bool],
     ends: &[bool],
     node: &Node,
@@ -135,7 +135,7 @@ fn tell(
     entered: bool,
     stack: &mut Vec<bool>,
 ) -> Result<(), AllocError>
-    ensures { OnOk result (reverse stack.new.items ≡ told_by nulls.now ends.now (node_view node.now) before entered (reverse stack.old.items)) }
+    ensures { OnOk result (reverse stack.new.items ≡ entered_children nulls.now ends.now (node_view node.now) before entered (reverse stack.old.items)) }
 {
     match *node {
         Node::Leaf(_) => {}
@@ -196,7 +196,7 @@ pub(crate) fn mark_reads(
         let node = &nodes[rest];
         let own = pop_flag(&mut stack);
         read(node, position, own, reads);
-        tell(nulls, ends, node, rest, own, &mut stack)?;
+        push_entered(nulls, ends, node, rest, own, &mut stack)?;
         position = before(node, position);
     }
     Ok(())

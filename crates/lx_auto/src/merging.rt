@@ -2,7 +2,7 @@
 
 ghost use Rattle.std.specs.Prelude.{◌≡◌, IfOk, length};
 ghost use Rattle.lx_spec.specs.Plain.{PlainSpec};
-ghost use Rattle.lx_auto.specs.Equivalence.{AnswerAlike, IsLeast, HasLiveSteps};
+ghost use Rattle.lx_auto.specs.Equivalence.{AreEquivalentMachines, IsMinimal, HasLiveSteps};
 ghost use Rattle.lx_auto.specs.Meaning.{IsAutomatonOf};
 
 use crate::automaton::Automaton;
@@ -13,18 +13,16 @@ use crate::quotient::quotient;
 use crate::split::refined;
 use std::alloc::{AllocError, Global};
 
-/// The least automaton with the same answers, so one of the same specification: no two of its states are equivalent, and each
+/// The minimal automaton with the same answers, so one of the same specification: no two of its states are equivalent, and each
 /// of its steps leads to a state from which some word leads to an accepting one. A start from which nothing is ever accepted is
 /// a state without steps.
 pub fn merge(alloc: Global, automaton: &Automaton) -> Result<Automaton, AllocError>
     ensures conditions { IfOk result (λ m. length m.starts ≡ length automaton.now.starts) }
-    ensures answers { IfOk result (λ m. AnswerAlike automaton.now m) }
+    ensures answers { IfOk result (λ m. AreEquivalentMachines automaton.now m) }
     ensures specification { IfOk result (λ m. (spec : PlainSpec) → IsAutomatonOf spec automaton.now → IsAutomatonOf spec m) }
-    ensures told { IfOk result (λ m. IsLeast m) }
+    ensures minimal { IfOk result (λ m. IsMinimal m) }
     ensures live { IfOk result (λ m. HasLiveSteps m) }
 {
-    // its contract says what holds of all automata
-    let _conditions = automaton.conditions();
     let m = completion_of(alloc, automaton)?;
     let start = by_labels(alloc, &m)?;
     let p = refined(alloc, &m, start)?;

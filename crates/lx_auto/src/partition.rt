@@ -2,8 +2,8 @@
 
 ghost use Rattle.std.specs.Prelude.{◌≡◌, ◌≢◌, ◌<◌, ◌≤◌, ◌+◌, ◌↔◌, ℕ, Bool, true, false, if◌then◌else◌, IsTrue, IfOk, OnOk, IfSome, IfNone, [], length, slice_index, vec_len, Contains};
 ghost use Rattle.lx_auto.specs.Completion.{total, label_of, step_of, IsComplete};
-ghost use Rattle.lx_auto.specs.Partitions.{block, block_count, member_of, flag, IsSound, IsStable, IsSplitter, IsMover, IsStayer, AreMovers, AreRenumbered, AreFlags, AreLabelledBelow, LandAlike, StepsLikeRepresentative};
-ghost use Rattle.lx_auto.specs.Sources.{AreMoversAmong, HaveAllThatLand};
+ghost use Rattle.lx_auto.specs.Partitions.{block, block_count, member_of, flag, IsSound, IsStable, IsSplitter, IsMoved, IsRemaining, AreMovedStates, AreRenumbered, AreFlags, AreLabelledBelow, IsStableBlock, StepsLikeRepresentative};
+ghost use Rattle.lx_auto.specs.Sources.{AreMovedStatesAmong, ContainPreimage};
 
 use crate::complete::{Complete, step};
 use std::alloc::{AllocError, Global};
@@ -81,7 +81,7 @@ pub(crate) fn flags_of(alloc: Global, blocks: &[u16], number: u16) -> Result<Vec
 
 /// Whether the state steps into the set.
 #[inline]
-pub(crate) fn lands(m: &Complete, inside: &[bool], state: usize, class: usize) -> bool
+pub(crate) fn steps_into(m: &Complete, inside: &[bool], state: usize, class: usize) -> bool
     requires complete { IsComplete m.now }
     requires inside { length inside.now ≡ total m.now }
     requires state { state < total m.now }
@@ -93,7 +93,7 @@ pub(crate) fn lands(m: &Complete, inside: &[bool], state: usize, class: usize) -
 
 /// Whether a state is in the block and steps into the set, or where `wanted` is false, out of it.
 #[inline]
-fn is_mover(
+fn is_moved(
     m: &Complete,
     blocks: &[u16],
     inside: &[bool],
@@ -107,13 +107,13 @@ fn is_mover(
     requires blocks { length blocks.now ≡ total m.now }
     requires class { class < m.now.width }
     requires state { state < total m.now }
-    ensures { IsTrue result ↔ IsMover m.now blocks.now inside.now from class wanted state }
+    ensures { IsTrue result ↔ IsMoved m.now blocks.now inside.now from class wanted state }
 {
-    blocks[state] == from && lands(m, inside, state, class) == wanted
+    blocks[state] == from && steps_into(m, inside, state, class) == wanted
 }
 
 // The states of a block that step into the set, or where `wanted` is false, out of it: all states are gone through.
-fn movers_of_all(
+fn moved_states_of_all(
     alloc: Global,
     m: &Complete,
     blocks: &[u16],
@@ -126,19 +126,19 @@ fn movers_of_all(
     requires inside { length inside.now ≡ total m.now }
     requires blocks { length blocks.now ≡ total m.now }
     requires class { class < m.now.width }
-    ensures { IfOk result (λ movers. AreMovers m.now blocks.now inside.now from class wanted (total m.now) movers.items) }
+    ensures { IfOk result (λ moved_states. AreMovedStates m.now blocks.now inside.now from class wanted (total m.now) moved_states.items) }
 {
-    let mut movers = Vec::new(alloc);
+    let mut moved_states = Vec::new(alloc);
     for state in 0..blocks.len() {
-        if is_mover(m, blocks, inside, from, class, wanted, state) {
-            movers.push(state as u16)?;
+        if is_moved(m, blocks, inside, from, class, wanted, state) {
+            moved_states.push(state as u16)?;
         }
     }
-    Ok(movers)
+    Ok(moved_states)
 }
 
 // Those of the states that are in the block and step into the set, or where `wanted` is false, out of it.
-fn movers_among(
+fn moved_states_among(
     alloc: Global,
     m: &Complete,
     blocks: &[u16],
@@ -153,19 +153,19 @@ fn movers_among(
     requires blocks { length blocks.now ≡ total m.now }
     requires states { (s : ℕ) → Contains states.now s → s < total m.now }
     requires class { class < m.now.width }
-    ensures { IfOk result (λ movers. AreMoversAmong m.now blocks.now inside.now from class wanted states.now movers.items) }
+    ensures { IfOk result (λ moved_states. AreMovedStatesAmong m.now blocks.now inside.now from class wanted states.now moved_states.items) }
 {
-    let mut movers = Vec::new(alloc);
+    let mut moved_states = Vec::new(alloc);
     for i in 0..states.len() {
-        if is_mover(m, blocks, inside, from, class, wanted, states[i] as usize) {
-            movers.push(states[i])?;
+        if is_moved(m, blocks, inside, from, class, wanted, states[i] as usize) {
+            moved_states.push(states[i])?;
         }
     }
-    Ok(movers)
+    Ok(moved_states)
 }
 
 /// The states of a block that step into the set, or where `wanted` is false, out of it. All that step into it are among `sources`.
-pub(crate) fn movers_of(
+pub(crate) fn moved_states_of(
     alloc: Global,
     m: &Complete,
     blocks: &[u16],
@@ -178,18 +178,18 @@ pub(crate) fn movers_of(
     requires complete { IsComplete m.now }
     requires inside { length inside.now ≡ total m.now }
     requires blocks { length blocks.now ≡ total m.now }
-    requires sources { HaveAllThatLand m.now inside.now class sources.now }
+    requires sources { ContainPreimage m.now inside.now class sources.now }
     requires class { class < m.now.width }
-    ensures { IfOk result (λ movers. AreMovers m.now blocks.now inside.now from class wanted (total m.now) movers.items) }
+    ensures { IfOk result (λ moved_states. AreMovedStates m.now blocks.now inside.now from class wanted (total m.now) moved_states.items) }
 {
     if wanted {
-        return movers_among(alloc, m, blocks, inside, sources, from, class, true);
+        return moved_states_among(alloc, m, blocks, inside, sources, from, class, true);
     }
-    movers_of_all(alloc, m, blocks, inside, from, class, false)
+    moved_states_of_all(alloc, m, blocks, inside, from, class, false)
 }
 
-/// A state of the block that isn't a mover: the representative, where it isn't one.
-pub(crate) fn stayer_of(
+/// A state of the block that isn't moved: the representative, where that isn't.
+pub(crate) fn remaining_state_of(
     m: &Complete,
     blocks: &[u16],
     inside: &[bool],
@@ -204,18 +204,18 @@ pub(crate) fn stayer_of(
     requires representative { representative < total m.now }
     requires class { class < m.now.width }
     ensures state { IfSome result (λ s. s < total m.now) }
-    ensures stayer { IfSome result (λ s. IsStayer m.now blocks.now inside.now from class wanted s) }
-    ensures none { IfNone result ((s : ℕ) → s < total m.now → IsStayer m.now blocks.now inside.now from class wanted s → ⊥) }
+    ensures remaining_state { IfSome result (λ s. IsRemaining m.now blocks.now inside.now from class wanted s) }
+    ensures none { IfNone result ((s : ℕ) → s < total m.now → IsRemaining m.now blocks.now inside.now from class wanted s → ⊥) }
 {
     let state = representative as usize;
-    if blocks[state] == from && lands(m, inside, state, class) != wanted {
+    if blocks[state] == from && steps_into(m, inside, state, class) != wanted {
         return Some(representative);
     }
-    first_stayer(m, blocks, inside, from, class, wanted)
+    first_remaining_state(m, blocks, inside, from, class, wanted)
 }
 
-// The first state of the block that isn't a mover.
-fn first_stayer(
+// The first state of the block that isn't moved.
+fn first_remaining_state(
     m: &Complete,
     blocks: &[u16],
     inside: &[bool],
@@ -228,11 +228,11 @@ fn first_stayer(
     requires blocks { length blocks.now ≡ total m.now }
     requires class { class < m.now.width }
     ensures state { IfSome result (λ s. s < total m.now) }
-    ensures stayer { IfSome result (λ s. IsStayer m.now blocks.now inside.now from class wanted s) }
-    ensures none { IfNone result ((s : ℕ) → s < total m.now → IsStayer m.now blocks.now inside.now from class wanted s → ⊥) }
+    ensures remaining_state { IfSome result (λ s. IsRemaining m.now blocks.now inside.now from class wanted s) }
+    ensures none { IfNone result ((s : ℕ) → s < total m.now → IsRemaining m.now blocks.now inside.now from class wanted s → ⊥) }
 {
     for state in 0..blocks.len() {
-        if blocks[state] == from && lands(m, inside, state, class) != wanted {
+        if blocks[state] == from && steps_into(m, inside, state, class) != wanted {
             return Some(state as u16);
         }
     }
@@ -240,17 +240,17 @@ fn first_stayer(
 }
 
 /// Gives the states of the list a number.
-pub(crate) fn renumber(blocks: &mut [u16], movers: &[u16], fresh: u16)
-    requires { (j : ℕ) → j < length movers.now → slice_index movers.now j < length blocks.old }
-    ensures { AreRenumbered blocks.old blocks.new movers.now fresh (length movers.now) }
+pub(crate) fn renumber(blocks: &mut [u16], moved_states: &[u16], fresh: u16)
+    requires { (j : ℕ) → j < length moved_states.now → slice_index moved_states.now j < length blocks.old }
+    ensures { AreRenumbered blocks.old blocks.new moved_states.now fresh (length moved_states.now) }
 {
-    for i in 0..movers.len() {
-        blocks[movers[i] as usize] = fresh;
+    for i in 0..moved_states.len() {
+        blocks[moved_states[i] as usize] = fresh;
     }
 }
 
 /// A state and a class on which it steps to another block than the representative of its block.
-fn unlike_class(m: &Complete, p: &Partition, s: usize) -> Option<usize>
+fn unstable_class(m: &Complete, p: &Partition, s: usize) -> Option<usize>
     requires complete { IsComplete m.now }
     requires sound { IsSound m.now p.now }
     requires state { s < total m.now }
@@ -267,16 +267,16 @@ fn unlike_class(m: &Complete, p: &Partition, s: usize) -> Option<usize>
 }
 
 /// A state and a class on which it steps to another block than the representative of its block.
-pub(crate) fn first_unlike(m: &Complete, p: &Partition) -> Option<(usize, usize)>
+pub(crate) fn first_unstable(m: &Complete, p: &Partition) -> Option<(usize, usize)>
     requires complete { IsComplete m.now }
     requires sound { IsSound m.now p.now }
     ensures state { IfSome result (λ found. found.0 < total m.now) }
     ensures class { IfSome result (λ found. found.1 < m.now.width) }
-    ensures unlike { IfSome result (λ found. block p.now (step_of m.now found.0 found.1) ≢ block p.now (step_of m.now (member_of p.now (block p.now found.0)) found.1)) }
+    ensures unstable { IfSome result (λ found. block p.now (step_of m.now found.0 found.1) ≢ block p.now (step_of m.now (member_of p.now (block p.now found.0)) found.1)) }
     ensures stable { IfNone result (IsStable m.now p.now) }
 {
     for s in 0..m.labels.len() {
-        if let Some(class) = unlike_class(m, p, s) {
+        if let Some(class) = unstable_class(m, p, s) {
             return Some((s, class));
         }
     }

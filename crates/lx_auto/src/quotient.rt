@@ -1,9 +1,9 @@
 // The automaton of the blocks of a partition.
 
 ghost use Rattle.std.specs.Prelude.{◌≡◌, ◌≢◌, ◌<◌, ◌≤◌, ◌+◌, ◌*◌, ℕ, Bool, true, false, if◌then◌else◌, IfOk, OnOk, length, slice_index};
-ghost use Rattle.lx_auto.specs.Automata.{IsMachine, HasByteClasses, state_count};
+ghost use Rattle.lx_auto.specs.Automata.{IsMachine, state_count};
 ghost use Rattle.lx_auto.specs.Completion.{total, IsComplete, IsCompletion};
-ghost use Rattle.lx_auto.specs.Equivalence.{AnswerAlike, IsLeast, HasLiveSteps};
+ghost use Rattle.lx_auto.specs.Equivalence.{AreEquivalentMachines, IsMinimal, HasLiveSteps};
 ghost use Rattle.lx_auto.specs.Partitions.{block, block_count, IsSound, IsStable};
 ghost use Rattle.lx_auto.specs.Quotients.{number_of, AreStates, AreStarts, HaveNoDeadStart, HasDeadStart, AreRowStates, AreLabels, AreTargets};
 
@@ -111,7 +111,7 @@ fn add_row(
     Ok(())
 }
 
-/// The blocks that these states step to: a block's number is the word of its state, and 0 is nowhere.
+/// The blocks that these states step to: a block's number is its state, encoded, and 0 is nowhere.
 fn targets_of(
     alloc: Global,
     m: &Complete,
@@ -137,15 +137,13 @@ pub(crate) fn quotient(
     m: &Complete,
     p: &Partition,
 ) -> Result<Draft, AllocError>
-    requires machine { IsMachine automaton.now }
-    requires classes { HasByteClasses automaton.now }
     requires completion { IsCompletion automaton.now m.now }
     requires sound { IsSound m.now p.now }
     requires stable { IsStable m.now p.now }
     ensures machine { IfOk result (λ q. IsMachine q) }
     ensures conditions { IfOk result (λ q. length q.starts ≡ length automaton.now.starts) }
-    ensures answers { IfOk result (λ q. AnswerAlike automaton.now q) }
-    ensures told { IfOk result (λ q. IsLeast q) }
+    ensures answers { IfOk result (λ q. AreEquivalentMachines automaton.now q) }
+    ensures minimal { IfOk result (λ q. IsMinimal q) }
     ensures live { IfOk result (λ q. HasLiveSteps q) }
 {
     let dead = has_dead_start(m, p, &automaton.starts);

@@ -1,6 +1,6 @@
 // Repeats, written out.
 ghost use Rattle.std.specs.Prelude.{◌≡◌, ◌↔◌, ◌-◌, ◌<◌, ◌≤◌, false, ◌++◌, drop, length, IsTrue, IfOk, OnOk};
-ghost use Rattle.lx_auto.specs.Trimmed.{trimmed_counted, trimmed_unbounded, trimmed_repeated};
+ghost use Rattle.lx_auto.specs.Simplified.{simplified_counted, simplified_unbounded, simplified_repeated};
 ghost use Rattle.lx_auto.specs.NodeViews.{nodes_view, Joins, Changes};
 ghost use Rattle.lx_auto.specs.Copies.{copies, is_no_copy, joined_as};
 
@@ -20,17 +20,17 @@ fn append_copies(nodes: &mut Vec<Node<'_>>, size: usize, times: u8) -> Result<()
     Ok(())
 }
 
-// The body, and then the copies behind it, all of which may be left out where they are not owed.
+// The body, and then the copies behind it, all of which may be left out where they are not required.
 fn close_copy(
     nodes: &mut Vec<Node<'_>>,
     body: Part,
     behind: Part,
-    is_owed: bool,
+    is_required: bool,
 ) -> Result<Part, AllocError>
-    ensures { IfOk result (λ part. Joins (joined_as is_owed) (nodes_view nodes.old.items) (nodes_view nodes.new.items) body behind part) }
+    ensures { IfOk result (λ part. Joins (joined_as is_required) (nodes_view nodes.old.items) (nodes_view nodes.new.items) body behind part) }
 {
     let both = join(nodes, body, behind)?;
-    if is_owed {
+    if is_required {
         Ok(both)
     } else {
         optional(nodes, both)
@@ -38,7 +38,7 @@ fn close_copy(
 }
 
 // Whether the copy before which so many are closed has to stand there.
-fn is_owed(low: u8, high: u8, closed: u8) -> bool
+fn is_required(low: u8, high: u8, closed: u8) -> bool
     requires { closed < high }
     ensures { IsTrue result ↔ (high - closed ≤ low) }
 {
@@ -53,12 +53,12 @@ fn repeat_counted(
     high: u8,
 ) -> Result<Part, AllocError>
     requires { 0 < high }
-    ensures { IfOk result (λ part. Changes (λ r. trimmed_counted r low high) (nodes_view nodes.old.items) (nodes_view nodes.new.items) body part) }
+    ensures { IfOk result (λ part. Changes (λ r. simplified_counted r low high) (nodes_view nodes.old.items) (nodes_view nodes.new.items) body part) }
 {
     append_copies(nodes, body.size, high - 1)?;
     let mut behind = EMPTY;
     for closed in 0..high {
-        behind = close_copy(nodes, body, behind, is_owed(low, high, closed))?;
+        behind = close_copy(nodes, body, behind, is_required(low, high, closed))?;
     }
     Ok(behind)
 }
@@ -66,7 +66,7 @@ fn repeat_counted(
 // So many copies of the body, one at least, the last of which may be taken again.
 fn repeat_unbounded(nodes: &mut Vec<Node<'_>>, body: Part, low: u8) -> Result<Part, AllocError>
     requires { 0 < low }
-    ensures { IfOk result (λ part. Changes (λ r. trimmed_unbounded r (low - 1)) (nodes_view nodes.old.items) (nodes_view nodes.new.items) body part) }
+    ensures { IfOk result (λ part. Changes (λ r. simplified_unbounded r (low - 1)) (nodes_view nodes.old.items) (nodes_view nodes.new.items) body part) }
 {
     append_copies(nodes, body.size, low - 1)?;
     let mut behind = one_or_more(nodes, body)?;
@@ -94,7 +94,7 @@ pub(crate) fn repeat(
     high: Option<u8>,
 ) -> Result<Part, AllocError>
     requires { is_no_copy high ≡ false }
-    ensures { IfOk result (λ part. Changes (λ r. trimmed_repeated r low high) (nodes_view nodes.old.items) (nodes_view nodes.new.items) body part) }
+    ensures { IfOk result (λ part. Changes (λ r. simplified_repeated r low high) (nodes_view nodes.old.items) (nodes_view nodes.new.items) body part) }
 {
     match high {
         Some(high) => repeat_counted(nodes, body, low, high),

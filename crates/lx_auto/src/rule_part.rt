@@ -4,7 +4,7 @@ ghost use Rattle.std.specs.Prelude.{◌<◌};
 use crate::block::Block;
 use crate::node::Node;
 
-/// What is kept of a rule: the nodes of its expression, the blocks it is cut into, and where its positions stand.
+/// What is kept of a rule: the nodes of its expression, the blocks it is split into, and where its positions stand.
 #[derive(Drop)]
 pub(crate) struct RulePart<'s> {
     pub(crate) nodes: Vec<Node<'s>>,

@@ -3,13 +3,13 @@ ghost use Rattle.std.specs.Prelude.{◌≡◌, ◌<◌, ◌≤◌, ◌⊎◌, If
 ghost use Rattle.lx_spec.specs.views.Specs.{spec_view};
 ghost use Rattle.lx_auto.specs.Counts.{count_of_spec};
 ghost use Rattle.lx_auto.specs.PositionTables.{ArePositionsOf};
-ghost use Rattle.lx_auto.specs.Trimmed.{trimmed_pattern};
+ghost use Rattle.lx_auto.specs.Simplified.{simplified_pattern};
 
-use crate::arena::unfold_rules;
 use crate::fault::BuildFault;
 use crate::groups::groups_of;
 use crate::leaf::leaves_of;
 use crate::position_table::PositionTable;
+use crate::rule_unfolding::unfold_rules;
 use lx_spec::spec::Spec;
 use std::alloc::Global;
 
@@ -25,7 +25,7 @@ pub(crate) fn positions_of<'s>(
     ensures too_many { IfErr result (λ e. e ≡ BuildFault.TooManyPositions → 16384 < count_of_spec (spec_view spec.now)) }
     ensures memory { IfErr result (λ e. (e ≡ BuildFault.TooManyPositions) ⊎ (e ≡ BuildFault.Memory)) }
     ensures few { IfOk result (λ _. count_of_spec (spec_view spec.now) ≤ 16384) }
-    ensures stands { IfOk result (λ it. ArePositionsOf (spec_view spec.now) (trimmed_pattern (spec_view spec.now).definitions) it) }
+    ensures stands { IfOk result (λ it. ArePositionsOf (spec_view spec.now) (simplified_pattern (spec_view spec.now).definitions) it) }
 {
     let unfolded = unfold_rules(alloc, spec)?;
     let parts = unfolded.parts;

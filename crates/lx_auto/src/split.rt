@@ -1,14 +1,16 @@
-// Splitting blocks until states of one block step alike.
+// Splitting blocks until states of one block step to the same blocks.
 
 ghost use Rattle.std.specs.Prelude.{◌≡◌, ◌≢◌, ◌<◌, ◌+◌, ◌^◌, ◌++◌, ◌∷◌, [], ℕ, Bool, true, false, if◌then◌else◌, IfOk, OnOk, length, slice_index, slice_set};
 ghost use Rattle.lx_auto.specs.Completion.{total, step_of, IsComplete};
-ghost use Rattle.lx_auto.specs.Sources.{HaveAllThatLand};
-ghost use Rattle.lx_auto.specs.Partitions.{block, block_count, member_of, flag, IsSound, IsStable, IsSplitter, IsStayer, AreMovers, AreRenumbered, LandAlike};
+ghost use Rattle.lx_auto.specs.Sources.{ContainPreimage};
+ghost use Rattle.lx_auto.specs.Partitions.{block, block_count, member_of, flag, IsSound, IsStable, IsSplitter, IsRemaining, AreMovedStates, AreRenumbered, IsStableBlock};
 
 use crate::candidates::all_states;
 use crate::complete::{Complete, step};
-use crate::order::refine_in_order;
-use crate::partition::{Partition, first_unlike, flags_of, lands, movers_of, renumber, stayer_of};
+use crate::partition::{
+    Partition, first_unstable, flags_of, moved_states_of, remaining_state_of, renumber, steps_into,
+};
+use crate::worklist::refine_by_worklist;
 use std::alloc::{AllocError, Global};
 
 /// Which states are to move: of block 0 those that don't step as state 0 does, of other blocks those that are wanted.
@@ -25,31 +27,31 @@ pub(crate) fn side_of(
     ensures { from ≡ 0 → result ≢ flag inside.now (step_of m.now 0 class) }
 {
     if from == 0 {
-        !lands(m, inside, 0, class)
+        !steps_into(m, inside, 0, class)
     } else {
         wanted
     }
 }
 
-/// Gives the movers a block of their own.
+/// Gives the moved states a block of their own.
 fn divide(
     m: &Complete,
     p: &mut Partition,
     from: usize,
-    stayer: u16,
-    movers: &[u16],
+    remaining_state: u16,
+    moved_states: &[u16],
 ) -> Result<(), AllocError>
     requires small { block_count p.old < 2 ^ 16 }
     requires from { from < block_count p.old }
-    requires some { 0 < length movers.now }
-    requires below { (j : ℕ) → j < length movers.now → slice_index movers.now j < length p.old.block_of.items }
-    ensures representatives { OnOk result (p.new.representatives.items ≡ slice_set p.old.representatives.items from stayer ++ slice_index movers.now 0 ∷ []) }
-    ensures blocks { OnOk result (AreRenumbered p.old.block_of.items p.new.block_of.items movers.now (block_count p.old) (length movers.now)) }
+    requires some { 0 < length moved_states.now }
+    requires below { (j : ℕ) → j < length moved_states.now → slice_index moved_states.now j < length p.old.block_of.items }
+    ensures representatives { OnOk result (p.new.representatives.items ≡ slice_set p.old.representatives.items from remaining_state ++ slice_index moved_states.now 0 ∷ []) }
+    ensures blocks { OnOk result (AreRenumbered p.old.block_of.items p.new.block_of.items moved_states.now (block_count p.old) (length moved_states.now)) }
 {
     let fresh = p.representatives.len() as u16;
-    p.representatives[from] = stayer;
-    p.representatives.push(movers[0])?;
-    renumber(&mut p.block_of, movers, fresh);
+    p.representatives[from] = remaining_state;
+    p.representatives.push(moved_states[0])?;
+    renumber(&mut p.block_of, moved_states, fresh);
     Ok(())
 }
 
@@ -68,16 +70,16 @@ pub(crate) fn split(
     requires complete { IsComplete m.now }
     requires sound { IsSound m.now p.old }
     requires splitter { IsSplitter m.now inside.now }
-    requires sources { HaveAllThatLand m.now inside.now class sources.now }
+    requires sources { ContainPreimage m.now inside.now class sources.now }
     requires from { from < block_count p.old }
     requires class { class < m.now.width }
     ensures sound { OnOk result (IsSound m.now p.new) }
     ensures count { IfOk result (λ b. block_count p.new ≡ block_count p.old + (if b then 1 else 0)) }
-    ensures unsplit { IfOk result (λ b. b ≡ false → LandAlike m.now p.old.block_of.items inside.now from class) }
+    ensures unsplit { IfOk result (λ b. b ≡ false → IsStableBlock m.now p.old.block_of.items inside.now from class) }
 {
     let wanted = side_of(m, inside, from, class, wanted);
     let blocks = p.block_of.as_slice();
-    let movers = movers_of(
+    let moved_states = moved_states_of(
         alloc,
         m,
         blocks,
@@ -87,11 +89,11 @@ pub(crate) fn split(
         class,
         wanted,
     )?;
-    if movers.is_empty() {
+    if moved_states.is_empty() {
         return Ok(false);
     }
     let representative = p.representatives[from];
-    let Some(stayer) = stayer_of(
+    let Some(remaining_state) = remaining_state_of(
         m,
         blocks,
         inside,
@@ -102,7 +104,7 @@ pub(crate) fn split(
     ) else {
         return Ok(false);
     };
-    divide(m, p, from, stayer, &movers)?;
+    divide(m, p, from, remaining_state, &moved_states)?;
     Ok(true)
 }
 
@@ -123,7 +125,7 @@ fn split_slowly(
     requires class { class < m.now.width }
     ensures sound { OnOk result (IsSound m.now p.new) }
     ensures count { IfOk result (λ b. block_count p.new ≡ block_count p.old + (if b then 1 else 0)) }
-    ensures unsplit { IfOk result (λ b. b ≡ false → LandAlike m.now p.old.block_of.items inside.now from class) }
+    ensures unsplit { IfOk result (λ b. b ≡ false → IsStableBlock m.now p.old.block_of.items inside.now from class) }
 {
     let states = all_states(alloc, m.labels.len())?;
     let sources = states.as_slice();
@@ -142,7 +144,7 @@ fn split_at(
     requires sound { IsSound m.now p.old }
     requires state { s < total m.now }
     requires class { class < m.now.width }
-    requires unlike { block p.old (step_of m.now s class) ≢ block p.old (step_of m.now (member_of p.old (block p.old s)) class) }
+    requires unstable { block p.old (step_of m.now s class) ≢ block p.old (step_of m.now (member_of p.old (block p.old s)) class) }
     ensures sound { OnOk result (IsSound m.now p.new) }
     ensures more { OnOk result (block_count p.new ≡ block_count p.old + 1) }
 {
@@ -153,7 +155,7 @@ fn split_at(
     Ok(())
 }
 
-/// Splits blocks until states of one block step alike.
+/// Splits blocks until states of one block step to the same blocks.
 pub(crate) fn refined(
     alloc: Global,
     m: &Complete,
@@ -165,9 +167,9 @@ pub(crate) fn refined(
     ensures stable { IfOk result (λ p. IsStable m.now p) }
 {
     let mut p = start;
-    refine_in_order(alloc, m, &mut p)?;
+    refine_by_worklist(alloc, m, &mut p)?;
     // Without a fault in the order nothing is left to split.
-    while let Some((s, class)) = first_unlike(m, &p) {
+    while let Some((s, class)) = first_unstable(m, &p) {
         split_at(alloc, m, &mut p, s, class)?;
     }
     Ok(p)

@@ -4,7 +4,7 @@ use Rattle.std.specs.Prelude.{slice_index}
 use Rattle.std.specs.List.{flat_map, range_with_len}
 use Rattle.std.proofs.lemmas.List.{get_or_append_left, get_or-append-add, length-append}
 use Rattle.std.proofs.lemmas.List.FromFn.{get_or-map-range_with_len, length-map-range_with_len}
-use Rattle.lx_auto.specs.Automata.{Machine, IsMachine, HasByteClasses, StepsAlike, state_count, class_target, target_of}
+use Rattle.lx_auto.specs.Automata.{Machine, IsMachine, HasByteClasses, HasSameSteps, state_count, class_target, target_of}
 use Rattle.lx_tables.specs.Model.{TableRule, Table, IsTable}
 use Rattle.lx_tables.specs.Limits.{HasLimits}
 use Rattle.lx_tables.specs.Texts.{text_1, all_bytes}
@@ -97,10 +97,10 @@ module _ (t : Table) (is : IsTable t) where
   }
 
   module _ (a : Machine) (ia : IsMachine a) (ha : HasByteClasses a) where
-    pub same_machine : StepsAlike m a → a ≡ m
+    pub same_machine : HasSameSteps m a → a ≡ m
     same_machine alike = one_machine a m ia ha is.machine is.classes alike.starts alike.accepted (λ s b hs hb. alike.steps s b (let e = ap length alike.accepted in omega arith) hb)
 
-    pub same_by_bytes : StepsAlike q a → a ≡ m
+    pub same_by_bytes : HasSameSteps q a → a ≡ m
     same_by_bytes alike =
         one_machine a m ia ha is.machine is.classes alike.starts alike.accepted
         (λ s b hs hb. let l : s < state_count m = (let e = ap length alike.accepted in omega arith) in alike.steps s b l hb ∙ step s b l hb)

@@ -3,9 +3,9 @@ use Rattle.std.proofs.Common.{◌≡◌, ℕ, ◌*◌, ◌≤◌, List, length, 
 use Rattle.lx_spec.specs.Plain.{PlainSpec}
 use Rattle.lx_spec.specs.Invariant.{IsWellFormed}
 use Rattle.lx_auto.specs.Automata.{Machine, IsMachine, HasByteClasses, state_count}
-use Rattle.lx_auto.specs.Equivalence.{AnswerAlike}
+use Rattle.lx_auto.specs.Equivalence.{AreEquivalentMachines}
 use Rattle.lx_auto.specs.Meaning.{IsAutomatonOf}
-use Rattle.lx_auto.specs.Words.{machine_of}
+use Rattle.lx_auto.specs.EncodedOptions.{machine_of}
 use Rattle.lx_tables.specs.Model.{Table, IsTable, AreTablesOf, table_rule}
 use Rattle.lx_tables.specs.Numbered.{AreAllMet, AreStarts, AreAccepted, AreRows}
 use Rattle.lx_tables.proofs.Kept.{table_kept}
@@ -33,5 +33,5 @@ module _ (m : Machine) (states words : List ℕ) (starts : List (ℕ × ℕ)) (a
     rules = refl;
   }
 
-  pub made_alike : AnswerAlike m table.machine
+  pub made_alike : AreEquivalentMachines m table.machine
   made_alike = reordered_alike m states words starts accepted targets rules is has all long are_starts are_accepted are_rows few spec of same

@@ -4,7 +4,7 @@ use Rattle.std.specs.Prelude.{if◌then◌else◌, replicate, slice_index}
 use Rattle.std.specs.List.{range_with_len}
 use Rattle.std.proofs.lemmas.Bool.{ne_eqb}
 use Rattle.std.proofs.lemmas.List.{map-append}
-use Rattle.lx_auto.specs.Words.{from_word}
+use Rattle.lx_auto.specs.EncodedOptions.{decoded_option}
 use Rattle.lx_spec.specs.declared.rule.Step.{Step}
 use Rattle.lx_tables.specs.Model.{Table}
 use Rattle.lx_tables.specs.Texts.{all_bytes}
@@ -53,12 +53,12 @@ lines_onto accepted targets more = (accepted ++ more.0, targets ++ more.1)
 abbrev pub three : {A B C : Type 0} → A → B → C → A × B × C
 three a b c = (a, b, c)
 
-map_replicate : (n word : ℕ) → map from_word (replicate n word) ≡ replicate n (from_word word)
+map_replicate : (n word : ℕ) → map decoded_option (replicate n word) ≡ replicate n (decoded_option word)
 map_replicate zero word = refl
-map_replicate (suc n) word = ap (λ (xs : List (Option ℕ)). from_word word ∷ xs) (map_replicate n word)
+map_replicate (suc n) word = ap (λ (xs : List (Option ℕ)). decoded_option word ∷ xs) (map_replicate n word)
 
-pub map_words : (words : List ℕ) (n word : ℕ) → map from_word (words ++ replicate n word) ≡ map from_word words ++ replicate n (from_word word)
-map_words words n word = map-append from_word words (replicate n word) ∙ ap (λ (xs : List (Option ℕ)). map from_word words ++ xs) (map_replicate n word)
+pub map_words : (words : List ℕ) (n word : ℕ) → map decoded_option (words ++ replicate n word) ≡ map decoded_option words ++ replicate n (decoded_option word)
+map_words words n word = map-append decoded_option words (replicate n word) ∙ ap (λ (xs : List (Option ℕ)). map decoded_option words ++ xs) (map_replicate n word)
 
 module _ (version : Version) (width : ℕ) where
   abbrev lines_then : ℕ → List (Option ℕ) × List (Option ℕ) × List ℕ → List (Option ℕ) × List (Option ℕ)
@@ -86,16 +86,16 @@ module _ (version : Version) (width : ℕ) where
 
   -- one more run was read and added
   pub row_more : (words : List ℕ) (n m from low end first last value word : ℕ) (text rest words₁ words₂ : List ℕ) → n ≡ suc m → slice_index text 0 ≡ 32 →
-      pair (three first last value) rest ≡ read_run version text → low ≡ within from width first → end ≡ within low width last → from_word word ≡ below 16512 value →
+      pair (three first last value) rest ≡ read_run version text → low ≡ within from width first → end ≡ within low width last → decoded_option word ≡ below 16512 value →
       words₁ ≡ words ++ replicate (low - from) 0 → words₂ ≡ words₁ ++ replicate (end - low) word →
-      onto (map from_word words₂) (read_row version width m end rest) ≡ onto (map from_word words) (read_row version width n from text)
+      onto (map decoded_option words₂) (read_row version width m end rest) ≡ onto (map decoded_option words) (read_row version width n from text)
   row_more words n m from low end first last value word text rest words₁ words₂ e f h hl he hw h1 h2 =
-      let W = map from_word words in
+      let W = map decoded_option words in
       let more = read_row version width m end rest in
       let gap : List (Option ℕ) = replicate (low - from) None in
-      let all : map from_word words₂ ≡ (W ++ gap) ++ replicate (end - low) (from_word word) =
-      ap (map from_word) h2 ∙ map_words words₁ (end - low) word ∙ ap (λ (ws : List ℕ). map from_word ws ++ replicate (end - low) (from_word word)) h1
-      ∙ ap (λ (xs : List (Option ℕ)). xs ++ replicate (end - low) (from_word word)) (map_words words (low - from) 0) in
+      let all : map decoded_option words₂ ≡ (W ++ gap) ++ replicate (end - low) (decoded_option word) =
+      ap (map decoded_option) h2 ∙ map_words words₁ (end - low) word ∙ ap (λ (ws : List ℕ). map decoded_option ws ++ replicate (end - low) (decoded_option word)) h1
+      ∙ ap (λ (xs : List (Option ℕ)). xs ++ replicate (end - low) (decoded_option word)) (map_words words (low - from) 0) in
       ap (λ (xs : List (Option ℕ)). onto xs more) all
       ∙ ap (λ (v : Option ℕ). onto ((W ++ gap) ++ replicate (end - low) v) more) hw
       ∙ ap (with_rest more.1) (append_assoc (W ++ gap) (replicate (end - low) (below 16512 value)) more.0
@@ -114,10 +114,10 @@ module _ (version : Version) (width : ℕ) where
       ap (λ (c : Bool). if c then run_then n from (read_run version text) else pair (replicate (width - from) None) text) (ne_eqb (slice_index text 0) 32 (h (omega arith)))
 
   pub row_ends : (words words₁ : List ℕ) (n from : ℕ) (text : List ℕ) → (0 < n → slice_index text 0 ≢ 32) → words₁ ≡ words ++ replicate (width - from) 0 →
-      pair (map from_word words₁) text ≡ onto (map from_word words) (read_row version width n from text)
+      pair (map decoded_option words₁) text ≡ onto (map decoded_option words) (read_row version width n from text)
   row_ends words words₁ n from text h e =
-      ap (λ (ws : List ℕ). pair (map from_word ws) text) e ∙ ap (λ (xs : List (Option ℕ)). pair xs text) (map_words words (width - from) 0)
-      ∙ ap (λ more. onto (map from_word words) more) (sym (row_stops n from text h))
+      ap (λ (ws : List ℕ). pair (map decoded_option ws) text) e ∙ ap (λ (xs : List (Option ℕ)). pair xs text) (map_words words (width - from) 0)
+      ∙ ap (λ more. onto (map decoded_option words) more) (sym (row_stops n from text h))
 
 -- the bytes, one behind the other
 range_more : (a n : ℕ) → range_with_len a (suc n) ≡ range_with_len a n ++ ((a + n) ∷ [])

@@ -6,9 +6,9 @@ use Rattle.std.proofs.lemmas.Bool.Decides.{eqb_tells}
 use Rattle.std.proofs.lemmas.Nat.{row_fits}
 use Rattle.lx_auto.specs.Automata.{Machine, IsMachine, HasByteClasses, class_target}
 use Rattle.lx_tables.specs.Model.{AreByteClasses}
-use Rattle.lx_auto.specs.Words.{from_word}
+use Rattle.lx_auto.specs.EncodedOptions.{decoded_option}
 
-pub word_at : (xs : List ℕ) (i : ℕ) → slice_index_or (map from_word xs) i None ≡ from_word (slice_index xs i)
+pub word_at : (xs : List ℕ) (i : ℕ) → slice_index_or (map decoded_option xs) i None ≡ decoded_option (slice_index xs i)
 word_at [] i = refl
 word_at (x ∷ xs) zero = refl
 word_at (x ∷ xs) (suc i) = word_at xs i
@@ -19,8 +19,8 @@ in_row i c n w hi hc = let r = row_fits i w n w hi (omega arith) in omega arith
 pub different : (a b : ℕ) → a ≢ b → eqb a b ≡ false
 different a b ne = elim (eqb_tells a b) [ inl t ↦ absurd (ne t.1) | inr t ↦ t.0 ]
 
-pub from_word-some : (n : ℕ) → n ≢ 0 → from_word n ≡ Some (n - 1)
-from_word-some n h = rw (different n 0 h) refl
+pub decoded_option-some : (n : ℕ) → n ≢ 0 → decoded_option n ≡ Some (n - 1)
+decoded_option-some n h = rw (different n 0 h) refl
 
 -- numbered and different classes are the byte classes
 pub byte_classes : (m : Machine) → IsMachine m → HasByteClasses m → AreByteClasses m
@@ -32,23 +32,23 @@ byte_classes m is has = record {
   numbered = has.numbered;
 }
 
-pub from_word-same : (a b : ℕ) → from_word a ≡ from_word b → a ≡ b
-from_word-same a b e = elim (cases_eq a 0) [
+pub decoded_option-same : (a b : ℕ) → decoded_option a ≡ decoded_option b → a ≡ b
+decoded_option-same a b e = elim (cases_eq a 0) [
   | inl f ↦ elim (cases_eq b 0) [
     | inl g ↦ f ∙ sym g
-    | inr g ↦ let h : None ≡ Some (b - 1) = sym (ap from_word f) ∙ e ∙ from_word-some b g in cc
+    | inr g ↦ let h : None ≡ Some (b - 1) = sym (ap decoded_option f) ∙ e ∙ decoded_option-some b g in cc
   ]
   | inr f ↦ elim (cases_eq b 0) [
-    | inl g ↦ let h : Some (a - 1) ≡ None = sym (from_word-some a f) ∙ e ∙ ap from_word g in cc
-    | inr g ↦ let h : Some (a - 1) ≡ Some (b - 1) = sym (from_word-some a f) ∙ e ∙ from_word-some b g in
+    | inl g ↦ let h : Some (a - 1) ≡ None = sym (decoded_option-some a f) ∙ e ∙ ap decoded_option g in cc
+    | inr g ↦ let h : Some (a - 1) ≡ Some (b - 1) = sym (decoded_option-some a f) ∙ e ∙ decoded_option-some b g in
         let k : a - 1 ≡ b - 1 = cc in omega arith
   ]
 ]
 
-pub word_above : (word n : ℕ) → from_word word ≡ Some n → word ≡ n + 1
+pub word_above : (word n : ℕ) → decoded_option word ≡ Some n → word ≡ n + 1
 word_above word n e = elim (cases_eq word 0) [
-  | inl f ↦ let g : None ≡ Some n = sym (ap from_word f) ∙ e in cc
-  | inr f ↦ let g : Some (word - 1) ≡ Some n = sym (from_word-some word f) ∙ e in let k : word - 1 ≡ n = cc in omega arith
+  | inl f ↦ let g : None ≡ Some n = sym (ap decoded_option f) ∙ e in cc
+  | inr f ↦ let g : Some (word - 1) ≡ Some n = sym (decoded_option-some word f) ∙ e in let k : word - 1 ≡ n = cc in omega arith
 ]
 
 pub if_some : (o : Option ℕ) (P : ℕ → Type 0) → ((n : ℕ) → o ≡ Some n → P n) → IfSome o P

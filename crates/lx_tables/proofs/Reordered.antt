@@ -6,12 +6,12 @@ use Rattle.std.proofs.lemmas.List.Elements.{All-head, All-tail}
 use Rattle.std.proofs.lemmas.Option.{slice_get_within}
 use Rattle.lx_spec.specs.Plain.{PlainSpec}
 use Rattle.lx_auto.specs.Automata.{Machine, IsMachine, HasByteClasses, state_count, start_of, accepted_by, class_target, target_of, state_after, accepted_at, answer}
-use Rattle.lx_auto.specs.Equivalence.{AnswerAlike}
+use Rattle.lx_auto.specs.Equivalence.{AreEquivalentMachines}
 use Rattle.lx_auto.specs.Meaning.{IsAnswer, IsAutomatonOf}
-use Rattle.lx_auto.specs.Words.{from_word, machine_of}
+use Rattle.lx_auto.specs.EncodedOptions.{decoded_option, machine_of}
 use Rattle.lx_tables.specs.Numbered.{AreAllMet, AreStarts, AreAccepted, AreRows, word_of, rule_below}
 use Rattle.lx_tables.proofs.Meeting.{all_met}
-use Rattle.lx_tables.proofs.Reading.{word_at, from_word-some, from_word-same, word_above, in_row}
+use Rattle.lx_tables.proofs.Reading.{word_at, decoded_option-some, decoded_option-same, word_above, in_row}
 
 pub rule_kept : (rules rule : ℕ) → rule < rules → rule_below rules (Some rule) ≡ Some rule
 rule_kept rules rule l = ap (λ (b : Bool). if b then Some rule else None) (lt-ltb rule rules l)
@@ -40,7 +40,7 @@ module _ (m : Machine) (states words : List ℕ) (starts : List (ℕ × ℕ)) (a
   places = all_met states words all ∙ long
 
   count : state_count q ≡ state_count m
-  count = length-map accepted from_word ∙ are_accepted.long ∙ places
+  count = length-map accepted decoded_option ∙ are_accepted.long ∙ places
 
   has_word : (s : ℕ) → s < state_count m → slice_index words s ≢ 0
   has_word s h = all.each s (omega (arith, long))
@@ -57,13 +57,13 @@ module _ (m : Machine) (states words : List ℕ) (starts : List (ℕ × ℕ)) (a
 
   -- where a state of the automaton is in the new order
   abbrev moved : Option ℕ → Option ℕ
-  moved o = from_word (word_of words o)
+  moved o = decoded_option (word_of words o)
 
   moved_some : (s : ℕ) → s < state_count m → moved (Some s) ≡ Some (slice_index words s - 1)
-  moved_some s h = from_word-some (slice_index words s) (has_word s h)
+  moved_some s h = decoded_option-some (slice_index words s) (has_word s h)
 
   target_place : (i c : ℕ) → i < length states → c < m.width → class_target q i c ≡ moved (class_target m (slice_index states i) c)
-  target_place i c hi hc = word_at targets (i * m.width + c) ∙ ap from_word (are_rows.each i c hc (in_row i c (length states) m.width hi hc))
+  target_place i c hi hc = word_at targets (i * m.width + c) ∙ ap decoded_option (are_rows.each i c hc (in_row i c (length states) m.width hi hc))
 
   accepted_state : (s : ℕ) → s < state_count m → accepted_by q (slice_index words s - 1) ≡ rule_below rules (accepted_by m s)
   accepted_state s h =
@@ -142,7 +142,7 @@ module _ (m : Machine) (states words : List ℕ) (starts : List (ℕ × ℕ)) (a
     bytes = is.bytes;
     below = is.below;
     narrow = is.narrow;
-    rows = length-map targets from_word ∙ are_rows.long ∙ ap (λ n. n * m.width) (places ∙ sym count);
+    rows = length-map targets decoded_option ∙ are_rows.long ∙ ap (λ n. n * m.width) (places ∙ sym count);
     closed = λ s c t hs hc e.
         let l : s < length states = omega (arith, count, places) in
         let b = all.met.below s l in
@@ -168,7 +168,7 @@ module _ (m : Machine) (states words : List ℕ) (starts : List (ℕ × ℕ)) (a
         let n = has_word s h in
         let e : moved (class_target m s c) ≡ moved (class_target m s d) =
         sym (target_state s c h hc) ∙ like (slice_index words s - 1) (omega (arith, count, places)) ∙ target_state s d h hd in
-        moved_same (class_target m s c) (class_target m s d) (λ t f. is.closed s c t h hc f) (λ t f. is.closed s d t h hd f) (from_word-same _ _ e));
+        moved_same (class_target m s c) (class_target m s d) (λ t f. is.closed s c t h hc f) (λ t f. is.closed s d t h hd f) (decoded_option-same _ _ e));
   }
 
   -- so the answers are those of the automaton, where those are rules of a specification
@@ -179,7 +179,7 @@ module _ (m : Machine) (states words : List ℕ) (starts : List (ℕ × ℕ)) (a
         answers_below c begin w h bytes ∙ ap (λ k. rule_below k (answer m c begin w)) same
         ∙ answer_kept spec c begin w (answer m c begin w) (of.answers c begin w (omega arith) bytes)
 
-    pub reordered_alike : AnswerAlike m q
+    pub reordered_alike : AreEquivalentMachines m q
     reordered_alike = record { answers = same_answer }
 
     pub reordered_automaton : IsAutomatonOf spec q

@@ -4,7 +4,7 @@ use Rattle.std.proofs.lemmas.Bool.{cases_lt}
 use Rattle.std.proofs.lemmas.List.{get_or_append_left, get_or_push, length_push}
 use Rattle.std.proofs.lemmas.Nat.{row_fits}
 use Rattle.lx_auto.specs.Automata.{Machine, accepted_by, class_target}
-use Rattle.lx_auto.specs.Words.{from_word}
+use Rattle.lx_auto.specs.EncodedOptions.{decoded_option}
 use Rattle.lx_tables.specs.Numbered.{AreStarts, AreAccepted, AreRows, word_of, rule_below}
 
 same_row : (i j c d w : ℕ) → c < w → d < w → i * w + c ≡ j * w + d → (i ≡ j) × (c ≡ d)
@@ -35,7 +35,7 @@ start_push m words starts n y are e f =
     }
 
 pub accepted_push : (m : Machine) (rules : ℕ) (states accepted : List ℕ) (n x : ℕ) → AreAccepted m rules states accepted n →
-    from_word x ≡ rule_below rules (accepted_by m (slice_index states n)) → AreAccepted m rules states (accepted ++ x ∷ []) (n + 1)
+    decoded_option x ≡ rule_below rules (accepted_by m (slice_index states n)) → AreAccepted m rules states (accepted ++ x ∷ []) (n + 1)
 accepted_push m rules states accepted n x are e = record {
   long = length_push accepted x ∙ ap (λ k. k + 1) are.long;
   each = λ i h. elim (cases_lt i n) [

@@ -9,12 +9,12 @@ use Rattle.std.proofs.lemmas.List.Folds.{list_all-map}
 use Rattle.std.proofs.lemmas.Nat.{div-add-mod'}
 use Rattle.std.proofs.Math.Nat.{mod-lt, mul-zero, div-lt_iff_lt-mul}
 use Rattle.lx_auto.specs.Automata.{Machine, state_count, start_of, accepted_by}
-use Rattle.lx_auto.specs.Words.{from_word, machine_of}
+use Rattle.lx_auto.specs.EncodedOptions.{decoded_option, machine_of}
 use Rattle.lx_spec.specs.Invariant.{are_steps}
 use Rattle.lx_tables.specs.Limits.{IsMachineFor, are_rules, is_start, have_lengths, are_in_range}
 use Rattle.lx_tables.specs.Views.{rule_view, rules_view}
 use Rattle.lx_tables.specs.declared.table_rule.TableRule.{TableRule as CodeRule}
-use Rattle.lx_tables.proofs.Reading.{word_at, from_word-some, word_above}
+use Rattle.lx_tables.proofs.Reading.{word_at, decoded_option-some, word_above}
 
 eqb-refl : (n : ℕ) → (n == n) ≡ true
 eqb-refl n = elim (eqb_tells n n) [ inl t ↦ t.0 | inr t ↦ absurd (t.1 refl) ]
@@ -40,7 +40,7 @@ module _ (rules : ℕ) (starts : List (ℕ × ℕ)) (classes : List ℕ) (width 
   m = machine_of starts classes width accepted targets
 
   states : state_count m ≡ length accepted
-  states = length-map accepted from_word
+  states = length-map accepted decoded_option
 
   record Lengths : Type 0 where
     pub some : 0 < length starts
@@ -97,7 +97,7 @@ module _ (rules : ℕ) (starts : List (ℕ × ℕ)) (classes : List ℕ) (width 
           bytes = long.bytes;
           below = λ k l. ltb-true (slice_index classes k) width (each_of (λ class. nat_lt class width) 0 classes b.0 k (let e = long.bytes in omega arith));
           narrow = long.narrow;
-          rows = length-map targets from_word ∙ long.rows ∙ ap (λ n. n * width) (sym states);
+          rows = length-map targets decoded_option ∙ long.rows ∙ ap (λ n. n * width) (sym states);
           closed = λ s class t hs hc e.
               let w = word_above (slice_index targets (s * width + class)) t (sym (word_at targets (s * width + class)) ∙ e) in
               let l = word_within (length accepted) targets c.1 (s * width + class) in
@@ -112,7 +112,7 @@ module _ (rules : ℕ) (starts : List (ℕ × ℕ)) (classes : List ℕ) (width 
     pub lengths_tested : have_lengths starts classes width accepted targets ≡ true
     lengths_tested =
         let machine = is.machine in
-        let rows : length targets ≡ length accepted * width = sym (length-map targets from_word) ∙ machine.rows ∙ ap (λ n. n * width) states in
+        let rows : length targets ≡ length accepted * width = sym (length-map targets decoded_option) ∙ machine.rows ∙ ap (λ n. n * width) states in
         and_from (nat_lt 0 (length starts)) _ (lt-ltb 0 (length starts) machine.some)
         (and_from (nat_le (length starts) 64) _ (le-leb (length starts) 64 machine.few)
         (and_from (length classes == 256) _ (let e = machine.bytes in rw e refl)
@@ -125,7 +125,7 @@ module _ (rules : ℕ) (starts : List (ℕ × ℕ)) (classes : List ℕ) (width 
         elim (cases_eq (slice_index targets i) 0) [
           | inl e ↦ omega arith
           | inr e ↦
-              let rows : length targets ≡ length accepted * width = sym (length-map targets from_word) ∙ is.machine.rows ∙ ap (λ n. n * width) states in
+              let rows : length targets ≡ length accepted * width = sym (length-map targets decoded_option) ∙ is.machine.rows ∙ ap (λ n. n * width) states in
               let wide : 0 < width = (elim (cases_eq width 0) [
                 | inl z ↦ let none : length accepted * width ≡ 0 = ap (λ n. length accepted * n) z ∙ mul-zero (length accepted) in absurd (omega arith)
                 | inr z ↦ omega arith
@@ -134,14 +134,14 @@ module _ (rules : ℕ) (starts : List (ℕ × ℕ)) (classes : List ℕ) (width 
               let c : i % width < width = mod-lt i wide in
               let s : i / width < length accepted = (div-lt_iff_lt-mul wide).1 (omega arith) in
               let t = is.machine.closed (i / width) (i % width) (slice_index targets i - 1) (omega (arith, states)) c
-              (ap (λ k. slice_index_or (map from_word targets) k None) parts ∙ word_at targets i ∙ from_word-some (slice_index targets i) e) in
+              (ap (λ k. slice_index_or (map decoded_option targets) k None) parts ∙ word_at targets i ∙ decoded_option-some (slice_index targets i) e) in
               omega (arith, states)
         ]
 
     accepted_within : (s : ℕ) → s < length accepted → slice_index accepted s ≤ rules
     accepted_within s l = elim (cases_eq (slice_index accepted s) 0) [
       | inl e ↦ omega arith
-      | inr e ↦ let r = is.accepted s (slice_index accepted s - 1) (word_at accepted s ∙ from_word-some (slice_index accepted s) e) in omega arith
+      | inr e ↦ let r = is.accepted s (slice_index accepted s - 1) (word_at accepted s ∙ decoded_option-some (slice_index accepted s) e) in omega arith
     ]
 
     pub range_tested : are_in_range rules starts classes width accepted targets ≡ true

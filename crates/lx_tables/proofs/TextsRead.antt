@@ -3,7 +3,7 @@ use Rattle.std.proofs.Common.{ℕ, ◌≡◌, ◌≢◌, Bool, true, false, List
 use Rattle.std.specs.Prelude.{IsTrue, ◌==◌, if◌then◌else◌, slice_index, slice_index_or}
 use Rattle.std.specs.List.{list_all}
 use Rattle.lx_spec.specs.Invariant.{are_steps}
-use Rattle.lx_auto.specs.Automata.{Machine, IsMachine, HasByteClasses, StepsAlike}
+use Rattle.lx_auto.specs.Automata.{Machine, IsMachine, HasByteClasses, HasSameSteps}
 use Rattle.lx_tables.specs.Model.{TableRule, Table, IsTable}
 use Rattle.lx_tables.specs.Limits.{HasLimits}
 use Rattle.lx_tables.specs.Reading.{IsTextOf, IsNoText, own_text, IsClassed}
@@ -17,7 +17,7 @@ use Rattle.lx_tables.proofs.ByBytes.{limits, limits_by_bytes, same_machine, same
 abbrev table_with : Machine → List (List ℕ) → List TableRule → Table
 table_with machine kinds rules = record { machine = machine; kinds = kinds; rules = rules }
 
-pub classed : (raw : Table) (a : Machine) (kinds : List (List ℕ)) (rules : List TableRule) → HasLimits raw → IsMachine a → HasByteClasses a → StepsAlike raw.machine a →
+pub classed : (raw : Table) (a : Machine) (kinds : List (List ℕ)) (rules : List TableRule) → HasLimits raw → IsMachine a → HasByteClasses a → HasSameSteps raw.machine a →
     kinds ≡ raw.kinds → rules ≡ raw.rules → IsTable (table_with a kinds rules)
 classed raw a kinds rules has ia ha alike e f = rw (e, f) (record {
   machine = ia;

@@ -1,7 +1,7 @@
 -- States of an automaton in another order.
 use Rattle.std.specs.Prelude.{◌≡◌, ◌≢◌, ℕ, ◌+◌, ◌-◌, ◌*◌, ◌<◌, ◌≤◌, ◌==◌, nat_lt, if◌then◌else◌, List, [], ◌∷◌, Option, Some, None, length, slice_index, slice_index_or}
 use Rattle.lx_auto.specs.Automata.{Machine, accepted_by, class_target}
-use Rattle.lx_auto.specs.Words.{from_word}
+use Rattle.lx_auto.specs.EncodedOptions.{decoded_option}
 
 -- how many of the words are 0
 abbrev pub zeros : List ℕ → ℕ
@@ -40,7 +40,7 @@ pub record AreStarts (m : Machine) (words : List ℕ) (starts : List (ℕ × ℕ
 -- of the first n states the words of the rules that they accept, where those are below
 pub record AreAccepted (m : Machine) (rules : ℕ) (states accepted : List ℕ) (n : ℕ) : Type 0 where
   pub long : length accepted ≡ n
-  pub each : (i : ℕ) → i < n → from_word (slice_index accepted i) ≡ rule_below rules (accepted_by m (slice_index states i))
+  pub each : (i : ℕ) → i < n → decoded_option (slice_index accepted i) ≡ rule_below rules (accepted_by m (slice_index states i))
 
 -- the first n words of the rows in the new order
 pub record AreRows (m : Machine) (states words targets : List ℕ) (n : ℕ) : Type 0 where

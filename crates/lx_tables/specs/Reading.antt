@@ -1,6 +1,6 @@
 -- What reading tables from a text tells.
 use Rattle.std.specs.Prelude.{◌≡◌, ℕ, ◌==◌, ◌⊎◌, if◌then◌else◌, List, slice_index}
-use Rattle.lx_auto.specs.Automata.{StepsAlike}
+use Rattle.lx_auto.specs.Automata.{HasSameSteps}
 use Rattle.lx_tables.specs.Model.{Table, IsTable}
 use Rattle.lx_tables.specs.Texts.{text_1, text_2}
 
@@ -19,6 +19,6 @@ own_text text table = if slice_index text 10 == 50 then text_2 table else text_1
 -- A table that steps on every byte as another one does, over byte classes, with its kinds and rules.
 pub record IsClassed (raw classed : Table) : Type 0 where
   pub is_table : IsTable classed
-  pub steps : StepsAlike raw.machine classed.machine
+  pub steps : HasSameSteps raw.machine classed.machine
   pub kinds : classed.kinds ≡ raw.kinds
   pub rules : classed.rules ≡ raw.rules

@@ -1,7 +1,7 @@
 // The fields of a table's text, read leniently: each function answers for every text, with a value and what stands behind it.
 
 ghost use Rattle.std.specs.Prelude.{◌≡◌, ◌<◌, ◌≤◌, ◌==◌, drop, slice_index};
-ghost use Rattle.lx_auto.specs.Words.{from_word};
+ghost use Rattle.lx_auto.specs.EncodedOptions.{decoded_option};
 ghost use Rattle.lx_tables.specs.Readers.{read_digits, read_count, read_start, read_line, read_kind, read_step, read_accepts, read_range, read_entry, read_run, below, within, step_of};
 
 use crate::version::Version;
@@ -42,7 +42,7 @@ pub(crate) fn count(text: &[u8], word: usize, most: u32) -> (u32, &[u8])
 /// The word of a number: one more where it is one of so many, else 0.
 fn word_below(limit: u32, n: u32) -> u16
     requires { limit < 65536 }
-    ensures { from_word result ≡ below limit n }
+    ensures { decoded_option result ≡ below limit n }
 {
     if n < limit { n as u16 + 1 } else { 0 }
 }
@@ -119,7 +119,7 @@ pub(crate) fn step(text: &[u8]) -> (Step, &[u8])
 
 /// The word of the rule that a state accepts.
 pub(crate) fn accepts(text: &[u8]) -> (u16, &[u8])
-    ensures { (from_word result.0, result.1.now) ≡ read_accepts text.now }
+    ensures { (decoded_option result.0, result.1.now) ≡ read_accepts text.now }
 {
     let (rule, rest) = number(text);
     if byte_at(rest, 0) == b'-' {
@@ -159,7 +159,7 @@ pub(crate) fn run(text: &[u8], version: Version) -> ((u32, u32, u32), &[u8])
 
 /// The word of a run's value, which is 0 where that is no number of a state.
 pub(crate) fn value_word(value: u32) -> u16
-    ensures { from_word result ≡ below 16512 value }
+    ensures { decoded_option result ≡ below 16512 value }
 {
     word_below(16512, value)
 }

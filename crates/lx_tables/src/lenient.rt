@@ -2,7 +2,7 @@
 
 ghost use Rattle.std.specs.Prelude.{◌≡◌, ◌++◌, ◌≤◌, ◌/◌, IfOk, OnOk, length, map, min, replicate};
 ghost use Rattle.lx_spec.specs.views.Rules.{names_view};
-ghost use Rattle.lx_auto.specs.Words.{from_word};
+ghost use Rattle.lx_auto.specs.EncodedOptions.{decoded_option};
 ghost use Rattle.lx_tables.specs.Readers.{onto, state_onto, read_list, read_start, read_kind, read_rule, read_steps, read_front, read_row, read_state, read_lines, read_states, read_1, read_2, read_text, read_classes, class_of};
 ghost use Rattle.lx_tables.specs.Texts.{all_bytes};
 ghost use Rattle.lx_tables.specs.Views.{rule_view, rules_view, front_view, raw_view};
@@ -120,7 +120,7 @@ fn row<'a>(
     width: u32,
     words: &mut Vec<u16>,
 ) -> Result<&'a [u8], AllocError>
-    ensures { IfOk result (λ rest. (map from_word words.new.items, rest.now) ≡ onto (map from_word words.old.items) (read_row version width width 0 text.now)) }
+    ensures { IfOk result (λ rest. (map decoded_option words.new.items, rest.now) ≡ onto (map decoded_option words.old.items) (read_row version width width 0 text.now)) }
 {
     let mut from = 0;
     let mut rest = text;
@@ -147,7 +147,7 @@ fn state<'a>(
     accepted: &mut Vec<u16>,
     targets: &mut Vec<u16>,
 ) -> Result<&'a [u8], AllocError>
-    ensures { IfOk result (λ rest. (map from_word accepted.new.items, map from_word targets.new.items, rest.now) ≡ state_onto (map from_word accepted.old.items) (map from_word targets.old.items) (read_state version width text.now)) }
+    ensures { IfOk result (λ rest. (map decoded_option accepted.new.items, map decoded_option targets.new.items, rest.now) ≡ state_onto (map decoded_option accepted.old.items) (map decoded_option targets.old.items) (read_state version width text.now)) }
 {
     let (word, rest) = accepts(behind(text, 6));
     accepted.push(word)?;
@@ -162,7 +162,7 @@ fn states(
     version: Version,
     width: u32,
 ) -> Result<(Vec<u16>, Vec<u16>), AllocError>
-    ensures { IfOk result (λ r. (map from_word r.0.items, map from_word r.1.items) ≡ read_states version width text.now) }
+    ensures { IfOk result (λ r. (map decoded_option r.0.items, map decoded_option r.1.items) ≡ read_states version width text.now) }
 {
     let (many, first) = count(text, 7, (text.len() / 8).min(16512) as u32);
     let mut accepted = Vec::new(alloc);
@@ -176,7 +176,7 @@ fn states(
 
 /// The class of a word that was read.
 fn class_of_word(word: u16) -> u8
-    ensures { result ≡ class_of (from_word word) }
+    ensures { result ≡ class_of (decoded_option word) }
 {
     if word == 0 || word > 256 {
         0
@@ -187,7 +187,7 @@ fn class_of_word(word: u16) -> u8
 
 /// The classes of words that were read.
 fn classes_of_words(alloc: Global, words: &[u16]) -> Result<Vec<u8>, AllocError>
-    ensures { IfOk result (λ classes. classes.items ≡ map class_of (map from_word words.now)) }
+    ensures { IfOk result (λ classes. classes.items ≡ map class_of (map decoded_option words.now)) }
 {
     let mut classes = Vec::new(alloc);
     for word in words {

@@ -3,7 +3,7 @@
 ghost use Rattle.std.specs.Prelude.{◌≡◌, ◌<◌, ◌++◌, ℕ, List, OnOk, OnErr, codes, length};
 ghost use Rattle.std.specs.List.{flat_map};
 ghost use Rattle.lx_auto.specs.Automata.{state_count};
-ghost use Rattle.lx_auto.specs.Words.{from_word};
+ghost use Rattle.lx_auto.specs.EncodedOptions.{decoded_option};
 ghost use Rattle.lx_tables.specs.Lines.{value_of, HasState, targets_text, state_line};
 ghost use Rattle.lx_tables.specs.Output.{Wrote, WrotePrefix};
 ghost use Rattle.lx_tables.specs.Texts.{start_line, kind_line, step_text, cut_text, range_text, byte_ranges, accepts_text, entries_text, entry_text, class_line};
@@ -92,7 +92,7 @@ pub(crate) fn write_rule<W: Write>(out: &mut W, cut: bool, steps: &[Step]) -> Re
 /// The value of a byte as a word: 0 for none, or one more.
 fn value_word(tables: &Tables, values: ByteValues, byte: u8) -> u16
     requires { HasState tables.now.machine values }
-    ensures { from_word result ≡ value_of tables.now.machine values byte }
+    ensures { decoded_option result ≡ value_of tables.now.machine values byte }
 {
     let class = tables.class(byte);
     match values {
@@ -102,8 +102,8 @@ fn value_word(tables: &Tables, values: ByteValues, byte: u8) -> u16
 }
 
 fn write_range<W: Write>(out: &mut W, low: u32, high: u32, word: u16) -> Result<(), io::Error>
-    ensures ok { OnOk result (Wrote (W.contents out.old) (W.contents out.new) (range_text low high (from_word word))) }
-    ensures err { OnErr result (WrotePrefix (W.contents out.old) (W.contents out.new) (range_text low high (from_word word))) }
+    ensures ok { OnOk result (Wrote (W.contents out.old) (W.contents out.new) (range_text low high (decoded_option word))) }
+    ensures err { OnErr result (WrotePrefix (W.contents out.old) (W.contents out.new) (range_text low high (decoded_option word))) }
 {
     if word == 0 {
         return Ok(());
@@ -146,8 +146,8 @@ fn write_ranges<W: Write>(out: &mut W, tables: &Tables, values: ByteValues) -> R
 }
 
 fn write_entry<W: Write>(out: &mut W, class: u16, word: u16) -> Result<(), io::Error>
-    ensures ok { OnOk result (Wrote (W.contents out.old) (W.contents out.new) (entry_text class (from_word word))) }
-    ensures err { OnErr result (WrotePrefix (W.contents out.old) (W.contents out.new) (entry_text class (from_word word))) }
+    ensures ok { OnOk result (Wrote (W.contents out.old) (W.contents out.new) (entry_text class (decoded_option word))) }
+    ensures err { OnErr result (WrotePrefix (W.contents out.old) (W.contents out.new) (entry_text class (decoded_option word))) }
 {
     if word == 0 {
         return Ok(());

@@ -2,7 +2,7 @@
 
 ghost use Rattle.std.specs.Prelude.{IfOk};
 ghost use Rattle.lx_spec.specs.views.Specs.{spec_view};
-ghost use Rattle.lx_auto.specs.Equivalence.{AnswerAlike};
+ghost use Rattle.lx_auto.specs.Equivalence.{AreEquivalentMachines};
 ghost use Rattle.lx_auto.specs.Meaning.{IsAutomatonOf};
 ghost use Rattle.lx_tables.specs.Model.{AreTablesOf};
 
@@ -22,11 +22,9 @@ impl Tables {
     pub fn of(alloc: Global, spec: &Spec, automaton: &Automaton) -> Result<Tables, AllocError>
         requires { IsAutomatonOf (spec_view spec.now) automaton.now }
         ensures tables { IfOk result (λ tables. AreTablesOf (spec_view spec.now) tables) }
-        ensures answers { IfOk result (λ tables. AnswerAlike automaton.now tables.machine) }
+        ensures answers { IfOk result (λ tables. AreEquivalentMachines automaton.now tables.machine) }
     {
         specs_are_well_formed();
-        // its contract says what holds of all automata
-        let _conditions = automaton.conditions();
         let numbering = numbering_of(alloc, automaton)?;
         let starts = starts_of(alloc, automaton, &numbering)?;
         let classes = classes_of(alloc, automaton)?;

@@ -62,8 +62,6 @@ fn meet_targets(
     ensures met { OnOk result (AreMet numbering.new.states.items numbering.new.words.items) }
     ensures long { OnOk result (length numbering.new.words.items ≡ state_count automaton.now) }
 {
-    // its contract says what holds of all automata
-    let _conditions = automaton.conditions();
     for class in 0..automaton.classes() {
         if let Some(target) = automaton.class_step(State(state), class as u8) {
             meet(numbering, target.0)?;
@@ -79,8 +77,6 @@ fn meet_others(automaton: &Automaton, numbering: &mut Numbering) -> Result<(), A
     ensures met { OnOk result (AreAllMet numbering.new.states.items numbering.new.words.items) }
     ensures long { OnOk result (length numbering.new.words.items ≡ state_count automaton.now) }
 {
-    // its contract says what holds of all automata
-    let _conditions = automaton.conditions();
     for state in 0..automaton.states() {
         meet(numbering, state)?;
     }

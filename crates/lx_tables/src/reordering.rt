@@ -2,7 +2,7 @@
 
 ghost use Rattle.std.specs.Prelude.{◌≡◌, ◌<◌, ◌≤◌, ◌+◌, ◌*◌, ℕ, IfOk, OnOk, length, slice_index};
 ghost use Rattle.lx_auto.specs.Automata.{state_count, accepted_by, class_target};
-ghost use Rattle.lx_auto.specs.Words.{from_word};
+ghost use Rattle.lx_auto.specs.EncodedOptions.{decoded_option};
 ghost use Rattle.lx_tables.specs.Numbered.{AreAllMet, AreStarts, AreAccepted, AreRows, word_of, rule_below};
 
 use crate::numbering::Numbering;
@@ -41,8 +41,6 @@ pub(crate) fn starts_of(
 pub(crate) fn classes_of(alloc: Global, automaton: &Automaton) -> Result<Vec<u8>, AllocError>
     ensures { IfOk result (λ classes. classes.items ≡ automaton.now.classes) }
 {
-    // its contract says what holds of all automata
-    let _conditions = automaton.conditions();
     let mut classes = Vec::new(alloc);
     for byte in 0..256u16 {
         classes.push(automaton.class(byte as u8))?;
@@ -54,7 +52,7 @@ pub(crate) fn classes_of(alloc: Global, automaton: &Automaton) -> Result<Vec<u8>
 fn accepted_word(automaton: &Automaton, state: u32, rules: u16) -> u16
     requires state { state < state_count automaton.now }
     requires rules { rules ≤ 4096 }
-    ensures { from_word result ≡ rule_below rules (accepted_by automaton.now state) }
+    ensures { decoded_option result ≡ rule_below rules (accepted_by automaton.now state) }
 {
     match automaton.accepts(State(state)) {
         None => 0,
@@ -108,8 +106,6 @@ fn add_row(
     requires rows { AreRows automaton.now numbering.now.states.items numbering.now.words.items targets.old.items (place * automaton.now.width) }
     ensures { OnOk result (AreRows automaton.now numbering.now.states.items numbering.now.words.items targets.new.items ((place + 1) * automaton.now.width)) }
 {
-    // its contract says what holds of all automata
-    let _conditions = automaton.conditions();
     for class in 0..automaton.classes() {
         let word = target_word(automaton, numbering, numbering.states[place], class as u8);
         targets.push(word)?;

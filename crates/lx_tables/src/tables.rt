@@ -3,7 +3,7 @@
 ghost use Rattle.std.specs.Prelude.{◌≡◌, ◌<◌, ◌≤◌, length, IfSome, option_map, slice_index};
 ghost use Rattle.lx_spec.specs.views.Rules.{names_view};
 ghost use Rattle.lx_auto.specs.Automata.{state_count, start_of, accepted_by, class_target, target_of};
-ghost use Rattle.lx_auto.specs.Words.{from_word};
+ghost use Rattle.lx_auto.specs.EncodedOptions.{decoded_option};
 ghost use Rattle.lx_tables.specs.Model.{Table, IsTable, AreByteClasses, rule_at, kind_at};
 ghost use Rattle.lx_tables.specs.Views.{rules_view};
 
@@ -75,7 +75,7 @@ impl Tables {
     pub(crate) fn word(&self, state: u32, class: u8) -> u16
         requires state { state < state_count self.now.machine }
         requires class { class < self.now.machine.width }
-        ensures { from_word result ≡ class_target self.now.machine state class }
+        ensures { decoded_option result ≡ class_target self.now.machine state class }
     {
         match self.automaton.class_step(State(state), class) {
             Some(target) => target.0 as u16 + 1,

@@ -2,7 +2,7 @@
 
 ghost use Rattle.std.specs.Prelude.{◌≡◌, ◌<◌, ◌≤◌, IfOk, IfErr};
 ghost use Rattle.lx_auto.specs.Counts.{count_of_spec};
-ghost use Rattle.lx_auto.specs.Equivalence.{IsLeast, HasLiveSteps};
+ghost use Rattle.lx_auto.specs.Equivalence.{IsMinimal, HasLiveSteps};
 ghost use Rattle.lx_auto.specs.Meaning.{IsAutomatonOf};
 ghost use Rattle.lx_auto.specs.PositionSets.{HasMoreReachedSets};
 ghost use Rattle.lx_spec.specs.views.Specs.{spec_view};
@@ -15,7 +15,7 @@ use std::alloc::Global;
 /// more reached sets.
 pub(crate) fn merged_automaton(alloc: Global, spec: &Spec) -> Result<Automaton, BuildFault>
     ensures automaton { IfOk result (λ a. IsAutomatonOf (spec_view spec.now) a) }
-    ensures told { IfOk result (λ a. IsLeast a) }
+    ensures minimal { IfOk result (λ a. IsMinimal a) }
     ensures live { IfOk result (λ a. HasLiveSteps a) }
     ensures positions { IfErr result (λ e. e ≡ BuildFault.TooManyPositions → 16384 < count_of_spec (spec_view spec.now)) }
     ensures sets { IfErr result (λ e. e ≡ BuildFault.TooManySets → (count_of_spec (spec_view spec.now) ≤ 16384) × HasMoreReachedSets (spec_view spec.now) 16384) }

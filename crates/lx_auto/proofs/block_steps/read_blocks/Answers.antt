@@ -1,7 +1,7 @@
 use Rattle.std.proofs.Common.{◌≡◌, ℕ, ◌+◌, ◌-◌, ◌<◌, length, take, drop, refl, sym, ◌∙◌, ap, arith, subst}
 use Rattle.std.proofs.lemmas.Option.{slice_get_read}
 use Rattle.lx_auto.specs.Blocks.{HasEnds}
-use Rattle.lx_auto.specs.Outlines as cut
+use Rattle.lx_auto.specs.Outlines as outlines
 use Rattle.lx_auto.specs.Passing.{read_list}
 use Rattle.lx_auto.proofs.BlockRead.{all_read, blocks_long, block_turn}
 use Rattle.lx_auto.proofs.block_steps.read_blocks.Goals as goal
@@ -51,5 +51,5 @@ returns-clause-set c = λ marks es k are have clear.
     let z : r ≡ 0 = omega arith in
     let first : k + 0 ≡ k = omega arith in
     c.down.invariant.set marks es k are have clear
-    ∙ ap (λ (i : ℕ). cut.read_blocks marks entered (drop i es) i (k + cut.positions_of (take i es)) old) z
-    ∙ ap (λ p. cut.read_blocks marks entered es 0 p old) first
+    ∙ ap (λ (i : ℕ). outlines.read_blocks marks entered (drop i es) i (k + outlines.positions_of (take i es)) old) z
+    ∙ ap (λ p. outlines.read_blocks marks entered es 0 p old) first

@@ -1,14 +1,14 @@
 use Rattle.std.proofs.Common.{◌≡◌, ◌≤◌, ◌+◌, ℕ, Bool, List, length, take, drop}
 use Rattle.lx_auto.specs.Unfolded.{Unfolded}
 use Rattle.lx_auto.specs.Blocks.{AreBlocks, HaveEnds, IsClear}
-use Rattle.lx_auto.specs.Outlines as cut
+use Rattle.lx_auto.specs.Outlines as outlines
 use Rattle.lx_auto.proofs.block_steps.read_blocks.Given as goal
 
 abbrev pub invariant-down : goal.invariant-down
 invariant-down l = record {
   set : (marks : List Bool) (es : List Unfolded) (k : ℕ) → AreBlocks l.blocks es k → HaveEnds marks l.blocks l.ends (length l.blocks) →
-      IsClear l.fn.reads.items k (k + cut.positions_of es) →
-      l.reads.items ≡ cut.read_blocks marks l.entered (drop l.rest es) l.rest (k + cut.positions_of (take l.rest es)) l.fn.reads.items;
+      IsClear l.fn.reads.items k (k + outlines.positions_of es) →
+      l.reads.items ≡ outlines.read_blocks marks l.entered (drop l.rest es) l.rest (k + outlines.positions_of (take l.rest es)) l.fn.reads.items;
   long : length l.reads.items ≡ length l.fn.reads.items;
   within : l.rest ≤ length l.blocks;
 }

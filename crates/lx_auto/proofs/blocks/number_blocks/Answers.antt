@@ -5,7 +5,7 @@ use Rattle.std.specs.declared.vec.Vec.{Vec}
 use Rattle.lx_auto.specs.Blocks.{IsBlockOver, AreBlocksOver, leaf_total}
 use Rattle.lx_auto.specs.NodeLeaves.{leaves_in}
 use Rattle.lx_auto.specs.NodeViews.{nodes_view}
-use Rattle.lx_auto.specs.Pieces.{block_nodes}
+use Rattle.lx_auto.specs.Chunks.{block_nodes}
 use Rattle.lx_auto.specs.declared.node.Node.{Node}
 use Rattle.lx_auto.proofs.BlockRead.{over_more, total_more, total_front}
 use Rattle.lx_auto.proofs.blocks.number_blocks.Goals as goal

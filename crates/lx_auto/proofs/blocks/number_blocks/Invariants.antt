@@ -1,6 +1,6 @@
 use Rattle.std.proofs.Common.{◌≡◌, ◌+◌, take}
 use Rattle.lx_auto.specs.Blocks.{AreBlocksOver, leaf_total}
-use Rattle.lx_auto.specs.Pieces.{block_nodes}
+use Rattle.lx_auto.specs.Chunks.{block_nodes}
 use Rattle.lx_auto.proofs.blocks.number_blocks.Given as goal
 
 abbrev pub invariant-loop-i : goal.invariant-loop-i

@@ -1,7 +1,7 @@
 use Rattle.lx_spec.specs.views.Specs.{spec_view}
-use Rattle.lx_auto.proofs.DraftAnswers.{alike_answers}
+use Rattle.lx_auto.proofs.DraftAnswers.{same_steps_answers}
 use Rattle.lx_auto.proofs.building.build.Goals as goal
 
 pub returns-clause-automaton : goal.returns-clause-automaton
 returns-clause-automaton c =
-    alike_answers (spec_view c.args.spec.now) c.in_ok-draft.draft _ c.in_ok-draft.ensures.machine c.in_ok-automaton.ensures.steps c.in_ok-draft.ensures.automaton
+    same_steps_answers (spec_view c.args.spec.now) c.in_ok-draft.draft _ c.in_ok-draft.ensures.machine c.in_ok-automaton.ensures.steps c.in_ok-draft.ensures.automaton

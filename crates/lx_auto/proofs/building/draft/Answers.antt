@@ -5,7 +5,7 @@ use Rattle.lx_spec.specs.views.Conditions.{condition_view}
 use Rattle.lx_spec.specs.views.Specs.{spec_view}
 use Rattle.lx_auto.specs.Drafting.{IsDrafted}
 use Rattle.lx_auto.specs.LeafViews.{leaves_view}
-use Rattle.lx_auto.specs.Trimmed.{trimmed_pattern}
+use Rattle.lx_auto.specs.Simplified.{simplified_pattern}
 use Rattle.lx_auto.proofs.DraftAnswers.{matched_below, targets_below, draft_machine, draft_answers}
 use Rattle.lx_auto.proofs.MoreSets.{more_reached}
 use Rattle.lx_auto.proofs.NoMoreSets.{no_more}
@@ -18,7 +18,7 @@ returns-in_err-explored-clause-sets c =
     let p = err_from_is_err_and c.from_residual-in_err-explored.result c.from_residual-in_err-explored.ensures.1 in
     rw (p.1, p.2) (λ is. (
       c.in_ok-positions.ensures.few,
-      more_reached spec 16384 (c.in_err-explored.ensures.many (trimmed_pattern spec.definitions) c.in_ok-positions.ensures.stands is),
+      more_reached spec 16384 (c.in_err-explored.ensures.many (simplified_pattern spec.definitions) c.in_ok-positions.ensures.stands is),
     ))
 
 pub draft_of-requires-clause-rules : goal.draft_of-requires-clause-rules
@@ -27,7 +27,7 @@ draft_of-requires-clause-rules c =
     let table = c.in_ok-positions.positions in
     let found = c.in_ok-explored.explored in
     let stands = c.in_ok-positions.ensures.stands in
-    let states = c.in_ok-explored.ensures.explored (trimmed_pattern spec.definitions) stands in
+    let states = c.in_ok-explored.ensures.explored (simplified_pattern spec.definitions) stands in
     matched_below spec (leaves_view table.leaves.items) table.groups.classes.items table.groups.representatives.items found.table.sets.items found.matched.items found.targets.items
     stands.leaves stands.groups states.steps states.matched 4096 ((c.specs_are_well_formed.ensures c.args.spec.now).few_rules)
 
@@ -37,7 +37,7 @@ draft_of-requires-clause-sets c =
     let table = c.in_ok-positions.positions in
     let found = c.in_ok-explored.explored in
     let stands = c.in_ok-positions.ensures.stands in
-    let states = c.in_ok-explored.ensures.explored (trimmed_pattern spec.definitions) stands in
+    let states = c.in_ok-explored.ensures.explored (simplified_pattern spec.definitions) stands in
     targets_below spec (leaves_view table.leaves.items) table.groups.classes.items table.groups.representatives.items found.table.sets.items found.matched.items found.targets.items
     stands.leaves stands.groups states.steps states.matched 16384 c.in_ok-explored.ensures.room
 
@@ -47,7 +47,7 @@ draft_of-requires-clause-machine c = λ m drafted.
     let table = c.in_ok-positions.positions in
     let found = c.in_ok-explored.explored in
     let stands = c.in_ok-positions.ensures.stands in
-    let states = c.in_ok-explored.ensures.explored (trimmed_pattern spec.definitions) stands in
+    let states = c.in_ok-explored.ensures.explored (simplified_pattern spec.definitions) stands in
     let well = c.specs_are_well_formed.ensures c.args.spec.now in
     let held = c.args.spec.now.conditions.ok.0 in
     let seen = length-map c.args.spec.now.conditions.items condition_view in
@@ -61,7 +61,7 @@ returns-clause-automaton c =
     let table = c.in_ok-positions.positions in
     let found = c.in_ok-explored.explored in
     let stands = c.in_ok-positions.ensures.stands in
-    let states = c.in_ok-explored.ensures.explored (trimmed_pattern spec.definitions) stands in
+    let states = c.in_ok-explored.ensures.explored (simplified_pattern spec.definitions) stands in
     let held = c.args.spec.now.conditions.ok.0 in
     let seen = length-map c.args.spec.now.conditions.items condition_view in
     let conditions : c.len.result ≡ length spec.conditions = omega (arith, c.len.ensures) in
@@ -75,7 +75,7 @@ returns-clause-few_sets c =
     let table = c.in_ok-positions.positions in
     let found = c.in_ok-explored.explored in
     let stands = c.in_ok-positions.ensures.stands in
-    let states = c.in_ok-explored.ensures.explored (trimmed_pattern spec.definitions) stands in
+    let states = c.in_ok-explored.ensures.explored (simplified_pattern spec.definitions) stands in
     let held = c.args.spec.now.conditions.ok.0 in
     let seen = length-map c.args.spec.now.conditions.items condition_view in
     let conditions : c.len.result ≡ length spec.conditions = omega (arith, c.len.ensures) in

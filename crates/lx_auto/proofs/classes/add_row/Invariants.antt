@@ -3,4 +3,4 @@ use Rattle.lx_auto.specs.Classing.{AreRows}
 use Rattle.lx_auto.proofs.classes.add_row.Given as goal
 
 abbrev pub invariant-loop-number : goal.invariant-loop-number
-invariant-loop-number l = AreRows l.draft l.representatives l.words.items (l.state * length l.representatives + l.number)
+invariant-loop-number l = AreRows l.draft l.representatives l.encoded.items (l.state * length l.representatives + l.number)

@@ -17,7 +17,7 @@ loop-class-preserved c =
     let new = c.add_target.new.table.sets.items in
     let e = c.in_ok-add_target.ensures in
     let inv = c.loop-class.invariant in
-    let more = e.goes_on.more in
+    let more = e.extended_by.more in
     let before = inv.more in
     let byte : slice_index reps i < 256 = (let f = c.type_inv.representatives i in omega arith) in
     record {
@@ -25,16 +25,16 @@ loop-class-preserved c =
       room = e.room;
       more = omega arith;
       long = ap length e.target.added ∙ length_joined c.loop-class.targets.items (e.target.target ∷ []) ∙ (let b = inv.long in omega arith);
-      kept = λ k h. e.goes_on.kept k (omega arith) ∙ inv.kept k h;
-      source = λ spec tree_of state row. source_kept spec (numbered tree_of 0 spec.rules) old new _ from state e.goes_on (inv.source spec tree_of state row);
+      kept = λ k h. e.extended_by.kept k (omega arith) ∙ inv.kept k h;
+      source = λ spec tree_of state row. source_kept spec (numbered tree_of 0 spec.rules) old new _ from state e.extended_by (inv.source spec tree_of state row);
       reached = λ spec tree_of state row.
-          reached_added spec (numbered tree_of 0 spec.rules) old new _ (inv.reached spec tree_of state row) e.goes_on
+          reached_added spec (numbered tree_of 0 spec.rules) old new _ (inv.reached spec tree_of state row) e.extended_by
           (λ ne. reached_from spec tree_of leaves row.leaves_of old state _ from byte (inv.reached spec tree_of state row) (inv.source spec tree_of state row) ne)
           e.fresh;
       steps = λ spec tree_of state row.
           let rules = numbered tree_of 0 spec.rules in
           let pushed = steps_push spec rules leaves reps old new c.loop-class.targets.items state i e.target.target from
-          (inv.steps spec tree_of state row) c.loop-class-test.true (inv.source spec tree_of state row) e.goes_on e.target.is in
+          (inv.steps spec tree_of state row) c.loop-class-test.true (inv.source spec tree_of state row) e.extended_by e.target.is in
           let more : state * length reps + i + 1 ≡ state * length reps + (i + 1) = omega arith in
           subst (λ n. HaveSteps spec rules leaves reps new c.add_target.new.targets.items n) more
           (subst (λ l. HaveSteps spec rules leaves reps new l (state * length reps + i + 1)) (sym e.target.added) pushed);

@@ -7,7 +7,7 @@ use Rattle.lx_auto.specs.LeafViews.{leaves_view}
 use Rattle.lx_auto.specs.Exploring.{start_count}
 use Rattle.lx_auto.specs.PositionTables.{AreMatchedBelow}
 use Rattle.lx_auto.proofs.FlagLemmas.{length_joined}
-use Rattle.lx_auto.proofs.Matching.{matched_push, matched_none}
+use Rattle.lx_auto.proofs.MatchedRules.{matched_push, matched_none}
 use Rattle.lx_auto.proofs.Reached.{explored_at}
 use Rattle.lx_auto.proofs.explore.explore.Goals as goal
 

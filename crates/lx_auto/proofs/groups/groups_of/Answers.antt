@@ -3,7 +3,7 @@ use Rattle.std.specs.Option.{option_map}
 use Rattle.std.proofs.lemmas.List.{length-map}
 use Rattle.std.proofs.lemmas.Option.{slice_get_read, slice_get-map}
 use Rattle.lx_auto.specs.LeafViews.{leaf_view, leaves_view}
-use Rattle.lx_auto.proofs.Alike.{alike_more, all_alike}
+use Rattle.lx_auto.proofs.GroupsRespected.{respected_more, all_respected}
 use Rattle.lx_auto.proofs.groups.groups_of.Goals as goal
 
 pub loop-i-preserved : goal.loop-i-preserved
@@ -14,7 +14,7 @@ loop-i-preserved c =
     let old = c.loop-i.groups in
     let new = c.in_ok-groups-2.groups in
     let at = slice_get_read leaves (length leaves) i leaf refl c.loop-i-test.true c.index-leaves-i.is in
-    alike_more (leaves_view leaves) i (leaf_view leaf) old.classes.items old.representatives.items new.classes.items new.representatives.items
+    respected_more (leaves_view leaves) i (leaf_view leaf) old.classes.items old.representatives.items new.classes.items new.representatives.items
     (slice_get-map leaf_view leaves i ∙ ap (λ o. option_map leaf_view o) at) c.loop-i.invariant c.in_ok-groups-2.ensures.own
     (λ other is. c.in_ok-groups-2.ensures.others other is)
 
@@ -28,5 +28,5 @@ returns c =
       bytes = groups.bytes;
       below = groups.below;
       few = groups.few;
-      alike = all_alike (leaves_view leaves) c.loop-i.i groups.classes.items groups.representatives.items all c.loop-i.invariant;
+      same = all_respected (leaves_view leaves) c.loop-i.i groups.classes.items groups.representatives.items all c.loop-i.invariant;
     }

@@ -2,4 +2,4 @@ use Rattle.lx_auto.specs.Partitions.{AreRenumbered}
 use Rattle.lx_auto.proofs.partition.renumber.Given as goal
 
 abbrev pub invariant-loop-i : goal.invariant-loop-i
-invariant-loop-i l = AreRenumbered l.fn.blocks l.blocks l.movers l.fresh l.i
+invariant-loop-i l = AreRenumbered l.fn.blocks l.blocks l.moved_states l.fresh l.i

@@ -10,7 +10,7 @@ loop-closed-init c = λ base r e b.
 
 pub loop-closed-preserved : goal.loop-closed-preserved
 loop-closed-preserved c = λ base r e b.
-    counted-step r c.args.low c.args.high c.loop-closed.closed c.is_owed.result base (nodes_view c.loop-closed.nodes.items) (nodes_view c.close_copy.new.nodes.items) c.args.body c.loop-closed.behind _ c.loop-closed-test.true c.is_owed.ensures b (c.loop-closed.invariant base r e b) c.in_ok-behind.ensures
+    counted-step r c.args.low c.args.high c.loop-closed.closed c.is_required.result base (nodes_view c.loop-closed.nodes.items) (nodes_view c.close_copy.new.nodes.items) c.args.body c.loop-closed.behind _ c.loop-closed-test.true c.is_required.ensures b (c.loop-closed.invariant base r e b) c.in_ok-behind.ensures
 
 pub returns : goal.returns
 returns c = λ base r e b.

@@ -17,7 +17,7 @@ use Rattle.lx_auto.specs.Unfolding.{Unfolds, UnfoldsName}
 use Rattle.lx_auto.specs.declared.fragment.Fragment.{Fragment}
 use Rattle.lx_auto.specs.declared.part.Part.{Part}
 use Rattle.lx_auto.proofs.Appending.{unfolds-then, unfolds-or, unfolds-times, unfolds-named, unfolds-undefined, unfolds-deeper, unfolds-copied}
-use Rattle.lx_auto.proofs.Weights.{tree_size, all_sizes, size_le, name_falls}
+use Rattle.lx_auto.proofs.UnfoldingMeasure.{tree_size, all_sizes, size_le, name_falls}
 use Rattle.lx_auto.proofs.unfold.+unfold.Goals as goal
 
 read_at : {X : Type 0} (xs : List X) (i : ℕ) (x : X) → true ≡ nat_lt i (length xs) → x ≡ get_or xs i x → slice_get xs i ≡ Some x

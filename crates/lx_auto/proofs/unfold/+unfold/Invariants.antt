@@ -1,5 +1,5 @@
 use Rattle.std.proofs.Common.{◌+◌}
-use Rattle.lx_auto.proofs.Weights.{weight, tree_size}
+use Rattle.lx_auto.proofs.UnfoldingMeasure.{weight, tree_size}
 use Rattle.lx_auto.proofs.unfold.+unfold.Given as goal
 
 abbrev pub decreases-unfold : goal.decreases-unfold

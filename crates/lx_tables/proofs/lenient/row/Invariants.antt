@@ -1,12 +1,12 @@
 use Rattle.std.proofs.Common.{◌≡◌, ◌≤◌, map}
-use Rattle.lx_auto.specs.Words.{from_word}
+use Rattle.lx_auto.specs.EncodedOptions.{decoded_option}
 use Rattle.lx_tables.specs.Readers.{onto, read_row}
 use Rattle.lx_tables.proofs.lenient.row.Given as goal
 
 abbrev pub invariant-loop-left : goal.invariant-loop-left
 invariant-loop-left l = record {
   room : l.from ≤ l.width;
-  same : onto (map from_word l.words.items) (read_row l.version l.width l.left l.from l.rest) ≡ onto (map from_word l.fn.words.items) (read_row l.version l.width l.width 0 l.text);
+  same : onto (map decoded_option l.words.items) (read_row l.version l.width l.left l.from l.rest) ≡ onto (map decoded_option l.fn.words.items) (read_row l.version l.width l.width 0 l.text);
 }
 
 abbrev pub decreases-loop-left : goal.decreases-loop-left

@@ -1,6 +1,6 @@
 use Rattle.std.proofs.Common.{ℕ, List, ◌≡◌, ◌-◌, sym, ◌∙◌, subst, arith, [], append-nil}
 use Rattle.std.proofs.lemmas.Result.{err_from_is_err_and, on_err_weaker, on_ok_weaker}
-use Rattle.lx_auto.specs.Words.{from_word}
+use Rattle.lx_auto.specs.EncodedOptions.{decoded_option}
 use Rattle.lx_tables.specs.Lines.{value_of}
 use Rattle.lx_tables.specs.Texts.{range_text, byte_ranges}
 use Rattle.lx_tables.proofs.Written.{WroteBefore, before_all, before_more, before_prefix, before_end}
@@ -26,7 +26,7 @@ loop-at-preserved g c =
       wrote = elim c.if-next-value.branch [
         | then-next-value+in_ok-write_range w ↦
             rw (w.out-is, w.low-is, w.value-is)
-            (before_more (range_text c.loop-at.low (at - 1) (from_word c.loop-at.value)) _
+            (before_more (range_text c.loop-at.low (at - 1) (decoded_option c.loop-at.value)) _
             (run_ends value c.loop-at.low at c.loop-at.value c.value_word-next.result (omega arith) (omega arith) c.value_word-next.ensures w.if-next-value.true)
             i.wrote w.in_ok-write_range.ensures.ok)
         | else-next-value w ↦
@@ -42,7 +42,7 @@ returns-in_err-write_range-clause-err g c =
     let value = value_of c.args.tables.now.machine c.args.values in
     let at = c.loop-at.at in
     rw p.1
-    (before_prefix (range_text c.loop-at.low (at - 1) (from_word c.loop-at.value)) _
+    (before_prefix (range_text c.loop-at.low (at - 1) (decoded_option c.loop-at.value)) _
     (run_ends value c.loop-at.low at c.loop-at.value c.value_word-next.result (omega arith) (omega arith) c.value_word-next.ensures c.if-next-value.true)
     c.loop-at.invariant.wrote c.in_err-write_range.ensures.err)
 
@@ -50,7 +50,7 @@ pub returns-clause-ok : goal.returns-clause-ok
 returns-clause-ok g c =
     let last : c.loop-at.at ≡ 256 = omega arith in
     on_ok_weaker c.write_range-2.result
-    (λ h. before_end (range_text c.loop-at.low 255 (from_word c.loop-at.value)) (run_last (value_of c.args.tables.now.machine c.args.values) c.loop-at.low c.loop-at.at c.loop-at.value last) c.loop-at.invariant.wrote h)
+    (λ h. before_end (range_text c.loop-at.low 255 (decoded_option c.loop-at.value)) (run_last (value_of c.args.tables.now.machine c.args.values) c.loop-at.low c.loop-at.at c.loop-at.value last) c.loop-at.invariant.wrote h)
     c.write_range-2.ensures.ok
 
 pub returns-clause-err : goal.returns-clause-err
@@ -58,5 +58,5 @@ returns-clause-err g c =
     let last : c.loop-at.at ≡ 256 = omega arith in
     let value = value_of c.args.tables.now.machine c.args.values in
     on_err_weaker c.write_range-2.result
-    (λ h. before_prefix (range_text c.loop-at.low 255 (from_word c.loop-at.value)) [] (run_last value c.loop-at.low c.loop-at.at c.loop-at.value last ∙ sym (append-nil (range_text c.loop-at.low 255 (from_word c.loop-at.value)))) c.loop-at.invariant.wrote h)
+    (λ h. before_prefix (range_text c.loop-at.low 255 (decoded_option c.loop-at.value)) [] (run_last value c.loop-at.low c.loop-at.at c.loop-at.value last ∙ sym (append-nil (range_text c.loop-at.low 255 (decoded_option c.loop-at.value)))) c.loop-at.invariant.wrote h)
     c.write_range-2.ensures.err

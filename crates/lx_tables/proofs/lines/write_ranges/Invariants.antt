@@ -1,5 +1,5 @@
 use Rattle.std.proofs.Common.{◌<◌, ◌≤◌, ◌-◌, drop, map}
-use Rattle.lx_auto.specs.Words.{from_word}
+use Rattle.lx_auto.specs.EncodedOptions.{decoded_option}
 use Rattle.lx_tables.specs.Lines.{value_of}
 use Rattle.lx_tables.specs.Texts.{all_bytes, ranges_from, byte_ranges}
 use Rattle.lx_tables.proofs.Written.{WroteBefore}
@@ -10,7 +10,7 @@ invariant-loop-at g l = record {
   from : l.low < l.at;
   within : l.at ≤ 256;
   wrote : WroteBefore (g.W.Write.contents l.fn.out) (g.W.Write.contents l.out) (byte_ranges (value_of l.tables.machine l.values))
-      (ranges_from l.low (l.at - 1) (from_word l.value) (drop l.at (map (value_of l.tables.machine l.values) all_bytes)));
+      (ranges_from l.low (l.at - 1) (decoded_option l.value) (drop l.at (map (value_of l.tables.machine l.values) all_bytes)));
 }
 
 abbrev pub decreases-loop-at : goal.decreases-loop-at

@@ -14,9 +14,9 @@ of-reordered-requires-clause-machine c =
     let seen = length-map c.args.spec.now.rules.items rule_view in
     let same : c.len.result ≡ length spec.rules = omega (arith, c.len.ensures) in
     let few : c.len.result ≤ 4096 = (let f = well.few_rules in omega arith) in
-    rw (c.in_ok-classes.ensures, c.from-width.ensures, c.classes.ensures)
+    rw (c.in_ok-classes.ensures, c.from-width.ensures, c.classes.ensures.count)
     (made_table c.args.automaton.now n.states.items n.words.items c.in_ok-starts.starts.items c.in_ok-accepted.accepted.items c.in_ok-targets.targets.items c.len.result
-    c.conditions-conditions.ensures.machine c.conditions-conditions.ensures.classes c.in_ok-numbering.ensures.met c.in_ok-numbering.ensures.long c.in_ok-starts.ensures c.in_ok-accepted.ensures c.in_ok-targets.ensures few spec c.requires same well).machine
+    c.classes.ensures.machine c.classes.ensures.classes c.in_ok-numbering.ensures.met c.in_ok-numbering.ensures.long c.in_ok-starts.ensures c.in_ok-accepted.ensures c.in_ok-targets.ensures few spec c.requires same well).machine
 
 pub of-reordered-requires-clause-classes : goal.of-reordered-requires-clause-classes
 of-reordered-requires-clause-classes c =
@@ -27,9 +27,9 @@ of-reordered-requires-clause-classes c =
     let seen = length-map c.args.spec.now.rules.items rule_view in
     let same : c.len.result ≡ length spec.rules = omega (arith, c.len.ensures) in
     let few : c.len.result ≤ 4096 = (let f = well.few_rules in omega arith) in
-    rw (c.in_ok-classes.ensures, c.from-width.ensures, c.classes.ensures)
+    rw (c.in_ok-classes.ensures, c.from-width.ensures, c.classes.ensures.count)
     (made_table c.args.automaton.now n.states.items n.words.items c.in_ok-starts.starts.items c.in_ok-accepted.accepted.items c.in_ok-targets.targets.items c.len.result
-    c.conditions-conditions.ensures.machine c.conditions-conditions.ensures.classes c.in_ok-numbering.ensures.met c.in_ok-numbering.ensures.long c.in_ok-starts.ensures c.in_ok-accepted.ensures c.in_ok-targets.ensures few spec c.requires same well).classes
+    c.classes.ensures.machine c.classes.ensures.classes c.in_ok-numbering.ensures.met c.in_ok-numbering.ensures.long c.in_ok-starts.ensures c.in_ok-accepted.ensures c.in_ok-targets.ensures few spec c.requires same well).classes
 
 pub of_parts-requires : goal.of_parts-requires
 of_parts-requires c =
@@ -40,9 +40,9 @@ of_parts-requires c =
     let seen = length-map c.args.spec.now.rules.items rule_view in
     let same : c.len.result ≡ length spec.rules = omega (arith, c.len.ensures) in
     let few : c.len.result ≤ 4096 = (let f = well.few_rules in omega arith) in
-    rw (c.of-reordered.ensures, c.in_ok-classes.ensures, c.from-width.ensures, c.classes.ensures, c.in_ok-kinds.ensures, c.in_ok-rules.ensures)
+    rw (c.of-reordered.ensures, c.in_ok-classes.ensures, c.from-width.ensures, c.classes.ensures.count, c.in_ok-kinds.ensures, c.in_ok-rules.ensures)
     (made_table c.args.automaton.now n.states.items n.words.items c.in_ok-starts.starts.items c.in_ok-accepted.accepted.items c.in_ok-targets.targets.items c.len.result
-    c.conditions-conditions.ensures.machine c.conditions-conditions.ensures.classes c.in_ok-numbering.ensures.met c.in_ok-numbering.ensures.long c.in_ok-starts.ensures c.in_ok-accepted.ensures c.in_ok-targets.ensures few spec c.requires same well)
+    c.classes.ensures.machine c.classes.ensures.classes c.in_ok-numbering.ensures.met c.in_ok-numbering.ensures.long c.in_ok-starts.ensures c.in_ok-accepted.ensures c.in_ok-targets.ensures few spec c.requires same well)
 
 pub returns-clause-tables : goal.returns-clause-tables
 returns-clause-tables c =
@@ -53,9 +53,9 @@ returns-clause-tables c =
     let seen = length-map c.args.spec.now.rules.items rule_view in
     let same : c.len.result ≡ length spec.rules = omega (arith, c.len.ensures) in
     let few : c.len.result ≤ 4096 = (let f = well.few_rules in omega arith) in
-    rw (c.of_parts.ensures, c.of-reordered.ensures) (rw (c.in_ok-classes.ensures, c.from-width.ensures, c.classes.ensures, c.in_ok-kinds.ensures, c.in_ok-rules.ensures)
+    rw (c.of_parts.ensures, c.of-reordered.ensures) (rw (c.in_ok-classes.ensures, c.from-width.ensures, c.classes.ensures.count, c.in_ok-kinds.ensures, c.in_ok-rules.ensures)
     (made_of c.args.automaton.now n.states.items n.words.items c.in_ok-starts.starts.items c.in_ok-accepted.accepted.items c.in_ok-targets.targets.items c.len.result
-    c.conditions-conditions.ensures.machine c.conditions-conditions.ensures.classes c.in_ok-numbering.ensures.met c.in_ok-numbering.ensures.long c.in_ok-starts.ensures c.in_ok-accepted.ensures c.in_ok-targets.ensures few spec c.requires same well))
+    c.classes.ensures.machine c.classes.ensures.classes c.in_ok-numbering.ensures.met c.in_ok-numbering.ensures.long c.in_ok-starts.ensures c.in_ok-accepted.ensures c.in_ok-targets.ensures few spec c.requires same well))
 
 pub returns-clause-answers : goal.returns-clause-answers
 returns-clause-answers c =
@@ -66,6 +66,6 @@ returns-clause-answers c =
     let seen = length-map c.args.spec.now.rules.items rule_view in
     let same : c.len.result ≡ length spec.rules = omega (arith, c.len.ensures) in
     let few : c.len.result ≤ 4096 = (let f = well.few_rules in omega arith) in
-    rw (c.of_parts.ensures, c.of-reordered.ensures) (rw (c.in_ok-classes.ensures, c.from-width.ensures, c.classes.ensures)
+    rw (c.of_parts.ensures, c.of-reordered.ensures) (rw (c.in_ok-classes.ensures, c.from-width.ensures, c.classes.ensures.count)
     (made_alike c.args.automaton.now n.states.items n.words.items c.in_ok-starts.starts.items c.in_ok-accepted.accepted.items c.in_ok-targets.targets.items c.len.result
-    c.conditions-conditions.ensures.machine c.conditions-conditions.ensures.classes c.in_ok-numbering.ensures.met c.in_ok-numbering.ensures.long c.in_ok-starts.ensures c.in_ok-accepted.ensures c.in_ok-targets.ensures few spec c.requires same well))
+    c.classes.ensures.machine c.classes.ensures.classes c.in_ok-numbering.ensures.met c.in_ok-numbering.ensures.long c.in_ok-starts.ensures c.in_ok-accepted.ensures c.in_ok-targets.ensures few spec c.requires same well))

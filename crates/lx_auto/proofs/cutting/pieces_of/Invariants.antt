@@ -1,8 +1,0 @@
-use Rattle.std.proofs.Common.{[], take}
-use Rattle.std.specs.Prelude.{reverse}
-use Rattle.lx_auto.specs.NodeViews.{nodes_view}
-use Rattle.lx_auto.specs.Pieces.{ArePieces, trees_from}
-use Rattle.lx_auto.proofs.cutting.pieces_of.Given as goal
-
-abbrev pub invariant-loop-node : goal.invariant-loop-node
-invariant-loop-node l = ArePieces (reverse l.pieces.items) (trees_from (nodes_view (take l.node-index l.nodes)) [])

@@ -1,0 +1,426 @@
+// Expressions split into blocks of few nodes: where a set of positions touches few blocks, only these are gone over.
+ghost use Rattle.std.specs.Prelude.{◌≡◌, ◌++◌, [], true, List, IfOk, OnOk, reverse};
+ghost use Rattle.lx_auto.specs.Unfolded.{Unfolded, leaf};
+ghost use Rattle.lx_auto.specs.Nodes.{nodes_of};
+ghost use Rattle.lx_auto.specs.NodeViews.{node_view, nodes_view};
+ghost use Rattle.lx_auto.specs.Outlines.{outline_of_block};
+ghost use Rattle.lx_auto.specs.Passing.{HasNoEmptyPart, IsSimplified};
+ghost use Rattle.lx_auto.specs.Chunks as plain;
+ghost use Rattle.lx_auto.specs.Chunks.{IsSingleBlockOf, IsOutlinedOf, IsGrowingChunkOf, IsChunkOf, AreChunks, IsPopped, pair_tree, single_tree, pair_step, single_step, tree_step, IsSplitOf};
+
+use crate::chunk::{Chunk, GrowingChunk, Outlined, Pair, Single, SingleBlock};
+use crate::marking::{flag, nulls_of};
+use crate::node::Node;
+use lx_ere::set::ByteSet;
+use std::alloc::{AllocError, Global};
+
+/// How many nodes a block has at most.
+const BLOCK: usize = 512;
+
+fn pair_node(pair: Pair, right: usize) -> Node<'static>
+    ensures { node_view result ≡ plain.pair_node pair right }
+{
+    match pair {
+        Pair::Both => Node::Cat(right),
+        Pair::Either => Node::Alt(right),
+    }
+}
+
+fn pair_null(pair: Pair, left: bool, right: bool) -> bool
+    ensures { result ≡ plain.pair_null pair left right }
+{
+    match pair {
+        Pair::Both => left && right,
+        Pair::Either => left || right,
+    }
+}
+
+fn single_node(single: Single) -> Node<'static>
+    ensures { node_view result ≡ plain.single_node single }
+{
+    match single {
+        Single::Maybe => Node::Optional,
+        Single::Many => Node::Repeated,
+    }
+}
+
+fn single_null(single: Single, body: bool) -> bool
+    ensures { result ≡ plain.single_null single body }
+{
+    match single {
+        Single::Maybe => true,
+        Single::Many => body,
+    }
+}
+
+// The outline of one block: a leaf, and optional where the block matches the empty word.
+fn outline_nodes<'s>(
+    alloc: Global,
+    placeholder_set: &'s ByteSet,
+    nullable: bool,
+) -> Result<Vec<Node<'s>>, AllocError>
+    ensures { IfOk result (λ nodes. nodes_view nodes.items ≡ nodes_of (outline_of_block placeholder_set.now nullable)) }
+{
+    let mut outline = Vec::new(alloc);
+    outline.push(Node::Leaf(placeholder_set))?;
+    if nullable {
+        outline.push(Node::Optional)?;
+    }
+    Ok(outline)
+}
+
+// One block as an expression that is split into blocks.
+fn outline_single_block<'s>(
+    alloc: Global,
+    block: SingleBlock<'s>,
+) -> Result<Outlined<'s>, AllocError>
+    ensures { (e : Unfolded) → IsSingleBlockOf block.entry e → IfOk result (λ o. IsOutlinedOf o e) }
+{
+    let outline = outline_nodes(alloc, block.placeholder_set, block.nullable)?;
+    let mut blocks = Vec::new(alloc);
+    blocks.push(block.nodes)?;
+    Ok(Outlined { outline, blocks })
+}
+
+// Puts blocks behind others.
+fn push_blocks<'s>(
+    blocks: &mut Vec<Vec<Node<'s>>>,
+    more: Vec<Vec<Node<'s>>>,
+) -> Result<(), AllocError>
+    ensures { OnOk result (blocks.new.items ≡ blocks.old.items ++ more.entry.items) }
+{
+    for nodes in more {
+        blocks.push(nodes)?;
+    }
+    Ok(())
+}
+
+// Two expressions that are split into blocks already.
+fn join_outlined<'s>(
+    pair: Pair,
+    mut left: Outlined<'s>,
+    right: Outlined<'s>,
+) -> Result<Outlined<'s>, AllocError>
+    ensures { (a b : Unfolded) → IsOutlinedOf left.entry a → IsOutlinedOf right.entry b → IfOk result (λ o. IsOutlinedOf o (pair_tree pair a b)) }
+{
+    let node = pair_node(pair, right.outline.len());
+    left.outline.extend_from_slice(&right.outline)?;
+    left.outline.push(node)?;
+    push_blocks(&mut left.blocks, right.blocks)?;
+    Ok(left)
+}
+
+// Two blocks that become one.
+fn join_single_blocks<'s>(
+    pair: Pair,
+    mut left: SingleBlock<'s>,
+    right: SingleBlock<'s>,
+) -> Result<SingleBlock<'s>, AllocError>
+    ensures { (a b : Unfolded) → IsSingleBlockOf left.entry a → IsSingleBlockOf right.entry b → IfOk result (λ w. IsSingleBlockOf w (pair_tree pair a b)) }
+{
+    let node = pair_node(pair, right.nodes.len());
+    left.nodes.extend_from_slice(&right.nodes)?;
+    left.nodes.push(node)?;
+    left.nullable = pair_null(pair, left.nullable, right.nullable);
+    Ok(left)
+}
+
+// The outline of an expression with a first block.
+fn outline_growing<'s>(alloc: Global, growing: GrowingChunk<'s>) -> Result<Outlined<'s>, AllocError>
+    ensures { (e : Unfolded) → IsGrowingChunkOf growing.entry e → IfOk result (λ o. IsOutlinedOf o e) }
+{
+    let first = outline_single_block(alloc, growing.first)?;
+    join_outlined(growing.pair, first, growing.rest)
+}
+
+// The outline of an expression.
+fn outlined<'s>(alloc: Global, chunk: Chunk<'s>) -> Result<Outlined<'s>, AllocError>
+    ensures { (e : Unfolded) → IsChunkOf chunk.entry e → IfOk result (λ o. IsOutlinedOf o e) }
+{
+    match chunk {
+        Chunk::Small(block) => outline_single_block(alloc, block),
+        Chunk::Large(outlined) => Ok(outlined),
+        Chunk::Growing(growing) => outline_growing(alloc, growing),
+    }
+}
+
+// Whether two blocks are to become one.
+fn fit_together(left: &SingleBlock, right: &SingleBlock) -> bool {
+    left.nodes.len().saturating_add(right.nodes.len()) < BLOCK
+}
+
+fn are_same(one: Pair, other: Pair) -> bool
+    ensures { result ≡ true → one ≡ other }
+{
+    match one {
+        Pair::Both => match other {
+            Pair::Both => true,
+            Pair::Either => false,
+        },
+        Pair::Either => match other {
+            Pair::Both => false,
+            Pair::Either => true,
+        },
+    }
+}
+
+// A block in front of an expression that is split into blocks.
+fn prepend<'s>(pair: Pair, first: SingleBlock<'s>, rest: Outlined<'s>) -> GrowingChunk<'s>
+    ensures { (a b : Unfolded) → IsSingleBlockOf first.entry a → IsOutlinedOf rest.entry b → IsGrowingChunkOf result (pair_tree pair a b) }
+{
+    GrowingChunk { pair, first, rest }
+}
+
+// A block in front of an expression with a first block, with which it may become one.
+fn prepend_to_growing<'s>(
+    alloc: Global,
+    pair: Pair,
+    left: SingleBlock<'s>,
+    right: GrowingChunk<'s>,
+) -> Result<GrowingChunk<'s>, AllocError>
+    ensures { (a b : Unfolded) → IsSingleBlockOf left.entry a → IsGrowingChunkOf right.entry b → IfOk result (λ l. IsGrowingChunkOf l (pair_tree pair a b)) }
+{
+    if !are_same(right.pair, pair) || !fit_together(&left, &right.first) {
+        let rest = outline_growing(alloc, right)?;
+        return Ok(prepend(pair, left, rest));
+    }
+    let first = join_single_blocks(right.pair, left, right.first)?;
+    Ok(GrowingChunk {
+        pair: right.pair,
+        first,
+        rest: right.rest,
+    })
+}
+
+// A block, and another expression behind it.
+fn join_small<'s>(
+    alloc: Global,
+    pair: Pair,
+    left: SingleBlock<'s>,
+    right: Chunk<'s>,
+) -> Result<Chunk<'s>, AllocError>
+    ensures { (a b : Unfolded) → IsSingleBlockOf left.entry a → IsChunkOf right.entry b → IfOk result (λ p. IsChunkOf p (pair_tree pair a b)) }
+{
+    match right {
+        Chunk::Small(second) => {
+            if fit_together(&left, &second) {
+                let joined = join_single_blocks(pair, left, second)?;
+                return Ok(Chunk::Small(joined));
+            }
+            let rest = outline_single_block(alloc, second)?;
+            Ok(Chunk::Growing(prepend(pair, left, rest)))
+        }
+        Chunk::Large(rest) => Ok(Chunk::Growing(prepend(pair, left, rest))),
+        Chunk::Growing(growing) => {
+            let joined = prepend_to_growing(alloc, pair, left, growing)?;
+            Ok(Chunk::Growing(joined))
+        }
+    }
+}
+
+// Two expressions, of which the first is split into blocks.
+fn join_large<'s>(
+    alloc: Global,
+    pair: Pair,
+    left: Outlined<'s>,
+    right: Chunk<'s>,
+) -> Result<Chunk<'s>, AllocError>
+    ensures { (a b : Unfolded) → IsOutlinedOf left.entry a → IsChunkOf right.entry b → IfOk result (λ p. IsChunkOf p (pair_tree pair a b)) }
+{
+    let second = outlined(alloc, right)?;
+    let joined = join_outlined(pair, left, second)?;
+    Ok(Chunk::Large(joined))
+}
+
+// Two expressions.
+fn join<'s>(
+    alloc: Global,
+    pair: Pair,
+    left: Chunk<'s>,
+    right: Chunk<'s>,
+) -> Result<Chunk<'s>, AllocError>
+    ensures { (a b : Unfolded) → IsChunkOf left.entry a → IsChunkOf right.entry b → IfOk result (λ p. IsChunkOf p (pair_tree pair a b)) }
+{
+    match left {
+        Chunk::Small(first) => join_small(alloc, pair, first, right),
+        Chunk::Large(first) => join_large(alloc, pair, first, right),
+        Chunk::Growing(growing) => {
+            let first = outline_growing(alloc, growing)?;
+            join_large(alloc, pair, first, right)
+        }
+    }
+}
+
+// A node above a block.
+fn extend_single_block<'s>(
+    single: Single,
+    mut block: SingleBlock<'s>,
+) -> Result<SingleBlock<'s>, AllocError>
+    ensures { (a : Unfolded) → IsSingleBlockOf block.entry a → IfOk result (λ w. IsSingleBlockOf w (single_tree single a)) }
+{
+    block.nodes.push(single_node(single))?;
+    block.nullable = single_null(single, block.nullable);
+    Ok(block)
+}
+
+// A node above an expression that is split into blocks.
+fn extend_outlined<'s>(single: Single, mut body: Outlined<'s>) -> Result<Outlined<'s>, AllocError>
+    ensures { (a : Unfolded) → IsOutlinedOf body.entry a → IfOk result (λ o. IsOutlinedOf o (single_tree single a)) }
+{
+    body.outline.push(single_node(single))?;
+    Ok(body)
+}
+
+// A node above an expression.
+fn extend<'s>(alloc: Global, single: Single, body: Chunk<'s>) -> Result<Chunk<'s>, AllocError>
+    ensures { (a : Unfolded) → IsChunkOf body.entry a → IfOk result (λ p. IsChunkOf p (single_tree single a)) }
+{
+    match body {
+        Chunk::Small(block) => {
+            let extended = extend_single_block(single, block)?;
+            Ok(Chunk::Small(extended))
+        }
+        Chunk::Large(outlined) => {
+            let extended = extend_outlined(single, outlined)?;
+            Ok(Chunk::Large(extended))
+        }
+        Chunk::Growing(growing) => {
+            let outlined = outline_growing(alloc, growing)?;
+            let extended = extend_outlined(single, outlined)?;
+            Ok(Chunk::Large(extended))
+        }
+    }
+}
+
+// One leaf.
+fn leaf_chunk<'s>(alloc: Global, set: &'s ByteSet) -> Result<Chunk<'s>, AllocError>
+    ensures { IfOk result (λ p. IsChunkOf p (leaf set.now)) }
+{
+    let mut nodes = Vec::new(alloc);
+    nodes.push(Node::Leaf(set))?;
+    Ok(Chunk::Small(SingleBlock {
+        placeholder_set: set,
+        nullable: false,
+        nodes,
+    }))
+}
+
+// Takes off the last expression.
+fn pop_chunk<'s>(chunks: &mut Vec<Chunk<'s>>) -> Option<Chunk<'s>>
+    ensures { (trees : List Unfolded) → AreChunks (reverse chunks.old.items) trees → IsPopped trees (reverse chunks.new.items) result }
+{
+    chunks.pop()
+}
+
+// Puts a node above the last two expressions.
+fn add_pair<'s>(alloc: Global, pair: Pair, chunks: &mut Vec<Chunk<'s>>) -> Result<(), AllocError>
+    ensures { (trees : List Unfolded) → AreChunks (reverse chunks.old.items) trees → OnOk result (AreChunks (reverse chunks.new.items) (pair_step (pair_tree pair) trees)) }
+{
+    let Some(right) = pop_chunk(chunks) else {
+        return Ok(());
+    };
+    let Some(left) = pop_chunk(chunks) else {
+        return Ok(());
+    };
+    let joined = join(alloc, pair, left, right)?;
+    chunks.push(joined)?;
+    Ok(())
+}
+
+// Puts a node above the last expression.
+fn add_single<'s>(
+    alloc: Global,
+    single: Single,
+    chunks: &mut Vec<Chunk<'s>>,
+) -> Result<(), AllocError>
+    ensures { (trees : List Unfolded) → AreChunks (reverse chunks.old.items) trees → OnOk result (AreChunks (reverse chunks.new.items) (single_step (single_tree single) trees)) }
+{
+    let Some(body) = pop_chunk(chunks) else {
+        return Ok(());
+    };
+    let extended = extend(alloc, single, body)?;
+    chunks.push(extended)?;
+    Ok(())
+}
+
+// One node more.
+fn add_node<'s>(
+    alloc: Global,
+    node: &Node<'s>,
+    chunks: &mut Vec<Chunk<'s>>,
+) -> Result<(), AllocError>
+    ensures { (trees : List Unfolded) → AreChunks (reverse chunks.old.items) trees → OnOk result (AreChunks (reverse chunks.new.items) (tree_step (node_view node.now) trees)) }
+{
+    match *node {
+        Node::Leaf(set) => {
+            let chunk = leaf_chunk(alloc, set)?;
+            chunks.push(chunk)?;
+            Ok(())
+        }
+        Node::Cat(_) => add_pair(alloc, Pair::Both, chunks),
+        Node::Alt(_) => add_pair(alloc, Pair::Either, chunks),
+        Node::Optional => add_single(alloc, Single::Maybe, chunks),
+        Node::Repeated => add_single(alloc, Single::Many, chunks),
+    }
+}
+
+// The expressions whose nodes these are.
+fn chunks_of<'s>(alloc: Global, nodes: &[Node<'s>]) -> Result<Vec<Chunk<'s>>, AllocError>
+    ensures { IfOk result (λ chunks. AreChunks (reverse chunks.items) (plain.trees_from (nodes_view nodes.now) [])) }
+{
+    let mut chunks = Vec::new(alloc);
+    for node in nodes {
+        add_node(alloc, node, &mut chunks)?;
+    }
+    Ok(chunks)
+}
+
+// An expression, split into blocks wherever it has too many nodes for one.
+fn split_by_size<'s>(alloc: Global, nodes: &[Node<'s>]) -> Result<Outlined<'s>, AllocError>
+    ensures { (e : Unfolded) → nodes_view nodes.now ≡ nodes_of e → IsSimplified e → IfOk result (λ o. IsSplitOf o e) }
+{
+    let mut chunks = chunks_of(alloc, nodes)?;
+    match pop_chunk(&mut chunks) {
+        Some(chunk) => outlined(alloc, chunk),
+        None => Ok(Outlined {
+            outline: Vec::new(alloc),
+            blocks: Vec::new(alloc),
+        }),
+    }
+}
+
+// An expression as one block, however many nodes it has.
+fn keep_single_block<'s>(
+    alloc: Global,
+    placeholder_set: &'s ByteSet,
+    nodes: &[Node<'s>],
+) -> Result<Outlined<'s>, AllocError>
+    ensures { (e : Unfolded) → nodes_view nodes.now ≡ nodes_of e → HasNoEmptyPart e → IfOk result (λ o. IsOutlinedOf o e) }
+{
+    let nulls = nulls_of(alloc, nodes)?;
+    let nullable = flag(&nulls, nulls.len().saturating_sub(1));
+    let own = Vec::from_slice(alloc, nodes)?;
+    let block = SingleBlock {
+        placeholder_set,
+        nullable,
+        nodes: own,
+    };
+    outline_single_block(alloc, block)
+}
+
+/// An expression, split into blocks. It stays one block where its outline would have more than half as many nodes as it has itself.
+pub(crate) fn split_into_blocks<'s>(
+    alloc: Global,
+    nodes: &[Node<'s>],
+) -> Result<Outlined<'s>, AllocError>
+    ensures { (e : Unfolded) → nodes_view nodes.now ≡ nodes_of e → IsSimplified e → IfOk result (λ o. IsSplitOf o e) }
+{
+    let apart = split_by_size(alloc, nodes)?;
+    if nodes.len() <= BLOCK || apart.outline.len() <= nodes.len() / 2 {
+        return Ok(apart);
+    }
+    match nodes[0] {
+        Node::Leaf(set) => keep_single_block(alloc, set, nodes),
+        _ => Ok(apart),
+    }
+}

@@ -1,0 +1,132 @@
+// The rules of a specification, unfolded and numbered.
+ghost use Rattle.std.specs.Prelude.{◌≡◌, ◌+◌, ◌≤◌, ◌<◌, ◌^◌, ◌⊎◌, ◌∷◌, [], length, map, IsTrue, IfOk, IfErr};
+ghost use Rattle.lx_ere.specs.Regex.{regex_of};
+ghost use Rattle.lx_spec.specs.Nesting.{are_nested, expressions_of};
+ghost use Rattle.lx_spec.specs.views.Rules.{definition_view, rule_view};
+ghost use Rattle.lx_spec.specs.views.Specs.{spec_view};
+ghost use Rattle.lx_auto.specs.Counts.{count_of_rules, count_of_spec, newline_count};
+ghost use Rattle.lx_auto.specs.Nodes.{nodes_of};
+ghost use Rattle.lx_auto.specs.NodeLeaves.{leaves_in};
+ghost use Rattle.lx_auto.specs.NodeViews.{nodes_view};
+ghost use Rattle.lx_auto.specs.PositionSets.{numbered};
+ghost use Rattle.lx_auto.specs.RuleParts.{ArePartsOf, IsPartOver, AreNodes};
+ghost use Rattle.lx_auto.specs.Simplified.{simplified_pattern};
+ghost use Rattle.lx_auto.specs.Unfolding.{AreFragments};
+ghost use Rattle.lx_auto.specs.declared.fault.BuildFault.{BuildFault};
+
+use crate::blocks::{count_leaves, number_blocks};
+use crate::chunking::split_into_blocks;
+use crate::count::{TOO_MANY, count_definitions, count_rules};
+use crate::fault::BuildFault;
+use crate::fill::fill_fragments;
+use crate::fragment::Fragment;
+use crate::marking::nulls_of;
+use crate::names::{Names, index_names};
+use crate::node::Node;
+use crate::rule_part::RulePart;
+use crate::unfold::unfold;
+use crate::unfolded_rules::UnfoldedRules;
+use lx_spec::rule::Rule;
+use lx_spec::spec::Spec;
+use std::alloc::{AllocError, Global};
+
+// The nodes of a rule's expression.
+fn unfold_rule<'s>(
+    alloc: Global,
+    names: &Names<'s>,
+    fragments: &[Option<Fragment<'s>>],
+    rule: &'s Rule,
+) -> Result<Vec<Node<'s>>, AllocError>
+    requires fragments { AreFragments names.now.definitions.now fragments.now }
+    requires nested { IsTrue (are_nested (map definition_view names.now.definitions.now) (regex_of rule.now.pattern.expr ∷ [])) }
+    ensures { IfOk result (λ nodes. nodes_view nodes.items ≡ nodes_of (simplified_pattern (map definition_view names.now.definitions.now) (regex_of rule.now.pattern.expr))) }
+{
+    let mut nodes = Vec::new(alloc);
+    unfold(names, fragments, 32, &rule.pattern.expr, &mut nodes)?;
+    Ok(nodes)
+}
+
+// What is kept of a rule with these nodes, whose positions are numbered from the base on.
+fn part_of(
+    alloc: Global,
+    nodes: Vec<Node<'_>>,
+    base: usize,
+    line_end: bool,
+) -> Result<RulePart<'_>, AllocError>
+    requires small { base < 65536 }
+    requires few { length (leaves_in (nodes_view nodes.items)) < 65536 }
+    requires whole { AreNodes (nodes_view nodes.items) }
+    ensures { IfOk result (λ part. IsPartOver part (nodes_view nodes.entry.items) base line_end) }
+{
+    let count = count_leaves(&nodes);
+    let outlined = split_into_blocks(alloc, &nodes)?;
+    let nulls = nulls_of(alloc, &outlined.outline)?;
+    let blocks = number_blocks(alloc, &outlined.blocks, base)?;
+    Ok(RulePart {
+        nodes,
+        outline: outlined.outline,
+        nulls,
+        blocks,
+        base,
+        count,
+        line_end,
+    })
+}
+
+// The position behind all of a rule.
+fn end_of(part: &RulePart) -> usize
+    ensures { result ≡ part.now.base + part.now.count + newline_count part.now.line_end }
+{
+    let behind = part.base + part.count;
+    if part.line_end { behind + 1 } else { behind }
+}
+
+// These rules, one behind the other, and how many positions they have.
+fn unfold_each<'s>(
+    alloc: Global,
+    names: &Names<'s>,
+    fragments: &[Option<Fragment<'s>>],
+    rules: &'s [Rule],
+) -> Result<UnfoldedRules<'s>, AllocError>
+    requires fragments { AreFragments names.now.definitions.now fragments.now }
+    requires nested { IsTrue (are_nested (map definition_view names.now.definitions.now) (expressions_of (map rule_view rules.now))) }
+    requires few { count_of_rules (map definition_view names.now.definitions.now) (map rule_view rules.now) ≤ 16384 }
+    ensures parts { IfOk result (λ u. ArePartsOf u.parts.items (numbered (simplified_pattern (map definition_view names.now.definitions.now)) 0 (map rule_view rules.now)) u.total) }
+    ensures total { IfOk result (λ u. u.total ≡ count_of_rules (map definition_view names.now.definitions.now) (map rule_view rules.now)) }
+{
+    let mut parts = Vec::new(alloc);
+    let mut total = 0;
+    for i in 0..rules.len() {
+        let rule = &rules[i];
+        let nodes = unfold_rule(alloc, names, fragments, rule)?;
+        let part = part_of(alloc, nodes, total, rule.pattern.line_end)?;
+        total = end_of(&part);
+        parts.push(part)?;
+    }
+    Ok(UnfoldedRules { parts, total })
+}
+
+/// The rules of a specification: names unfolded, repeats written out, what has no position left away, and positions numbered rule after
+/// rule.
+///
+/// # Errors
+///
+/// `TooManyPositions` where there are more than 16,384, before anything is unfolded; `Memory`.
+pub(crate) fn unfold_rules<'s>(
+    alloc: Global,
+    spec: &'s Spec,
+) -> Result<UnfoldedRules<'s>, BuildFault>
+    ensures too_many { IfErr result (λ e. e ≡ BuildFault.TooManyPositions → 16384 < count_of_spec (spec_view spec.now)) }
+    ensures memory { IfErr result (λ e. (e ≡ BuildFault.TooManyPositions) ⊎ (e ≡ BuildFault.Memory)) }
+    ensures few { IfOk result (λ _. count_of_spec (spec_view spec.now) ≤ 16384) }
+    ensures parts { IfOk result (λ u. ArePartsOf u.parts.items (numbered (simplified_pattern (spec_view spec.now).definitions) 0 (spec_view spec.now).rules) u.total) }
+    ensures total { IfOk result (λ u. u.total ≤ 16384) }
+{
+    let names = index_names(alloc, &spec.definitions)?;
+    let counts = count_definitions(alloc, &names)?;
+    if count_rules(&spec.rules, &names, &counts) == TOO_MANY {
+        return Err(BuildFault::TooManyPositions);
+    }
+    let fragments = fill_fragments(alloc, &names, &spec.rules)?;
+    Ok(unfold_each(alloc, &names, &fragments, &spec.rules)?)
+}
