@@ -66,7 +66,7 @@ pub(crate) fn cuts(rt: &impl Print, alloc: Global) -> Result<(), Stop> {
 
 /// Prints whether a collector's first file is closed and cut, and whether all files are closed.
 fn print_collector(rt: &impl Print, collector: &Collector) -> io::Result<()>
-    requires { 0 < length collector.now.lanes }
+    requires { 0 < length collector.now.buffers }
 {
     let (closed, cut) = (collector.is_closed(0), collector.is_cut(0));
     let all = collector.all_closed();
@@ -101,7 +101,7 @@ fn empty_piece(alloc: Global, number: u64, mark: Mark) -> Piece {
 
 /// Offers a piece, and prints the reply.
 fn print_reply(rt: &impl Print, collector: &mut Collector, piece: Piece) -> Result<(), Stop>
-    ensures { length collector.new.lanes ≡ length collector.old.lanes }
+    ensures { length collector.new.buffers ≡ length collector.old.buffers }
 {
     let replied = match collector.offer(piece) {
         Err(
@@ -129,8 +129,8 @@ fn print_reply(rt: &impl Print, collector: &mut Collector, piece: Piece) -> Resu
 
 /// Prints what is delivered, four pieces at most.
 fn print_delivered(rt: &impl Print, collector: &mut Collector) -> io::Result<()>
-    requires { 0 < length collector.old.lanes }
-    ensures { length collector.new.lanes ≡ length collector.old.lanes }
+    requires { 0 < length collector.old.buffers }
+    ensures { length collector.new.buffers ≡ length collector.old.buffers }
 {
     for _piece in 0..4 {
         if let Some(piece) = collector.deliver() {
@@ -162,7 +162,7 @@ pub(crate) fn offers(rt: &impl Print, alloc: Global) -> Result<(), Stop> {
 }
 
 fn prepared(alloc: Global) -> Result<Collector, Stop>
-    ensures { IfOk result (λ collector. length collector.lanes ≡ 1) }
+    ensures { IfOk result (λ collector. length collector.buffers ≡ 1) }
 {
     let Ok(mut collector) = Collector::new(alloc, 1, 1) else {
         return Err(Stop::NotBegun);

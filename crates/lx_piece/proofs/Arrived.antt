@@ -8,7 +8,7 @@ use Rattle.lx_piece.specs.declared.reply.Why.{Why}
 use Rattle.lx_piece.specs.Plans.{Planned, files_of}
 use Rattle.lx_piece.specs.Pieces.{is_closing, top_number, IsPieceOf, piece_at, pieces_of}
 use Rattle.lx_piece.specs.PieceLaws.{marked_last}
-use Rattle.lx_piece.specs.Arrivals.{site_of, IsHonest, AreHonest, accepted_behind, accepted_of, with_arrival, joined, cause_against, has_piece, is_numbered, closes_before, is_later}
+use Rattle.lx_piece.specs.Arrivals.{shape_of, IsHonest, AreHonest, accepted_behind, accepted_of, with_arrival, joined, cause_against, has_piece, is_numbered, closes_before, is_later}
 use Rattle.lx_piece.specs.Relayed.{AllDelivered, AreAllAmong}
 use Rattle.lx_piece.proofs.AnyOf.{any_last, any_of}
 use Rattle.lx_piece.proofs.Deliveries.{with_planned, has_more}
@@ -42,7 +42,7 @@ none_later plan accepted p all is = false_from_ne_true (is_closing p && list_any
     absurd (omega arith))
 
 -- so a piece of the plan is accepted where it wasn't before
-accepted_new : (plan : Planned) (accepted : List Piece) (p : Piece) → All (IsPieceOf plan) accepted → IsPieceOf plan p → has_piece p.file p.number accepted ≡ false → cause_against (site_of plan) accepted p ≡ None
+accepted_new : (plan : Planned) (accepted : List Piece) (p : Piece) → All (IsPieceOf plan) accepted → IsPieceOf plan p → has_piece p.file p.number accepted ≡ false → cause_against (shape_of plan) accepted p ≡ None
 accepted_new plan accepted p all is new =
     let run = not_from_true (nat_eq p.run plan.run) (eq-eqb p.run plan.run (ap (λ (q : Piece). q.run) is.whole)) in
     let file = not_from_true (nat_lt p.file (files_of plan)) (lt-ltb p.file (files_of plan) is.file) in
@@ -52,9 +52,9 @@ accepted_new plan accepted p all is new =
     rw (run, file, new, after, later) refl
 
 -- once it has come it was accepted, then or before
-accepted_then : (plan : Planned) (accepted : List Piece) (p : Piece) → All (IsPieceOf plan) accepted → IsPieceOf plan p → has_piece p.file p.number (with_arrival (site_of plan) accepted p) ≡ true
+accepted_then : (plan : Planned) (accepted : List Piece) (p : Piece) → All (IsPieceOf plan) accepted → IsPieceOf plan p → has_piece p.file p.number (with_arrival (shape_of plan) accepted p) ≡ true
 accepted_then plan accepted p all is = elim (cases_Bool (has_piece p.file p.number accepted)) [
-  | inl there ↦ has_more (site_of plan) accepted p p.file p.number (cause_against (site_of plan) accepted p) there
+  | inl there ↦ has_more (shape_of plan) accepted p p.file p.number (cause_against (shape_of plan) accepted p) there
   | inr new ↦
       ap (λ (cause : Option Why). has_piece p.file p.number (joined cause accepted p)) (accepted_new plan accepted p all is new)
       ∙ any_last (is_numbered p.file p.number) accepted p
@@ -66,28 +66,28 @@ first_or_rest : (q : Piece) (came : List Piece) (p : Piece) → Contains (q ∷ 
 first_or_rest q came p (zero, within, at) = inl at
 first_or_rest q came p (suc k, within, at) = inr (k, omega arith, at)
 
-accepted_from : (plan : Planned) (accepted came : List Piece) (p : Piece) → All (IsPieceOf plan) accepted → AreHonest plan came → IsPieceOf plan p → Contains came p ⊎ (has_piece p.file p.number accepted ≡ true) → has_piece p.file p.number (accepted_behind (site_of plan) accepted came) ≡ true
+accepted_from : (plan : Planned) (accepted came : List Piece) (p : Piece) → All (IsPieceOf plan) accepted → AreHonest plan came → IsPieceOf plan p → Contains came p ⊎ (has_piece p.file p.number accepted ≡ true) → has_piece p.file p.number (accepted_behind (shape_of plan) accepted came) ≡ true
 accepted_from plan accepted [] p all honest is h = elim h [ inl at ↦ absurd (omega (arith, at.1)) | inr there ↦ there ]
 accepted_from plan accepted (q ∷ came) p all honest is h =
     let next = with_planned plan accepted q all (All-head (IsHonest plan) q came honest) in
-    let more : Contains came p ⊎ (has_piece p.file p.number (with_arrival (site_of plan) accepted q) ≡ true) = elim h [
+    let more : Contains came p ⊎ (has_piece p.file p.number (with_arrival (shape_of plan) accepted q) ≡ true) = elim h [
       | inl at ↦ elim (first_or_rest q came p at) [
-        | inl same ↦ inr (subst (λ r. has_piece p.file p.number (with_arrival (site_of plan) accepted r) ≡ true) (sym same) (accepted_then plan accepted p all is))
+        | inl same ↦ inr (subst (λ r. has_piece p.file p.number (with_arrival (shape_of plan) accepted r) ≡ true) (sym same) (accepted_then plan accepted p all is))
         | inr rest ↦ inl rest
       ]
-      | inr there ↦ inr (has_more (site_of plan) accepted q p.file p.number (cause_against (site_of plan) accepted q) there)
+      | inr there ↦ inr (has_more (shape_of plan) accepted q p.file p.number (cause_against (shape_of plan) accepted q) there)
     ] in
-    accepted_from plan (with_arrival (site_of plan) accepted q) came p next (All-tail (IsHonest plan) q came honest) is more
+    accepted_from plan (with_arrival (shape_of plan) accepted q) came p next (All-tail (IsHonest plan) q came honest) is more
 
 -- a file of which every piece came was taken whole
-pub taken_whole : (plan : Planned) (came : List Piece) (counts : List ℕ) (file : ℕ) → AreHonest plan came → AllDelivered (site_of plan) came counts → file < files_of plan → slice_index counts file ≤ pieces_of plan file → AreAllAmong plan file came → slice_index counts file ≡ pieces_of plan file
+pub taken_whole : (plan : Planned) (came : List Piece) (counts : List ℕ) (file : ℕ) → AreHonest plan came → AllDelivered (shape_of plan) came counts → file < files_of plan → slice_index counts file ≤ pieces_of plan file → AreAllAmong plan file came → slice_index counts file ≡ pieces_of plan file
 taken_whole plan came counts file honest delivered within at_most all =
     elim (cases_lt (slice_index counts file) (pieces_of plan file)) [
       | inl less ↦
           let p = piece_at plan file (slice_index counts file) in
           let there = all (slice_index counts file) less in
           let is = All-contains (IsHonest plan) came p honest there refl within in
-          absurd (both_ways (has_piece file (slice_index counts file) (accepted_of (site_of plan) came)) ((delivered.each file within).missing)
+          absurd (both_ways (has_piece file (slice_index counts file) (accepted_of (shape_of plan) came)) ((delivered.each file within).missing)
           (accepted_from plan [] came p (All-nil (IsPieceOf plan)) honest is (inl there)))
       | inr more ↦ omega arith
     ]

@@ -5,52 +5,52 @@ use Rattle.std.proofs.lemmas.List.{get_or_default}
 use Rattle.std.proofs.lemmas.List.Elements.{All-get_or}
 use Rattle.std.proofs.lemmas.Option.{slice_get-get_or}
 use Rattle.lx_piece.specs.declared.piece.Piece.{Piece}
-use Rattle.lx_piece.specs.Arrivals.{accepted_of, IsClosedBelow, IsCutBelow}
-use Rattle.lx_piece.specs.Kept.{Lane, Kept, LaneStandsFor, StandsFor, site_of_kept, delivered_counts, fresh_lane, is_lane_closed, is_lane_cut}
-use Rattle.lx_piece.proofs.Lanes.{number_closes, closing_number}
+use Rattle.lx_piece.specs.Arrivals.{accepted_of, IsClosedBelow, IsTruncatedBelow}
+use Rattle.lx_piece.specs.Kept.{Buffered, Kept, BufferStandsFor, StandsFor, shape_of_kept, delivered_counts, fresh_buffer, is_buffer_closed, is_buffer_truncated}
+use Rattle.lx_piece.proofs.Buffers.{number_closes, closing_number}
 use Rattle.lx_piece.proofs.Relays.{count_at}
 
--- a lane is closed exactly where a closing piece was accepted among those that were delivered
-pub lane_closed : (lane : Lane) (file : ℕ) (accepted : List Piece) → LaneStandsFor lane file accepted → (is_lane_closed lane ≡ true) ↔ IsClosedBelow accepted file lane.next
-lane_closed lane file accepted s =
-    (λ h. let k = closing_number lane.closing lane.next h in (k.0, ltb-true k.0 lane.next k.2, s.closing k.0 ∙ k.1), λ w. number_closes lane.closing w.0 lane.next (sym (s.closing w.0) ∙ w.2) (lt-ltb w.0 lane.next w.1))
+-- a buffer is closed exactly where a closing piece was accepted among those that were delivered
+pub buffer_closed : (buffer : Buffered) (file : ℕ) (accepted : List Piece) → BufferStandsFor buffer file accepted → (is_buffer_closed buffer ≡ true) ↔ IsClosedBelow accepted file buffer.next
+buffer_closed buffer file accepted s =
+    (λ h. let k = closing_number buffer.closing buffer.next h in (k.0, ltb-true k.0 buffer.next k.2, s.closing k.0 ∙ k.1), λ w. number_closes buffer.closing w.0 buffer.next (sym (s.closing w.0) ∙ w.2) (lt-ltb w.0 buffer.next w.1))
 
--- the same of the lane of a file, by the count of the file
-pub lane_closed_at : (kept : Kept) (came : List Piece) (file : ℕ) (lane : Lane) → StandsFor kept came → slice_get kept.lanes file ≡ Some lane → (is_lane_closed lane ≡ true) ↔ IsClosedBelow (accepted_of (site_of_kept kept) came) file (slice_index (delivered_counts kept) file)
-lane_closed_at kept came file lane s at =
-    let accepted = accepted_of (site_of_kept kept) came in
-    let both = lane_closed lane file accepted (s.each file lane at) in
-    let count : slice_index (delivered_counts kept) file ≡ lane.next = count_at kept.lanes file lane at in
+-- the same of the buffer of a file, by the count of the file
+pub buffer_closed_at : (kept : Kept) (came : List Piece) (file : ℕ) (buffer : Buffered) → StandsFor kept came → slice_get kept.buffers file ≡ Some buffer → (is_buffer_closed buffer ≡ true) ↔ IsClosedBelow (accepted_of (shape_of_kept kept) came) file (slice_index (delivered_counts kept) file)
+buffer_closed_at kept came file buffer s at =
+    let accepted = accepted_of (shape_of_kept kept) came in
+    let both = buffer_closed buffer file accepted (s.each file buffer at) in
+    let count : slice_index (delivered_counts kept) file ≡ buffer.next = count_at kept.buffers file buffer at in
     (λ h. subst (λ (n : ℕ). IsClosedBelow accepted file n) (sym count) (both.0 h), λ w. both.1 (subst (λ (n : ℕ). IsClosedBelow accepted file n) count w))
 
--- what says whether a file's lane is closed says whether the file is
-pub file_closed : (kept : Kept) (came : List Piece) (file : ℕ) (closed : Bool) → StandsFor kept came → file < length kept.lanes → ((lane : Lane) → slice_get kept.lanes file ≡ Some lane → closed ≡ is_lane_closed lane) → (closed ≡ true) ↔ IsClosedBelow (accepted_of (site_of_kept kept) came) file (slice_index (delivered_counts kept) file)
+-- what says whether a file's buffer is closed says whether the file is
+pub file_closed : (kept : Kept) (came : List Piece) (file : ℕ) (closed : Bool) → StandsFor kept came → file < length kept.buffers → ((buffer : Buffered) → slice_get kept.buffers file ≡ Some buffer → closed ≡ is_buffer_closed buffer) → (closed ≡ true) ↔ IsClosedBelow (accepted_of (shape_of_kept kept) came) file (slice_index (delivered_counts kept) file)
 file_closed kept came file closed s within tells =
-    let lane = get_or kept.lanes file fresh_lane in
-    let at : slice_get kept.lanes file ≡ Some lane = slice_get-get_or kept.lanes file fresh_lane within in
-    let both = lane_closed_at kept came file lane s at in
-    (λ h. both.0 (sym (tells lane at) ∙ h), λ w. tells lane at ∙ both.1 w)
+    let buffer = get_or kept.buffers file fresh_buffer in
+    let at : slice_get kept.buffers file ≡ Some buffer = slice_get-get_or kept.buffers file fresh_buffer within in
+    let both = buffer_closed_at kept came file buffer s at in
+    (λ h. both.0 (sym (tells buffer at) ∙ h), λ w. tells buffer at ∙ both.1 w)
 
--- every lane is closed exactly where every file is
-pub files_closed : (kept : Kept) (came : List Piece) (closed : Bool) → StandsFor kept came → (closed ≡ true) ↔ All (λ (lane : Lane). is_lane_closed lane ≡ true) kept.lanes → (closed ≡ true) ↔ ((file : ℕ) → file < length kept.lanes → IsClosedBelow (accepted_of (site_of_kept kept) came) file (slice_index (delivered_counts kept) file))
+-- every buffer is closed exactly where every file is
+pub files_closed : (kept : Kept) (came : List Piece) (closed : Bool) → StandsFor kept came → (closed ≡ true) ↔ All (λ (buffer : Buffered). is_buffer_closed buffer ≡ true) kept.buffers → (closed ≡ true) ↔ ((file : ℕ) → file < length kept.buffers → IsClosedBelow (accepted_of (shape_of_kept kept) came) file (slice_index (delivered_counts kept) file))
 files_closed kept came closed s all =
-    let lane : ℕ → Lane = λ file. get_or kept.lanes file fresh_lane in
-    let at : (file : ℕ) → file < length kept.lanes → slice_get kept.lanes file ≡ Some (lane file) = λ file within. slice_get-get_or kept.lanes file fresh_lane within in (
-      λ h file within. (lane_closed_at kept came file (lane file) s (at file within)).0 (All-get_or (λ (l : Lane). is_lane_closed l ≡ true) kept.lanes file fresh_lane within (all.0 h)),
-      λ each. all.1 (λ file d within. subst (λ (l : Lane). is_lane_closed l ≡ true) (get_or_default kept.lanes file fresh_lane d within) ((lane_closed_at kept came file (lane file) s (at file within)).1 (each file within))),
+    let buffer : ℕ → Buffered = λ file. get_or kept.buffers file fresh_buffer in
+    let at : (file : ℕ) → file < length kept.buffers → slice_get kept.buffers file ≡ Some (buffer file) = λ file within. slice_get-get_or kept.buffers file fresh_buffer within in (
+      λ h file within. (buffer_closed_at kept came file (buffer file) s (at file within)).0 (All-get_or (λ (l : Buffered). is_buffer_closed l ≡ true) kept.buffers file fresh_buffer within (all.0 h)),
+      λ each. all.1 (λ file d within. subst (λ (l : Buffered). is_buffer_closed l ≡ true) (get_or_default kept.buffers file fresh_buffer d within) ((buffer_closed_at kept came file (buffer file) s (at file within)).1 (each file within))),
     )
 
--- a lane is cut exactly where a piece marked Cut was accepted among those that were delivered
-lane_cut : (lane : Lane) (file : ℕ) (accepted : List Piece) → LaneStandsFor lane file accepted → (is_lane_cut lane ≡ true) ↔ IsCutBelow accepted file lane.next
-lane_cut lane file accepted s =
-    (λ h. let k = closing_number lane.cut lane.next h in (k.0, ltb-true k.0 lane.next k.2, s.cut k.0 ∙ k.1), λ w. number_closes lane.cut w.0 lane.next (sym (s.cut w.0) ∙ w.2) (lt-ltb w.0 lane.next w.1))
+-- a buffer is truncated exactly where a piece marked Cut was accepted among those that were delivered
+buffer_truncated : (buffer : Buffered) (file : ℕ) (accepted : List Piece) → BufferStandsFor buffer file accepted → (is_buffer_truncated buffer ≡ true) ↔ IsTruncatedBelow accepted file buffer.next
+buffer_truncated buffer file accepted s =
+    (λ h. let k = closing_number buffer.truncated buffer.next h in (k.0, ltb-true k.0 buffer.next k.2, s.truncated k.0 ∙ k.1), λ w. number_closes buffer.truncated w.0 buffer.next (sym (s.truncated w.0) ∙ w.2) (lt-ltb w.0 buffer.next w.1))
 
--- what says whether a file's lane is cut says whether the file is
-pub file_cut : (kept : Kept) (came : List Piece) (file : ℕ) (cut : Bool) → StandsFor kept came → file < length kept.lanes → ((lane : Lane) → slice_get kept.lanes file ≡ Some lane → cut ≡ is_lane_cut lane) → (cut ≡ true) ↔ IsCutBelow (accepted_of (site_of_kept kept) came) file (slice_index (delivered_counts kept) file)
-file_cut kept came file cut s within tells =
-    let accepted = accepted_of (site_of_kept kept) came in
-    let lane = get_or kept.lanes file fresh_lane in
-    let at : slice_get kept.lanes file ≡ Some lane = slice_get-get_or kept.lanes file fresh_lane within in
-    let both = lane_cut lane file accepted (s.each file lane at) in
-    let count : slice_index (delivered_counts kept) file ≡ lane.next = count_at kept.lanes file lane at in
-    (λ h. subst (λ (n : ℕ). IsCutBelow accepted file n) (sym count) (both.0 (sym (tells lane at) ∙ h)), λ w. tells lane at ∙ both.1 (subst (λ (n : ℕ). IsCutBelow accepted file n) count w))
+-- what says whether a file's buffer is truncated says whether the file is
+pub file_truncated : (kept : Kept) (came : List Piece) (file : ℕ) (truncated : Bool) → StandsFor kept came → file < length kept.buffers → ((buffer : Buffered) → slice_get kept.buffers file ≡ Some buffer → truncated ≡ is_buffer_truncated buffer) → (truncated ≡ true) ↔ IsTruncatedBelow (accepted_of (shape_of_kept kept) came) file (slice_index (delivered_counts kept) file)
+file_truncated kept came file truncated s within tells =
+    let accepted = accepted_of (shape_of_kept kept) came in
+    let buffer = get_or kept.buffers file fresh_buffer in
+    let at : slice_get kept.buffers file ≡ Some buffer = slice_get-get_or kept.buffers file fresh_buffer within in
+    let both = buffer_truncated buffer file accepted (s.each file buffer at) in
+    let count : slice_index (delivered_counts kept) file ≡ buffer.next = count_at kept.buffers file buffer at in
+    (λ h. subst (λ (n : ℕ). IsTruncatedBelow accepted file n) (sym count) (both.0 (sym (tells buffer at) ∙ h)), λ w. tells buffer at ∙ both.1 (subst (λ (n : ℕ). IsTruncatedBelow accepted file n) count w))

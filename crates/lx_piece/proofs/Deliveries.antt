@@ -8,8 +8,8 @@ use Rattle.lx_piece.specs.declared.piece.Piece.{Piece}
 use Rattle.lx_piece.specs.declared.reply.Why.{Why}
 use Rattle.lx_piece.specs.Plans.{Planned, files_of}
 use Rattle.lx_piece.specs.Pieces.{IsPieceOf, pieces_of}
-use Rattle.lx_piece.specs.Arrivals.{Site, site_of, IsHonest, AreHonest, accepted_behind, accepted_of, with_arrival, joined, cause_against, has_piece, is_numbered, reply_to, replies_of, IsLeastMissing}
-use Rattle.lx_piece.specs.Kept.{Kept, LaneStandsFor, StandsFor, NoneReady, site_of_kept, held_at, delivered_counts, is_ready_at, fresh_lane}
+use Rattle.lx_piece.specs.Arrivals.{RunShape, shape_of, IsHonest, AreHonest, accepted_behind, accepted_of, with_arrival, joined, cause_against, has_piece, is_numbered, reply_to, replies_of, IsLeastMissing}
+use Rattle.lx_piece.specs.Kept.{Kept, BufferStandsFor, StandsFor, NoneReady, shape_of_kept, held_at, delivered_counts, is_ready_at, fresh_buffer}
 use Rattle.lx_piece.specs.declared.reply.Reply.{Reply}
 use Rattle.lx_piece.specs.Relayed.{TakesAllInOrder, HoldsPlanned, AllDelivered, AtMostDelivered, AreAtMost, RelayedInPart}
 use Rattle.lx_piece.proofs.SoFar.{SoFar}
@@ -19,107 +19,107 @@ use Rattle.lx_piece.proofs.Standing.{known, accepted_last, replies_last}
 use Rattle.lx_piece.proofs.Relays.{nexts, length-nexts, count_at}
 
 -- an honest arrival leaves the accepted pieces the plan's
-pub with_planned : (plan : Planned) (accepted : List Piece) (p : Piece) → All (IsPieceOf plan) accepted → IsHonest plan p → All (IsPieceOf plan) (with_arrival (site_of plan) accepted p)
+pub with_planned : (plan : Planned) (accepted : List Piece) (p : Piece) → All (IsPieceOf plan) accepted → IsHonest plan p → All (IsPieceOf plan) (with_arrival (shape_of plan) accepted p)
 with_planned plan accepted p h first =
-    let go : (cause : Option Why) → cause ≡ cause_against (site_of plan) accepted p → All (IsPieceOf plan) (joined cause accepted p) = elim [
+    let go : (cause : Option Why) → cause ≡ cause_against (shape_of plan) accepted p → All (IsPieceOf plan) (joined cause accepted p) = elim [
       | None ↦ λ e.
-          let k = known (site_of plan) accepted p e in
+          let k = known (shape_of plan) accepted p e in
           All-push (IsPieceOf plan) accepted p h (first (eqb-true p.run plan.run (not-false (nat_eq p.run plan.run) k.0)) (ltb-true p.file (files_of plan) (not-false (nat_lt p.file (files_of plan)) k.1)))
       | Some why ↦ λ e. h
     ] in
-    go (cause_against (site_of plan) accepted p) refl
+    go (cause_against (shape_of plan) accepted p) refl
 
 -- the pieces accepted from an honest list are the plan's
-accepted_planned : (plan : Planned) (accepted came : List Piece) → All (IsPieceOf plan) accepted → AreHonest plan came → All (IsPieceOf plan) (accepted_behind (site_of plan) accepted came)
+accepted_planned : (plan : Planned) (accepted came : List Piece) → All (IsPieceOf plan) accepted → AreHonest plan came → All (IsPieceOf plan) (accepted_behind (shape_of plan) accepted came)
 accepted_planned plan accepted [] h honest = h
 accepted_planned plan accepted (p ∷ came) h honest =
-    accepted_planned plan (with_arrival (site_of plan) accepted p) came (with_planned plan accepted p h (All-head (IsHonest plan) p came honest)) (All-tail (IsHonest plan) p came honest)
+    accepted_planned plan (with_arrival (shape_of plan) accepted p) came (with_planned plan accepted p h (All-head (IsHonest plan) p came honest)) (All-tail (IsHonest plan) p came honest)
 
 -- so is what a collector holds that stands for the list
-pub planned_from : (plan : Planned) (kept : Kept) (came : List Piece) → site_of_kept kept ≡ site_of plan → StandsFor kept came → AreHonest plan came → HoldsPlanned plan kept.lanes
+pub planned_from : (plan : Planned) (kept : Kept) (came : List Piece) → shape_of_kept kept ≡ shape_of plan → StandsFor kept came → AreHonest plan came → HoldsPlanned plan kept.buffers
 planned_from plan kept came e s honest =
     record {
-      files = ap (λ (site : Site). site.files) e;
-      each = λ file lane at n p held.
-          let is = (s.each file lane at).held n p held in
-          let there = subst (λ site. Contains (accepted_of site came) p) e is.2 in
-          (All-contains (IsPieceOf plan) (accepted_of (site_of plan) came) p (accepted_planned plan [] came (All-nil (IsPieceOf plan)) honest) there, is.0, is.1);
+      files = ap (λ (shape : RunShape). shape.files) e;
+      each = λ file buffer at n p held.
+          let is = (s.each file buffer at).held n p held in
+          let there = subst (λ shape. Contains (accepted_of shape came) p) e is.2 in
+          (All-contains (IsPieceOf plan) (accepted_of (shape_of plan) came) p (accepted_planned plan [] came (All-nil (IsPieceOf plan)) honest) there, is.0, is.1);
     }
 
 -- where nothing more can be delivered, all was
-pub all_delivered : (site : Site) (kept : Kept) (came : List Piece) (counts : List ℕ) → site_of_kept kept ≡ site → StandsFor kept came → NoneReady kept.lanes → counts ≡ delivered_counts kept → AllDelivered site came counts
-all_delivered site kept came counts e s ready c =
+pub all_delivered : (shape : RunShape) (kept : Kept) (came : List Piece) (counts : List ℕ) → shape_of_kept kept ≡ shape → StandsFor kept came → NoneReady kept.buffers → counts ≡ delivered_counts kept → AllDelivered shape came counts
+all_delivered shape kept came counts e s ready c =
     record {
-      files = ap length c ∙ length-nexts kept.lanes ∙ ap (λ (t : Site). t.files) e;
+      files = ap length c ∙ length-nexts kept.buffers ∙ ap (λ (t : RunShape). t.files) e;
       each = λ file within.
-          let inside : file < length kept.lanes = (let f = ap (λ (t : Site). t.files) e in omega arith) in
-          let lane = get_or kept.lanes file fresh_lane in
-          let at : slice_get kept.lanes file ≡ Some lane = slice_get-get_or kept.lanes file fresh_lane inside in
-          let stands : LaneStandsFor lane file (accepted_of site came) = subst (λ t. LaneStandsFor lane file (accepted_of t came)) e (s.each file lane at) in
-          let count : slice_index counts file ≡ lane.next = ap (λ (ns : List ℕ). slice_index ns file) c ∙ count_at kept.lanes file lane at in
+          let inside : file < length kept.buffers = (let f = ap (λ (t : RunShape). t.files) e in omega arith) in
+          let buffer = get_or kept.buffers file fresh_buffer in
+          let at : slice_get kept.buffers file ≡ Some buffer = slice_get-get_or kept.buffers file fresh_buffer inside in
+          let stands : BufferStandsFor buffer file (accepted_of shape came) = subst (λ t. BufferStandsFor buffer file (accepted_of t came)) e (s.each file buffer at) in
+          let count : slice_index counts file ≡ buffer.next = ap (λ (ns : List ℕ). slice_index ns file) c ∙ count_at kept.buffers file buffer at in
           record {
-            below = λ j l. stands.numbers j ∙ or_left (nat_lt j lane.next) (is_some (held_at lane j)) (lt-ltb j lane.next (omega arith));
-            missing = ap (λ (n : ℕ). has_piece file n (accepted_of site came)) count ∙ stands.numbers lane.next ∙ or_from (nat_lt lane.next lane.next) (is_some (held_at lane lane.next)) (le-ltb lane.next lane.next (omega arith)) (sym (ap is_ready_at at) ∙ ready file);
+            below = λ j l. stands.numbers j ∙ or_left (nat_lt j buffer.next) (is_some (held_at buffer j)) (lt-ltb j buffer.next (omega arith));
+            missing = ap (λ (n : ℕ). has_piece file n (accepted_of shape came)) count ∙ stands.numbers buffer.next ∙ or_from (nat_lt buffer.next buffer.next) (is_some (held_at buffer buffer.next)) (le-ltb buffer.next buffer.next (omega arith)) (sym (ap is_ready_at at) ∙ ready file);
           };
     }
 
 -- what was delivered was accepted
-pub at_most_delivered : (site : Site) (kept : Kept) (came : List Piece) (counts : List ℕ) → site_of_kept kept ≡ site → StandsFor kept came → AreAtMost counts (delivered_counts kept) → AtMostDelivered site came counts
-at_most_delivered site kept came counts e s c =
+pub at_most_delivered : (shape : RunShape) (kept : Kept) (came : List Piece) (counts : List ℕ) → shape_of_kept kept ≡ shape → StandsFor kept came → AreAtMost counts (delivered_counts kept) → AtMostDelivered shape came counts
+at_most_delivered shape kept came counts e s c =
     record {
-      files = c.files ∙ length-nexts kept.lanes ∙ ap (λ (t : Site). t.files) e;
+      files = c.files ∙ length-nexts kept.buffers ∙ ap (λ (t : RunShape). t.files) e;
       each = λ file j within l.
-          let inside : file < length kept.lanes = (let f = ap (λ (t : Site). t.files) e in omega arith) in
-          let lane = get_or kept.lanes file fresh_lane in
-          let at : slice_get kept.lanes file ≡ Some lane = slice_get-get_or kept.lanes file fresh_lane inside in
-          let stands : LaneStandsFor lane file (accepted_of site came) = subst (λ t. LaneStandsFor lane file (accepted_of t came)) e (s.each file lane at) in
-          let count : slice_index (delivered_counts kept) file ≡ lane.next = count_at kept.lanes file lane at in
+          let inside : file < length kept.buffers = (let f = ap (λ (t : RunShape). t.files) e in omega arith) in
+          let buffer = get_or kept.buffers file fresh_buffer in
+          let at : slice_get kept.buffers file ≡ Some buffer = slice_get-get_or kept.buffers file fresh_buffer inside in
+          let stands : BufferStandsFor buffer file (accepted_of shape came) = subst (λ t. BufferStandsFor buffer file (accepted_of t came)) e (s.each file buffer at) in
+          let count : slice_index (delivered_counts kept) file ≡ buffer.next = count_at kept.buffers file buffer at in
           let bound = c.each file in
-          stands.numbers j ∙ or_left (nat_lt j lane.next) (is_some (held_at lane j)) (lt-ltb j lane.next (omega arith));
+          stands.numbers j ∙ or_left (nat_lt j buffer.next) (is_some (held_at buffer j)) (lt-ltb j buffer.next (omega arith));
     }
 
 pub same_at_most : (counts others : List ℕ) → counts ≡ others → AreAtMost counts others
 same_at_most counts others e = record { files = ap length e; each = λ file. (let f = ap (λ (ns : List ℕ). slice_index ns file) e in omega arith) }
 
-pub has_more : (site : Site) (accepted : List Piece) (p : Piece) (file j : ℕ) (cause : Option Why) → has_piece file j accepted ≡ true → has_piece file j (joined cause accepted p) ≡ true
-has_more site accepted p file j None h = any_last (is_numbered file j) accepted p ∙ or_left (has_piece file j accepted) (is_numbered file j p) h
-has_more site accepted p file j (Some why) h = h
+pub has_more : (shape : RunShape) (accepted : List Piece) (p : Piece) (file j : ℕ) (cause : Option Why) → has_piece file j accepted ≡ true → has_piece file j (joined cause accepted p) ≡ true
+has_more shape accepted p file j None h = any_last (is_numbered file j) accepted p ∙ or_left (has_piece file j accepted) (is_numbered file j p) h
+has_more shape accepted p file j (Some why) h = h
 
 -- an arrival more takes nothing back
-pub at_most_more : (site : Site) (came : List Piece) (counts : List ℕ) (p : Piece) → AtMostDelivered site came counts → AtMostDelivered site (came ++ p ∷ []) counts
-at_most_more site came counts p h =
+pub at_most_more : (shape : RunShape) (came : List Piece) (counts : List ℕ) (p : Piece) → AtMostDelivered shape came counts → AtMostDelivered shape (came ++ p ∷ []) counts
+at_most_more shape came counts p h =
     record {
       files = h.files;
-      each = λ file j within l. ap (has_piece file j) (accepted_last site [] came p) ∙ has_more site (accepted_of site came) p file j (cause_against site (accepted_of site came) p) (h.each file j within l);
+      each = λ file j within l. ap (has_piece file j) (accepted_last shape [] came p) ∙ has_more shape (accepted_of shape came) p file j (cause_against shape (accepted_of shape came) p) (h.each file j within l);
     }
 
 -- at the start no file is ready, and every count is 0
-pub fresh_ready : (n g : ℕ) → is_ready_at (slice_get (replicate n fresh_lane) g) ≡ false
+pub fresh_ready : (n g : ℕ) → is_ready_at (slice_get (replicate n fresh_buffer) g) ≡ false
 fresh_ready zero g = refl
 fresh_ready (suc n) zero = refl
 fresh_ready (suc n) (suc g) = fresh_ready n g
 
-pub fresh_counts : (n : ℕ) → nexts (replicate n fresh_lane) ≡ replicate n 0
+pub fresh_counts : (n : ℕ) → nexts (replicate n fresh_buffer) ≡ replicate n 0
 fresh_counts zero = refl
 fresh_counts (suc n) = ap (λ (ns : List ℕ). 0 ∷ ns) (fresh_counts n)
 
-pub fresh_site : (plan : Planned) (kept : Kept) (run files : ℕ) → kept ≡ record { run = run; lanes = replicate files fresh_lane } → run ≡ plan.run → files ≡ files_of plan → site_of_kept kept ≡ site_of plan
-fresh_site plan kept run files k r f =
-    ap site_of_kept k
-    ∙ ap (λ (n : ℕ). record { run = run; files = n }) (length-replicate files fresh_lane ∙ f)
+pub fresh_shape : (plan : Planned) (kept : Kept) (run files : ℕ) → kept ≡ record { run = run; buffers = replicate files fresh_buffer } → run ≡ plan.run → files ≡ files_of plan → shape_of_kept kept ≡ shape_of plan
+fresh_shape plan kept run files k r f =
+    ap shape_of_kept k
+    ∙ ap (λ (n : ℕ). record { run = run; files = n }) (length-replicate files fresh_buffer ∙ f)
     ∙ ap (λ (n : ℕ). record { run = n; files = files_of plan }) r
 
-pub fresh_delivered : (plan : Planned) (kept : Kept) (run files : ℕ) → kept ≡ record { run = run; lanes = replicate files fresh_lane } → files ≡ files_of plan → replicate (files_of plan) 0 ≡ delivered_counts kept
+pub fresh_delivered : (plan : Planned) (kept : Kept) (run files : ℕ) → kept ≡ record { run = run; buffers = replicate files fresh_buffer } → files ≡ files_of plan → replicate (files_of plan) 0 ≡ delivered_counts kept
 fresh_delivered plan kept run files k f = sym (ap delivered_counts k ∙ fresh_counts files ∙ ap (λ (n : ℕ). replicate n 0) f)
 
 -- all that the list before its last arrival delivers was taken
 abbrev pub IsEager : Planned → List Piece → List ℕ → Type 0
-IsEager plan came counts = (before : List Piece) (last : Piece) → came ≡ before ++ last ∷ [] → (file k : ℕ) → file < files_of plan → IsLeastMissing (accepted_of (site_of plan) before) file k → k ≤ slice_index counts file
+IsEager plan came counts = (before : List Piece) (last : Piece) → came ≡ before ++ last ∷ [] → (file k : ℕ) → file < files_of plan → IsLeastMissing (accepted_of (shape_of plan) before) file k → k ≤ slice_index counts file
 
 -- so it is where all of the list before was delivered and no count has fallen since
-eager_behind : (plan : Planned) (came : List Piece) (p : Piece) (counts after : List ℕ) → AllDelivered (site_of plan) came counts → AreAtMost counts after → IsEager plan (came ++ p ∷ []) after
+eager_behind : (plan : Planned) (came : List Piece) (p : Piece) (counts after : List ℕ) → AllDelivered (shape_of plan) came counts → AreAtMost counts after → IsEager plan (came ++ p ∷ []) after
 eager_behind plan came p counts after h rise = λ before last e file k within least.
-    let here = subst (λ (list : List Piece). IsLeastMissing (accepted_of (site_of plan) list) file k) (sym (same_from_push came before p last e).0) least in
+    let here = subst (λ (list : List Piece). IsLeastMissing (accepted_of (shape_of plan) list) file k) (sym (same_from_push came before p last e).0) least in
     let risen = rise.each file in
     elim (cases_lt (slice_index counts file) k) [
       | inl below ↦ let there = here.below (slice_index counts file) below in let missing = (h.each file within).missing in absurd (cc)
@@ -127,7 +127,7 @@ eager_behind plan came p counts after h rise = λ before last e file k within le
     ]
 
 -- one arrival more
-pub so_far_with : {S : Type 0} (plan : Planned) (leads : S → List Piece → S → Type 0) (goes_on : (s t u : S) (xs ys : List Piece) → leads s xs t → leads t ys u → leads s (xs ++ ys) u) (s t u : S) (old new : Kept) (replies : List Reply) (p : Piece) (reply : Reply) → SoFar plan (λ came. leads s came t) old replies → leads t (p ∷ []) u → IsHonest plan p → site_of_kept old ≡ site_of plan → ((came : List Piece) → StandsFor old came → reply ≡ reply_to (site_of_kept old) (accepted_of (site_of_kept old) came) p) → ((came : List Piece) → StandsFor old came → StandsFor new (came ++ p ∷ [])) → SoFar plan (λ came. leads s came u) new (replies ++ reply ∷ [])
+pub so_far_with : {S : Type 0} (plan : Planned) (leads : S → List Piece → S → Type 0) (goes_on : (s t u : S) (xs ys : List Piece) → leads s xs t → leads t ys u → leads s (xs ++ ys) u) (s t u : S) (old new : Kept) (replies : List Reply) (p : Piece) (reply : Reply) → SoFar plan (λ came. leads s came t) old replies → leads t (p ∷ []) u → IsHonest plan p → shape_of_kept old ≡ shape_of plan → ((came : List Piece) → StandsFor old came → reply ≡ reply_to (shape_of_kept old) (accepted_of (shape_of_kept old) came) p) → ((came : List Piece) → StandsFor old came → StandsFor new (came ++ p ∷ [])) → SoFar plan (λ came. leads s came u) new (replies ++ reply ∷ [])
 so_far_with plan leads goes_on s t u old new replies p reply so led honest e answers stands =
     record {
       came = so.came ++ p ∷ [];
@@ -135,8 +135,8 @@ so_far_with plan leads goes_on s t u old new replies p reply so led honest e ans
       honest = All-push (IsHonest plan) so.came p so.honest honest;
       replied =
           ap (λ rs. rs ++ reply ∷ []) so.replied
-          ∙ ap (λ r. replies_of (site_of plan) so.came ++ r ∷ []) (answers so.came so.stands ∙ ap (λ site. reply_to site (accepted_of site so.came) p) e)
-          ∙ sym (replies_last (site_of plan) [] so.came p);
+          ∙ ap (λ r. replies_of (shape_of plan) so.came ++ r ∷ []) (answers so.came so.stands ∙ ap (λ shape. reply_to shape (accepted_of shape so.came) p) e)
+          ∙ sym (replies_last (shape_of plan) [] so.came p);
       stands = stands so.came so.stands;
     }
 
@@ -145,12 +145,12 @@ pub so_far_still : (plan : Planned) (leads : List Piece → Type 0) (old new : K
 so_far_still plan leads old new replies so stands = record { came = so.came; led = so.led; honest = so.honest; replied = so.replied; stands = stands so.came so.stands }
 
 -- of each file no more was taken than its pieces
-pub taken_from : (plan : Planned) (came : List Piece) (counts : List ℕ) → 0 < plan.per_piece → AreHonest plan came → AtMostDelivered (site_of plan) came counts → TakesAllInOrder plan counts
+pub taken_from : (plan : Planned) (came : List Piece) (counts : List ℕ) → 0 < plan.per_piece → AreHonest plan came → AtMostDelivered (shape_of plan) came counts → TakesAllInOrder plan counts
 taken_from plan came counts some honest h =
     let within : (file : ℕ) → file < files_of plan → slice_index counts file ≤ pieces_of plan file = λ file l.
     elim (cases_lt (pieces_of plan file) (slice_index counts file)) [
       | inl more ↦
-          let found = any_of (IsPieceOf plan) (is_numbered file (pieces_of plan file)) (accepted_of (site_of plan) came)
+          let found = any_of (IsPieceOf plan) (is_numbered file (pieces_of plan file)) (accepted_of (shape_of plan) came)
           (accepted_planned plan [] came (All-nil (IsPieceOf plan)) honest) (h.each file (pieces_of plan file) l more) in
           let at = and_parts (nat_eq found.0.file file) (nat_eq found.0.number (pieces_of plan file)) found.2 in
           let below = subst (λ (f : ℕ). found.0.number < pieces_of plan f) (eqb-true found.0.file file at.0) found.1.number in
@@ -160,37 +160,37 @@ taken_from plan came counts some honest h =
     ] in
     record { within = within; each = λ file l. takes_in_order plan file (slice_index counts file) some (within file l) }
 
-in_part : (plan : Planned) (leads : List Piece → Type 0) (kept : Kept) (replies : List Reply) (counts : List ℕ) → 0 < plan.per_piece → (so : SoFar plan leads kept replies) → site_of_kept kept ≡ site_of plan → AreAtMost counts (delivered_counts kept) → IsEager plan so.came counts → RelayedInPart plan leads counts
+in_part : (plan : Planned) (leads : List Piece → Type 0) (kept : Kept) (replies : List Reply) (counts : List ℕ) → 0 < plan.per_piece → (so : SoFar plan leads kept replies) → shape_of_kept kept ≡ shape_of plan → AreAtMost counts (delivered_counts kept) → IsEager plan so.came counts → RelayedInPart plan leads counts
 in_part plan leads kept replies counts some so e c eager =
-    let delivered = at_most_delivered (site_of plan) kept so.came counts e so.stands c in
+    let delivered = at_most_delivered (shape_of plan) kept so.came counts e so.stands c in
     record { came = so.came; led = so.led; honest = so.honest; delivered = delivered; eager = eager; taken = taken_from plan so.came counts some so.honest delivered }
 
 -- an arrival behind which some was delivered, and then the reader failed
-pub in_part_behind : {S : Type 0} (plan : Planned) (leads : S → List Piece → S → Type 0) (goes_on : (s t u : S) (xs ys : List Piece) → leads s xs t → leads t ys u → leads s (xs ++ ys) u) (s t u : S) (old mid new : Kept) (replies : List Reply) (before counts : List ℕ) (p : Piece) (reply : Reply) → 0 < plan.per_piece → SoFar plan (λ came. leads s came t) old replies → leads t (p ∷ []) u → IsHonest plan p → site_of_kept old ≡ site_of plan → NoneReady old.lanes → before ≡ delivered_counts old → ((came : List Piece) → StandsFor old came → reply ≡ reply_to (site_of_kept old) (accepted_of (site_of_kept old) came) p) → ((came : List Piece) → StandsFor old came → StandsFor mid (came ++ p ∷ [])) → ((came : List Piece) → StandsFor mid came → StandsFor new came) → site_of_kept new ≡ site_of plan → AreAtMost counts (delivered_counts new) → AreAtMost before counts → RelayedInPart plan (λ came. leads s came u) counts
+pub in_part_behind : {S : Type 0} (plan : Planned) (leads : S → List Piece → S → Type 0) (goes_on : (s t u : S) (xs ys : List Piece) → leads s xs t → leads t ys u → leads s (xs ++ ys) u) (s t u : S) (old mid new : Kept) (replies : List Reply) (before counts : List ℕ) (p : Piece) (reply : Reply) → 0 < plan.per_piece → SoFar plan (λ came. leads s came t) old replies → leads t (p ∷ []) u → IsHonest plan p → shape_of_kept old ≡ shape_of plan → NoneReady old.buffers → before ≡ delivered_counts old → ((came : List Piece) → StandsFor old came → reply ≡ reply_to (shape_of_kept old) (accepted_of (shape_of_kept old) came) p) → ((came : List Piece) → StandsFor old came → StandsFor mid (came ++ p ∷ [])) → ((came : List Piece) → StandsFor mid came → StandsFor new came) → shape_of_kept new ≡ shape_of plan → AreAtMost counts (delivered_counts new) → AreAtMost before counts → RelayedInPart plan (λ came. leads s came u) counts
 unfolding so_far_with so_far_still
-in_part_behind plan leads goes_on s t u old mid new replies before counts p reply some so led honest e ready c answers stands still site most risen =
+in_part_behind plan leads goes_on s t u old mid new replies before counts p reply some so led honest e ready c answers stands still shape most risen =
     let with = so_far_with plan leads goes_on s t u old mid replies p reply so led honest e answers stands in
     let then = so_far_still plan (λ came. leads s came u) mid new (replies ++ reply ∷ []) with still in
-    in_part plan (λ came. leads s came u) new (replies ++ reply ∷ []) counts some then site most
-    (eager_behind plan so.came p before counts (all_delivered (site_of plan) old so.came before e so.stands ready c) risen)
+    in_part plan (λ came. leads s came u) new (replies ++ reply ∷ []) counts some then shape most
+    (eager_behind plan so.came p before counts (all_delivered (shape_of plan) old so.came before e so.stands ready c) risen)
 
 -- an arrival that no reply was given to
-pub in_part_with : {S : Type 0} (plan : Planned) (leads : S → List Piece → S → Type 0) (goes_on : (s t u : S) (xs ys : List Piece) → leads s xs t → leads t ys u → leads s (xs ++ ys) u) (s t u : S) (kept : Kept) (replies : List Reply) (counts : List ℕ) (p : Piece) → 0 < plan.per_piece → SoFar plan (λ came. leads s came t) kept replies → leads t (p ∷ []) u → IsHonest plan p → site_of_kept kept ≡ site_of plan → NoneReady kept.lanes → counts ≡ delivered_counts kept → RelayedInPart plan (λ came. leads s came u) counts
+pub in_part_with : {S : Type 0} (plan : Planned) (leads : S → List Piece → S → Type 0) (goes_on : (s t u : S) (xs ys : List Piece) → leads s xs t → leads t ys u → leads s (xs ++ ys) u) (s t u : S) (kept : Kept) (replies : List Reply) (counts : List ℕ) (p : Piece) → 0 < plan.per_piece → SoFar plan (λ came. leads s came t) kept replies → leads t (p ∷ []) u → IsHonest plan p → shape_of_kept kept ≡ shape_of plan → NoneReady kept.buffers → counts ≡ delivered_counts kept → RelayedInPart plan (λ came. leads s came u) counts
 in_part_with plan leads goes_on s t u kept replies counts p some so led honest e ready c =
-    let delivered = at_most_delivered (site_of plan) kept so.came counts e so.stands (same_at_most counts (delivered_counts kept) c) in
+    let delivered = at_most_delivered (shape_of plan) kept so.came counts e so.stands (same_at_most counts (delivered_counts kept) c) in
     record {
       came = so.came ++ p ∷ [];
       led = goes_on s t u so.came (p ∷ []) so.led led;
       honest = All-push (IsHonest plan) so.came p so.honest honest;
-      delivered = at_most_more (site_of plan) so.came counts p delivered;
-      eager = eager_behind plan so.came p counts counts (all_delivered (site_of plan) kept so.came counts e so.stands ready c) (same_at_most counts counts refl);
+      delivered = at_most_more (shape_of plan) so.came counts p delivered;
+      eager = eager_behind plan so.came p counts counts (all_delivered (shape_of plan) kept so.came counts e so.stands ready c) (same_at_most counts counts refl);
       taken = taken_from plan so.came counts some so.honest delivered;
     }
 
 -- before anything came nothing was taken
 pub part_at_start : (plan : Planned) (leads : List Piece → Type 0) (counts : List ℕ) → 0 < plan.per_piece → leads [] → counts ≡ replicate (files_of plan) 0 → RelayedInPart plan leads counts
 part_at_start plan leads counts some led e =
-    let delivered : AtMostDelivered (site_of plan) [] counts =
+    let delivered : AtMostDelivered (shape_of plan) [] counts =
     record {
       files = ap length e ∙ length-replicate (files_of plan) 0;
       each = λ file j within l.

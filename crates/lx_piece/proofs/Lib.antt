@@ -1,6 +1,6 @@
 pub mod SoFar
 pub mod AnyOf
-pub mod Lanes
+pub mod Buffers
 pub mod Stands
 pub mod Readies
 pub mod Standing

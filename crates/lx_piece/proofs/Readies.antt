@@ -8,27 +8,27 @@ use Rattle.std.specs.BTreeSet.{BTreeSet, contains}
 use Rattle.std.proofs.lemmas.Bool.{both_ways, ne_eqb, le-ltb, false_from_ne_true}
 use Rattle.std.proofs.lemmas.Option.{unwrap_or-slice_get}
 use Rattle.lx_piece.specs.declared.piece.Piece.{Piece}
-use Rattle.lx_piece.specs.Kept.{Lane, Advances, Delivers, IsReadySet, is_ready, is_ready_at, held_at}
+use Rattle.lx_piece.specs.Kept.{Buffered, Advances, Delivers, IsReadySet, is_ready, is_ready_at, held_at}
 
--- where a file is ready, it has a lane
-pub ready_lane : (o : Option Lane) → is_ready_at o ≡ true → (lane : Lane) × (o ≡ Some lane) × (is_ready lane ≡ true)
-ready_lane None h = absurd (both_ways false refl h)
-ready_lane (Some lane) h = (lane, refl, h)
+-- where a file is ready, it has a buffer
+pub ready_buffer : (o : Option Buffered) → is_ready_at o ≡ true → (buffer : Buffered) × (o ≡ Some buffer) × (is_ready buffer ≡ true)
+ready_buffer None h = absurd (both_ways false refl h)
+ready_buffer (Some buffer) h = (buffer, refl, h)
 
 is_above : (m n : ℕ) → n < m → is_gt (nat_cmp m n) ≡ true
 is_above m n l = rw (le-ltb m n (omega arith), ne_eqb m n (λ e. absurd (omega arith))) refl
 
 -- the lowest of the ready files hands its next piece on
-pub lowest_delivers : (lanes : List Lane) (ready : BTreeSet ℕ) (file : ℕ) (lane advanced : Lane) (p : Piece) → IsReadySet lanes ready → contains nat_cmp ready file ≡ true → ((q : ℕ) → contains nat_cmp ready q ≡ true → is_gt (nat_cmp file q) ≡ false) → lane ≡ get_or lanes file lane → held_at lane lane.next ≡ Some p → Advances lane advanced → Delivers lanes file p (slice_set lanes file advanced)
-lowest_delivers lanes ready file lane advanced p set has least at next moves =
-    let r = ready_lane (slice_get lanes file) (sym (set.each file) ∙ has) in
-    let same : lane ≡ r.0 = at ∙ (sym (unwrap_or-slice_get lanes file lane) ∙ ap (λ o. unwrap_or o lane) r.1) in
+pub lowest_delivers : (buffers : List Buffered) (ready : BTreeSet ℕ) (file : ℕ) (buffer advanced : Buffered) (p : Piece) → IsReadySet buffers ready → contains nat_cmp ready file ≡ true → ((q : ℕ) → contains nat_cmp ready q ≡ true → is_gt (nat_cmp file q) ≡ false) → buffer ≡ get_or buffers file buffer → held_at buffer buffer.next ≡ Some p → Advances buffer advanced → Delivers buffers file p (slice_set buffers file advanced)
+lowest_delivers buffers ready file buffer advanced p set has least at next moves =
+    let r = ready_buffer (slice_get buffers file) (sym (set.each file) ∙ has) in
+    let same : buffer ≡ r.0 = at ∙ (sym (unwrap_or-slice_get buffers file buffer) ∙ ap (λ o. unwrap_or o buffer) r.1) in
     record {
-      lane = lane;
+      buffer = buffer;
       advanced = advanced;
       there = r.1 ∙ ap (λ l. Some l) (sym same);
       next = next;
-      lowest = λ g l. false_from_ne_true (is_ready_at (slice_get lanes g)) (λ h. both_ways (is_gt (nat_cmp file g)) (least g (set.each g ∙ h)) (is_above file g l));
+      lowest = λ g l. false_from_ne_true (is_ready_at (slice_get buffers g)) (λ h. both_ways (is_gt (nat_cmp file g)) (least g (set.each g ∙ h)) (is_above file g l));
       moves = moves;
       after = refl;
     }
@@ -53,13 +53,13 @@ at_number k n = elim (cases_eq n k) [
   | inr d ↦ grind (arith, nat_tests)
 ]
 
--- the set is kept when one file's lane changes
-pub ready_set_with : (lanes : List Lane) (ready after : BTreeSet ℕ) (file : ℕ) (advanced : Lane) → IsReadySet lanes ready → file < length lanes → contains nat_cmp after file ≡ is_ready advanced → ((g : ℕ) → (g ≡ file → ⊥) → contains nat_cmp after g ≡ contains nat_cmp ready g) → IsReadySet (slice_set lanes file advanced) after
-ready_set_with lanes ready after file advanced set within here others =
+-- the set is kept when one file's buffer changes
+pub ready_set_with : (buffers : List Buffered) (ready after : BTreeSet ℕ) (file : ℕ) (advanced : Buffered) → IsReadySet buffers ready → file < length buffers → contains nat_cmp after file ≡ is_ready advanced → ((g : ℕ) → (g ≡ file → ⊥) → contains nat_cmp after g ≡ contains nat_cmp ready g) → IsReadySet (slice_set buffers file advanced) after
+ready_set_with buffers ready after file advanced set within here others =
     record {
       few = rw length-set set.few;
       each = λ g. elim (cases_eq g file) [
-        | inl e ↦ ap (contains nat_cmp after) e ∙ here ∙ sym (ap (λ i. is_ready_at (slice_get (slice_set lanes file advanced) i)) e ∙ ap is_ready_at (get_set_same lanes file advanced within))
-        | inr d ↦ others g d ∙ set.each g ∙ sym (ap is_ready_at (get_set_other lanes file g advanced d))
+        | inl e ↦ ap (contains nat_cmp after) e ∙ here ∙ sym (ap (λ i. is_ready_at (slice_get (slice_set buffers file advanced) i)) e ∙ ap is_ready_at (get_set_same buffers file advanced within))
+        | inr d ↦ others g d ∙ set.each g ∙ sym (ap is_ready_at (get_set_other buffers file g advanced d))
       ];
     }

@@ -9,43 +9,43 @@ use Rattle.std.proofs.Math.Seq.{map-set_same}
 use Rattle.lx_piece.specs.declared.piece.Piece.{Piece}
 use Rattle.lx_piece.specs.PieceLaws.{takes_in_order}
 use Rattle.lx_piece.specs.Plans.{Planned}
-use Rattle.lx_piece.specs.Kept.{Lane, Delivers, KeepsIn, held_at, held_total}
+use Rattle.lx_piece.specs.Kept.{Buffered, Delivers, KeepsIn, held_at, held_total}
 use Rattle.lx_piece.specs.Relayed.{HoldsPlanned, IsNextPiece, AreAtMost}
 use Rattle.lx_piece.proofs.Readies.{get_set_same, get_set_other}
 use Rattle.lx_piece.proofs.Standing.{same_some}
 
--- the counts of these lanes
-abbrev pub nexts : List Lane → List ℕ
-nexts lanes = map (λ (lane : Lane). lane.next) lanes
+-- the counts of these buffers
+abbrev pub nexts : List Buffered → List ℕ
+nexts buffers = map (λ (buffer : Buffered). buffer.next) buffers
 
-pub length-nexts : (lanes : List Lane) → length (nexts lanes) ≡ length lanes
+pub length-nexts : (buffers : List Buffered) → length (nexts buffers) ≡ length buffers
 length-nexts [] = refl
-length-nexts (lane ∷ lanes) = ap suc (length-nexts lanes)
+length-nexts (buffer ∷ buffers) = ap suc (length-nexts buffers)
 
 -- a piece that is kept changes no count
-pub counts_kept : (old new : List Lane) (p : Piece) → KeepsIn old p new → nexts new ≡ nexts old
+pub counts_kept : (old new : List Buffered) (p : Piece) → KeepsIn old p new → nexts new ≡ nexts old
 counts_kept old new p k =
     ap nexts k.after
-    ∙ map-set_same (λ (lane : Lane). lane.next) old p.file k.kept k.lane (k.keeps.next ∙ sym (ap (λ (lane : Lane). lane.next) (get_or_from_slice_get old p.file k.lane k.lane k.there)))
+    ∙ map-set_same (λ (buffer : Buffered). buffer.next) old p.file k.kept k.buffer (k.keeps.next ∙ sym (ap (λ (buffer : Buffered). buffer.next) (get_or_from_slice_get old p.file k.buffer k.buffer k.there)))
 
 -- a file's count
-pub count_at : (lanes : List Lane) (file : ℕ) (lane : Lane) → slice_get lanes file ≡ Some lane → slice_index (nexts lanes) file ≡ lane.next
-count_at lanes file lane h =
-    get_or-map (λ (l : Lane). l.next) lanes file lane 0 (slice_get_within lanes file lane h)
-    ∙ ap (λ (l : Lane). l.next) (get_or_from_slice_get lanes file lane lane h)
+pub count_at : (buffers : List Buffered) (file : ℕ) (buffer : Buffered) → slice_get buffers file ≡ Some buffer → slice_index (nexts buffers) file ≡ buffer.next
+count_at buffers file buffer h =
+    get_or-map (λ (l : Buffered). l.next) buffers file buffer 0 (slice_get_within buffers file buffer h)
+    ∙ ap (λ (l : Buffered). l.next) (get_or_from_slice_get buffers file buffer buffer h)
 
 -- a piece that is delivered raises its file's count by one
-pub counts_delivered : (old new : List Lane) (file : ℕ) (p : Piece) → Delivers old file p new → nexts new ≡ slice_set (nexts old) file (slice_index (nexts old) file + 1)
+pub counts_delivered : (old new : List Buffered) (file : ℕ) (p : Piece) → Delivers old file p new → nexts new ≡ slice_set (nexts old) file (slice_index (nexts old) file + 1)
 counts_delivered old new file p h =
     ap nexts h.after
-    ∙ map-set (λ (lane : Lane). lane.next) old file h.advanced
-    ∙ ap (λ (n : ℕ). slice_set (nexts old) file n) (h.moves.next ∙ ap (λ (n : ℕ). n + 1) (sym (count_at old file h.lane h.there)))
+    ∙ map-set (λ (buffer : Buffered). buffer.next) old file h.advanced
+    ∙ ap (λ (n : ℕ). slice_set (nexts old) file n) (h.moves.next ∙ ap (λ (n : ℕ). n + 1) (sym (count_at old file h.buffer h.there)))
 
 -- the piece that is delivered is the one that the reader takes next of its file
-pub delivered_is_next : (plan : Planned) (counts : List ℕ) (old new : List Lane) (file : ℕ) (p : Piece) → 0 < plan.per_piece → HoldsPlanned plan old → counts ≡ nexts old → Delivers old file p new → IsNextPiece plan counts p
+pub delivered_is_next : (plan : Planned) (counts : List ℕ) (old new : List Buffered) (file : ℕ) (p : Piece) → 0 < plan.per_piece → HoldsPlanned plan old → counts ≡ nexts old → Delivers old file p new → IsNextPiece plan counts p
 delivered_is_next plan counts old new file p some s e h =
-    let is = s.each file h.lane h.there h.lane.next p h.next in
-    let number = is.2 ∙ sym (count_at old file h.lane h.there) ∙ ap (λ (n : ℕ). slice_index (nexts old) n) (sym is.1) ∙ sym (ap (λ (ns : List ℕ). slice_index ns p.file) e) in
+    let is = s.each file h.buffer h.there h.buffer.next p h.next in
+    let number = is.2 ∙ sym (count_at old file h.buffer h.there) ∙ ap (λ (n : ℕ). slice_index (nexts old) n) (sym is.1) ∙ sym (ap (λ (ns : List ℕ). slice_index ns p.file) e) in
     let below = is.0.number in
     record {
       planned = is.0;
@@ -54,58 +54,58 @@ delivered_is_next plan counts old new file p some s e h =
     }
 
 -- the reader's counts follow the collector's
-pub counts_follow : (plan : Planned) (counts after : List ℕ) (old new : List Lane) (file : ℕ) (p : Piece) → HoldsPlanned plan old → counts ≡ nexts old → Delivers old file p new → after ≡ slice_set counts p.file (slice_index counts p.file + 1) → after ≡ nexts new
+pub counts_follow : (plan : Planned) (counts after : List ℕ) (old new : List Buffered) (file : ℕ) (p : Piece) → HoldsPlanned plan old → counts ≡ nexts old → Delivers old file p new → after ≡ slice_set counts p.file (slice_index counts p.file + 1) → after ≡ nexts new
 counts_follow plan counts after old new file p s e h a =
-    let is = s.each file h.lane h.there h.lane.next p h.next in
+    let is = s.each file h.buffer h.there h.buffer.next p h.next in
     a
     ∙ ap (λ (ns : List ℕ). slice_set ns p.file (slice_index ns p.file + 1)) e
     ∙ ap (λ (n : ℕ). slice_set (nexts old) n (slice_index (nexts old) n + 1)) is.1
     ∙ sym (counts_delivered old new file p h)
 
 -- what is held stays the plan's
-pub planned_delivered : (plan : Planned) (old new : List Lane) (file : ℕ) (p : Piece) → HoldsPlanned plan old → Delivers old file p new → HoldsPlanned plan new
+pub planned_delivered : (plan : Planned) (old new : List Buffered) (file : ℕ) (p : Piece) → HoldsPlanned plan old → Delivers old file p new → HoldsPlanned plan new
 planned_delivered plan old new file p s h =
     record {
       files = ap length h.after ∙ length-set old file h.advanced ∙ s.files;
-      each = λ g lane at n q held.
+      each = λ g buffer at n q held.
           elim (cases_eq g file) [
             | inl e ↦
-                let is : Some h.advanced ≡ Some lane = sym (ap (λ l. slice_get l g) h.after ∙ (ap (slice_get (slice_set old file h.advanced)) e ∙ get_set_same old file h.advanced (slice_get_within old file h.lane h.there))) ∙ at in
-                let advanced : held_at h.advanced n ≡ Some q = ap (λ l. held_at l n) (same_some h.advanced lane is) ∙ held in
-                elim (cases_eq n h.lane.next) [
+                let is : Some h.advanced ≡ Some buffer = sym (ap (λ l. slice_get l g) h.after ∙ (ap (slice_get (slice_set old file h.advanced)) e ∙ get_set_same old file h.advanced (slice_get_within old file h.buffer h.there))) ∙ at in
+                let advanced : held_at h.advanced n ≡ Some q = ap (λ l. held_at l n) (same_some h.advanced buffer is) ∙ held in
+                elim (cases_eq n h.buffer.next) [
                   | inl same ↦
-                      let gone : None ≡ Some q = sym (h.moves.held n ∙ ap (λ b. if b then None else held_at h.lane n) (eq-eqb n h.lane.next same)) ∙ advanced in
+                      let gone : None ≡ Some q = sym (h.moves.held n ∙ ap (λ b. if b then None else held_at h.buffer n) (eq-eqb n h.buffer.next same)) ∙ advanced in
                       absurd (cc)
                   | inr d ↦
-                      let was : held_at h.lane n ≡ Some q = sym (h.moves.held n ∙ ap (λ b. if b then None else held_at h.lane n) (ne_eqb n h.lane.next d)) ∙ advanced in
-                      let r = s.each file h.lane h.there n q was in
+                      let was : held_at h.buffer n ≡ Some q = sym (h.moves.held n ∙ ap (λ b. if b then None else held_at h.buffer n) (ne_eqb n h.buffer.next d)) ∙ advanced in
+                      let r = s.each file h.buffer h.there n q was in
                       (r.0, r.1 ∙ sym e, r.2)
                 ]
-            | inr d ↦ s.each g lane (sym (ap (λ l. slice_get l g) h.after ∙ get_set_other old file g h.advanced d) ∙ at) n q held
+            | inr d ↦ s.each g buffer (sym (ap (λ l. slice_get l g) h.after ∙ get_set_other old file g h.advanced d) ∙ at) n q held
           ];
     }
 
 -- fewer pieces are held
-pub fewer_held : (old new : List Lane) (file : ℕ) (p : Piece) → Delivers old file p new → held_total new < held_total old
+pub fewer_held : (old new : List Buffered) (file : ℕ) (p : Piece) → Delivers old file p new → held_total new < held_total old
 fewer_held old new file p h =
-    let total = sum_by-set (λ (lane : Lane). length lane.held) old file h.advanced h.lane (slice_get_within old file h.lane h.there) in
-    let lane = ap (λ (l : Lane). length l.held) (get_or_from_slice_get old file h.lane h.lane h.there) in
+    let total = sum_by-set (λ (buffer : Buffered). length buffer.held) old file h.advanced h.buffer (slice_get_within old file h.buffer h.there) in
+    let buffer = ap (λ (l : Buffered). length l.held) (get_or_from_slice_get old file h.buffer h.buffer h.there) in
     let fewer = h.moves.fewer in
     let now = ap held_total h.after in
     omega arith
 
-pub same_size : (old new : List Lane) (file : ℕ) (p : Piece) → Delivers old file p new → length new ≡ length old
+pub same_size : (old new : List Buffered) (file : ℕ) (p : Piece) → Delivers old file p new → length new ≡ length old
 same_size old new file p h = ap length h.after ∙ length-set old file h.advanced
 
 -- the counts before are at most those after
-pub counts_rise : (old new : List Lane) (file : ℕ) (p : Piece) → Delivers old file p new → AreAtMost (nexts old) (nexts new)
+pub counts_rise : (old new : List Buffered) (file : ℕ) (p : Piece) → Delivers old file p new → AreAtMost (nexts old) (nexts new)
 counts_rise old new file p h =
     record {
       files = length-nexts old ∙ sym (same_size old new file p h) ∙ sym (length-nexts new);
       each = λ g. elim (cases_eq g file) [
         | inl e ↦
             let size = length-nexts old in
-            let within = slice_get_within old file h.lane h.there in
+            let within = slice_get_within old file h.buffer h.there in
             let set : slice_index (nexts new) g ≡ slice_index (nexts old) g + 1 =
             ap (λ (ns : List ℕ). slice_index ns g) (counts_delivered old new file p h)
             ∙ ap (slice_index (slice_set (nexts old) file (slice_index (nexts old) file + 1))) e
@@ -119,7 +119,7 @@ counts_rise old new file p h =
     }
 
 -- so counts that follow the collector's have not fallen
-pub risen_more : (first counts after : List ℕ) (old new : List Lane) (file : ℕ) (p : Piece) → AreAtMost first counts → counts ≡ nexts old → after ≡ nexts new → Delivers old file p new → AreAtMost first after
+pub risen_more : (first counts after : List ℕ) (old new : List Buffered) (file : ℕ) (p : Piece) → AreAtMost first counts → counts ≡ nexts old → after ≡ nexts new → Delivers old file p new → AreAtMost first after
 risen_more first counts after old new file p before e f h =
     let step = counts_rise old new file p h in
     record {

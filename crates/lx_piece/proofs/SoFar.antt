@@ -2,7 +2,7 @@ use Rattle.std.specs.Prelude.{◌≡◌, List}
 use Rattle.lx_piece.specs.declared.piece.Piece.{Piece}
 use Rattle.lx_piece.specs.declared.reply.Reply.{Reply}
 use Rattle.lx_piece.specs.Plans.{Planned}
-use Rattle.lx_piece.specs.Arrivals.{site_of, AreHonest, replies_of}
+use Rattle.lx_piece.specs.Arrivals.{shape_of, AreHonest, replies_of}
 use Rattle.lx_piece.specs.Kept.{Kept, StandsFor}
 
 -- in the midst of a run: the list that came, which the collector stands for, and the replies to it
@@ -10,5 +10,5 @@ pub record SoFar (plan : Planned) (leads : List Piece → Type 0) (kept : Kept) 
   pub came : List Piece
   pub led : leads came
   pub honest : AreHonest plan came
-  pub replied : replies ≡ replies_of (site_of plan) came
+  pub replied : replies ≡ replies_of (shape_of plan) came
   pub stands : StandsFor kept came

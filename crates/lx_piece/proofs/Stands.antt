@@ -8,8 +8,8 @@ use Rattle.lx_piece.specs.declared.reply.Why.TheVariants.{Double, AfterLast, Con
 use Rattle.lx_piece.specs.declared.piece.Mark.{Mark}
 use Rattle.lx_piece.specs.declared.piece.Mark.TheVariants.{More, Whole, Cut}
 use Rattle.lx_piece.specs.Pieces.{is_closing, is_closing_mark, is_cut_mark, is_cut_short, top_number}
-use Rattle.lx_piece.specs.Arrivals.{has_piece, has_closing, has_cut, closes_before, is_later, is_numbered, cause_among}
-use Rattle.lx_piece.specs.Kept.{Lane, LaneStandsFor, KeepsPiece, Advances, is_ready, held_at, is_number}
+use Rattle.lx_piece.specs.Arrivals.{has_piece, has_closing, has_truncated, closes_before, is_later, is_numbered, cause_among}
+use Rattle.lx_piece.specs.Kept.{Buffered, BufferStandsFor, KeepsPiece, Advances, is_ready, held_at, is_number}
 use Rattle.lx_piece.proofs.AnyOf.{same_tests, any_witness, any_last, choice_none, or_none}
 
 -- what no cause against p says
@@ -47,10 +47,10 @@ no_other_marked test accepted p n none closes last other = false_from_ne_true (l
     ])
 
 -- a piece that is marked Cut is a last one
-cut_closes : (mark : Mark) → is_cut_mark mark ≡ true → is_closing_mark mark ≡ true
-cut_closes More h = absurd (both_ways false refl h)
-cut_closes Whole h = absurd (both_ways false refl h)
-cut_closes Cut h = refl
+truncated_closes : (mark : Mark) → is_cut_mark mark ≡ true → is_closing_mark mark ≡ true
+truncated_closes More h = absurd (both_ways false refl h)
+truncated_closes Whole h = absurd (both_ways false refl h)
+truncated_closes Cut h = refl
 
 -- The number of an accepted piece with a mark that only last pieces have, once p is accepted too.
 kept_mark : (test : Piece → Bool) (accepted : List Piece) (p : Piece) (old new : Option ℕ) (n : ℕ) → NoCause accepted p → ((q : Piece) → test q ≡ true → is_closing q ≡ true) →
@@ -79,8 +79,8 @@ kept_mark test accepted p old new n clear closes is stands =
           ∙ sym (ap (λ o. is_number o n) (is ∙ ap (λ b. if b then Some p.number else old) hasnt))
     ]
 
--- a lane that keeps an accepted piece stands for it too
-pub kept_stands : (old new : Lane) (accepted : List Piece) (p : Piece) → LaneStandsFor old p.file accepted → KeepsPiece old p new → None ≡ cause_among accepted p → LaneStandsFor new p.file (accepted ++ p ∷ [])
+-- a buffer that keeps an accepted piece stands for it too
+pub kept_stands : (old new : Buffered) (accepted : List Piece) (p : Piece) → BufferStandsFor old p.file accepted → KeepsPiece old p new → None ≡ cause_among accepted p → BufferStandsFor new p.file (accepted ++ p ∷ [])
 kept_stands old new accepted p s k none =
     let clear = no_cause accepted p none in
     record {
@@ -105,25 +105,25 @@ kept_stands old new accepted p s k none =
             (was.0, was.1, Contains-append_left accepted (p ∷ []) q was.2)
       ];
       closing = λ n. kept_mark is_closing accepted p old.closing new.closing n clear (λ q h. h) k.closing (s.closing n);
-      cut = λ n. kept_mark is_cut_short accepted p old.cut new.cut n clear (λ q. cut_closes q.mark) k.cut (s.cut n);
+      truncated = λ n. kept_mark is_cut_short accepted p old.truncated new.truncated n clear (λ q. truncated_closes q.mark) k.truncated (s.truncated n);
     }
 
--- a piece of another file changes nothing for a lane
-pub other_stands : (lane : Lane) (file : ℕ) (accepted : List Piece) (p : Piece) → LaneStandsFor lane file accepted → (p.file ≡ file → ⊥) → LaneStandsFor lane file (accepted ++ p ∷ [])
-other_stands lane file accepted p s other =
+-- a piece of another file changes nothing for a buffer
+pub other_stands : (buffer : Buffered) (file : ℕ) (accepted : List Piece) (p : Piece) → BufferStandsFor buffer file accepted → (p.file ≡ file → ⊥) → BufferStandsFor buffer file (accepted ++ p ∷ [])
+other_stands buffer file accepted p s other =
     let away : (n : ℕ) → is_numbered file n p ≡ false = λ n. and_left (nat_eq p.file file) (nat_eq p.number n) (ne_eqb p.file file other) in
     record {
       numbers = λ n. any_last (is_numbered file n) accepted p ∙ or_none (has_piece file n accepted) (is_numbered file n p) (away n) ∙ s.numbers n;
       held = λ n q h. let was = s.held n q h in (was.0, was.1, Contains-append_left accepted (p ∷ []) q was.2);
       closing = λ n. any_last (λ r. (is_closing r) && is_numbered file n r) accepted p ∙ or_none (has_closing file n accepted) ((is_closing p) && is_numbered file n p) (and_right (is_closing p) (is_numbered file n p) (away n)) ∙ s.closing n;
-      cut = λ n. any_last (λ r. is_cut_short r && is_numbered file n r) accepted p ∙ or_none (has_cut file n accepted) (is_cut_short p && is_numbered file n p) (and_right (is_cut_short p) (is_numbered file n p) (away n)) ∙ s.cut n;
+      truncated = λ n. any_last (λ r. is_cut_short r && is_numbered file n r) accepted p ∙ or_none (has_truncated file n accepted) (is_cut_short p && is_numbered file n p) (and_right (is_cut_short p) (is_numbered file n p) (away n)) ∙ s.truncated n;
     }
 
 one_more : (n k : ℕ) → (n ≡ k → ⊥) → nat_lt n (k + 1) ≡ nat_lt n k
 one_more n k d = same_tests (nat_lt n (k + 1)) (nat_lt n k) (λ h. let l = ltb-true n (k + 1) h in lt-ltb n k (omega arith)) (λ h. let l = ltb-true n k h in lt-ltb n (k + 1) (omega arith))
 
--- a lane that delivered its next piece on stands for the same
-pub advanced_stands : (old new : Lane) (file : ℕ) (accepted : List Piece) → LaneStandsFor old file accepted → Advances old new → is_ready old ≡ true → LaneStandsFor new file accepted
+-- a buffer that delivered its next piece on stands for the same
+pub advanced_stands : (old new : Buffered) (file : ℕ) (accepted : List Piece) → BufferStandsFor old file accepted → Advances old new → is_ready old ≡ true → BufferStandsFor new file accepted
 advanced_stands old new file accepted s m ready =
     record {
       numbers = λ n. s.numbers n ∙ elim (cases_eq n old.next) [
@@ -142,5 +142,5 @@ advanced_stands old new file accepted s m ready =
         | inr d ↦ s.held n q (sym (m.held n ∙ ap (λ b. if b then None else held_at old n) (ne_eqb n old.next d)) ∙ h)
       ];
       closing = λ n. s.closing n ∙ sym (ap (λ o. is_number o n) m.closing);
-      cut = λ n. s.cut n ∙ sym (ap (λ o. is_number o n) m.cut);
+      truncated = λ n. s.truncated n ∙ sym (ap (λ o. is_number o n) m.truncated);
     }

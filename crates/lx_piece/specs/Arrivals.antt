@@ -8,13 +8,13 @@ use Rattle.lx_piece.specs.declared.reply.Reply.TheVariants.{Accepted, Refused}
 use Rattle.lx_piece.specs.Plans.{Planned, files_of}
 use Rattle.lx_piece.specs.Pieces.{is_closing, is_cut_short, IsPieceOf, top_number}
 
--- where pieces come together: a run, and the number of its files
-pub record Site : Type 0 where
+-- the run that pieces are of: its number, and how many files it has
+pub record RunShape : Type 0 where
   pub run : ℕ
   pub files : ℕ
 
-abbrev pub site_of : Planned → Site
-site_of plan = record { run = plan.run; files = files_of plan }
+abbrev pub shape_of : Planned → RunShape
+shape_of plan = record { run = plan.run; files = files_of plan }
 
 -- an arrival of the plan's run and one of its files is the plan's piece
 abbrev pub IsHonest : Planned → Piece → Type 0
@@ -44,8 +44,8 @@ abbrev pub has_closing : ℕ → ℕ → List Piece → Bool
 has_closing file number pieces = list_any (λ p. is_closing p && is_numbered file number p) pieces
 
 -- whether one marked Cut is
-abbrev pub has_cut : ℕ → ℕ → List Piece → Bool
-has_cut file number pieces = list_any (λ p. is_cut_short p && is_numbered file number p) pieces
+abbrev pub has_truncated : ℕ → ℕ → List Piece → Bool
+has_truncated file number pieces = list_any (λ p. is_cut_short p && is_numbered file number p) pieces
 
 -- the first cause against an arrival that lies in its own file's pieces
 abbrev pub cause_among : List Piece → Piece → Option Why
@@ -56,51 +56,51 @@ cause_among accepted p =
     else None
 
 -- the first cause against an arrival behind those that were accepted
-abbrev pub cause_against : Site → List Piece → Piece → Option Why
-cause_against site accepted p =
-    if not (p.run == site.run) then Some WrongRun
-    else if not (nat_lt p.file site.files) then Some UnknownFile
+abbrev pub cause_against : RunShape → List Piece → Piece → Option Why
+cause_against shape accepted p =
+    if not (p.run == shape.run) then Some WrongRun
+    else if not (nat_lt p.file shape.files) then Some UnknownFile
     else cause_among accepted p
 
 abbrev pub reply_for : Option Why → Reply
 reply_for None = Accepted
 reply_for (Some why) = Refused why
 
-abbrev pub reply_to : Site → List Piece → Piece → Reply
-reply_to site accepted p = reply_for (cause_against site accepted p)
+abbrev pub reply_to : RunShape → List Piece → Piece → Reply
+reply_to shape accepted p = reply_for (cause_against shape accepted p)
 
 -- those accepted, with the arrival where it is accepted
 abbrev pub joined : Option Why → List Piece → Piece → List Piece
 joined None accepted p = accepted ++ p ∷ []
 joined (Some why) accepted p = accepted
 
-abbrev pub with_arrival : Site → List Piece → Piece → List Piece
-with_arrival site accepted p = joined (cause_against site accepted p) accepted p
+abbrev pub with_arrival : RunShape → List Piece → Piece → List Piece
+with_arrival shape accepted p = joined (cause_against shape accepted p) accepted p
 
 -- those accepted after all these have come
-abbrev pub accepted_behind : Site → List Piece → List Piece → List Piece
-accepted_behind site accepted [] = accepted
-accepted_behind site accepted (p ∷ came) = accepted_behind site (with_arrival site accepted p) came
+abbrev pub accepted_behind : RunShape → List Piece → List Piece → List Piece
+accepted_behind shape accepted [] = accepted
+accepted_behind shape accepted (p ∷ came) = accepted_behind shape (with_arrival shape accepted p) came
 
-abbrev pub accepted_of : Site → List Piece → List Piece
-accepted_of site came = accepted_behind site [] came
+abbrev pub accepted_of : RunShape → List Piece → List Piece
+accepted_of shape came = accepted_behind shape [] came
 
 -- the reply to each, in order
-abbrev pub replies_behind : Site → List Piece → List Piece → List Reply
-replies_behind site accepted [] = []
-replies_behind site accepted (p ∷ came) =
-    reply_to site accepted p ∷ replies_behind site (with_arrival site accepted p) came
+abbrev pub replies_behind : RunShape → List Piece → List Piece → List Reply
+replies_behind shape accepted [] = []
+replies_behind shape accepted (p ∷ came) =
+    reply_to shape accepted p ∷ replies_behind shape (with_arrival shape accepted p) came
 
-abbrev pub replies_of : Site → List Piece → List Reply
-replies_of site came = replies_behind site [] came
+abbrev pub replies_of : RunShape → List Piece → List Reply
+replies_of shape came = replies_behind shape [] came
 
 -- among the first pieces of the file, this many, a closing one was accepted
 abbrev pub IsClosedBelow : List Piece → ℕ → ℕ → Type 0
 IsClosedBelow accepted file count = (n : ℕ) × (n < count) × (has_closing file n accepted ≡ true)
 
 -- and one marked Cut
-abbrev pub IsCutBelow : List Piece → ℕ → ℕ → Type 0
-IsCutBelow accepted file count = (n : ℕ) × (n < count) × (has_cut file n accepted ≡ true)
+abbrev pub IsTruncatedBelow : List Piece → ℕ → ℕ → Type 0
+IsTruncatedBelow accepted file count = (n : ℕ) × (n < count) × (has_truncated file n accepted ≡ true)
 
 -- k is the least number of the file that isn't accepted
 pub record IsLeastMissing (accepted : List Piece) (file k : ℕ) : Type 0 where

@@ -4,58 +4,68 @@ use Rattle.std.specs.BTreeMap.{is_at}
 use Rattle.std.specs.BTreeSet.{BTreeSet, contains}
 use Rattle.std.specs.Map.{lookup}
 use Rattle.lx_piece.specs.declared.piece.Piece.{Piece}
+use Rattle.lx_piece.specs.declared.reply.Why.{Why}
+use Rattle.lx_piece.specs.Plans.{max_files}
 use Rattle.lx_piece.specs.Pieces.{is_closing, is_cut_short}
-use Rattle.lx_piece.specs.Arrivals.{Site, accepted_of, has_piece, has_closing, has_cut}
+use Rattle.lx_piece.specs.Arrivals.{RunShape, accepted_of, cause_against, has_piece, has_closing, has_truncated}
 
 -- What a collector keeps of one file: how many pieces were delivered, the number of the closing piece, the same where that piece is marked
 -- Cut, and the pieces held by their numbers.
-pub record Lane : Type 0 where
+pub record Buffered : Type 0 where
   pub next : ℕ
   pub closing : Option ℕ
-  pub cut : Option ℕ
+  pub truncated : Option ℕ
   pub held : List (ℕ × Piece)
 
 -- what a collector keeps
 pub record Kept : Type 0 where
   pub run : ℕ
-  pub lanes : List Lane
+  pub buffers : List Buffered
 
-abbrev pub site_of_kept : Kept → Site
-site_of_kept kept = record { run = kept.run; files = length kept.lanes }
+abbrev pub shape_of_kept : Kept → RunShape
+shape_of_kept kept = record { run = kept.run; files = length kept.buffers }
+
+-- those that a collector accepted of these arrivals
+abbrev pub accepted_by : Kept → List Piece → List Piece
+accepted_by kept came = accepted_of (shape_of_kept kept) came
+
+-- the first cause that it has against an arrival behind these
+abbrev pub cause_by : Kept → List Piece → Piece → Option Why
+cause_by kept came p = cause_against (shape_of_kept kept) (accepted_by kept came) p
 
 -- the piece held under a number
-abbrev pub held_at : Lane → ℕ → Option Piece
-held_at lane number = lookup (is_at (nat_cmp number)) lane.held
+abbrev pub held_at : Buffered → ℕ → Option Piece
+held_at buffer number = lookup (is_at (nat_cmp number)) buffer.held
 
 -- whether a piece of this number was delivered or is held
-abbrev pub has_number : Lane → ℕ → Bool
-has_number lane number = nat_lt number lane.next || is_some (held_at lane number)
+abbrev pub has_number : Buffered → ℕ → Bool
+has_number buffer number = nat_lt number buffer.next || is_some (held_at buffer number)
 
 -- whether the number is the closing one
 abbrev pub is_number : Option ℕ → ℕ → Bool
 is_number None n = false
 is_number (Some m) n = m == n
 
--- a file's lane stands for these accepted pieces
-pub record LaneStandsFor (lane : Lane) (file : ℕ) (accepted : List Piece) : Type 0 where
-  pub numbers : (n : ℕ) → has_piece file n accepted ≡ has_number lane n
-  pub held : (n : ℕ) (p : Piece) → held_at lane n ≡ Some p → (p.file ≡ file) × (p.number ≡ n) × Contains accepted p
-  pub closing : (n : ℕ) → has_closing file n accepted ≡ is_number lane.closing n
-  pub cut : (n : ℕ) → has_cut file n accepted ≡ is_number lane.cut n
+-- a file's buffer stands for these accepted pieces
+pub record BufferStandsFor (buffer : Buffered) (file : ℕ) (accepted : List Piece) : Type 0 where
+  pub numbers : (n : ℕ) → has_piece file n accepted ≡ has_number buffer n
+  pub held : (n : ℕ) (p : Piece) → held_at buffer n ≡ Some p → (p.file ≡ file) × (p.number ≡ n) × Contains accepted p
+  pub closing : (n : ℕ) → has_closing file n accepted ≡ is_number buffer.closing n
+  pub truncated : (n : ℕ) → has_truncated file n accepted ≡ is_number buffer.truncated n
 
 -- a collector stands for a list of arrivals
 pub record StandsFor (kept : Kept) (came : List Piece) : Type 0 where
-  pub each : (file : ℕ) (lane : Lane) → slice_get kept.lanes file ≡ Some lane → LaneStandsFor lane file (accepted_of (site_of_kept kept) came)
+  pub each : (file : ℕ) (buffer : Buffered) → slice_get kept.buffers file ≡ Some buffer → BufferStandsFor buffer file (accepted_by kept came)
 
 -- whether the file's next piece is held
-abbrev pub is_ready : Lane → Bool
-is_ready lane = is_some (held_at lane lane.next)
+abbrev pub is_ready : Buffered → Bool
+is_ready buffer = is_some (held_at buffer buffer.next)
 
 -- the next piece was delivered
-pub record Advances (old new : Lane) : Type 0 where
+pub record Advances (old new : Buffered) : Type 0 where
   pub next : new.next ≡ old.next + 1
   pub closing : new.closing ≡ old.closing
-  pub cut : new.cut ≡ old.cut
+  pub truncated : new.truncated ≡ old.truncated
   pub held : (n : ℕ) → held_at new n ≡ (if n == old.next then None else held_at old n)
   pub fewer : length new.held + 1 ≡ length old.held
 
@@ -69,64 +79,64 @@ abbrev pub closing_with : Option ℕ → Piece → Option ℕ
 closing_with closing p = if is_closing p then Some p.number else closing
 
 -- the same, of the number of a piece marked Cut
-abbrev pub cut_with : Option ℕ → Piece → Option ℕ
-cut_with cut p = if is_cut_short p then Some p.number else cut
+abbrev pub truncated_with : Option ℕ → Piece → Option ℕ
+truncated_with truncated p = if is_cut_short p then Some p.number else truncated
 
--- the lane holds p besides
-pub record KeepsPiece (old : Lane) (p : Piece) (new : Lane) : Type 0 where
+-- the buffer holds p besides
+pub record KeepsPiece (old : Buffered) (p : Piece) (new : Buffered) : Type 0 where
   pub next : new.next ≡ old.next
   pub closing : new.closing ≡ closing_with old.closing p
-  pub cut : new.cut ≡ cut_with old.cut p
+  pub truncated : new.truncated ≡ truncated_with old.truncated p
   pub held : (n : ℕ) → held_at new n ≡ (if n == p.number then Some p else held_at old n)
 
 -- whether the file's next piece is held, and false where there is no such file
-abbrev pub is_ready_at : Option Lane → Bool
+abbrev pub is_ready_at : Option Buffered → Bool
 is_ready_at None = false
-is_ready_at (Some lane) = is_ready lane
+is_ready_at (Some buffer) = is_ready buffer
 
 -- p is delivered: the next piece of the lowest file that holds its next
-pub record Delivers (old : List Lane) (file : ℕ) (p : Piece) (new : List Lane) : Type 0 where
-  pub lane : Lane
-  pub advanced : Lane
-  pub there : slice_get old file ≡ Some lane
-  pub next : held_at lane lane.next ≡ Some p
+pub record Delivers (old : List Buffered) (file : ℕ) (p : Piece) (new : List Buffered) : Type 0 where
+  pub buffer : Buffered
+  pub advanced : Buffered
+  pub there : slice_get old file ≡ Some buffer
+  pub next : held_at buffer buffer.next ≡ Some p
   pub lowest : (g : ℕ) → g < file → is_ready_at (slice_get old g) ≡ false
-  pub moves : Advances lane advanced
+  pub moves : Advances buffer advanced
   pub after : new ≡ slice_set old file advanced
 
 -- no file's next piece is held
-abbrev pub NoneReady : List Lane → Type 0
-NoneReady lanes = (g : ℕ) → is_ready_at (slice_get lanes g) ≡ false
+abbrev pub NoneReady : List Buffered → Type 0
+NoneReady buffers = (g : ℕ) → is_ready_at (slice_get buffers g) ≡ false
 
--- p is held besides in its file's lane
-pub record KeepsIn (old : List Lane) (p : Piece) (new : List Lane) : Type 0 where
-  pub lane : Lane
-  pub kept : Lane
-  pub there : slice_get old p.file ≡ Some lane
-  pub keeps : KeepsPiece lane p kept
+-- p is held besides in its file's buffer
+pub record KeepsIn (old : List Buffered) (p : Piece) (new : List Buffered) : Type 0 where
+  pub buffer : Buffered
+  pub kept : Buffered
+  pub there : slice_get old p.file ≡ Some buffer
+  pub keeps : KeepsPiece buffer p kept
   pub after : new ≡ slice_set old p.file kept
 
 -- the set has the files whose next piece is held
-pub record IsReadySet (lanes : List Lane) (ready : BTreeSet ℕ) : Type 0 where
-  pub few : length lanes ≤ 65536
-  pub each : (g : ℕ) → contains nat_cmp ready g ≡ is_ready_at (slice_get lanes g)
+pub record IsReadySet (buffers : List Buffered) (ready : BTreeSet ℕ) : Type 0 where
+  pub few : length buffers ≤ max_files
+  pub each : (g : ℕ) → contains nat_cmp ready g ≡ is_ready_at (slice_get buffers g)
 
 -- what is kept of a file of which nothing came
-abbrev pub fresh_lane : Lane
-fresh_lane = record { next = 0; closing = None; cut = None; held = [] }
+abbrev pub fresh_buffer : Buffered
+fresh_buffer = record { next = 0; closing = None; truncated = None; held = [] }
 
 -- how many pieces of each file were delivered
 abbrev pub delivered_counts : Kept → List ℕ
-delivered_counts kept = map (λ lane. lane.next) kept.lanes
+delivered_counts kept = map (λ buffer. buffer.next) kept.buffers
 
 -- how many pieces are held
-abbrev pub held_total : List Lane → ℕ
-held_total lanes = sum_by (λ lane. length lane.held) lanes
+abbrev pub held_total : List Buffered → ℕ
+held_total buffers = sum_by (λ buffer. length buffer.held) buffers
 
 -- the closing piece was delivered
-abbrev pub is_lane_closed : Lane → Bool
-is_lane_closed lane = closed_before lane.closing lane.next
+abbrev pub is_buffer_closed : Buffered → Bool
+is_buffer_closed buffer = closed_before buffer.closing buffer.next
 
 -- it was, and is marked Cut
-abbrev pub is_lane_cut : Lane → Bool
-is_lane_cut lane = closed_before lane.cut lane.next
+abbrev pub is_buffer_truncated : Buffered → Bool
+is_buffer_truncated buffer = closed_before buffer.truncated buffer.next

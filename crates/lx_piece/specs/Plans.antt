@@ -5,6 +5,14 @@ use Rattle.lx_scan.specs.ItemParts.{IsItemOf}
 use Rattle.lx_scan.specs.Items as scan
 use Rattle.lx_piece.specs.declared.input.Input.{Input}
 
+-- the most files that a plan has
+abbrev pub max_files : ℕ
+max_files = 65536
+
+-- the most items that a piece has
+abbrev pub max_items : ℕ
+max_items = 4096
+
 -- a file as far as it was read, and whether its reading failed behind these bytes
 pub record PlainInput : Type 0 where
   pub bytes : List ℕ
@@ -52,8 +60,8 @@ items_of plan file = scan.items_of plan.table (bytes_of plan file)
 -- what holds of every plan
 pub record IsPlan (plan : Planned) : Type 0 where
   pub some_files : 0 < files_of plan
-  pub few_files : files_of plan ≤ 65536
+  pub few_files : files_of plan ≤ max_files
   pub some_items : 0 < plan.per_piece
-  pub few_items : plan.per_piece ≤ 4096
+  pub few_items : plan.per_piece ≤ max_items
   pub table : IsTable plan.table
   pub items : (file : ℕ) → All (IsItemOf (kinds_of plan) (bytes_of plan file)) (items_of plan file)

@@ -1,10 +1,10 @@
 use Rattle.std.specs.Prelude.{ℕ, ◌≡◌, ◌<◌, ◌≤◌, true, List, [], ◌∷◌, ◌++◌, Some, Contains, length, slice_index, slice_get}
 use Rattle.lx_piece.specs.declared.reply.Reply.{Reply}
-use Rattle.lx_piece.specs.Kept.{Lane, held_at}
+use Rattle.lx_piece.specs.Kept.{Buffered, held_at}
 use Rattle.lx_piece.specs.declared.piece.Piece.{Piece}
 use Rattle.lx_piece.specs.Plans.{Planned, files_of}
 use Rattle.lx_piece.specs.Pieces.{IsPieceOf, TakesInOrder, pieces_of, piece_at}
-use Rattle.lx_piece.specs.Arrivals.{Site, site_of, AreHonest, accepted_of, replies_of, has_piece, IsLeastMissing}
+use Rattle.lx_piece.specs.Arrivals.{RunShape, shape_of, AreHonest, accepted_of, replies_of, has_piece, IsLeastMissing}
 
 -- p is the piece that a reader with these counts takes next of its file, of which it took the first ones, in order
 pub record IsNextPiece (plan : Planned) (counts : List ℕ) (p : Piece) : Type 0 where
@@ -18,14 +18,14 @@ pub record TakesAllInOrder (plan : Planned) (counts : List ℕ) : Type 0 where
   pub each : (file : ℕ) → file < files_of plan → TakesInOrder plan file (slice_index counts file)
 
 -- the counts are, for each file, the least number that isn't accepted
-pub record AllDelivered (site : Site) (came : List Piece) (counts : List ℕ) : Type 0 where
-  pub files : length counts ≡ site.files
-  pub each : (file : ℕ) → file < site.files → IsLeastMissing (accepted_of site came) file (slice_index counts file)
+pub record AllDelivered (shape : RunShape) (came : List Piece) (counts : List ℕ) : Type 0 where
+  pub files : length counts ≡ shape.files
+  pub each : (file : ℕ) → file < shape.files → IsLeastMissing (accepted_of shape came) file (slice_index counts file)
 
 -- the counts are no greater than that
-pub record AtMostDelivered (site : Site) (came : List Piece) (counts : List ℕ) : Type 0 where
-  pub files : length counts ≡ site.files
-  pub each : (file j : ℕ) → file < site.files → j < slice_index counts file → has_piece file j (accepted_of site came) ≡ true
+pub record AtMostDelivered (shape : RunShape) (came : List Piece) (counts : List ℕ) : Type 0 where
+  pub files : length counts ≡ shape.files
+  pub each : (file j : ℕ) → file < shape.files → j < slice_index counts file → has_piece file j (accepted_of shape came) ≡ true
 
 -- every piece of a file is among these
 abbrev pub AreAllAmong : Planned → ℕ → List Piece → Type 0
@@ -37,8 +37,8 @@ pub record Relayed (plan : Planned) (leads : List Piece → Type 0) (replies : L
   pub came : List Piece
   pub led : leads came
   pub honest : AreHonest plan came
-  pub replied : replies ≡ replies_of (site_of plan) came
-  pub delivered : AllDelivered (site_of plan) came counts
+  pub replied : replies ≡ replies_of (shape_of plan) came
+  pub delivered : AllDelivered (shape_of plan) came counts
   pub taken : TakesAllInOrder plan counts
   pub whole : (file : ℕ) → file < files_of plan → AreAllAmong plan file came → slice_index counts file ≡ pieces_of plan file
 
@@ -47,14 +47,14 @@ pub record RelayedInPart (plan : Planned) (leads : List Piece → Type 0) (count
   pub came : List Piece
   pub led : leads came
   pub honest : AreHonest plan came
-  pub delivered : AtMostDelivered (site_of plan) came counts
-  pub eager : (before : List Piece) (last : Piece) → came ≡ before ++ last ∷ [] → (file k : ℕ) → file < files_of plan → IsLeastMissing (accepted_of (site_of plan) before) file k → k ≤ slice_index counts file
+  pub delivered : AtMostDelivered (shape_of plan) came counts
+  pub eager : (before : List Piece) (last : Piece) → came ≡ before ++ last ∷ [] → (file k : ℕ) → file < files_of plan → IsLeastMissing (accepted_of (shape_of plan) before) file k → k ≤ slice_index counts file
   pub taken : TakesAllInOrder plan counts
 
 -- each held piece is the plan's piece of its file and number
-pub record HoldsPlanned (plan : Planned) (lanes : List Lane) : Type 0 where
-  pub files : length lanes ≡ files_of plan
-  pub each : (file : ℕ) (lane : Lane) → slice_get lanes file ≡ Some lane → (n : ℕ) (p : Piece) → held_at lane n ≡ Some p → IsPieceOf plan p × (p.file ≡ file) × (p.number ≡ n)
+pub record HoldsPlanned (plan : Planned) (buffers : List Buffered) : Type 0 where
+  pub files : length buffers ≡ files_of plan
+  pub each : (file : ℕ) (buffer : Buffered) → slice_get buffers file ≡ Some buffer → (n : ℕ) (p : Piece) → held_at buffer n ≡ Some p → IsPieceOf plan p × (p.file ≡ file) × (p.number ≡ n)
 
 -- no count is above another list's
 pub record AreAtMost (counts others : List ℕ) : Type 0 where

@@ -1,10 +1,16 @@
 ghost use Rattle.std.specs.Prelude.{◌≡◌, ◌<◌, ◌≤◌, length, map, vec_len};
-ghost use Rattle.lx_piece.specs.Plans.{IsPlan, files_of, bytes_of, input_view, is_cut, kind_of, kinds_of};
+ghost use Rattle.lx_piece.specs.Plans.{IsPlan, files_of, bytes_of, input_view, is_cut, kind_of, kinds_of, max_files, max_items};
 
 use crate::input::Input;
 use lx_scan::lines::items_have_their_lines;
 use lx_tables::Tables;
 use std::marker::Model;
+
+/// The most files that a plan has.
+pub const MAX_FILES: usize = 65_536;
+
+/// The most items that a piece has.
+pub const MAX_ITEMS: u32 = 4_096;
 
 /// The files of one run, the tables by which they are scanned, and how their items are cut into pieces.
 #[derive(Drop)]
@@ -31,9 +37,9 @@ impl Plan {
     /// piece has, and `run` is the number that the pieces carry. It takes no memory.
     pub fn new(tables: Tables, files: Vec<Input>, per_piece: u32, run: u64) -> Plan
         requires some_files { 0 < vec_len files }
-        requires few_files { vec_len files ≤ 65536 }
+        requires few_files { vec_len files ≤ max_files }
         requires some_items { 0 < per_piece }
-        requires few_items { per_piece ≤ 4096 }
+        requires few_items { per_piece ≤ max_items }
         ensures { result ≡ record { run = run; per_piece = per_piece; table = tables; inputs = map input_view files.items } }
     {
         // a law and a fact, that a plan's items are what it says of them
@@ -97,7 +103,7 @@ impl Plan {
     pub(crate) fn per_piece(&self) -> u32
         ensures count { result ≡ self.now.per_piece }
         ensures some { 0 < result }
-        ensures few { result ≤ 4096 }
+        ensures few { result ≤ max_items }
     {
         self.per_piece
     }

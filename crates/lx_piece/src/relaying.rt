@@ -3,7 +3,7 @@ ghost use Rattle.lx_piece.specs.declared.piece.Piece.{Piece};
 ghost use Rattle.lx_piece.specs.Plans.{files_of};
 ghost use Rattle.lx_piece.specs.Pieces.{top_number};
 ghost use Rattle.lx_piece.specs.Arrivals.{accepted_of, replies_of, reply_to};
-ghost use Rattle.lx_piece.specs.Kept.{StandsFor, NoneReady, site_of_kept, delivered_counts};
+ghost use Rattle.lx_piece.specs.Kept.{StandsFor, NoneReady, shape_of_kept, delivered_counts};
 ghost use Rattle.lx_piece.specs.Relayed.{Relayed, RelayedInPart, HoldsPlanned, AreAtMost};
 
 use crate::arrivals::Arrivals;
@@ -47,9 +47,9 @@ impl<T: Drop> From<AllocFailed<T>> for RelayFault {
 
 /// Offers an arrival. Only memory keeps it from a reply, and then nothing has changed.
 fn offer_to(collector: &mut Collector, piece: Piece) -> Result<Reply, RelayFault>
-    ensures reply { (came : List Piece) → StandsFor collector.old came → IfOk result (λ reply. reply ≡ reply_to (site_of_kept collector.old) (accepted_of (site_of_kept collector.old) came) piece) }
+    ensures reply { (came : List Piece) → StandsFor collector.old came → IfOk result (λ reply. reply ≡ reply_to (shape_of_kept collector.old) (accepted_of (shape_of_kept collector.old) came) piece) }
     ensures stands { (came : List Piece) → StandsFor collector.old came → OnOk result (StandsFor collector.new (came ++ piece ∷ [])) }
-    ensures site { site_of_kept collector.new ≡ site_of_kept collector.old }
+    ensures shape { shape_of_kept collector.new ≡ shape_of_kept collector.old }
     ensures counts { delivered_counts collector.new ≡ delivered_counts collector.old }
     ensures memory { IfErr result (λ fault. fault ≡ RelayFault.Memory) }
     ensures err { OnErr result (collector.new ≡ collector.old) }
@@ -66,14 +66,14 @@ fn offer_to(collector: &mut Collector, piece: Piece) -> Result<Reply, RelayFault
 /// Hands the reader all that can be delivered.
 fn deliver_all<R: Reader>(collector: &mut Collector, reader: &mut R) -> Result<(), RelayFault>
     requires per_piece { 0 < (R.plan reader.old).per_piece }
-    requires planned { HoldsPlanned (R.plan reader.old) collector.old.lanes }
+    requires planned { HoldsPlanned (R.plan reader.old) collector.old.buffers }
     requires counts { R.counts reader.old ≡ delivered_counts collector.old }
     requires countable { R.fault_count reader.old < top_number }
     ensures plan { R.plan reader.new ≡ R.plan reader.old }
     ensures follows { R.follows reader.old reader.new }
     ensures stands { (came : List Piece) → StandsFor collector.old came → StandsFor collector.new came }
-    ensures site { site_of_kept collector.new ≡ site_of_kept collector.old }
-    ensures ok { OnOk result ((R.counts reader.new ≡ delivered_counts collector.new) × NoneReady collector.new.lanes × (R.fault_count reader.new ≡ R.fault_count reader.old)) }
+    ensures shape { shape_of_kept collector.new ≡ shape_of_kept collector.old }
+    ensures ok { OnOk result ((R.counts reader.new ≡ delivered_counts collector.new) × NoneReady collector.new.buffers × (R.fault_count reader.new ≡ R.fault_count reader.old)) }
     ensures err { OnErr result (AreAtMost (R.counts reader.new) (delivered_counts collector.new) × AreAtMost (R.counts reader.old) (R.counts reader.new)) }
     ensures reader { result ≡ Err RelayFault.Reader → R.fault_count reader.old < R.fault_count reader.new }
     ensures memory { result ≡ Err RelayFault.Memory → R.fault_count reader.new ≡ R.fault_count reader.old }

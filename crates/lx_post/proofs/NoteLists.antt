@@ -8,6 +8,7 @@ use Rattle.lx_post.specs.declared.note.Note.{Note}
 use Rattle.lx_post.specs.declared.note.WorkerFault.{WorkerFault}
 use Rattle.lx_post.specs.declared.note.Note.TheVariants.{Piece as note_piece, End as note_end}
 use Rattle.lx_post.specs.declared.post_rule.PassView.{PassView}
+use Rattle.lx_post.specs.Claimed.{max_workers}
 use Rattle.lx_post.specs.Posting.{taker}
 use Rattle.lx_piece.specs.Plans.{Planned}
 use Rattle.lx_post.specs.Notes.{worker_of, is_end, IsHonestNote, AreHonestNotes, notes_of, has_end, NothingFollowsEnd}
@@ -90,12 +91,12 @@ pub end_made : (w : ℕ) (xs : List Note) (n : Note) → is_end n ≡ true → w
 end_made w xs n ends is = ap has_end (of_push_same w xs n is) ∙ end_append (notes_of w xs) (n ∷ []) ∙ ap (λ (b : Bool). has_end (notes_of w xs) || (b || false)) ends ∙ or_true (has_end (notes_of w xs))
 
 -- the flags of the workers that ended, after one more note
-pub flags_kept : (flags : List Bool) (xs : List Note) (n : Note) → ((w : ℕ) → w < 8 → get_or flags w false ≡ has_end (notes_of w xs)) → is_end n ≡ false
-    → (w : ℕ) → w < 8 → get_or flags w false ≡ has_end (notes_of w (xs ++ n ∷ []))
+pub flags_kept : (flags : List Bool) (xs : List Note) (n : Note) → ((w : ℕ) → w < max_workers → get_or flags w false ≡ has_end (notes_of w xs)) → is_end n ≡ false
+    → (w : ℕ) → w < max_workers → get_or flags w false ≡ has_end (notes_of w (xs ++ n ∷ []))
 flags_kept flags xs n h plain w lt = h w lt ∙ sym (end_kept w xs n plain)
 
-pub flags_set : (flags : List Bool) (xs : List Note) (n : Note) (k : ℕ) → length flags ≡ 8 → ((w : ℕ) → w < 8 → get_or flags w false ≡ has_end (notes_of w xs)) → is_end n ≡ true → k ≡ worker_of n
-    → (w : ℕ) → w < 8 → get_or (set flags k true) w false ≡ has_end (notes_of w (xs ++ n ∷ []))
+pub flags_set : (flags : List Bool) (xs : List Note) (n : Note) (k : ℕ) → length flags ≡ max_workers → ((w : ℕ) → w < max_workers → get_or flags w false ≡ has_end (notes_of w xs)) → is_end n ≡ true → k ≡ worker_of n
+    → (w : ℕ) → w < max_workers → get_or (set flags k true) w false ≡ has_end (notes_of w (xs ++ n ∷ []))
 flags_set flags xs n k len h ends is w lt = dite (ℕ_discrete w k)
     (λ same. ap (λ (j : ℕ). get_or (set flags k true) j false) same ∙ get_or-set_same flags k true false (omega arith) ∙ sym (end_made w xs n ends (sym (same ∙ is))))
     (λ not. get_or-set_other flags k w true false not ∙ h w lt ∙ sym (ap has_end (of_push_other w xs n (λ e. not (sym (is ∙ e))))))
@@ -106,8 +107,8 @@ not_end (note_end w f x) h = absurd (h w f x refl)
 
 -- what stays true of the pass that takes, once it has taken a note
 pub took : (v w : PassView) (workers : ℕ) (flags : List Bool) (n : Note) → v ≡ taker v.plan workers v.received v.worker v.sent → w ≡ taker v.plan v.made (v.received ++ n ∷ []) v.worker v.sent
-    → ((k : ℕ) → k < 8 → get_or flags k false ≡ has_end (notes_of k (v.received ++ n ∷ [])))
-    → (w ≡ taker w.plan workers w.received w.worker w.sent) × ((k : ℕ) → k < 8 → get_or flags k false ≡ has_end (notes_of k w.received))
+    → ((k : ℕ) → k < max_workers → get_or flags k false ≡ has_end (notes_of k (v.received ++ n ∷ [])))
+    → (w ≡ taker w.plan workers w.received w.worker w.sent) × ((k : ℕ) → k < max_workers → get_or flags k false ≡ has_end (notes_of k w.received))
 took v w workers flags n was is h =
-    let P : PassView → Type 0 = λ u. (u ≡ taker u.plan workers u.received u.worker u.sent) × ((k : ℕ) → k < 8 → get_or flags k false ≡ has_end (notes_of k u.received)) in
+    let P : PassView → Type 0 = λ u. (u ≡ taker u.plan workers u.received u.worker u.sent) × ((k : ℕ) → k < max_workers → get_or flags k false ≡ has_end (notes_of k u.received)) in
     subst P (sym is) (ap (λ (m : ℕ). taker v.plan m (v.received ++ n ∷ []) v.worker v.sent) (ap (λ (u : PassView). u.made) was), h)

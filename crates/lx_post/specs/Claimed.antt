@@ -1,6 +1,11 @@
 -- Claims and their seats as contracts see them.
-use Rattle.std.specs.Prelude.{◌≡◌, ℕ, ◌==◌, if◌then◌else◌, nat_lt, Bool, false, List, [], count_by, sum_by}
+use Rattle.std.specs.Prelude.{◌≡◌, ◌≤◌, ℕ, ◌==◌, if◌then◌else◌, nat_lt, Bool, false, List, [], count_by, sum_by}
 use Rattle.atomic_table.specs.Seated.{TableId}
+use Rattle.lx_piece.specs.Plans.{Planned, files_of, max_files}
+
+-- the most workers that a run has
+abbrev pub max_workers : ℕ
+max_workers = 8
 
 -- claims: which word it is, how many files there are, and how many workers draw them
 pub record Claimed : Type 0 where
@@ -18,6 +23,10 @@ pub record Drawn : Type 0 where
 -- the seat is one of these claims
 abbrev pub IsSeatOf : Claimed → Drawn → Type 0
 IsSeatOf claims seat = (seat.word ≡ claims.word) × (seat.files ≡ claims.files)
+
+-- the claims are of the files of this plan
+abbrev pub AreClaimsOf : Planned → Claimed → Type 0
+AreClaimsOf plan claims = (claims.files ≡ files_of plan) × (claims.files ≤ max_files)
 
 -- a seat of these claims that drew nothing
 abbrev pub fresh_seat : Claimed → Drawn

@@ -1,7 +1,8 @@
 //! The word from which workers draw files.
 ghost use Rattle.std.specs.Prelude.{◌≡◌, ℕ, ◌<◌, ◌≤◌, ◌+◌, ◌-◌, ◌^◌, ◌++◌, ◌∷◌, [], All, IfSome, IfNone, IfOk, IfErr, ◌⊎◌, true, false, replicate, vec_len};
 ghost use Rattle.lx_post.specs.Draws.{seat_view, IsFresh};
-ghost use Rattle.lx_post.specs.Claimed.{IsSeatOf, fresh_seat, once_below, times, times_drawn};
+ghost use Rattle.lx_piece.specs.Plans.{max_files};
+ghost use Rattle.lx_post.specs.Claimed.{IsSeatOf, fresh_seat, max_workers, once_below, times, times_drawn};
 
 use crate::claim_seat::ClaimSeat;
 use crate::draw_rule::{Bounds, Count, Draw, DrawRule, OnePart, SeatView, Together};
@@ -43,9 +44,9 @@ impl Claims {
         workers: u8,
     ) -> Result<(Claims, Vec<ClaimSeat>), AllocError>
         requires some_files { 0 < files }
-        requires few_files { files ≤ 65536 }
+        requires few_files { files ≤ max_files }
         requires some_workers { 0 < workers }
-        requires few_workers { workers ≤ 8 }
+        requires few_workers { workers ≤ max_workers }
         ensures claims { IfOk result (λ r. (r.0.files ≡ files) × (r.0.workers ≡ workers)) }
         ensures seats { IfOk result (λ r. r.1.items ≡ replicate workers (fresh_seat r.0)) }
     {

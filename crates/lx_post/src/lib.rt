@@ -2,6 +2,7 @@
 //! to the thread that hands them on.
 #![tactic(auto)]
 
+mod backoff;
 mod claim_seat;
 mod claims;
 mod collecting;
@@ -15,7 +16,6 @@ mod note;
 mod pace;
 mod paced_reader;
 mod passes;
-mod patience;
 mod post;
 mod post_arrivals;
 mod post_rule;
@@ -31,7 +31,7 @@ pub use finishing::{Unfinished, finish};
 pub use gate::{Gate, OpenGate};
 pub use meeting_gate::MeetingGate;
 pub use note::{Note, WorkerFault};
-pub use passes::{SendPass, TakePass};
+pub use passes::{MAX_WORKERS, SendPass, TakePass};
 pub use post::Post;
 pub use post_arrivals::PostArrivals;
 pub use run_fault::RunFault;

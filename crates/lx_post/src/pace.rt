@@ -1,6 +1,6 @@
 //! How far the reader is, and workers that wait where they are far ahead of it.
 
-use crate::patience::Patience;
+use crate::backoff::Backoff;
 use std::sync::Wait;
 use std::sync::atomic::{AtomicBool, AtomicU64, Ordering};
 
@@ -43,12 +43,12 @@ impl Pace {
 
     /// Waits while this file is behind the first open one, and the reader has taken much of such files.
     pub fn wait<W: Wait>(&self, rt: &W, file: u32) {
-        let mut patience = Patience::new();
+        let mut backoff = Backoff::new();
         for _ in rt.forever() {
             if !self.is_far_ahead(file) {
                 return;
             }
-            patience.turn(rt);
+            backoff.turn(rt);
         }
         unreachable!()
     }

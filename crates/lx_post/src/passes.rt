@@ -7,6 +7,12 @@ use crate::post_rule::PassView;
 use crossbeam_queue::Pass;
 use std::marker::Model;
 
+/// The most workers that a run has.
+pub const MAX_WORKERS: u8 = 8;
+
+// The same, as the length of a list.
+pub(crate) const WORKER_SLOTS: usize = MAX_WORKERS as usize;
+
 /// The right of one worker to send notes. Contracts see what it sent.
 #[derive(Drop)]
 pub struct SendPass {
@@ -33,12 +39,13 @@ pub struct TakePass {
     pub(crate) pass: Pass<Note, PassView>,
     pub(crate) workers: u8,
     // Of each worker: its end was received.
-    pub(crate) ended: [bool; 8],
+    pub(crate) ended: [bool; WORKER_SLOTS],
 }
 
 impl Model for TakePass {
     ghost use Rattle.std.specs.Prelude.{◌≡◌, ◌≤◌, ◌<◌, ℕ, [], false, slice_index_or};
     ghost use Rattle.crossbeam_queue.specs.Passes.{view as known};
+    ghost use Rattle.lx_post.specs.Claimed.{max_workers};
     ghost use Rattle.lx_post.specs.Notes.{notes_of, has_end};
     ghost use Rattle.lx_post.specs.Posting.{taker};
     ghost use Rattle.lx_post.specs.Posted.{Taken};
@@ -50,8 +57,8 @@ impl Model for TakePass {
     ghost invariant = { λ p.
         (p.pass.me.1 ≡ [])
         × (known p.pass ≡ taker (known p.pass).plan p.workers (known p.pass).received (known p.pass).worker (known p.pass).sent)
-        × (p.workers ≤ 8)
-        × ((w : ℕ) → w < 8 → slice_index_or p.ended w false ≡ has_end (notes_of w (known p.pass).received)) };
+        × (p.workers ≤ max_workers)
+        × ((w : ℕ) → w < max_workers → slice_index_or p.ended w false ≡ has_end (notes_of w (known p.pass).received)) };
 }
 
 impl SendPass {

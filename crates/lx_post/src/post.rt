@@ -1,12 +1,13 @@
 //! The bounded queue in which workers send notes.
 ghost use Rattle.std.specs.Prelude.{◌≡◌, ◌<◌, ◌≤◌, ◌+◌, [], ℕ, Some, vec_len, slice_get, IfOk, IfErr, IfSome, IfNone};
 ghost use Rattle.crossbeam_queue.specs.Passes.{view, IsPassOf};
+ghost use Rattle.lx_post.specs.Claimed.{max_workers};
 ghost use Rattle.lx_post.specs.Posted.{IsTakePassOf, MayCome, MaySend, AllEnded, fresh_send, fresh_take, with_received, with_sent};
 ghost use Rattle.lx_post.specs.Posting.{blank, no_worker, opened, taker};
 
+use crate::backoff::Backoff;
 use crate::note::Note;
-use crate::passes::{SendPass, TakePass};
-use crate::patience::Patience;
+use crate::passes::{SendPass, TakePass, WORKER_SLOTS};
 use crate::post_rule::{Naming, NextWorker, Opening, PassView, PostRule, Sending, Taking};
 use crossbeam_queue::{Pass, RuledArrayQueue};
 use lx_piece::Plan;
@@ -51,7 +52,7 @@ impl Post {
         room: usize,
     ) -> Result<(Post, Vec<SendPass>, TakePass), AllocError>
         requires some_workers { 0 < workers }
-        requires few_workers { workers ≤ 8 }
+        requires few_workers { workers ≤ max_workers }
         requires room { 0 < room }
         ensures post { IfOk result (λ r. r.0.workers ≡ workers) }
         ensures count { IfOk result (λ r. vec_len r.1 ≡ workers) }
@@ -67,7 +68,7 @@ impl Post {
         let pass = TakePass {
             pass,
             workers,
-            ended: [false; 8],
+            ended: [false; WORKER_SLOTS],
         };
         Ok((post, passes, pass))
     }
@@ -91,7 +92,7 @@ impl Post {
     // A pass for the next worker.
     fn add_worker(&self, pass: &mut Pass<Note, PassView>, worker: u8) -> SendPass
         requires post { (pass.old.table_id ≡ self.now.queue) × (pass.old.me.1 ≡ []) }
-        requires next { (view pass.old ≡ taker (view pass.old).plan worker [] no_worker []) × (worker < 8) }
+        requires next { (view pass.old ≡ taker (view pass.old).plan worker [] no_worker []) × (worker < max_workers) }
         ensures post { (pass.new.table_id ≡ self.now.queue) × (pass.new.me.1 ≡ []) }
         ensures next { view pass.new ≡ taker (view pass.old).plan (worker + 1) [] no_worker [] }
         ensures pass { result ≡ fresh_send self.now (view pass.old).plan worker }
@@ -123,12 +124,12 @@ impl Post {
         ensures { pass.new ≡ with_sent pass.old note }
     {
         let mut left = note;
-        let mut patience = Patience::new();
+        let mut backoff = Backoff::new();
         for _ in rt.forever() {
             match self.try_send(rt, pass, left) {
                 Ok(()) => return,
                 Err(back) => {
-                    patience.turn(rt);
+                    backoff.turn(rt);
                     left = back;
                 }
             }
@@ -158,12 +159,12 @@ impl Post {
         if pass.all_ended() {
             return None;
         }
-        let mut patience = Patience::new();
+        let mut backoff = Backoff::new();
         for _ in rt.forever() {
             if let Some(note) = self.try_receive(rt, pass) {
                 return Some(note);
             }
-            patience.turn(rt);
+            backoff.turn(rt);
         }
         unreachable!()
     }

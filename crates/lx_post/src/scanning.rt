@@ -4,10 +4,10 @@ ghost use Rattle.lx_piece.specs.Plans.{files_of};
 ghost use Rattle.lx_piece.specs.Pieces.{top_number};
 ghost use Rattle.lx_piece.specs.Relayed.{TakesAllInOrder};
 ghost use Rattle.lx_post.specs.declared.run_fault.RunFault.{RunFault};
-ghost use Rattle.lx_post.specs.Claimed.{fresh_seat};
-ghost use Rattle.lx_post.specs.Collected.{IsCollected, IsPrepared, IsWhole};
-ghost use Rattle.lx_post.specs.Posted.{IsTakePassOf, fresh_send, fresh_take};
-ghost use Rattle.lx_post.specs.Working.{IsDone, IsReady};
+ghost use Rattle.lx_post.specs.Claimed.{fresh_seat, max_workers};
+ghost use Rattle.lx_post.specs.Collected.{HasRun, IsPrepared, IsWhole, TellsFaults, TookNothing};
+ghost use Rattle.lx_post.specs.Posted.{fresh_send, fresh_take};
+ghost use Rattle.lx_post.specs.Working.{IsReady};
 
 use crate::claim_seat::ClaimSeat;
 use crate::claims::Claims;
@@ -88,7 +88,7 @@ fn reserve(alloc: Global, workers: usize) -> Result<Reserved, AllocError>
 
 // The claims, the post, and a job for each worker.
 fn prepare<W: Wait>(rt: &W, alloc: Global, plan: &Plan, workers: u8) -> Result<Ready, AllocError>
-    requires { (0 < workers) × (workers ≤ 8) }
+    requires { (0 < workers) × (workers ≤ max_workers) }
     ensures plan { IfOk result (λ r. IsPrepared plan.now r.claims r.post r.take r.jobs.items) }
     ensures none { IfOk result (λ r. (r.reserved.handles.items ≡ []) × (r.reserved.ended.items ≡ []) × (r.reserved.seats.items ≡ []) × (r.reserved.passes.items ≡ [])) }
     ensures room { IfOk result (λ r. (vec_len r.jobs ≤ vec_capacity r.reserved.handles) × (vec_len r.jobs ≤ vec_capacity r.reserved.ended)
@@ -136,16 +136,12 @@ fn run<'s, E, W: Threads + Wait + Sync, G: Gate + Sync, R: Reader + Drop>(
     requires prepared { IsPrepared plan.now claims.now post.now take jobs.items }
     requires none { (handles.items ≡ []) × (ended.items ≡ []) }
     requires room { (vec_len jobs ≤ vec_capacity handles) × (vec_len jobs ≤ vec_capacity ended) }
-    requires reader { (R.plan reader ≡ plan.now) × (R.counts reader ≡ replicate (files_of plan.now) 0) × (R.fault_count reader < top_number) }
-    ensures take { IsTakePassOf post.now result.1.take }
+    requires reader { TookNothing plan.now (R.plan reader) (R.counts reader) (R.fault_count reader) }
     ensures count { vec_len result.1.ended ≤ vec_len jobs }
-    ensures ended { All (λ job. IsDone claims.now post.now plan.now job) result.1.ended.items }
-    ensures ok { OnOk result.1.answer (IsCollected plan.now result.1.take (R.counts result.0)) }
-    ensures taken { TakesAllInOrder plan.now (R.counts result.0) }
+    ensures ran { HasRun plan.now claims.now post.now result.1.take result.1.ended.items result.1.answer (R.counts result.0) }
     ensures follows { R.follows reader result.0 }
     ensures plan { R.plan result.0 ≡ R.plan reader }
-    ensures reader_fault { result.1.answer ≡ Err RunFault.Reader → R.fault_count reader < R.fault_count result.0 }
-    ensures no_fault { OnOk result.1.answer (R.fault_count result.0 ≡ R.fault_count reader) }
+    ensures faults { TellsFaults result.1.answer (R.fault_count reader) (R.fault_count result.0) }
 {
     start_all(
         rt,
@@ -201,16 +197,12 @@ fn run_scoped<W: Threads + Wait + Sync, G: Gate + Sync, R: Reader + Drop>(
     requires prepared { IsPrepared plan.now claims.now post.now take jobs.items }
     requires none { (handles.items ≡ []) × (ended.items ≡ []) }
     requires room { (vec_len jobs ≤ vec_capacity handles) × (vec_len jobs ≤ vec_capacity ended) }
-    requires reader { (R.plan reader ≡ plan.now) × (R.counts reader ≡ replicate (files_of plan.now) 0) × (R.fault_count reader < top_number) }
-    ensures take { IsTakePassOf post.now result.1.take }
+    requires reader { TookNothing plan.now (R.plan reader) (R.counts reader) (R.fault_count reader) }
     ensures count { vec_len result.1.ended ≤ vec_len jobs }
-    ensures ended { All (λ job. IsDone claims.now post.now plan.now job) result.1.ended.items }
-    ensures ok { OnOk result.1.answer (IsCollected plan.now result.1.take (R.counts result.0)) }
-    ensures taken { TakesAllInOrder plan.now (R.counts result.0) }
+    ensures ran { HasRun plan.now claims.now post.now result.1.take result.1.ended.items result.1.answer (R.counts result.0) }
     ensures follows { R.follows reader result.0 }
     ensures plan { R.plan result.0 ≡ R.plan reader }
-    ensures reader_fault { result.1.answer ≡ Err RunFault.Reader → R.fault_count reader < R.fault_count result.0 }
-    ensures no_fault { OnOk result.1.answer (R.fault_count result.0 ≡ R.fault_count reader) }
+    ensures faults { TellsFaults result.1.answer (R.fault_count reader) (R.fault_count result.0) }
 {
     thread::scope(
         thread::scope_env(),
@@ -219,16 +211,12 @@ fn run_scoped<W: Threads + Wait + Sync, G: Gate + Sync, R: Reader + Drop>(
             requires { IsPrepared plan.now claims.now post.now take jobs.items
                 × (handles.items ≡ []) × (ended.items ≡ [])
                 × (vec_len jobs ≤ vec_capacity handles) × (vec_len jobs ≤ vec_capacity ended)
-                × (R.plan reader ≡ plan.now) × (R.counts reader ≡ replicate (files_of plan.now) 0) × (R.fault_count reader < top_number) }
-            ensures { IsTakePassOf post.entry.now result.1.take
-                × (vec_len result.1.ended ≤ vec_len jobs)
-                × All (λ job. IsDone claims.entry.now post.entry.now plan.entry.now job) result.1.ended.items
-                × OnOk result.1.answer (IsCollected plan.entry.now result.1.take (R.counts result.0))
-                × TakesAllInOrder plan.entry.now (R.counts result.0)
+                × TookNothing plan.now (R.plan reader) (R.counts reader) (R.fault_count reader) }
+            ensures { (vec_len result.1.ended ≤ vec_len jobs)
+                × HasRun plan.entry.now claims.entry.now post.entry.now result.1.take result.1.ended.items result.1.answer (R.counts result.0)
                 × R.follows reader result.0
                 × (R.plan result.0 ≡ R.plan reader)
-                × (result.1.answer ≡ Err RunFault.Reader → R.fault_count reader < R.fault_count result.0)
-                × OnOk result.1.answer (R.fault_count result.0 ≡ R.fault_count reader) }
+                × TellsFaults result.1.answer (R.fault_count reader) (R.fault_count result.0) }
         {
             run(
                 rt, alloc, scope, plan, claims, post, gate, signals, jobs, take, handles, ended,
@@ -252,7 +240,7 @@ pub fn scan_all<W: Threads + Wait + Sync, G: Gate + Sync, R: Reader + Drop>(
     reader: R,
 ) -> (R, Result<(), RunFault>)
     requires some_workers { 0 < workers }
-    requires few_workers { workers ≤ 8 }
+    requires few_workers { workers ≤ max_workers }
     requires reader_plan { R.plan reader ≡ plan.now }
     requires nothing_taken { R.counts reader ≡ replicate (files_of plan.now) 0 }
     requires countable { R.fault_count reader < top_number }

@@ -1,6 +1,6 @@
 //! How workers are started.
 ghost use Rattle.std.specs.Prelude.{◌≡◌, ◌<◌, ◌≤◌, ◌+◌, [], All, IfErr, IfOk, Some, vec_len, vec_capacity};
-ghost use Rattle.lx_piece.specs.Plans.{files_of};
+ghost use Rattle.lx_post.specs.Claimed.{AreClaimsOf, max_workers};
 ghost use Rattle.lx_post.specs.declared.note.Note.TheVariants.{End as note_end};
 ghost use Rattle.lx_post.specs.declared.note.WorkerFault.{WorkerFault};
 ghost use Rattle.lx_post.specs.Posted.{IsTakePassOf, with_sent};
@@ -50,7 +50,7 @@ fn begin<W: Wait, G: Gate>(
     job: Job,
 ) -> Outcome
     requires ready { IsReady claims.now post.now plan.now job }
-    requires files { (claims.now.files ≡ files_of plan.now) × (claims.now.files ≤ 65536) }
+    requires files { AreClaimsOf plan.now claims.now }
     ensures { IsOutcome job result }
 {
     if refused.load(Ordering::SeqCst) {
@@ -73,7 +73,7 @@ fn start<'s, E, W: Wait + Sync, G: Gate + Sync>(
     job: Job,
 ) -> Result<Worker, Outcome>
     requires ready { IsReady claims.now post.now plan.now job }
-    requires files { (claims.now.files ≡ files_of plan.now) × (claims.now.files ≤ 65536) }
+    requires files { AreClaimsOf plan.now claims.now }
     ensures ok { IfOk result (λ handle. handle.promise.job.value ≡ job) }
     ensures err { IfErr result (λ outcome. IsOutcome job outcome) }
 {
@@ -81,7 +81,7 @@ fn start<'s, E, W: Wait + Sync, G: Gate + Sync>(
         job: Snapshot::of(&job),
     };
     let run = move || -> Outcome
-        requires { IsReady claims.now post.now plan.now job × (claims.now.files ≡ files_of plan.now) × (claims.now.files ≤ 65536) }
+        requires { IsReady claims.now post.now plan.now job × AreClaimsOf plan.now claims.now }
         ensures { IsOutcome job result }
     { begin(rt, alloc, plan, claims, post, gate, pace, refused, job) };
     match scope.spawn_with(promise, run) {
@@ -158,8 +158,8 @@ fn start_or_end<'s, E, W: Wait + Sync, G: Gate + Sync>(
     ended: &mut Vec<Job>,
 )
     requires ready { IsReady claims.now post.now plan.now job }
-    requires files { (claims.now.files ≡ files_of plan.now) × (claims.now.files ≤ 65536) }
-    requires few_workers { post.now.workers ≤ 8 }
+    requires files { AreClaimsOf plan.now claims.now }
+    requires few_workers { post.now.workers ≤ max_workers }
     requires take { IsTakePassOf post.now take.old }
     requires room { (vec_len handles.old < vec_capacity handles.old) × (vec_len ended.old < vec_capacity ended.old) }
     ensures take { IsTakePassOf post.now take.new }
@@ -212,8 +212,8 @@ pub fn start_all<'s, E, W: Wait + Sync, G: Gate + Sync>(
     ended: &mut Vec<Job>,
 )
     requires ready { All (λ job. IsReady claims.now post.now plan.now job) jobs.items }
-    requires files { (claims.now.files ≡ files_of plan.now) × (claims.now.files ≤ 65536) }
-    requires few_workers { post.now.workers ≤ 8 }
+    requires files { AreClaimsOf plan.now claims.now }
+    requires few_workers { post.now.workers ≤ max_workers }
     requires take { IsTakePassOf post.now take.old }
     requires none { (vec_len handles.old ≡ 0) × (vec_len ended.old ≡ 0) }
     requires room { (vec_len jobs ≤ vec_capacity handles.old) × (vec_len jobs ≤ vec_capacity ended.old) }

@@ -1,7 +1,7 @@
 //! What a worker does: it draws files, cuts them, and sends their pieces.
 ghost use Rattle.std.specs.Prelude.{◌≡◌, ◌<◌, ◌≤◌, [], true, None, OnOk};
 ghost use Rattle.lx_piece.specs.Plans.{files_of};
-ghost use Rattle.lx_post.specs.Claimed.{IsSeatOf};
+ghost use Rattle.lx_post.specs.Claimed.{AreClaimsOf, IsSeatOf};
 ghost use Rattle.lx_post.specs.Working.{HasDrawn, HasSent, HasWorked, IsGoing, IsReady, SendsPieces};
 
 use crate::claim_seat::ClaimSeat;
@@ -66,7 +66,7 @@ fn send_drawn<W: Wait, G: Gate>(
 ) -> (u32, Option<WorkerFault>)
     requires seat { IsSeatOf claims.now seat.old × (seat.old.drawn ≡ []) }
     requires pass { IsGoing post.now plan.now pass.old }
-    requires files { (claims.now.files ≡ files_of plan.now) × (claims.now.files ≤ 65536) }
+    requires files { AreClaimsOf plan.now claims.now }
     ensures seat { IsSeatOf claims.now seat.new }
     ensures pass { SendsPieces pass.old pass.new }
     ensures done { result.1 ≡ None → (seat.new.done ≡ true) × HasDrawn plan.now result.0 seat.new pass.new }
@@ -96,7 +96,7 @@ pub fn work<W: Wait, G: Gate>(
     job: Job,
 ) -> Job
     requires ready { IsReady claims.now post.now plan.now job }
-    requires files { (claims.now.files ≡ files_of plan.now) × (claims.now.files ≤ 65536) }
+    requires files { AreClaimsOf plan.now claims.now }
     ensures { HasWorked job result }
 {
     let Job { mut seat, mut pass } = job;

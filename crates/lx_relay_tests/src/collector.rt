@@ -8,7 +8,7 @@ use std::alloc::{AllocError, Global};
 use std::process::Abort;
 
 pub(crate) fn reply_of(collector: &mut Collector, piece: Piece) -> Reply
-    ensures { length collector.new.lanes ≡ length collector.old.lanes }
+    ensures { length collector.new.buffers ≡ length collector.old.buffers }
 {
     match collector.offer(piece) {
         Ok(()) => Reply::Accepted,
@@ -17,7 +17,7 @@ pub(crate) fn reply_of(collector: &mut Collector, piece: Piece) -> Reply
 }
 
 pub(crate) fn delivered(collector: &mut Collector) -> Option<(u32, u64)>
-    ensures { length collector.new.lanes ≡ length collector.old.lanes }
+    ensures { length collector.new.buffers ≡ length collector.old.buffers }
 {
     collector.deliver().map(|piece| (piece.file, piece.number))
 }
@@ -35,7 +35,7 @@ struct Turn {
 
 /// Asserts that these are delivered, and then nothing.
 fn expect_deliveries(rt: &impl Abort, collector: &mut Collector, wanted: &[(u32, u64)])
-    ensures { length collector.new.lanes ≡ length collector.old.lanes }
+    ensures { length collector.new.buffers ≡ length collector.old.buffers }
 {
     for next in wanted {
         assert_eq!(rt; delivered(collector), Some(*next));
@@ -45,7 +45,7 @@ fn expect_deliveries(rt: &impl Abort, collector: &mut Collector, wanted: &[(u32,
 
 /// Asserts that a turn goes so.
 fn expect_turn(rt: &impl Abort, alloc: Global, collector: &mut Collector, turn: Turn)
-    ensures { length collector.new.lanes ≡ length collector.old.lanes }
+    ensures { length collector.new.buffers ≡ length collector.old.buffers }
 {
     let offered = piece(alloc, turn.run, turn.file, turn.number, turn.mark);
     assert_eq!(rt; reply_of(collector, offered), turn.reply);
@@ -139,7 +139,7 @@ fn refuses_the_greatest_number(rt: HostRuntime) -> Result<(), AllocError> {
 
 /// Asserts of each of three files whether it is closed, and whether it is cut.
 fn expect_ends(rt: &impl Abort, collector: &Collector, wanted: [(bool, bool); 3])
-    requires { length collector.now.lanes ≡ 3 }
+    requires { length collector.now.buffers ≡ 3 }
 {
     let found = [
         (collector.is_closed(0), collector.is_cut(0)),
@@ -273,7 +273,7 @@ fn delivers_as_defined<R: Abort>(
     counts: (u64, u64),
     list: u32,
 ) -> (u64, u64)
-    ensures { length collector.new.lanes ≡ length collector.old.lanes }
+    ensures { length collector.new.buffers ≡ length collector.old.buffers }
 {
     let mut counts = counts;
     for _delivery in 0..4 {
@@ -294,7 +294,7 @@ fn ends_as_defined<R: Abort>(
     counts: (u64, u64),
     list: u32,
 )
-    requires { length collector.now.lanes ≡ 2 }
+    requires { length collector.now.buffers ≡ 2 }
 {
     let first = (collector.is_closed(0), collector.is_cut(0));
     assert_eq!(rt; first, plain_end(accepted, 0, counts.0), "in {list}");

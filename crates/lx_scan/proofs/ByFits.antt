@@ -32,15 +32,15 @@ reach_bounds rule n = cases rule.reading.line_end
     cases false = (omega arith, λ t. absurd (cc))
 
 -- a token is as long as a fit that reaches these m bytes
-token_is : (cut : Bool) (n m : ℕ) → (if cut then n + 1 else n) ≡ m → (if cut then m - 1 else m) ≡ n
+token_is : (line_end : Bool) (n m : ℕ) → (if line_end then n + 1 else n) ≡ m → (if line_end then m - 1 else m) ≡ n
 token_is true n m e = omega arith
 token_is false n m e = sym e
 
--- tables have the cuts of the rules
-cut_at : (rules : List PlainRule) (i : ℕ) (rule : PlainRule) (d : TableRule) → slice_get rules i ≡ Some rule → (slice_index_or (map table_rule rules) i d).cut ≡ rule.reading.line_end
-cut_at [] i rule d at = absurd (let e : None ≡ Some rule = at in cc)
-cut_at (r ∷ rules) zero rule d at = let e : r ≡ rule = cc in ap (λ (x : PlainRule). x.reading.line_end) e
-cut_at (r ∷ rules) (suc i) rule d at = cut_at rules i rule d at
+-- tables have the line ends of the rules
+line_end_at : (rules : List PlainRule) (i : ℕ) (rule : PlainRule) (d : TableRule) → slice_get rules i ≡ Some rule → (slice_index_or (map table_rule rules) i d).line_end ≡ rule.reading.line_end
+line_end_at [] i rule d at = absurd (let e : None ≡ Some rule = at in cc)
+line_end_at (r ∷ rules) zero rule d at = let e : r ≡ rule = cc in ap (λ (x : PlainRule). x.reading.line_end) e
+line_end_at (r ∷ rules) (suc i) rule d at = line_end_at rules i rule d at
 
 module _ (spec : PlainSpec) (condition : ℕ) (begin : Bool) (text : List ℕ) where
   fits_front : (rule : PlainRule) (read n : ℕ) → reach rule n ≤ read → read ≤ length text → Fits spec rule condition begin text n → Fits spec rule condition begin (take read text) n
@@ -100,8 +100,8 @@ module _ (spec : PlainSpec) (condition : ℕ) (begin : Bool) (text : List ℕ) w
 
     token_of : (i : ℕ) (rule : PlainRule) (n m : ℕ) → slice_get spec.rules i ≡ Some rule → reach rule n ≡ m → token_len table i m ≡ n
     token_of i rule n m at e =
-        let cut : (rule_at table i).cut ≡ rule.reading.line_end = ap (λ (rules : List TableRule). (slice_index_or rules i (record { cut = false; steps = [] })).cut) of.rules ∙ cut_at spec.rules i rule (record { cut = false; steps = [] }) at in
-        ap (λ (b : Bool). if b then m - 1 else m) cut ∙ token_is rule.reading.line_end n m e
+        let line_end : (rule_at table i).line_end ≡ rule.reading.line_end = ap (λ (rules : List TableRule). (slice_index_or rules i (record { line_end = false; steps = [] })).line_end) of.rules ∙ line_end_at spec.rules i rule (record { line_end = false; steps = [] }) at in
+        ap (λ (b : Bool). if b then m - 1 else m) line_end ∙ token_is rule.reading.line_end n m e
 
     -- where a rule reaches so far, some rule is answered there, one that isn't later
     answered_at : (j : ℕ) (rule : PlainRule) (n : ℕ) → slice_get spec.rules j ≡ Some rule → Fits spec rule condition begin text n →

@@ -34,7 +34,7 @@ alone (Some found) e = absurd (let f : Some found.0 ≡ None = e in cc)
 
 -- what stands in place of a rule that isn't there
 abbrev no_rule : TableRule
-no_rule = record { cut = false; steps = [] }
+no_rule = record { line_end = false; steps = [] }
 
 -- tables have the steps of the rules
 steps_same : (rules : List PlainRule) (i : ℕ) (d : TableRule) → d.steps ≡ [] → slice_index_or (map (λ r. r.steps) rules) i [] ≡ (slice_index_or (map table_rule rules) i d).steps

@@ -79,7 +79,7 @@ answered_known : (m : Machine) (rules : ℕ) → ((s r : ℕ) → accepted_by m 
 answered_known m rules known None rule e = absurd (let f : None ≡ Some rule = e in cc)
 answered_known m rules known (Some s) rule e = known s rule e
 
-token_within : (cut : Bool) (m : ℕ) → (if cut then m - 1 else m) ≤ m
+token_within : (line_end : Bool) (m : ℕ) → (if line_end then m - 1 else m) ≤ m
 token_within true m = omega arith
 token_within false m = omega arith
 
@@ -99,7 +99,7 @@ pub chosen_there : (table : Table) → IsTable table → (condition : ℕ) (begi
 chosen_there table is condition begin text rule n g =
     let a = g.answered in
     let len : n ≡ token_len table rule g.m = a.len in
-    let less : token_len table rule g.m ≤ g.m = token_within (rule_at table rule).cut g.m in
+    let less : token_len table rule g.m ≤ g.m = token_within (rule_at table rule).line_end g.m in
     let small : g.m ≤ length text = a.within in
     record {
       below = answered_known table.machine (length table.rules) is.accepted (state_after table.machine (Some (start_of table.machine condition begin)) (take g.m text)) rule a.answered;

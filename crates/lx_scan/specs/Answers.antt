@@ -6,7 +6,7 @@ use Rattle.lx_tables.specs.Model.{Table, rule_at}
 
 -- how many of m bytes are the token of a rule: where it ends with `$` the last one, a newline, isn't
 abbrev pub token_len : Table → ℕ → ℕ → ℕ
-token_len table rule m = if (rule_at table rule).cut then m - 1 else m
+token_len table rule m = if (rule_at table rule).line_end then m - 1 else m
 
 -- After the first m bytes of the text, one at least, the answer is this rule, and its token has n bytes, one at least.
 pub record IsAnswered (table : Table) (condition : ℕ) (begin : Bool) (text : List ℕ) (m rule n : ℕ) : Type 0 where

@@ -12,7 +12,7 @@ use Rattle.lx_spec.specs.declared.rule.Kind.TheVariants.{Name, Number}
 use Rattle.lx_spec.specs.declared.rule.Step.{Step}
 use Rattle.lx_spec.specs.declared.rule.Step.TheVariants.{Echo, Begin, Return}
 use Rattle.lx_tables.specs.Model.{TableRule}
-use Rattle.lx_tables.specs.Texts.{kind_line, step_text, cut_text, rule_line, entry_text, accepts_text}
+use Rattle.lx_tables.specs.Texts.{kind_line, step_text, line_end_text, rule_line, entry_text, accepts_text}
 use Rattle.lx_tables.proofs.NumbersRead.{NoDigit, number_read, run_is, one_value}
 use Rattle.lx_tables.proofs.Onto.{run_then}
 use Rattle.lx_tables.specs.Readers.{read_digits, read_many, read_line, read_kind, step_of, read_steps, read_rule, read_accepts, read_entry, read_row, below}
@@ -137,13 +137,13 @@ steps_length [] = omega arith
 steps_length (step ∷ steps) = let a = step_length step in let b = steps_length steps in omega (arith, length-append (step_text step) (flat_map step_text steps))
 
 abbrev rule_with : Bool → List Step → TableRule
-rule_with cut steps = record { cut = cut; steps = steps }
+rule_with line_end steps = record { line_end = line_end; steps = steps }
 
 abbrev rule_then : Bool → List Step × List ℕ → TableRule × List ℕ
-rule_then cut steps = (rule_with cut steps.0, steps.1)
+rule_then line_end steps = (rule_with line_end steps.0, steps.1)
 
-rule_parts : (cut : Bool) (steps : List Step) (behind : List ℕ) → AreSmall steps →
-    read_rule (codes "rule " ++ cut_text cut ++ flat_map step_text steps ++ codes "\n" ++ behind) ≡ with_rest (rule_with cut steps) behind
+rule_parts : (line_end : Bool) (steps : List Step) (behind : List ℕ) → AreSmall steps →
+    read_rule (codes "rule " ++ line_end_text line_end ++ flat_map step_text steps ++ codes "\n" ++ behind) ≡ with_rest (rule_with line_end steps) behind
 rule_parts true steps behind h =
     let text = flat_map step_text steps ++ (10 ∷ behind) in
     ap (λ bs. read_rule (114 ∷ 117 ∷ 108 ∷ 101 ∷ 32 ∷ 49 ∷ bs)) (append_assoc (flat_map step_text steps) (codes "\n") behind)
@@ -154,7 +154,7 @@ rule_parts false steps behind h =
     ∙ ap (rule_then false) (steps_read steps (length (114 ∷ 117 ∷ 108 ∷ 101 ∷ 32 ∷ 48 ∷ text)) behind (let l = steps_length steps in omega (arith, length-append (flat_map step_text steps) (10 ∷ behind))) h)
 
 pub rule_read : (rule : TableRule) (behind : List ℕ) → AreSmall rule.steps → read_rule (rule_line rule ++ behind) ≡ with_rest rule behind
-rule_read rule behind h = rule_parts rule.cut rule.steps behind h
+rule_read rule behind h = rule_parts rule.line_end rule.steps behind h
 
 -- what stands behind a number or `-`
 pub record Stops (text : List ℕ) : Type 0 where

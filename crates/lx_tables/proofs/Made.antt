@@ -11,27 +11,27 @@ use Rattle.lx_tables.specs.Numbered.{AreAllMet, AreStarts, AreAccepted, AreRows}
 use Rattle.lx_tables.proofs.Kept.{table_kept}
 use Rattle.lx_tables.proofs.Reordered.{reordered_machine, reordered_classes, reordered_automaton, reordered_alike, accepts_below}
 
-module _ (m : Machine) (states words : List ℕ) (starts : List (ℕ × ℕ)) (accepted targets : List ℕ) (rules : ℕ)
-    (is : IsMachine m) (has : HasByteClasses m) (all : AreAllMet states words) (long : length words ≡ state_count m)
-    (are_starts : AreStarts m words starts (length m.starts)) (are_accepted : AreAccepted m rules states accepted (length states))
-    (are_rows : AreRows m states words targets (length states * m.width)) (few : rules ≤ 4096)
+module _ (m : Machine) (states encoded_options : List ℕ) (starts : List (ℕ × ℕ)) (accepted targets : List ℕ) (rules : ℕ)
+    (is : IsMachine m) (has : HasByteClasses m) (all : AreAllMet states encoded_options) (long : length encoded_options ≡ state_count m)
+    (are_starts : AreStarts m encoded_options starts (length m.starts)) (are_accepted : AreAccepted m rules states accepted (length states))
+    (are_rows : AreRows m states encoded_options targets (length states * m.width)) (few : rules ≤ 4096)
     (spec : PlainSpec) (of : IsAutomatonOf spec m) (same : rules ≡ length spec.rules) (well : IsWellFormed spec) where
   abbrev table : Table
   table = record { machine = machine_of starts m.classes m.width accepted targets; kinds = spec.kinds; rules = map table_rule spec.rules }
 
   pub made_table : IsTable table
   made_table = table_kept spec table.machine well
-      (reordered_machine m states words starts accepted targets rules is has all long are_starts are_accepted are_rows few)
-      (reordered_classes m states words starts accepted targets rules is has all long are_starts are_accepted are_rows few)
+      (reordered_machine m states encoded_options starts accepted targets rules is has all long are_starts are_accepted are_rows few)
+      (reordered_classes m states encoded_options starts accepted targets rules is has all long are_starts are_accepted are_rows few)
       (are_starts.long ∙ of.conditions)
-      (λ s r e. let l = accepts_below m states words starts accepted targets rules is has all long are_starts are_accepted are_rows few s r e in omega arith)
+      (λ s r e. let l = accepts_below m states encoded_options starts accepted targets rules is has all long are_starts are_accepted are_rows few s r e in omega arith)
 
   pub made_of : AreTablesOf spec table
   made_of = record {
-    automaton = reordered_automaton m states words starts accepted targets rules is has all long are_starts are_accepted are_rows few spec of same;
+    automaton = reordered_automaton m states encoded_options starts accepted targets rules is has all long are_starts are_accepted are_rows few spec of same;
     kinds = refl;
     rules = refl;
   }
 
   pub made_alike : AreEquivalentMachines m table.machine
-  made_alike = reordered_alike m states words starts accepted targets rules is has all long are_starts are_accepted are_rows few spec of same
+  made_alike = reordered_alike m states encoded_options starts accepted targets rules is has all long are_starts are_accepted are_rows few spec of same

@@ -3,7 +3,7 @@ use Rattle.std.proofs.Common.{◌≡◌, ◌≢◌, ℕ, zero, suc, ◌+◌, ◌
 use Rattle.std.proofs.lemmas.Bool.{cases_eq, cases_lt}
 use Rattle.std.proofs.lemmas.List.{get_or-set_same, get_or-set_other, get_or_append_left, get_or_push, length_push, length-set}
 use Rattle.lx_tables.specs.Numbered.{zeros, AreMet, AreAllMet}
-use Rattle.lx_tables.proofs.Reading.{different}
+use Rattle.lx_tables.proofs.EncodedOptions.{different}
 
 zeros_set : (xs : List ℕ) (i v : ℕ) → i < length xs → slice_index xs i ≡ 0 → v ≢ 0 → zeros (set xs i v) + 1 ≡ zeros xs
 zeros_set [] i v l e ne = absurd (omega arith)
@@ -36,22 +36,22 @@ none_met n = record {
   found = λ s l ne. absurd (ne (at_0 n s));
 }
 
-pub few_met : (states words : List ℕ) → AreMet states words → length states ≤ length words
-few_met states words are = (let r = are.room in omega arith)
+pub few_met : (states encoded_options : List ℕ) → AreMet states encoded_options → length states ≤ length encoded_options
+few_met states encoded_options are = (let r = are.room in omega arith)
 
 -- where a state has no number, there is room for it
-pub room_for : (states words : List ℕ) (s : ℕ) → AreMet states words → s < length words → slice_index words s ≡ 0 → length states < length words
-room_for states words s are l e = (let r = are.room in let z = zeros_set words s 1 l e (λ f. absurd (omega arith)) in omega arith)
+pub room_for : (states encoded_options : List ℕ) (s : ℕ) → AreMet states encoded_options → s < length encoded_options → slice_index encoded_options s ≡ 0 → length states < length encoded_options
+room_for states encoded_options s are l e = (let r = are.room in let z = zeros_set encoded_options s 1 l e (λ f. absurd (omega arith)) in omega arith)
 
-pub one_met : (states words : List ℕ) (s v : ℕ) → AreMet states words → s < length words → slice_index words s ≡ 0 → v ≡ length states + 1 →
-    AreMet (states ++ s ∷ []) (set words s v)
-one_met states words s v are l e is =
+pub one_met : (states encoded_options : List ℕ) (s v : ℕ) → AreMet states encoded_options → s < length encoded_options → slice_index encoded_options s ≡ 0 → v ≡ length states + 1 →
+    AreMet (states ++ s ∷ []) (set encoded_options s v)
+one_met states encoded_options s v are l e is =
     let longer : length (states ++ s ∷ []) ≡ length states + 1 = length_push states s in
-    let same : length (set words s v) ≡ length words = length-set words s v in
-    let here : slice_index (set words s v) s ≡ v = get_or-set_same words s v 0 l in
+    let same : length (set encoded_options s v) ≡ length encoded_options = length-set encoded_options s v in
+    let here : slice_index (set encoded_options s v) s ≡ v = get_or-set_same encoded_options s v 0 l in
     let last : slice_index (states ++ s ∷ []) (length states) ≡ s = get_or_push states s 0 (length states) refl in
     record {
-      room = (let r = are.room in let z = zeros_set words s v l e (omega arith) in omega arith);
+      room = (let r = are.room in let z = zeros_set encoded_options s v l e (omega arith) in omega arith);
       below = λ i h. elim (cases_lt i (length states)) [
         | inl k ↦ let f = get_or_append_left states (s ∷ []) 0 i k in let b = are.below i k in omega arith
         | inr k ↦ let f : slice_index (states ++ s ∷ []) i ≡ s = get_or_push states s 0 i (omega arith) in omega arith
@@ -59,33 +59,33 @@ one_met states words s v are l e is =
       placed = λ i h. elim (cases_lt i (length states)) [
         | inl k ↦ let f : slice_index (states ++ s ∷ []) i ≡ slice_index states i = get_or_append_left states (s ∷ []) 0 i k in
             let p = are.placed i k in
-            ap (λ t. slice_index (set words s v) t) f ∙ get_or-set_other words s (slice_index states i) v 0 (λ g. let q : slice_index words (slice_index states i) ≡ 0 = ap (λ t. slice_index words t) g ∙ e in absurd (omega arith)) ∙ p
+            ap (λ t. slice_index (set encoded_options s v) t) f ∙ get_or-set_other encoded_options s (slice_index states i) v 0 (λ g. let q : slice_index encoded_options (slice_index states i) ≡ 0 = ap (λ t. slice_index encoded_options t) g ∙ e in absurd (omega arith)) ∙ p
         | inr k ↦ let n : i ≡ length states = omega arith in
-            ap (λ t. slice_index (set words s v) (slice_index (states ++ s ∷ []) t)) n ∙ ap (λ t. slice_index (set words s v) t) last ∙ here ∙ is ∙ ap (λ t. t + 1) (sym n)
+            ap (λ t. slice_index (set encoded_options s v) (slice_index (states ++ s ∷ []) t)) n ∙ ap (λ t. slice_index (set encoded_options s v) t) last ∙ here ∙ is ∙ ap (λ t. t + 1) (sym n)
       ];
       within = λ t h ne. elim (cases_eq t s) [
-        | inl g ↦ let f : slice_index (set words s v) t ≡ v = ap (λ u. slice_index (set words s v) u) g ∙ here in omega arith
-        | inr g ↦ let f : slice_index (set words s v) t ≡ slice_index words t = get_or-set_other words s t v 0 g in
+        | inl g ↦ let f : slice_index (set encoded_options s v) t ≡ v = ap (λ u. slice_index (set encoded_options s v) u) g ∙ here in omega arith
+        | inr g ↦ let f : slice_index (set encoded_options s v) t ≡ slice_index encoded_options t = get_or-set_other encoded_options s t v 0 g in
             let w = are.within t (omega arith) (λ z. ne (f ∙ z)) in omega arith
       ];
       found = λ t h ne. elim (cases_eq t s) [
-        | inl g ↦ let f : slice_index (set words s v) t ≡ v = ap (λ u. slice_index (set words s v) u) g ∙ here in
-            let n : slice_index (set words s v) t - 1 ≡ length states = omega arith in
+        | inl g ↦ let f : slice_index (set encoded_options s v) t ≡ v = ap (λ u. slice_index (set encoded_options s v) u) g ∙ here in
+            let n : slice_index (set encoded_options s v) t - 1 ≡ length states = omega arith in
             ap (λ u. slice_index (states ++ s ∷ []) u) n ∙ last ∙ sym g
-        | inr g ↦ let f : slice_index (set words s v) t ≡ slice_index words t = get_or-set_other words s t v 0 g in
+        | inr g ↦ let f : slice_index (set encoded_options s v) t ≡ slice_index encoded_options t = get_or-set_other encoded_options s t v 0 g in
             let w = are.within t (omega arith) (λ z. ne (f ∙ z)) in
-            let p : slice_index words t - 1 < length states = (let q : slice_index words t ≢ 0 = λ z. ne (f ∙ z) in omega arith) in
-            ap (λ u. slice_index (states ++ s ∷ []) (u - 1)) f ∙ get_or_append_left states (s ∷ []) 0 (slice_index words t - 1) p ∙ are.found t (omega arith) (λ z. ne (f ∙ z))
+            let p : slice_index encoded_options t - 1 < length states = (let q : slice_index encoded_options t ≢ 0 = λ z. ne (f ∙ z) in omega arith) in
+            ap (λ u. slice_index (states ++ s ∷ []) (u - 1)) f ∙ get_or_append_left states (s ∷ []) 0 (slice_index encoded_options t - 1) p ∙ are.found t (omega arith) (λ z. ne (f ∙ z))
       ];
     }
 
 -- a state that has a number keeps one
-pub one_kept : (words : List ℕ) (s v : ℕ) → s < length words → v ≢ 0 → (t : ℕ) → slice_index words t ≢ 0 → slice_index (set words s v) t ≢ 0
-one_kept words s v l ne t h f = elim (cases_eq t s) [
-  | inl g ↦ ne (sym (ap (λ u. slice_index (set words s v) u) g ∙ get_or-set_same words s v 0 l) ∙ f)
-  | inr g ↦ h (sym (get_or-set_other words s t v 0 g) ∙ f)
+pub one_kept : (encoded_options : List ℕ) (s v : ℕ) → s < length encoded_options → v ≢ 0 → (t : ℕ) → slice_index encoded_options t ≢ 0 → slice_index (set encoded_options s v) t ≢ 0
+one_kept encoded_options s v l ne t h f = elim (cases_eq t s) [
+  | inl g ↦ ne (sym (ap (λ u. slice_index (set encoded_options s v) u) g ∙ get_or-set_same encoded_options s v 0 l) ∙ f)
+  | inr g ↦ h (sym (get_or-set_other encoded_options s t v 0 g) ∙ f)
 ]
 
 -- once all were met, there are as many
-pub all_met : (states words : List ℕ) → AreAllMet states words → length states ≡ length words
-all_met states words are = (let r = are.met.room in let z = zeros_none words are.each in omega arith)
+pub all_met : (states encoded_options : List ℕ) → AreAllMet states encoded_options → length states ≡ length encoded_options
+all_met states encoded_options are = (let r = are.met.room in let z = zeros_none encoded_options are.each in omega arith)

@@ -53,12 +53,12 @@ lines_onto accepted targets more = (accepted ++ more.0, targets ++ more.1)
 abbrev pub three : {A B C : Type 0} → A → B → C → A × B × C
 three a b c = (a, b, c)
 
-map_replicate : (n word : ℕ) → map decoded_option (replicate n word) ≡ replicate n (decoded_option word)
-map_replicate zero word = refl
-map_replicate (suc n) word = ap (λ (xs : List (Option ℕ)). decoded_option word ∷ xs) (map_replicate n word)
+map_replicate : (n encoded_option : ℕ) → map decoded_option (replicate n encoded_option) ≡ replicate n (decoded_option encoded_option)
+map_replicate zero encoded_option = refl
+map_replicate (suc n) encoded_option = ap (λ (xs : List (Option ℕ)). decoded_option encoded_option ∷ xs) (map_replicate n encoded_option)
 
-pub map_words : (words : List ℕ) (n word : ℕ) → map decoded_option (words ++ replicate n word) ≡ map decoded_option words ++ replicate n (decoded_option word)
-map_words words n word = map-append decoded_option words (replicate n word) ∙ ap (λ (xs : List (Option ℕ)). map decoded_option words ++ xs) (map_replicate n word)
+pub map_encoded_options : (encoded_options : List ℕ) (n encoded_option : ℕ) → map decoded_option (encoded_options ++ replicate n encoded_option) ≡ map decoded_option encoded_options ++ replicate n (decoded_option encoded_option)
+map_encoded_options encoded_options n encoded_option = map-append decoded_option encoded_options (replicate n encoded_option) ∙ ap (λ (xs : List (Option ℕ)). map decoded_option encoded_options ++ xs) (map_replicate n encoded_option)
 
 module _ (version : Version) (width : ℕ) where
   abbrev lines_then : ℕ → List (Option ℕ) × List (Option ℕ) × List ℕ → List (Option ℕ) × List (Option ℕ)
@@ -85,17 +85,17 @@ module _ (version : Version) (width : ℕ) where
   run_then m from run = put m from (within from width run.0.0) (within (within from width run.0.0) width run.0.1) (below 16512 run.0.2) run.1
 
   -- one more run was read and added
-  pub row_more : (words : List ℕ) (n m from low end first last value word : ℕ) (text rest words₁ words₂ : List ℕ) → n ≡ suc m → slice_index text 0 ≡ 32 →
-      pair (three first last value) rest ≡ read_run version text → low ≡ within from width first → end ≡ within low width last → decoded_option word ≡ below 16512 value →
-      words₁ ≡ words ++ replicate (low - from) 0 → words₂ ≡ words₁ ++ replicate (end - low) word →
-      onto (map decoded_option words₂) (read_row version width m end rest) ≡ onto (map decoded_option words) (read_row version width n from text)
-  row_more words n m from low end first last value word text rest words₁ words₂ e f h hl he hw h1 h2 =
-      let W = map decoded_option words in
+  pub row_more : (encoded_options : List ℕ) (n m from low end first last value encoded_option : ℕ) (text rest encoded_options₁ encoded_options₂ : List ℕ) → n ≡ suc m → slice_index text 0 ≡ 32 →
+      pair (three first last value) rest ≡ read_run version text → low ≡ within from width first → end ≡ within low width last → decoded_option encoded_option ≡ below 16512 value →
+      encoded_options₁ ≡ encoded_options ++ replicate (low - from) 0 → encoded_options₂ ≡ encoded_options₁ ++ replicate (end - low) encoded_option →
+      onto (map decoded_option encoded_options₂) (read_row version width m end rest) ≡ onto (map decoded_option encoded_options) (read_row version width n from text)
+  row_more encoded_options n m from low end first last value encoded_option text rest encoded_options₁ encoded_options₂ e f h hl he hw h1 h2 =
+      let W = map decoded_option encoded_options in
       let more = read_row version width m end rest in
       let gap : List (Option ℕ) = replicate (low - from) None in
-      let all : map decoded_option words₂ ≡ (W ++ gap) ++ replicate (end - low) (decoded_option word) =
-      ap (map decoded_option) h2 ∙ map_words words₁ (end - low) word ∙ ap (λ (ws : List ℕ). map decoded_option ws ++ replicate (end - low) (decoded_option word)) h1
-      ∙ ap (λ (xs : List (Option ℕ)). xs ++ replicate (end - low) (decoded_option word)) (map_words words (low - from) 0) in
+      let all : map decoded_option encoded_options₂ ≡ (W ++ gap) ++ replicate (end - low) (decoded_option encoded_option) =
+      ap (map decoded_option) h2 ∙ map_encoded_options encoded_options₁ (end - low) encoded_option ∙ ap (λ (ws : List ℕ). map decoded_option ws ++ replicate (end - low) (decoded_option encoded_option)) h1
+      ∙ ap (λ (xs : List (Option ℕ)). xs ++ replicate (end - low) (decoded_option encoded_option)) (map_encoded_options encoded_options (low - from) 0) in
       ap (λ (xs : List (Option ℕ)). onto xs more) all
       ∙ ap (λ (v : Option ℕ). onto ((W ++ gap) ++ replicate (end - low) v) more) hw
       ∙ ap (with_rest more.1) (append_assoc (W ++ gap) (replicate (end - low) (below 16512 value)) more.0
@@ -113,11 +113,11 @@ module _ (version : Version) (width : ℕ) where
   row_stops (suc n) from text h =
       ap (λ (c : Bool). if c then run_then n from (read_run version text) else pair (replicate (width - from) None) text) (ne_eqb (slice_index text 0) 32 (h (omega arith)))
 
-  pub row_ends : (words words₁ : List ℕ) (n from : ℕ) (text : List ℕ) → (0 < n → slice_index text 0 ≢ 32) → words₁ ≡ words ++ replicate (width - from) 0 →
-      pair (map decoded_option words₁) text ≡ onto (map decoded_option words) (read_row version width n from text)
-  row_ends words words₁ n from text h e =
-      ap (λ (ws : List ℕ). pair (map decoded_option ws) text) e ∙ ap (λ (xs : List (Option ℕ)). pair xs text) (map_words words (width - from) 0)
-      ∙ ap (λ more. onto (map decoded_option words) more) (sym (row_stops n from text h))
+  pub row_ends : (encoded_options encoded_options₁ : List ℕ) (n from : ℕ) (text : List ℕ) → (0 < n → slice_index text 0 ≢ 32) → encoded_options₁ ≡ encoded_options ++ replicate (width - from) 0 →
+      pair (map decoded_option encoded_options₁) text ≡ onto (map decoded_option encoded_options) (read_row version width n from text)
+  row_ends encoded_options encoded_options₁ n from text h e =
+      ap (λ (ws : List ℕ). pair (map decoded_option ws) text) e ∙ ap (λ (xs : List (Option ℕ)). pair xs text) (map_encoded_options encoded_options (width - from) 0)
+      ∙ ap (λ more. onto (map decoded_option encoded_options) more) (sym (row_stops n from text h))
 
 -- the bytes, one behind the other
 range_more : (a n : ℕ) → range_with_len a (suc n) ≡ range_with_len a n ++ ((a + n) ∷ [])

@@ -19,15 +19,15 @@ next_byte row low at value some within =
     ∙ ap (λ (k : ℕ). if same_value value (get_or row at None) then ranges_from low k value (drop (at + 1) row)
     else range_text low (at - 1) value ++ ranges_from k k (get_or row at None) (drop (at + 1) row)) back
 
-same_word : (n : ℕ) → same_value (decoded_option n) (decoded_option n) ≡ true
-same_word n = at (n == 0)
+same_encoded_option : (n : ℕ) → same_value (decoded_option n) (decoded_option n) ≡ true
+same_encoded_option n = at (n == 0)
   where
     at : (c : Bool) → same_value (if c then None else Some (n - 1)) (if c then None else Some (n - 1)) ≡ true
     at true = refl
     at false = eq-eqb (n - 1) (n - 1) refl
 
-other_word : (m n : ℕ) → (m ≡ n → ⊥) → same_value (decoded_option m) (decoded_option n) ≡ false
-other_word m n differ = at (m == 0) (n == 0) refl refl
+other_encoded_option : (m n : ℕ) → (m ≡ n → ⊥) → same_value (decoded_option m) (decoded_option n) ≡ false
+other_encoded_option m n differ = at (m == 0) (n == 0) refl refl
   where
     at : (c d : Bool) → m == 0 ≡ c → n == 0 ≡ d → same_value (if c then None else Some (m - 1)) (if d then None else Some (n - 1)) ≡ false
     at true true e f = absurd (differ (eqb-true m 0 e ∙ sym (eqb-true n 0 f)))
@@ -57,34 +57,34 @@ module _ (value : ℕ → Option ℕ) where
   first_value [] v l e = absurd (omega arith)
   first_value (x ∷ xs) v l e = ap (λ w. ranges_from 0 0 w xs) e
 
-  pub run_begins : (word : ℕ) → decoded_option word ≡ value 0 → byte_ranges value ≡ ranges_from 0 (1 - 1) (decoded_option word) (drop 1 V)
-  run_begins word e = first_value V (decoded_option word) (omega (arith, value_count)) (value_at 0 (omega arith) ∙ sym e)
+  pub run_begins : (encoded_option : ℕ) → decoded_option encoded_option ≡ value 0 → byte_ranges value ≡ ranges_from 0 (1 - 1) (decoded_option encoded_option) (drop 1 V)
+  run_begins encoded_option e = first_value V (decoded_option encoded_option) (omega (arith, value_count)) (value_at 0 (omega arith) ∙ sym e)
 
-  pub run_ends : (low at word next : ℕ) → 0 < at → at < 256 → decoded_option next ≡ value at → (next ≡ word → ⊥) →
-      ranges_from low (at - 1) (decoded_option word) (drop at V) ≡ range_text low (at - 1) (decoded_option word) ++ ranges_from at (at + 1 - 1) (decoded_option next) (drop (at + 1) V)
-  run_ends low at word next some l e differ =
+  pub run_ends : (low at encoded_option next : ℕ) → 0 < at → at < 256 → decoded_option next ≡ value at → (next ≡ encoded_option → ⊥) →
+      ranges_from low (at - 1) (decoded_option encoded_option) (drop at V) ≡ range_text low (at - 1) (decoded_option encoded_option) ++ ranges_from at (at + 1 - 1) (decoded_option next) (drop (at + 1) V)
+  run_ends low at encoded_option next some l e differ =
       let rest = drop (at + 1) V in
       let there : get_or V at None ≡ decoded_option next = value_at at l ∙ sym e in
       let back : at ≡ at + 1 - 1 = omega arith in
-      next_byte V low at (decoded_option word) some (omega (arith, value_count))
-      ∙ ap (λ (v : Option ℕ). if same_value (decoded_option word) v then ranges_from low at (decoded_option word) rest else range_text low (at - 1) (decoded_option word) ++ ranges_from at at v rest) there
-      ∙ ap (λ (c : Bool). if c then ranges_from low at (decoded_option word) rest else range_text low (at - 1) (decoded_option word) ++ ranges_from at at (decoded_option next) rest) (other_word word next (λ same. differ (sym same)))
-      ∙ ap (λ (n : ℕ). range_text low (at - 1) (decoded_option word) ++ ranges_from at n (decoded_option next) rest) back
+      next_byte V low at (decoded_option encoded_option) some (omega (arith, value_count))
+      ∙ ap (λ (v : Option ℕ). if same_value (decoded_option encoded_option) v then ranges_from low at (decoded_option encoded_option) rest else range_text low (at - 1) (decoded_option encoded_option) ++ ranges_from at at v rest) there
+      ∙ ap (λ (c : Bool). if c then ranges_from low at (decoded_option encoded_option) rest else range_text low (at - 1) (decoded_option encoded_option) ++ ranges_from at at (decoded_option next) rest) (other_encoded_option encoded_option next (λ same. differ (sym same)))
+      ∙ ap (λ (n : ℕ). range_text low (at - 1) (decoded_option encoded_option) ++ ranges_from at n (decoded_option next) rest) back
 
-  pub run_goes : (low at word next : ℕ) → 0 < at → at < 256 → decoded_option next ≡ value at → next ≡ word →
-      ranges_from low (at - 1) (decoded_option word) (drop at V) ≡ ranges_from low (at + 1 - 1) (decoded_option word) (drop (at + 1) V)
-  run_goes low at word next some l e same =
+  pub run_goes : (low at encoded_option next : ℕ) → 0 < at → at < 256 → decoded_option next ≡ value at → next ≡ encoded_option →
+      ranges_from low (at - 1) (decoded_option encoded_option) (drop at V) ≡ ranges_from low (at + 1 - 1) (decoded_option encoded_option) (drop (at + 1) V)
+  run_goes low at encoded_option next some l e same =
       let rest = drop (at + 1) V in
-      let there : get_or V at None ≡ decoded_option word = value_at at l ∙ sym e ∙ ap (λ (n : ℕ). decoded_option n) same in
+      let there : get_or V at None ≡ decoded_option encoded_option = value_at at l ∙ sym e ∙ ap (λ (n : ℕ). decoded_option n) same in
       let back : at ≡ at + 1 - 1 = omega arith in
-      next_byte V low at (decoded_option word) some (omega (arith, value_count))
-      ∙ ap (λ (v : Option ℕ). if same_value (decoded_option word) v then ranges_from low at (decoded_option word) rest else range_text low (at - 1) (decoded_option word) ++ ranges_from at at v rest) there
-      ∙ ap (λ (c : Bool). if c then ranges_from low at (decoded_option word) rest else range_text low (at - 1) (decoded_option word) ++ ranges_from at at (decoded_option word) rest) (same_word word)
-      ∙ ap (λ (n : ℕ). ranges_from low n (decoded_option word) rest) back
+      next_byte V low at (decoded_option encoded_option) some (omega (arith, value_count))
+      ∙ ap (λ (v : Option ℕ). if same_value (decoded_option encoded_option) v then ranges_from low at (decoded_option encoded_option) rest else range_text low (at - 1) (decoded_option encoded_option) ++ ranges_from at at v rest) there
+      ∙ ap (λ (c : Bool). if c then ranges_from low at (decoded_option encoded_option) rest else range_text low (at - 1) (decoded_option encoded_option) ++ ranges_from at at (decoded_option encoded_option) rest) (same_encoded_option encoded_option)
+      ∙ ap (λ (n : ℕ). ranges_from low n (decoded_option encoded_option) rest) back
 
   -- behind the last byte one run is left
-  pub run_last : (low at word : ℕ) → at ≡ 256 → ranges_from low (at - 1) (decoded_option word) (drop at V) ≡ range_text low 255 (decoded_option word)
-  run_last low at word e =
+  pub run_last : (low at encoded_option : ℕ) → at ≡ 256 → ranges_from low (at - 1) (decoded_option encoded_option) (drop at V) ≡ range_text low 255 (decoded_option encoded_option)
+  run_last low at encoded_option e =
       let none : drop at V ≡ [] = drop_all at V (omega (arith, value_count)) in
-      ap (λ (xs : List (Option ℕ)). ranges_from low (at - 1) (decoded_option word) xs) none
-      ∙ ap (λ (n : ℕ). range_text low (n - 1) (decoded_option word)) e
+      ap (λ (xs : List (Option ℕ)). ranges_from low (at - 1) (decoded_option encoded_option) xs) none
+      ∙ ap (λ (n : ℕ). range_text low (n - 1) (decoded_option encoded_option)) e

@@ -9,9 +9,9 @@ use Rattle.lx_auto.specs.Automata.{Machine, IsMachine, HasByteClasses, state_cou
 use Rattle.lx_auto.specs.Equivalence.{AreEquivalentMachines}
 use Rattle.lx_auto.specs.Meaning.{IsAnswer, IsAutomatonOf}
 use Rattle.lx_auto.specs.EncodedOptions.{decoded_option, machine_of}
-use Rattle.lx_tables.specs.Numbered.{AreAllMet, AreStarts, AreAccepted, AreRows, word_of, rule_below}
+use Rattle.lx_tables.specs.Numbered.{AreAllMet, AreStarts, AreAccepted, AreRows, encoded_option_of, rule_below}
 use Rattle.lx_tables.proofs.Meeting.{all_met}
-use Rattle.lx_tables.proofs.Reading.{word_at, decoded_option-some, decoded_option-same, word_above, in_row}
+use Rattle.lx_tables.proofs.EncodedOptions.{encoded_option_at, decoded_option-some, decoded_option-same, encoded_option_above, in_row}
 
 pub rule_kept : (rules rule : ℕ) → rule < rules → rule_below rules (Some rule) ≡ Some rule
 rule_kept rules rule l = ap (λ (b : Bool). if b then Some rule else None) (lt-ltb rule rules l)
@@ -29,53 +29,53 @@ answer_kept : (spec : PlainSpec) (c : ℕ) (begin : Bool) (w : List ℕ) (o : Op
 answer_kept spec c begin w None h = refl
 answer_kept spec c begin w (Some i) h = rule_kept (length spec.rules) i (slice_get_within spec.rules i h.0.rule h.0.at)
 
-module _ (m : Machine) (states words : List ℕ) (starts : List (ℕ × ℕ)) (accepted targets : List ℕ) (rules : ℕ)
-    (is : IsMachine m) (has : HasByteClasses m) (all : AreAllMet states words) (long : length words ≡ state_count m)
-    (are_starts : AreStarts m words starts (length m.starts)) (are_accepted : AreAccepted m rules states accepted (length states))
-    (are_rows : AreRows m states words targets (length states * m.width)) (few : rules ≤ 4096) where
+module _ (m : Machine) (states encoded_options : List ℕ) (starts : List (ℕ × ℕ)) (accepted targets : List ℕ) (rules : ℕ)
+    (is : IsMachine m) (has : HasByteClasses m) (all : AreAllMet states encoded_options) (long : length encoded_options ≡ state_count m)
+    (are_starts : AreStarts m encoded_options starts (length m.starts)) (are_accepted : AreAccepted m rules states accepted (length states))
+    (are_rows : AreRows m states encoded_options targets (length states * m.width)) (few : rules ≤ 4096) where
   abbrev pub q : Machine
   q = machine_of starts m.classes m.width accepted targets
 
   places : length states ≡ state_count m
-  places = all_met states words all ∙ long
+  places = all_met states encoded_options all ∙ long
 
   count : state_count q ≡ state_count m
   count = length-map accepted decoded_option ∙ are_accepted.long ∙ places
 
-  has_word : (s : ℕ) → s < state_count m → slice_index words s ≢ 0
-  has_word s h = all.each s (omega (arith, long))
+  has_encoded_option : (s : ℕ) → s < state_count m → slice_index encoded_options s ≢ 0
+  has_encoded_option s h = all.each s (omega (arith, long))
 
   -- the place of a state, and the state at it
-  place_below : (s : ℕ) → s < state_count m → slice_index words s ≤ length states
-  place_below s h = all.met.within s (omega (arith, long)) (has_word s h)
+  place_below : (s : ℕ) → s < state_count m → slice_index encoded_options s ≤ length states
+  place_below s h = all.met.within s (omega (arith, long)) (has_encoded_option s h)
 
-  state_at : (s : ℕ) → s < state_count m → slice_index states (slice_index words s - 1) ≡ s
-  state_at s h = all.met.found s (omega (arith, long)) (has_word s h)
+  state_at : (s : ℕ) → s < state_count m → slice_index states (slice_index encoded_options s - 1) ≡ s
+  state_at s h = all.met.found s (omega (arith, long)) (has_encoded_option s h)
 
   accepted_place : (i : ℕ) → i < length states → accepted_by q i ≡ rule_below rules (accepted_by m (slice_index states i))
-  accepted_place i h = word_at accepted i ∙ are_accepted.each i h
+  accepted_place i h = encoded_option_at accepted i ∙ are_accepted.each i h
 
   -- where a state of the automaton is in the new order
   abbrev moved : Option ℕ → Option ℕ
-  moved o = decoded_option (word_of words o)
+  moved o = decoded_option (encoded_option_of encoded_options o)
 
-  moved_some : (s : ℕ) → s < state_count m → moved (Some s) ≡ Some (slice_index words s - 1)
-  moved_some s h = decoded_option-some (slice_index words s) (has_word s h)
+  moved_some : (s : ℕ) → s < state_count m → moved (Some s) ≡ Some (slice_index encoded_options s - 1)
+  moved_some s h = decoded_option-some (slice_index encoded_options s) (has_encoded_option s h)
 
   target_place : (i c : ℕ) → i < length states → c < m.width → class_target q i c ≡ moved (class_target m (slice_index states i) c)
-  target_place i c hi hc = word_at targets (i * m.width + c) ∙ ap decoded_option (are_rows.each i c hc (in_row i c (length states) m.width hi hc))
+  target_place i c hi hc = encoded_option_at targets (i * m.width + c) ∙ ap decoded_option (are_rows.each i c hc (in_row i c (length states) m.width hi hc))
 
-  accepted_state : (s : ℕ) → s < state_count m → accepted_by q (slice_index words s - 1) ≡ rule_below rules (accepted_by m s)
+  accepted_state : (s : ℕ) → s < state_count m → accepted_by q (slice_index encoded_options s - 1) ≡ rule_below rules (accepted_by m s)
   accepted_state s h =
       let p = place_below s h in
-      let n = has_word s h in
-      accepted_place (slice_index words s - 1) (omega arith) ∙ ap (λ t. rule_below rules (accepted_by m t)) (state_at s h)
+      let n = has_encoded_option s h in
+      accepted_place (slice_index encoded_options s - 1) (omega arith) ∙ ap (λ t. rule_below rules (accepted_by m t)) (state_at s h)
 
-  target_state : (s c : ℕ) → s < state_count m → c < m.width → class_target q (slice_index words s - 1) c ≡ moved (class_target m s c)
+  target_state : (s c : ℕ) → s < state_count m → c < m.width → class_target q (slice_index encoded_options s - 1) c ≡ moved (class_target m s c)
   target_state s c h hc =
       let p = place_below s h in
-      let n = has_word s h in
-      target_place (slice_index words s - 1) c (omega arith) hc ∙ ap (λ t. moved (class_target m t c)) (state_at s h)
+      let n = has_encoded_option s h in
+      target_place (slice_index encoded_options s - 1) c (omega arith) hc ∙ ap (λ t. moved (class_target m t c)) (state_at s h)
 
   -- a state, where there is one, is there
   abbrev IsThere : Option ℕ → Type 0
@@ -102,16 +102,16 @@ module _ (m : Machine) (states words : List ℕ) (starts : List (ℕ × ℕ)) (a
   accepted_moved None h = refl
   accepted_moved (Some s) h = ap (λ o. accepted_at q o) (moved_some s (h s refl)) ∙ accepted_state s (h s refl)
 
-  start_word : (c : ℕ) (begin : Bool) → c < length m.starts → start_of q c begin + 1 ≡ slice_index words (start_of m c begin)
-  start_word c true h = are_starts.at_begin c h
-  start_word c false h = are_starts.elsewhere c h
+  start_encoded_option : (c : ℕ) (begin : Bool) → c < length m.starts → start_of q c begin + 1 ≡ slice_index encoded_options (start_of m c begin)
+  start_encoded_option c true h = are_starts.at_begin c h
+  start_encoded_option c false h = are_starts.elsewhere c h
 
   answers_below : (c : ℕ) (begin : Bool) (w : List ℕ) → c < length m.starts → All (λ b. b < 256) w → answer q c begin w ≡ rule_below rules (answer m c begin w)
   answers_below c begin w h bytes =
       let s = start_of m c begin in
       let hs : s < state_count m = is.starts c begin h in
       let there : IsThere (Some s) = λ t e. let f : s ≡ t = cc in omega arith in
-      let n : start_of q c begin ≡ slice_index words s - 1 = (let x = start_word c begin h in omega arith) in
+      let n : start_of q c begin ≡ slice_index encoded_options s - 1 = (let x = start_encoded_option c begin h in omega arith) in
       let first : Some (start_of q c begin) ≡ moved (Some s) = ap (λ k. Some k) n ∙ sym (moved_some s hs) in
       ap (λ o. accepted_at q (state_after q o w)) first ∙ ap (λ o. accepted_at q o) (moved_after w (Some s) there bytes)
       ∙ accepted_moved (state_after m (Some s) w) (there_after w (Some s) there bytes)
@@ -128,7 +128,7 @@ module _ (m : Machine) (states words : List ℕ) (starts : List (ℕ × ℕ)) (a
 
   closed_at : (t : ℕ) (o : Option ℕ) → IsThere o → moved o ≡ Some t → t < state_count m
   closed_at t None h e = let f : None ≡ Some t = e in cc
-  closed_at t (Some u) h e = let a = word_above (slice_index words u) t e in let p = place_below u (h u refl) in omega (arith, places)
+  closed_at t (Some u) h e = let a = encoded_option_above (slice_index encoded_options u) t e in let p = place_below u (h u refl) in omega (arith, places)
 
   pub reordered_machine : IsMachine q
   reordered_machine = record {
@@ -136,7 +136,7 @@ module _ (m : Machine) (states words : List ℕ) (starts : List (ℕ × ℕ)) (a
     few = (let s = is.few in let l = are_starts.long in omega arith);
     starts = λ c begin h.
         let l : c < length m.starts = (let g = are_starts.long in omega arith) in
-        let x = start_word c begin l in
+        let x = start_encoded_option c begin l in
         let p = place_below (start_of m c begin) (is.starts c begin l) in
         omega (arith, count, places);
     bytes = is.bytes;
@@ -154,10 +154,10 @@ module _ (m : Machine) (states words : List ℕ) (starts : List (ℕ × ℕ)) (a
   }
 
   -- states in the new order are told apart as they were
-  moved_same : (o p : Option ℕ) → IsThere o → IsThere p → word_of words o ≡ word_of words p → o ≡ p
+  moved_same : (o p : Option ℕ) → IsThere o → IsThere p → encoded_option_of encoded_options o ≡ encoded_option_of encoded_options p → o ≡ p
   moved_same None None h g e = refl
-  moved_same None (Some u) h g e = absurd (has_word u (g u refl) (sym e))
-  moved_same (Some u) None h g e = absurd (has_word u (h u refl) e)
+  moved_same None (Some u) h g e = absurd (has_encoded_option u (g u refl) (sym e))
+  moved_same (Some u) None h g e = absurd (has_encoded_option u (h u refl) e)
   moved_same (Some u) (Some v) h g e = ap (λ k. Some k) (sym (state_at u (h u refl)) ∙ ap (λ k. slice_index states (k - 1)) e ∙ state_at v (g v refl))
 
   pub reordered_classes : HasByteClasses q
@@ -165,9 +165,9 @@ module _ (m : Machine) (states words : List ℕ) (starts : List (ℕ × ℕ)) (a
     numbered = has.numbered;
     different = λ c d hc hd like. has.different c d hc hd (λ s h.
         let p = place_below s h in
-        let n = has_word s h in
+        let n = has_encoded_option s h in
         let e : moved (class_target m s c) ≡ moved (class_target m s d) =
-        sym (target_state s c h hc) ∙ like (slice_index words s - 1) (omega (arith, count, places)) ∙ target_state s d h hd in
+        sym (target_state s c h hc) ∙ like (slice_index encoded_options s - 1) (omega (arith, count, places)) ∙ target_state s d h hd in
         moved_same (class_target m s c) (class_target m s d) (λ t f. is.closed s c t h hc f) (λ t f. is.closed s d t h hd f) (decoded_option-same _ _ e));
   }
 

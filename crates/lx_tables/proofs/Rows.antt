@@ -5,7 +5,7 @@ use Rattle.std.proofs.lemmas.List.{get_or_append_left, get_or_push, length_push}
 use Rattle.std.proofs.lemmas.Nat.{row_fits}
 use Rattle.lx_auto.specs.Automata.{Machine, accepted_by, class_target}
 use Rattle.lx_auto.specs.EncodedOptions.{decoded_option}
-use Rattle.lx_tables.specs.Numbered.{AreStarts, AreAccepted, AreRows, word_of, rule_below}
+use Rattle.lx_tables.specs.Numbered.{AreStarts, AreAccepted, AreRows, encoded_option_of, rule_below}
 
 same_row : (i j c d w : ℕ) → c < w → d < w → i * w + c ≡ j * w + d → (i ≡ j) × (c ≡ d)
 same_row i j c d w hc hd e = elim (cases_lt i j) [
@@ -16,9 +16,9 @@ same_row i j c d w hc hd e = elim (cases_lt i j) [
   ]
 ]
 
-pub start_push : (m : Machine) (words : List ℕ) (starts : List (ℕ × ℕ)) (n : ℕ) (y : ℕ × ℕ) → AreStarts m words starts n →
-    y.0 + 1 ≡ slice_index words (slice_index_or m.starts n (0, 0)).0 → y.1 + 1 ≡ slice_index words (slice_index_or m.starts n (0, 0)).1 → AreStarts m words (starts ++ y ∷ []) (n + 1)
-start_push m words starts n y are e f =
+pub start_push : (m : Machine) (encoded_options : List ℕ) (starts : List (ℕ × ℕ)) (n : ℕ) (y : ℕ × ℕ) → AreStarts m encoded_options starts n →
+    y.0 + 1 ≡ slice_index encoded_options (slice_index_or m.starts n (0, 0)).0 → y.1 + 1 ≡ slice_index encoded_options (slice_index_or m.starts n (0, 0)).1 → AreStarts m encoded_options (starts ++ y ∷ []) (n + 1)
+start_push m encoded_options starts n y are e f =
     let kept : (c : ℕ) → c < n → slice_index_or (starts ++ y ∷ []) c (0, 0) ≡ slice_index_or starts c (0, 0) =
     λ c h. get_or_append_left starts (y ∷ []) (0, 0) c (let g = are.long in omega arith) in
     let last : slice_index_or (starts ++ y ∷ []) n (0, 0) ≡ y = get_or_push starts y (0, 0) n are.long in
@@ -44,9 +44,9 @@ accepted_push m rules states accepted n x are e = record {
   ];
 }
 
-pub row_push : (m : Machine) (states words targets : List ℕ) (i c x : ℕ) → AreRows m states words targets (i * m.width + c) → c < m.width →
-    x ≡ word_of words (class_target m (slice_index states i) c) → AreRows m states words (targets ++ x ∷ []) (i * m.width + (c + 1))
-row_push m states words targets i c x are l e = record {
+pub row_push : (m : Machine) (states encoded_options targets : List ℕ) (i c x : ℕ) → AreRows m states encoded_options targets (i * m.width + c) → c < m.width →
+    x ≡ encoded_option_of encoded_options (class_target m (slice_index states i) c) → AreRows m states encoded_options (targets ++ x ∷ []) (i * m.width + (c + 1))
+row_push m states encoded_options targets i c x are l e = record {
   long = (let a = length_push targets x in let b = are.long in omega arith);
   each = λ t k hk h. elim (cases_lt (t * m.width + k) (i * m.width + c)) [
     | inl j ↦ rw (get_or_append_left targets (x ∷ []) 0 (t * m.width + k) (let b = are.long in omega arith)) (are.each t k hk j)

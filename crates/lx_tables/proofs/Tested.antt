@@ -14,7 +14,7 @@ use Rattle.lx_spec.specs.Invariant.{are_steps}
 use Rattle.lx_tables.specs.Limits.{IsMachineFor, are_rules, is_start, have_lengths, are_in_range}
 use Rattle.lx_tables.specs.Views.{rule_view, rules_view}
 use Rattle.lx_tables.specs.declared.table_rule.TableRule.{TableRule as CodeRule}
-use Rattle.lx_tables.proofs.Reading.{word_at, decoded_option-some, word_above}
+use Rattle.lx_tables.proofs.EncodedOptions.{encoded_option_at, decoded_option-some, encoded_option_above}
 
 eqb-refl : (n : ℕ) → (n == n) ≡ true
 eqb-refl n = elim (eqb_tells n n) [ inl t ↦ t.0 | inr t ↦ absurd (t.1 refl) ]
@@ -29,11 +29,11 @@ pub all_of : {A : Type 0} (p : A → Bool) (d : A) (xs : List A) → ((k : ℕ) 
 all_of p d [] h = refl
 all_of p d (x ∷ xs) h = and_from (p x) (list_all p xs) (h 0 (omega arith)) (all_of p d xs (λ k l. h (suc k) (omega arith)))
 
--- no word is above, not even that past the end, which is 0
-word_within : (n : ℕ) (ws : List ℕ) → list_all (λ w. nat_le w n) ws ≡ true → (i : ℕ) → slice_index ws i ≤ n
-word_within n [] h i = omega arith
-word_within n (w ∷ ws) h zero = leb-true w n (and_parts (nat_le w n) (list_all (λ w. nat_le w n) ws) h).0
-word_within n (w ∷ ws) h (suc i) = word_within n ws (and_parts (nat_le w n) (list_all (λ w. nat_le w n) ws) h).1 i
+-- no encoded option is above, not even that past the end, which is 0
+encoded_option_within : (n : ℕ) (ws : List ℕ) → list_all (λ w. nat_le w n) ws ≡ true → (i : ℕ) → slice_index ws i ≤ n
+encoded_option_within n [] h i = omega arith
+encoded_option_within n (w ∷ ws) h zero = leb-true w n (and_parts (nat_le w n) (list_all (λ w. nat_le w n) ws) h).0
+encoded_option_within n (w ∷ ws) h (suc i) = encoded_option_within n ws (and_parts (nat_le w n) (list_all (λ w. nat_le w n) ws) h).1 i
 
 module _ (rules : ℕ) (starts : List (ℕ × ℕ)) (classes : List ℕ) (width : ℕ) (accepted targets : List ℕ) where
   abbrev m : Machine
@@ -84,10 +84,10 @@ module _ (rules : ℕ) (starts : List (ℕ × ℕ)) (classes : List ℕ) (width 
       let long = lengths_of h in
       let a = and_parts (list_all (is_start (length accepted)) starts) _ g in
       let b = and_parts (list_all (λ class. nat_lt class width) classes) _ a.1 in
-      let c = and_parts (list_all (λ word. nat_le word rules) accepted) _ b.1 in
+      let c = and_parts (list_all (λ encoded_option. nat_le encoded_option rules) accepted) _ b.1 in
       let accepts : (s r : ℕ) → accepted_by m s ≡ Some r → r < rules = λ s r e.
-      let w = word_above (slice_index accepted s) r (sym (word_at accepted s) ∙ e) in
-      let l = word_within rules accepted c.0 s in
+      let w = encoded_option_above (slice_index accepted s) r (sym (encoded_option_at accepted s) ∙ e) in
+      let l = encoded_option_within rules accepted c.0 s in
       omega arith in
       record {
         machine = record {
@@ -99,8 +99,8 @@ module _ (rules : ℕ) (starts : List (ℕ × ℕ)) (classes : List ℕ) (width 
           narrow = long.narrow;
           rows = length-map targets decoded_option ∙ long.rows ∙ ap (λ n. n * width) (sym states);
           closed = λ s class t hs hc e.
-              let w = word_above (slice_index targets (s * width + class)) t (sym (word_at targets (s * width + class)) ∙ e) in
-              let l = word_within (length accepted) targets c.1 (s * width + class) in
+              let w = encoded_option_above (slice_index targets (s * width + class)) t (sym (encoded_option_at targets (s * width + class)) ∙ e) in
+              let l = encoded_option_within (length accepted) targets c.1 (s * width + class) in
               omega (arith, states);
           states = (let n = long.counted in omega (arith, states));
           rules = λ s r e. let l = accepts s r e in omega arith;
@@ -134,14 +134,14 @@ module _ (rules : ℕ) (starts : List (ℕ × ℕ)) (classes : List ℕ) (width 
               let c : i % width < width = mod-lt i wide in
               let s : i / width < length accepted = (div-lt_iff_lt-mul wide).1 (omega arith) in
               let t = is.machine.closed (i / width) (i % width) (slice_index targets i - 1) (omega (arith, states)) c
-              (ap (λ k. slice_index_or (map decoded_option targets) k None) parts ∙ word_at targets i ∙ decoded_option-some (slice_index targets i) e) in
+              (ap (λ k. slice_index_or (map decoded_option targets) k None) parts ∙ encoded_option_at targets i ∙ decoded_option-some (slice_index targets i) e) in
               omega (arith, states)
         ]
 
     accepted_within : (s : ℕ) → s < length accepted → slice_index accepted s ≤ rules
     accepted_within s l = elim (cases_eq (slice_index accepted s) 0) [
       | inl e ↦ omega arith
-      | inr e ↦ let r = is.accepted s (slice_index accepted s - 1) (word_at accepted s ∙ decoded_option-some (slice_index accepted s) e) in omega arith
+      | inr e ↦ let r = is.accepted s (slice_index accepted s - 1) (encoded_option_at accepted s ∙ decoded_option-some (slice_index accepted s) e) in omega arith
     ]
 
     pub range_tested : are_in_range rules starts classes width accepted targets ≡ true
@@ -153,9 +153,9 @@ module _ (rules : ℕ) (starts : List (ℕ × ℕ)) (classes : List ℕ) (width 
         and_from (nat_lt (get_or starts k (0, 0)).0 (length accepted)) _ (lt-ltb (get_or starts k (0, 0)).0 (length accepted) (omega (arith, states))) (lt-ltb (get_or starts k (0, 0)).1 (length accepted) (omega (arith, states)))))
         (and_from (list_all (λ class. nat_lt class width) classes) _
         (all_of (λ class. nat_lt class width) 0 classes (λ k l. lt-ltb (slice_index classes k) width (is.machine.below k (let e = is.machine.bytes in omega arith))))
-        (and_from (list_all (λ word. nat_le word rules) accepted) _
-        (all_of (λ word. nat_le word rules) 0 accepted (λ k l. le-leb (slice_index accepted k) rules (accepted_within k l)))
-        (all_of (λ word. nat_le word (length accepted)) 0 targets (λ k l. le-leb (slice_index targets k) (length accepted) (target_within k l)))))
+        (and_from (list_all (λ encoded_option. nat_le encoded_option rules) accepted) _
+        (all_of (λ encoded_option. nat_le encoded_option rules) 0 accepted (λ k l. le-leb (slice_index accepted k) rules (accepted_within k l)))
+        (all_of (λ encoded_option. nat_le encoded_option (length accepted)) 0 targets (λ k l. le-leb (slice_index targets k) (length accepted) (target_within k l)))))
 
 -- the steps of the code's rules
 pub steps_are : (rules now : List CodeRule) (c k conditions kinds : ℕ) → now ≡ rules → c ≡ conditions → k ≡ kinds →

@@ -9,7 +9,7 @@ use Rattle.lx_tables.specs.Limits.{HasLimits}
 use Rattle.lx_tables.specs.Reading.{IsTextOf, IsNoText, own_text, IsClassed}
 use Rattle.lx_tables.specs.Readers.{by_bytes, read_text}
 use Rattle.lx_tables.specs.Texts.{text_1, text_2}
-use Rattle.lx_tables.proofs.Reading.{different}
+use Rattle.lx_tables.proofs.EncodedOptions.{different}
 use Rattle.lx_tables.proofs.FirstRead.{first_again}
 use Rattle.lx_tables.proofs.WholeRead.{second_again}
 use Rattle.lx_tables.proofs.ByBytes.{limits, limits_by_bytes, same_machine, same_by_bytes}

@@ -83,7 +83,7 @@ module _ (t : Table) (is : IsTable t) where
       ∙ ap (λ (xs : List (List ℕ)). with_rest xs behind) (map_same t.kinds)
 
   no_rule : TableRule
-  no_rule = record { cut = false; steps = [] }
+  no_rule = record { line_end = false; steps = [] }
 
   rules_read : (behind : List ℕ) → read_many read_rule (length t.rules) (flat_map rule_line t.rules ++ behind) ≡ with_rest t.rules behind
   rules_read behind =

@@ -8,7 +8,7 @@ use Rattle.lx_tables.specs.Texts.{text_1, text_2}
 
 -- a rule that returns this kind
 abbrev pub returns : Bool → ℕ → TableRule
-returns cut kind = record { cut = cut; steps = Return (Name kind) ∷ [] }
+returns line_end kind = record { line_end = line_end; steps = Return (Name kind) ∷ [] }
 
 abbrev pub three_rules_machine : Machine
 three_rules_machine = record {
@@ -24,7 +24,7 @@ abbrev pub three_rules : Table
 three_rules = record {
   machine = three_rules_machine;
   kinds = codes "ID" ∷ codes "NUM" ∷ [];
-  rules = returns false 0 ∷ returns false 1 ∷ record { cut = false; steps = [] } ∷ [];
+  rules = returns false 0 ∷ returns false 1 ∷ record { line_end = false; steps = [] } ∷ [];
 }
 
 abbrev pub line_end_machine : Machine

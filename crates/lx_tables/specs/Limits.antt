@@ -36,7 +36,7 @@ abbrev pub have_lengths : List (ℕ × ℕ) → List ℕ → ℕ → List ℕ �
 have_lengths starts classes width accepted targets =
     nat_lt 0 (length starts) && (nat_le (length starts) 64 && (length classes == 256 && (nat_le width 256 && (nat_le (length accepted) 16512 && length targets == length accepted * width))))
 
--- the numbers and words in them are in range, where there are so many rules
+-- the numbers and encoded options in them are in range, where there are so many rules
 abbrev pub are_in_range : ℕ → List (ℕ × ℕ) → List ℕ → ℕ → List ℕ → List ℕ → Bool
 are_in_range rules starts classes width accepted targets =
-    list_all (is_start (length accepted)) starts && (list_all (λ class. nat_lt class width) classes && (list_all (λ word. nat_le word rules) accepted && list_all (λ word. nat_le word (length accepted)) targets))
+    list_all (is_start (length accepted)) starts && (list_all (λ class. nat_lt class width) classes && (list_all (λ encoded_option. nat_le encoded_option rules) accepted && list_all (λ encoded_option. nat_le encoded_option (length accepted)) targets))

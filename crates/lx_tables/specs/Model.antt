@@ -11,7 +11,7 @@ use Rattle.lx_auto.specs.Meaning.{IsAutomatonOf}
 
 -- a rule: whether it ends with `$`, and what its action does
 pub record TableRule : Type 0 where
-  pub cut : Bool
+  pub line_end : Bool
   pub steps : List Step
 
 -- Tables: the automaton, the names of kinds, and the rules.
@@ -22,7 +22,7 @@ pub record Table : Type 0 where
 
 -- the rule with this number; where there is none, one that does nothing
 abbrev pub rule_at : Table → ℕ → TableRule
-rule_at table rule = slice_index_or table.rules rule (record { cut = false; steps = [] })
+rule_at table rule = slice_index_or table.rules rule (record { line_end = false; steps = [] })
 
 -- the kind with this number
 abbrev pub kind_at : Table → ℕ → List ℕ
@@ -50,9 +50,9 @@ pub record AreByteClasses (m : Machine) : Type 0 where
 
 -- what tables keep of a rule of a specification
 abbrev pub table_rule : PlainRule → TableRule
-table_rule rule = record { cut = rule.reading.line_end; steps = rule.steps }
+table_rule rule = record { line_end = rule.reading.line_end; steps = rule.steps }
 
--- Tables of a specification: their automaton is one of it, and they have its kinds, and of its rules the cuts and the steps.
+-- Tables of a specification: their automaton is one of it, and they have its kinds, and of its rules the line ends and the steps.
 pub record AreTablesOf (spec : PlainSpec) (table : Table) : Type 0 where
   pub automaton : IsAutomatonOf spec table.machine
   pub kinds : table.kinds ≡ spec.kinds

@@ -3,28 +3,28 @@ use Rattle.std.specs.Prelude.{◌≡◌, ◌≢◌, ℕ, ◌+◌, ◌-◌, ◌*�
 use Rattle.lx_auto.specs.Automata.{Machine, accepted_by, class_target}
 use Rattle.lx_auto.specs.EncodedOptions.{decoded_option}
 
--- how many of the words are 0
+-- how many of the encoded options are 0
 abbrev pub zeros : List ℕ → ℕ
 zeros [] = 0
-zeros (word ∷ words) = (if word == 0 then 1 else 0) + zeros words
+zeros (encoded_option ∷ encoded_options) = (if encoded_option == 0 then 1 else 0) + zeros encoded_options
 
 -- The states that were met, in that order; and of each state 0 before it is met, or one more than its place there.
-pub record AreMet (states words : List ℕ) : Type 0 where
-  pub room : length states + zeros words ≡ length words
-  pub below : (i : ℕ) → i < length states → slice_index states i < length words
-  pub placed : (i : ℕ) → i < length states → slice_index words (slice_index states i) ≡ i + 1
-  pub within : (s : ℕ) → s < length words → slice_index words s ≢ 0 → slice_index words s ≤ length states
-  pub found : (s : ℕ) → s < length words → slice_index words s ≢ 0 → slice_index states (slice_index words s - 1) ≡ s
+pub record AreMet (states encoded_options : List ℕ) : Type 0 where
+  pub room : length states + zeros encoded_options ≡ length encoded_options
+  pub below : (i : ℕ) → i < length states → slice_index states i < length encoded_options
+  pub placed : (i : ℕ) → i < length states → slice_index encoded_options (slice_index states i) ≡ i + 1
+  pub within : (s : ℕ) → s < length encoded_options → slice_index encoded_options s ≢ 0 → slice_index encoded_options s ≤ length states
+  pub found : (s : ℕ) → s < length encoded_options → slice_index encoded_options s ≢ 0 → slice_index states (slice_index encoded_options s - 1) ≡ s
 
 -- every state was met
-pub record AreAllMet (states words : List ℕ) : Type 0 where
-  pub met : AreMet states words
-  pub each : (s : ℕ) → s < length words → slice_index words s ≢ 0
+pub record AreAllMet (states encoded_options : List ℕ) : Type 0 where
+  pub met : AreMet states encoded_options
+  pub each : (s : ℕ) → s < length encoded_options → slice_index encoded_options s ≢ 0
 
--- the word of a target, 0 where there is none
-abbrev pub word_of : List ℕ → Option ℕ → ℕ
-word_of words None = 0
-word_of words (Some s) = slice_index words s
+-- the encoded option of a target, 0 where there is none
+abbrev pub encoded_option_of : List ℕ → Option ℕ → ℕ
+encoded_option_of encoded_options None = 0
+encoded_option_of encoded_options (Some s) = slice_index encoded_options s
 
 -- the rule, where it is one of so many
 abbrev pub rule_below : ℕ → Option ℕ → Option ℕ
@@ -32,18 +32,18 @@ rule_below rules None = None
 rule_below rules (Some rule) = if nat_lt rule rules then Some rule else None
 
 -- the first n of the starts by their new numbers
-pub record AreStarts (m : Machine) (words : List ℕ) (starts : List (ℕ × ℕ)) (n : ℕ) : Type 0 where
+pub record AreStarts (m : Machine) (encoded_options : List ℕ) (starts : List (ℕ × ℕ)) (n : ℕ) : Type 0 where
   pub long : length starts ≡ n
-  pub elsewhere : (c : ℕ) → c < n → (slice_index_or starts c (0, 0)).0 + 1 ≡ slice_index words (slice_index_or m.starts c (0, 0)).0
-  pub at_begin : (c : ℕ) → c < n → (slice_index_or starts c (0, 0)).1 + 1 ≡ slice_index words (slice_index_or m.starts c (0, 0)).1
+  pub elsewhere : (c : ℕ) → c < n → (slice_index_or starts c (0, 0)).0 + 1 ≡ slice_index encoded_options (slice_index_or m.starts c (0, 0)).0
+  pub at_begin : (c : ℕ) → c < n → (slice_index_or starts c (0, 0)).1 + 1 ≡ slice_index encoded_options (slice_index_or m.starts c (0, 0)).1
 
--- of the first n states the words of the rules that they accept, where those are below
+-- of the first n states the encoded options of the rules that they accept, where those are below
 pub record AreAccepted (m : Machine) (rules : ℕ) (states accepted : List ℕ) (n : ℕ) : Type 0 where
   pub long : length accepted ≡ n
   pub each : (i : ℕ) → i < n → decoded_option (slice_index accepted i) ≡ rule_below rules (accepted_by m (slice_index states i))
 
--- the first n words of the rows in the new order
-pub record AreRows (m : Machine) (states words targets : List ℕ) (n : ℕ) : Type 0 where
+-- the first n encoded options of the rows in the new order
+pub record AreRows (m : Machine) (states encoded_options targets : List ℕ) (n : ℕ) : Type 0 where
   pub long : length targets ≡ n
   pub each : (i c : ℕ) → c < m.width → i * m.width + c < n →
-      slice_index targets (i * m.width + c) ≡ word_of words (class_target m (slice_index states i) c)
+      slice_index targets (i * m.width + c) ≡ encoded_option_of encoded_options (class_target m (slice_index states i) c)

@@ -81,7 +81,7 @@ read_steps (suc most) text =
     else ([], drop 1 text)
 
 abbrev pub read_rule : List ℕ → TableRule × List ℕ
-read_rule text = let steps = read_steps (length text) (drop 6 text) in (record { cut = slice_index text 5 == 49; steps = steps.0 }, steps.1)
+read_rule text = let steps = read_steps (length text) (drop 6 text) in (record { line_end = slice_index text 5 == 49; steps = steps.0 }, steps.1)
 
 -- conditions, kinds and rules
 pub record Front : Type 0 where

@@ -27,13 +27,13 @@ step_text (Return (Name k)) = codes " k" ++ number k
 step_text (Return (Number n)) = codes " n" ++ number n
 
 -- 1 where the rule ends with `$`
-abbrev pub cut_text : Bool → List ℕ
-cut_text true = codes "1"
-cut_text false = codes "0"
+abbrev pub line_end_text : Bool → List ℕ
+line_end_text true = codes "1"
+line_end_text false = codes "0"
 
 -- `rule Q` and steps
 abbrev pub rule_line : TableRule → List ℕ
-rule_line rule = codes "rule " ++ cut_text rule.cut ++ flat_map step_text rule.steps ++ codes "\n"
+rule_line rule = codes "rule " ++ line_end_text rule.line_end ++ flat_map step_text rule.steps ++ codes "\n"
 
 -- bytes `low` to `high`, where they have a value
 abbrev pub range_text : ℕ → ℕ → Option ℕ → List ℕ

@@ -9,7 +9,7 @@ use Rattle.lx_tables.specs.declared.raw.RawTables.{RawTables}
 use Rattle.lx_tables.specs.declared.table_rule.TableRule.{TableRule as CodeRule}
 
 abbrev pub rule_view : CodeRule → TableRule
-rule_view rule = record { cut = rule.cut; steps = rule.steps }
+rule_view rule = record { line_end = rule.line_end; steps = rule.steps }
 
 abbrev pub rules_view : List CodeRule → List TableRule
 rules_view rules = map rule_view rules

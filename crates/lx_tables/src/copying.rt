@@ -1,4 +1,4 @@
-// What tables have of a specification: its kinds, and of its rules the cuts and the steps.
+// What tables have of a specification: its kinds, and of its rules the line ends and the steps.
 
 ghost use Rattle.std.specs.Prelude.{◌≡◌, IfOk, map};
 ghost use Rattle.lx_spec.specs.views.Specs.{spec_view};
@@ -21,7 +21,7 @@ pub(crate) fn kinds_of(alloc: Global, spec: &Spec) -> Result<Vec<Vec<u8>>, Alloc
     Ok(kinds)
 }
 
-/// The cuts and the steps of the rules.
+/// The line ends and the steps of the rules.
 pub(crate) fn rules_of(alloc: Global, spec: &Spec) -> Result<Vec<TableRule>, AllocError>
     ensures { IfOk result (λ rules. rules_view rules.items ≡ map table_rule (spec_view spec.now).rules) }
 {
@@ -29,7 +29,7 @@ pub(crate) fn rules_of(alloc: Global, spec: &Spec) -> Result<Vec<TableRule>, All
     for rule in &spec.rules {
         let steps = rule.action.clone()?;
         rules.push(TableRule {
-            cut: rule.pattern.line_end,
+            line_end: rule.pattern.line_end,
             steps,
         })?;
     }

@@ -39,8 +39,8 @@ pub(crate) fn count(text: &[u8], word: usize, most: u32) -> (u32, &[u8])
     (n.min(most), behind(rest, 1))
 }
 
-/// The word of a number: one more where it is one of so many, else 0.
-fn word_below(limit: u32, n: u32) -> u16
+/// A number as an encoded option: one more where it is one of so many, else 0.
+fn encoded_option_below(limit: u32, n: u32) -> u16
     requires { limit < 65536 }
     ensures { decoded_option result ≡ below limit n }
 {
@@ -117,7 +117,7 @@ pub(crate) fn step(text: &[u8]) -> (Step, &[u8])
     (numbered_step(*letter, n), more)
 }
 
-/// The word of the rule that a state accepts.
+/// The rule that a state accepts, as an encoded option.
 pub(crate) fn accepts(text: &[u8]) -> (u16, &[u8])
     ensures { (decoded_option result.0, result.1.now) ≡ read_accepts text.now }
 {
@@ -125,7 +125,7 @@ pub(crate) fn accepts(text: &[u8]) -> (u16, &[u8])
     if byte_at(rest, 0) == b'-' {
         return (0, behind(rest, 1));
     }
-    (word_below(4096, rule), rest)
+    (encoded_option_below(4096, rule), rest)
 }
 
 /// A range of bytes: its first, the one behind its last, and its value.
@@ -147,7 +147,7 @@ fn entry(text: &[u8]) -> ((u32, u32, u32), &[u8])
     ((class, class + 1, target), rest)
 }
 
-/// The next places with one value: the first, the one behind the last, and the word of the value.
+/// The next places with one value: the first, the one behind the last, and the value.
 pub(crate) fn run(text: &[u8], version: Version) -> ((u32, u32, u32), &[u8])
     ensures { (result.0, result.1.now) ≡ read_run version text.now }
 {
@@ -157,9 +157,9 @@ pub(crate) fn run(text: &[u8], version: Version) -> ((u32, u32, u32), &[u8])
     }
 }
 
-/// The word of a run's value, which is 0 where that is no number of a state.
-pub(crate) fn value_word(value: u32) -> u16
+/// A run's value as an encoded option, which is 0 where that is no number of a state.
+pub(crate) fn encoded_value(value: u32) -> u16
     ensures { decoded_option result ≡ below 16512 value }
 {
-    word_below(16512, value)
+    encoded_option_below(16512, value)
 }

@@ -7,7 +7,9 @@ ghost use Rattle.lx_tables.specs.Readers.{onto, state_onto, read_list, read_star
 ghost use Rattle.lx_tables.specs.Texts.{all_bytes};
 ghost use Rattle.lx_tables.specs.Views.{rule_view, rules_view, front_view, raw_view};
 
-use crate::fields::{accepts, behind, byte_at, clamped, count, kind, run, start, step, value_word};
+use crate::fields::{
+    accepts, behind, byte_at, clamped, count, encoded_value, kind, run, start, step,
+};
 use crate::raw::{RawFront, RawTables};
 use crate::table_rule::TableRule;
 use crate::version::Version;
@@ -65,10 +67,10 @@ fn steps(alloc: Global, text: &[u8], most: usize) -> Result<(Vec<Step>, &[u8]), 
 fn rule(alloc: Global, text: &[u8]) -> Result<(TableRule, &[u8]), AllocError>
     ensures { IfOk result (λ r. (rule_view r.0, r.1.now) ≡ read_rule text.now) }
 {
-    let cut = byte_at(text, 5) == b'1';
+    let line_end = byte_at(text, 5) == b'1';
     let (steps, rest) = steps(alloc, behind(text, 6), text.len())?;
     let steps = Steps::from_vec(steps)?;
-    Ok((TableRule { cut, steps }, rest))
+    Ok((TableRule { line_end, steps }, rest))
 }
 
 /// A count of rules and their lines.
@@ -103,24 +105,28 @@ fn front(alloc: Global, text: &[u8]) -> Result<(RawFront, &[u8]), AllocError>
     ))
 }
 
-/// Adds a word so many times.
-fn push_many(words: &mut Vec<u16>, times: u32, word: u16) -> Result<(), AllocError>
-    ensures { OnOk result (words.new.items ≡ words.old.items ++ replicate times word) }
+/// Adds an encoded option so many times.
+fn push_many(
+    encoded_options: &mut Vec<u16>,
+    times: u32,
+    encoded_option: u16,
+) -> Result<(), AllocError>
+    ensures { OnOk result (encoded_options.new.items ≡ encoded_options.old.items ++ replicate times encoded_option) }
 {
     for _ in 0..times {
-        words.push(word)?;
+        encoded_options.push(encoded_option)?;
     }
     Ok(())
 }
 
-/// Adds the words of so many places, and gives what stands behind them.
+/// Adds the encoded options of so many places, and gives what stands behind them.
 fn row<'a>(
     text: &'a [u8],
     version: Version,
     width: u32,
-    words: &mut Vec<u16>,
+    encoded_options: &mut Vec<u16>,
 ) -> Result<&'a [u8], AllocError>
-    ensures { IfOk result (λ rest. (map decoded_option words.new.items, rest.now) ≡ onto (map decoded_option words.old.items) (read_row version width width 0 text.now)) }
+    ensures { IfOk result (λ rest. (map decoded_option encoded_options.new.items, rest.now) ≡ onto (map decoded_option encoded_options.old.items) (read_row version width width 0 text.now)) }
 {
     let mut from = 0;
     let mut rest = text;
@@ -129,13 +135,13 @@ fn row<'a>(
         let ((first, last, value), more) = run(rest, version);
         let low = clamped(from, width, first);
         let end = clamped(low, width, last);
-        push_many(words, low - from, 0)?;
-        push_many(words, end - low, value_word(value))?;
+        push_many(encoded_options, low - from, 0)?;
+        push_many(encoded_options, end - low, encoded_value(value))?;
         from = end;
         rest = more;
         left -= 1;
     }
-    push_many(words, width - from, 0)?;
+    push_many(encoded_options, width - from, 0)?;
     Ok(rest)
 }
 
@@ -149,13 +155,13 @@ fn state<'a>(
 ) -> Result<&'a [u8], AllocError>
     ensures { IfOk result (λ rest. (map decoded_option accepted.new.items, map decoded_option targets.new.items, rest.now) ≡ state_onto (map decoded_option accepted.old.items) (map decoded_option targets.old.items) (read_state version width text.now)) }
 {
-    let (word, rest) = accepts(behind(text, 6));
-    accepted.push(word)?;
+    let (encoded_option, rest) = accepts(behind(text, 6));
+    accepted.push(encoded_option)?;
     let rest = row(rest, version, width, targets)?;
     Ok(behind(rest, 1))
 }
 
-/// A count of states and their lines: the words of the rules that they accept, and their rows.
+/// A count of states and their lines: the encoded options of the rules that they accept, and their rows.
 fn states(
     alloc: Global,
     text: &[u8],
@@ -174,24 +180,24 @@ fn states(
     Ok((accepted, targets))
 }
 
-/// The class of a word that was read.
-fn class_of_word(word: u16) -> u8
-    ensures { result ≡ class_of (decoded_option word) }
+/// The class of an encoded option that was read.
+fn class_of_encoded_option(encoded_option: u16) -> u8
+    ensures { result ≡ class_of (decoded_option encoded_option) }
 {
-    if word == 0 || word > 256 {
+    if encoded_option == 0 || encoded_option > 256 {
         0
     } else {
-        (word - 1) as u8
+        (encoded_option - 1) as u8
     }
 }
 
-/// The classes of words that were read.
-fn classes_of_words(alloc: Global, words: &[u16]) -> Result<Vec<u8>, AllocError>
-    ensures { IfOk result (λ classes. classes.items ≡ map class_of (map decoded_option words.now)) }
+/// The classes of encoded options that were read.
+fn classes_of_encoded_options(alloc: Global, encoded_options: &[u16]) -> Result<Vec<u8>, AllocError>
+    ensures { IfOk result (λ classes. classes.items ≡ map class_of (map decoded_option encoded_options.now)) }
 {
     let mut classes = Vec::new(alloc);
-    for word in words {
-        classes.push(class_of_word(*word))?;
+    for encoded_option in encoded_options {
+        classes.push(class_of_encoded_option(*encoded_option))?;
     }
     Ok(classes)
 }
@@ -200,9 +206,9 @@ fn classes_of_words(alloc: Global, words: &[u16]) -> Result<Vec<u8>, AllocError>
 fn classes(alloc: Global, text: &[u8]) -> Result<(Vec<u8>, &[u8]), AllocError>
     ensures { IfOk result (λ r. (r.0.items, r.1.now) ≡ read_classes text.now) }
 {
-    let mut words = Vec::new(alloc);
-    let rest = row(text, Version::First, 256, &mut words)?;
-    Ok((classes_of_words(alloc, &words)?, rest))
+    let mut encoded_options = Vec::new(alloc);
+    let rest = row(text, Version::First, 256, &mut encoded_options)?;
+    Ok((classes_of_encoded_options(alloc, &encoded_options)?, rest))
 }
 
 /// The bytes, each as a class of its own.

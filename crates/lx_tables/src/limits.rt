@@ -42,11 +42,13 @@ fn are_classes(classes: &[u8], width: usize) -> bool
     classes.iter().all(|class| usize::from(*class) < width)
 }
 
-/// Whether each word is 0, or one more than a number below.
-fn are_words(words: &[u16], numbers: usize) -> bool
-    ensures { result ≡ list_all (λ word. nat_le word numbers) words.now }
+/// Whether each encoded option is 0, or one more than a number below.
+fn are_encoded_options(encoded_options: &[u16], numbers: usize) -> bool
+    ensures { result ≡ list_all (λ encoded_option. nat_le encoded_option numbers) encoded_options.now }
 {
-    words.iter().all(|word| usize::from(*word) <= numbers)
+    encoded_options
+        .iter()
+        .all(|encoded_option| usize::from(*encoded_option) <= numbers)
 }
 
 fn are_in_range(raw: &RawTables) -> bool
@@ -55,8 +57,8 @@ fn are_in_range(raw: &RawTables) -> bool
     let states = raw.accepted.len();
     are_starts(&raw.starts, states)
         && are_classes(&raw.classes, raw.width)
-        && are_words(&raw.accepted, raw.rules.len())
-        && are_words(&raw.targets, states)
+        && are_encoded_options(&raw.accepted, raw.rules.len())
+        && are_encoded_options(&raw.targets, states)
 }
 
 fn is_machine(raw: &RawTables) -> bool

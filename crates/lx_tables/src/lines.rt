@@ -6,7 +6,7 @@ ghost use Rattle.lx_auto.specs.Automata.{state_count};
 ghost use Rattle.lx_auto.specs.EncodedOptions.{decoded_option};
 ghost use Rattle.lx_tables.specs.Lines.{value_of, HasState, targets_text, state_line};
 ghost use Rattle.lx_tables.specs.Output.{Wrote, WrotePrefix};
-ghost use Rattle.lx_tables.specs.Texts.{start_line, kind_line, step_text, cut_text, range_text, byte_ranges, accepts_text, entries_text, entry_text, class_line};
+ghost use Rattle.lx_tables.specs.Texts.{start_line, kind_line, step_text, line_end_text, range_text, byte_ranges, accepts_text, entries_text, entry_text, class_line};
 
 use crate::byte_values::ByteValues;
 use crate::tables::Tables;
@@ -68,11 +68,11 @@ fn write_steps<W: Write>(out: &mut W, steps: &[Step]) -> Result<(), io::Error>
     Ok(())
 }
 
-fn write_cut<W: Write>(out: &mut W, cut: bool) -> Result<(), io::Error>
-    ensures ok { OnOk result (Wrote (W.contents out.old) (W.contents out.new) (codes "rule " ++ cut_text cut)) }
-    ensures err { OnErr result (WrotePrefix (W.contents out.old) (W.contents out.new) (codes "rule " ++ cut_text cut)) }
+fn write_line_end<W: Write>(out: &mut W, line_end: bool) -> Result<(), io::Error>
+    ensures ok { OnOk result (Wrote (W.contents out.old) (W.contents out.new) (codes "rule " ++ line_end_text line_end)) }
+    ensures err { OnErr result (WrotePrefix (W.contents out.old) (W.contents out.new) (codes "rule " ++ line_end_text line_end)) }
 {
-    if cut {
+    if line_end {
         write_bytes(out, b"rule 1")
     } else {
         write_bytes(out, b"rule 0")
@@ -80,32 +80,41 @@ fn write_cut<W: Write>(out: &mut W, cut: bool) -> Result<(), io::Error>
 }
 
 /// Writes the line of a rule.
-pub(crate) fn write_rule<W: Write>(out: &mut W, cut: bool, steps: &[Step]) -> Result<(), io::Error>
-    ensures ok { OnOk result (Wrote (W.contents out.old) (W.contents out.new) (codes "rule " ++ cut_text cut ++ flat_map step_text steps.now ++ codes "\n")) }
-    ensures err { OnErr result (WrotePrefix (W.contents out.old) (W.contents out.new) (codes "rule " ++ cut_text cut ++ flat_map step_text steps.now ++ codes "\n")) }
+pub(crate) fn write_rule<W: Write>(
+    out: &mut W,
+    line_end: bool,
+    steps: &[Step],
+) -> Result<(), io::Error>
+    ensures ok { OnOk result (Wrote (W.contents out.old) (W.contents out.new) (codes "rule " ++ line_end_text line_end ++ flat_map step_text steps.now ++ codes "\n")) }
+    ensures err { OnErr result (WrotePrefix (W.contents out.old) (W.contents out.new) (codes "rule " ++ line_end_text line_end ++ flat_map step_text steps.now ++ codes "\n")) }
 {
-    write_cut(out, cut)?;
+    write_line_end(out, line_end)?;
     write_steps(out, steps)?;
     write_bytes(out, b"\n")
 }
 
-/// The value of a byte as a word: 0 for none, or one more.
-fn value_word(tables: &Tables, values: ByteValues, byte: u8) -> u16
+/// The value of a byte as an encoded option: 0 for none, or one more.
+fn encoded_value(tables: &Tables, values: ByteValues, byte: u8) -> u16
     requires { HasState tables.now.machine values }
     ensures { decoded_option result ≡ value_of tables.now.machine values byte }
 {
     let class = tables.class(byte);
     match values {
         ByteValues::Classes => u16::from(class) + 1,
-        ByteValues::Targets(state) => tables.word(state, class),
+        ByteValues::Targets(state) => tables.encoded_option(state, class),
     }
 }
 
-fn write_range<W: Write>(out: &mut W, low: u32, high: u32, word: u16) -> Result<(), io::Error>
-    ensures ok { OnOk result (Wrote (W.contents out.old) (W.contents out.new) (range_text low high (decoded_option word))) }
-    ensures err { OnErr result (WrotePrefix (W.contents out.old) (W.contents out.new) (range_text low high (decoded_option word))) }
+fn write_range<W: Write>(
+    out: &mut W,
+    low: u32,
+    high: u32,
+    encoded_option: u16,
+) -> Result<(), io::Error>
+    ensures ok { OnOk result (Wrote (W.contents out.old) (W.contents out.new) (range_text low high (decoded_option encoded_option))) }
+    ensures err { OnErr result (WrotePrefix (W.contents out.old) (W.contents out.new) (range_text low high (decoded_option encoded_option))) }
 {
-    if word == 0 {
+    if encoded_option == 0 {
         return Ok(());
     }
     let mut first = Buffer::new();
@@ -119,7 +128,7 @@ fn write_range<W: Write>(out: &mut W, low: u32, high: u32, word: u16) -> Result<
             b"-",
             last.format(high).as_bytes(),
             b":",
-            value.format(word - 1).as_bytes(),
+            value.format(encoded_option - 1).as_bytes(),
         ],
     )
 }
@@ -131,10 +140,10 @@ fn write_ranges<W: Write>(out: &mut W, tables: &Tables, values: ByteValues) -> R
     ensures err { OnErr result (WrotePrefix (W.contents out.old) (W.contents out.new) (byte_ranges (value_of tables.now.machine values))) }
 {
     let mut low: u32 = 0;
-    let mut value = value_word(tables, values, 0);
+    let mut value = encoded_value(tables, values, 0);
     let mut at: u32 = 1;
     while at < 256 {
-        let next = value_word(tables, values, at as u8);
+        let next = encoded_value(tables, values, at as u8);
         if next != value {
             write_range(out, low, at - 1, value)?;
             low = at;
@@ -145,11 +154,11 @@ fn write_ranges<W: Write>(out: &mut W, tables: &Tables, values: ByteValues) -> R
     write_range(out, low, 255, value)
 }
 
-fn write_entry<W: Write>(out: &mut W, class: u16, word: u16) -> Result<(), io::Error>
-    ensures ok { OnOk result (Wrote (W.contents out.old) (W.contents out.new) (entry_text class (decoded_option word))) }
-    ensures err { OnErr result (WrotePrefix (W.contents out.old) (W.contents out.new) (entry_text class (decoded_option word))) }
+fn write_entry<W: Write>(out: &mut W, class: u16, encoded_option: u16) -> Result<(), io::Error>
+    ensures ok { OnOk result (Wrote (W.contents out.old) (W.contents out.new) (entry_text class (decoded_option encoded_option))) }
+    ensures err { OnErr result (WrotePrefix (W.contents out.old) (W.contents out.new) (entry_text class (decoded_option encoded_option))) }
 {
-    if word == 0 {
+    if encoded_option == 0 {
         return Ok(());
     }
     let mut first = Buffer::new();
@@ -160,7 +169,7 @@ fn write_entry<W: Write>(out: &mut W, class: u16, word: u16) -> Result<(), io::E
             b" ",
             first.format(class).as_bytes(),
             b":",
-            second.format(word - 1).as_bytes(),
+            second.format(encoded_option - 1).as_bytes(),
         ],
     )
 }
@@ -172,7 +181,7 @@ fn write_entries<W: Write>(out: &mut W, tables: &Tables, state: u32) -> Result<(
     ensures err { OnErr result (WrotePrefix (W.contents out.old) (W.contents out.new) (entries_text tables.now.machine state)) }
 {
     for class in 0..tables.classes() {
-        write_entry(out, class, tables.word(state, class as u8))?;
+        write_entry(out, class, tables.encoded_option(state, class as u8))?;
     }
     Ok(())
 }

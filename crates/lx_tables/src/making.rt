@@ -7,8 +7,8 @@ ghost use Rattle.lx_auto.specs.Meaning.{IsAutomatonOf};
 ghost use Rattle.lx_tables.specs.Model.{AreTablesOf};
 
 use crate::copying::{kinds_of, rules_of};
-use crate::numbering::numbering_of;
 use crate::reordering::{accepted_of, classes_of, rows_of, starts_of};
+use crate::state_order::state_order_of;
 use crate::tables::Tables;
 use lx_auto::Automaton;
 use lx_spec::read::specs_are_well_formed;
@@ -25,11 +25,11 @@ impl Tables {
         ensures answers { IfOk result (λ tables. AreEquivalentMachines automaton.now tables.machine) }
     {
         specs_are_well_formed();
-        let numbering = numbering_of(alloc, automaton)?;
-        let starts = starts_of(alloc, automaton, &numbering)?;
+        let state_order = state_order_of(alloc, automaton)?;
+        let starts = starts_of(alloc, automaton, &state_order)?;
         let classes = classes_of(alloc, automaton)?;
-        let accepted = accepted_of(alloc, automaton, &numbering, spec.rules.len() as u16)?;
-        let targets = rows_of(alloc, automaton, &numbering)?;
+        let accepted = accepted_of(alloc, automaton, &state_order, spec.rules.len() as u16)?;
+        let targets = rows_of(alloc, automaton, &state_order)?;
         let kinds = kinds_of(alloc, spec)?;
         let rules = rules_of(alloc, spec)?;
         let width = usize::from(automaton.classes());

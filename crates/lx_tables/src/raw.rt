@@ -12,7 +12,7 @@ pub(crate) struct RawFront {
     pub(crate) rules: Vec<TableRule>,
 }
 
-/// A table's lists: words are 0 for nothing, or one more than the number.
+/// A table's lists: encoded options are 0 for nothing, or one more than the number.
 #[derive(Drop)]
 pub(crate) struct RawTables {
     /// Of each condition the state without line begin and the state at line begin.
@@ -21,9 +21,9 @@ pub(crate) struct RawTables {
     pub(crate) classes: Vec<u8>,
     /// How many classes there are.
     pub(crate) width: usize,
-    /// Of each state the word of the rule that it accepts.
+    /// Of each state the encoded option of the rule that it accepts.
     pub(crate) accepted: Vec<u16>,
-    /// Row by row the words of where states step.
+    /// Row by row the encoded options of where states step.
     pub(crate) targets: Vec<u16>,
     /// The names of the kinds.
     pub(crate) kinds: Vec<Vec<u8>>,

@@ -5,6 +5,6 @@ use lx_spec::steps::Steps;
 /// A rule: whether it ends with `$`, and the steps of its action.
 #[derive(Drop)]
 pub(crate) struct TableRule {
-    pub(crate) cut: bool,
+    pub(crate) line_end: bool,
     pub(crate) steps: Steps,
 }

@@ -72,7 +72,7 @@ impl Tables {
     }
 
     /// Where a state steps on a class: 0 for nowhere, or one more than the target.
-    pub(crate) fn word(&self, state: u32, class: u8) -> u16
+    pub(crate) fn encoded_option(&self, state: u32, class: u8) -> u16
         requires state { state < state_count self.now.machine }
         requires class { class < self.now.machine.width }
         ensures { decoded_option result ≡ class_target self.now.machine state class }
@@ -111,9 +111,9 @@ impl Tables {
     /// Whether a rule ends with `$`, so that the newline behind its tokens is left away.
     pub fn cut(&self, rule: u16) -> bool
         requires { rule < length self.now.rules }
-        ensures { result ≡ (rule_at self.now rule).cut }
+        ensures { result ≡ (rule_at self.now rule).line_end }
     {
-        self.rules[rule as usize].cut
+        self.rules[rule as usize].line_end
     }
 
     /// The steps of a rule's action; a return stands last.

@@ -1,7 +1,7 @@
 use Rattle.std.proofs.Common.{sym, ◌∙◌, subst}
 use Rattle.lx_piece.specs.Relayed.{IsNextPiece, AreAtMost}
 use Rattle.lx_piece.proofs.Relays.{nexts, delivered_is_next, counts_follow, planned_delivered, fewer_held, counts_rise, risen_more, same_size}
-use Rattle.lx_piece.proofs.Standing.{same_site}
+use Rattle.lx_piece.proofs.Standing.{same_shape}
 use Rattle.lx_piece.proofs.relaying.deliver_all.Goals as goal
 
 pub take-requires-clause-next : goal.take-requires-clause-next
@@ -28,19 +28,19 @@ loop-piece-preserved g c =
       risen = risen_more _ _ _ _ _ h.0 c.in-Some.piece i.risen i.counts counts h.1;
       faults = took.no_fault ∙ i.faults;
       stands = λ came s. c.in-Some.ensures.stands came (i.stands came s);
-      site = same_site _ _ c.in-Some.ensures.run (same_size _ _ h.0 c.in-Some.piece h.1) ∙ i.site;
+      shape = same_shape _ _ c.in-Some.ensures.run (same_size _ _ h.0 c.in-Some.piece h.1) ∙ i.shape;
     }
 
 pub returns-in-Err-Device-clause-err : goal.returns-in-Err-Device-clause-err
 returns-in-Err-Device-clause-err g c =
     let h = c.in-Some.ensures.delivered in (
-      subst (λ counts. AreAtMost counts (nexts c.deliver.new.self.lanes)) (sym (c.in-Err-Device.ensures.err ∙ c.loop-piece.invariant.counts)) (counts_rise _ _ h.0 c.in-Some.piece h.1),
+      subst (λ counts. AreAtMost counts (nexts c.deliver.new.self.buffers)) (sym (c.in-Err-Device.ensures.err ∙ c.loop-piece.invariant.counts)) (counts_rise _ _ h.0 c.in-Some.piece h.1),
       subst (AreAtMost (g.R.Reader.counts c.args.reader.now)) (sym c.in-Err-Device.ensures.err) c.loop-piece.invariant.risen,
     )
 
 pub returns-in-Err-Memory-clause-err : goal.returns-in-Err-Memory-clause-err
 returns-in-Err-Memory-clause-err g c =
     let h = c.in-Some.ensures.delivered in (
-      subst (λ counts. AreAtMost counts (nexts c.deliver.new.self.lanes)) (sym (c.in-Err-Memory.ensures.err ∙ c.loop-piece.invariant.counts)) (counts_rise _ _ h.0 c.in-Some.piece h.1),
+      subst (λ counts. AreAtMost counts (nexts c.deliver.new.self.buffers)) (sym (c.in-Err-Memory.ensures.err ∙ c.loop-piece.invariant.counts)) (counts_rise _ _ h.0 c.in-Some.piece h.1),
       subst (AreAtMost (g.R.Reader.counts c.args.reader.now)) (sym c.in-Err-Memory.ensures.err) c.loop-piece.invariant.risen,
     )

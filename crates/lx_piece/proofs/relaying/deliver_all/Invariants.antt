@@ -1,6 +1,6 @@
 use Rattle.std.proofs.Common.{◌≡◌, List}
 use Rattle.lx_piece.specs.declared.piece.Piece.{Piece}
-use Rattle.lx_piece.specs.Kept.{StandsFor, site_of_kept, delivered_counts, held_total}
+use Rattle.lx_piece.specs.Kept.{StandsFor, shape_of_kept, delivered_counts, held_total}
 use Rattle.lx_piece.specs.Relayed.{HoldsPlanned, AreAtMost}
 use Rattle.lx_piece.proofs.relaying.deliver_all.Given as goal
 
@@ -10,13 +10,13 @@ invariant-loop-piece g l =
     record {
       plan : g.R.Reader.plan l.reader ≡ g.R.Reader.plan l.fn.reader;
       follows : g.R.Reader.follows l.fn.reader l.reader;
-      planned : HoldsPlanned (g.R.Reader.plan l.fn.reader) l.collector.lanes;
+      planned : HoldsPlanned (g.R.Reader.plan l.fn.reader) l.collector.buffers;
       counts : g.R.Reader.counts l.reader ≡ delivered_counts l.collector;
       risen : AreAtMost (g.R.Reader.counts l.fn.reader) (g.R.Reader.counts l.reader);
       faults : g.R.Reader.fault_count l.reader ≡ g.R.Reader.fault_count l.fn.reader;
       stands : (came : List Piece) → StandsFor l.fn.collector came → StandsFor l.collector came;
-      site : site_of_kept l.collector ≡ site_of_kept l.fn.collector;
+      shape : shape_of_kept l.collector ≡ shape_of_kept l.fn.collector;
     }
 
 abbrev pub decreases-loop-piece : goal.decreases-loop-piece
-decreases-loop-piece g l = held_total l.collector.lanes
+decreases-loop-piece g l = held_total l.collector.buffers

@@ -8,7 +8,7 @@ use Rattle.lx_piece.specs.Kept.{is_ready_at}
 use Rattle.lx_piece.specs.Relayed.{HoldsPlanned}
 use Rattle.lx_piece.proofs.SoFar.{SoFar}
 use Rattle.lx_piece.proofs.Whole.{whole}
-use Rattle.lx_piece.proofs.Deliveries.{part_at_start, fresh_site, fresh_delivered, fresh_ready, so_far_with, so_far_still, in_part_behind, in_part_with, planned_from}
+use Rattle.lx_piece.proofs.Deliveries.{part_at_start, fresh_shape, fresh_delivered, fresh_ready, so_far_with, so_far_still, in_part_behind, in_part_with, planned_from}
 use Rattle.lx_piece.proofs.relaying.relay.Goals as goal
 
 pub returns-in_err-collector-clause-err : goal.returns-in_err-collector-clause-err
@@ -25,8 +25,8 @@ loop-piece-init g c =
       follows = g.met.R.Reader.follows_itself _;
       counts = c.requires.nothing_taken ∙ fresh_delivered c.args.plan.now _ _ _ k.kept c.files.ensures.count;
       faults = refl;
-      site = fresh_site c.args.plan.now _ _ _ k.kept c.run.ensures c.files.ensures.count;
-      ready = λ file. ap (λ kept. is_ready_at (slice_get kept.lanes file)) k.kept ∙ fresh_ready c.files.result file;
+      shape = fresh_shape c.args.plan.now _ _ _ k.kept c.run.ensures c.files.ensures.count;
+      ready = λ file. ap (λ kept. is_ready_at (slice_get kept.buffers file)) k.kept ∙ fresh_ready c.files.result file;
       so_far = record { came = []; led = g.met.A.Arrivals.stays _; honest = All-nil (IsHonest c.args.plan.now); replied = c.new-replies.ensures.items; stands = k.stands };
     }
 
@@ -34,26 +34,26 @@ pub returns-in_err-reply-clause-err : goal.returns-in_err-reply-clause-err
 returns-in_err-reply-clause-err g c =
     let i = c.loop-piece.invariant in
     let p = err_from_is_err_and c.from_residual-in_err-reply.result c.from_residual-in_err-reply.ensures.1 in
-    rw p.1 (in_part_with c.args.plan.now g.A.Arrivals.leads g.met.A.Arrivals.goes_on _ _ _ c.loop-piece.collector _ _ c.in-Some.piece c.files.ensures.plan.some_items i.so_far c.in-Some.ensures.leads (subst (λ plan. IsHonest plan c.in-Some.piece) i.arrivals_plan c.in-Some.ensures.honest) i.site i.ready i.counts)
+    rw p.1 (in_part_with c.args.plan.now g.A.Arrivals.leads g.met.A.Arrivals.goes_on _ _ _ c.loop-piece.collector _ _ c.in-Some.piece c.files.ensures.plan.some_items i.so_far c.in-Some.ensures.leads (subst (λ plan. IsHonest plan c.in-Some.piece) i.arrivals_plan c.in-Some.ensures.honest) i.shape i.ready i.counts)
 
 pub deliver_all-requires-clause-planned : goal.deliver_all-requires-clause-planned
 deliver_all-requires-clause-planned g c =
     let i = c.loop-piece.invariant in
     let b = c.in_ok-reply.ensures in
     let honest = subst (λ plan. IsHonest plan c.in-Some.piece) i.arrivals_plan c.in-Some.ensures.honest in
-    let so = so_far_with c.args.plan.now g.A.Arrivals.leads g.met.A.Arrivals.goes_on _ _ _ c.loop-piece.collector c.offer_to.new.collector _ c.in-Some.piece c.in_ok-reply.reply i.so_far c.in-Some.ensures.leads honest i.site b.reply b.stands in
-    subst (λ plan. HoldsPlanned plan c.offer_to.new.collector.lanes) (sym i.reader_plan) (planned_from c.args.plan.now c.offer_to.new.collector so.came (b.site ∙ i.site) so.stands so.honest)
+    let so = so_far_with c.args.plan.now g.A.Arrivals.leads g.met.A.Arrivals.goes_on _ _ _ c.loop-piece.collector c.offer_to.new.collector _ c.in-Some.piece c.in_ok-reply.reply i.so_far c.in-Some.ensures.leads honest i.shape b.reply b.stands in
+    subst (λ plan. HoldsPlanned plan c.offer_to.new.collector.buffers) (sym i.reader_plan) (planned_from c.args.plan.now c.offer_to.new.collector so.came (b.shape ∙ i.shape) so.stands so.honest)
 
 pub returns-clause-ok : goal.returns-clause-ok
 returns-clause-ok g c =
     let i = c.loop-piece.invariant in
-    whole c.args.plan.now g.A.Arrivals.leads g.met.A.Arrivals.goes_on _ _ _ c.loop-piece.collector _ _ c.files.ensures.plan.some_items i.so_far c.in_default.ensures.leads.0 i.site i.ready i.counts
+    whole c.args.plan.now g.A.Arrivals.leads g.met.A.Arrivals.goes_on _ _ _ c.loop-piece.collector _ _ c.files.ensures.plan.some_items i.so_far c.in_default.ensures.leads.0 i.shape i.ready i.counts
 
 pub returns-in_err-push-clause-err : goal.returns-in_err-push-clause-err
 returns-in_err-push-clause-err g c =
     let i = c.loop-piece.invariant in
     let p = err_from_is_err_and c.from_residual-in_err-push.result c.from_residual-in_err-push.ensures.1 in
-    rw p.1 (in_part_with c.args.plan.now g.A.Arrivals.leads g.met.A.Arrivals.goes_on _ _ _ c.loop-piece.collector _ _ c.in-Some.piece c.files.ensures.plan.some_items i.so_far c.in-Some.ensures.leads (subst (λ plan. IsHonest plan c.in-Some.piece) i.arrivals_plan c.in-Some.ensures.honest) i.site i.ready i.counts)
+    rw p.1 (in_part_with c.args.plan.now g.A.Arrivals.leads g.met.A.Arrivals.goes_on _ _ _ c.loop-piece.collector _ _ c.in-Some.piece c.files.ensures.plan.some_items i.so_far c.in-Some.ensures.leads (subst (λ plan. IsHonest plan c.in-Some.piece) i.arrivals_plan c.in-Some.ensures.honest) i.shape i.ready i.counts)
 
 pub loop-piece-preserved : goal.loop-piece-preserved
 loop-piece-preserved g c =
@@ -61,7 +61,7 @@ loop-piece-preserved g c =
     let b = c.in_ok-reply.ensures in
     let h = c.in_ok-deliver_all.ensures in
     let honest = subst (λ plan. IsHonest plan c.in-Some.piece) i.arrivals_plan c.in-Some.ensures.honest in
-    let so = so_far_with c.args.plan.now g.A.Arrivals.leads g.met.A.Arrivals.goes_on _ _ _ c.loop-piece.collector c.offer_to.new.collector _ c.in-Some.piece c.in_ok-reply.reply i.so_far c.in-Some.ensures.leads honest i.site b.reply b.stands in
+    let so = so_far_with c.args.plan.now g.A.Arrivals.leads g.met.A.Arrivals.goes_on _ _ _ c.loop-piece.collector c.offer_to.new.collector _ c.in-Some.piece c.in_ok-reply.reply i.so_far c.in-Some.ensures.leads honest i.shape b.reply b.stands in
     let then = so_far_still c.args.plan.now _ c.offer_to.new.collector c.deliver_all.new.collector _ so h.stands in
     record {
       arrivals_plan = c.in-Some.ensures.plan ∙ i.arrivals_plan;
@@ -69,7 +69,7 @@ loop-piece-preserved g c =
       follows = g.met.R.Reader.follows_on _ _ _ i.follows h.follows;
       counts = h.ok.0;
       faults = h.ok.2 ∙ i.faults;
-      site = h.site ∙ (b.site ∙ i.site);
+      shape = h.shape ∙ (b.shape ∙ i.shape);
       ready = h.ok.1;
       so_far = subst (λ replies. SoFar c.args.plan.now (λ came. g.A.Arrivals.leads c.args.arrivals.now came c.next.new.self) c.deliver_all.new.collector replies) (sym c.in_ok-push.ensures.items) then;
     }
@@ -81,7 +81,7 @@ returns-in_err-deliver_all-clause-err g c =
     let h = c.in_err-deliver_all.ensures in
     let honest = subst (λ plan. IsHonest plan c.in-Some.piece) i.arrivals_plan c.in-Some.ensures.honest in
     let p = err_from_is_err_and c.from_residual-in_err-deliver_all.result c.from_residual-in_err-deliver_all.ensures.1 in
-    rw p.1 (in_part_behind c.args.plan.now g.A.Arrivals.leads g.met.A.Arrivals.goes_on _ _ _ c.loop-piece.collector c.offer_to.new.collector c.deliver_all.new.collector _ _ _ c.in-Some.piece c.in_ok-reply.reply c.files.ensures.plan.some_items i.so_far c.in-Some.ensures.leads honest i.site i.ready i.counts b.reply b.stands h.stands (h.site ∙ (b.site ∙ i.site)) h.err.0 h.err.1)
+    rw p.1 (in_part_behind c.args.plan.now g.A.Arrivals.leads g.met.A.Arrivals.goes_on _ _ _ c.loop-piece.collector c.offer_to.new.collector c.deliver_all.new.collector _ _ _ c.in-Some.piece c.in_ok-reply.reply c.files.ensures.plan.some_items i.so_far c.in-Some.ensures.leads honest i.shape i.ready i.counts b.reply b.stands h.stands (h.shape ∙ (b.shape ∙ i.shape)) h.err.0 h.err.1)
 
 pub deliver_all-requires-clause-per_piece : goal.deliver_all-requires-clause-per_piece
 deliver_all-requires-clause-per_piece g c = subst (λ (plan : Planned). 0 < plan.per_piece) (sym c.loop-piece.invariant.reader_plan) c.files.ensures.plan.some_items

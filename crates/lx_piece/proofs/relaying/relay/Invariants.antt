@@ -1,6 +1,6 @@
 use Rattle.std.proofs.Common.{◌≡◌, ◌-◌, ◌^◌, vec_len}
-use Rattle.lx_piece.specs.Arrivals.{site_of}
-use Rattle.lx_piece.specs.Kept.{NoneReady, site_of_kept, delivered_counts}
+use Rattle.lx_piece.specs.Arrivals.{shape_of}
+use Rattle.lx_piece.specs.Kept.{NoneReady, shape_of_kept, delivered_counts}
 use Rattle.lx_piece.proofs.SoFar.{SoFar}
 use Rattle.lx_piece.proofs.relaying.relay.Given as goal
 
@@ -13,8 +13,8 @@ invariant-loop-piece g l =
       follows : g.R.Reader.follows l.fn.reader l.reader;
       counts : g.R.Reader.counts l.reader ≡ delivered_counts l.collector;
       faults : g.R.Reader.fault_count l.reader ≡ g.R.Reader.fault_count l.fn.reader;
-      site : site_of_kept l.collector ≡ site_of l.plan;
-      ready : NoneReady l.collector.lanes;
+      shape : shape_of_kept l.collector ≡ shape_of l.plan;
+      ready : NoneReady l.collector.buffers;
       so_far : SoFar l.plan (λ came. g.A.Arrivals.leads l.fn.arrivals came l.arrivals) l.collector l.replies.items;
     }
 

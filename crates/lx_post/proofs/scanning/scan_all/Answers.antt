@@ -11,5 +11,5 @@ pub returns-clause-ok : goal.returns-clause-ok
 returns-clause-ok g c =
     let ran = c.run_scoped-paced.result in
     let counts = g.R.Reader.counts ran.0.reader in
-    let collected = subst (λ answer. OnOk answer (IsCollected c.args.plan.now ran.1.take counts)) c.in_default-answer.is c.run_scoped-paced.ensures.ok in
+    let collected = subst (λ answer. OnOk answer (IsCollected c.args.plan.now ran.1.take counts)) c.in_default-answer.is c.run_scoped-paced.ensures.ran.collected in
     on_ok_weaker c.settle_all-settled.result (all_whole c.args.plan.now ran.1.take counts collected) c.settle_all-settled.ensures.ok

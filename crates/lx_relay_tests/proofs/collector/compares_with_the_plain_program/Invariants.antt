@@ -2,4 +2,4 @@ use Rattle.std.proofs.Common.{◌≡◌, length}
 use Rattle.lx_relay_tests.proofs.collector.compares_with_the_plain_program.Given as goal
 
 abbrev pub invariant-loop-turn : goal.invariant-loop-turn
-invariant-loop-turn g l = length l.collector.lanes ≡ 2
+invariant-loop-turn g l = length l.collector.buffers ≡ 2

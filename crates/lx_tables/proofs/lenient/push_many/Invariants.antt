@@ -3,4 +3,4 @@ use Rattle.std.specs.Prelude.{replicate}
 use Rattle.lx_tables.proofs.lenient.push_many.Given as goal
 
 abbrev pub invariant-loop : goal.invariant-loop
-invariant-loop l = l.words.items ≡ l.fn.words.items ++ replicate l.counter l.word
+invariant-loop l = l.encoded_options.items ≡ l.fn.encoded_options.items ++ replicate l.counter l.encoded_option

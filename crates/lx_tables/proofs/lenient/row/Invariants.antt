@@ -6,7 +6,7 @@ use Rattle.lx_tables.proofs.lenient.row.Given as goal
 abbrev pub invariant-loop-left : goal.invariant-loop-left
 invariant-loop-left l = record {
   room : l.from ≤ l.width;
-  same : onto (map decoded_option l.words.items) (read_row l.version l.width l.left l.from l.rest) ≡ onto (map decoded_option l.fn.words.items) (read_row l.version l.width l.width 0 l.text);
+  same : onto (map decoded_option l.encoded_options.items) (read_row l.version l.width l.left l.from l.rest) ≡ onto (map decoded_option l.fn.encoded_options.items) (read_row l.version l.width l.width 0 l.text);
 }
 
 abbrev pub decreases-loop-left : goal.decreases-loop-left

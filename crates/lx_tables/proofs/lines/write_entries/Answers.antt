@@ -8,11 +8,11 @@ use Rattle.lx_tables.proofs.lines.write_entries.Goals as goal
 pub returns-in_err-write_entry-clause-err : goal.returns-in_err-write_entry-clause-err
 returns-in_err-write_entry-clause-err g c =
     let p = err_from_is_err_and c.from_residual.result c.from_residual.ensures.1 in
-    rw p.1 (number_prefix (λ class. entry_text class (class_target c.args.tables.now.machine c.args.state class)) _ _ _ c.args.tables.now.machine.width c.loop-class.class (omega arith) c.loop-class.invariant (rw c.word.ensures at c.in_err-write_entry.ensures.err))
+    rw p.1 (number_prefix (λ class. entry_text class (class_target c.args.tables.now.machine c.args.state class)) _ _ _ c.args.tables.now.machine.width c.loop-class.class (omega arith) c.loop-class.invariant (rw c.encoded_option.ensures at c.in_err-write_entry.ensures.err))
 
 pub loop-class-preserved : goal.loop-class-preserved
 loop-class-preserved g c =
-    number_next (λ class. entry_text class (class_target c.args.tables.now.machine c.args.state class)) _ _ _ c.args.tables.now.machine.width c.loop-class.class (omega arith) c.loop-class.invariant (rw c.word.ensures at c.in_ok-write_entry.ensures.ok)
+    number_next (λ class. entry_text class (class_target c.args.tables.now.machine c.args.state class)) _ _ _ c.args.tables.now.machine.width c.loop-class.class (omega arith) c.loop-class.invariant (rw c.encoded_option.ensures at c.in_ok-write_entry.ensures.ok)
 
 pub returns-clause-ok : goal.returns-clause-ok
 returns-clause-ok g c = number_end (λ class. entry_text class (class_target c.args.tables.now.machine c.args.state class)) _ _ c.args.tables.now.machine.width c.loop-class.class (omega arith) c.loop-class.invariant

@@ -12,7 +12,7 @@ pub loop-at-init : goal.loop-at-init
 loop-at-init g c = record {
   from = omega arith;
   within = omega arith;
-  wrote = before_all _ _ _ (run_begins (value_of c.args.tables.now.machine c.args.values) c.value_word-value.result c.value_word-value.ensures);
+  wrote = before_all _ _ _ (run_begins (value_of c.args.tables.now.machine c.args.values) c.encoded_value-value.result c.encoded_value-value.ensures);
 }
 
 pub loop-at-preserved : goal.loop-at-preserved
@@ -27,12 +27,12 @@ loop-at-preserved g c =
         | then-next-value+in_ok-write_range w ↦
             rw (w.out-is, w.low-is, w.value-is)
             (before_more (range_text c.loop-at.low (at - 1) (decoded_option c.loop-at.value)) _
-            (run_ends value c.loop-at.low at c.loop-at.value c.value_word-next.result (omega arith) (omega arith) c.value_word-next.ensures w.if-next-value.true)
+            (run_ends value c.loop-at.low at c.loop-at.value c.encoded_value-next.result (omega arith) (omega arith) c.encoded_value-next.ensures w.if-next-value.true)
             i.wrote w.in_ok-write_range.ensures.ok)
         | else-next-value w ↦
             rw (w.out-is, w.low-is, w.value-is)
             (let P : List ℕ → Type 0 = λ bs. WroteBefore (g.W.Write.contents c.args.out.now) (g.W.Write.contents c.loop-at.out) (byte_ranges value) bs in
-            subst P (run_goes value c.loop-at.low at c.loop-at.value c.value_word-next.result (omega arith) (omega arith) c.value_word-next.ensures w.if-next-value.false) i.wrote)
+            subst P (run_goes value c.loop-at.low at c.loop-at.value c.encoded_value-next.result (omega arith) (omega arith) c.encoded_value-next.ensures w.if-next-value.false) i.wrote)
       ];
     }
 
@@ -43,7 +43,7 @@ returns-in_err-write_range-clause-err g c =
     let at = c.loop-at.at in
     rw p.1
     (before_prefix (range_text c.loop-at.low (at - 1) (decoded_option c.loop-at.value)) _
-    (run_ends value c.loop-at.low at c.loop-at.value c.value_word-next.result (omega arith) (omega arith) c.value_word-next.ensures c.if-next-value.true)
+    (run_ends value c.loop-at.low at c.loop-at.value c.encoded_value-next.result (omega arith) (omega arith) c.encoded_value-next.ensures c.if-next-value.true)
     c.loop-at.invariant.wrote c.in_err-write_range.ensures.err)
 
 pub returns-clause-ok : goal.returns-clause-ok

@@ -1,4 +1,4 @@
-use Rattle.lx_tables.proofs.Reading.{byte_classes}
+use Rattle.lx_tables.proofs.EncodedOptions.{byte_classes}
 use Rattle.lx_tables.proofs.tables.Tables.classes.Goals as goal
 
 pub returns-clause-classes : goal.returns-clause-classes

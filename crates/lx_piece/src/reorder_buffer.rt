@@ -2,7 +2,7 @@ ghost use Rattle.std.specs.Prelude.{◌≡◌, ◌<◌, ℕ, List, OnOk, IfErr, 
 ghost use Rattle.lx_piece.specs.declared.piece.Piece.{Piece};
 ghost use Rattle.lx_piece.specs.Arrivals.{cause_among};
 ghost use Rattle.lx_piece.specs.Pieces.{top_number};
-ghost use Rattle.lx_piece.specs.Kept.{LaneStandsFor, held_at, has_number, is_ready, Advances, KeepsPiece, closed_before, is_lane_closed, is_lane_cut, fresh_lane};
+ghost use Rattle.lx_piece.specs.Kept.{BufferStandsFor, held_at, has_number, is_ready, Advances, KeepsPiece, closed_before, is_buffer_closed, is_buffer_truncated, fresh_buffer};
 
 use crate::piece::Piece;
 use crate::reply::Why;
@@ -22,40 +22,40 @@ fn is_below(known: Option<u64>, number: u64) -> bool
 
 /// What a collector keeps of one file.
 #[derive(Drop)]
-pub(crate) struct FileLane {
+pub(crate) struct ReorderBuffer {
     /// How many pieces were delivered, so the number of the next.
     next: u64,
     /// The number of the closing piece, once it was accepted.
     closing: Option<u64>,
     /// The same, where that piece is marked Cut.
-    cut: Option<u64>,
+    truncated: Option<u64>,
     /// The pieces that were accepted and not yet delivered, by their numbers.
     held: BTreeMap<u64, Piece>,
 }
 
-impl Model for FileLane {
+impl Model for ReorderBuffer {
     ghost use Rattle.std.specs.Prelude.{ℕ, ◌<◌, IsSome};
     ghost use Rattle.std.specs.Ordering.{nat_cmp};
     ghost use Rattle.std.specs.BTreeMap.{get};
     ghost use Rattle.lx_piece.specs.Pieces.{top_number};
-    ghost use Rattle.lx_piece.specs.Kept.{Lane};
+    ghost use Rattle.lx_piece.specs.Kept.{Buffered};
 
-    ghost Value = { Lane };
+    ghost Value = { Buffered };
 
-    ghost view = { λ s. record { next = s.next; closing = s.closing; cut = s.cut; held = s.held.entries } };
+    ghost view = { λ s. record { next = s.next; closing = s.closing; truncated = s.truncated; held = s.held.entries } };
 
     ghost invariant = { λ s. (n : ℕ) → IsSome (get nat_cmp s.held n) → n < top_number };
 }
 
-impl FileLane {
-    /// The lane of a file of which nothing came.
+impl ReorderBuffer {
+    /// The buffer of a file of which nothing came.
     pub(crate) fn new(alloc: Global) -> Self
-        ensures { result ≡ fresh_lane }
+        ensures { result ≡ fresh_buffer }
     {
-        FileLane {
+        ReorderBuffer {
             next: 0,
             closing: None,
-            cut: None,
+            truncated: None,
             held: BTreeMap::new(alloc),
         }
     }
@@ -87,7 +87,7 @@ impl FileLane {
 
     /// The first cause against a piece of this file.
     pub(crate) fn cause(&self, piece: &Piece) -> Option<Why>
-        ensures first { (accepted : List Piece) → LaneStandsFor self.now piece.now.file accepted → result ≡ cause_among accepted piece.now }
+        ensures first { (accepted : List Piece) → BufferStandsFor self.now piece.now.file accepted → result ≡ cause_among accepted piece.now }
         ensures countable { IfNone result (piece.now.number < top_number) }
         ensures new { IfNone result (has_number self.now piece.now.number ≡ false) }
     {
@@ -111,14 +111,14 @@ impl FileLane {
     {
         let number = piece.number;
         let closes = piece.is_closing();
-        let is_cut = piece.is_cut_short();
+        let is_truncated = piece.is_cut_short();
         match self.held.insert(number, piece) {
             Ok(_) => {
                 if closes {
                     self.closing = Some(number);
                 }
-                if is_cut {
-                    self.cut = Some(number);
+                if is_truncated {
+                    self.truncated = Some(number);
                 }
                 Ok(())
             }
@@ -153,15 +153,15 @@ impl FileLane {
 
     /// The closing piece was delivered.
     pub(crate) fn is_closed(&self) -> bool
-        ensures { result ≡ is_lane_closed self.now }
+        ensures { result ≡ is_buffer_closed self.now }
     {
         self.is_closed_before(self.next())
     }
 
     /// The closing piece was delivered, and is marked Cut.
-    pub(crate) fn is_cut(&self) -> bool
-        ensures { result ≡ is_lane_cut self.now }
+    pub(crate) fn is_truncated(&self) -> bool
+        ensures { result ≡ is_buffer_truncated self.now }
     {
-        is_below(self.cut, self.next)
+        is_below(self.truncated, self.next)
     }
 }

@@ -14,16 +14,16 @@ const NAP: u64 = 50;
 /// The turns of a call that found no room, or no note. First it yields the processor, and then it sleeps for short times: a
 /// thread that only yields takes the time of those that work, and waking others at each note takes longer than the note.
 #[derive(Drop)]
-pub struct Patience {
+pub struct Backoff {
     turns: u32,
     // Nobody wakes a sleep on this word: it ends by its time.
     never: AtomicU64,
 }
 
-impl Patience {
+impl Backoff {
     #[inline]
-    pub fn new() -> Patience {
-        Patience {
+    pub fn new() -> Backoff {
+        Backoff {
             turns: 0,
             never: AtomicU64::new(0),
         }

@@ -1,4 +1,4 @@
--- What a machine's words say.
+-- What the encoded options of a machine say: 0 for nothing, or one more than the number.
 use Rattle.std.proofs.Common.{Option, ◌≡◌, ◌≢◌, ℕ, zero, suc, ◌+◌, ◌-◌, ◌*◌, ◌<◌, false, Some, None, List, [], ◌∷◌, map, slice_index, slice_index_or, refl, sym, ◌∙◌, ap, arith, eqb, inl, inr}
 use Rattle.std.specs.Prelude.{IfSome}
 use Rattle.std.proofs.lemmas.Bool.{cases_eq}
@@ -8,10 +8,10 @@ use Rattle.lx_auto.specs.Automata.{Machine, IsMachine, HasByteClasses, class_tar
 use Rattle.lx_tables.specs.Model.{AreByteClasses}
 use Rattle.lx_auto.specs.EncodedOptions.{decoded_option}
 
-pub word_at : (xs : List ℕ) (i : ℕ) → slice_index_or (map decoded_option xs) i None ≡ decoded_option (slice_index xs i)
-word_at [] i = refl
-word_at (x ∷ xs) zero = refl
-word_at (x ∷ xs) (suc i) = word_at xs i
+pub encoded_option_at : (xs : List ℕ) (i : ℕ) → slice_index_or (map decoded_option xs) i None ≡ decoded_option (slice_index xs i)
+encoded_option_at [] i = refl
+encoded_option_at (x ∷ xs) zero = refl
+encoded_option_at (x ∷ xs) (suc i) = encoded_option_at xs i
 
 pub in_row : (i c n w : ℕ) → i < n → c < w → i * w + c < n * w
 in_row i c n w hi hc = let r = row_fits i w n w hi (omega arith) in omega arith
@@ -45,10 +45,10 @@ decoded_option-same a b e = elim (cases_eq a 0) [
   ]
 ]
 
-pub word_above : (word n : ℕ) → decoded_option word ≡ Some n → word ≡ n + 1
-word_above word n e = elim (cases_eq word 0) [
+pub encoded_option_above : (encoded_option n : ℕ) → decoded_option encoded_option ≡ Some n → encoded_option ≡ n + 1
+encoded_option_above encoded_option n e = elim (cases_eq encoded_option 0) [
   | inl f ↦ let g : None ≡ Some n = sym (ap decoded_option f) ∙ e in cc
-  | inr f ↦ let g : Some (word - 1) ≡ Some n = sym (decoded_option-some word f) ∙ e in let k : word - 1 ≡ n = cc in omega arith
+  | inr f ↦ let g : Some (encoded_option - 1) ≡ Some n = sym (decoded_option-some encoded_option f) ∙ e in let k : encoded_option - 1 ≡ n = cc in omega arith
 ]
 
 pub if_some : (o : Option ℕ) (P : ℕ → Type 0) → ((n : ℕ) → o ≡ Some n → P n) → IfSome o P
