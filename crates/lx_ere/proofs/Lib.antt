@@ -11,6 +11,6 @@ pub mod MemberLoop
 pub mod QuoteLoop
 pub mod ReadLemmas
 pub mod EndLemmas
-pub mod EndThere
+pub mod LeastEnd
 pub mod ReachLemmas
 pub mod OrderedBounds

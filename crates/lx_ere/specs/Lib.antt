@@ -13,6 +13,8 @@ pub mod Lexing
 pub mod Tokens
 pub mod Lexemes
 pub mod Groups
+pub mod PatternGrammar
+pub mod PatternEndLaws
 pub mod PatternEnd
 pub mod Equality
 pub mod EqualityLaws

@@ -2,7 +2,8 @@
 
 ghost use Rattle.std.specs.Prelude.{◌≡◌, ◌≤◌, ◌&&◌, length, false, nat_eq, List, ℕ, MatchOption};
 ghost use Rattle.lx_ere.specs.Brackets.{begins_with, opens_inner};
-ghost use Rattle.lx_ere.specs.PatternEnd.{BehindQuotes, BehindMark, BehindBrackets, BehindPattern, IsPatternEnd, IsInner, skip_first, is_blank};
+ghost use Rattle.lx_ere.specs.PatternEnd.{pattern_end};
+ghost use Rattle.lx_ere.specs.PatternGrammar.{BehindQuotes, BehindMark, BehindBrackets, BehindPattern, IsPatternEnd, IsInner, skip_first, is_blank};
 
 use crate::prefix::{begins_with, skip};
 
@@ -124,6 +125,7 @@ fn behind_pattern(text: &[u8]) -> &[u8]
 /// A backslash takes the next byte along, a quoted string runs to its closing quote, and brackets run to their closing bracket; what is not
 /// closed runs to the end. The text may have any length.
 pub fn pattern_end(text: &[u8]) -> usize
+    ensures value { result ≡ pattern_end text.now }
     ensures end { IsPatternEnd text.now result }
     ensures within { result ≤ length text.now }
 {
@@ -135,7 +137,8 @@ pub fn one_pattern_end()
     ensures { (text : List ℕ) (n m : ℕ) → IsPatternEnd text n → IsPatternEnd text m → n ≡ m }
 {}
 
-/// A law: the pattern at the front of any text ends somewhere.
+/// A law: the pattern at the front of any text ends somewhere, and `pattern_end` is where.
 pub fn some_pattern_end()
-    ensures { (text : List ℕ) → (n : ℕ) × IsPatternEnd text n }
+    ensures some { (text : List ℕ) → (n : ℕ) × IsPatternEnd text n }
+    ensures there { (text : List ℕ) → IsPatternEnd text (pattern_end text) }
 {}

@@ -7,7 +7,7 @@ ghost use Rattle.lx_ere.specs.Grammar.{Lexeme, IsAlternation};
 ghost use Rattle.lx_ere.specs.Brackets.{begins_with};
 ghost use Rattle.lx_ere.specs.Spelling.{Spells, Lexes};
 ghost use Rattle.lx_ere.specs.Pattern.{IsPattern, IsSubstitute};
-ghost use Rattle.lx_ere.specs.PatternEnd.{IsPatternEnd};
+ghost use Rattle.lx_ere.specs.PatternGrammar.{IsPatternEnd};
 ghost use Rattle.lx_ere.specs.Lexing.{lexeme_at, body_of, ending_at, Reads};
 
 use crate::expr::{Expr, Pattern};

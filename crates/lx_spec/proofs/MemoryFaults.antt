@@ -61,14 +61,14 @@ cause-none action_form e = cc
 cause-none begin_name e = cc
 cause-none no_next e = cc
 
-pub fault-none : (ends : List ℕ → ℕ) (text : List ℕ) (f : SpecFault) → IsFault ends text f → f.code ≡ code.Memory → ⊥
-fault-none ends text _ (too_long long) e = cc
-fault-none ends text _ (in_sections f short is) e = subst IsNoMemory is (entries-none (entries ends definitions 1 (lines text)) only_initial) e
-fault-none ends text _ (in_rules sections trees f short is read first) e = cause-none first.case.cause (sym (ap (λ (g : SpecFault). g.code) first.is) ∙ e)
+pub fault-none : (text : List ℕ) (f : SpecFault) → IsFault text f → f.code ≡ code.Memory → ⊥
+fault-none text _ (too_long long) e = cc
+fault-none text _ (in_sections f short is) e = subst IsNoMemory is (entries-none (entries definitions 1 (lines text)) only_initial) e
+fault-none text _ (in_rules sections trees f short is read first) e = cause-none first.case.cause (sym (ap (λ (g : SpecFault). g.code) first.is) ∙ e)
 
 -- What is a fault of the text, unless memory was refused, stands at line 0 where its code is E90.
-pub memory-line : (ends : List ℕ → ℕ) (text : List ℕ) (f : SpecFault) → (f ≢ out_of_memory → IsFault ends text f) → f.code ≡ code.Memory → f.line ≡ 0
-memory-line ends text f is e = by f.line (λ other. is (λ same. other (ap (λ (g : SpecFault). g.line) same))) where
-  by : (n : ℕ) → ((n ≢ 0) → IsFault ends text f) → n ≡ 0
+pub memory-line : (text : List ℕ) (f : SpecFault) → (f ≢ out_of_memory → IsFault text f) → f.code ≡ code.Memory → f.line ≡ 0
+memory-line text f is e = by f.line (λ other. is (λ same. other (ap (λ (g : SpecFault). g.line) same))) where
+  by : (n : ℕ) → ((n ≢ 0) → IsFault text f) → n ≡ 0
   by zero never = refl
-  by (suc n) never = absurd (fault-none ends text f (never (λ zero-line. absurd (omega (arith, zero-line)))) e)
+  by (suc n) never = absurd (fault-none text f (never (λ zero-line. absurd (omega (arith, zero-line)))) e)

@@ -37,24 +37,24 @@ module _ (one_substitute : (text : List ℕ) (r s : Regex) → IsSubstitute text
   one-rules sections other trees others e f same read read_too a b =
       one-fault-of (symbols_of sections trees) (cases sections.rules) e f a (moved (λ s ts. IsFirstFault (symbols_of s ts) (cases s.rules) f) sections other trees others same read read_too b)
 
-  pub one-fault : (ends : List ℕ → ℕ) (text : List ℕ) (e f : SpecFault) → IsFault ends text e → IsFault ends text f → e ≡ f
-  one-fault ends text _ _ (too_long a) (too_long b) = refl
-  one-fault ends text _ _ (too_long a) (in_sections f short is) = absurd (omega arith)
-  one-fault ends text _ _ (too_long a) (in_rules sections trees f short is read first) = absurd (omega arith)
-  one-fault ends text _ _ (in_sections e short is) (too_long b) = absurd (omega arith)
-  one-fault ends text _ _ (in_sections e short is) (in_sections f short_too is_too) = let same : ◌≡◌ {A = Result ParsedSections SpecFault} (Err e) (Err f) = sym is ∙ is_too in cc
-  one-fault ends text _ _ (in_sections e short is) (in_rules sections trees f short_too is_too read first) = let no : ◌≡◌ {A = Result ParsedSections SpecFault} (Err e) (Ok sections) = sym is ∙ is_too in cc
-  one-fault ends text _ _ (in_rules sections trees e short is read first) (too_long b) = absurd (omega arith)
-  one-fault ends text _ _ (in_rules sections trees e short is read first) (in_sections f short_too is_too) = let no : ◌≡◌ {A = Result ParsedSections SpecFault} (Ok sections) (Err f) = sym is ∙ is_too in cc
-  one-fault ends text _ _ (in_rules sections trees e short is read first) (in_rules other others f short_too is_too read_too first_too) =
+  pub one-fault : (text : List ℕ) (e f : SpecFault) → IsFault text e → IsFault text f → e ≡ f
+  one-fault text _ _ (too_long a) (too_long b) = refl
+  one-fault text _ _ (too_long a) (in_sections f short is) = absurd (omega arith)
+  one-fault text _ _ (too_long a) (in_rules sections trees f short is read first) = absurd (omega arith)
+  one-fault text _ _ (in_sections e short is) (too_long b) = absurd (omega arith)
+  one-fault text _ _ (in_sections e short is) (in_sections f short_too is_too) = let same : ◌≡◌ {A = Result ParsedSections SpecFault} (Err e) (Err f) = sym is ∙ is_too in cc
+  one-fault text _ _ (in_sections e short is) (in_rules sections trees f short_too is_too read first) = let no : ◌≡◌ {A = Result ParsedSections SpecFault} (Err e) (Ok sections) = sym is ∙ is_too in cc
+  one-fault text _ _ (in_rules sections trees e short is read first) (too_long b) = absurd (omega arith)
+  one-fault text _ _ (in_rules sections trees e short is read first) (in_sections f short_too is_too) = let no : ◌≡◌ {A = Result ParsedSections SpecFault} (Ok sections) (Err f) = sym is ∙ is_too in cc
+  one-fault text _ _ (in_rules sections trees e short is read first) (in_rules other others f short_too is_too read_too first_too) =
       let oks : ◌≡◌ {A = Result ParsedSections SpecFault} (Ok other) (Ok sections) = sym is_too ∙ is in
       let same : other ≡ sections = cc in
       one-rules sections other trees others e f same read read_too first first_too
 
-  pub no-fault : (ends : List ℕ → ℕ) (text : List ℕ) (spec : PlainSpec) (f : SpecFault) → IsRead ends text spec → IsFault ends text f → ⊥
-  no-fault ends text spec _ r (too_long b) = let short = r.short in omega (arith, short)
-  no-fault ends text spec _ r (in_sections f short is) = let no : ◌≡◌ {A = Result ParsedSections SpecFault} (Ok r.sections) (Err f) = sym r.parsed ∙ is in cc
-  no-fault ends text spec _ r (in_rules sections trees f short is read first) =
+  pub no-fault : (text : List ℕ) (spec : PlainSpec) (f : SpecFault) → IsRead text spec → IsFault text f → ⊥
+  no-fault text spec _ r (too_long b) = let short = r.short in omega (arith, short)
+  no-fault text spec _ r (in_sections f short is) = let no : ◌≡◌ {A = Result ParsedSections SpecFault} (Ok r.sections) (Err f) = sym r.parsed ∙ is in cc
+  no-fault text spec _ r (in_rules sections trees f short is read first) =
       let oks : ◌≡◌ {A = Result ParsedSections SpecFault} (Ok sections) (Ok r.sections) = sym is ∙ r.parsed in
       let same : sections ≡ r.sections = cc in
       let there = moved (λ s ts. IsFirstFault (symbols_of s ts) (cases s.rules) f) r.sections sections r.trees trees same r.read read first in
@@ -67,8 +67,8 @@ record IsSpecOf (spec : PlainSpec) (sections : ParsedSections) (trees : List (Op
   is : AreSpec (symbols_of sections trees) sections.rules resolved spec
 
 pub one-read : (one_substitute : (text : List ℕ) (r s : Regex) → IsSubstitute text r → IsSubstitute text s → r ≡ s) (one_reading : (text : List ℕ) (r s : Reading) → IsPattern text r → IsPattern text s → r ≡ s)
-    (ends : List ℕ → ℕ) (text : List ℕ) (s t : PlainSpec) → IsRead ends text s → IsRead ends text t → s ≡ t
-one-read one_substitute one_reading ends text s t a b =
+    (text : List ℕ) (s t : PlainSpec) → IsRead text s → IsRead text t → s ≡ t
+one-read one_substitute one_reading text s t a b =
     let oks : ◌≡◌ {A = Result ParsedSections SpecFault} (Ok b.sections) (Ok a.sections) = sym b.parsed ∙ a.parsed in
     let same : b.sections ≡ a.sections = cc in
     let there = moved one_substitute (IsSpecOf t) a.sections b.sections a.trees b.trees same a.read b.read (record { resolved = b.resolved; resolves = b.resolves; is = b.is }) in

@@ -1,6 +1,6 @@
 -- What a line of the second section says by itself (XCU `lex`, "Rules in lex").
 use Rattle.std.specs.Prelude.{ℕ, Bool, not, nat_eq, if◌then◌else◌, List, [], ◌∷◌, take, drop}
-use Rattle.lx_ere.specs.PatternEnd.{IsPatternEnd}
+use Rattle.lx_ere.specs.PatternEnd.{pattern_end}
 use Rattle.lx_spec.specs.Bytes.{is_blank, begins_with, run, behind_run}
 
 -- what stands before a pattern: nothing, a `<` with no `>` on its line, or what `<` and `>` enclose
@@ -30,22 +30,18 @@ abbrev pub split_prefix : List ℕ → Prefix × List ℕ
 split_prefix [] = (absent, [])
 split_prefix (c ∷ text) = if nat_eq c 60 then closed_prefix (run is_inside text) (behind_run is_inside text) else (absent, c ∷ text)
 
--- The function tells how many bytes the pattern at the front of a text has.
-abbrev pub EndsPatterns : (List ℕ → ℕ) → Type 0
-EndsPatterns ends = (text : List ℕ) → IsPatternEnd text (ends text)
-
 -- a rule's line behind its prefix: a pattern of n bytes, and behind blanks the action
 abbrev pub rule_split : ℕ → Prefix → List ℕ → RuleLine
 rule_split n prefix text = begins_rule prefix (take n text) (behind_run is_blank (drop n text))
 
-abbrev pub rule_begins : (List ℕ → ℕ) → Prefix → List ℕ → RuleLine
-rule_begins ends prefix text = rule_split (ends text) prefix text
+abbrev pub rule_begins : Prefix → List ℕ → RuleLine
+rule_begins prefix text = rule_split (pattern_end text) prefix text
 
 -- the first form that fits the line
-abbrev pub rule_line_of : (List ℕ → ℕ) → List ℕ → RuleLine
-rule_line_of ends [] = skipped
-rule_line_of ends (c ∷ text) =
+abbrev pub rule_line_of : List ℕ → RuleLine
+rule_line_of [] = skipped
+rule_line_of (c ∷ text) =
     if is_blank c then skipped
     else if begins_with 37 123 (c ∷ text) then opens_group
     else if begins_with 37 37 (c ∷ text) then rules_end
-    else rule_begins ends (split_prefix (c ∷ text)).0 (split_prefix (c ∷ text)).1
+    else rule_begins (split_prefix (c ∷ text)).0 (split_prefix (c ∷ text)).1

@@ -45,41 +45,41 @@ pub data Entry : Type 0 where
 abbrev pub longer : RawRule → List ℕ → RawRule
 longer raw line = record raw { action = raw.action ++ 10 ∷ line }
 
--- the entries from line n on, where `ends` tells where patterns end
-abbrev pub entries : (List ℕ → ℕ) → Place → ℕ → List (List ℕ) → List Entry
-entries ends definitions n [] = endless ∷ []
-entries ends (comment since) n [] = unclosed since ∷ []
-entries ends (group since) n [] = unclosed since ∷ []
-entries ends rules n [] = []
-entries ends (rules_group since) n [] = unclosed since ∷ []
-entries ends (action raw count) n [] = rule raw false ∷ []
-entries ends definitions n (line ∷ rest) = elim (line_of line) [
-  | skipped ↦ entries ends definitions (n + 1) rest
-  | opens_comment ↦ entries ends (comment n) (n + 1) rest
-  | opens_group ↦ entries ends (group n) (n + 1) rest
-  | rules_begin ↦ entries ends rules (n + 1) rest
-  | declares exclusive names ↦ conditions n exclusive names ∷ entries ends definitions (n + 1) rest
-  | defines name substitute ↦ definition n name substitute ∷ entries ends definitions (n + 1) rest
-  | no_form ↦ formless n ∷ entries ends definitions (n + 1) rest
+-- the entries from line n on
+abbrev pub entries : Place → ℕ → List (List ℕ) → List Entry
+entries definitions n [] = endless ∷ []
+entries (comment since) n [] = unclosed since ∷ []
+entries (group since) n [] = unclosed since ∷ []
+entries rules n [] = []
+entries (rules_group since) n [] = unclosed since ∷ []
+entries (action raw count) n [] = rule raw false ∷ []
+entries definitions n (line ∷ rest) = elim (line_of line) [
+  | skipped ↦ entries definitions (n + 1) rest
+  | opens_comment ↦ entries (comment n) (n + 1) rest
+  | opens_group ↦ entries (group n) (n + 1) rest
+  | rules_begin ↦ entries rules (n + 1) rest
+  | declares exclusive names ↦ conditions n exclusive names ∷ entries definitions (n + 1) rest
+  | defines name substitute ↦ definition n name substitute ∷ entries definitions (n + 1) rest
+  | no_form ↦ formless n ∷ entries definitions (n + 1) rest
 ]
-entries ends (comment since) n (line ∷ rest) = if has_pair 42 47 line then entries ends definitions (n + 1) rest else entries ends (comment since) (n + 1) rest
-entries ends (group since) n (line ∷ rest) = if begins_with 37 125 line then entries ends definitions (n + 1) rest else entries ends (group since) (n + 1) rest
-entries ends rules n (line ∷ rest) = elim (rule_line_of ends line) [
-  | rule_line.skipped ↦ entries ends rules (n + 1) rest
-  | rule_line.opens_group ↦ entries ends (rules_group n) (n + 1) rest
+entries (comment since) n (line ∷ rest) = if has_pair 42 47 line then entries definitions (n + 1) rest else entries (comment since) (n + 1) rest
+entries (group since) n (line ∷ rest) = if begins_with 37 125 line then entries definitions (n + 1) rest else entries (group since) (n + 1) rest
+entries rules n (line ∷ rest) = elim (rule_line_of line) [
+  | rule_line.skipped ↦ entries rules (n + 1) rest
+  | rule_line.opens_group ↦ entries (rules_group n) (n + 1) rest
   | rule_line.rules_end ↦ []
   | rule_line.begins_rule prefix pattern text ↦
-      if is_closed (with_line start text) then rule (record { line = n; prefix = prefix; pattern = pattern; action = text }) true ∷ entries ends rules (n + 1) rest
-      else entries ends (action (record { line = n; prefix = prefix; pattern = pattern; action = text }) (with_line start text)) (n + 1) rest
+      if is_closed (with_line start text) then rule (record { line = n; prefix = prefix; pattern = pattern; action = text }) true ∷ entries rules (n + 1) rest
+      else entries (action (record { line = n; prefix = prefix; pattern = pattern; action = text }) (with_line start text)) (n + 1) rest
 ]
-entries ends (rules_group since) n (line ∷ rest) = if begins_with 37 125 line then entries ends rules (n + 1) rest else entries ends (rules_group since) (n + 1) rest
-entries ends (action raw count) n (line ∷ rest) =
-    if is_closed (with_line count line) then rule (longer raw line) true ∷ entries ends rules (n + 1) rest
-    else entries ends (action (longer raw line) (with_line count line)) (n + 1) rest
+entries (rules_group since) n (line ∷ rest) = if begins_with 37 125 line then entries rules (n + 1) rest else entries (rules_group since) (n + 1) rest
+entries (action raw count) n (line ∷ rest) =
+    if is_closed (with_line count line) then rule (longer raw line) true ∷ entries rules (n + 1) rest
+    else entries (action (longer raw line) (with_line count line)) (n + 1) rest
 
 -- the entries where a rule's action was read so far: the rule, if it is closed, and those from line n on
-abbrev pub entries_behind : (List ℕ → ℕ) → RawRule → Count → ℕ → List (List ℕ) → List Entry
-entries_behind ends raw count n rest = if is_closed count then rule raw true ∷ entries ends rules n rest else entries ends (action raw count) n rest
+abbrev pub entries_behind : RawRule → Count → ℕ → List (List ℕ) → List Entry
+entries_behind raw count n rest = if is_closed count then rule raw true ∷ entries rules n rest else entries (action raw count) n rest
 
 -- a definition as it stands in the text
 pub record RawDefinition : Type 0 where
@@ -140,12 +140,12 @@ abbrev pub only_initial : ParsedSections
 only_initial = record { start_conditions = record { name = 73 ∷ 78 ∷ 73 ∷ 84 ∷ 73 ∷ 65 ∷ 76 ∷ []; exclusive = false } ∷ []; definitions = []; rules = [] }
 
 -- what the lines from number n on say, behind what was said before
-abbrev pub sections_behind : (List ℕ → ℕ) → ParsedSections → Place → ℕ → List (List ℕ) → Result ParsedSections SpecFault
-sections_behind ends before place n rest = with_entries before (entries ends place n rest)
+abbrev pub sections_behind : ParsedSections → Place → ℕ → List (List ℕ) → Result ParsedSections SpecFault
+sections_behind before place n rest = with_entries before (entries place n rest)
 
 -- what the sections of a text say, or their first fault in the order of the text
-abbrev pub sections_of : (List ℕ → ℕ) → List ℕ → Result ParsedSections SpecFault
-sections_of ends text = sections_behind ends only_initial definitions 1 (lines text)
+abbrev pub sections_of : List ℕ → Result ParsedSections SpecFault
+sections_of text = sections_behind only_initial definitions 1 (lines text)
 
 -- What a function returned, seen by view, is what reading gives, unless memory ran out.
 abbrev pub Gives : {X Y : Type 0} → (X → Y) → Result X SpecFault → Result Y SpecFault → Type 0
@@ -153,11 +153,11 @@ Gives view (Ok x) read = read ≡ Ok (view x)
 Gives view (Err f) read = f ≢ out_of_memory → read ≡ Err f
 
 -- what is said where a line was taken: no place follows the line that ends the rules
-abbrev pub continued : (List ℕ → ℕ) → Option Place → ParsedSections → ℕ → List (List ℕ) → Result ParsedSections SpecFault
-continued ends None before n rest = Ok before
-continued ends (Some place) before n rest = sections_behind ends before place n rest
+abbrev pub continued : Option Place → ParsedSections → ℕ → List (List ℕ) → Result ParsedSections SpecFault
+continued None before n rest = Ok before
+continued (Some place) before n rest = sections_behind before place n rest
 
 -- What taking a line gave, seen by view, goes on to what reading gives, unless memory ran out.
-abbrev pub Goes : {X : Type 0} → (List ℕ → ℕ) → (X → ParsedSections × Option Place) → ℕ → List (List ℕ) → Result X SpecFault → Result ParsedSections SpecFault → Type 0
-Goes ends view n rest (Ok x) read = read ≡ continued ends (view x).1 (view x).0 (n + 1) rest
-Goes ends view n rest (Err f) read = f ≢ out_of_memory → read ≡ Err f
+abbrev pub Goes : {X : Type 0} → (X → ParsedSections × Option Place) → ℕ → List (List ℕ) → Result X SpecFault → Result ParsedSections SpecFault → Type 0
+Goes view n rest (Ok x) read = read ≡ continued (view x).1 (view x).0 (n + 1) rest
+Goes view n rest (Err f) read = f ≢ out_of_memory → read ≡ Err f

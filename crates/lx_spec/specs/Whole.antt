@@ -16,18 +16,17 @@ abbrev pub symbols_of : ParsedSections → List (Option Regex) → SymbolTable
 symbols_of sections trees = record { start_conditions = sections.start_conditions; definitions = sections.definitions; trees = trees }
 
 -- The text is too long; or a section has the fault, the first in the order of the text; or a rule has it, the first rule by rule.
--- Here and below `ends` tells where patterns end.
-pub data IsFault (ends : List ℕ → ℕ) (text : List ℕ) : SpecFault → Type 0 where
-  too_long : 1048576 < length text → IsFault ends text (fault code.TooLong 0)
-  in_sections : (f : SpecFault) → length text ≤ 1048576 → sections_of ends text ≡ Err f → IsFault ends text f
-  in_rules : (sections : ParsedSections) (trees : List (Option Regex)) (f : SpecFault) → length text ≤ 1048576 → sections_of ends text ≡ Ok sections → AreTrees sections.definitions trees →
-      IsFirstFault (symbols_of sections trees) (cases sections.rules) f → IsFault ends text f
+pub data IsFault (text : List ℕ) : SpecFault → Type 0 where
+  too_long : 1048576 < length text → IsFault text (fault code.TooLong 0)
+  in_sections : (f : SpecFault) → length text ≤ 1048576 → sections_of text ≡ Err f → IsFault text f
+  in_rules : (sections : ParsedSections) (trees : List (Option Regex)) (f : SpecFault) → length text ≤ 1048576 → sections_of text ≡ Ok sections → AreTrees sections.definitions trees →
+      IsFirstFault (symbols_of sections trees) (cases sections.rules) f → IsFault text f
 
 -- The text has no fault, and this is the specification that it says.
-pub record IsRead (ends : List ℕ → ℕ) (text : List ℕ) (spec : PlainSpec) : Type 0 where
+pub record IsRead (text : List ℕ) (spec : PlainSpec) : Type 0 where
   pub short : length text ≤ 1048576
   pub sections : ParsedSections
-  pub parsed : sections_of ends text ≡ Ok sections
+  pub parsed : sections_of text ≡ Ok sections
   pub trees : List (Option Regex)
   pub read : AreTrees sections.definitions trees
   pub clean : HoldsOfNone (Holds (symbols_of sections trees)) (cases sections.rules)

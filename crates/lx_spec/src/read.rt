@@ -1,5 +1,7 @@
 // Specifications, read whole.
 ghost use Rattle.std.specs.Prelude.{◌≡◌, ◌≢◌, ℕ, List, Option, map, IfOk, IfErr};
+ghost use Rattle.lx_ere.specs.PatternEnd.{pattern_end};
+ghost use Rattle.lx_ere.specs.PatternGrammar.{IsPatternEnd};
 ghost use Rattle.lx_ere.specs.Regex.{Regex};
 ghost use Rattle.lx_spec.specs.Plain.{PlainSpec};
 ghost use Rattle.lx_spec.specs.Dictionary.{AreTrees};
@@ -8,7 +10,6 @@ ghost use Rattle.lx_spec.specs.Faults.{out_of_memory};
 ghost use Rattle.lx_spec.specs.First.{HoldsOfNone};
 ghost use Rattle.lx_spec.specs.Invariant.{IsWellFormed};
 ghost use Rattle.lx_spec.specs.Outcome.{AreResolved};
-ghost use Rattle.lx_spec.specs.RuleLines.{EndsPatterns};
 ghost use Rattle.lx_spec.specs.views.ResolvedRules.{resolved_view};
 ghost use Rattle.lx_spec.specs.views.Sections.{sections_view};
 ghost use Rattle.lx_spec.specs.views.Specs.{spec_view};
@@ -59,11 +60,10 @@ fn resolve_sections<'r, 't>(
 /// It fails with the first fault of the text: those of the sections come first, in the order of the text, and then those of the
 /// rules, rule by rule. It fails with [`Code::Memory`], at line 0, where memory was refused.
 pub fn read_spec(alloc: Global, text: &[u8]) -> Result<Spec, SpecFault>
-    ensures fault { (ends : List ℕ → ℕ) → EndsPatterns ends → IfErr result (λ f. f.code ≢ Code.Memory → IsFault ends text.now f) }
+    ensures fault { IfErr result (λ f. f.code ≢ Code.Memory → IsFault text.now f) }
     ensures memory { IfErr result (λ f. f.code ≡ Code.Memory → f.line ≡ 0) }
-    ensures spec { (ends : List ℕ → ℕ) → EndsPatterns ends → IfOk result (λ s. IsRead ends text.now (spec_view s)) }
+    ensures spec { IfOk result (λ s. IsRead text.now (spec_view s)) }
 {
-    some_pattern_end();
     if text.len() > 1048576 {
         return Err(SpecFault {
             code: Code::TooLong,
@@ -77,10 +77,11 @@ pub fn read_spec(alloc: Global, text: &[u8]) -> Result<Spec, SpecFault>
     Ok(spec)
 }
 
-/// A law: there is one function that says where patterns end, as the clauses of `read_spec` ask for one.
+/// A law: `pattern_end`, by which the definitions behind the clauses of `read_spec` end patterns, is the one function that says where the
+/// grammar ends them.
 pub fn patterns_end()
-    ensures some { (ends : List ℕ → ℕ) × EndsPatterns ends }
-    ensures one { (ends others : List ℕ → ℕ) → EndsPatterns ends → EndsPatterns others → ends ≡ others }
+    ensures there { (text : List ℕ) → IsPatternEnd text (pattern_end text) }
+    ensures one { (ends : List ℕ → ℕ) → ((text : List ℕ) → IsPatternEnd text (ends text)) → ends ≡ pattern_end }
 {
     some_pattern_end();
     one_pattern_end();
@@ -88,9 +89,9 @@ pub fn patterns_end()
 
 /// A law: a text has one verdict: it has at most one first fault, it says at most one specification, and not both.
 pub fn one_verdict()
-    ensures fault { (ends : List ℕ → ℕ) (text : List ℕ) (e f : SpecFault) → IsFault ends text e → IsFault ends text f → e ≡ f }
-    ensures spec { (ends : List ℕ → ℕ) (text : List ℕ) (s t : PlainSpec) → IsRead ends text s → IsRead ends text t → s ≡ t }
-    ensures apart { (ends : List ℕ → ℕ) (text : List ℕ) (s : PlainSpec) (f : SpecFault) → IsRead ends text s → IsFault ends text f → ⊥ }
+    ensures fault { (text : List ℕ) (e f : SpecFault) → IsFault text e → IsFault text f → e ≡ f }
+    ensures spec { (text : List ℕ) (s t : PlainSpec) → IsRead text s → IsRead text t → s ≡ t }
+    ensures apart { (text : List ℕ) (s : PlainSpec) (f : SpecFault) → IsRead text s → IsFault text f → ⊥ }
 {
     one_reading();
     one_substitute();

@@ -1,11 +1,11 @@
 // What a line of the second section says by itself (XCU `lex`, "Rules in lex").
-ghost use Rattle.std.specs.Prelude.{◌≡◌, ℕ, ◌≤◌, List, length};
+ghost use Rattle.std.specs.Prelude.{◌≡◌, ◌≤◌, length};
 ghost use Rattle.std.specs.List.{prefix_len};
 ghost use Rattle.lx_spec.specs.RuleLines as plain;
 ghost use Rattle.lx_spec.specs.views.RuleLines.{prefix_view, rule_line_view};
 
 use crate::bytes::{begins_with, blanks_len, is_blank};
-use lx_ere::extent::{one_pattern_end, pattern_end};
+use lx_ere::pattern_end;
 
 /// What stands before a pattern.
 #[derive(Drop)]
@@ -79,16 +79,15 @@ fn rule_split<'a>(n: usize, prefix: Prefix<'a>, text: &'a [u8]) -> RuleLine<'a>
 }
 
 fn rule_begins<'a>(prefix: Prefix<'a>, text: &'a [u8]) -> RuleLine<'a>
-    ensures { (ends : List ℕ → ℕ) → plain.EndsPatterns ends → rule_line_view result ≡ plain.rule_begins ends (prefix_view prefix.entry) text.now }
+    ensures { rule_line_view result ≡ plain.rule_begins (prefix_view prefix.entry) text.now }
 {
-    one_pattern_end();
     let n = pattern_end(text);
     rule_split(n, prefix, text)
 }
 
 /// The first form of Rules that fits the line.
 pub(crate) fn rule_line_of(text: &[u8]) -> RuleLine<'_>
-    ensures { (ends : List ℕ → ℕ) → plain.EndsPatterns ends → rule_line_view result ≡ plain.rule_line_of ends text.now }
+    ensures { rule_line_view result ≡ plain.rule_line_of text.now }
 {
     let Some((c, _)) = text.split_first() else {
         return RuleLine::Skipped;

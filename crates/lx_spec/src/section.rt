@@ -9,7 +9,6 @@ ghost use Rattle.lx_spec.specs.Faults.{out_of_memory};
 ghost use Rattle.lx_spec.specs.Sections as plain;
 ghost use Rattle.lx_spec.specs.Sections.{Gives, Goes};
 ghost use Rattle.lx_spec.specs.views.Sections.{raw_rule_view, sections_view};
-ghost use Rattle.lx_spec.specs.RuleLines.{EndsPatterns};
 ghost use Rattle.lx_spec.specs.views.RuleLines.{prefix_view};
 ghost use Rattle.lx_spec.specs.views.Places.{place_view};
 
@@ -153,7 +152,7 @@ fn take_definition<'a>(
     number: u32,
     line: &'a [u8],
 ) -> Result<(ParsedSections<'a>, Option<Place<'a>>), SpecFault>
-    ensures { (ends : List ℕ → ℕ) → EndsPatterns ends → (rest : List (List ℕ)) → Goes ends (λ d. (sections_view d.0, option_map place_view d.1)) number rest result (plain.sections_behind ends (sections_view sections.entry) plain.definitions number (line.now ∷ rest)) }
+    ensures { (rest : List (List ℕ)) → Goes (λ d. (sections_view d.0, option_map place_view d.1)) number rest result (plain.sections_behind (sections_view sections.entry) plain.definitions number (line.now ∷ rest)) }
 {
     match line_of(line) {
         Line::Skipped => Ok((sections, Some(Place::Definitions))),
@@ -180,7 +179,7 @@ fn continue_rule<'a>(
     sections: ParsedSections<'a>,
     begun: OpenRule<'a>,
 ) -> Result<(ParsedSections<'a>, Option<Place<'a>>), SpecFault>
-    ensures { (ends : List ℕ → ℕ) → EndsPatterns ends → (number : ℕ) (rest : List (List ℕ)) → Goes ends (λ d. (sections_view d.0, option_map place_view d.1)) number rest result (plain.with_entries (sections_view sections.entry) (plain.entries_behind ends (raw_rule_view begun.entry.rule) begun.entry.count (number + 1) rest)) }
+    ensures { (number : ℕ) (rest : List (List ℕ)) → Goes (λ d. (sections_view d.0, option_map place_view d.1)) number rest result (plain.with_entries (sections_view sections.entry) (plain.entries_behind (raw_rule_view begun.entry.rule) begun.entry.count (number + 1) rest)) }
 {
     if is_closed(begun.count) {
         let OpenRule { rule, .. } = begun;
@@ -245,7 +244,7 @@ fn take_rule<'a>(
     line: &'a [u8],
 ) -> Result<(ParsedSections<'a>, Option<Place<'a>>), SpecFault>
     requires { 0 < number }
-    ensures { (ends : List ℕ → ℕ) → EndsPatterns ends → (rest : List (List ℕ)) → Goes ends (λ d. (sections_view d.0, option_map place_view d.1)) number rest result (plain.sections_behind ends (sections_view sections.entry) plain.rules number (line.now ∷ rest)) }
+    ensures { (rest : List (List ℕ)) → Goes (λ d. (sections_view d.0, option_map place_view d.1)) number rest result (plain.sections_behind (sections_view sections.entry) plain.rules number (line.now ∷ rest)) }
 {
     match rule_line_of(line) {
         RuleLine::Skipped => Ok((sections, Some(Place::Rules))),
@@ -271,7 +270,7 @@ fn take_line<'a>(
     line: &'a [u8],
 ) -> Result<(ParsedSections<'a>, Option<Place<'a>>), SpecFault>
     requires { 0 < number }
-    ensures { (ends : List ℕ → ℕ) → EndsPatterns ends → (rest : List (List ℕ)) → Goes ends (λ d. (sections_view d.0, option_map place_view d.1)) number rest result (plain.sections_behind ends (sections_view sections.entry) (place_view place.entry) number (line.now ∷ rest)) }
+    ensures { (rest : List (List ℕ)) → Goes (λ d. (sections_view d.0, option_map place_view d.1)) number rest result (plain.sections_behind (sections_view sections.entry) (place_view place.entry) number (line.now ∷ rest)) }
 {
     match place {
         Place::Definitions => take_definition(sections, number, line),
@@ -312,7 +311,7 @@ fn at_end<'a>(
     sections: ParsedSections<'a>,
     place: Place<'a>,
 ) -> Result<ParsedSections<'a>, SpecFault>
-    ensures { (ends : List ℕ → ℕ) → (n : ℕ) → Gives sections_view result (plain.sections_behind ends (sections_view sections.entry) (place_view place.entry) n []) }
+    ensures { (n : ℕ) → Gives sections_view result (plain.sections_behind (sections_view sections.entry) (place_view place.entry) n []) }
 {
     match place {
         Place::Definitions => Err(SpecFault {
@@ -353,7 +352,7 @@ pub(crate) fn read_sections<'a>(
     text: &'a [u8],
 ) -> Result<ParsedSections<'a>, SpecFault>
     requires { length text.now ≤ 1048576 }
-    ensures { (ends : List ℕ → ℕ) → EndsPatterns ends → Gives sections_view result (plain.sections_of ends text.now) }
+    ensures { Gives sections_view result (plain.sections_of text.now) }
 {
     let mut sections = only_initial(alloc)?;
     let mut place = Place::Definitions;

@@ -31,8 +31,8 @@ wrote_kept : (old mid new : Option (List ℕ)) (text : List ℕ) → Wrote old m
 wrote_kept old mid new text h k = record { appends = appends_kept old mid new text h.appends k }
 
 module _ (old mid new : Option (List ℕ)) (kept : Keeps mid new) where
-  rules_kept : (ends : List ℕ → ℕ) (text : List ℕ) (inputs : List PlainInput) → ListsByRules ends text inputs old mid → ListsByRules ends text inputs old new
-  rules_kept ends text inputs l = record { spec = l.spec; read = l.read; plan = l.plan; by_rules = l.by_rules; wrote = appends_kept old mid new _ l.wrote kept }
+  rules_kept : (text : List ℕ) (inputs : List PlainInput) → ListsByRules text inputs old mid → ListsByRules text inputs old new
+  rules_kept text inputs l = record { spec = l.spec; read = l.read; plan = l.plan; by_rules = l.by_rules; wrote = appends_kept old mid new _ l.wrote kept }
 
   text_kept : (text : List ℕ) (inputs : List PlainInput) → ListsByText text inputs old mid → ListsByText text inputs old new
   text_kept text inputs l = record {
@@ -42,25 +42,25 @@ module _ (old mid new : Option (List ℕ)) (kept : Keeps mid new) where
     listed = record { plan = l.listed.plan; by_tables = l.listed.by_tables; wrote = appends_kept old mid new _ l.listed.wrote kept };
   }
 
-  generates_kept : (ends : List ℕ → ℕ) (text : List ℕ) → Generates ends text old mid → Generates ends text old new
-  generates_kept ends text h = record { tables = h.tables; of_text = h.of_text; wrote = wrote_kept old mid new _ h.wrote kept }
+  generates_kept : (text : List ℕ) → Generates text old mid → Generates text old new
+  generates_kept text h = record { tables = h.tables; of_text = h.of_text; wrote = wrote_kept old mid new _ h.wrote kept }
 
   upgrades_kept : (text : List ℕ) → Upgrades text old mid → Upgrades text old new
   upgrades_kept text h = record { tables = h.tables; is_table = h.is_table; of_text = h.of_text; wrote = wrote_kept old mid new _ h.wrote kept }
 
-  module _ {S : Type 0} (gives : S → List ℕ → PlainInput → S → Type 0) (ends : List ℕ → ℕ) (before after : S) (cut : List (List ℕ)) where
+  module _ {S : Type 0} (gives : S → List ℕ → PlainInput → S → Type 0) (before after : S) (cut : List (List ℕ)) where
     listed_kept : (P Q : List PlainInput → Type 0) → ((inputs : List PlainInput) → P inputs → Q inputs) → (names : List (List ℕ)) (between : S) → AreListed gives P names between after cut → AreListed gives Q names between after cut
     listed_kept P Q as_well names between l = record { inputs = l.inputs; read = l.read; listed = as_well l.inputs l.listed }
 
     -- what was done stands after the last flush
-    pub obeyed_kept : (asked : Option Asked) → HasObeyed gives ends before after old mid cut asked → HasObeyed gives ends before after old new cut asked
+    pub obeyed_kept : (asked : Option Asked) → HasObeyed gives before after old mid cut asked → HasObeyed gives before after old new cut asked
     obeyed_kept None h = h
-    obeyed_kept (Some stored) h = (rules_kept ends stored_specification _ h.0, h.1)
+    obeyed_kept (Some stored) h = (rules_kept stored_specification _ h.0, h.1)
     obeyed_kept (Some (run order)) h = record {
       text = h.text;
       between = h.between;
       given = h.given;
-      listed = listed_kept (λ inputs. ListsByRules ends h.text inputs old mid) (λ inputs. ListsByRules ends h.text inputs old new) (rules_kept ends h.text) order.files h.between h.listed;
+      listed = listed_kept (λ inputs. ListsByRules h.text inputs old mid) (λ inputs. ListsByRules h.text inputs old new) (rules_kept h.text) order.files h.between h.listed;
     }
     obeyed_kept (Some (scan workers order)) h = record {
       text = h.text;
@@ -68,20 +68,20 @@ module _ (old mid new : Option (List ℕ)) (kept : Keeps mid new) where
       given = h.given;
       listed = listed_kept (λ inputs. ListsByText h.text inputs old mid) (λ inputs. ListsByText h.text inputs old new) (text_kept h.text) order.files h.between h.listed;
     }
-    obeyed_kept (Some (gen name)) h = (record { text = h.0.text; given = h.0.given; printed = generates_kept ends h.0.text h.0.printed }, h.1)
+    obeyed_kept (Some (gen name)) h = (record { text = h.0.text; given = h.0.given; printed = generates_kept h.0.text h.0.printed }, h.1)
     obeyed_kept (Some (up name)) h = (record { text = h.0.text; given = h.0.given; printed = upgrades_kept h.0.text h.0.printed }, h.1)
 
 -- ---- refusals
 
-pub no_tables_tells : (ends : List ℕ → ℕ) (text : List ℕ) (failure : Failure) → HasNoTables ends text failure → HidesNoMemory failure
-no_tables_tells ends text (Specification fault) h = h.0
-no_tables_tells ends text (Automaton fault) h = h.known
-no_tables_tells ends text (Tables fault) h = absurd h
-no_tables_tells ends text (Words error) h = absurd h
-no_tables_tells ends text TooManyFiles h = tt
-no_tables_tells ends text (NotRead name) h = tt
-no_tables_tells ends text Output h = tt
-no_tables_tells ends text Memory h = tt
+pub no_tables_tells : (text : List ℕ) (failure : Failure) → HasNoTables text failure → HidesNoMemory failure
+no_tables_tells text (Specification fault) h = h.0
+no_tables_tells text (Automaton fault) h = h.known
+no_tables_tells text (Tables fault) h = absurd h
+no_tables_tells text (Words error) h = absurd h
+no_tables_tells text TooManyFiles h = tt
+no_tables_tells text (NotRead name) h = tt
+no_tables_tells text Output h = tt
+no_tables_tells text Memory h = tt
 
 pub no_table_tells : (text : List ℕ) (failure : Failure) → IsNoTable text failure → HidesNoMemory failure
 no_table_tells text (Specification fault) h = absurd h
@@ -96,12 +96,12 @@ no_table_tells text Memory h = tt
 contains_behind : (names : List (List ℕ)) (first name : List ℕ) → Contains names name → Contains (first ∷ names) name
 contains_behind names first name h = let within = h.1 in (suc (h.0), omega (arith, within), h.2)
 
-module _ {S : Type 0} (gives : S → List ℕ → PlainInput → S → Type 0) (ends : List ℕ → ℕ) (before : S) (old new : Option (List ℕ)) where
+module _ {S : Type 0} (gives : S → List ℕ → PlainInput → S → Type 0) (before : S) (old new : Option (List ℕ)) where
   -- a specification or tables were refused
-  pub rules_refused : (asked : Asked) (Refuses : Failure → Type 0) → ((failure : Failure) → Refuses failure → AreRulesRefused gives ends before asked failure) →
+  pub rules_refused : (asked : Asked) (Refuses : Failure → Type 0) → ((failure : Failure) → Refuses failure → AreRulesRefused gives before asked failure) →
       ((failure : Failure) → Refuses failure → HidesNoMemory failure) → Keeps old new →
       (Refuses TooManyFiles → ⊥) → ((name : _) → Refuses (NotRead name) → ⊥) → ((error : _) → Refuses (Words error) → ⊥) →
-      (failure : Failure) → Refuses failure → HasFailed gives ends (Some asked) before old new failure
+      (failure : Failure) → Refuses failure → HasFailed gives (Some asked) before old new failure
   rules_refused asked Refuses refused tells kept few known words (Specification fault) h = λ low. record { cause = refused (Specification fault) h; tells = tells (Specification fault) h; kept = kept }
   rules_refused asked Refuses refused tells kept few known words (Automaton fault) h = λ low. record { cause = refused (Automaton fault) h; tells = tells (Automaton fault) h; kept = kept }
   rules_refused asked Refuses refused tells kept few known words (Tables fault) h = λ low. record { cause = refused (Tables fault) h; tells = tells (Tables fault) h; kept = kept }
@@ -112,9 +112,9 @@ module _ {S : Type 0} (gives : S → List ℕ → PlainInput → S → Type 0) (
   rules_refused asked Refuses refused tells kept few known words Memory h = λ low. absurd (omega (arith, low))
 
   -- a listing was refused whose rules stand in a text that the sources gave
-  pub listing_refused : (asked : Asked) (files : List (List ℕ)) (between after : S) (Refuses : Failure → Type 0) (Part : Type 0) → ((failure : Failure) → Refuses failure → AreRulesRefused gives ends before asked failure) →
+  pub listing_refused : (asked : Asked) (files : List (List ℕ)) (between after : S) (Refuses : Failure → Type 0) (Part : Type 0) → ((failure : Failure) → Refuses failure → AreRulesRefused gives before asked failure) →
       ((failure : Failure) → Refuses failure → HidesNoMemory failure) → ((name : List ℕ) → Contains files name → Contains (names_asked asked) name) →
-      (failure : Failure) → FailsListing Refuses Part files between after old new failure → HasFailed gives ends (Some asked) before old new failure
+      (failure : Failure) → FailsListing Refuses Part files between after old new failure → HasFailed gives (Some asked) before old new failure
   listing_refused asked files between after Refuses Part refused tells within (Specification fault) h = λ low. record { cause = refused (Specification fault) h.0; tells = tells (Specification fault) h.0; kept = h.1.output }
   listing_refused asked files between after Refuses Part refused tells within (Automaton fault) h = λ low. record { cause = refused (Automaton fault) h.0; tells = tells (Automaton fault) h.0; kept = h.1.output }
   listing_refused asked files between after Refuses Part refused tells within (Tables fault) h = λ low. record { cause = refused (Tables fault) h.0; tells = tells (Tables fault) h.0; kept = h.1.output }
@@ -126,23 +126,23 @@ module _ {S : Type 0} (gives : S → List ℕ → PlainInput → S → Type 0) (
 
   module _ (text : List ℕ) (between : S) where
     pub run_refused : (order : PlainOrder) (after : S) (Part : Type 0) → gives before order.rules (whole text) between →
-        (failure : Failure) → FailsListing (HasNoTables ends text) Part order.files between after old new failure → HasFailed gives ends (Some (run order)) before old new failure
+        (failure : Failure) → FailsListing (HasNoTables text) Part order.files between after old new failure → HasFailed gives (Some (run order)) before old new failure
     run_refused order after Part given =
-        listing_refused (run order) order.files between after (HasNoTables ends text) Part refused (no_tables_tells ends text) (contains_behind order.files order.rules)
+        listing_refused (run order) order.files between after (HasNoTables text) Part refused (no_tables_tells text) (contains_behind order.files order.rules)
       where
-        refused : (failure : Failure) → HasNoTables ends text failure → AreRulesRefused gives ends before (run order) failure
+        refused : (failure : Failure) → HasNoTables text failure → AreRulesRefused gives before (run order) failure
         refused failure h = record { text = text; after = between; given = given; refused = h }
 
     pub scan_refused : (workers : ℕ) (order : PlainOrder) (after : S) (Part : Type 0) → gives before order.rules (whole text) between →
-        (failure : Failure) → FailsListing (IsNoTable text) Part order.files between after old new failure → HasFailed gives ends (Some (scan workers order)) before old new failure
+        (failure : Failure) → FailsListing (IsNoTable text) Part order.files between after old new failure → HasFailed gives (Some (scan workers order)) before old new failure
     scan_refused workers order after Part given =
         listing_refused (scan workers order) order.files between after (IsNoTable text) Part refused (no_table_tells text) (contains_behind order.files order.rules)
       where
-        refused : (failure : Failure) → IsNoTable text failure → AreRulesRefused gives ends before (scan workers order) failure
+        refused : (failure : Failure) → IsNoTable text failure → AreRulesRefused gives before (scan workers order) failure
         refused failure h = record { text = text; after = between; given = given; refused = h }
 
     pub gen_refused : (name : List ℕ) → gives before name (whole text) between →
-        (failure : Failure) → FailsGenerating ends text old new failure → HasFailed gives ends (Some (gen name)) before old new failure
+        (failure : Failure) → FailsGenerating text old new failure → HasFailed gives (Some (gen name)) before old new failure
     gen_refused name given (Specification fault) h = λ low. record { cause = record { text = text; after = between; given = given; refused = h.0 }; tells = h.0.0; kept = h.1 }
     gen_refused name given (Automaton fault) h = λ low. record { cause = record { text = text; after = between; given = given; refused = h.0 }; tells = h.0.known; kept = h.1 }
     gen_refused name given (Tables fault) h = absurd h
@@ -153,16 +153,16 @@ module _ {S : Type 0} (gives : S → List ℕ → PlainInput → S → Type 0) (
     gen_refused name given Memory h = λ low. absurd (omega (arith, low))
 
   -- the stored specification was refused
-  pub stored_refused : (failure : Failure) → (status_of failure < 4 → HasNoTables ends stored_specification failure × Keeps old new) → HasFailed gives ends (Some stored) before old new failure
-  stored_refused failure h = λ low. rules_refused stored (HasNoTables ends stored_specification) (λ f r. r) (no_tables_tells ends stored_specification) (h low).1 (λ r. absurd r) (λ name r. absurd r) (λ error r. absurd r) failure (h low).0 low
+  pub stored_refused : (failure : Failure) → (status_of failure < 4 → HasNoTables stored_specification failure × Keeps old new) → HasFailed gives (Some stored) before old new failure
+  stored_refused failure h = λ low. rules_refused stored (HasNoTables stored_specification) (λ f r. r) (no_tables_tells stored_specification) (h low).1 (λ r. absurd r) (λ name r. absurd r) (λ error r. absurd r) failure (h low).0 low
 
 -- ---- ends
 
 -- all was listed, but some files were cut short
-pub ended_cut : {S : Type 0} (gives : S → List ℕ → PlainInput → S → Type 0) (ends : List ℕ → ℕ) (before after : S) (old new : Option (List ℕ)) (cut : List (List ℕ)) (asked : Option Asked) → cut ≢ [] →
-    HasObeyed gives ends before after old new cut asked → IsCutShort gives ends asked before after old new
-ended_cut gives ends before after old new cut None some h = absurd (some h)
-ended_cut gives ends before after old new cut (Some asked) some h = record { cut = cut; some = some; done = h }
+pub ended_cut : {S : Type 0} (gives : S → List ℕ → PlainInput → S → Type 0) (before after : S) (old new : Option (List ℕ)) (cut : List (List ℕ)) (asked : Option Asked) → cut ≢ [] →
+    HasObeyed gives before after old new cut asked → IsCutShort gives asked before after old new
+ended_cut gives before after old new cut None some h = absurd (some h)
+ended_cut gives before after old new cut (Some asked) some h = record { cut = cut; some = some; done = h }
 
 -- the stored text is one of bytes
 pub stored_bytes : AreBytes (whole stored_text ∷ [])

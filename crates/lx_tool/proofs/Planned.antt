@@ -25,9 +25,9 @@ plan_by_rules spec table inputs plan law is of bytes by = record {
       law.by_rules spec plan.table (bytes_of plan file) (rw by.table_is is) (rw by.table_is of) are_bytes;
 }
 
-pub by_rules : (ends : List ℕ → ℕ) (text : List ℕ) (table : Table) (inputs : List PlainInput) (old new : Option (List ℕ)) → GiveItems →
-    IsTable table → AreTablesOfText ends text table → AreBytes inputs → ListsBy table inputs old new → ListsByRules ends text inputs old new
-by_rules ends text table inputs old new law is of bytes lists = record {
+pub by_rules : (text : List ℕ) (table : Table) (inputs : List PlainInput) (old new : Option (List ℕ)) → GiveItems →
+    IsTable table → AreTablesOfText text table → AreBytes inputs → ListsBy table inputs old new → ListsByRules text inputs old new
+by_rules text table inputs old new law is of bytes lists = record {
   spec = of.spec;
   read = of.read;
   plan = lists.plan;
@@ -35,9 +35,9 @@ by_rules ends text table inputs old new law is of bytes lists = record {
   wrote = lists.wrote;
 }
 
-pub prefix_by_rules : (ends : List ℕ → ℕ) (text : List ℕ) (table : Table) (inputs : List PlainInput) (old new : Option (List ℕ)) → GiveItems →
-    IsTable table → AreTablesOfText ends text table → AreBytes inputs → ListsPrefixBy table inputs old new → ListsPrefixByRules ends text inputs old new
-prefix_by_rules ends text table inputs old new law is of bytes lists = record {
+pub prefix_by_rules : (text : List ℕ) (table : Table) (inputs : List PlainInput) (old new : Option (List ℕ)) → GiveItems →
+    IsTable table → AreTablesOfText text table → AreBytes inputs → ListsPrefixBy table inputs old new → ListsPrefixByRules text inputs old new
+prefix_by_rules text table inputs old new law is of bytes lists = record {
   spec = of.spec;
   read = of.read;
   plan = lists.plan;

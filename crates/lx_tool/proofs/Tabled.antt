@@ -13,42 +13,42 @@ use Rattle.lx_tool.specs.Tabling.{HasNoTables, FailsGenerating, FailsUpgrading}
 use Rattle.lx_tool.specs.declared.failure.Failure.{Failure}
 use Rattle.lx_tool.specs.declared.failure.Failure.TheVariants.{Specification, Automaton, Tables, Words, TooManyFiles, NotRead, Output, Memory}
 
-pub too_large : (ends : List ℕ → ℕ) (text : List ℕ) (spec : PlainSpec) → IsRead ends text spec → (fault : BuildFault) → (fault ≡ build.TooManyPositions → 16384 < count_of_spec spec) →
-    (fault ≡ build.TooManySets → (count_of_spec spec ≤ 16384) × HasMoreReachedSets spec 16384) → HasNoTables ends text (failure_of_build fault)
-too_large ends text spec read build.TooManyPositions positions sets = record { spec = spec; read = read; known = λ e. cc; positions = positions; sets = sets }
-too_large ends text spec read build.TooManySets positions sets = record { spec = spec; read = read; known = λ e. cc; positions = positions; sets = sets }
-too_large ends text spec read build.Memory positions sets = tt
+pub too_large : (text : List ℕ) (spec : PlainSpec) → IsRead text spec → (fault : BuildFault) → (fault ≡ build.TooManyPositions → 16384 < count_of_spec spec) →
+    (fault ≡ build.TooManySets → (count_of_spec spec ≤ 16384) × HasMoreReachedSets spec 16384) → HasNoTables text (failure_of_build fault)
+too_large text spec read build.TooManyPositions positions sets = record { spec = spec; read = read; known = λ e. cc; positions = positions; sets = sets }
+too_large text spec read build.TooManySets positions sets = record { spec = spec; read = read; known = λ e. cc; positions = positions; sets = sets }
+too_large text spec read build.Memory positions sets = tt
 
 -- where a text has no tables, nothing was written
-pub fails_before : (ends : List ℕ → ℕ) (text : List ℕ) (old new : Option (List ℕ)) (failure : Failure) → HasNoTables ends text failure → Keeps old new → FailsGenerating ends text old new failure
-fails_before ends text old new (Specification fault) none keeps = (none, keeps)
-fails_before ends text old new (Automaton fault) none keeps = (none, keeps)
-fails_before ends text old new (Tables fault) none keeps = none
-fails_before ends text old new (Words error) none keeps = none
-fails_before ends text old new TooManyFiles none keeps = none
-fails_before ends text old new (NotRead name) none keeps = none
-fails_before ends text old new Output none keeps = absurd none
-fails_before ends text old new Memory none keeps = keeps
+pub fails_before : (text : List ℕ) (old new : Option (List ℕ)) (failure : Failure) → HasNoTables text failure → Keeps old new → FailsGenerating text old new failure
+fails_before text old new (Specification fault) none keeps = (none, keeps)
+fails_before text old new (Automaton fault) none keeps = (none, keeps)
+fails_before text old new (Tables fault) none keeps = none
+fails_before text old new (Words error) none keeps = none
+fails_before text old new TooManyFiles none keeps = none
+fails_before text old new (NotRead name) none keeps = none
+fails_before text old new Output none keeps = absurd none
+fails_before text old new Memory none keeps = keeps
 
-pub generating_kept : (ends : List ℕ → ℕ) (text : List ℕ) (old new : Option (List ℕ)) (failure : Failure) → FailsGenerating ends text old new failure → status_of failure < 4 → Keeps old new
-generating_kept ends text old new (Specification fault) fails low = fails.1
-generating_kept ends text old new (Automaton fault) fails low = fails.1
-generating_kept ends text old new (Tables fault) fails low = absurd fails
-generating_kept ends text old new (Words error) fails low = absurd fails
-generating_kept ends text old new TooManyFiles fails low = absurd fails
-generating_kept ends text old new (NotRead name) fails low = absurd fails
-generating_kept ends text old new Output fails low = absurd (omega arith)
-generating_kept ends text old new Memory fails low = fails
+pub generating_kept : (text : List ℕ) (old new : Option (List ℕ)) (failure : Failure) → FailsGenerating text old new failure → status_of failure < 4 → Keeps old new
+generating_kept text old new (Specification fault) fails low = fails.1
+generating_kept text old new (Automaton fault) fails low = fails.1
+generating_kept text old new (Tables fault) fails low = absurd fails
+generating_kept text old new (Words error) fails low = absurd fails
+generating_kept text old new TooManyFiles fails low = absurd fails
+generating_kept text old new (NotRead name) fails low = absurd fails
+generating_kept text old new Output fails low = absurd (omega arith)
+generating_kept text old new Memory fails low = fails
 
-pub generating_tells : (ends : List ℕ → ℕ) (text : List ℕ) (old new : Option (List ℕ)) (failure : Failure) → FailsGenerating ends text old new failure → HidesNoMemory failure
-generating_tells ends text old new (Specification fault) fails = fails.0.0
-generating_tells ends text old new (Automaton fault) fails = fails.0.known
-generating_tells ends text old new (Tables fault) fails = absurd fails
-generating_tells ends text old new (Words error) fails = absurd fails
-generating_tells ends text old new TooManyFiles fails = tt
-generating_tells ends text old new (NotRead name) fails = tt
-generating_tells ends text old new Output fails = tt
-generating_tells ends text old new Memory fails = tt
+pub generating_tells : (text : List ℕ) (old new : Option (List ℕ)) (failure : Failure) → FailsGenerating text old new failure → HidesNoMemory failure
+generating_tells text old new (Specification fault) fails = fails.0.0
+generating_tells text old new (Automaton fault) fails = fails.0.known
+generating_tells text old new (Tables fault) fails = absurd fails
+generating_tells text old new (Words error) fails = absurd fails
+generating_tells text old new TooManyFiles fails = tt
+generating_tells text old new (NotRead name) fails = tt
+generating_tells text old new Output fails = tt
+generating_tells text old new Memory fails = tt
 
 pub upgrading_kept : (text : List ℕ) (old new : Option (List ℕ)) (failure : Failure) → FailsUpgrading text old new failure → status_of failure < 4 → Keeps old new
 upgrading_kept text old new (Specification fault) fails low = absurd fails

@@ -34,12 +34,12 @@ pub record IsPrinted {S : Type 0} (gives : S → List ℕ → PlainInput → S �
   pub printed : Prints text
 
 -- What the words ask for was done; `cut` names the files that were cut short.
-abbrev pub HasDone : {S : Type 0} → (S → List ℕ → PlainInput → S → Type 0) → (List ℕ → ℕ) → S → S → Option (List ℕ) → Option (List ℕ) → List (List ℕ) → Asked → Type 0
-HasDone gives ends before after old new cut stored = ListsByRules ends stored_specification (whole stored_text ∷ []) old new × (cut ≡ [])
-HasDone gives ends before after old new cut (run order) = AreListedBy gives (λ text inputs. ListsByRules ends text inputs old new) order before after cut
-HasDone gives ends before after old new cut (scan workers order) = AreListedBy gives (λ text inputs. ListsByText text inputs old new) order before after cut
-HasDone gives ends before after old new cut (gen name) = IsPrinted gives (λ text. Generates ends text old new) name before after × (cut ≡ [])
-HasDone gives ends before after old new cut (up name) = IsPrinted gives (λ text. Upgrades text old new) name before after × (cut ≡ [])
+abbrev pub HasDone : {S : Type 0} → (S → List ℕ → PlainInput → S → Type 0) → S → S → Option (List ℕ) → Option (List ℕ) → List (List ℕ) → Asked → Type 0
+HasDone gives before after old new cut stored = ListsByRules stored_specification (whole stored_text ∷ []) old new × (cut ≡ [])
+HasDone gives before after old new cut (run order) = AreListedBy gives (λ text inputs. ListsByRules text inputs old new) order before after cut
+HasDone gives before after old new cut (scan workers order) = AreListedBy gives (λ text inputs. ListsByText text inputs old new) order before after cut
+HasDone gives before after old new cut (gen name) = IsPrinted gives (λ text. Generates text old new) name before after × (cut ≡ [])
+HasDone gives before after old new cut (up name) = IsPrinted gives (λ text. Upgrades text old new) name before after × (cut ≡ [])
 
 -- ---- why it is not
 
@@ -67,49 +67,49 @@ pub record IsTextRefused {S : Type 0} (gives : S → List ℕ → PlainInput →
   pub refused : Refuses text
 
 -- the specification or the tables are refused
-abbrev pub AreRulesRefused : {S : Type 0} → (S → List ℕ → PlainInput → S → Type 0) → (List ℕ → ℕ) → S → Asked → Failure → Type 0
-AreRulesRefused gives ends before stored failure = HasNoTables ends stored_specification failure
-AreRulesRefused gives ends before (run order) failure = IsTextRefused gives (λ text. HasNoTables ends text failure) order.rules before
-AreRulesRefused gives ends before (scan workers order) failure = IsTextRefused gives (λ text. IsNoTable text failure) order.rules before
-AreRulesRefused gives ends before (gen name) failure = IsTextRefused gives (λ text. HasNoTables ends text failure) name before
-AreRulesRefused gives ends before (up name) failure = IsTextRefused gives (λ text. IsNoTable text failure) name before
+abbrev pub AreRulesRefused : {S : Type 0} → (S → List ℕ → PlainInput → S → Type 0) → S → Asked → Failure → Type 0
+AreRulesRefused gives before stored failure = HasNoTables stored_specification failure
+AreRulesRefused gives before (run order) failure = IsTextRefused gives (λ text. HasNoTables text failure) order.rules before
+AreRulesRefused gives before (scan workers order) failure = IsTextRefused gives (λ text. IsNoTable text failure) order.rules before
+AreRulesRefused gives before (gen name) failure = IsTextRefused gives (λ text. HasNoTables text failure) name before
+AreRulesRefused gives before (up name) failure = IsTextRefused gives (λ text. IsNoTable text failure) name before
 
 -- why what the words ask for was not done
-abbrev pub HasCause : {S : Type 0} → (S → List ℕ → PlainInput → S → Type 0) → (List ℕ → ℕ) → S → Asked → Failure → Type 0
-HasCause gives ends before asked (Specification fault) = AreRulesRefused gives ends before asked (Specification fault)
-HasCause gives ends before asked (Automaton fault) = AreRulesRefused gives ends before asked (Automaton fault)
-HasCause gives ends before asked (Tables fault) = AreRulesRefused gives ends before asked (Tables fault)
-HasCause gives ends before asked (Words error) = ⊥
-HasCause gives ends before asked TooManyFiles = 65536 < length (files_asked asked)
-HasCause gives ends before asked (NotRead name) = Contains (names_asked asked) name.now
-HasCause gives ends before asked Output = ⊥
-HasCause gives ends before asked Memory = ⊥
+abbrev pub HasCause : {S : Type 0} → (S → List ℕ → PlainInput → S → Type 0) → S → Asked → Failure → Type 0
+HasCause gives before asked (Specification fault) = AreRulesRefused gives before asked (Specification fault)
+HasCause gives before asked (Automaton fault) = AreRulesRefused gives before asked (Automaton fault)
+HasCause gives before asked (Tables fault) = AreRulesRefused gives before asked (Tables fault)
+HasCause gives before asked (Words error) = ⊥
+HasCause gives before asked TooManyFiles = 65536 < length (files_asked asked)
+HasCause gives before asked (NotRead name) = Contains (names_asked asked) name.now
+HasCause gives before asked Output = ⊥
+HasCause gives before asked Memory = ⊥
 
 -- ---- both, by what the words ask for, if they ask for anything
 
 -- It was done; or they ask for nothing, but for help.
-abbrev pub HasObeyed : {S : Type 0} → (S → List ℕ → PlainInput → S → Type 0) → (List ℕ → ℕ) → S → S → Option (List ℕ) → Option (List ℕ) → List (List ℕ) → Option Asked → Type 0
-HasObeyed gives ends before after old new cut None = cut ≡ []
-HasObeyed gives ends before after old new cut (Some asked) = HasDone gives ends before after old new cut asked
+abbrev pub HasObeyed : {S : Type 0} → (S → List ℕ → PlainInput → S → Type 0) → S → S → Option (List ℕ) → Option (List ℕ) → List (List ℕ) → Option Asked → Type 0
+HasObeyed gives before after old new cut None = cut ≡ []
+HasObeyed gives before after old new cut (Some asked) = HasDone gives before after old new cut asked
 
 -- All was listed, but some files were cut short.
-pub record IsCutShort {S : Type 0} (gives : S → List ℕ → PlainInput → S → Type 0) (ends : List ℕ → ℕ) (asked : Option Asked) (before after : S) (old new : Option (List ℕ)) : Type 0 where
+pub record IsCutShort {S : Type 0} (gives : S → List ℕ → PlainInput → S → Type 0) (asked : Option Asked) (before after : S) (old new : Option (List ℕ)) : Type 0 where
   pub cut : List (List ℕ)
   pub some : cut ≢ []
-  pub done : IsSomeAnd asked (HasDone gives ends before after old new cut)
+  pub done : IsSomeAnd asked (HasDone gives before after old new cut)
 
 -- Nothing was written: the words ask for nothing, or what they ask for was not done, for a cause that isn't the output or memory.
-pub record IsRefused {S : Type 0} (gives : S → List ℕ → PlainInput → S → Type 0) (ends : List ℕ → ℕ) (asked : Option Asked) (before : S) (old new : Option (List ℕ)) (failure : Failure) : Type 0 where
-  pub cause : MatchOption asked (status_of failure ≡ 2) (λ a. HasCause gives ends before a failure)
+pub record IsRefused {S : Type 0} (gives : S → List ℕ → PlainInput → S → Type 0) (asked : Option Asked) (before : S) (old new : Option (List ℕ)) (failure : Failure) : Type 0 where
+  pub cause : MatchOption asked (status_of failure ≡ 2) (λ a. HasCause gives before a failure)
   pub tells : HidesNoMemory failure
   pub kept : Keeps old new
 
 -- Where a command failed for a cause that isn't the output or memory, it was refused.
-abbrev pub HasFailed : {S : Type 0} → (S → List ℕ → PlainInput → S → Type 0) → (List ℕ → ℕ) → Option Asked → S → Option (List ℕ) → Option (List ℕ) → Failure → Type 0
-HasFailed gives ends asked before old new failure = status_of failure < 4 → IsRefused gives ends asked before old new failure
+abbrev pub HasFailed : {S : Type 0} → (S → List ℕ → PlainInput → S → Type 0) → Option Asked → S → Option (List ℕ) → Option (List ℕ) → Failure → Type 0
+HasFailed gives asked before old new failure = status_of failure < 4 → IsRefused gives asked before old new failure
 
 -- What is known at an exit status from 1 to 3: a cut file, or why the words were refused or not obeyed.
-abbrev pub HasEnded : {S : Type 0} → (S → List ℕ → PlainInput → S → Type 0) → (List ℕ → ℕ) → Option Asked → S → S → Option (List ℕ) → Option (List ℕ) → ℕ → Type 0
-HasEnded gives ends asked before after old new status =
-    ((status ≡ 3) × IsCutShort gives ends asked before after old new)
-    ⊎ ((failure : Failure) × (status ≡ status_of failure) × IsRefused gives ends asked before old new failure)
+abbrev pub HasEnded : {S : Type 0} → (S → List ℕ → PlainInput → S → Type 0) → Option Asked → S → S → Option (List ℕ) → Option (List ℕ) → ℕ → Type 0
+HasEnded gives asked before after old new status =
+    ((status ≡ 3) × IsCutShort gives asked before after old new)
+    ⊎ ((failure : Failure) × (status ≡ status_of failure) × IsRefused gives asked before old new failure)

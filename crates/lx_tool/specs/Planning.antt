@@ -41,17 +41,17 @@ pub record IsPlanByRules (spec : PlainSpec) (inputs : List PlainInput) (plan : P
   pub items : (file : ℕ) → file < length inputs → AreItemsBy spec (bytes_of plan file) (items_of plan file)
 
 -- What was written are the lines of the items of these files by the rules of the specification that the text says.
-pub record ListsByRules (ends : List ℕ → ℕ) (text : List ℕ) (inputs : List PlainInput) (old new : Option (List ℕ)) : Type 0 where
+pub record ListsByRules (text : List ℕ) (inputs : List PlainInput) (old new : Option (List ℕ)) : Type 0 where
   pub spec : PlainSpec
-  pub read : IsRead ends text spec
+  pub read : IsRead text spec
   pub plan : Planned
   pub by_rules : IsPlanByRules spec inputs plan
   pub wrote : Appends old new (listing_of plan)
 
 -- What was written is a prefix of those lines.
-pub record ListsPrefixByRules (ends : List ℕ → ℕ) (text : List ℕ) (inputs : List PlainInput) (old new : Option (List ℕ)) : Type 0 where
+pub record ListsPrefixByRules (text : List ℕ) (inputs : List PlainInput) (old new : Option (List ℕ)) : Type 0 where
   pub spec : PlainSpec
-  pub read : IsRead ends text spec
+  pub read : IsRead text spec
   pub plan : Planned
   pub by_rules : IsPlanByRules spec inputs plan
   pub wrote : AppendsPrefix old new (listing_of plan)

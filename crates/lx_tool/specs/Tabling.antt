@@ -17,52 +17,52 @@ use Rattle.lx_tool.specs.declared.failure.Failure.{Failure}
 use Rattle.lx_tool.specs.declared.failure.Failure.TheVariants.{Specification, Automaton, Tables, Words, TooManyFiles, NotRead, Output, Memory}
 
 -- Tables of the specification that a text says.
-pub record AreTablesOfText (ends : List ℕ → ℕ) (text : List ℕ) (tables : Table) : Type 0 where
+pub record AreTablesOfText (text : List ℕ) (tables : Table) : Type 0 where
   pub spec : PlainSpec
-  pub read : IsRead ends text spec
+  pub read : IsRead text spec
   pub of_spec : AreTablesOf spec tables
 
 -- The text says a specification that is too large: of positions, or of reached sets.
-pub record IsTooLarge (ends : List ℕ → ℕ) (text : List ℕ) (fault : BuildFault) : Type 0 where
+pub record IsTooLarge (text : List ℕ) (fault : BuildFault) : Type 0 where
   pub spec : PlainSpec
-  pub read : IsRead ends text spec
+  pub read : IsRead text spec
   pub known : fault ≢ build.Memory
   pub positions : fault ≡ build.TooManyPositions → 16384 < count_of_spec spec
   pub sets : fault ≡ build.TooManySets → (count_of_spec spec ≤ 16384) × HasMoreReachedSets spec 16384
 
 -- why a text has no tables: what is wrong with it, or that memory was refused
-abbrev pub HasNoTables : (List ℕ → ℕ) → List ℕ → Failure → Type 0
-HasNoTables ends text (Specification fault) = (fault.code ≢ code.Memory) × IsFault ends text fault
-HasNoTables ends text (Automaton fault) = IsTooLarge ends text fault
-HasNoTables ends text (Tables fault) = ⊥
-HasNoTables ends text (Words error) = ⊥
-HasNoTables ends text TooManyFiles = ⊥
-HasNoTables ends text (NotRead name) = ⊥
-HasNoTables ends text Output = ⊥
-HasNoTables ends text Memory = ⊤
+abbrev pub HasNoTables : List ℕ → Failure → Type 0
+HasNoTables text (Specification fault) = (fault.code ≢ code.Memory) × IsFault text fault
+HasNoTables text (Automaton fault) = IsTooLarge text fault
+HasNoTables text (Tables fault) = ⊥
+HasNoTables text (Words error) = ⊥
+HasNoTables text TooManyFiles = ⊥
+HasNoTables text (NotRead name) = ⊥
+HasNoTables text Output = ⊥
+HasNoTables text Memory = ⊤
 
 -- The tables of the text's specification were written in version 2.
-pub record Generates (ends : List ℕ → ℕ) (text : List ℕ) (old new : Option (List ℕ)) : Type 0 where
+pub record Generates (text : List ℕ) (old new : Option (List ℕ)) : Type 0 where
   pub tables : Table
-  pub of_text : AreTablesOfText ends text tables
+  pub of_text : AreTablesOfText text tables
   pub wrote : Wrote old new (text_2 tables)
 
 -- A prefix of them was.
-pub record GeneratesPrefix (ends : List ℕ → ℕ) (text : List ℕ) (old new : Option (List ℕ)) : Type 0 where
+pub record GeneratesPrefix (text : List ℕ) (old new : Option (List ℕ)) : Type 0 where
   pub tables : Table
-  pub of_text : AreTablesOfText ends text tables
+  pub of_text : AreTablesOfText text tables
   pub wrote : WrotePrefix old new (text_2 tables)
 
 -- The output failed behind a prefix; or the text has no tables, and nothing was written.
-abbrev pub FailsGenerating : (List ℕ → ℕ) → List ℕ → Option (List ℕ) → Option (List ℕ) → Failure → Type 0
-FailsGenerating ends text old new (Specification fault) = HasNoTables ends text (Specification fault) × Keeps old new
-FailsGenerating ends text old new (Automaton fault) = HasNoTables ends text (Automaton fault) × Keeps old new
-FailsGenerating ends text old new (Tables fault) = ⊥
-FailsGenerating ends text old new (Words error) = ⊥
-FailsGenerating ends text old new TooManyFiles = ⊥
-FailsGenerating ends text old new (NotRead name) = ⊥
-FailsGenerating ends text old new Output = GeneratesPrefix ends text old new
-FailsGenerating ends text old new Memory = Keeps old new
+abbrev pub FailsGenerating : List ℕ → Option (List ℕ) → Option (List ℕ) → Failure → Type 0
+FailsGenerating text old new (Specification fault) = HasNoTables text (Specification fault) × Keeps old new
+FailsGenerating text old new (Automaton fault) = HasNoTables text (Automaton fault) × Keeps old new
+FailsGenerating text old new (Tables fault) = ⊥
+FailsGenerating text old new (Words error) = ⊥
+FailsGenerating text old new TooManyFiles = ⊥
+FailsGenerating text old new (NotRead name) = ⊥
+FailsGenerating text old new Output = GeneratesPrefix text old new
+FailsGenerating text old new Memory = Keeps old new
 
 -- The tables whose text it is were written in version 2.
 pub record Upgrades (text : List ℕ) (old new : Option (List ℕ)) : Type 0 where

@@ -1,8 +1,7 @@
 //! The files that sources give for names, and their listing.
 
-ghost use Rattle.std.specs.Prelude.{◌≡◌, ◌<◌, ◌≤◌, ℕ, List, [], ◌∷◌, All, IfOk, IfErr, length, map, vec_len};
+ghost use Rattle.std.specs.Prelude.{◌≡◌, ◌<◌, ◌≤◌, [], ◌∷◌, All, IfOk, IfErr, length, map, vec_len};
 ghost use Rattle.lx_piece.specs.Plans.{input_view};
-ghost use Rattle.lx_spec.specs.RuleLines.{EndsPatterns};
 ghost use Rattle.lx_tool.specs.Given.{AreListed, ArePartlyListed, AreRead, FailsListing, IsNoTable, IsUnread};
 ghost use Rattle.lx_tool.specs.Planning.{AreBytes, ListsBy, ListsPrefixBy, ListsByRules, ListsPrefixByRules, ListsByText, ListsPrefixByText};
 ghost use Rattle.lx_tool.specs.Sources.{AreGiven, cut_names, whole};
@@ -188,10 +187,10 @@ pub fn list_by_specification<'a, S: Sources, W: Write>(
     requires few_files { length names.now ≤ 65536 }
     requires some_items { 0 < per_piece }
     requires few_items { per_piece ≤ 4096 }
-    ensures ok { (ends : List ℕ → ℕ) → EndsPatterns ends → IfOk result (λ cut. AreListed S.gives (λ inputs. ListsByRules ends text.now inputs (W.contents out.old) (W.contents out.new))
+    ensures ok { IfOk result (λ cut. AreListed S.gives (λ inputs. ListsByRules text.now inputs (W.contents out.old) (W.contents out.new))
         (map (λ name. name.now) names.now) sources.old sources.new (map (λ name. name.now) cut.items)) }
-    ensures err { (ends : List ℕ → ℕ) → EndsPatterns ends → IfErr result (λ failure. FailsListing (HasNoTables ends text.now)
-        (ArePartlyListed S.gives (λ inputs. ListsPrefixByRules ends text.now inputs (W.contents out.old) (W.contents out.new)) (map (λ name. name.now) names.now) sources.old sources.new)
+    ensures err { IfErr result (λ failure. FailsListing (HasNoTables text.now)
+        (ArePartlyListed S.gives (λ inputs. ListsPrefixByRules text.now inputs (W.contents out.old) (W.contents out.new)) (map (λ name. name.now) names.now) sources.old sources.new)
         (map (λ name. name.now) names.now) sources.old sources.new (W.contents out.old) (W.contents out.new) failure) }
 {
     items_are_by_rules();

@@ -66,16 +66,16 @@ pub fn scan_files<T: Threads + Wait + Sync, W: Write>(
 
 /// A law: what is listed by tables of the specification that a text says are the items by its rules.
 pub fn listings_are_by_rules()
-    ensures { (ends : List ℕ → ℕ) (text : List ℕ) (table : Table) (inputs : List PlainInput) (old new : Option (List ℕ)) → IsTable table → AreTablesOfText ends text table →
-        AreBytes inputs → ListsBy table inputs old new → ListsByRules ends text inputs old new }
+    ensures { (text : List ℕ) (table : Table) (inputs : List PlainInput) (old new : Option (List ℕ)) → IsTable table → AreTablesOfText text table →
+        AreBytes inputs → ListsBy table inputs old new → ListsByRules text inputs old new }
 {
     items_are_by_rules();
 }
 
 /// A law: tables of the specification that a text says, printed in either version and read again, list the items by its rules too.
 pub fn printed_tables_list_by_rules()
-    ensures { (ends : List ℕ → ℕ) (text printed : List ℕ) (table again : Table) (inputs : List PlainInput) (old new : Option (List ℕ)) → IsTable table → AreTablesOfText ends text table →
-        IsTextOf table printed → IsTable again → IsTextOf again printed → AreBytes inputs → ListsBy again inputs old new → ListsByRules ends text inputs old new }
+    ensures { (text printed : List ℕ) (table again : Table) (inputs : List PlainInput) (old new : Option (List ℕ)) → IsTable table → AreTablesOfText text table →
+        IsTextOf table printed → IsTable again → IsTextOf again printed → AreBytes inputs → ListsBy again inputs old new → ListsByRules text inputs old new }
 {
     listings_are_by_rules();
     texts_are_one_to_one();

@@ -1,8 +1,7 @@
 //! The program `lx`, but for the real files and streams.
 
-ghost use Rattle.std.specs.Prelude.{◌≡◌, ◌<◌, ◌≤◌, ℕ, List, [], ◌∷◌, Some, IfOk, IfErr, OnOk, IfSome, length, map};
+ghost use Rattle.std.specs.Prelude.{◌≡◌, ◌<◌, ◌≤◌, [], ◌∷◌, Some, IfOk, IfErr, OnOk, IfSome, length, map};
 ghost use Rattle.std.specs.Io.KnownBytes.{Keeps};
-ghost use Rattle.lx_spec.specs.RuleLines.{EndsPatterns};
 ghost use Rattle.lx_tool.specs.CommandLine.{asked_as, asked_by, plain_order, run as run-asked, scan as scan-asked, gen as gen-asked, up as up-asked};
 ghost use Rattle.lx_tool.specs.Commands.{HasDone, HasEnded, HasFailed, HasObeyed, stored_specification, stored_text};
 ghost use Rattle.lx_tool.specs.Planning.{ListsByRules};
@@ -46,11 +45,11 @@ pub fn run<R: Threads + Wait + Sync, S: Sources, O: Write, E: Write>(
     err: &mut E,
 ) -> u8
     ensures known { result ≤ 5 }
-    ensures done { result ≡ 0 → (ends : List ℕ → ℕ) → EndsPatterns ends →
-        IfSome (asked_by (map (λ word. word.bytes.items) words.now)) (HasDone S.gives ends sources.old sources.new (O.contents out.old) (O.contents out.new) []) }
+    ensures done { result ≡ 0 →
+        IfSome (asked_by (map (λ word. word.bytes.items) words.now)) (HasDone S.gives sources.old sources.new (O.contents out.old) (O.contents out.new) []) }
     // All was listed and a file was cut short; or the words, the specification, the tables or a file were refused, and nothing was written.
-    ensures ended { 0 < result → result < 4 → (ends : List ℕ → ℕ) → EndsPatterns ends →
-        HasEnded S.gives ends (asked_by (map (λ word. word.bytes.items) words.now)) sources.old sources.new (O.contents out.old) (O.contents out.new) result }
+    ensures ended { 0 < result → result < 4 →
+        HasEnded S.gives (asked_by (map (λ word. word.bytes.items) words.now)) sources.old sources.new (O.contents out.old) (O.contents out.new) result }
 {
     match obey(rt, alloc, words, sources, out) {
         Ok(cut) => tell_cut(&cut, err),
@@ -84,10 +83,9 @@ fn obey<'a, R: Threads + Wait + Sync, S: Sources, O: Write>(
     sources: &mut S,
     out: &mut O,
 ) -> Result<Vec<&'a str>, Failure<'a>>
-    ensures ok { (ends : List ℕ → ℕ) → EndsPatterns ends → IfOk result (λ cut.
-        HasObeyed S.gives ends sources.old sources.new (O.contents out.old) (O.contents out.new) (map (λ name. name.now) cut.items) (asked_by (map (λ word. word.bytes.items) words.now))) }
-    ensures err { (ends : List ℕ → ℕ) → EndsPatterns ends →
-        IfErr result (HasFailed S.gives ends (asked_by (map (λ word. word.bytes.items) words.now)) sources.old (O.contents out.old) (O.contents out.new)) }
+    ensures ok { IfOk result (λ cut.
+        HasObeyed S.gives sources.old sources.new (O.contents out.old) (O.contents out.new) (map (λ name. name.now) cut.items) (asked_by (map (λ word. word.bytes.items) words.now))) }
+    ensures err { IfErr result (HasFailed S.gives (asked_by (map (λ word. word.bytes.items) words.now)) sources.old (O.contents out.old) (O.contents out.new)) }
 {
     let cut = match read_words(alloc, words) {
         Ok(order) => carry_out(rt, alloc, order, sources, out)?,
@@ -106,9 +104,9 @@ fn carry_out<'a, R: Threads + Wait + Sync, S: Sources, O: Write>(
     sources: &mut S,
     out: &mut O,
 ) -> Result<Vec<&'a str>, Failure<'a>>
-    ensures ok { (ends : List ℕ → ℕ) → EndsPatterns ends → IfOk result (λ cut.
-        HasObeyed S.gives ends sources.old sources.new (O.contents out.old) (O.contents out.new) (map (λ name. name.now) cut.items) (asked_as order.entry)) }
-    ensures err { (ends : List ℕ → ℕ) → EndsPatterns ends → IfErr result (HasFailed S.gives ends (asked_as order.entry) sources.old (O.contents out.old) (O.contents out.new)) }
+    ensures ok { IfOk result (λ cut.
+        HasObeyed S.gives sources.old sources.new (O.contents out.old) (O.contents out.new) (map (λ name. name.now) cut.items) (asked_as order.entry)) }
+    ensures err { IfErr result (HasFailed S.gives (asked_as order.entry) sources.old (O.contents out.old) (O.contents out.new)) }
 {
     match order {
         Order::Stored => {
@@ -134,8 +132,8 @@ fn carry_out<'a, R: Threads + Wait + Sync, S: Sources, O: Write>(
 
 // The stored run.
 fn list_stored<'a, O: Write>(alloc: Global, out: &mut O) -> Result<(), Failure<'a>>
-    ensures ok { (ends : List ℕ → ℕ) → EndsPatterns ends → OnOk result (ListsByRules ends stored_specification (whole stored_text ∷ []) (O.contents out.old) (O.contents out.new)) }
-    ensures err { (ends : List ℕ → ℕ) → EndsPatterns ends → IfErr result (λ failure. status_of failure < 4 → HasNoTables ends stored_specification failure × Keeps (O.contents out.old) (O.contents out.new)) }
+    ensures ok { OnOk result (ListsByRules stored_specification (whole stored_text ∷ []) (O.contents out.old) (O.contents out.new)) }
+    ensures err { IfErr result (λ failure. status_of failure < 4 → HasNoTables stored_specification failure × Keeps (O.contents out.old) (O.contents out.new)) }
 {
     listings_are_by_rules();
     let tables = tables_of_text(alloc, STORED_SPECIFICATION)?;
@@ -153,10 +151,9 @@ fn list_by_rules_of<'a, S: Sources, O: Write>(
     sources: &mut S,
     out: &mut O,
 ) -> Result<Vec<&'a str>, Failure<'a>>
-    ensures ok { (ends : List ℕ → ℕ) → EndsPatterns ends → IfOk result (λ cut.
-        HasDone S.gives ends sources.old sources.new (O.contents out.old) (O.contents out.new) (map (λ name. name.now) cut.items) (run-asked (plain_order order.now))) }
-    ensures err { (ends : List ℕ → ℕ) → EndsPatterns ends →
-        IfErr result (HasFailed S.gives ends (Some (run-asked (plain_order order.now))) sources.old (O.contents out.old) (O.contents out.new)) }
+    ensures ok { IfOk result (λ cut.
+        HasDone S.gives sources.old sources.new (O.contents out.old) (O.contents out.new) (map (λ name. name.now) cut.items) (run-asked (plain_order order.now))) }
+    ensures err { IfErr result (HasFailed S.gives (Some (run-asked (plain_order order.now))) sources.old (O.contents out.old) (O.contents out.new)) }
 {
     if order.files.len() > MOST_FILES {
         return Err(Failure::TooManyFiles);
@@ -173,10 +170,9 @@ fn list_by_tables_of<'a, R: Threads + Wait + Sync, S: Sources, O: Write>(
     sources: &mut S,
     out: &mut O,
 ) -> Result<Vec<&'a str>, Failure<'a>>
-    ensures ok { (ends : List ℕ → ℕ) → EndsPatterns ends → IfOk result (λ cut.
-        HasDone S.gives ends sources.old sources.new (O.contents out.old) (O.contents out.new) (map (λ name. name.now) cut.items) (scan-asked order.now.workers (plain_order order.now.list))) }
-    ensures err { (ends : List ℕ → ℕ) → EndsPatterns ends →
-        IfErr result (HasFailed S.gives ends (Some (scan-asked order.now.workers (plain_order order.now.list))) sources.old (O.contents out.old) (O.contents out.new)) }
+    ensures ok { IfOk result (λ cut.
+        HasDone S.gives sources.old sources.new (O.contents out.old) (O.contents out.new) (map (λ name. name.now) cut.items) (scan-asked order.now.workers (plain_order order.now.list))) }
+    ensures err { IfErr result (HasFailed S.gives (Some (scan-asked order.now.workers (plain_order order.now.list))) sources.old (O.contents out.old) (O.contents out.new)) }
 {
     let list = &order.list;
     if list.files.len() > MOST_FILES {
@@ -202,8 +198,8 @@ fn generate_named<'a, S: Sources, O: Write>(
     sources: &mut S,
     out: &mut O,
 ) -> Result<(), Failure<'a>>
-    ensures ok { (ends : List ℕ → ℕ) → EndsPatterns ends → OnOk result (HasDone S.gives ends sources.old sources.new (O.contents out.old) (O.contents out.new) [] (gen-asked name.now)) }
-    ensures err { (ends : List ℕ → ℕ) → EndsPatterns ends → IfErr result (HasFailed S.gives ends (Some (gen-asked name.now)) sources.old (O.contents out.old) (O.contents out.new)) }
+    ensures ok { OnOk result (HasDone S.gives sources.old sources.new (O.contents out.old) (O.contents out.new) [] (gen-asked name.now)) }
+    ensures err { IfErr result (HasFailed S.gives (Some (gen-asked name.now)) sources.old (O.contents out.old) (O.contents out.new)) }
 {
     let text = read_whole(alloc, sources, name)?;
     generate(alloc, &text, out)
@@ -216,8 +212,8 @@ fn upgrade_named<'a, S: Sources, O: Write>(
     sources: &mut S,
     out: &mut O,
 ) -> Result<(), Failure<'a>>
-    ensures ok { (ends : List ℕ → ℕ) → EndsPatterns ends → OnOk result (HasDone S.gives ends sources.old sources.new (O.contents out.old) (O.contents out.new) [] (up-asked name.now)) }
-    ensures err { (ends : List ℕ → ℕ) → EndsPatterns ends → IfErr result (HasFailed S.gives ends (Some (up-asked name.now)) sources.old (O.contents out.old) (O.contents out.new)) }
+    ensures ok { OnOk result (HasDone S.gives sources.old sources.new (O.contents out.old) (O.contents out.new) [] (up-asked name.now)) }
+    ensures err { IfErr result (HasFailed S.gives (Some (up-asked name.now)) sources.old (O.contents out.old) (O.contents out.new)) }
 {
     let text = read_whole(alloc, sources, name)?;
     upgrade(alloc, &text, out)

@@ -1,7 +1,6 @@
 //! Tables: made of the text of a specification, or read from their own, and printed.
 
-ghost use Rattle.std.specs.Prelude.{◌≡◌, ℕ, List, IfOk, IfErr, OnOk};
-ghost use Rattle.lx_spec.specs.RuleLines.{EndsPatterns};
+ghost use Rattle.std.specs.Prelude.{◌≡◌, IfOk, IfErr, OnOk};
 ghost use Rattle.lx_tables.specs.Output.{Wrote, WrotePrefix};
 ghost use Rattle.lx_tables.specs.Texts.{text_2};
 ghost use Rattle.lx_tool.specs.Tabling.{AreTablesOfText, HasNoTables, Generates, FailsGenerating, Upgrades, FailsUpgrading};
@@ -16,8 +15,8 @@ use std::io::Write;
 /// The tables of the specification that a text says: read, built, merged and put in order. E01 to E21 come where the text says none, E30
 /// and E31 where it is too large.
 pub fn tables_of_text<'a>(alloc: Global, text: &[u8]) -> Result<Tables, Failure<'a>>
-    ensures ok { (ends : List ℕ → ℕ) → EndsPatterns ends → IfOk result (λ tables. AreTablesOfText ends text.now tables) }
-    ensures err { (ends : List ℕ → ℕ) → EndsPatterns ends → IfErr result (λ failure. HasNoTables ends text.now failure) }
+    ensures ok { IfOk result (λ tables. AreTablesOfText text.now tables) }
+    ensures err { IfErr result (λ failure. HasNoTables text.now failure) }
 {
     let spec = read_spec(alloc, text)?;
     let automaton = merged_automaton(alloc, &spec)?;
@@ -38,8 +37,8 @@ fn print_tables<'a, W: Write>(tables: &Tables, out: &mut W) -> Result<(), Failur
 /// Writes the tables of the specification that a text says, in version 2 of their text: all of it, or after a fault of the output
 /// a prefix. Where the text has no tables, nothing is written.
 pub fn generate<'a, W: Write>(alloc: Global, text: &[u8], out: &mut W) -> Result<(), Failure<'a>>
-    ensures ok { (ends : List ℕ → ℕ) → EndsPatterns ends → OnOk result (Generates ends text.now (W.contents out.old) (W.contents out.new)) }
-    ensures err { (ends : List ℕ → ℕ) → EndsPatterns ends → IfErr result (λ failure. FailsGenerating ends text.now (W.contents out.old) (W.contents out.new) failure) }
+    ensures ok { OnOk result (Generates text.now (W.contents out.old) (W.contents out.new)) }
+    ensures err { IfErr result (λ failure. FailsGenerating text.now (W.contents out.old) (W.contents out.new) failure) }
 {
     print_tables(&tables_of_text(alloc, text)?, out)
 }

@@ -1,5 +1,5 @@
 use Rattle.std.proofs.Common.{◌≡◌, ◌∙◌, [], ◌∷◌, length, sym, ap, subst, arith, length-drop}
-use Rattle.lx_ere.specs.PatternEnd.{BehindMark, BehindBrackets, bracket_closes, bracket_open, bracket_byte}
+use Rattle.lx_ere.specs.PatternGrammar.{BehindMark, BehindBrackets, bracket_closes, bracket_open, bracket_byte}
 use Rattle.lx_ere.proofs.EndLemmas.{no_bytes, brackets_escape, inner_found}
 use Rattle.lx_ere.proofs.extent.behind_brackets.Goals as goal
 

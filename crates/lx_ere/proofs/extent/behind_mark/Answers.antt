@@ -1,5 +1,5 @@
 use Rattle.std.proofs.Common.{◌≡◌, ◌∙◌, [], drop, sym, subst, arith}
-use Rattle.lx_ere.specs.PatternEnd.{BehindMark, mark_open, mark_byte}
+use Rattle.lx_ere.specs.PatternGrammar.{BehindMark, mark_open, mark_byte}
 use Rattle.lx_ere.proofs.EndLemmas.{no_bytes, mark_found}
 use Rattle.lx_ere.proofs.extent.behind_mark.Goals as goal
 

@@ -1,5 +1,5 @@
 use Rattle.std.proofs.Common.{ℕ, ◌≤◌, List, length}
-use Rattle.lx_ere.specs.PatternEnd.{BehindMark}
+use Rattle.lx_ere.specs.PatternGrammar.{BehindMark}
 use Rattle.lx_ere.proofs.extent.behind_mark.Given as goal
 
 abbrev pub invariant-loop-first : goal.invariant-loop-first

@@ -1,5 +1,5 @@
 use Rattle.std.proofs.Common.{◌≡◌, ◌∙◌, [], ◌∷◌, length, sym, ap, subst, arith, length-drop}
-use Rattle.lx_ere.specs.PatternEnd.{BehindBrackets, skip_first, BehindPattern, at_end, at_blank, past_quotes, past_brackets, past_byte}
+use Rattle.lx_ere.specs.PatternGrammar.{BehindBrackets, skip_first, BehindPattern, at_end, at_blank, past_quotes, past_brackets, past_byte}
 use Rattle.lx_ere.proofs.EndLemmas.{no_bytes, pattern_escape}
 use Rattle.lx_ere.proofs.extent.behind_pattern.Goals as goal
 

@@ -1,5 +1,5 @@
 use Rattle.std.proofs.Common.{ℕ, ◌≤◌, List, length}
-use Rattle.lx_ere.specs.PatternEnd.{BehindPattern}
+use Rattle.lx_ere.specs.PatternGrammar.{BehindPattern}
 use Rattle.lx_ere.proofs.extent.behind_pattern.Given as goal
 
 abbrev pub invariant-loop-first : goal.invariant-loop-first

@@ -1,5 +1,5 @@
 use Rattle.std.proofs.Common.{◌≡◌, ◌∙◌, [], ◌∷◌, length, sym, ap, subst, arith, length-drop}
-use Rattle.lx_ere.specs.PatternEnd.{BehindQuotes, quote_closes, quote_open, quote_byte}
+use Rattle.lx_ere.specs.PatternGrammar.{BehindQuotes, quote_closes, quote_open, quote_byte}
 use Rattle.lx_ere.proofs.EndLemmas.{no_bytes, quotes_escape}
 use Rattle.lx_ere.proofs.extent.behind_quotes.Goals as goal
 

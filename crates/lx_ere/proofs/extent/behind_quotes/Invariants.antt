@@ -1,5 +1,5 @@
 use Rattle.std.proofs.Common.{ℕ, ◌≤◌, List, length}
-use Rattle.lx_ere.specs.PatternEnd.{BehindQuotes}
+use Rattle.lx_ere.specs.PatternGrammar.{BehindQuotes}
 use Rattle.lx_ere.proofs.extent.behind_quotes.Given as goal
 
 abbrev pub invariant-loop-first : goal.invariant-loop-first

@@ -1,5 +1,6 @@
-use Rattle.lx_ere.proofs.EndThere.{some_end}
+use Rattle.lx_ere.specs.PatternEndLaws.{some_end}
+use Rattle.lx_ere.proofs.LeastEnd.{is_pattern_end}
 use Rattle.lx_ere.proofs.extent.some_pattern_end.Goals as goal
 
 pub returns : goal.returns
-returns c = some_end
+returns c = record { some = some_end; there = is_pattern_end }

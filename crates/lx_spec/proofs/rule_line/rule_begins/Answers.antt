@@ -4,5 +4,4 @@ use Rattle.lx_spec.specs.views.RuleLines.{prefix_view}
 use Rattle.lx_spec.proofs.rule_line.rule_begins.Goals as goal
 
 pub returns : goal.returns
-returns c = λ ends h. c.rule_split.ensures
-    ∙ ap (λ (n : ℕ). plain.rule_split n (prefix_view c.args.prefix) c.args.text.now) (c.one_pattern_end.ensures c.args.text.now c.pattern_end-n.result (ends c.args.text.now) c.pattern_end-n.ensures.end (h c.args.text.now))
+returns c = c.rule_split.ensures ∙ ap (λ (n : ℕ). plain.rule_split n (prefix_view c.args.prefix) c.args.text.now) c.pattern_end-n.ensures.value

@@ -1,13 +1,12 @@
-use Rattle.std.proofs.Common.{◌≡◌, ◌+◌, ◌<◌, ◌≤◌, ℕ, List, length}
+use Rattle.std.proofs.Common.{◌≡◌, ◌+◌, ◌<◌, ◌≤◌, length}
 use Rattle.lx_spec.specs.Sections as plain
-use Rattle.lx_spec.specs.RuleLines.{EndsPatterns}
 use Rattle.lx_spec.specs.views.Sections.{sections_view}
 use Rattle.lx_spec.specs.views.Places.{place_view}
 use Rattle.lx_spec.proofs.section.read_sections.Given as goal
 
 abbrev pub invariant-loop-line : goal.invariant-loop-line
 invariant-loop-line l = record {
-  same : (ends : List ℕ → ℕ) → EndsPatterns ends → plain.sections_behind ends (sections_view l.sections) (place_view l.place) l.number l.lines ≡ plain.sections_of ends l.fn.text;
+  same : plain.sections_behind (sections_view l.sections) (place_view l.place) l.number l.lines ≡ plain.sections_of l.fn.text;
   counted : 0 < l.number;
   few : l.number + length l.lines ≤ 1048577;
 }

@@ -4,25 +4,25 @@ use Rattle.lx_tool.proofs.program.carry_out.Goals as goal
 
 pub returns-in_err-list_stored-in-Stored-clause-err :
     goal.returns-in_err-list_stored-in-Stored-clause-err
-returns-in_err-list_stored-in-Stored-clause-err g c = λ ends is.
+returns-in_err-list_stored-in-Stored-clause-err g c =
     let p = err_from_is_err_and c.from_residual.result c.from_residual.ensures.1 in
     rw (p.1, p.2, c.in-Stored.is)
-    (stored_refused g.S.Sources.gives ends c.args.sources.now (g.O.Write.contents c.args.out.now) (g.O.Write.contents c.list_stored.new.out) c.in_err-list_stored-in-Stored.field-0.0 (c.in_err-list_stored-in-Stored.ensures.err ends is))
+    (stored_refused g.S.Sources.gives c.args.sources.now (g.O.Write.contents c.args.out.now) (g.O.Write.contents c.list_stored.new.out) c.in_err-list_stored-in-Stored.field-0.0 c.in_err-list_stored-in-Stored.ensures.err)
 
 pub returns-in_err-generate_named-in-Gen-clause-err :
     goal.returns-in_err-generate_named-in-Gen-clause-err
-returns-in_err-generate_named-in-Gen-clause-err g c = λ ends is.
+returns-in_err-generate_named-in-Gen-clause-err g c =
     let p = err_from_is_err_and c.from_residual-in_err-generate_named-in-Gen.result c.from_residual-in_err-generate_named-in-Gen.ensures.1 in
-    rw (p.1, p.2, c.in-Gen.is) (c.in_err-generate_named-in-Gen.ensures.err ends is)
+    rw (p.1, p.2, c.in-Gen.is) c.in_err-generate_named-in-Gen.ensures.err
 
 pub returns-in_err-upgrade_named-in-Up-clause-err :
     goal.returns-in_err-upgrade_named-in-Up-clause-err
-returns-in_err-upgrade_named-in-Up-clause-err g c = λ ends is.
+returns-in_err-upgrade_named-in-Up-clause-err g c =
     let p = err_from_is_err_and c.from_residual-in_err-upgrade_named-in-Up.result c.from_residual-in_err-upgrade_named-in-Up.ensures.1 in
-    rw (p.1, p.2, c.in-Up.is) (c.in_err-upgrade_named-in-Up.ensures.err ends is)
+    rw (p.1, p.2, c.in-Up.is) c.in_err-upgrade_named-in-Up.ensures.err
 
 pub returns-in-Run-clause-ok : goal.returns-in-Run-clause-ok
-returns-in-Run-clause-ok g c = λ ends is. rw c.in-Run.is (c.list_by_rules_of.ensures.ok ends is)
+returns-in-Run-clause-ok g c = rw c.in-Run.is c.list_by_rules_of.ensures.ok
 
 pub returns-in-Scan-clause-ok : goal.returns-in-Scan-clause-ok
-returns-in-Scan-clause-ok g c = λ ends is. rw c.in-Scan.is (c.list_by_tables_of.ensures.ok ends is)
+returns-in-Scan-clause-ok g c = rw c.in-Scan.is c.list_by_tables_of.ensures.ok

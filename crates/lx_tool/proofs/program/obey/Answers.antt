@@ -4,7 +4,7 @@ use Rattle.lx_tool.proofs.Obeyed.{obeyed_kept}
 use Rattle.lx_tool.proofs.program.obey.Goals as goal
 
 pub returns-clause-ok : goal.returns-clause-ok
-returns-clause-ok g c = λ ends is.
+returns-clause-ok g c =
     let held = g.O.Write.contents in
-    rw c.in-Ok.ensures.asked (obeyed_kept (held c.args.out.now) (held c.carry_out.new.out) (held c.flush.new.self) c.flush.ensures.bytes g.S.Sources.gives ends c.args.sources.now c.carry_out.new.sources
-    (map (λ name. name.now) c.in_ok-cut-in-Ok.cut.items) (asked_as c.in-Ok.order) (c.in_ok-cut-in-Ok.ensures.ok ends is))
+    rw c.in-Ok.ensures.asked (obeyed_kept (held c.args.out.now) (held c.carry_out.new.out) (held c.flush.new.self) c.flush.ensures.bytes g.S.Sources.gives c.args.sources.now c.carry_out.new.sources
+    (map (λ name. name.now) c.in_ok-cut-in-Ok.cut.items) (asked_as c.in-Ok.order) c.in_ok-cut-in-Ok.ensures.ok)

@@ -4,6 +4,6 @@ use Rattle.lx_tool.proofs.Tabled.{too_large}
 use Rattle.lx_tool.proofs.tabling.tables_of_text.Goals as goal
 
 pub returns-in_err-automaton-clause-err : goal.returns-in_err-automaton-clause-err
-returns-in_err-automaton-clause-err c = λ ends is.
+returns-in_err-automaton-clause-err c =
     let p = err_from_is_err_and c.from_residual-in_err-automaton.result c.from_residual-in_err-automaton.ensures.1 in
-    rw (p.1, p.2) (too_large ends c.args.text.now (spec_view c.in_ok-spec.spec) (c.in_ok-spec.ensures.spec ends is) c.in_err-automaton.field-0.0 c.in_err-automaton.ensures.positions c.in_err-automaton.ensures.sets)
+    rw (p.1, p.2) (too_large c.args.text.now (spec_view c.in_ok-spec.spec) c.in_ok-spec.ensures.spec c.in_err-automaton.field-0.0 c.in_err-automaton.ensures.positions c.in_err-automaton.ensures.sets)
