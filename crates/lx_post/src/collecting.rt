@@ -1,10 +1,7 @@
 //! How the calling thread receives what workers send, and hands it on.
-ghost use Rattle.std.specs.Prelude.{◌≡◌, ◌<◌, ◌≤◌, Err, OnOk, false, replicate};
-ghost use Rattle.lx_piece.specs.Plans.{files_of};
-ghost use Rattle.lx_piece.specs.Pieces.{top_number};
+ghost use Rattle.std.specs.Prelude.{◌≡◌, OnOk, false};
 ghost use Rattle.lx_piece.specs.Relayed.{TakesAllInOrder};
-ghost use Rattle.lx_post.specs.declared.run_fault.RunFault.{RunFault};
-ghost use Rattle.lx_post.specs.Collected.{IsCollected};
+ghost use Rattle.lx_post.specs.Collected.{IsCollected, TellsFaults, TookNothing};
 ghost use Rattle.lx_post.specs.Posted.{IsTakePassOf, fresh_take};
 
 use crate::pace::Pace;
@@ -27,16 +24,13 @@ fn collect<W: Wait, R: Reader>(
     reader: &mut R,
 ) -> (TakePass, Result<(), RunFault>)
     requires take { take ≡ fresh_take post.now plan.now }
-    requires reader_plan { R.plan reader.old ≡ plan.now }
-    requires nothing_taken { R.counts reader.old ≡ replicate (files_of plan.now) 0 }
-    requires countable { R.fault_count reader.old < top_number }
+    requires reader { TookNothing plan.now (R.plan reader.old) (R.counts reader.old) (R.fault_count reader.old) }
     ensures take { IsTakePassOf post.now result.0 }
     ensures ok { OnOk result.1 (IsCollected plan.now result.0 (R.counts reader.new)) }
     ensures taken { TakesAllInOrder plan.now (R.counts reader.new) }
     ensures follows { R.follows reader.old reader.new }
     ensures plan { R.plan reader.new ≡ R.plan reader.old }
-    ensures reader_fault { result.1 ≡ Err RunFault.Reader → R.fault_count reader.old < R.fault_count reader.new }
-    ensures no_fault { OnOk result.1 (R.fault_count reader.new ≡ R.fault_count reader.old) }
+    ensures faults { TellsFaults result.1 (R.fault_count reader.old) (R.fault_count reader.new) }
 {
     let mut arrivals = PostArrivals::new(rt, post, take);
     let relayed = relay(alloc, plan, &mut arrivals, reader);
@@ -77,16 +71,13 @@ pub fn receive_all<W: Wait, R: Reader>(
     reader: &mut R,
 ) -> (TakePass, Result<(), RunFault>)
     requires take { IsTakePassOf post.now take × (refused ≡ false → take ≡ fresh_take post.now plan.now) }
-    requires reader_plan { R.plan reader.old ≡ plan.now }
-    requires nothing_taken { R.counts reader.old ≡ replicate (files_of plan.now) 0 }
-    requires countable { R.fault_count reader.old < top_number }
+    requires reader { TookNothing plan.now (R.plan reader.old) (R.counts reader.old) (R.fault_count reader.old) }
     ensures take { IsTakePassOf post.now result.0 }
     ensures ok { OnOk result.1 (IsCollected plan.now result.0 (R.counts reader.new)) }
     ensures taken { TakesAllInOrder plan.now (R.counts reader.new) }
     ensures follows { R.follows reader.old reader.new }
     ensures plan { R.plan reader.new ≡ R.plan reader.old }
-    ensures reader_fault { result.1 ≡ Err RunFault.Reader → R.fault_count reader.old < R.fault_count reader.new }
-    ensures no_fault { OnOk result.1 (R.fault_count reader.new ≡ R.fault_count reader.old) }
+    ensures faults { TellsFaults result.1 (R.fault_count reader.old) (R.fault_count reader.new) }
 {
     if refused {
         pace.end();

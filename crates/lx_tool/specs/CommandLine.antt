@@ -11,9 +11,11 @@ use Rattle.clap.specs.Simple.{on_top}
 use Rattle.clap.specs.ValueTests.{is_unsigned_in}
 use Rattle.clap.specs.Walk.{is_empty}
 use Rattle.clap.specs.Words.{App, IsAmong, Row, Rule, Text, all_of, fault_of, first_of, new_app, new_rule, one_of, subcommand_of, with_rule, with_subcommand}
-use Rattle.lx_tool.specs.declared.command_line.ListOrder.{ListOrder}
-use Rattle.lx_tool.specs.declared.command_line.Order.{Order}
-use Rattle.lx_tool.specs.declared.command_line.Order.TheVariants as order
+use Rattle.lx_piece.specs.Plans.{max_items}
+use Rattle.lx_post.specs.Claimed.{max_workers}
+use Rattle.lx_tool.specs.declared.command_line.ListRequest.{ListRequest}
+use Rattle.lx_tool.specs.declared.command_line.Request.{Request}
+use Rattle.lx_tool.specs.declared.command_line.Request.TheVariants as request
 
 -- ---- the command line, as `clap` reads it
 
@@ -21,21 +23,21 @@ use Rattle.lx_tool.specs.declared.command_line.Order.TheVariants as order
 abbrev pub rules_rule : Text → Rule
 rules_rule id = record (new_rule id) { required = true }
 
--- `-b K`, from 1 to 4096, and 256 where it isn't given
+-- `-b K`, from 1 to `max_items`, and 256 where it isn't given
 abbrev pub items_rule : Rule
 items_rule = record (new_rule (codes "items")) {
   short = Some 98;
   value_names = 1;
-  parser = Some (Signed (pos 1) (pos 4096));
+  parser = Some (Signed (pos 1) (pos max_items));
   defaults = codes "256" ∷ [];
 }
 
--- `-j N`, from 1 to 8, and 4 where it isn't given
+-- `-j N`, from 1 to `max_workers`, and 4 where it isn't given
 abbrev pub workers_rule : Rule
 workers_rule = record (new_rule (codes "workers")) {
   short = Some 106;
   value_names = 1;
-  parser = Some (Signed (pos 1) (pos 8));
+  parser = Some (Signed (pos 1) (pos max_workers));
   defaults = codes "4" ∷ [];
 }
 
@@ -94,11 +96,11 @@ number_in id most default rows = option_map_or (λ t. if is_unsigned_in 1 most t
 
 -- the number of `-b`
 abbrev pub items_in : List Row → ℕ
-items_in rows = number_in (codes "items") 4096 256 rows
+items_in rows = number_in (codes "items") max_items 256 rows
 
 -- the number of `-j`
 abbrev pub workers_in : List Row → ℕ
-workers_in rows = number_in (codes "workers") 8 4 rows
+workers_in rows = number_in (codes "workers") max_workers 4 rows
 
 abbrev pub rules_in : Text → List Row → Text
 rules_in id rows = unwrap_or (first_of id rows) []
@@ -106,16 +108,16 @@ rules_in id rows = unwrap_or (first_of id rows) []
 abbrev pub files_in : List Row → List Text
 files_in rows = unwrap_or (all_of (codes "FILE") rows) []
 
-abbrev pub order_in : Text → List Row → PlainOrder
-order_in id rows = record { per_piece = items_in rows; rules = rules_in id rows; files = files_in rows }
+abbrev pub request_in : Text → List Row → PlainOrder
+request_in id rows = record { per_piece = items_in rows; rules = rules_in id rows; files = files_in rows }
 
 -- what a subcommand asks for, by the rows of its arguments
 abbrev pub asked_of : Text × List Row → Option Asked
 asked_of p =
     if bytes_eq p.0 (codes "gen") then Some (gen (rules_in (codes "SPEC") p.1))
     else (if bytes_eq p.0 (codes "up") then Some (up (rules_in (codes "TABLES") p.1))
-    else (if bytes_eq p.0 (codes "scan") then Some (scan (workers_in p.1) (order_in (codes "TABLES") p.1))
-    else (if bytes_eq p.0 (codes "run") then Some (run (order_in (codes "SPEC") p.1)) else None)))
+    else (if bytes_eq p.0 (codes "scan") then Some (scan (workers_in p.1) (request_in (codes "TABLES") p.1))
+    else (if bytes_eq p.0 (codes "run") then Some (run (request_in (codes "SPEC") p.1)) else None)))
 
 -- `clap` may answer the words by an error of this kind, of which the help is one
 abbrev pub IsFault : List Text → ErrorKind → Type 0
@@ -130,19 +132,19 @@ unfoldable pub asked_by : List Text → Option Asked
 asked_by words = if nat_le (length words) 1 then Some stored
     else (if is_taken words then option_and_then asked_of (subcommand_of lx_app words) else None)
 
--- ---- the code's orders
+-- ---- the code's requests
 
-abbrev pub plain_order : ListOrder → PlainOrder
+abbrev pub plain_order : ListRequest → PlainOrder
 plain_order o = record { per_piece = o.per_piece; rules = o.rules.now; files = map (λ name. name.now) o.files.items }
 
--- what an order was asked by; the help is no order
-abbrev pub asked_as : Order → Option Asked
-asked_as order.Stored = Some stored
-asked_as (order.Help text) = None
-asked_as (order.Run o) = Some (run (plain_order o))
-asked_as (order.Scan o) = Some (scan o.workers (plain_order o.list))
-asked_as (order.Gen name) = Some (gen name.now)
-asked_as (order.Up name) = Some (up name.now)
+-- what a request was asked by; the help is none
+abbrev pub asked_as : Request → Option Asked
+asked_as request.Stored = Some stored
+asked_as (request.Help text) = None
+asked_as (request.Run o) = Some (run (plain_order o))
+asked_as (request.Scan o) = Some (scan o.workers (plain_order o.list))
+asked_as (request.Gen name) = Some (gen name.now)
+asked_as (request.Up name) = Some (up name.now)
 
 -- ---- what that comes to, for words that are no flags
 
@@ -170,7 +172,7 @@ abbrev pub items_given : Option Text → ℕ
 items_given number = number_given 256 number
 
 abbrev pub IsItems : Option Text → Type 0
-IsItems number = IsNumber 4096 number
+IsItems number = IsNumber max_items number
 
 -- the words of `-j`, where it is given, and its number
 abbrev pub workers_words : Option Text → List Text
@@ -180,7 +182,7 @@ abbrev pub workers_given : Option Text → ℕ
 workers_given number = number_given 4 number
 
 abbrev pub IsWorkers : Option Text → Type 0
-IsWorkers number = IsNumber 8 number
+IsWorkers number = IsNumber max_workers number
 
 -- Such words ask for what they say.
 pub record PlainWordsAsk : Type 0 where

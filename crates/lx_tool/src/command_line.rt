@@ -1,13 +1,15 @@
 //! The command line of `lx`.
 
 ghost use Rattle.std.specs.Prelude.{◌<◌, ◌≤◌};
+ghost use Rattle.lx_piece.specs.Plans.{max_items};
+ghost use Rattle.lx_post.specs.Claimed.{max_workers};
 
 mod app;
-mod reading;
+mod words;
 
 use clap::Error;
-pub(crate) use reading::read_words;
 use std::alloc::AllocError;
+pub(crate) use words::read_words;
 
 /// How many items a piece has where `-b` is not given.
 pub(crate) const ITEMS: u32 = 256;
@@ -17,15 +19,15 @@ pub(crate) const WORKERS: u8 = 4;
 
 /// What the words of the command line ask for.
 #[derive(Drop)]
-pub(crate) enum Order<'a> {
+pub(crate) enum Request<'a> {
     /// No words: the run that the program holds itself.
     Stored,
     /// The help text.
     Help(Error),
     /// `run`: the listing of files by a specification.
-    Run(ListOrder<'a>),
+    Run(ListRequest<'a>),
     /// `scan`: the listing of files by tables.
-    Scan(ScanOrder<'a>),
+    Scan(ScanRequest<'a>),
     /// `gen`: the tables of the specification with this name.
     Gen(&'a str),
     /// `up`: the tables with this name, printed in version 2.
@@ -34,18 +36,18 @@ pub(crate) enum Order<'a> {
 
 /// The words of `scan`.
 #[derive(Drop)]
-pub(crate) struct ScanOrder<'a> {
+pub(crate) struct ScanRequest<'a> {
     /// With how many threads the files are scanned.
     pub(crate) workers: u8,
     /// What is listed, by tables.
-    pub(crate) list: ListOrder<'a>,
+    pub(crate) list: ListRequest<'a>,
     ghost some_workers: { 0 < workers },
-    ghost few_workers: { workers ≤ 8 },
+    ghost few_workers: { workers ≤ max_workers },
 }
 
 /// The words of `run`, and those of `scan` but for the threads.
 #[derive(Drop)]
-pub(crate) struct ListOrder<'a> {
+pub(crate) struct ListRequest<'a> {
     /// How many items a piece has.
     pub(crate) per_piece: u32,
     /// The name of the specification, or of the tables.
@@ -53,7 +55,7 @@ pub(crate) struct ListOrder<'a> {
     /// The names of the files.
     pub(crate) files: Vec<&'a str>,
     ghost some_items: { 0 < per_piece },
-    ghost few_items: { per_piece ≤ 4096 },
+    ghost few_items: { per_piece ≤ max_items },
 }
 
 /// Why the words of the command line ask for nothing.

@@ -1,7 +1,8 @@
 //! The files that sources give for names, and their listing.
 
 ghost use Rattle.std.specs.Prelude.{◌≡◌, ◌<◌, ◌≤◌, [], ◌∷◌, All, IfOk, IfErr, length, map, vec_len};
-ghost use Rattle.lx_piece.specs.Plans.{input_view};
+ghost use Rattle.lx_piece.specs.Plans.{input_view, max_files, max_items};
+ghost use Rattle.lx_post.specs.Claimed.{max_workers};
 ghost use Rattle.lx_tool.specs.Given.{AreListed, ArePartlyListed, AreRead, FailsListing, IsNoTable, IsUnread};
 ghost use Rattle.lx_tool.specs.Planning.{AreBytes, ListsBy, ListsPrefixBy, ListsByRules, ListsPrefixByRules, ListsByText, ListsPrefixByText};
 ghost use Rattle.lx_tool.specs.Sources.{AreGiven, cut_names, whole};
@@ -129,9 +130,9 @@ fn list_given<'a, S: Sources, W: Write>(
     sources: &mut S,
     out: &mut W,
 ) -> Result<Vec<&'a str>, Failure<'a>>
-    requires few_files { length names.now ≤ 65536 }
+    requires few_files { length names.now ≤ max_files }
     requires some_items { 0 < per_piece }
-    requires few_items { per_piece ≤ 4096 }
+    requires few_items { per_piece ≤ max_items }
     ensures ok { IfOk result (λ cut. AreListed S.gives (λ inputs. ListsBy tables inputs (W.contents out.old) (W.contents out.new))
         (map (λ name. name.now) names.now) sources.old sources.new (map (λ name. name.now) cut.items)) }
     ensures err { IfErr result (λ failure. FailsListing (λ _. ⊥) (ArePartlyListed S.gives (λ inputs. ListsPrefixBy tables inputs (W.contents out.old) (W.contents out.new))
@@ -156,11 +157,11 @@ fn scan_given<'a, T: Threads + Wait + Sync, S: Sources, W: Write>(
     sources: &mut S,
     out: &mut W,
 ) -> Result<Vec<&'a str>, Failure<'a>>
-    requires few_files { length names.now ≤ 65536 }
+    requires few_files { length names.now ≤ max_files }
     requires some_items { 0 < per_piece }
-    requires few_items { per_piece ≤ 4096 }
+    requires few_items { per_piece ≤ max_items }
     requires some_workers { 0 < workers }
-    requires few_workers { workers ≤ 8 }
+    requires few_workers { workers ≤ max_workers }
     ensures ok { IfOk result (λ cut. AreListed S.gives (λ inputs. ListsBy tables inputs (W.contents out.old) (W.contents out.new))
         (map (λ name. name.now) names.now) sources.old sources.new (map (λ name. name.now) cut.items)) }
     ensures err { IfErr result (λ failure. FailsListing (λ _. ⊥) (ArePartlyListed S.gives (λ inputs. ListsPrefixBy tables inputs (W.contents out.old) (W.contents out.new))
@@ -184,9 +185,9 @@ pub fn list_by_specification<'a, S: Sources, W: Write>(
     sources: &mut S,
     out: &mut W,
 ) -> Result<Vec<&'a str>, Failure<'a>>
-    requires few_files { length names.now ≤ 65536 }
+    requires few_files { length names.now ≤ max_files }
     requires some_items { 0 < per_piece }
-    requires few_items { per_piece ≤ 4096 }
+    requires few_items { per_piece ≤ max_items }
     ensures ok { IfOk result (λ cut. AreListed S.gives (λ inputs. ListsByRules text.now inputs (W.contents out.old) (W.contents out.new))
         (map (λ name. name.now) names.now) sources.old sources.new (map (λ name. name.now) cut.items)) }
     ensures err { IfErr result (λ failure. FailsListing (HasNoTables text.now)
@@ -213,11 +214,11 @@ pub fn list_by_tables<'a, T: Threads + Wait + Sync, S: Sources, W: Write>(
     sources: &mut S,
     out: &mut W,
 ) -> Result<Vec<&'a str>, Failure<'a>>
-    requires few_files { length names.now ≤ 65536 }
+    requires few_files { length names.now ≤ max_files }
     requires some_items { 0 < per_piece }
-    requires few_items { per_piece ≤ 4096 }
+    requires few_items { per_piece ≤ max_items }
     requires some_workers { 0 < workers }
-    requires few_workers { workers ≤ 8 }
+    requires few_workers { workers ≤ max_workers }
     ensures ok { IfOk result (λ cut. AreListed S.gives (λ inputs. ListsByText text.now inputs (W.contents out.old) (W.contents out.new))
         (map (λ name. name.now) names.now) sources.old sources.new (map (λ name. name.now) cut.items)) }
     ensures err { IfErr result (λ failure. FailsListing (IsNoTable text.now)

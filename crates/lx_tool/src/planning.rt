@@ -1,7 +1,8 @@
 //! Files, listed by tables.
 
 ghost use Rattle.std.specs.Prelude.{◌≡◌, ◌<◌, ◌≤◌, ℕ, List, Option, OnOk, OnErr, map, vec_len};
-ghost use Rattle.lx_piece.specs.Plans.{PlainInput, input_view};
+ghost use Rattle.lx_piece.specs.Plans.{PlainInput, input_view, max_files, max_items};
+ghost use Rattle.lx_post.specs.Claimed.{max_workers};
 ghost use Rattle.lx_tables.specs.Model.{Table, IsTable};
 ghost use Rattle.lx_tables.specs.Reading.{IsTextOf};
 ghost use Rattle.lx_tool.specs.Planning.{AreBytes, ListsBy, ListsPrefixBy, ListsByRules};
@@ -31,9 +32,9 @@ pub fn list_files<W: Write>(
     out: &mut W,
 ) -> Result<(), RunFault>
     requires some_files { 0 < vec_len files }
-    requires few_files { vec_len files ≤ 65536 }
+    requires few_files { vec_len files ≤ max_files }
     requires some_items { 0 < per_piece }
-    requires few_items { per_piece ≤ 4096 }
+    requires few_items { per_piece ≤ max_items }
     ensures ok { OnOk result (ListsBy tables (map input_view files.items) (W.contents out.old) (W.contents out.new)) }
     ensures err { OnErr result (ListsPrefixBy tables (map input_view files.items) (W.contents out.old) (W.contents out.new)) }
 {
@@ -52,11 +53,11 @@ pub fn scan_files<T: Threads + Wait + Sync, W: Write>(
     out: &mut W,
 ) -> Result<(), RunFault>
     requires some_files { 0 < vec_len files }
-    requires few_files { vec_len files ≤ 65536 }
+    requires few_files { vec_len files ≤ max_files }
     requires some_items { 0 < per_piece }
-    requires few_items { per_piece ≤ 4096 }
+    requires few_items { per_piece ≤ max_items }
     requires some_workers { 0 < workers }
-    requires few_workers { workers ≤ 8 }
+    requires few_workers { workers ≤ max_workers }
     ensures ok { OnOk result (ListsBy tables (map input_view files.items) (W.contents out.old) (W.contents out.new)) }
     ensures err { OnErr result (ListsPrefixBy tables (map input_view files.items) (W.contents out.old) (W.contents out.new)) }
 {

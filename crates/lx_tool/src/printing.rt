@@ -1,6 +1,7 @@
 ghost use Rattle.std.specs.Prelude.{◌≡◌, ◌<◌, ◌≤◌, OnOk, OnErr, Err, replicate, false};
 ghost use Rattle.std.specs.Io.KnownBytes.{Appends};
 ghost use Rattle.lx_piece.specs.Plans.{IsPlan, files_of};
+ghost use Rattle.lx_post.specs.Claimed.{max_workers};
 ghost use Rattle.lx_post.specs.declared.run_fault.RunFault.{RunFault};
 ghost use Rattle.lx_tool.specs.Listings.{AppendsPrefix, listing_of};
 
@@ -92,7 +93,7 @@ fn scan_to<'l, 'p, 'w, T: Threads + Wait + Sync, W: Write>(
     printer: Printer<'l, 'p, 'w, W>,
 ) -> (Printer<'l, 'p, 'w, W>, Result<(), RunFault>)
     requires some_workers { 0 < workers }
-    requires few_workers { workers ≤ 8 }
+    requires few_workers { workers ≤ max_workers }
     requires fresh { printer.lister.now ≡ record { plan = plan.now; counts = replicate (files_of plan.now) 0; faults = 0; failed = false } }
     requires plan { IsPlan plan.now }
     ensures same_reference { result.0.out.ghost_name ≡ printer.entry.out.ghost_name }
@@ -114,7 +115,7 @@ pub fn scan_listing<T: Threads + Wait + Sync, W: Write>(
     out: &mut W,
 ) -> Result<(), RunFault>
     requires some_workers { 0 < workers }
-    requires few_workers { workers ≤ 8 }
+    requires few_workers { workers ≤ max_workers }
     ensures ok { OnOk result (Appends (W.contents out.old) (W.contents out.new) (listing_of plan.now)) }
     ensures err { OnErr result (AppendsPrefix (W.contents out.old) (W.contents out.new) (listing_of plan.now)) }
 {

@@ -9,19 +9,17 @@ ghost use Rattle.lx_tool.specs.Sources.{whole};
 ghost use Rattle.lx_tool.specs.Statuses.{status_of};
 ghost use Rattle.lx_tool.specs.Tabling.{HasNoTables};
 
-use crate::command_line::{ITEMS, ListOrder, Order, Refusal, ScanOrder, read_words};
+use crate::command_line::{ITEMS, ListRequest, Refusal, Request, ScanRequest, read_words};
 use crate::failure::Failure;
 use crate::given::{list_by_specification, list_by_tables, read_whole};
 use crate::planning::{list_files, listings_are_by_rules};
 use crate::source::{Sources, make_input};
 use crate::tabling::{generate, tables_of_text, upgrade};
+use lx_piece::MAX_FILES;
 use std::alloc::Global;
 use std::io::Write;
 use std::sync::Wait;
 use std::thread::Threads;
-
-// The most files that one listing has.
-const MOST_FILES: usize = 65_536;
 
 // The exit status where all is listed and a file was cut short.
 const CUT_SHORT: u8 = 3;
@@ -51,7 +49,7 @@ pub fn run<R: Threads + Wait + Sync, S: Sources, O: Write, E: Write>(
     ensures ended { 0 < result → result < 4 →
         HasEnded S.gives (asked_by (map (λ word. word.bytes.items) words.now)) sources.old sources.new (O.contents out.old) (O.contents out.new) result }
 {
-    match obey(rt, alloc, words, sources, out) {
+    match execute(rt, alloc, words, sources, out) {
         Ok(cut) => tell_cut(&cut, err),
         Err(failure) => {
             let _ = match &failure {
@@ -76,7 +74,7 @@ fn tell_cut<E: Write>(cut: &[&str], err: &mut E) -> u8
 }
 
 // Does what the words ask for. The result are the names of the files that were cut short.
-fn obey<'a, R: Threads + Wait + Sync, S: Sources, O: Write>(
+fn execute<'a, R: Threads + Wait + Sync, S: Sources, O: Write>(
     rt: &R,
     alloc: Global,
     words: &'a [String],
@@ -96,11 +94,11 @@ fn obey<'a, R: Threads + Wait + Sync, S: Sources, O: Write>(
     Ok(cut)
 }
 
-// Does what an order asks for. Nothing but a listing has files.
+// Does what a request asks for. Nothing but a listing has files.
 fn carry_out<'a, R: Threads + Wait + Sync, S: Sources, O: Write>(
     rt: &R,
     alloc: Global,
-    order: Order<'a>,
+    order: Request<'a>,
     sources: &mut S,
     out: &mut O,
 ) -> Result<Vec<&'a str>, Failure<'a>>
@@ -109,21 +107,21 @@ fn carry_out<'a, R: Threads + Wait + Sync, S: Sources, O: Write>(
     ensures err { IfErr result (HasFailed S.gives (asked_as order.entry) sources.old (O.contents out.old) (O.contents out.new)) }
 {
     match order {
-        Order::Stored => {
+        Request::Stored => {
             list_stored(alloc, out)?;
             Ok(Vec::new(alloc))
         }
-        Order::Help(text) => {
+        Request::Help(text) => {
             write!(out, "{text}").map_err(|_| Failure::Output)?;
             Ok(Vec::new(alloc))
         }
-        Order::Run(order) => list_by_rules_of(alloc, &order, sources, out),
-        Order::Scan(order) => list_by_tables_of(rt, alloc, &order, sources, out),
-        Order::Gen(name) => {
+        Request::Run(order) => list_by_rules_of(alloc, &order, sources, out),
+        Request::Scan(order) => list_by_tables_of(rt, alloc, &order, sources, out),
+        Request::Gen(name) => {
             generate_named(alloc, name, sources, out)?;
             Ok(Vec::new(alloc))
         }
-        Order::Up(name) => {
+        Request::Up(name) => {
             upgrade_named(alloc, name, sources, out)?;
             Ok(Vec::new(alloc))
         }
@@ -144,10 +142,10 @@ fn list_stored<'a, O: Write>(alloc: Global, out: &mut O) -> Result<(), Failure<'
     Ok(())
 }
 
-// Lists the order's files by its specification.
+// Lists the request's files by its specification.
 fn list_by_rules_of<'a, S: Sources, O: Write>(
     alloc: Global,
-    order: &ListOrder<'a>,
+    order: &ListRequest<'a>,
     sources: &mut S,
     out: &mut O,
 ) -> Result<Vec<&'a str>, Failure<'a>>
@@ -155,18 +153,18 @@ fn list_by_rules_of<'a, S: Sources, O: Write>(
         HasDone S.gives sources.old sources.new (O.contents out.old) (O.contents out.new) (map (λ name. name.now) cut.items) (run-asked (plain_order order.now))) }
     ensures err { IfErr result (HasFailed S.gives (Some (run-asked (plain_order order.now))) sources.old (O.contents out.old) (O.contents out.new)) }
 {
-    if order.files.len() > MOST_FILES {
+    if order.files.len() > MAX_FILES {
         return Err(Failure::TooManyFiles);
     }
     let text = read_whole(alloc, sources, order.rules)?;
     list_by_specification(alloc, &text, &order.files, order.per_piece, sources, out)
 }
 
-// Lists the order's files by its tables, with its number of workers.
+// Lists the request's files by its tables, with its number of workers.
 fn list_by_tables_of<'a, R: Threads + Wait + Sync, S: Sources, O: Write>(
     rt: &R,
     alloc: Global,
-    order: &ScanOrder<'a>,
+    order: &ScanRequest<'a>,
     sources: &mut S,
     out: &mut O,
 ) -> Result<Vec<&'a str>, Failure<'a>>
@@ -175,7 +173,7 @@ fn list_by_tables_of<'a, R: Threads + Wait + Sync, S: Sources, O: Write>(
     ensures err { IfErr result (HasFailed S.gives (Some (scan-asked order.now.workers (plain_order order.now.list))) sources.old (O.contents out.old) (O.contents out.new)) }
 {
     let list = &order.list;
-    if list.files.len() > MOST_FILES {
+    if list.files.len() > MAX_FILES {
         return Err(Failure::TooManyFiles);
     }
     let text = read_whole(alloc, sources, list.rules)?;

@@ -6,6 +6,8 @@ ghost use Rattle.clap.specs.declared.builder.Command.TheViews.{out-Command as fi
 ghost use Rattle.lx_tool.specs.CommandLine.{files_rule, items_rule, list_app, lx_app, one_file_app, rules_rule, scan_app, workers_rule};
 
 use clap::{Arg, ArgAction, Command, value_parser};
+use lx_piece::MAX_ITEMS;
+use lx_post::MAX_WORKERS;
 use std::alloc::{AllocError, Global};
 
 pub(super) fn command<'a>(alloc: Global) -> Result<Command<'a>, AllocError>
@@ -89,7 +91,7 @@ fn items<'a>(alloc: Global) -> Arg<'a>
         .short('b')
         .value_name("K")
         .help("How many items a piece has, from 1 to 4096")
-        .value_parser(value_parser!(u32).range(1..=4096))
+        .value_parser(value_parser!(u32).range(1..=i64::from(MAX_ITEMS)))
         .default_value("256")
 }
 
@@ -101,7 +103,7 @@ fn workers<'a>(alloc: Global) -> Arg<'a>
         .short('j')
         .value_name("N")
         .help("With how many threads the files are scanned, from 1 to 8")
-        .value_parser(value_parser!(u8).range(1..=8))
+        .value_parser(value_parser!(u8).range(1..=i64::from(MAX_WORKERS)))
         .default_value("4")
 }
 

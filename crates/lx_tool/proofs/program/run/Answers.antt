@@ -14,7 +14,7 @@ returns-in-Ok-clause-ended g c = λ some few.
     let status : c.tell_cut.result ≡ 3 = grind arith in
     inl (
       status,
-      ended_cut g.S.Sources.gives c.args.sources.now c.obey.new.sources (g.O.Write.contents c.args.out.now) (g.O.Write.contents c.obey.new.out) names
+      ended_cut g.S.Sources.gives c.args.sources.now c.execute.new.sources (g.O.Write.contents c.args.out.now) (g.O.Write.contents c.execute.new.out) names
           (asked_by (map (λ word. word.bytes.items) c.args.words.now)) (λ e. let nobody = ap length e in absurd (grind arith)) c.in-Ok.ensures.ok,
     )
 

@@ -1,35 +1,39 @@
-//! The words of the command line, as an order.
+//! The words of the command line, as a request.
 
 ghost use Rattle.std.specs.Prelude.{◌≡◌, ◌≢◌, ◌≤◌, ◌<◌, IfOk, Ok, Err, None, codes, length, map, true, is_some, option_and_then};
 ghost use Rattle.clap.specs.Words.{found_of, kind_of, rows_of, subcommand_rows_of};
-ghost use Rattle.lx_tool.specs.CommandLine.{IsFault, PlainWordsAsk, asked_as, asked_by, asked_of, files_in, items_in, order_in, plain_order, rules_in, workers_in};
+ghost use Rattle.lx_piece.specs.Plans.{max_items};
+ghost use Rattle.lx_post.specs.Claimed.{max_workers};
+ghost use Rattle.lx_tool.specs.CommandLine.{IsFault, PlainWordsAsk, asked_as, asked_by, asked_of, files_in, items_in, request_in, plain_order, rules_in, workers_in};
 
 use super::app::command;
-use super::{ITEMS, ListOrder, Order, Refusal, ScanOrder, WORKERS};
+use super::{ITEMS, ListRequest, Refusal, Request, ScanRequest, WORKERS};
 use clap::error::ErrorKind;
 use clap::{ArgMatches, Error};
+use lx_piece::MAX_ITEMS;
+use lx_post::MAX_WORKERS;
 use std::alloc::{AllocError, Global};
 
 /// What the words ask for; the first is the program's name.
-pub(crate) fn read_words(alloc: Global, words: &[String]) -> Result<Order<'_>, Refusal>
-    ensures asked { IfOk result (λ order. asked_by (map (λ word. word.bytes.items) words.now) ≡ asked_as order) }
+pub(crate) fn read_words(alloc: Global, words: &[String]) -> Result<Request<'_>, Refusal>
+    ensures asked { IfOk result (λ request. asked_by (map (λ word. word.bytes.items) words.now) ≡ asked_as request) }
     ensures refused { (text : Error) → result ≡ Err (Refusal.Words text) → asked_by (map (λ word. word.bytes.items) words.now) ≡ None }
     // The help is one answer of `clap`, and the others refuse the words.
-    ensures help_asked { (text : Error) → result ≡ Ok (Order.Help text) → IsFault (map (λ word. word.bytes.items) words.now) ErrorKind.DisplayHelp }
+    ensures help_asked { (text : Error) → result ≡ Ok (Request.Help text) → IsFault (map (λ word. word.bytes.items) words.now) ErrorKind.DisplayHelp }
     ensures faulty { (text : Error) → result ≡ Err (Refusal.Words text) → (kind_of text ≢ ErrorKind.DisplayHelp) × IsFault (map (λ word. word.bytes.items) words.now) (kind_of text) }
-    ensures stored { length words.now ≤ 1 → result ≡ Ok Order.Stored }
-    ensures help { (text : Error) → result ≡ Ok (Order.Help text) → kind_of text ≡ ErrorKind.DisplayHelp }
+    ensures stored { length words.now ≤ 1 → result ≡ Ok Request.Stored }
+    ensures help { (text : Error) → result ≡ Ok (Request.Help text) → kind_of text ≡ ErrorKind.DisplayHelp }
     // That memory was refused is no fault of the words.
     ensures words { (text : Error) → result ≡ Err (Refusal.Words text) → kind_of text ≢ ErrorKind.OutOfMemory }
 {
     if words.len() <= 1 {
-        return Ok(Order::Stored);
+        return Ok(Request::Stored);
     }
     let command = command(alloc)?;
     match command.try_get_matches_from(words) {
-        Ok(matches) => Ok(order_of(alloc, &matches)?),
+        Ok(matches) => Ok(request_of(alloc, &matches)?),
         Err(error) => match error.kind() {
-            ErrorKind::DisplayHelp => Ok(Order::Help(error)),
+            ErrorKind::DisplayHelp => Ok(Request::Help(error)),
             ErrorKind::OutOfMemory => Err(Refusal::Memory),
             _ => Err(Refusal::Words(error)),
         },
@@ -37,51 +41,51 @@ pub(crate) fn read_words(alloc: Global, words: &[String]) -> Result<Order<'_>, R
 }
 
 // What the matches ask for, which have a subcommand of the command's.
-fn order_of<'a>(alloc: Global, matches: &ArgMatches<'a>) -> Result<Order<'a>, AllocError>
+fn request_of<'a>(alloc: Global, matches: &ArgMatches<'a>) -> Result<Request<'a>, AllocError>
     requires { is_some (option_and_then asked_of (subcommand_rows_of matches.now)) ≡ true }
-    ensures { IfOk result (λ order. option_and_then asked_of (subcommand_rows_of matches.now) ≡ asked_as order) }
+    ensures { IfOk result (λ request. option_and_then asked_of (subcommand_rows_of matches.now) ≡ asked_as request) }
 {
     match matches.subcommand() {
-        Some((name, found)) => named_order_of(alloc, name, found),
+        Some((name, found)) => named_request_of(alloc, name, found),
         None => unreachable!(),
     }
 }
 
 // What the subcommand with this name asks for.
-fn named_order_of<'a>(
+fn named_request_of<'a>(
     alloc: Global,
     name: &str,
     found: &ArgMatches<'a>,
-) -> Result<Order<'a>, AllocError>
+) -> Result<Request<'a>, AllocError>
     requires { is_some (asked_of (name.now, rows_of (found_of found.now))) ≡ true }
-    ensures { IfOk result (λ order. asked_of (name.now, rows_of (found_of found.now)) ≡ asked_as order) }
+    ensures { IfOk result (λ request. asked_of (name.now, rows_of (found_of found.now)) ≡ asked_as request) }
 {
     match name {
-        "gen" => Ok(Order::Gen(rules_of(found, "SPEC"))),
-        "up" => Ok(Order::Up(rules_of(found, "TABLES"))),
-        "scan" => Ok(Order::Scan(scan_order_of(alloc, found)?)),
-        _ => Ok(Order::Run(list_order_of(alloc, found, "SPEC")?)),
+        "gen" => Ok(Request::Gen(rules_of(found, "SPEC"))),
+        "up" => Ok(Request::Up(rules_of(found, "TABLES"))),
+        "scan" => Ok(Request::Scan(scan_request_of(alloc, found)?)),
+        _ => Ok(Request::Run(list_request_of(alloc, found, "SPEC")?)),
     }
 }
 
-fn scan_order_of<'a>(alloc: Global, found: &ArgMatches<'a>) -> Result<ScanOrder<'a>, AllocError>
-    ensures workers { IfOk result (λ order. order.workers ≡ workers_in (rows_of (found_of found.now))) }
-    ensures list { IfOk result (λ order. plain_order order.list ≡ order_in (codes "TABLES") (rows_of (found_of found.now))) }
+fn scan_request_of<'a>(alloc: Global, found: &ArgMatches<'a>) -> Result<ScanRequest<'a>, AllocError>
+    ensures workers { IfOk result (λ request. request.workers ≡ workers_in (rows_of (found_of found.now))) }
+    ensures list { IfOk result (λ request. plain_order request.list ≡ request_in (codes "TABLES") (rows_of (found_of found.now))) }
 {
-    Ok(ScanOrder {
+    Ok(ScanRequest {
         workers: workers_of(found),
-        list: list_order_of(alloc, found, "TABLES")?,
+        list: list_request_of(alloc, found, "TABLES")?,
     })
 }
 
-fn list_order_of<'a>(
+fn list_request_of<'a>(
     alloc: Global,
     found: &ArgMatches<'a>,
     rules: &str,
-) -> Result<ListOrder<'a>, AllocError>
-    ensures { IfOk result (λ order. plain_order order ≡ order_in rules.now (rows_of (found_of found.now))) }
+) -> Result<ListRequest<'a>, AllocError>
+    ensures { IfOk result (λ request. plain_order request ≡ request_in rules.now (rows_of (found_of found.now))) }
 {
-    Ok(ListOrder {
+    Ok(ListRequest {
         per_piece: items_of(found),
         rules: rules_of(found, rules),
         files: files_of(alloc, found)?,
@@ -107,10 +111,10 @@ fn files_of<'a>(alloc: Global, found: &ArgMatches<'a>) -> Result<Vec<&'a str>, A
 fn items_of(found: &ArgMatches<'_>) -> u32
     ensures items { result ≡ items_in (rows_of (found_of found.now)) }
     ensures some { 0 < result }
-    ensures few { result ≤ 4096 }
+    ensures few { result ≤ max_items }
 {
     match found.get_one::<u32>("items") {
-        Some(items) if 0 < items && items <= 4096 => items,
+        Some(items) if 0 < items && items <= MAX_ITEMS => items,
         _ => ITEMS,
     }
 }
@@ -119,10 +123,10 @@ fn items_of(found: &ArgMatches<'_>) -> u32
 fn workers_of(found: &ArgMatches<'_>) -> u8
     ensures workers { result ≡ workers_in (rows_of (found_of found.now)) }
     ensures some { 0 < result }
-    ensures few { result ≤ 8 }
+    ensures few { result ≤ max_workers }
 {
     match found.get_one::<u8>("workers") {
-        Some(workers) if 0 < workers && workers <= 8 => workers,
+        Some(workers) if 0 < workers && workers <= MAX_WORKERS => workers,
         _ => WORKERS,
     }
 }

@@ -1,7 +1,7 @@
 use Rattle.std.proofs.Common.{map}
 use Rattle.lx_tool.specs.CommandLine.{asked_as}
 use Rattle.lx_tool.proofs.Obeyed.{obeyed_kept}
-use Rattle.lx_tool.proofs.program.obey.Goals as goal
+use Rattle.lx_tool.proofs.program.execute.Goals as goal
 
 pub returns-clause-ok : goal.returns-clause-ok
 returns-clause-ok g c =

@@ -4,7 +4,7 @@ use Rattle.std.specs.Borrow.{Bor}
 use Rattle.clap.proofs.WalkLemmas.{raw_values-rows}
 use Rattle.clap.specs.Words.{Text, found_of, rows_of}
 use Rattle.lx_tool.specs.CommandLine.{files_in}
-use Rattle.lx_tool.proofs.command_line.reading.files_of.Goals as goal
+use Rattle.lx_tool.proofs.command_line.words.files_of.Goals as goal
 
 abbrev or_none : Option (List Text) → List Text
 or_none o = unwrap_or o []

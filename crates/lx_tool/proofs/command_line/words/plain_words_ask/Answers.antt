@@ -1,7 +1,7 @@
 use Rattle.std.proofs.Common.{true, false}
 use Rattle.lx_tool.proofs.PlainNames.{plain_name_asks}
 use Rattle.lx_tool.proofs.PlainOrders.{of_run, of_scan, plain_words_ask}
-use Rattle.lx_tool.proofs.command_line.reading.plain_words_ask.Goals as goal
+use Rattle.lx_tool.proofs.command_line.words.plain_words_ask.Goals as goal
 
 pub returns : goal.returns
 returns c = record {

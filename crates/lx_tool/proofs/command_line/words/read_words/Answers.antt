@@ -5,14 +5,14 @@ use Rattle.clap.specs.declared.error.kind.ErrorKind.TheVariants as kind
 use Rattle.lx_tool.proofs.Asked.{asked_where_refused, asked_where_stored, asked_where_taken, fault_is, met_asks, no_help}
 use Rattle.lx_tool.specs.CommandLine.{IsFault}
 use Rattle.clap.specs.declared.error.Error.{Error}
-use Rattle.lx_tool.proofs.command_line.reading.read_words.Goals as goal
+use Rattle.lx_tool.proofs.command_line.words.read_words.Goals as goal
 
 pub returns-then-words-le1-clause-asked : goal.returns-then-words-le1-clause-asked
 returns-then-words-le1-clause-asked c =
     asked_where_stored _ (rw length-map c.if-words-le1.true)
 
-pub order_of-requires : goal.order_of-requires
-order_of-requires c =
+pub request_of-requires : goal.request_of-requires
+request_of-requires c =
     let words : List Text = map (λ word. word.bytes.items) c.args.words.now in
     met_asks (app_of c.in_ok-command.command) words c.in_ok-command.ensures (rw length-map c.if-words-le1.false) c.in-Ok.matches c.in-Ok.ensures.kinds c.in-Ok.ensures.matches
 
@@ -20,13 +20,13 @@ pub returns-in-Ok-clause-asked : goal.returns-in-Ok-clause-asked
 returns-in-Ok-clause-asked c =
     let words : List Text = map (λ word. word.bytes.items) c.args.words.now in
     asked_where_taken (app_of c.in_ok-command.command) words c.in_ok-command.ensures (rw length-map c.if-words-le1.false) c.in-Ok.matches c.in-Ok.ensures.kinds c.in-Ok.ensures.matches
-    ∙ c.in_ok-order_of-in-Ok.ensures
+    ∙ c.in_ok-request_of-in-Ok.ensures
 
 pub returns-in-Ok-clause-help : goal.returns-in-Ok-clause-help
 returns-in-Ok-clause-help c text is =
     let words : List Text = map (λ word. word.bytes.items) c.args.words.now in
     let asks = met_asks (app_of c.in_ok-command.command) words c.in_ok-command.ensures (rw length-map c.if-words-le1.false) c.in-Ok.matches c.in-Ok.ensures.kinds c.in-Ok.ensures.matches in
-    absurd (no_help c.in_ok-order_of-in-Ok.field-0 text (cc) (ap is_some (sym c.in_ok-order_of-in-Ok.ensures) ∙ asks))
+    absurd (no_help c.in_ok-request_of-in-Ok.field-0 text (cc) (ap is_some (sym c.in_ok-request_of-in-Ok.ensures) ∙ asks))
 
 pub returns-in-DisplayHelp-clause-asked : goal.returns-in-DisplayHelp-clause-asked
 returns-in-DisplayHelp-clause-asked c =
@@ -49,7 +49,7 @@ pub returns-in-Ok-clause-help_asked : goal.returns-in-Ok-clause-help_asked
 returns-in-Ok-clause-help_asked c text is =
     let words : List Text = map (λ word. word.bytes.items) c.args.words.now in
     let asks = met_asks (app_of c.in_ok-command.command) words c.in_ok-command.ensures (rw length-map c.if-words-le1.false) c.in-Ok.matches c.in-Ok.ensures.kinds c.in-Ok.ensures.matches in
-    absurd (no_help c.in_ok-order_of-in-Ok.field-0 text (cc) (ap is_some (sym c.in_ok-order_of-in-Ok.ensures) ∙ asks))
+    absurd (no_help c.in_ok-request_of-in-Ok.field-0 text (cc) (ap is_some (sym c.in_ok-request_of-in-Ok.ensures) ∙ asks))
 
 pub returns-in-DisplayHelp-clause-help_asked : goal.returns-in-DisplayHelp-clause-help_asked
 returns-in-DisplayHelp-clause-help_asked c text is =
