@@ -9,7 +9,7 @@ use Rattle.std.proofs.lemmas.Bool.{eqb-true, eqb-false, leb-true, le-leb, false�
 use Rattle.std.proofs.lemmas.Slice.Eq.{bytes_eq-Decides}
 use Rattle.lx_ere.specs.Bytes.{bytes_where}
 use Rattle.lx_ere.specs.Sequences.{Opened}
-use Rattle.lx_ere.specs.Brackets.{Spot, opening, behind_caret, inside, is_inside, is_opening, begins_with, opens_inner, stands_alone, range_follows, Point, plain_point, escaped, first_bracket, outer_dash, collating, RangeEnd, end_point, end_dash, class_ranges, Member, point, range, equivalence, class, in_members, Bracket, matching, excluding}
+use Rattle.lx_ere.specs.Brackets.{BracketPosition, opening, behind_caret, inside, is_inside, is_opening, begins_with, opens_inner, stands_alone, range_follows, Point, plain_point, escaped, first_bracket, outer_dash, collating, RangeEnd, end_point, end_dash, class_ranges, Member, point, range, equivalence, class, in_members, Bracket, matching, excluding}
 use Rattle.lx_ere.specs.Spelling.{is_name_byte}
 use Rattle.lx_ere.specs.Lexing.{run_len, behind_byte, escape_at, marked_byte_at, bare_point_at, point_at, range_end_at, range_from, member_from, class_of, class_at, begins_pair, member_at, members_at, bracket_at}
 use Rattle.lx_ere.proofs.Choices.{pick_first, pick_second, cases_of, no_none, same_some, map_is, then_is, eq_other, begins_is, behind_byte_is, behind_byte_at, IsSpelledPrefix}
@@ -29,7 +29,7 @@ not_is_false true h = absurd (false≢true h)
 not_is_false false h = refl
 
 -- what a byte that stands alone is not
-pub record Alone (spot : Spot) (c : ℕ) (behind : List ℕ) : Type 0 where
+pub record Alone (position : BracketPosition) (c : ℕ) (behind : List ℕ) : Type 0 where
   pub no_close : nat_eq c 93 ≡ false
   pub no_slash : nat_eq c 92 ≡ false
   pub no_dash : nat_eq c 45 ≡ false
@@ -38,13 +38,13 @@ pub record Alone (spot : Spot) (c : ℕ) (behind : List ℕ) : Type 0 where
   pub no_equals : (nat_eq c 91 && begins_with 61 behind) ≡ false
   pub no_inner : opens_inner c behind ≡ false
 
-pub alone_is : (spot : Spot) (c : ℕ) (behind : List ℕ) → stands_alone spot c behind ≡ true → Alone spot c behind
-alone_is spot c behind h =
-    let a = not_or (nat_eq c 93) (nat_eq c 92 || (nat_eq c 45 || (nat_eq c 10 || ((is_opening spot && nat_eq c 94) || opens_inner c behind)))) h in
-    let b = not_or (nat_eq c 92) (nat_eq c 45 || (nat_eq c 10 || ((is_opening spot && nat_eq c 94) || opens_inner c behind))) a.1 in
-    let d = not_or (nat_eq c 45) (nat_eq c 10 || ((is_opening spot && nat_eq c 94) || opens_inner c behind)) b.1 in
-    let f = not_or (nat_eq c 10) ((is_opening spot && nat_eq c 94) || opens_inner c behind) d.1 in
-    let g = not_or (is_opening spot && nat_eq c 94) (opens_inner c behind) f.1 in
+pub alone_is : (position : BracketPosition) (c : ℕ) (behind : List ℕ) → stands_alone position c behind ≡ true → Alone position c behind
+alone_is position c behind h =
+    let a = not_or (nat_eq c 93) (nat_eq c 92 || (nat_eq c 45 || (nat_eq c 10 || ((is_opening position && nat_eq c 94) || opens_inner c behind)))) h in
+    let b = not_or (nat_eq c 92) (nat_eq c 45 || (nat_eq c 10 || ((is_opening position && nat_eq c 94) || opens_inner c behind))) a.1 in
+    let d = not_or (nat_eq c 45) (nat_eq c 10 || ((is_opening position && nat_eq c 94) || opens_inner c behind)) b.1 in
+    let f = not_or (nat_eq c 10) ((is_opening position && nat_eq c 94) || opens_inner c behind) d.1 in
+    let g = not_or (is_opening position && nat_eq c 94) (opens_inner c behind) f.1 in
     let inner : opens_inner c behind ≡ false = not_is_false (opens_inner c behind) g.1 in
     let parts = three (nat_eq c 91) (begins_with 58 behind) (begins_with 46 behind) (begins_with 61 behind) inner in
     record { no_close = a.0; no_slash = b.0; no_dash = d.0; no_period = parts.1; no_colon = parts.0; no_equals = parts.2; no_inner = inner }
@@ -74,88 +74,88 @@ marked_sound mark (d ∷ text) c behind e = go (cases_of (nat_eq d 10) None (opt
         let joins : text ≡ mark ∷ 93 ∷ rest = behind_byte_is mark text after at_mark ∙ ap (λ t. mark ∷ t) (behind_byte_is 93 after rest at_close) in
         (λ ten. eqb-false d 10 b (byte ∙ ten), ap (λ x. x ∷ text) byte ∙ ap (λ t. c ∷ t) (joins ∙ ap (λ t. mark ∷ 93 ∷ t) last))
 
-pub point_complete : (spot : Spot) (text : List ℕ) (c : ℕ) (behind : List ℕ) → Point spot text c behind → point_at spot (text ++ behind) ≡ Some (c, behind)
-point_complete _ _ _ _ (plain_point spot c behind h) =
-    let a = alone_is spot c behind h in
-    pick_second (nat_eq c 92) _ _ a.no_slash ∙ (pick_second (nat_eq c 93) _ _ a.no_close ∙ (pick_second (nat_eq c 45) _ _ a.no_dash ∙ (pick_second (nat_eq c 91 && begins_with 46 behind) _ _ a.no_period ∙ pick_first (stands_alone spot c behind) _ _ h)))
-point_complete _ _ _ _ (escaped spot text c behind d) = let at = escape_complete text c behind d in ap (λ t. point_at spot (t ++ behind)) at.slash ∙ at.found
-point_complete _ _ _ _ (first_bracket spot behind h) = pick_second (is_inside spot) _ _ h
-point_complete _ _ _ _ (outer_dash spot behind h) = pick_first (not (is_inside spot) || begins_with 93 behind) _ _ h
-point_complete _ _ _ _ (collating spot c behind h) = marked_complete 46 c behind h
+pub point_complete : (position : BracketPosition) (text : List ℕ) (c : ℕ) (behind : List ℕ) → Point position text c behind → point_at position (text ++ behind) ≡ Some (c, behind)
+point_complete _ _ _ _ (plain_point position c behind h) =
+    let a = alone_is position c behind h in
+    pick_second (nat_eq c 92) _ _ a.no_slash ∙ (pick_second (nat_eq c 93) _ _ a.no_close ∙ (pick_second (nat_eq c 45) _ _ a.no_dash ∙ (pick_second (nat_eq c 91 && begins_with 46 behind) _ _ a.no_period ∙ pick_first (stands_alone position c behind) _ _ h)))
+point_complete _ _ _ _ (escaped position text c behind d) = let at = escape_complete text c behind d in ap (λ t. point_at position (t ++ behind)) at.slash ∙ at.found
+point_complete _ _ _ _ (first_bracket position behind h) = pick_second (is_inside position) _ _ h
+point_complete _ _ _ _ (outer_dash position behind h) = pick_first (not (is_inside position) || begins_with 93 behind) _ _ h
+point_complete _ _ _ _ (collating position c behind h) = marked_complete 46 c behind h
 
-pub point_sound : (spot : Spot) (text : List ℕ) (c : ℕ) (behind : List ℕ) → point_at spot text ≡ Some (c, behind) → IsSpelledPrefix (Point spot) text c behind
-point_sound spot [] c behind e = absurd (no_none (c, behind) e)
-point_sound spot (d ∷ text) c behind e = by_slash (cases_of (nat_eq d 92) (escape_at text) (bare_point_at spot d text) (Some (c, behind)) e)
+pub point_sound : (position : BracketPosition) (text : List ℕ) (c : ℕ) (behind : List ℕ) → point_at position text ≡ Some (c, behind) → IsSpelledPrefix (Point position) text c behind
+point_sound position [] c behind e = absurd (no_none (c, behind) e)
+point_sound position (d ∷ text) c behind e = by_slash (cases_of (nat_eq d 92) (escape_at text) (bare_point_at position d text) (Some (c, behind)) e)
   where
     Found : Type 0
-    Found = IsSpelledPrefix (Point spot) (d ∷ text) c behind
+    Found = IsSpelledPrefix (Point position) (d ∷ text) c behind
 
-    by_alone : (stands_alone spot d text ≡ true) × ◌≡◌ {A = Option Point1} (Some (d, text)) (Some (c, behind)) ⊎ ((stands_alone spot d text ≡ false) × ◌≡◌ {A = Option Point1} None (Some (c, behind))) → IsSpelledPrefix (Point spot) (d ∷ text) c behind
+    by_alone : (stands_alone position d text ≡ true) × ◌≡◌ {A = Option Point1} (Some (d, text)) (Some (c, behind)) ⊎ ((stands_alone position d text ≡ false) × ◌≡◌ {A = Option Point1} None (Some (c, behind))) → IsSpelledPrefix (Point position) (d ∷ text) c behind
     by_alone (inl (b, f)) =
         let pair : ◌≡◌ {A = Point1} (d, text) (c, behind) = same_some (d, text) (c, behind) f in
         let byte : d ≡ c = ap (λ p. p.0) pair in
         let last : text ≡ behind = ap (λ p. p.1) pair in
-        record { prefix = d ∷ []; spelled = subst (λ x. Point spot (d ∷ []) x behind) byte (subst (λ v. Point spot (d ∷ []) d v) last (plain_point spot d text b)); joins = ap (λ t. d ∷ t) last }
+        record { prefix = d ∷ []; spelled = subst (λ x. Point position (d ∷ []) x behind) byte (subst (λ v. Point position (d ∷ []) d v) last (plain_point position d text b)); joins = ap (λ t. d ∷ t) last }
     by_alone (inr (b, f)) = absurd (no_none (c, behind) f)
 
-    by_period : ((nat_eq d 91 && begins_with 46 text) ≡ true) × (marked_byte_at 46 (drop 1 text) ≡ Some (c, behind)) ⊎ (((nat_eq d 91 && begins_with 46 text) ≡ false) × (cond {A = Option Point1} (stands_alone spot d text) (Some (d, text)) None ≡ Some (c, behind))) → IsSpelledPrefix (Point spot) (d ∷ text) c behind
+    by_period : ((nat_eq d 91 && begins_with 46 text) ≡ true) × (marked_byte_at 46 (drop 1 text) ≡ Some (c, behind)) ⊎ (((nat_eq d 91 && begins_with 46 text) ≡ false) × (cond {A = Option Point1} (stands_alone position d text) (Some (d, text)) None ≡ Some (c, behind))) → IsSpelledPrefix (Point position) (d ∷ text) c behind
     by_period (inl (b, f)) =
         let both = and_parts (nat_eq d 91) (begins_with 46 text) b in
         let m = marked_sound 46 (drop 1 text) c behind f in
         let is : d ≡ 91 = eqb-true d 91 both.0 in
         record {
           prefix = 91 ∷ 46 ∷ c ∷ 46 ∷ 93 ∷ [];
-          spelled = collating spot c behind m.0;
+          spelled = collating position c behind m.0;
           joins = ap (λ x. x ∷ text) is ∙ ap (λ t. 91 ∷ t) (begins_is 46 text both.1 ∙ ap (λ t. 46 ∷ t) m.1);
         }
-    by_period (inr (b, f)) = by_alone (cases_of (stands_alone spot d text) (Some (d, text)) None (Some (c, behind)) f)
+    by_period (inr (b, f)) = by_alone (cases_of (stands_alone position d text) (Some (d, text)) None (Some (c, behind)) f)
 
-    after_dash : ((not (is_inside spot) || begins_with 93 text) ≡ true) × ◌≡◌ {A = Option Point1} (Some (45, text)) (Some (c, behind)) ⊎ (((not (is_inside spot) || begins_with 93 text) ≡ false) × ◌≡◌ {A = Option Point1} None (Some (c, behind))) → d ≡ 45 → IsSpelledPrefix (Point spot) (d ∷ text) c behind
+    after_dash : ((not (is_inside position) || begins_with 93 text) ≡ true) × ◌≡◌ {A = Option Point1} (Some (45, text)) (Some (c, behind)) ⊎ (((not (is_inside position) || begins_with 93 text) ≡ false) × ◌≡◌ {A = Option Point1} None (Some (c, behind))) → d ≡ 45 → IsSpelledPrefix (Point position) (d ∷ text) c behind
     after_dash (inl (b, f)) is =
         let pair : ◌≡◌ {A = Point1} (45, text) (c, behind) = same_some (45, text) (c, behind) f in
         let byte : 45 ≡ c = ap (λ p. p.0) pair in
         let last : text ≡ behind = ap (λ p. p.1) pair in
-        record { prefix = 45 ∷ []; spelled = subst (λ x. Point spot (45 ∷ []) x behind) byte (subst (λ v. Point spot (45 ∷ []) 45 v) last (outer_dash spot text b)); joins = ap (λ x. x ∷ text) is ∙ ap (λ t. 45 ∷ t) last }
+        record { prefix = 45 ∷ []; spelled = subst (λ x. Point position (45 ∷ []) x behind) byte (subst (λ v. Point position (45 ∷ []) 45 v) last (outer_dash position text b)); joins = ap (λ x. x ∷ text) is ∙ ap (λ t. 45 ∷ t) last }
     after_dash (inr (b, f)) is = absurd (no_none (c, behind) f)
 
-    by_dash : (nat_eq d 45 ≡ true) × (cond {A = Option Point1} (not (is_inside spot) || begins_with 93 text) (Some (45, text)) None ≡ Some (c, behind)) ⊎ ((nat_eq d 45 ≡ false) × (cond {A = Option Point1} (nat_eq d 91 && begins_with 46 text) (marked_byte_at 46 (drop 1 text)) (cond {A = Option Point1} (stands_alone spot d text) (Some (d, text)) None) ≡ Some (c, behind))) → IsSpelledPrefix (Point spot) (d ∷ text) c behind
-    by_dash (inl (b, f)) = after_dash (cases_of (not (is_inside spot) || begins_with 93 text) (Some (45, text)) None (Some (c, behind)) f) (eqb-true d 45 b)
-    by_dash (inr (b, f)) = by_period (cases_of (nat_eq d 91 && begins_with 46 text) (marked_byte_at 46 (drop 1 text)) (cond {A = Option Point1} (stands_alone spot d text) (Some (d, text)) None) (Some (c, behind)) f)
+    by_dash : (nat_eq d 45 ≡ true) × (cond {A = Option Point1} (not (is_inside position) || begins_with 93 text) (Some (45, text)) None ≡ Some (c, behind)) ⊎ ((nat_eq d 45 ≡ false) × (cond {A = Option Point1} (nat_eq d 91 && begins_with 46 text) (marked_byte_at 46 (drop 1 text)) (cond {A = Option Point1} (stands_alone position d text) (Some (d, text)) None) ≡ Some (c, behind))) → IsSpelledPrefix (Point position) (d ∷ text) c behind
+    by_dash (inl (b, f)) = after_dash (cases_of (not (is_inside position) || begins_with 93 text) (Some (45, text)) None (Some (c, behind)) f) (eqb-true d 45 b)
+    by_dash (inr (b, f)) = by_period (cases_of (nat_eq d 91 && begins_with 46 text) (marked_byte_at 46 (drop 1 text)) (cond {A = Option Point1} (stands_alone position d text) (Some (d, text)) None) (Some (c, behind)) f)
 
-    after_close : (is_inside spot ≡ true) × ◌≡◌ {A = Option Point1} None (Some (c, behind)) ⊎ ((is_inside spot ≡ false) × ◌≡◌ {A = Option Point1} (Some (93, text)) (Some (c, behind))) → d ≡ 93 → IsSpelledPrefix (Point spot) (d ∷ text) c behind
+    after_close : (is_inside position ≡ true) × ◌≡◌ {A = Option Point1} None (Some (c, behind)) ⊎ ((is_inside position ≡ false) × ◌≡◌ {A = Option Point1} (Some (93, text)) (Some (c, behind))) → d ≡ 93 → IsSpelledPrefix (Point position) (d ∷ text) c behind
     after_close (inl (b, f)) is = absurd (no_none (c, behind) f)
     after_close (inr (b, f)) is =
         let pair : ◌≡◌ {A = Point1} (93, text) (c, behind) = same_some (93, text) (c, behind) f in
         let byte : 93 ≡ c = ap (λ p. p.0) pair in
         let last : text ≡ behind = ap (λ p. p.1) pair in
-        record { prefix = 93 ∷ []; spelled = subst (λ x. Point spot (93 ∷ []) x behind) byte (subst (λ v. Point spot (93 ∷ []) 93 v) last (first_bracket spot text b)); joins = ap (λ x. x ∷ text) is ∙ ap (λ t. 93 ∷ t) last }
+        record { prefix = 93 ∷ []; spelled = subst (λ x. Point position (93 ∷ []) x behind) byte (subst (λ v. Point position (93 ∷ []) 93 v) last (first_bracket position text b)); joins = ap (λ x. x ∷ text) is ∙ ap (λ t. 93 ∷ t) last }
 
-    by_close : (nat_eq d 93 ≡ true) × (cond {A = Option Point1} (is_inside spot) None (Some (93, text)) ≡ Some (c, behind)) ⊎ ((nat_eq d 93 ≡ false) × (cond {A = Option Point1} (nat_eq d 45) (cond {A = Option Point1} (not (is_inside spot) || begins_with 93 text) (Some (45, text)) None) (cond {A = Option Point1} (nat_eq d 91 && begins_with 46 text) (marked_byte_at 46 (drop 1 text)) (cond {A = Option Point1} (stands_alone spot d text) (Some (d, text)) None)) ≡ Some (c, behind))) → IsSpelledPrefix (Point spot) (d ∷ text) c behind
-    by_close (inl (b, f)) = after_close (cases_of (is_inside spot) None (Some (93, text)) (Some (c, behind)) f) (eqb-true d 93 b)
-    by_close (inr (b, f)) = by_dash (cases_of (nat_eq d 45) (cond {A = Option Point1} (not (is_inside spot) || begins_with 93 text) (Some (45, text)) None) (cond {A = Option Point1} (nat_eq d 91 && begins_with 46 text) (marked_byte_at 46 (drop 1 text)) (cond {A = Option Point1} (stands_alone spot d text) (Some (d, text)) None)) (Some (c, behind)) f)
+    by_close : (nat_eq d 93 ≡ true) × (cond {A = Option Point1} (is_inside position) None (Some (93, text)) ≡ Some (c, behind)) ⊎ ((nat_eq d 93 ≡ false) × (cond {A = Option Point1} (nat_eq d 45) (cond {A = Option Point1} (not (is_inside position) || begins_with 93 text) (Some (45, text)) None) (cond {A = Option Point1} (nat_eq d 91 && begins_with 46 text) (marked_byte_at 46 (drop 1 text)) (cond {A = Option Point1} (stands_alone position d text) (Some (d, text)) None)) ≡ Some (c, behind))) → IsSpelledPrefix (Point position) (d ∷ text) c behind
+    by_close (inl (b, f)) = after_close (cases_of (is_inside position) None (Some (93, text)) (Some (c, behind)) f) (eqb-true d 93 b)
+    by_close (inr (b, f)) = by_dash (cases_of (nat_eq d 45) (cond {A = Option Point1} (not (is_inside position) || begins_with 93 text) (Some (45, text)) None) (cond {A = Option Point1} (nat_eq d 91 && begins_with 46 text) (marked_byte_at 46 (drop 1 text)) (cond {A = Option Point1} (stands_alone position d text) (Some (d, text)) None)) (Some (c, behind)) f)
 
-    by_slash : (nat_eq d 92 ≡ true) × (escape_at text ≡ Some (c, behind)) ⊎ ((nat_eq d 92 ≡ false) × (bare_point_at spot d text ≡ Some (c, behind))) → IsSpelledPrefix (Point spot) (d ∷ text) c behind
+    by_slash : (nat_eq d 92 ≡ true) × (escape_at text ≡ Some (c, behind)) ⊎ ((nat_eq d 92 ≡ false) × (bare_point_at position d text ≡ Some (c, behind))) → IsSpelledPrefix (Point position) (d ∷ text) c behind
     by_slash (inl (b, f)) =
         let i = escape_sound text c behind f in
-        record { prefix = 92 ∷ i.rest; spelled = escaped spot (92 ∷ i.rest) c behind i.spelled; joins = ap (λ x. x ∷ text) (eqb-true d 92 b) ∙ ap (λ t. 92 ∷ t) i.joins }
-    by_slash (inr (b, f)) = by_close (cases_of (nat_eq d 93) (cond {A = Option Point1} (is_inside spot) None (Some (93, text))) (cond {A = Option Point1} (nat_eq d 45) (cond {A = Option Point1} (not (is_inside spot) || begins_with 93 text) (Some (45, text)) None) (cond {A = Option Point1} (nat_eq d 91 && begins_with 46 text) (marked_byte_at 46 (drop 1 text)) (cond {A = Option Point1} (stands_alone spot d text) (Some (d, text)) None))) (Some (c, behind)) f)
+        record { prefix = 92 ∷ i.rest; spelled = escaped position (92 ∷ i.rest) c behind i.spelled; joins = ap (λ x. x ∷ text) (eqb-true d 92 b) ∙ ap (λ t. 92 ∷ t) i.joins }
+    by_slash (inr (b, f)) = by_close (cases_of (nat_eq d 93) (cond {A = Option Point1} (is_inside position) None (Some (93, text))) (cond {A = Option Point1} (nat_eq d 45) (cond {A = Option Point1} (not (is_inside position) || begins_with 93 text) (Some (45, text)) None) (cond {A = Option Point1} (nat_eq d 91 && begins_with 46 text) (marked_byte_at 46 (drop 1 text)) (cond {A = Option Point1} (stands_alone position d text) (Some (d, text)) None))) (Some (c, behind)) f)
 
-point_some : (spot : Spot) (text : List ℕ) (c : ℕ) (behind : List ℕ) → Point spot text c behind → 0 < length text
-point_some _ _ _ _ (plain_point spot c behind h) = omega arith
-point_some _ _ _ _ (escaped spot text c behind d) = let at = escape_complete text c behind d in omega (arith, ap length at.slash)
-point_some _ _ _ _ (first_bracket spot behind h) = omega arith
-point_some _ _ _ _ (outer_dash spot behind h) = omega arith
-point_some _ _ _ _ (collating spot c behind h) = omega arith
+point_some : (position : BracketPosition) (text : List ℕ) (c : ℕ) (behind : List ℕ) → Point position text c behind → 0 < length text
+point_some _ _ _ _ (plain_point position c behind h) = omega arith
+point_some _ _ _ _ (escaped position text c behind d) = let at = escape_complete text c behind d in omega (arith, ap length at.slash)
+point_some _ _ _ _ (first_bracket position behind h) = omega arith
+point_some _ _ _ _ (outer_dash position behind h) = omega arith
+point_some _ _ _ _ (collating position c behind h) = omega arith
 
 -- a point begins neither a class nor `[=`
-point_no_pair : (spot : Spot) (text : List ℕ) (c : ℕ) (behind : List ℕ) → Point spot text c behind → (begins_pair 91 58 (text ++ behind) ≡ false) × (begins_pair 91 61 (text ++ behind) ≡ false)
-point_no_pair _ _ _ _ (plain_point spot c behind h) = let a = alone_is spot c behind h in (a.no_colon, a.no_equals)
-point_no_pair _ _ _ _ (escaped spot text c behind d) =
+point_no_pair : (position : BracketPosition) (text : List ℕ) (c : ℕ) (behind : List ℕ) → Point position text c behind → (begins_pair 91 58 (text ++ behind) ≡ false) × (begins_pair 91 61 (text ++ behind) ≡ false)
+point_no_pair _ _ _ _ (plain_point position c behind h) = let a = alone_is position c behind h in (a.no_colon, a.no_equals)
+point_no_pair _ _ _ _ (escaped position text c behind d) =
     let at = escape_complete text c behind d in
     (ap (λ t. begins_pair 91 58 (t ++ behind)) at.slash, ap (λ t. begins_pair 91 61 (t ++ behind)) at.slash)
-point_no_pair _ _ _ _ (first_bracket spot behind h) = (refl, refl)
-point_no_pair _ _ _ _ (outer_dash spot behind h) = (refl, refl)
-point_no_pair _ _ _ _ (collating spot c behind h) = (refl, refl)
+point_no_pair _ _ _ _ (first_bracket position behind h) = (refl, refl)
+point_no_pair _ _ _ _ (outer_dash position behind h) = (refl, refl)
+point_no_pair _ _ _ _ (collating position c behind h) = (refl, refl)
 
 range_end_complete : (text : List ℕ) (c : ℕ) (behind : List ℕ) → RangeEnd text c behind → range_end_at (text ++ behind) ≡ Some (c, behind)
 range_end_complete _ _ _ (end_dash behind) = refl
@@ -218,18 +218,18 @@ class_sound n text ranges behind e =
     let last : rest ≡ behind = ap (λ p. p.1) pair in
     (known ∙ ap (λ x. Some x) same, rejoin n text ∙ ap (λ t. take n text ++ t) (behind_byte_is 58 (drop n text) after at_colon ∙ ap (λ t. 58 ∷ t) (behind_byte_is 93 after rest at_close ∙ ap (λ t. 93 ∷ t) last)))
 
-pub member_complete : (spot : Spot) (text : List ℕ) (ranges : List (ℕ × ℕ)) (behind : List ℕ) → Member spot text ranges behind → member_at spot (text ++ behind) ≡ Some (ranges, behind)
-member_complete _ _ _ _ (point spot text c behind p no_range) =
-    let no = point_no_pair spot text c behind p in
-    pick_second (begins_pair 91 58 (text ++ behind)) _ _ no.0 ∙ (pick_second (begins_pair 91 61 (text ++ behind)) _ _ no.1 ∙ (ap (option_and_then member_from) (point_complete spot text c behind p) ∙ pick_second (range_follows behind) _ _ no_range))
-member_complete _ _ _ _ (range spot text low text' high behind p follows end le) =
+pub member_complete : (position : BracketPosition) (text : List ℕ) (ranges : List (ℕ × ℕ)) (behind : List ℕ) → Member position text ranges behind → member_at position (text ++ behind) ≡ Some (ranges, behind)
+member_complete _ _ _ _ (point position text c behind p no_range) =
+    let no = point_no_pair position text c behind p in
+    pick_second (begins_pair 91 58 (text ++ behind)) _ _ no.0 ∙ (pick_second (begins_pair 91 61 (text ++ behind)) _ _ no.1 ∙ (ap (option_and_then member_from) (point_complete position text c behind p) ∙ pick_second (range_follows behind) _ _ no_range))
+member_complete _ _ _ _ (range position text low text' high behind p follows end le) =
     let e : (text ++ (45 ∷ text')) ++ behind ≡ text ++ (45 ∷ (text' ++ behind)) = append_assoc text (45 ∷ text') behind in
-    let no = point_no_pair spot text low (45 ∷ (text' ++ behind)) p in
+    let no = point_no_pair position text low (45 ∷ (text' ++ behind)) p in
     let at_end : option_and_then (range_from low) (range_end_at (text' ++ behind)) ≡ Some ((low, high) ∷ [], behind) = ap (option_and_then (range_from low)) (range_end_complete text' high behind end) ∙ pick_first (nat_le low high) _ _ (le-leb low high le) in
-    ap (member_at spot) e ∙ (pick_second (begins_pair 91 58 (text ++ (45 ∷ (text' ++ behind)))) _ _ no.0 ∙ (pick_second (begins_pair 91 61 (text ++ (45 ∷ (text' ++ behind)))) _ _ no.1 ∙
-    (ap (option_and_then member_from) (point_complete spot text low (45 ∷ (text' ++ behind)) p) ∙ (pick_first (range_follows (45 ∷ (text' ++ behind))) _ _ follows ∙ at_end))))
-member_complete _ _ _ _ (equivalence spot c behind h) = ap (option_map {U = Ranges1} (λ f. ((f.0, f.0) ∷ [], f.1))) (marked_complete 61 c behind h)
-member_complete _ _ _ _ (class spot name ranges behind known) =
+    ap (member_at position) e ∙ (pick_second (begins_pair 91 58 (text ++ (45 ∷ (text' ++ behind)))) _ _ no.0 ∙ (pick_second (begins_pair 91 61 (text ++ (45 ∷ (text' ++ behind)))) _ _ no.1 ∙
+    (ap (option_and_then member_from) (point_complete position text low (45 ∷ (text' ++ behind)) p) ∙ (pick_first (range_follows (45 ∷ (text' ++ behind))) _ _ follows ∙ at_end))))
+member_complete _ _ _ _ (equivalence position c behind h) = ap (option_map {U = Ranges1} (λ f. ((f.0, f.0) ∷ [], f.1))) (marked_complete 61 c behind h)
+member_complete _ _ _ _ (class position name ranges behind known) =
     let e : (name ++ (58 ∷ 93 ∷ [])) ++ behind ≡ name ++ (58 ∷ 93 ∷ behind) = append_assoc name (58 ∷ 93 ∷ []) behind in
     ap class_at e ∙ class_complete name ranges behind known
 
@@ -246,27 +246,27 @@ range_follows_is : (text : List ℕ) → range_follows text ≡ true → text �
 range_follows_is [] e = absurd (false≢true e)
 range_follows_is (c ∷ text) e = let both = and_parts (nat_eq c 45) (not (begins_with 93 text)) e in ap (λ x. x ∷ text) (eqb-true c 45 both.0)
 
-member_from_sound : (spot : Spot) (text : List ℕ) (low : ℕ) (rest : List ℕ) (ranges : List (ℕ × ℕ)) (behind : List ℕ) → IsSpelledPrefix (Point spot) text low rest → member_from (low, rest) ≡ Some (ranges, behind) → IsSpelledPrefix (Member spot) text ranges behind
-member_from_sound spot text low rest ranges behind i e = go (cases_of (range_follows rest) (option_and_then (range_from low) (range_end_at (drop 1 rest))) (Some ((low, low) ∷ [], rest)) (Some (ranges, behind)) e)
+member_from_sound : (position : BracketPosition) (text : List ℕ) (low : ℕ) (rest : List ℕ) (ranges : List (ℕ × ℕ)) (behind : List ℕ) → IsSpelledPrefix (Point position) text low rest → member_from (low, rest) ≡ Some (ranges, behind) → IsSpelledPrefix (Member position) text ranges behind
+member_from_sound position text low rest ranges behind i e = go (cases_of (range_follows rest) (option_and_then (range_from low) (range_end_at (drop 1 rest))) (Some ((low, low) ∷ [], rest)) (Some (ranges, behind)) e)
   where
     ranged : (high : ℕ) (after : List ℕ) → range_follows rest ≡ true → range_end_at (drop 1 rest) ≡ Some (high, after) →
-        (nat_le low high ≡ true) × ◌≡◌ {A = Option Ranges1} (Some ((low, high) ∷ [], after)) (Some (ranges, behind)) ⊎ ((nat_le low high ≡ false) × ◌≡◌ {A = Option Ranges1} None (Some (ranges, behind))) → IsSpelledPrefix (Member spot) text ranges behind
+        (nat_le low high ≡ true) × ◌≡◌ {A = Option Ranges1} (Some ((low, high) ∷ [], after)) (Some (ranges, behind)) ⊎ ((nat_le low high ≡ false) × ◌≡◌ {A = Option Ranges1} None (Some (ranges, behind))) → IsSpelledPrefix (Member position) text ranges behind
     ranged high after follows at (inl (b, f)) =
         let pair : ◌≡◌ {A = Ranges1} ((low, high) ∷ [], after) (ranges, behind) = same_some ((low, high) ∷ [], after) (ranges, behind) f in
         let same : (low, high) ∷ [] ≡ ranges = ap (λ p. p.0) pair in
         let last : after ≡ behind = ap (λ p. p.1) pair in
         let k = range_end_sound (drop 1 rest) high after at in
         let whole : rest ≡ 45 ∷ (k.prefix ++ after) = range_follows_is rest follows ∙ ap (λ t. 45 ∷ t) k.joins in
-        let p : Point spot (i.prefix) low (45 ∷ (k.prefix ++ after)) = subst (Point spot (i.prefix) low) whole i.spelled in
-        let m : Member spot (i.prefix ++ (45 ∷ k.prefix)) ((low, high) ∷ []) after = range spot (i.prefix) low (k.prefix) high after p (subst (λ t. range_follows t ≡ true) whole follows) k.spelled (leb-true low high b) in
+        let p : Point position (i.prefix) low (45 ∷ (k.prefix ++ after)) = subst (Point position (i.prefix) low) whole i.spelled in
+        let m : Member position (i.prefix ++ (45 ∷ k.prefix)) ((low, high) ∷ []) after = range position (i.prefix) low (k.prefix) high after p (subst (λ t. range_follows t ≡ true) whole follows) k.spelled (leb-true low high b) in
         record {
           prefix = i.prefix ++ (45 ∷ k.prefix);
-          spelled = subst (λ v. Member spot (i.prefix ++ (45 ∷ k.prefix)) ranges v) last (subst (λ r. Member spot (i.prefix ++ (45 ∷ k.prefix)) r after) same m);
+          spelled = subst (λ v. Member position (i.prefix ++ (45 ∷ k.prefix)) ranges v) last (subst (λ r. Member position (i.prefix ++ (45 ∷ k.prefix)) r after) same m);
           joins = i.joins ∙ (ap (λ t. i.prefix ++ t) (whole ∙ ap (λ v. 45 ∷ (k.prefix ++ v)) last) ∙ sym (append_assoc (i.prefix) (45 ∷ k.prefix) behind));
         }
     ranged high after follows at (inr (b, f)) = absurd (no_none (ranges, behind) f)
 
-    go : (range_follows rest ≡ true) × (option_and_then (range_from low) (range_end_at (drop 1 rest)) ≡ Some (ranges, behind)) ⊎ ((range_follows rest ≡ false) × ◌≡◌ {A = Option Ranges1} (Some ((low, low) ∷ [], rest)) (Some (ranges, behind))) → IsSpelledPrefix (Member spot) text ranges behind
+    go : (range_follows rest ≡ true) × (option_and_then (range_from low) (range_end_at (drop 1 rest)) ≡ Some (ranges, behind)) ⊎ ((range_follows rest ≡ false) × ◌≡◌ {A = Option Ranges1} (Some ((low, low) ∷ [], rest)) (Some (ranges, behind))) → IsSpelledPrefix (Member position) text ranges behind
     go (inl (b, f)) =
         let (end, at, more) = then_is (range_from low) (range_end_at (drop 1 rest)) (ranges, behind) f in
         ranged (end.0) (end.1) b at (cases_of (nat_le low (end.0)) (Some ((low, end.0) ∷ [], end.1)) None (Some (ranges, behind)) more)
@@ -274,45 +274,45 @@ member_from_sound spot text low rest ranges behind i e = go (cases_of (range_fol
         let pair : ◌≡◌ {A = Ranges1} ((low, low) ∷ [], rest) (ranges, behind) = same_some ((low, low) ∷ [], rest) (ranges, behind) f in
         let same : (low, low) ∷ [] ≡ ranges = ap (λ p. p.0) pair in
         let last : rest ≡ behind = ap (λ p. p.1) pair in
-        let m : Member spot (i.prefix) ((low, low) ∷ []) rest = point spot (i.prefix) low rest i.spelled b in
-        record { prefix = i.prefix; spelled = subst (λ v. Member spot (i.prefix) ranges v) last (subst (λ r. Member spot (i.prefix) r rest) same m); joins = i.joins ∙ ap (λ v. i.prefix ++ v) last }
+        let m : Member position (i.prefix) ((low, low) ∷ []) rest = point position (i.prefix) low rest i.spelled b in
+        record { prefix = i.prefix; spelled = subst (λ v. Member position (i.prefix) ranges v) last (subst (λ r. Member position (i.prefix) r rest) same m); joins = i.joins ∙ ap (λ v. i.prefix ++ v) last }
 
-pub member_sound : (spot : Spot) (text : List ℕ) (ranges : List (ℕ × ℕ)) (behind : List ℕ) → member_at spot text ≡ Some (ranges, behind) → IsSpelledPrefix (Member spot) text ranges behind
-member_sound spot text ranges behind e =
-    by_colon (cases_of (begins_pair 91 58 text) (class_at (drop 2 text)) (cond {A = Option Ranges1} (begins_pair 91 61 text) (option_map {U = Ranges1} (λ f. ((f.0, f.0) ∷ [], f.1)) (marked_byte_at 61 (drop 2 text))) (option_and_then member_from (point_at spot text))) (Some (ranges, behind)) e)
+pub member_sound : (position : BracketPosition) (text : List ℕ) (ranges : List (ℕ × ℕ)) (behind : List ℕ) → member_at position text ≡ Some (ranges, behind) → IsSpelledPrefix (Member position) text ranges behind
+member_sound position text ranges behind e =
+    by_colon (cases_of (begins_pair 91 58 text) (class_at (drop 2 text)) (cond {A = Option Ranges1} (begins_pair 91 61 text) (option_map {U = Ranges1} (λ f. ((f.0, f.0) ∷ [], f.1)) (marked_byte_at 61 (drop 2 text))) (option_and_then member_from (point_at position text))) (Some (ranges, behind)) e)
   where
-    by_equals : (begins_pair 91 61 text ≡ true) × (option_map {U = Ranges1} (λ f. ((f.0, f.0) ∷ [], f.1)) (marked_byte_at 61 (drop 2 text)) ≡ Some (ranges, behind)) ⊎ ((begins_pair 91 61 text ≡ false) × (option_and_then member_from (point_at spot text) ≡ Some (ranges, behind))) → IsSpelledPrefix (Member spot) text ranges behind
+    by_equals : (begins_pair 91 61 text ≡ true) × (option_map {U = Ranges1} (λ f. ((f.0, f.0) ∷ [], f.1)) (marked_byte_at 61 (drop 2 text)) ≡ Some (ranges, behind)) ⊎ ((begins_pair 91 61 text ≡ false) × (option_and_then member_from (point_at position text) ≡ Some (ranges, behind))) → IsSpelledPrefix (Member position) text ranges behind
     by_equals (inl (b, f)) =
         let (found, at, pair) = map_is {B = Ranges1} (λ f. ((f.0, f.0) ∷ [], f.1)) (marked_byte_at 61 (drop 2 text)) (ranges, behind) f in
         let m = marked_sound 61 (drop 2 text) (found.0) (found.1) at in
         let same : (found.0, found.0) ∷ [] ≡ ranges = ap (λ p. p.0) pair in
         let last : found.1 ≡ behind = ap (λ p. p.1) pair in
-        let whole : Member spot (91 ∷ 61 ∷ found.0 ∷ 61 ∷ 93 ∷ []) ((found.0, found.0) ∷ []) behind = equivalence spot (found.0) behind m.0 in
+        let whole : Member position (91 ∷ 61 ∷ found.0 ∷ 61 ∷ 93 ∷ []) ((found.0, found.0) ∷ []) behind = equivalence position (found.0) behind m.0 in
         record {
           prefix = 91 ∷ 61 ∷ found.0 ∷ 61 ∷ 93 ∷ [];
-          spelled = subst (λ r. Member spot (91 ∷ 61 ∷ found.0 ∷ 61 ∷ 93 ∷ []) r behind) same whole;
+          spelled = subst (λ r. Member position (91 ∷ 61 ∷ found.0 ∷ 61 ∷ 93 ∷ []) r behind) same whole;
           joins = pair_is 91 61 text b ∙ ap (λ t. 91 ∷ 61 ∷ t) (m.1 ∙ ap (λ v. found.0 ∷ 61 ∷ 93 ∷ v) last);
         }
     by_equals (inr (b, f)) =
-        let (found, at, more) = then_is member_from (point_at spot text) (ranges, behind) f in
-        member_from_sound spot text (found.0) (found.1) ranges behind (point_sound spot text (found.0) (found.1) at) more
+        let (found, at, more) = then_is member_from (point_at position text) (ranges, behind) f in
+        member_from_sound position text (found.0) (found.1) ranges behind (point_sound position text (found.0) (found.1) at) more
 
-    by_colon : (begins_pair 91 58 text ≡ true) × (class_at (drop 2 text) ≡ Some (ranges, behind)) ⊎ ((begins_pair 91 58 text ≡ false) × (cond {A = Option Ranges1} (begins_pair 91 61 text) (option_map {U = Ranges1} (λ f. ((f.0, f.0) ∷ [], f.1)) (marked_byte_at 61 (drop 2 text))) (option_and_then member_from (point_at spot text)) ≡ Some (ranges, behind))) → IsSpelledPrefix (Member spot) text ranges behind
+    by_colon : (begins_pair 91 58 text ≡ true) × (class_at (drop 2 text) ≡ Some (ranges, behind)) ⊎ ((begins_pair 91 58 text ≡ false) × (cond {A = Option Ranges1} (begins_pair 91 61 text) (option_map {U = Ranges1} (λ f. ((f.0, f.0) ∷ [], f.1)) (marked_byte_at 61 (drop 2 text))) (option_and_then member_from (point_at position text)) ≡ Some (ranges, behind))) → IsSpelledPrefix (Member position) text ranges behind
     by_colon (inl (b, f)) =
         let n : ℕ = run_len is_name_byte (length (drop 2 text)) (drop 2 text) in
         let k = class_sound n (drop 2 text) ranges behind f in
         record {
           prefix = 91 ∷ 58 ∷ (take n (drop 2 text) ++ (58 ∷ 93 ∷ []));
-          spelled = class spot (take n (drop 2 text)) ranges behind k.0;
+          spelled = class position (take n (drop 2 text)) ranges behind k.0;
           joins = pair_is 91 58 text b ∙ ap (λ t. 91 ∷ 58 ∷ t) (k.1 ∙ sym (append_assoc (take n (drop 2 text)) (58 ∷ 93 ∷ []) behind));
         }
-    by_colon (inr (b, f)) = by_equals (cases_of (begins_pair 91 61 text) (option_map {U = Ranges1} (λ f. ((f.0, f.0) ∷ [], f.1)) (marked_byte_at 61 (drop 2 text))) (option_and_then member_from (point_at spot text)) (Some (ranges, behind)) f)
+    by_colon (inr (b, f)) = by_equals (cases_of (begins_pair 91 61 text) (option_map {U = Ranges1} (λ f. ((f.0, f.0) ∷ [], f.1)) (marked_byte_at 61 (drop 2 text))) (option_and_then member_from (point_at position text)) (Some (ranges, behind)) f)
 
-pub member_some : (spot : Spot) (text : List ℕ) (ranges : List (ℕ × ℕ)) (behind : List ℕ) → Member spot text ranges behind → 0 < length text
-member_some _ _ _ _ (point spot text c behind p no_range) = point_some spot text c behind p
-member_some _ _ _ _ (range spot text low text' high behind p follows end le) = omega (arith, length-append text (45 ∷ text'))
-member_some _ _ _ _ (equivalence spot c behind h) = omega arith
-member_some _ _ _ _ (class spot name ranges behind known) = omega arith
+pub member_some : (position : BracketPosition) (text : List ℕ) (ranges : List (ℕ × ℕ)) (behind : List ℕ) → Member position text ranges behind → 0 < length text
+member_some _ _ _ _ (point position text c behind p no_range) = point_some position text c behind p
+member_some _ _ _ _ (range position text low text' high behind p follows end le) = omega (arith, length-append text (45 ∷ text'))
+member_some _ _ _ _ (equivalence position c behind h) = omega arith
+member_some _ _ _ _ (class position name ranges behind known) = omega arith
 
 pub member_closes : (text : List ℕ) → member_at inside (93 ∷ text) ≡ None
 member_closes text = refl
@@ -329,13 +329,13 @@ Members1 = List (ℕ × ℕ) × List (List (ℕ × ℕ)) × List ℕ
 abbrev Set1 : Type 0
 Set1 = set.FinSet nat_cmp × List ℕ
 
-members_complete : (spot : Spot) (text : List ℕ) (m : List (ℕ × ℕ)) (ms : List (List (ℕ × ℕ))) (behind : List ℕ) → Opened (Member spot) (Member inside) 93 text m ms behind → members_at spot (text ++ behind) ≡ Some (m, ms, behind)
-members_complete spot text m ms behind o =
-    opened_complete (Member inside) (member_at inside) 93 (member_complete inside) (member_sound inside) (member_some inside) member_closes (Member spot) (member_at spot) (member_complete spot) text m ms behind o
+members_complete : (position : BracketPosition) (text : List ℕ) (m : List (ℕ × ℕ)) (ms : List (List (ℕ × ℕ))) (behind : List ℕ) → Opened (Member position) (Member inside) 93 text m ms behind → members_at position (text ++ behind) ≡ Some (m, ms, behind)
+members_complete position text m ms behind o =
+    opened_complete (Member inside) (member_at inside) 93 (member_complete inside) (member_sound inside) (member_some inside) member_closes (Member position) (member_at position) (member_complete position) text m ms behind o
 
-members_sound : (spot : Spot) (text : List ℕ) (m : List (ℕ × ℕ)) (ms : List (List (ℕ × ℕ))) (behind : List ℕ) → members_at spot text ≡ Some (m, ms, behind) → (prefix : List ℕ) × Opened (Member spot) (Member inside) 93 prefix m ms behind × (text ≡ prefix ++ behind)
-members_sound spot text m ms behind e =
-    opened_sound (Member inside) (member_at inside) 93 (member_complete inside) (member_sound inside) (member_some inside) member_closes (Member spot) (member_at spot) (member_sound spot) text m ms behind e
+members_sound : (position : BracketPosition) (text : List ℕ) (m : List (ℕ × ℕ)) (ms : List (List (ℕ × ℕ))) (behind : List ℕ) → members_at position text ≡ Some (m, ms, behind) → (prefix : List ℕ) × Opened (Member position) (Member inside) 93 prefix m ms behind × (text ≡ prefix ++ behind)
+members_sound position text m ms behind e =
+    opened_sound (Member inside) (member_at inside) 93 (member_complete inside) (member_sound inside) (member_some inside) member_closes (Member position) (member_at position) (member_sound position) text m ms behind e
 
 -- members directly behind `[` don't begin with `^`
 pub opening_no_caret : (text : List ℕ) (m : List (ℕ × ℕ)) (ms : List (List (ℕ × ℕ))) (behind : List ℕ) → Opened (Member opening) (Member inside) 93 text m ms behind → begins_with 94 (text ++ behind) ≡ false

@@ -4,7 +4,7 @@ use Rattle.std.specs.Option.{option_map, option_and_then}
 use Rattle.std.specs.Ordering.{nat_cmp}
 use Rattle.std.specs.FinSet as set
 use Rattle.lx_ere.specs.Bytes.{bytes_where, in_ranges}
-use Rattle.lx_ere.specs.Brackets.{Spot, inside, behind_caret, begins_with, Member, in_members}
+use Rattle.lx_ere.specs.Brackets.{BracketPosition, inside, behind_caret, begins_with, Member, in_members}
 use Rattle.lx_ere.specs.Lexing.{all_items_at, member_at, members_at, members_set, with_members, bracket_at}
 use Rattle.lx_ere.proofs.Choices.{pick_first, no_none, same_some}
 use Rattle.lx_ere.proofs.ByteLemmas.{same_where}
@@ -71,14 +71,14 @@ members_joined m None = refl
 members_joined m (Some g) = ap (λ s. Some (s, g.1)) (same_where (λ b. (in_ranges m b || false) || in_members (g.0) b) (in_members (m ∷ g.0)) (λ b _. ap (λ x. x || in_members (g.0) b) (or_none (in_ranges m b))))
 
 -- the first member, and those behind it
-pub members_at_is : (spot : Spot) (text : List ℕ) (m : List (ℕ × ℕ)) (rest : List ℕ) → member_at spot text ≡ Some (m, rest) →
-    option_map (with_members (λ b. in_ranges m b || false)) (all_items_at (member_at inside) 93 rest) ≡ option_map members_set (members_at spot text)
-members_at_is spot text m rest e =
+pub members_at_is : (position : BracketPosition) (text : List ℕ) (m : List (ℕ × ℕ)) (rest : List ℕ) → member_at position text ≡ Some (m, rest) →
+    option_map (with_members (λ b. in_ranges m b || false)) (all_items_at (member_at inside) 93 rest) ≡ option_map members_set (members_at position text)
+members_at_is position text m rest e =
     members_joined m (all_items_at (member_at inside) 93 rest)
     ∙ sym (ap (λ o. option_map members_set (option_and_then (λ f. option_map {U = Members1} (λ g. (f.0, g.0, g.1)) (all_items_at (member_at inside) 93 (f.1))) o)) e)
 
-pub members_at_none : (spot : Spot) (text : List ℕ) → member_at spot text ≡ None → ◌≡◌ {A = Option Set1} None (option_map members_set (members_at spot text))
-members_at_none spot text e = sym (ap (λ o. option_map members_set (option_and_then (λ f. option_map {U = Members1} (λ g. (f.0, g.0, g.1)) (all_items_at (member_at inside) 93 (f.1))) o)) e)
+pub members_at_none : (position : BracketPosition) (text : List ℕ) → member_at position text ≡ None → ◌≡◌ {A = Option Set1} None (option_map members_set (members_at position text))
+members_at_none position text e = sym (ap (λ o. option_map members_set (option_and_then (λ f. option_map {U = Members1} (λ g. (f.0, g.0, g.1)) (all_items_at (member_at inside) 93 (f.1))) o)) e)
 
 excluded : (o : Option Members1) (s t : set.FinSet nat_cmp) (behind : List ℕ) → ◌≡◌ {A = Option Set1} (Some (s, behind)) (option_map members_set o) →
     ((test : ℕ → Bool) → s ≡ bytes_where test → t ≡ bytes_where (λ b. not (test b))) →

@@ -10,7 +10,7 @@ use Rattle.lx_ere.specs.Regex.{Reading}
 use Rattle.lx_ere.specs.Grammar.{Lexeme}
 use Rattle.lx_ere.specs.Escapes.{is_digit, Escape, letter, octal, hexadecimal, only_x, itself}
 use Rattle.lx_ere.specs.Sequences.{Closed, Opened}
-use Rattle.lx_ere.specs.Brackets.{Spot, opening, behind_caret, inside, begins_with, Point, plain_point, escaped, first_bracket, outer_dash, collating, RangeEnd, end_point, end_dash, class_ranges, Member, point, range, equivalence, class, Bracket, matching, excluding}
+use Rattle.lx_ere.specs.Brackets.{BracketPosition, opening, behind_caret, inside, begins_with, Point, plain_point, escaped, first_bracket, outer_dash, collating, RangeEnd, end_point, end_dash, class_ranges, Member, point, range, equivalence, class, Bracket, matching, excluding}
 use Rattle.lx_ere.specs.Spelling.{byte_lexeme, QuotedByte, unescaped, escaped_byte, is_name_byte, IsBound, Spells, of_byte, of_escape, of_string, of_bracket, of_name, exactly, at_least, between, Lexes}
 use Rattle.lx_ere.specs.Pattern.{IsEnding, nothing, dollar, slash_newline, IsPattern}
 use Rattle.lx_ere.specs.PatternGrammar.{BehindQuotes, quote_closes, quote_escape, quote_byte, BehindMark, mark_closes, mark_byte, BehindBrackets, bracket_closes, bracket_escape, bracket_inner, bracket_byte, skip_first, is_blank, BehindPattern, at_end, past_escape, past_quotes, past_brackets, past_byte, IsPatternEnd}
@@ -76,7 +76,7 @@ bracket_digit c text b d h = bracket_byte c text b (no_close c d) (no_slash c d)
     no_bracket c d = grind (arith, nat_tests)
 
 -- a part of the brackets is passed: the `]` at its front aside, or whole where it has none
-record Aside (text behind : List ℕ) : Type 0 where
+record SkipsBracket (text behind : List ℕ) : Type 0 where
   pub rest : List ℕ
   pub is : text ≡ 93 ∷ rest
   pub passes : (b : List ℕ) → BehindBrackets behind b → BehindBrackets (rest ++ behind) b
@@ -85,16 +85,16 @@ record Whole (text behind : List ℕ) : Type 0 where
   pub no_close : begins_with 93 (text ++ behind) ≡ false
   pub passes : (b : List ℕ) → BehindBrackets behind b → BehindBrackets (text ++ behind) b
 
-point_passed : (spot : Spot) (text : List ℕ) (c : ℕ) (behind : List ℕ) → Point spot text c behind → Aside text behind ⊎ Whole text behind
-point_passed _ _ _ _ (plain_point spot c behind h) =
-    let a = alone_is spot c behind h in
+point_passed : (position : BracketPosition) (text : List ℕ) (c : ℕ) (behind : List ℕ) → Point position text c behind → SkipsBracket text behind ⊎ Whole text behind
+point_passed _ _ _ _ (plain_point position c behind h) =
+    let a = alone_is position c behind h in
     inr (record { no_close = a.no_close; passes = λ b more. bracket_byte c behind b (eqb-false c 93 a.no_close) (eqb-false c 92 a.no_slash) a.no_inner more })
-point_passed _ _ _ _ (escaped spot text c behind d) =
+point_passed _ _ _ _ (escaped position text c behind d) =
     let at = escape_complete text c behind d in
     inr (record { no_close = ap (λ t. begins_with 93 (t ++ behind)) at.slash; passes = escape_passed BehindBrackets (λ c t b h. bracket_escape c t b h) bracket_digit text c behind d })
-point_passed _ _ _ _ (first_bracket spot behind h) = inl (record { rest = []; is = refl; passes = λ b more. more })
-point_passed _ _ _ _ (outer_dash spot behind h) = inr (record { no_close = refl; passes = λ b more. bracket_byte 45 behind b (λ e. omega (arith, e)) (λ e. omega (arith, e)) refl more })
-point_passed _ _ _ _ (collating spot c behind h) = inr (record { no_close = refl; passes = λ b more. bracket_inner 46 (c ∷ 46 ∷ 93 ∷ behind) behind b refl (mark_closes 46 behind) more })
+point_passed _ _ _ _ (first_bracket position behind h) = inl (record { rest = []; is = refl; passes = λ b more. more })
+point_passed _ _ _ _ (outer_dash position behind h) = inr (record { no_close = refl; passes = λ b more. bracket_byte 45 behind b (λ e. omega (arith, e)) (λ e. omega (arith, e)) refl more })
+point_passed _ _ _ _ (collating position c behind h) = inr (record { no_close = refl; passes = λ b more. bracket_inner 46 (c ∷ 46 ∷ 93 ∷ behind) behind b refl (mark_closes 46 behind) more })
 
 inside_passed : (text : List ℕ) (c : ℕ) (behind : List ℕ) → Point inside text c behind → Whole text behind
 inside_passed _ _ _ (plain_point _ c behind h) =
@@ -130,7 +130,7 @@ class_passed (c ∷ name) ranges behind b known h =
     bracket_inner 58 (c ∷ (name ++ (58 ∷ 93 ∷ behind))) behind b refl (name_mark name behind both.1) h
 
 -- a range behind its first point
-range_passed : (text text' : List ℕ) (high : ℕ) (behind : List ℕ) → RangeEnd text' high behind → Aside text (45 ∷ (text' ++ behind)) ⊎ Whole text (45 ∷ (text' ++ behind)) → Aside (text ++ (45 ∷ text')) behind ⊎ Whole (text ++ (45 ∷ text')) behind
+range_passed : (text text' : List ℕ) (high : ℕ) (behind : List ℕ) → RangeEnd text' high behind → SkipsBracket text (45 ∷ (text' ++ behind)) ⊎ Whole text (45 ∷ (text' ++ behind)) → SkipsBracket (text ++ (45 ∷ text')) behind ⊎ Whole (text ++ (45 ∷ text')) behind
 range_passed text text' high behind end (inl a) = inl (record {
   rest = a.rest ++ (45 ∷ text');
   is = ap (λ t. t ++ (45 ∷ text')) a.is;
@@ -141,11 +141,11 @@ range_passed text text' high behind end (inr w) = inr (record {
   passes = λ b h. subst (λ t. BehindBrackets t b) (sym (append_assoc text (45 ∷ text') behind)) (w.passes b (dash_passed (text' ++ behind) b (range_end_passed text' high behind end b h)));
 })
 
-member_passed : (spot : Spot) (text : List ℕ) (ranges : List (ℕ × ℕ)) (behind : List ℕ) → Member spot text ranges behind → Aside text behind ⊎ Whole text behind
-member_passed _ _ _ _ (point spot text c behind p no_range) = point_passed spot text c behind p
-member_passed _ _ _ _ (range spot text low text' high behind p follows end le) = range_passed text text' high behind end (point_passed spot text low (45 ∷ (text' ++ behind)) p)
-member_passed _ _ _ _ (equivalence spot c behind h) = inr (record { no_close = refl; passes = λ b more. bracket_inner 61 (c ∷ 61 ∷ 93 ∷ behind) behind b refl (mark_closes 61 behind) more })
-member_passed _ _ _ _ (class spot name ranges behind known) =
+member_passed : (position : BracketPosition) (text : List ℕ) (ranges : List (ℕ × ℕ)) (behind : List ℕ) → Member position text ranges behind → SkipsBracket text behind ⊎ Whole text behind
+member_passed _ _ _ _ (point position text c behind p no_range) = point_passed position text c behind p
+member_passed _ _ _ _ (range position text low text' high behind p follows end le) = range_passed text text' high behind end (point_passed position text low (45 ∷ (text' ++ behind)) p)
+member_passed _ _ _ _ (equivalence position c behind h) = inr (record { no_close = refl; passes = λ b more. bracket_inner 61 (c ∷ 61 ∷ 93 ∷ behind) behind b refl (mark_closes 61 behind) more })
+member_passed _ _ _ _ (class position name ranges behind known) =
     inr (record { no_close = refl; passes = λ b more. subst (λ t. BehindBrackets (91 ∷ 58 ∷ t) b) (sym (append_assoc name (58 ∷ 93 ∷ []) behind)) (class_passed name ranges behind b known more) })
 
 member_whole : (text : List ℕ) (ranges : List (ℕ × ℕ)) (behind : List ℕ) → Member inside text ranges behind → (b : List ℕ) → BehindBrackets behind b → BehindBrackets (text ++ behind) b
@@ -161,14 +161,14 @@ members_passed [] text behind h = subst (λ t. BehindBrackets (t ++ behind) behi
 members_passed (m ∷ ms) text behind (prefix, rest, i, j, more) =
     subst (λ t. BehindBrackets t behind) (sym (ap (λ t. t ++ behind) j ∙ append_assoc prefix rest behind)) (member_whole prefix m (rest ++ behind) i behind (members_passed ms rest behind more))
 
-opened_passed : (spot : Spot) (text : List ℕ) (m : List (ℕ × ℕ)) (ms : List (List (ℕ × ℕ))) (behind : List ℕ) → Opened (Member spot) (Member inside) 93 text m ms behind → BehindBrackets (skip_first 93 (text ++ behind)) behind
-opened_passed spot text m ms behind (prefix, rest, d, j, more) =
-    subst (λ t. BehindBrackets (skip_first 93 t) behind) (sym (ap (λ t. t ++ behind) j ∙ append_assoc prefix rest behind)) (go (member_passed spot prefix m (rest ++ behind) d))
+opened_passed : (position : BracketPosition) (text : List ℕ) (m : List (ℕ × ℕ)) (ms : List (List (ℕ × ℕ))) (behind : List ℕ) → Opened (Member position) (Member inside) 93 text m ms behind → BehindBrackets (skip_first 93 (text ++ behind)) behind
+opened_passed position text m ms behind (prefix, rest, d, j, more) =
+    subst (λ t. BehindBrackets (skip_first 93 t) behind) (sym (ap (λ t. t ++ behind) j ∙ append_assoc prefix rest behind)) (go (member_passed position prefix m (rest ++ behind) d))
   where
     inner : BehindBrackets (rest ++ behind) behind
     inner = members_passed ms rest behind more
 
-    go : Aside prefix (rest ++ behind) ⊎ Whole prefix (rest ++ behind) → BehindBrackets (skip_first 93 (prefix ++ (rest ++ behind))) behind
+    go : SkipsBracket prefix (rest ++ behind) ⊎ Whole prefix (rest ++ behind) → BehindBrackets (skip_first 93 (prefix ++ (rest ++ behind))) behind
     go (inl a) = subst (λ t. BehindBrackets (skip_first 93 (t ++ (rest ++ behind))) behind) (sym a.is) (a.passes behind inner)
     go (inr w) = subst (λ t. BehindBrackets t behind) (sym (pick_second (begins_with 93 (prefix ++ (rest ++ behind))) _ _ w.no_close)) (w.passes behind inner)
 

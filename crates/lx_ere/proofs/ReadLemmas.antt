@@ -5,6 +5,7 @@ use Rattle.std.proofs.lemmas.Bool.{eqb-true, or_cases}
 use Rattle.std.proofs.lemmas.Slice.Eq.{bytes_eq-Decides}
 use Rattle.std.specs.Prelude.{codes}
 use Rattle.std.specs.Str.{bytes_eq}
+use Rattle.lx_ere.specs.Limits.{max_pattern_bytes}
 use Rattle.lx_ere.specs.Regex.{Regex, Reading}
 use Rattle.lx_ere.specs.Grammar.{Lexeme, IsAlternation}
 use Rattle.lx_ere.specs.Brackets.{begins_with}
@@ -187,7 +188,7 @@ parts_of text r p = go (r.line_begin) refl
           ends = p.ends;
         }
 
-pub of_parts : (text : List ℕ) (r : Reading) → length text ≤ 1024 → Parts text r → IsPattern text r
+pub of_parts : (text : List ℕ) (r : Reading) → length text ≤ max_pattern_bytes → Parts text r → IsPattern text r
 of_parts text r short q = record {
   short = short;
   body = body_of text;

@@ -117,7 +117,9 @@ bound_complete digits n behind i ends =
     let run = run_whole (is_digit 10) digits behind i.decimal ends in
     let some : 0 < length digits = i.some in
     let positive : nat_eq (length digits) 0 ≡ false = eq_other (length digits) 0 (λ z. omega (arith, z, some)) in
-    let small : number_of 10 digits < 256 = rw i.value i.small in
+    let value = i.value in
+    let at_most = i.small in
+    let small : number_of 10 digits < 256 = omega (arith, value, at_most) in
     ap (λ k. bound_of k (digits ++ behind)) run ∙ (pick_second (nat_eq (length digits) 0) _ _ positive ∙ (number_follows_mark 10 digits behind small ∙ ap (λ x. Some (x, behind)) i.value))
 
 -- the digits of a bound, and what stands behind them
@@ -140,7 +142,7 @@ bound_sound text n behind e = go (run_len (is_digit 10) (length text) text) refl
         let small : number_of 10 (take k text) < 256 = a.small in
         record {
           digits = take k text;
-          bound = record { some = omega (arith, len, not_zero); decimal = i.passes; value = value; small = rw (← value) small };
+          bound = record { some = omega (arith, len, not_zero); decimal = i.passes; value = value; small = omega (arith, small, value) };
           joins = i.joins ∙ ap (λ t. take k text ++ t) a.behind_is;
         }
 

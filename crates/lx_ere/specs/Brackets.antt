@@ -9,17 +9,17 @@ use Rattle.lx_ere.specs.Escapes.{Escape}
 use Rattle.lx_ere.specs.Sequences.{Opened}
 
 -- where in the brackets: directly behind `[`, directly behind `[^`, or further on
-pub data Spot : Type 0 where
-  opening : Spot
-  behind_caret : Spot
-  inside : Spot
+pub data BracketPosition : Type 0 where
+  opening : BracketPosition
+  behind_caret : BracketPosition
+  inside : BracketPosition
 
-abbrev pub is_opening : Spot → Bool
+abbrev pub is_opening : BracketPosition → Bool
 is_opening opening = true
 is_opening behind_caret = false
 is_opening inside = false
 
-abbrev pub is_inside : Spot → Bool
+abbrev pub is_inside : BracketPosition → Bool
 is_inside opening = false
 is_inside behind_caret = false
 is_inside inside = true
@@ -33,9 +33,9 @@ begins_with c (d ∷ text) = nat_eq d c
 abbrev pub opens_inner : ℕ → List ℕ → Bool
 opens_inner c behind = nat_eq c 91 && (begins_with 58 behind || (begins_with 46 behind || begins_with 61 behind))
 
--- A byte that stands for itself at the spot: none of `]`, `\`, `-` and a newline, no `^` directly behind `[`, no `[` before `:`, `.` or `=`.
-abbrev pub stands_alone : Spot → ℕ → List ℕ → Bool
-stands_alone spot c behind = not (nat_eq c 93 || (nat_eq c 92 || (nat_eq c 45 || (nat_eq c 10 || ((is_opening spot && nat_eq c 94) || opens_inner c behind)))))
+-- A byte that stands for itself at the position: none of `]`, `\`, `-` and a newline, no `^` directly behind `[`, no `[` before `:`, `.` or `=`.
+abbrev pub stands_alone : BracketPosition → ℕ → List ℕ → Bool
+stands_alone position c behind = not (nat_eq c 93 || (nat_eq c 92 || (nat_eq c 45 || (nat_eq c 10 || ((is_opening position && nat_eq c 94) || opens_inner c behind)))))
 
 -- `-` stands at the front, and not directly before the closing bracket
 abbrev pub range_follows : List ℕ → Bool
@@ -44,12 +44,12 @@ range_follows (c ∷ text) = nat_eq c 45 && not (begins_with 93 text)
 
 -- With `behind` after it, the text is one byte: a byte for itself, an escape, `]` first in the brackets, `-` first or directly before
 -- the closing bracket, or `[.c.]`.
-pub data Point : Spot → List ℕ → ℕ → List ℕ → Type 0 where
-  plain_point : (spot : Spot) (c : ℕ) (behind : List ℕ) → stands_alone spot c behind ≡ true → Point spot (c ∷ []) c behind
-  escaped : (spot : Spot) (text : List ℕ) (c : ℕ) (behind : List ℕ) → Escape text c behind → Point spot text c behind
-  first_bracket : (spot : Spot) (behind : List ℕ) → is_inside spot ≡ false → Point spot (93 ∷ []) 93 behind
-  outer_dash : (spot : Spot) (behind : List ℕ) → (not (is_inside spot) || begins_with 93 behind) ≡ true → Point spot (45 ∷ []) 45 behind
-  collating : (spot : Spot) (c : ℕ) (behind : List ℕ) → c ≢ 10 → Point spot (91 ∷ 46 ∷ c ∷ 46 ∷ 93 ∷ []) c behind
+pub data Point : BracketPosition → List ℕ → ℕ → List ℕ → Type 0 where
+  plain_point : (position : BracketPosition) (c : ℕ) (behind : List ℕ) → stands_alone position c behind ≡ true → Point position (c ∷ []) c behind
+  escaped : (position : BracketPosition) (text : List ℕ) (c : ℕ) (behind : List ℕ) → Escape text c behind → Point position text c behind
+  first_bracket : (position : BracketPosition) (behind : List ℕ) → is_inside position ≡ false → Point position (93 ∷ []) 93 behind
+  outer_dash : (position : BracketPosition) (behind : List ℕ) → (not (is_inside position) || begins_with 93 behind) ≡ true → Point position (45 ∷ []) 45 behind
+  collating : (position : BracketPosition) (c : ℕ) (behind : List ℕ) → c ≢ 10 → Point position (91 ∷ 46 ∷ c ∷ 46 ∷ 93 ∷ []) c behind
 
 -- With `behind` after it, the text is the end of a range: a point or `-`.
 pub data RangeEnd : List ℕ → ℕ → List ℕ → Type 0 where
@@ -75,13 +75,13 @@ class_ranges name =
 
 -- With `behind` after it, the text is a member of the brackets, with its ranges of bytes: a point, `[=c=]`, a class, or a range. A point
 -- begins a range exactly where `-` follows it that isn't directly before the closing bracket.
-pub data Member : Spot → List ℕ → List (ℕ × ℕ) → List ℕ → Type 0 where
-  point : (spot : Spot) (text : List ℕ) (c : ℕ) (behind : List ℕ) → Point spot text c behind → range_follows behind ≡ false → Member spot text ((c, c) ∷ []) behind
-  range : (spot : Spot) (text : List ℕ) (low : ℕ) (text' : List ℕ) (high : ℕ) (behind : List ℕ) → Point spot text low (45 ∷ (text' ++ behind)) →
-      range_follows (45 ∷ (text' ++ behind)) ≡ true → RangeEnd text' high behind → low ≤ high → Member spot (text ++ (45 ∷ text')) ((low, high) ∷ []) behind
-  equivalence : (spot : Spot) (c : ℕ) (behind : List ℕ) → c ≢ 10 → Member spot (91 ∷ 61 ∷ c ∷ 61 ∷ 93 ∷ []) ((c, c) ∷ []) behind
-  class : (spot : Spot) (name : List ℕ) (ranges : List (ℕ × ℕ)) (behind : List ℕ) → class_ranges name ≡ Some ranges →
-      Member spot (91 ∷ 58 ∷ (name ++ (58 ∷ 93 ∷ []))) ranges behind
+pub data Member : BracketPosition → List ℕ → List (ℕ × ℕ) → List ℕ → Type 0 where
+  point : (position : BracketPosition) (text : List ℕ) (c : ℕ) (behind : List ℕ) → Point position text c behind → range_follows behind ≡ false → Member position text ((c, c) ∷ []) behind
+  range : (position : BracketPosition) (text : List ℕ) (low : ℕ) (text' : List ℕ) (high : ℕ) (behind : List ℕ) → Point position text low (45 ∷ (text' ++ behind)) →
+      range_follows (45 ∷ (text' ++ behind)) ≡ true → RangeEnd text' high behind → low ≤ high → Member position (text ++ (45 ∷ text')) ((low, high) ∷ []) behind
+  equivalence : (position : BracketPosition) (c : ℕ) (behind : List ℕ) → c ≢ 10 → Member position (91 ∷ 61 ∷ c ∷ 61 ∷ 93 ∷ []) ((c, c) ∷ []) behind
+  class : (position : BracketPosition) (name : List ℕ) (ranges : List (ℕ × ℕ)) (behind : List ℕ) → class_ranges name ≡ Some ranges →
+      Member position (91 ∷ 58 ∷ (name ++ (58 ∷ 93 ∷ []))) ranges behind
 
 -- whether the byte is in one of the members
 abbrev pub in_members : List (List (ℕ × ℕ)) → ℕ → Bool

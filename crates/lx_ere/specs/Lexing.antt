@@ -9,7 +9,7 @@ use Rattle.std.specs.Str.{bytes_eq}
 use Rattle.lx_ere.specs.Regex.{Regex}
 use Rattle.lx_ere.specs.Grammar.{Lexeme, set_of, quoted, name, interval, IsAlternation}
 use Rattle.lx_ere.specs.Escapes.{is_digit, number_of, letter_byte}
-use Rattle.lx_ere.specs.Brackets.{Spot, opening, behind_caret, inside, is_inside, begins_with, stands_alone, range_follows, class_ranges, in_members}
+use Rattle.lx_ere.specs.Brackets.{BracketPosition, opening, behind_caret, inside, is_inside, begins_with, stands_alone, range_follows, class_ranges, in_members}
 use Rattle.lx_ere.specs.Spelling.{byte_lexeme, is_name_byte, is_identifier, Lexes}
 
 -- how many bytes at the front pass the test, at most so many
@@ -70,17 +70,17 @@ marked_byte_at mark [] = None
 marked_byte_at mark (c ∷ text) = if nat_eq c 10 then None else option_map (λ rest. (c, rest)) (option_and_then (behind_byte 93) (behind_byte mark text))
 
 -- the byte at the front of brackets, where it is no escape
-abbrev pub bare_point_at : Spot → ℕ → List ℕ → Option (ℕ × List ℕ)
-bare_point_at spot c text =
-    if nat_eq c 93 then (if is_inside spot then None else Some (93, text))
-    else if nat_eq c 45 then (if not (is_inside spot) || begins_with 93 text then Some (45, text) else None)
+abbrev pub bare_point_at : BracketPosition → ℕ → List ℕ → Option (ℕ × List ℕ)
+bare_point_at position c text =
+    if nat_eq c 93 then (if is_inside position then None else Some (93, text))
+    else if nat_eq c 45 then (if not (is_inside position) || begins_with 93 text then Some (45, text) else None)
     else if nat_eq c 91 && begins_with 46 text then marked_byte_at 46 (drop 1 text)
-    else if stands_alone spot c text then Some (c, text)
+    else if stands_alone position c text then Some (c, text)
     else None
 
-abbrev pub point_at : Spot → List ℕ → Option (ℕ × List ℕ)
-point_at spot [] = None
-point_at spot (c ∷ text) = if nat_eq c 92 then escape_at text else bare_point_at spot c text
+abbrev pub point_at : BracketPosition → List ℕ → Option (ℕ × List ℕ)
+point_at position [] = None
+point_at position (c ∷ text) = if nat_eq c 92 then escape_at text else bare_point_at position c text
 
 -- the end of a range, from behind the `-` on
 abbrev pub range_end_at : List ℕ → Option (ℕ × List ℕ)
@@ -104,15 +104,15 @@ class_at text = class_of (run_len is_name_byte (length text) text) text
 abbrev pub begins_pair : ℕ → ℕ → List ℕ → Bool
 begins_pair c d text = begins_with c text && begins_with d (drop 1 text)
 
-abbrev pub member_at : Spot → List ℕ → Option (List (ℕ × ℕ) × List ℕ)
-member_at spot text =
+abbrev pub member_at : BracketPosition → List ℕ → Option (List (ℕ × ℕ) × List ℕ)
+member_at position text =
     if begins_pair 91 58 text then class_at (drop 2 text)
     else if begins_pair 91 61 text then option_map (λ f. ((f.0, f.0) ∷ [], f.1)) (marked_byte_at 61 (drop 2 text))
-    else option_and_then member_from (point_at spot text)
+    else option_and_then member_from (point_at position text)
 
 -- the members, from behind `[` or `[^` on
-abbrev pub members_at : Spot → List ℕ → Option (List (ℕ × ℕ) × List (List (ℕ × ℕ)) × List ℕ)
-members_at spot text = opened_at (member_at spot) (member_at inside) 93 text
+abbrev pub members_at : BracketPosition → List ℕ → Option (List (ℕ × ℕ) × List (List (ℕ × ℕ)) × List ℕ)
+members_at position text = opened_at (member_at position) (member_at inside) 93 text
 
 -- the set of the members, and what stands behind them
 abbrev pub members_set : List (ℕ × ℕ) × List (List (ℕ × ℕ)) × List ℕ → set.FinSet nat_cmp × List ℕ

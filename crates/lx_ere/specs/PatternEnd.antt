@@ -4,7 +4,7 @@ use Rattle.std.proofs.Common.{zero, suc, inl, inr}
 use Rattle.lx_ere.specs.PatternGrammar.{IsPatternEnd}
 use Rattle.lx_ere.specs.PatternEndLaws.{ends_or_not}
 
--- the least number below a bound of which a fact holds, that can be decided of each; the bound, where it holds of none below
+-- The least number below the bound of which the fact holds; the bound, where there is none. Of each number it is decided whether the fact holds.
 unfoldable pub least : (P : ℕ → Type 0) → ((n : ℕ) → P n ⊎ ¬ (P n)) → ℕ → ℕ
 least P decided zero = 0
 least P decided (suc bound) = elim (decided 0) [ inl _ ↦ 0 | inr _ ↦ suc (least (λ n. P (suc n)) (λ n. decided (suc n)) bound) ]

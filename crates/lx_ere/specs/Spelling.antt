@@ -5,6 +5,7 @@ use Rattle.std.specs.Ordering.{nat_cmp}
 use Rattle.std.specs.FinSet as set
 use Rattle.lx_ere.specs.Bytes.{is_between, byte_set, bytes_where}
 use Rattle.lx_ere.specs.Grammar.{Lexeme, set_of, quoted, name, interval, open_group, close_group, star, plus, question, bar}
+use Rattle.lx_ere.specs.Limits.{max_interval_bound}
 use Rattle.lx_ere.specs.Escapes.{is_digit, number_of, Escape}
 use Rattle.lx_ere.specs.Sequences.{Opened}
 use Rattle.lx_ere.specs.Brackets.{Bracket}
@@ -42,12 +43,12 @@ abbrev pub is_identifier : List ℕ → Bool
 is_identifier [] = false
 is_identifier (c ∷ more) = is_name_start c && list_all is_name_byte more
 
--- one or more decimal digits of a value of at most 255
+-- one or more decimal digits, whose value a bound may have
 pub record IsBound (digits : List ℕ) (bound : ℕ) : Type 0 where
   pub some : 0 < length digits
   pub decimal : list_all (is_digit 10) digits ≡ true
   pub value : number_of 10 digits ≡ bound
-  pub small : bound < 256
+  pub small : bound ≤ max_interval_bound
 
 -- With `behind` after it, the text spells the lexeme.
 pub data Spells : List ℕ → Lexeme → List ℕ → Type 0 where

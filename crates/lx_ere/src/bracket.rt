@@ -6,7 +6,7 @@ ghost use Rattle.lx_ere.specs.Bytes.{bytes_where, in_ranges};
 ghost use Rattle.lx_ere.specs.Brackets.{inside, is_inside, is_opening, stands_alone, range_follows, class_ranges, in_members};
 ghost use Rattle.lx_ere.specs.Spelling.{is_name_byte};
 ghost use Rattle.lx_ere.specs.Lexing.{run_len, all_items_at, marked_byte_at, bare_point_at, point_at, range_end_at, member_from, class_at, member_at, members_set, with_members, members_at, bracket_at};
-ghost use Rattle.lx_ere.specs.Tokens.{spot_of, ranges_of};
+ghost use Rattle.lx_ere.specs.Tokens.{position_of, ranges_of};
 
 use crate::escape::escape_at;
 use crate::name::name_run;
@@ -15,7 +15,7 @@ use crate::set::ByteSet;
 
 /// A place in the brackets.
 #[derive(Clone, Copy)]
-enum Spot {
+enum BracketPosition {
     /// Directly behind `[`.
     Opening,
     /// Directly behind `[^`.
@@ -33,30 +33,30 @@ enum Member {
     Class(&'static [(u8, u8)]),
 }
 
-fn is_opening(spot: Spot) -> bool
-    ensures { result ≡ is_opening (spot_of spot) }
+fn is_opening(position: BracketPosition) -> bool
+    ensures { result ≡ is_opening (position_of position) }
 {
-    match spot {
-        Spot::Opening => true,
-        Spot::BehindCaret | Spot::Inside => false,
+    match position {
+        BracketPosition::Opening => true,
+        BracketPosition::BehindCaret | BracketPosition::Inside => false,
     }
 }
 
-fn is_inside(spot: Spot) -> bool
-    ensures { result ≡ is_inside (spot_of spot) }
+fn is_inside(position: BracketPosition) -> bool
+    ensures { result ≡ is_inside (position_of position) }
 {
-    match spot {
-        Spot::Opening | Spot::BehindCaret => false,
-        Spot::Inside => true,
+    match position {
+        BracketPosition::Opening | BracketPosition::BehindCaret => false,
+        BracketPosition::Inside => true,
     }
 }
 
 /// Whether the byte stands for itself here, where this text stands behind it.
-fn stands_alone(spot: Spot, c: u8, behind: &[u8]) -> bool
-    ensures { result ≡ stands_alone (spot_of spot) c behind.now }
+fn stands_alone(position: BracketPosition, c: u8, behind: &[u8]) -> bool
+    ensures { result ≡ stands_alone (position_of position) c behind.now }
 {
     let special = c == b']' || c == b'\\' || c == b'-' || c == b'\n';
-    let caret = is_opening(spot) && c == b'^';
+    let caret = is_opening(position) && c == b'^';
     let opens = c == b'['
         && (begins_with(b':', behind) || begins_with(b'.', behind) || begins_with(b'=', behind));
     !(special || caret || opens)
@@ -82,24 +82,24 @@ fn marked_byte_at(mark: u8, text: &[u8]) -> Option<(u8, &[u8])>
 }
 
 /// The point that begins with this byte, which is no backslash.
-fn bare_point_at(spot: Spot, c: u8, rest: &[u8]) -> Option<(u8, &[u8])>
-    ensures { option_map (λ f. (f.0, f.1.now)) result ≡ bare_point_at (spot_of spot) c rest.now }
+fn bare_point_at(position: BracketPosition, c: u8, rest: &[u8]) -> Option<(u8, &[u8])>
+    ensures { option_map (λ f. (f.0, f.1.now)) result ≡ bare_point_at (position_of position) c rest.now }
 {
     if c == b']' {
-        if is_inside(spot) {
+        if is_inside(position) {
             None
         } else {
             Some((b']', rest))
         }
     } else if c == b'-' {
-        if !is_inside(spot) || begins_with(b']', rest) {
+        if !is_inside(position) || begins_with(b']', rest) {
             Some((b'-', rest))
         } else {
             None
         }
     } else if c == b'[' && begins_with(b'.', rest) {
         marked_byte_at(b'.', skip(1, rest))
-    } else if stands_alone(spot, c, rest) {
+    } else if stands_alone(position, c, rest) {
         Some((c, rest))
     } else {
         None
@@ -107,14 +107,14 @@ fn bare_point_at(spot: Spot, c: u8, rest: &[u8]) -> Option<(u8, &[u8])>
 }
 
 /// The point at the front, and what stands behind it.
-fn point_at(spot: Spot, text: &[u8]) -> Option<(u8, &[u8])>
-    ensures { option_map (λ f. (f.0, f.1.now)) result ≡ point_at (spot_of spot) text.now }
+fn point_at(position: BracketPosition, text: &[u8]) -> Option<(u8, &[u8])>
+    ensures { option_map (λ f. (f.0, f.1.now)) result ≡ point_at (position_of position) text.now }
 {
     let (first, rest) = text.split_first()?;
     if *first == b'\\' {
         escape_at(rest)
     } else {
-        bare_point_at(spot, *first, rest)
+        bare_point_at(position, *first, rest)
     }
 }
 
@@ -125,7 +125,7 @@ fn range_end_at(text: &[u8]) -> Option<(u8, &[u8])>
     if begins_with(b'-', text) {
         Some((b'-', skip(1, text)))
     } else {
-        point_at(Spot::Inside, text)
+        point_at(BracketPosition::Inside, text)
     }
 }
 
@@ -188,8 +188,8 @@ fn class_at(text: &[u8]) -> Option<(Member, &[u8])>
 }
 
 /// The member at the front, and what stands behind it.
-fn member_at(spot: Spot, text: &[u8]) -> Option<(Member, &[u8])>
-    ensures { option_map (λ f. (ranges_of f.0, f.1.now)) result ≡ member_at (spot_of spot) text.now }
+fn member_at(position: BracketPosition, text: &[u8]) -> Option<(Member, &[u8])>
+    ensures { option_map (λ f. (ranges_of f.0, f.1.now)) result ≡ member_at (position_of position) text.now }
 {
     if begins_pair(b'[', b':', text) {
         class_at(skip(2, text))
@@ -197,7 +197,7 @@ fn member_at(spot: Spot, text: &[u8]) -> Option<(Member, &[u8])>
         let (byte, behind) = marked_byte_at(b'=', skip(2, text))?;
         Some((Member::Range(byte, byte), behind))
     } else {
-        let (low, behind) = point_at(spot, text)?;
+        let (low, behind) = point_at(position, text)?;
         member_from(low, behind)
     }
 }
@@ -219,7 +219,7 @@ fn members_behind(mut set: ByteSet, text: &[u8]) -> Option<(ByteSet, &[u8])>
 {
     let mut rest = text;
     while !begins_with(b']', rest) {
-        let Some((member, behind)) = member_at(Spot::Inside, rest) else {
+        let Some((member, behind)) = member_at(BracketPosition::Inside, rest) else {
             return None;
         };
         insert_member(&mut set, member);
@@ -229,10 +229,10 @@ fn members_behind(mut set: ByteSet, text: &[u8]) -> Option<(ByteSet, &[u8])>
 }
 
 /// The set of the members up to the closing bracket, and what stands behind it.
-fn members_at(spot: Spot, text: &[u8]) -> Option<(ByteSet, &[u8])>
-    ensures { option_map (λ f. (f.0, f.1.now)) result ≡ option_map members_set (members_at (spot_of spot) text.now) }
+fn members_at(position: BracketPosition, text: &[u8]) -> Option<(ByteSet, &[u8])>
+    ensures { option_map (λ f. (f.0, f.1.now)) result ≡ option_map members_set (members_at (position_of position) text.now) }
 {
-    let Some((first, rest)) = member_at(spot, text) else {
+    let Some((first, rest)) = member_at(position, text) else {
         return None;
     };
     let mut set = ByteSet::empty();
@@ -245,11 +245,11 @@ pub(crate) fn bracket_at(text: &[u8]) -> Option<(ByteSet, &[u8])>
     ensures { option_map (λ f. (f.0, f.1.now)) result ≡ bracket_at text.now }
 {
     if begins_with(b'^', text) {
-        match members_at(Spot::BehindCaret, skip(1, text)) {
+        match members_at(BracketPosition::BehindCaret, skip(1, text)) {
             Some((set, behind)) => Some((set.complement(), behind)),
             None => None,
         }
     } else {
-        members_at(Spot::Opening, text)
+        members_at(BracketPosition::Opening, text)
     }
 }

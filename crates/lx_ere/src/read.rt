@@ -18,7 +18,7 @@ use crate::prefix::{begins_with, skip};
 use std::alloc::Global;
 
 /// The most bytes that a pattern or a substitute may have.
-const MAX_LEN: usize = 1024;
+const MAX_PATTERN_BYTES: usize = 1024;
 
 /// The alternation at the front, and what stands behind its last spelling.
 fn read_alternation(alloc: Global, text: &[u8]) -> Result<(Expr, &[u8]), EreFault>
@@ -77,7 +77,7 @@ pub fn read_pattern(alloc: Global, text: &[u8]) -> Result<Pattern, EreFault>
     ensures reading { IfOk result (λ p. IsPattern text.now (reading_of p)) }
     ensures refused { result ≡ Err EreFault.NoReading → (r : Reading) → IsPattern text.now r → ⊥ }
 {
-    if text.len() > MAX_LEN {
+    if text.len() > MAX_PATTERN_BYTES {
         return Err(EreFault::NoReading);
     }
     let line_begin = begins_with(b'^', text);
@@ -100,7 +100,7 @@ pub fn read_substitute(alloc: Global, text: &[u8]) -> Result<Expr, EreFault>
     ensures reading { IfOk result (λ e. IsSubstitute text.now (regex_of e)) }
     ensures refused { result ≡ Err EreFault.NoReading → (tree : Regex) → IsSubstitute text.now tree → ⊥ }
 {
-    if text.len() > MAX_LEN {
+    if text.len() > MAX_PATTERN_BYTES {
         return Err(EreFault::NoReading);
     }
     let (expr, ending) = read_alternation(alloc, text)?;

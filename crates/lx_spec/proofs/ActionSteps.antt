@@ -42,20 +42,20 @@ in_none _ _ _ (closed d ws rest ss e a) h = let both : closes rest ≡ no_statem
 in_none _ _ _ (stated d ws rest s ss e a) h = let both : states s rest ≡ no_statement = sym e ∙ h in cc
 
 -- The statements read so far, where these words are left and so many braces are open.
-pub record Stated (whole : List Word) (depth : ℕ) (rest : List Word) (read : List Statement) : Type 0 where
+pub record StatementsRead (whole : List Word) (depth : ℕ) (rest : List Word) (read : List Statement) : Type 0 where
   pub sound : (ss : List Statement) → AreStatements depth rest ss → AreStatements 0 whole (read ++ ss)
   pub complete : (ks : List Statement) → AreStatements 0 whole ks → (ss : List Statement) × AreStatements depth rest ss × (ks ≡ read ++ ss)
 
-pub Stated-start : (whole : List Word) → Stated whole 0 whole []
-Stated-start whole = record { sound = λ ss a. a; complete = λ ks a. (ks, a, refl) }
+pub StatementsRead-start : (whole : List Word) → StatementsRead whole 0 whole []
+StatementsRead-start whole = record { sound = λ ss a. a; complete = λ ks a. (ks, a, refl) }
 
-pub Stated-opens : (whole : List Word) (d : ℕ) (rest behind : List Word) (read : List Statement) → Stated whole d rest read → opens behind ≡ turn_at rest → Stated whole (d + 1) behind read
-Stated-opens whole d rest behind read r e = subst (λ (n : ℕ). Stated whole n behind read) (sym (add-one d)) (record {
+pub StatementsRead-opens : (whole : List Word) (d : ℕ) (rest behind : List Word) (read : List Statement) → StatementsRead whole d rest read → opens behind ≡ turn_at rest → StatementsRead whole (d + 1) behind read
+StatementsRead-opens whole d rest behind read r e = subst (λ (n : ℕ). StatementsRead whole n behind read) (sym (add-one d)) (record {
   sound = λ ss a. r.sound ss (opened d rest behind ss (sym e) a);
   complete = λ ks a. let w = r.complete ks a in (w.0, in_opened d rest behind w.0 w.1 (sym e), w.2);
 })
 
-closes-suc : (whole : List Word) (k : ℕ) (rest behind : List Word) (read : List Statement) → Stated whole (suc k) rest read → closes behind ≡ turn_at rest → Stated whole k behind read
+closes-suc : (whole : List Word) (k : ℕ) (rest behind : List Word) (read : List Statement) → StatementsRead whole (suc k) rest read → closes behind ≡ turn_at rest → StatementsRead whole k behind read
 closes-suc whole k rest behind read r e = record {
   sound = λ ss a. r.sound ss (closed k rest behind ss (sym e) a);
   complete = λ ks a.
@@ -65,20 +65,20 @@ closes-suc whole k rest behind read r e = record {
       (w.0, subst (λ (n : ℕ). AreStatements n behind w.0) same v.2, w.2);
 }
 
-pub Stated-closes : (whole : List Word) (d : ℕ) (rest behind : List Word) (read : List Statement) → Stated whole d rest read → closes behind ≡ turn_at rest → 0 < d → Stated whole (d - 1) behind read
-Stated-closes whole zero rest behind read r e positive = absurd (omega arith)
-Stated-closes whole (suc k) rest behind read r e positive =
+pub StatementsRead-closes : (whole : List Word) (d : ℕ) (rest behind : List Word) (read : List Statement) → StatementsRead whole d rest read → closes behind ≡ turn_at rest → 0 < d → StatementsRead whole (d - 1) behind read
+StatementsRead-closes whole zero rest behind read r e positive = absurd (omega arith)
+StatementsRead-closes whole (suc k) rest behind read r e positive =
     let same : suc k - 1 ≡ k = omega arith in
-    subst (λ (n : ℕ). Stated whole n behind read) (sym same) (closes-suc whole k rest behind read r e)
+    subst (λ (n : ℕ). StatementsRead whole n behind read) (sym same) (closes-suc whole k rest behind read r e)
 
-pub Stated-unopened : (whole rest behind : List Word) (read : List Statement) → Stated whole 0 rest read → closes behind ≡ turn_at rest → (ks : List Statement) → AreStatements 0 whole ks → ⊥
-Stated-unopened whole rest behind read r e ks a =
+pub StatementsRead-unopened : (whole rest behind : List Word) (read : List Statement) → StatementsRead whole 0 rest read → closes behind ≡ turn_at rest → (ks : List Statement) → AreStatements 0 whole ks → ⊥
+StatementsRead-unopened whole rest behind read r e ks a =
     let w = r.complete ks a in
     let v = in_closed 0 rest behind w.0 w.1 (sym e) in
     absurd (omega (arith, v.1))
 
-pub Stated-states : (whole : List Word) (d : ℕ) (rest behind : List Word) (read : List Statement) (s : Statement) → Stated whole d rest read → states s behind ≡ turn_at rest → Stated whole d behind (read ++ s ∷ [])
-Stated-states whole d rest behind read s r e = record {
+pub StatementsRead-states : (whole : List Word) (d : ℕ) (rest behind : List Word) (read : List Statement) (s : Statement) → StatementsRead whole d rest read → states s behind ≡ turn_at rest → StatementsRead whole d behind (read ++ s ∷ [])
+StatementsRead-states whole d rest behind read s r e = record {
   sound = λ ss a. subst (AreStatements 0 whole) (sym (append_assoc read (s ∷ []) ss)) (r.sound (s ∷ ss) (stated d rest behind s ss (sym e) a));
   complete = λ ks a.
       let v = r.complete ks a in
@@ -86,17 +86,17 @@ Stated-states whole d rest behind read s r e = record {
       (u.0, u.1, v.2 ∙ ap (λ (l : List Statement). read ++ l) u.2 ∙ sym (append_assoc read (s ∷ []) u.0));
 }
 
-pub Stated-end : (whole rest : List Word) (read : List Statement) → Stated whole 0 rest read → finished ≡ turn_at rest → AreStatements 0 whole read
-Stated-end whole rest read r e = subst (AreStatements 0 whole) (append-nil read) (r.sound [] (none rest (sym e)))
+pub StatementsRead-end : (whole rest : List Word) (read : List Statement) → StatementsRead whole 0 rest read → finished ≡ turn_at rest → AreStatements 0 whole read
+StatementsRead-end whole rest read r e = subst (AreStatements 0 whole) (append-nil read) (r.sound [] (none rest (sym e)))
 
-pub Stated-unclosed : (whole : List Word) (d : ℕ) (rest : List Word) (read : List Statement) → Stated whole d rest read → finished ≡ turn_at rest → 0 < d → (ks : List Statement) → AreStatements 0 whole ks → ⊥
-Stated-unclosed whole d rest read r e positive ks a =
+pub StatementsRead-unclosed : (whole : List Word) (d : ℕ) (rest : List Word) (read : List Statement) → StatementsRead whole d rest read → finished ≡ turn_at rest → 0 < d → (ks : List Statement) → AreStatements 0 whole ks → ⊥
+StatementsRead-unclosed whole d rest read r e positive ks a =
     let w = r.complete ks a in
     let v = in_finished d rest w.0 w.1 (sym e) in
     absurd (omega (arith, v.0))
 
-pub Stated-none : (whole : List Word) (d : ℕ) (rest : List Word) (read : List Statement) → Stated whole d rest read → no_statement ≡ turn_at rest → (ks : List Statement) → AreStatements 0 whole ks → ⊥
-Stated-none whole d rest read r e ks a = let w = r.complete ks a in in_none d rest w.0 w.1 (sym e)
+pub StatementsRead-none : (whole : List Word) (d : ℕ) (rest : List Word) (read : List Statement) → StatementsRead whole d rest read → no_statement ≡ turn_at rest → (ks : List Statement) → AreStatements 0 whole ks → ⊥
+StatementsRead-none whole d rest read r e ks a = let w = r.complete ks a in in_none d rest w.0 w.1 (sym e)
 
 -- Words are statements in one way at most.
 pub one_statements : (d : ℕ) (ws : List Word) (ss ts : List Statement) → AreStatements d ws ss → AreStatements d ws ts → ss ≡ ts

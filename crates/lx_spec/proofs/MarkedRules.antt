@@ -4,6 +4,7 @@ use Rattle.std.specs.Prelude.{IsTrue, Contains, slice_index}
 use Rattle.std.proofs.lemmas.Bool.{false≢true}
 use Rattle.lx_ere.specs.Regex.{Regex, Reading}
 use Rattle.lx_ere.specs.Pattern.{IsPattern}
+use Rattle.lx_spec.specs.Limits.{max_name_depth}
 use Rattle.lx_spec.specs.Dictionary.{row_of, all_defined, mentions_of, unreadable_marks, incomplete_marks}
 use Rattle.lx_spec.specs.views.Dictionaries.{dictionary_view}
 use Rattle.lx_spec.specs.Graph.{IsMention, Leads, Follow, is_marked}
@@ -35,8 +36,8 @@ symbols-undefined b is =
     subst (λ (m : List Bool). (i : ℕ) → IsTrue (is_marked b.faults.now.undefined.items i) ↔ Leads (mentions_in_symbols b) m i) is.dictionary.incomplete
     (subst (λ (ms : List Mention). (i : ℕ) → IsTrue (is_marked b.faults.now.undefined.items i) ↔ Leads ms (dictionary_view b.dictionary.now).incomplete i) is.dictionary.mentions is.faults.undefined)
 
-pub symbols-too_deep : (b : CodeTable) → IsSymbolTable b → (i : ℕ) → IsTrue (is_marked b.faults.now.too_deep.items i) ↔ Follow (IsMention (mentions_in_symbols b)) 32 i
-symbols-too_deep b is = subst (λ (ms : List Mention). (i : ℕ) → IsTrue (is_marked b.faults.now.too_deep.items i) ↔ Follow (IsMention ms) 32 i) is.dictionary.mentions is.faults.too_deep
+pub symbols-too_deep : (b : CodeTable) → IsSymbolTable b → (i : ℕ) → IsTrue (is_marked b.faults.now.too_deep.items i) ↔ Follow (IsMention (mentions_in_symbols b)) max_name_depth i
+symbols-too_deep b is = subst (λ (ms : List Mention). (i : ℕ) → IsTrue (is_marked b.faults.now.too_deep.items i) ↔ Follow (IsMention ms) max_name_depth i) is.dictionary.mentions is.faults.too_deep
 
 -- the numbers of a row are those of marks
 pub row-marks : (b : CodeTable) → IsSymbolTable b → (tree : Regex) (row : List ℕ) (marks marks' : List Bool) → row ≡ row_of (symbols_view b).definitions tree → marks ≡ marks' → length marks' ≡ length (symbols_view b).trees

@@ -9,6 +9,7 @@ use Rattle.std.proofs.lemmas.List.Elements.{Contains-get_or, Contains-push, Cont
 use Rattle.std.proofs.lemmas.Bool.Decides.{nat_tests}
 use Rattle.std.proofs.lemmas.Bool.{false≢true}
 use borrow.Author.Count.{below_more}
+use Rattle.lx_spec.specs.Limits.{max_name_depth}
 use Rattle.lx_spec.specs.declared.graph.Mention.{Mention}
 use Rattle.lx_spec.specs.Graph.{nowhere, IsMention, AreBelow, Leads, itself, along, AreMarked, list_at, is_marked, unmarked, Follow, AreSound, Reach}
 
@@ -240,7 +241,7 @@ done_one ms old ds i f t v from to less e grow done =
     let was : slice_index old (get_or ms i nowhere).to ≡ slice_index old t = ap (slice_index old) to in
     omega (arith, g, at, was, e))
 
-pub reach_more : (ms : List Mention) (old ds : List ℕ) (most : ℕ) → most < 32 → Reach (IsMention ms) old most
+pub reach_more : (ms : List Mention) (old ds : List ℕ) (most : ℕ) → most < max_name_depth → Reach (IsMention ms) old most
     → ((k : ℕ) → k < length ms → min (slice_index old (get_or ms k nowhere).to) 31 + 1 ≤ slice_index ds (get_or ms k nowhere).from) → Reach (IsMention ms) ds (most + 1)
 reach_more ms old ds most small reach done i zero le f = omega arith
 reach_more ms old ds most small reach done i (suc n) le (j, m, f) =
@@ -273,8 +274,8 @@ read_at [] i r d less e = absurd (omega arith)
 read_at (x ∷ xs) zero r d less e = sym e
 read_at (x ∷ xs) (suc i) r d less e = read_at xs i r d (omega arith) e
 
--- the depths that are 32 or more
-pub deep_marks : (ds : List ℕ) (i : ℕ) → get_or (map (λ d. nat_le 32 d) ds) i false ≡ nat_le 32 (slice_index ds i)
+-- the depths that are `max_name_depth` or more
+pub deep_marks : (ds : List ℕ) (i : ℕ) → get_or (map (λ d. nat_le max_name_depth d) ds) i false ≡ nat_le max_name_depth (slice_index ds i)
 deep_marks [] i = refl
 deep_marks (d ∷ ds) zero = refl
 deep_marks (d ∷ ds) (suc i) = deep_marks ds i

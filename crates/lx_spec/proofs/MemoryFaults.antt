@@ -2,6 +2,7 @@
 use Rattle.std.proofs.Common.{◌≡◌, ◌≢◌, ◌∙◌, ℕ, zero, suc, Bool, true, false, cond, List, [], ◌∷◌, Ok, Err, Result, refl, sym, ap, subst, arith, length, nat_eq, nat_lt}
 use Rattle.std.specs.List.{list_any}
 use Rattle.std.specs.Cmp.Lexicographic.{pointwise}
+use Rattle.lx_spec.specs.Limits.{max_definitions, max_rules, max_start_conditions}
 use Rattle.lx_spec.specs.Bytes.{lines}
 use Rattle.lx_spec.specs.Faults.{fault, out_of_memory}
 use Rattle.lx_spec.specs.Sections.{RawRule, ParsedSections, Entry, conditions, definition, rule, formless, unclosed, endless, definitions, entries, ◌>>=◌, with_start_condition, with_start_conditions, with_rule, with_entry, with_entries, only_initial}
@@ -30,10 +31,10 @@ start_conditions-none : (names : List (List ℕ)) (before : ParsedSections) (n :
 start_conditions-none [] before n exclusive = tt
 start_conditions-none (name ∷ names) before n exclusive =
     bind-none (with_start_condition before n exclusive name) (λ d. with_start_conditions d n exclusive names)
-    (declared-none (list_any (λ s. pointwise nat_eq s.name name) before.start_conditions) (nat_lt (length before.start_conditions) 64) _ n) (λ d. start_conditions-none names d n exclusive)
+    (declared-none (list_any (λ s. pointwise nat_eq s.name name) before.start_conditions) (nat_lt (length before.start_conditions) max_start_conditions) _ n) (λ d. start_conditions-none names d n exclusive)
 
 rule-none : (before : ParsedSections) (raw : RawRule) (closed : Bool) → IsNoMemory (with_rule before raw closed)
-rule-none before raw closed = by (nat_lt (length before.rules) 4096) closed _ where
+rule-none before raw closed = by (nat_lt (length before.rules) max_rules) closed _ where
   by : (room closed : Bool) (more : ParsedSections) → IsNoMemory (cond room (cond closed (Ok more) (Err (fault code.NotClosed raw.line))) (Err (fault code.TooMany raw.line)))
   by true true more = tt
   by true false more = λ e. cc
@@ -41,7 +42,7 @@ rule-none before raw closed = by (nat_lt (length before.rules) 4096) closed _ wh
 
 entry-none : (entry : Entry) (before : ParsedSections) → IsNoMemory (with_entry before entry)
 entry-none (conditions n exclusive names) before = start_conditions-none names before n exclusive
-entry-none (definition n name substitute) before = declared-none (list_any (λ d. pointwise nat_eq d.name name) before.definitions) (nat_lt (length before.definitions) 1024) _ n
+entry-none (definition n name substitute) before = declared-none (list_any (λ d. pointwise nat_eq d.name name) before.definitions) (nat_lt (length before.definitions) max_definitions) _ n
 entry-none (rule raw closed) before = rule-none before raw closed
 entry-none (formless n) before = λ e. cc
 entry-none (unclosed n) before = λ e. cc

@@ -9,6 +9,7 @@ use Rattle.std.proofs.lemmas.Bool.Decides.{nat_tests}
 use Rattle.std.proofs.lemmas.List.{length-map}
 use Rattle.std.proofs.lemmas.List.Elements.{Contains-append_left, Contains-append_right}
 use Rattle.lx_ere.specs.Regex.{Regex}
+use Rattle.lx_spec.specs.Limits.{max_name_depth}
 use Rattle.lx_spec.specs.Plain.{PlainDefinition}
 use Rattle.lx_spec.specs.Names.{names_of}
 use Rattle.lx_spec.specs.Nesting.{tree_named, holds_of, is_no_name, is_within, are_nested}
@@ -177,6 +178,6 @@ not-false_then false never = absurd (never refl)
 pub nested : (table : SymbolTable) (raws : List RawRule) (resolved : List ResolvedRule) (ds : List PlainDefinition) → HoldsOfNone (Holds table) (cases raws) → AreResolved table.start_conditions raws resolved
     → AreReached (IsReached table.definitions table.trees (patterns_in resolved)) 0 table.definitions table.trees ds → IsTrue (are_nested ds (patterns_in resolved))
 unfolding are_nested
-nested table raws resolved ds clean resolves are = all-hold (is_within 32 ds) (patterns_in resolved) (λ tree at.
+nested table raws resolved ds clean resolves are = all-hold (is_within max_name_depth ds) (patterns_in resolved) (λ tree at.
     let safe = safe-patterns table raws resolved clean resolves tree at in
-    within table.definitions table.trees (patterns_in resolved) ds are (reached-complete table raws resolved clean resolves) 32 tree (not-false_then (all_defined table.definitions tree) (λ e. safe.undefined (inl e))) (λ j in_row. named_in tree j at in_row) (λ j in_row f. safe.too_deep (j, in_row, f)))
+    within table.definitions table.trees (patterns_in resolved) ds are (reached-complete table raws resolved clean resolves) max_name_depth tree (not-false_then (all_defined table.definitions tree) (λ e. safe.undefined (inl e))) (λ j in_row. named_in tree j at in_row) (λ j in_row f. safe.too_deep (j, in_row, f)))

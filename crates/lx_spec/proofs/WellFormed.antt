@@ -4,6 +4,7 @@ use Rattle.std.specs.Prelude.{IsTrue}
 use Rattle.std.specs.List.{list_any}
 use Rattle.std.specs.Cmp.Lexicographic.{pointwise}
 use Rattle.std.proofs.lemmas.List.{map_push}
+use Rattle.lx_spec.specs.Limits.{max_definitions, max_rules, max_start_conditions}
 use Rattle.lx_spec.specs.Plain.{StartCondition}
 use Rattle.lx_spec.specs.Faults.{fault}
 use Rattle.lx_spec.specs.Sections.{RawDefinition, RawRule, ParsedSections, Entry, conditions, definition, rule, formless, unclosed, endless, ◌>>=◌, with_start_condition, with_start_conditions, with_definition, with_rule, with_entry, with_entries, only_initial}
@@ -32,7 +33,7 @@ definitions-push raw_definitions d new h =
     (distinct-push (map (λ t. t.name) raw_definitions) d.name (list_any-map (λ k. pointwise nat_eq k d.name) (λ (t : RawDefinition). t.name) raw_definitions ∙ new) h)
 
 start_condition-kept : (before sections : ParsedSections) (n : ℕ) (x : Bool) (name : List ℕ) → with_start_condition before n x name ≡ Ok sections → AreWellFormed before → AreWellFormed sections
-start_condition-kept before sections n x name e k = by (list_any (λ s. pointwise nat_eq s.name name) before.start_conditions) (nat_lt (length before.start_conditions) 64) refl e where
+start_condition-kept before sections n x name e k = by (list_any (λ s. pointwise nat_eq s.name name) before.start_conditions) (nat_lt (length before.start_conditions) max_start_conditions) refl e where
   more : ParsedSections
   more = record before { start_conditions = before.start_conditions ++ record { name = name; exclusive = x } ∷ [] }
 
@@ -42,7 +43,7 @@ start_condition-kept before sections n x name e k = by (list_any (λ s. pointwis
   by false false new f = cc
 
 definition-kept : (before sections : ParsedSections) (n : ℕ) (name substitute : List ℕ) → with_definition before n name substitute ≡ Ok sections → AreWellFormed before → AreWellFormed sections
-definition-kept before sections n name substitute e k = by (list_any (λ d. pointwise nat_eq d.name name) before.definitions) (nat_lt (length before.definitions) 1024) refl e where
+definition-kept before sections n name substitute e k = by (list_any (λ d. pointwise nat_eq d.name name) before.definitions) (nat_lt (length before.definitions) max_definitions) refl e where
   more : ParsedSections
   more = record before { definitions = before.definitions ++ record { name = name; substitute = substitute } ∷ [] }
 
@@ -52,7 +53,7 @@ definition-kept before sections n name substitute e k = by (list_any (λ d. poin
   by false false new f = cc
 
 rule-kept : (before sections : ParsedSections) (raw : RawRule) (closed : Bool) → with_rule before raw closed ≡ Ok sections → AreWellFormed before → AreWellFormed sections
-rule-kept before sections raw closed e k = by (nat_lt (length before.rules) 4096) closed e where
+rule-kept before sections raw closed e k = by (nat_lt (length before.rules) max_rules) closed e where
   more : ParsedSections
   more = record before { rules = before.rules ++ raw ∷ [] }
 

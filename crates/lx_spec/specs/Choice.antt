@@ -2,6 +2,7 @@
 use Rattle.std.specs.Prelude.{◌≡◌, ℕ, ◌+◌, ◌<◌, ◌≤◌, ◌⊎◌, Bool, false, IsTrue, if◌then◌else◌, List, Option, Some, MatchOption, Contains, slice_get, length, take}
 use Rattle.std.specs.Option.{option_map}
 use Rattle.lx_ere.specs.Matching.{Matches}
+use Rattle.lx_spec.specs.Limits.{max_name_depth}
 use Rattle.lx_spec.specs.Names.{NameMatches}
 use Rattle.lx_spec.specs.Plain.{PlainRule, PlainSpec}
 
@@ -10,9 +11,9 @@ abbrev pub IsActive : PlainSpec → PlainRule → ℕ → Type 0
 IsActive spec rule condition =
     MatchOption rule.conditions (option_map (λ c. c.exclusive) (slice_get spec.conditions condition) ≡ Some false) (λ list. Contains list condition)
 
--- what words a name of the specification matches: names are nested at most 32 deep
+-- what words a name of the specification matches: names are nested at most `max_name_depth` deep
 unfoldable pub SpecNames : PlainSpec → List ℕ → List ℕ → Type 0
-SpecNames spec = NameMatches spec.definitions 32
+SpecNames spec = NameMatches spec.definitions max_name_depth
 
 -- The rule fits the first n bytes of the text under the condition, where `begin` says that the text stands at line begin.
 pub record Fits (spec : PlainSpec) (rule : PlainRule) (condition : ℕ) (begin : Bool) (text : List ℕ) (n : ℕ) : Type 0 where

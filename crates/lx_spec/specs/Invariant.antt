@@ -4,6 +4,7 @@ use Rattle.std.specs.List.{list_all, list_any, flat_map}
 use Rattle.std.specs.Cmp.Lexicographic.{pointwise}
 use Rattle.lx_ere.specs.Regex.{Regex}
 use Rattle.lx_ere.specs.Bounds.{has_ordered_bounds}
+use Rattle.lx_spec.specs.Limits.{max_definitions, max_rules, max_start_conditions}
 use Rattle.lx_spec.specs.Plain.{StartCondition, PlainDefinition, PlainRule, PlainSpec}
 use Rattle.lx_spec.specs.Bytes.{is_identifier}
 use Rattle.lx_spec.specs.Nesting.{are_nested, expressions_of}
@@ -100,9 +101,9 @@ are_kinds kinds rules =
 -- with bounds in order, kinds in order of first appearance, and rules that name conditions and kinds that are there.
 pub record IsWellFormed (spec : PlainSpec) : Type 0 where
   pub some_conditions : 0 < length spec.conditions
-  pub few_conditions : length spec.conditions ≤ 64
-  pub few_definitions : length spec.definitions ≤ 1024
-  pub few_rules : length spec.rules ≤ 4096
+  pub few_conditions : length spec.conditions ≤ max_start_conditions
+  pub few_definitions : length spec.definitions ≤ max_definitions
+  pub few_rules : length spec.rules ≤ max_rules
   pub initial_first : IsTrue (are_start_conditions spec.conditions)
   pub distinct : IsTrue (are_definitions spec.definitions)
   pub nested : IsTrue (are_nested spec.definitions (expressions_of spec.rules))

@@ -9,6 +9,7 @@ pub mod Faults
 pub mod First
 pub mod Graph
 pub mod Invariant
+pub mod Limits
 pub mod Lines
 pub mod Names
 pub mod Nesting

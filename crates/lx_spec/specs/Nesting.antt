@@ -3,6 +3,7 @@ use Rattle.std.specs.Prelude.{ℕ, zero, suc, Bool, true, false, nat_eq, if◌th
 use Rattle.std.specs.List.{list_all}
 use Rattle.std.specs.Cmp.Lexicographic.{pointwise}
 use Rattle.lx_ere.specs.Regex.{Regex}
+use Rattle.lx_spec.specs.Limits.{max_name_depth}
 use Rattle.lx_spec.specs.Plain.{PlainDefinition, PlainRule}
 use Rattle.lx_spec.specs.Names.{names_of}
 
@@ -28,6 +29,6 @@ is_within (suc n) definitions tree = list_all (λ name. holds_of (is_within n de
 abbrev pub expressions_of : List PlainRule → List Regex
 expressions_of rules = map (λ r. r.reading.tree) rules
 
--- the names in all expressions are defined, and at most 32 stand in a row
+-- the names in all expressions are defined, and at most `max_name_depth` stand in a row
 unfoldable pub are_nested : List PlainDefinition → List Regex → Bool
-are_nested definitions trees = list_all (is_within 32 definitions) trees
+are_nested definitions trees = list_all (is_within max_name_depth definitions) trees

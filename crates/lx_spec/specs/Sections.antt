@@ -2,6 +2,7 @@
 use Rattle.std.specs.Prelude.{◌≡◌, ◌≢◌, ℕ, ◌+◌, Bool, true, false, nat_eq, nat_lt, if◌then◌else◌, List, [], ◌∷◌, ◌++◌, length, Option, Some, None, Result, Ok, Err}
 use Rattle.std.specs.List.{list_any}
 use Rattle.std.specs.Cmp.Lexicographic.{pointwise}
+use Rattle.lx_spec.specs.Limits.{max_definitions, max_rules, max_start_conditions}
 use Rattle.lx_spec.specs.Plain.{StartCondition}
 use Rattle.lx_spec.specs.Bytes.{lines, begins_with, has_pair}
 use Rattle.lx_spec.specs.Blocks.{start, with_line, is_closed}
@@ -101,7 +102,7 @@ abbrev pub ◌>>=◌ : {A B : Type 0} → Result A SpecFault → (A → Result B
 abbrev pub with_start_condition : ParsedSections → ℕ → Bool → List ℕ → Result ParsedSections SpecFault
 with_start_condition before n exclusive name =
     if list_any (λ s. pointwise nat_eq s.name name) before.start_conditions then Err (fault code.Twice n)
-    else if nat_lt (length before.start_conditions) 64 then Ok (record before { start_conditions = before.start_conditions ++ record { name = name; exclusive = exclusive } ∷ [] })
+    else if nat_lt (length before.start_conditions) max_start_conditions then Ok (record before { start_conditions = before.start_conditions ++ record { name = name; exclusive = exclusive } ∷ [] })
     else Err (fault code.TooMany n)
 
 abbrev pub with_start_conditions : ParsedSections → ℕ → Bool → List (List ℕ) → Result ParsedSections SpecFault
@@ -112,13 +113,13 @@ with_start_conditions before n exclusive (name ∷ names) = with_start_condition
 abbrev pub with_definition : ParsedSections → ℕ → List ℕ → List ℕ → Result ParsedSections SpecFault
 with_definition before n name substitute =
     if list_any (λ d. pointwise nat_eq d.name name) before.definitions then Err (fault code.Twice n)
-    else if nat_lt (length before.definitions) 1024 then Ok (record before { definitions = before.definitions ++ record { name = name; substitute = substitute } ∷ [] })
+    else if nat_lt (length before.definitions) max_definitions then Ok (record before { definitions = before.definitions ++ record { name = name; substitute = substitute } ∷ [] })
     else Err (fault code.TooMany n)
 
 -- one more rule: there is room for it, and its action is closed
 abbrev pub with_rule : ParsedSections → RawRule → Bool → Result ParsedSections SpecFault
 with_rule before raw closed =
-    if nat_lt (length before.rules) 4096 then (if closed then Ok (record before { rules = before.rules ++ raw ∷ [] }) else Err (fault code.NotClosed raw.line))
+    if nat_lt (length before.rules) max_rules then (if closed then Ok (record before { rules = before.rules ++ raw ∷ [] }) else Err (fault code.NotClosed raw.line))
     else Err (fault code.TooMany raw.line)
 
 -- one more entry

@@ -4,6 +4,7 @@ use Rattle.std.specs.List.{list_all, position}
 use Rattle.std.specs.Cmp.Lexicographic.{pointwise}
 use Rattle.lx_ere.specs.Regex.{Regex, Reading}
 use Rattle.lx_ere.specs.Pattern.{IsPattern}
+use Rattle.lx_spec.specs.Limits.{max_name_depth}
 use Rattle.lx_spec.specs.Plain.{StartCondition}
 use Rattle.lx_spec.specs.Faults.{fault, out_of_memory}
 use Rattle.lx_spec.specs.First.{IsFirst, HoldsOfNone}
@@ -102,9 +103,9 @@ LeadsUnreadable table tree = (j : ℕ) × Contains (row_of table.definitions tre
 abbrev pub LeadsUndefined : SymbolTable → Regex → Type 0
 LeadsUndefined table tree = (all_defined table.definitions tree ≡ false) ⊎ ((j : ℕ) × Contains (row_of table.definitions tree) j × Leads (mentions_of table.definitions table.trees) (incomplete_marks table.definitions table.trees) j)
 
--- 33 names stand in a row: one in the expression, and 32 more behind it.
+-- Too many names stand in a row: one in the expression, and `max_name_depth` more behind it.
 abbrev pub LeadsDeep : SymbolTable → Regex → Type 0
-LeadsDeep table tree = (j : ℕ) × Contains (row_of table.definitions tree) j × Follow (IsMention (mentions_of table.definitions table.trees)) 32 j
+LeadsDeep table tree = (j : ℕ) × Contains (row_of table.definitions tree) j × Follow (IsMention (mentions_of table.definitions table.trees)) max_name_depth j
 
 abbrev pub IsCase : SymbolTable → Case → Cause → Type 0
 IsCase table case prefix_form = is_prefix case.rule.prefix ≡ false

@@ -1,6 +1,7 @@
 -- The verdict on a text: its first fault, or the specification that it says.
 use Rattle.std.specs.Prelude.{◌≡◌, ℕ, ◌<◌, ◌≤◌, List, length, Option, Ok, Err}
 use Rattle.lx_ere.specs.Regex.{Regex}
+use Rattle.lx_spec.specs.Limits.{max_specification_bytes}
 use Rattle.lx_spec.specs.Plain.{PlainSpec}
 use Rattle.lx_spec.specs.First.{HoldsOfNone}
 use Rattle.lx_spec.specs.Faults.{fault}
@@ -17,14 +18,14 @@ symbols_of sections trees = record { start_conditions = sections.start_condition
 
 -- The text is too long; or a section has the fault, the first in the order of the text; or a rule has it, the first rule by rule.
 pub data IsFault (text : List ℕ) : SpecFault → Type 0 where
-  too_long : 1048576 < length text → IsFault text (fault code.TooLong 0)
-  in_sections : (f : SpecFault) → length text ≤ 1048576 → sections_of text ≡ Err f → IsFault text f
-  in_rules : (sections : ParsedSections) (trees : List (Option Regex)) (f : SpecFault) → length text ≤ 1048576 → sections_of text ≡ Ok sections → AreTrees sections.definitions trees →
+  too_long : max_specification_bytes < length text → IsFault text (fault code.TooLong 0)
+  in_sections : (f : SpecFault) → length text ≤ max_specification_bytes → sections_of text ≡ Err f → IsFault text f
+  in_rules : (sections : ParsedSections) (trees : List (Option Regex)) (f : SpecFault) → length text ≤ max_specification_bytes → sections_of text ≡ Ok sections → AreTrees sections.definitions trees →
       IsFirstFault (symbols_of sections trees) (cases sections.rules) f → IsFault text f
 
 -- The text has no fault, and this is the specification that it says.
 pub record IsRead (text : List ℕ) (spec : PlainSpec) : Type 0 where
-  pub short : length text ≤ 1048576
+  pub short : length text ≤ max_specification_bytes
   pub sections : ParsedSections
   pub parsed : sections_of text ≡ Ok sections
   pub trees : List (Option Regex)

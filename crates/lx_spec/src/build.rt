@@ -6,6 +6,7 @@ ghost use Rattle.lx_spec.specs.views.Steps.{steps_at_end, steps_before, with_ste
 ghost use Rattle.lx_spec.specs.views.Conditions.{condition_view};
 ghost use Rattle.lx_spec.specs.views.Dictionaries.{dictionary_view, IsDictionary};
 ghost use Rattle.lx_spec.specs.First.{HoldsOfNone};
+ghost use Rattle.lx_spec.specs.Limits.{max_rules, max_start_conditions};
 ghost use Rattle.lx_spec.specs.Outcome as plain;
 ghost use Rattle.lx_spec.specs.Outcome.{AreResolved, AreSpec};
 ghost use Rattle.lx_spec.specs.views.Rules.{rule_view, names_view};
@@ -97,7 +98,7 @@ fn kinds_of(alloc: Global, resolved: &[ResolvedRule]) -> Result<KindIndex, Alloc
 }
 
 fn kind_of(kinds: &KindIndex, value: Value) -> Kind
-    requires { vec_len kinds.now.kinds ≤ 4096 }
+    requires { vec_len kinds.now.kinds ≤ max_rules }
     ensures { result ≡ plain.kind_of (names_view kinds.now.kinds.items) (value_view value.entry) }
 {
     match value {
@@ -114,8 +115,8 @@ fn steps_of(
     statements: &[Statement],
 ) -> Result<Vec<Step>, AllocError>
     requires some { 0 < length start_conditions.now }
-    requires few { length start_conditions.now ≤ 64 }
-    requires kinds { vec_len kinds.now.kinds ≤ 4096 }
+    requires few { length start_conditions.now ≤ max_start_conditions }
+    requires kinds { vec_len kinds.now.kinds ≤ max_rules }
     ensures { IfOk result (λ steps. steps.items ≡ plain.steps_of (map start_condition_view start_conditions.now) (names_view kinds.now.kinds.items) (statements_view statements.now)) }
 {
     let mut steps = Vec::new(alloc);
@@ -154,8 +155,8 @@ fn steps_before(
     rules: &[Rule],
 ) -> Result<Steps, AllocError>
     requires some { 0 < length start_conditions.now }
-    requires few { length start_conditions.now ≤ 64 }
-    requires kinds { vec_len kinds.now.kinds ≤ 4096 }
+    requires few { length start_conditions.now ≤ max_start_conditions }
+    requires kinds { vec_len kinds.now.kinds ≤ max_rules }
     ensures { IfOk result (λ steps. steps ≡ steps_before (map start_condition_view start_conditions.now) (names_view kinds.now.kinds.items) (action_view action.now) (steps_at_end (map rule_view rules.now))) }
 {
     match action {
@@ -192,8 +193,8 @@ fn rules_of(
     resolved: Vec<ResolvedRule>,
 ) -> Result<Vec<Rule>, AllocError>
     requires some { 0 < length start_conditions.now }
-    requires few { length start_conditions.now ≤ 64 }
-    requires kinds { vec_len kinds.now.kinds ≤ 4096 }
+    requires few { length start_conditions.now ≤ max_start_conditions }
+    requires kinds { vec_len kinds.now.kinds ≤ max_rules }
     requires same { vec_len resolved ≡ length raws.now }
     ensures { IfOk result (λ rules. map rule_view rules.items ≡ plain.rules_of (map start_condition_view start_conditions.now) (names_view kinds.now.kinds.items) (map raw_rule_view raws.now) (map resolved_view resolved.entry.items)) }
 {

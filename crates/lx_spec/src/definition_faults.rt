@@ -1,18 +1,19 @@
 // Where each definition leads: to a substitute without a reading, to a name that isn't defined, or along 33 names.
 ghost use Rattle.std.specs.Prelude.{◌≡◌, ℕ, ◌<◌, ◌↔◌, length, map, IsTrue, IfOk, Contains, slice_index, nat_le};
 ghost use Rattle.lx_spec.specs.Dictionary.{unreadable_marks};
+ghost use Rattle.lx_spec.specs.Limits.{max_name_depth};
 ghost use Rattle.lx_spec.specs.Graph.{AreBelow, is_marked};
 ghost use Rattle.lx_spec.specs.views.Trees.{trees_view};
 ghost use Rattle.lx_spec.specs.views.Dictionaries.{dictionary_view};
 ghost use Rattle.lx_spec.specs.views.DefinitionFaults.{AreDefinitionFaults};
 
 use crate::dictionary::Dictionary;
-use crate::graph::{depths_of, spread};
+use crate::graph::{MAX_NAME_DEPTH, depths_of, spread};
 use lx_ere::expr::Expr;
 use std::alloc::{AllocError, Global};
 
 /// For each definition whether it leads to one whose substitute has no reading, whether it leads to a name that isn't
-/// defined, and whether 32 names follow it in a chain.
+/// defined, and whether `MAX_NAME_DEPTH` names follow it in a chain.
 #[derive(Drop)]
 pub struct DefinitionFaults {
     pub unreadable: Vec<bool>,
@@ -31,9 +32,9 @@ fn unreadable_of(alloc: Global, trees: &[Option<Expr>]) -> Result<Vec<bool>, All
 }
 
 fn too_deep_of(alloc: Global, depths: &[u8]) -> Result<Vec<bool>, AllocError>
-    ensures { IfOk result (λ marks. marks.items ≡ map (λ d. nat_le 32 d) depths.now) }
+    ensures { IfOk result (λ marks. marks.items ≡ map (λ d. nat_le max_name_depth d) depths.now) }
 {
-    depths.iter().map(|d| 32 <= *d).collect(alloc)
+    depths.iter().map(|d| MAX_NAME_DEPTH <= *d).collect(alloc)
 }
 
 /// Where each definition leads, found once for all rules.

@@ -1,5 +1,6 @@
 // Which definitions mention which, by their numbers, and what follows from that.
 ghost use Rattle.std.specs.Prelude.{◌≡◌, ℕ, ◌+◌, ◌<◌, ◌≤◌, ◌↔◌, [], slice_index, Contains, IsTrue, IfOk, OnOk, vec_len};
+ghost use Rattle.lx_spec.specs.Limits.{max_name_depth};
 ghost use Rattle.lx_spec.specs.Graph.{IsMention, AreBelow, Leads, AreMarked, list_at, is_marked, Follow, AreSound, Reach};
 
 use std::alloc::{AllocError, Global};
@@ -12,7 +13,7 @@ pub struct Mention {
 }
 
 // The most names that are counted behind the first one of a chain.
-const MOST: u8 = 32;
+pub(crate) const MAX_NAME_DEPTH: u8 = 32;
 
 // So many empty lists.
 fn empty_lists(alloc: Global, count: usize) -> Result<Vec<Vec<usize>>, AllocError>
@@ -99,15 +100,15 @@ fn deepen(mentions: &[Mention], depths: &mut Vec<u8>)
     requires below { AreBelow mentions.now (vec_len depths.old) }
     ensures len { vec_len depths.new ≡ vec_len depths.old }
     ensures sound { AreSound (IsMention mentions.now) depths.old.items → AreSound (IsMention mentions.now) depths.new.items }
-    ensures reach { (most : ℕ) → most < 32 → Reach (IsMention mentions.now) depths.old.items most → Reach (IsMention mentions.now) depths.new.items (most + 1) }
+    ensures reach { (most : ℕ) → most < max_name_depth → Reach (IsMention mentions.now) depths.old.items most → Reach (IsMention mentions.now) depths.new.items (most + 1) }
 {
     for mention in mentions {
-        let depth = depths[mention.from].max(depths[mention.to].min(MOST - 1) + 1);
+        let depth = depths[mention.from].max(depths[mention.to].min(MAX_NAME_DEPTH - 1) + 1);
         depths[mention.from] = depth;
     }
 }
 
-/// How many more names follow each definition in a chain of mentions, where 32 stands for 32 or more.
+/// How many more names follow each definition in a chain of mentions, where `MAX_NAME_DEPTH` stands for so many or more.
 pub(crate) fn depths_of(
     alloc: Global,
     count: usize,
@@ -115,10 +116,10 @@ pub(crate) fn depths_of(
 ) -> Result<Vec<u8>, AllocError>
     requires { AreBelow mentions.now count }
     ensures len { IfOk result (λ depths. vec_len depths ≡ count) }
-    ensures depths { IfOk result (λ depths. (i n : ℕ) → n ≤ 32 → ((n ≤ slice_index depths.items i) ↔ Follow (IsMention mentions.now) n i)) }
+    ensures depths { IfOk result (λ depths. (i n : ℕ) → n ≤ max_name_depth → ((n ≤ slice_index depths.items i) ↔ Follow (IsMention mentions.now) n i)) }
 {
     let mut depths = vec![in alloc; 0; count]?;
-    for _ in 0..MOST {
+    for _ in 0..MAX_NAME_DEPTH {
         deepen(mentions, &mut depths);
     }
     Ok(depths)

@@ -1,5 +1,6 @@
 // What the sections say, entry by entry.
 ghost use Rattle.std.specs.Prelude.{◌<◌, ◌≤◌, length};
+ghost use Rattle.lx_spec.specs.Limits.{max_definitions, max_rules, max_start_conditions};
 
 use crate::block::Count;
 use crate::rule_line::Prefix;
@@ -44,7 +45,7 @@ pub struct ParsedSections<'a> {
     pub definitions: Vec<RawDefinition<'a>>,
     pub rules: Vec<RawRule<'a>>,
     pub ghost some_start_conditions: { 0 < length start_conditions.items },
-    pub ghost few_start_conditions: { length start_conditions.items ≤ 64 },
-    pub ghost few_definitions: { length definitions.items ≤ 1024 },
-    pub ghost few_rules: { length rules.items ≤ 4096 },
+    pub ghost few_start_conditions: { length start_conditions.items ≤ max_start_conditions },
+    pub ghost few_definitions: { length definitions.items ≤ max_definitions },
+    pub ghost few_rules: { length rules.items ≤ max_rules },
 }

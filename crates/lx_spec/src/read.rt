@@ -31,6 +31,9 @@ use lx_ere::extent::{one_pattern_end, some_pattern_end};
 use lx_ere::read::{one_reading, one_substitute};
 use std::alloc::Global;
 
+// The most bytes of a specification.
+const MAX_SPECIFICATION_BYTES: usize = 1_048_576;
+
 // What the definitions read as and what the rules say, or the first fault of the rules.
 fn resolve_sections<'r, 't>(
     alloc: Global,
@@ -64,7 +67,7 @@ pub fn read_spec(alloc: Global, text: &[u8]) -> Result<Spec, SpecFault>
     ensures memory { IfErr result (λ f. f.code ≡ Code.Memory → f.line ≡ 0) }
     ensures spec { IfOk result (λ s. IsRead text.now (spec_view s)) }
 {
-    if text.len() > 1048576 {
+    if text.len() > MAX_SPECIFICATION_BYTES {
         return Err(SpecFault {
             code: Code::TooLong,
             line: 0,

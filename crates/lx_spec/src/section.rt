@@ -6,6 +6,7 @@ ghost use Rattle.std.specs.Cmp.Lexicographic.{pointwise};
 ghost use Rattle.lx_spec.specs.Blocks as blocks;
 ghost use Rattle.lx_spec.specs.Bytes.{words_of};
 ghost use Rattle.lx_spec.specs.Faults.{out_of_memory};
+ghost use Rattle.lx_spec.specs.Limits.{max_specification_bytes};
 ghost use Rattle.lx_spec.specs.Sections as plain;
 ghost use Rattle.lx_spec.specs.Sections.{Gives, Goes};
 ghost use Rattle.lx_spec.specs.views.Sections.{raw_rule_view, sections_view};
@@ -20,6 +21,13 @@ use crate::parsed_sections::{OpenRule, ParsedSections, RawDefinition, RawRule, S
 use crate::rule_line::{Prefix, RuleLine, rule_line_of};
 use bstr::ByteSlice;
 use std::alloc::Global;
+
+// The most start conditions, definitions and rules of a specification.
+const MAX_START_CONDITIONS: usize = 64;
+
+const MAX_DEFINITIONS: usize = 1024;
+
+const MAX_RULES: usize = 4096;
 
 /// Where a line stands.
 #[derive(Drop)]
@@ -65,7 +73,7 @@ fn with_definition<'a>(
             line: number,
         });
     }
-    if sections.definitions.len() >= 1024 {
+    if sections.definitions.len() >= MAX_DEFINITIONS {
         return Err(SpecFault {
             code: Code::TooMany,
             line: number,
@@ -92,7 +100,7 @@ fn with_start_condition<'a>(
             line: number,
         });
     }
-    if sections.start_conditions.len() >= 64 {
+    if sections.start_conditions.len() >= MAX_START_CONDITIONS {
         return Err(SpecFault {
             code: Code::TooMany,
             line: number,
@@ -130,7 +138,7 @@ fn with_rule<'a>(
 ) -> Result<ParsedSections<'a>, SpecFault>
     ensures { Gives sections_view result (plain.with_rule (sections_view sections.entry) (raw_rule_view rule.entry) closed) }
 {
-    if sections.rules.len() >= 4096 {
+    if sections.rules.len() >= MAX_RULES {
         return Err(SpecFault {
             code: Code::TooMany,
             line: rule.line,
@@ -351,7 +359,7 @@ pub(crate) fn read_sections<'a>(
     alloc: Global,
     text: &'a [u8],
 ) -> Result<ParsedSections<'a>, SpecFault>
-    requires { length text.now ≤ 1048576 }
+    requires { length text.now ≤ max_specification_bytes }
     ensures { Gives sections_view result (plain.sections_of text.now) }
 {
     let mut sections = only_initial(alloc)?;

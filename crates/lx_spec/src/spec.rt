@@ -3,6 +3,7 @@ ghost use Rattle.std.specs.Prelude.{◌<◌, ◌≤◌, length, map, IsTrue};
 ghost use Rattle.std.specs.List.{list_all};
 ghost use Rattle.lx_spec.specs.views.Conditions.{condition_view};
 ghost use Rattle.lx_spec.specs.Invariant.{are_start_conditions, are_definitions, are_ordered, are_kinds, is_rule};
+ghost use Rattle.lx_spec.specs.Limits.{max_definitions, max_rules, max_start_conditions};
 ghost use Rattle.lx_spec.specs.Nesting.{are_nested, expressions_of};
 ghost use Rattle.lx_spec.specs.views.Rules.{rule_view, definition_view, names_view};
 
@@ -24,13 +25,13 @@ pub struct Spec {
     /// At most 4,096 rules, in the order of the text.
     pub rules: Vec<Rule>,
     pub ghost some_conditions: { 0 < length conditions.items },
-    pub ghost few_conditions: { length conditions.items ≤ 64 },
+    pub ghost few_conditions: { length conditions.items ≤ max_start_conditions },
     pub ghost initial_first: { IsTrue (are_start_conditions (map condition_view conditions.items)) },
     pub ghost distinct: { IsTrue (are_definitions (map definition_view definitions.items)) },
     pub ghost nested: { IsTrue (are_nested (map definition_view definitions.items) (expressions_of (map rule_view rules.items))) },
     pub ghost ordered: { IsTrue (are_ordered (map definition_view definitions.items) (expressions_of (map rule_view rules.items))) },
     pub ghost kinds_in_order: { IsTrue (are_kinds (names_view kinds.items) (map rule_view rules.items)) },
-    pub ghost few_definitions: { length definitions.items ≤ 1024 },
-    pub ghost few_rules: { length rules.items ≤ 4096 },
+    pub ghost few_definitions: { length definitions.items ≤ max_definitions },
+    pub ghost few_rules: { length rules.items ≤ max_rules },
     pub ghost rules_in_range: { IsTrue (list_all (is_rule (length (map condition_view conditions.items)) (length (names_view kinds.items))) (map rule_view rules.items)) },
 }

@@ -4,6 +4,7 @@ use Rattle.std.proofs.lemmas.Result.{err_from_is_err_and}
 use Rattle.lx_ere.specs.declared.expr.Pattern.{Pattern}
 use Rattle.lx_ere.specs.declared.fault.EreFault.{EreFault}
 use Rattle.lx_ere.specs.declared.fault.EreFault.TheVariants.{NoReading}
+use Rattle.lx_ere.specs.Limits.{max_pattern_bytes}
 use Rattle.lx_ere.specs.Regex.{regex_of}
 use Rattle.lx_ere.specs.Lexing.{body_of, ending_at, Reads}
 use Rattle.lx_ere.proofs.Choices.{no_none}
@@ -21,7 +22,7 @@ returns-in_err-expr-clause-refused c =
 
 pub returns-in-Some-clause-reading : goal.returns-in-Some-clause-reading
 returns-in-Some-clause-reading c =
-    let short : length c.args.text.now ≤ 1024 = omega arith in
+    let short : length c.args.text.now ≤ max_pattern_bytes = omega arith in
     of_parts c.args.text.now _ short (record {
       caret = c.begins_with-line_begin.ensures;
       ending = c.in_ok-expr.ending.now;

@@ -1,4 +1,5 @@
 use Rattle.std.proofs.Common.{◌≡◌, ◌+◌, ◌<◌, ◌≤◌, length}
+use Rattle.lx_spec.specs.Limits.{max_specification_bytes}
 use Rattle.lx_spec.specs.Sections as plain
 use Rattle.lx_spec.specs.views.Sections.{sections_view}
 use Rattle.lx_spec.specs.views.Places.{place_view}
@@ -8,7 +9,7 @@ abbrev pub invariant-loop-line : goal.invariant-loop-line
 invariant-loop-line l = record {
   same : plain.sections_behind (sections_view l.sections) (place_view l.place) l.number l.lines ≡ plain.sections_of l.fn.text;
   counted : 0 < l.number;
-  few : l.number + length l.lines ≤ 1048577;
+  few : l.number + length l.lines ≤ max_specification_bytes + 1;
 }
 
 abbrev pub decreases-loop-line : goal.decreases-loop-line

@@ -9,8 +9,8 @@ use Rattle.lx_spec.proofs.Words.{list_any-map}
 use Rattle.lx_spec.proofs.Declaring.{definition_full, definition_more}
 use Rattle.lx_spec.proofs.section.with_definition.Goals as goal
 
-pub returns-then-len-ge1024 : goal.returns-then-len-ge1024
-returns-then-len-ge1024 c =
+pub returns-then-len-ge-MAX_DEFINITIONS : goal.returns-then-len-ge-MAX_DEFINITIONS
+returns-then-len-ge-MAX_DEFINITIONS c =
     let names = c.args.sections.definitions.items in
     let unknown : list_any (λ d. pointwise nat_eq d.name c.args.name.now) (map raw_definition_view names) ≡ false =
     list_any-map (λ d. pointwise nat_eq d.name c.args.name.now) raw_definition_view names ∙ ap (list_any (λ (d : RawDefinition). pointwise nat_eq d.name.now c.args.name.now)) (sym c.deref.ensures.value) ∙ sym c.knows_definition.ensures ∙ c.if-knows_definition.false in

@@ -9,8 +9,8 @@ use Rattle.lx_spec.proofs.Words.{list_any-map}
 use Rattle.lx_spec.proofs.Declaring.{start_condition_full, start_condition_more}
 use Rattle.lx_spec.proofs.section.with_start_condition.Goals as goal
 
-pub returns-then-len-ge64 : goal.returns-then-len-ge64
-returns-then-len-ge64 c =
+pub returns-then-len-ge-MAX_START_CONDITIONS : goal.returns-then-len-ge-MAX_START_CONDITIONS
+returns-then-len-ge-MAX_START_CONDITIONS c =
     let names = c.args.sections.start_conditions.items in
     let unknown : list_any (λ d. pointwise nat_eq d.name c.args.name.now) (map start_condition_view names) ≡ false =
     list_any-map (λ d. pointwise nat_eq d.name c.args.name.now) start_condition_view names ∙ ap (list_any (λ (d : StartCondition). pointwise nat_eq d.name.now c.args.name.now)) (sym c.deref.ensures.value) ∙ sym c.knows_start_condition.ensures ∙ c.if-knows_start_condition.false in
