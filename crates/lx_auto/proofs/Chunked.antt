@@ -9,16 +9,16 @@ use Rattle.lx_auto.specs.NodeViews.{nodes_view}
 use Rattle.lx_auto.specs.Marking.{flag, nulls_from}
 use Rattle.lx_auto.specs.Outlines.{AreEquivalentExpressions, one_block, chunked_cat, chunked_alt, chunked_opt, chunked_plus, outline_of_block, blocks_of, tree_of}
 use Rattle.lx_auto.specs.Passing.{HasNoEmptyPart, IsSimplified, null_list}
-use Rattle.lx_auto.specs.Chunks.{pair_node, pair_tree, single_node, single_tree, tree_step, trees_from, block_nodes, IsSingleBlockOf, IsOutlinedOf, IsGrowingChunkOf, IsChunkOf, IsPopped}
+use Rattle.lx_auto.specs.Chunks.{binary_node, binary_expression, unary_node, unary_expression, tree_step, trees_from, block_nodes, IsSingleBlockOf, IsOutlinedOf, IsGrowingChunkOf, IsChunkOf, IsPopped}
 use Rattle.lx_auto.specs.declared.chunk.GrowingChunk.{GrowingChunk}
 use Rattle.lx_auto.specs.declared.chunk.Outlined.{Outlined}
-use Rattle.lx_auto.specs.declared.chunk.Pair.{Pair}
-use Rattle.lx_auto.specs.declared.chunk.Pair.TheVariants.{Both, Either}
+use Rattle.lx_auto.specs.declared.chunk.BinaryOperator.{BinaryOperator}
+use Rattle.lx_auto.specs.declared.chunk.BinaryOperator.TheVariants.{Concatenation, Alternation}
 use Rattle.lx_auto.specs.declared.chunk.Chunk.{Chunk}
-use Rattle.lx_auto.specs.declared.chunk.Single.{Single}
-use Rattle.lx_auto.specs.declared.chunk.Single.TheVariants.{Maybe, Many}
+use Rattle.lx_auto.specs.declared.chunk.UnaryOperator.{UnaryOperator}
+use Rattle.lx_auto.specs.declared.chunk.UnaryOperator.TheVariants.{Optional, OneOrMore}
 use Rattle.lx_auto.specs.declared.chunk.SingleBlock.{SingleBlock}
-use Rattle.lx_auto.proofs.EquivalentExpressions.{equivalent_refl, equivalent_trans, equivalent_single, equivalent_pair, equivalent_assoc}
+use Rattle.lx_auto.proofs.EquivalentExpressions.{equivalent_refl, equivalent_trans, equivalent_unary, equivalent_binary, equivalent_assoc}
 use Rattle.lx_auto.proofs.PassResults.{null_length, null_last}
 use Rattle.lx_auto.proofs.RuleRead.{no_empty_nulls}
 
@@ -31,34 +31,34 @@ outlined_single_block w o s e is out blocks = record {
   blocks = blocks ∙ ap (λ l. l ∷ []) is.nodes;
 }
 
-pub outlined_single : (single : Single) (o n : Outlined) (a : Unfolded) → IsOutlinedOf o a →
-    nodes_view n.outline.items ≡ nodes_view o.outline.items ++ single_node single ∷ [] → n.blocks.items ≡ o.blocks.items → IsOutlinedOf n (single_tree single a)
-outlined_single Maybe o n a is out blocks = record {
+pub outlined_unary : (operator : UnaryOperator) (o n : Outlined) (a : Unfolded) → IsOutlinedOf o a →
+    nodes_view n.outline.items ≡ nodes_view o.outline.items ++ unary_node operator ∷ [] → n.blocks.items ≡ o.blocks.items → IsOutlinedOf n (unary_expression operator a)
+outlined_unary Optional o n a is out blocks = record {
   chunking = chunked_opt is.chunking;
-  equivalent = equivalent_single Maybe (tree_of is.chunking) a is.equivalent;
+  equivalent = equivalent_unary Optional (tree_of is.chunking) a is.equivalent;
   outline = out ∙ ap (λ l. l ++ opt_node ∷ []) is.outline;
   blocks = ap block_nodes blocks ∙ is.blocks;
 }
-outlined_single Many o n a is out blocks = record {
+outlined_unary OneOrMore o n a is out blocks = record {
   chunking = chunked_plus is.chunking;
-  equivalent = equivalent_single Many (tree_of is.chunking) a is.equivalent;
+  equivalent = equivalent_unary OneOrMore (tree_of is.chunking) a is.equivalent;
   outline = out ∙ ap (λ l. l ++ plus_node ∷ []) is.outline;
   blocks = ap block_nodes blocks ∙ is.blocks;
 }
 
-pub outlined_pair : (pair : Pair) (l r n : Outlined) (a b : Unfolded) → IsOutlinedOf l a → IsOutlinedOf r b →
-    nodes_view n.outline.items ≡ nodes_view l.outline.items ++ (nodes_view r.outline.items ++ pair_node pair (length (nodes_view r.outline.items)) ∷ []) →
-    n.blocks.items ≡ l.blocks.items ++ r.blocks.items → IsOutlinedOf n (pair_tree pair a b)
-outlined_pair Both l r n a b first second out blocks = record {
+pub outlined_binary : (operator : BinaryOperator) (l r n : Outlined) (a b : Unfolded) → IsOutlinedOf l a → IsOutlinedOf r b →
+    nodes_view n.outline.items ≡ nodes_view l.outline.items ++ (nodes_view r.outline.items ++ binary_node operator (length (nodes_view r.outline.items)) ∷ []) →
+    n.blocks.items ≡ l.blocks.items ++ r.blocks.items → IsOutlinedOf n (binary_expression operator a b)
+outlined_binary Concatenation l r n a b first second out blocks = record {
   chunking = chunked_cat first.chunking second.chunking;
-  equivalent = equivalent_pair Both (tree_of first.chunking) (tree_of second.chunking) a b first.equivalent second.equivalent;
+  equivalent = equivalent_binary Concatenation (tree_of first.chunking) (tree_of second.chunking) a b first.equivalent second.equivalent;
   outline = out ∙ ap₂ (λ x y. x ++ (y ++ cat_node (length y) ∷ [])) first.outline second.outline;
   blocks = ap block_nodes blocks ∙ map-append (λ v. nodes_view v.items) l.blocks.items r.blocks.items ∙ ap₂ (λ x y. x ++ y) first.blocks second.blocks
       ∙ sym (map-append nodes_of (blocks_of first.chunking) (blocks_of second.chunking));
 }
-outlined_pair Either l r n a b first second out blocks = record {
+outlined_binary Alternation l r n a b first second out blocks = record {
   chunking = chunked_alt first.chunking second.chunking;
-  equivalent = equivalent_pair Either (tree_of first.chunking) (tree_of second.chunking) a b first.equivalent second.equivalent;
+  equivalent = equivalent_binary Alternation (tree_of first.chunking) (tree_of second.chunking) a b first.equivalent second.equivalent;
   outline = out ∙ ap₂ (λ x y. x ++ (y ++ alt_node (length y) ∷ [])) first.outline second.outline;
   blocks = ap block_nodes blocks ∙ map-append (λ v. nodes_view v.items) l.blocks.items r.blocks.items ∙ ap₂ (λ x y. x ++ y) first.blocks second.blocks
       ∙ sym (map-append nodes_of (blocks_of first.chunking) (blocks_of second.chunking));
@@ -126,15 +126,15 @@ pub outlined_equivalent : (o : Outlined) (d e : Unfolded) → IsOutlinedOf o d �
 outlined_equivalent o d e is same = record { chunking = is.chunking; equivalent = equivalent_trans (tree_of is.chunking) d e is.equivalent same; outline = is.outline; blocks = is.blocks }
 
 -- a block put in front of a growing chunk
-pub growing_prepended : (old new : GrowingChunk) (w : SingleBlock) (a e : Unfolded) → IsGrowingChunkOf old e → IsSingleBlockOf w a → new.pair ≡ old.pair → new.rest ≡ old.rest →
-    ((b : Unfolded) → IsSingleBlockOf old.first b → IsSingleBlockOf new.first (pair_tree old.pair a b)) → IsGrowingChunkOf new (pair_tree old.pair a e)
+pub growing_prepended : (old new : GrowingChunk) (w : SingleBlock) (a e : Unfolded) → IsGrowingChunkOf old e → IsSingleBlockOf w a → new.operator ≡ old.operator → new.rest ≡ old.rest →
+    ((b : Unfolded) → IsSingleBlockOf old.first b → IsSingleBlockOf new.first (binary_expression old.operator a b)) → IsGrowingChunkOf new (binary_expression old.operator a e)
 growing_prepended old new w a e is first same rest makes = record {
-  one = pair_tree old.pair a is.one;
+  one = binary_expression old.operator a is.one;
   other = is.other;
   first = makes is.one is.first;
   rest = subst (λ o. IsOutlinedOf o is.other) (sym rest) is.rest;
-  equivalent = subst (λ p. AreEquivalentExpressions (pair_tree p (pair_tree old.pair a is.one) is.other) (pair_tree old.pair a e)) (sym same)
-      (equivalent_trans (pair_tree old.pair (pair_tree old.pair a is.one) is.other) (pair_tree old.pair a (pair_tree old.pair is.one is.other)) (pair_tree old.pair a e)
-      (equivalent_assoc old.pair a is.one is.other)
-      (equivalent_pair old.pair a (pair_tree old.pair is.one is.other) a e (equivalent_refl a) is.equivalent));
+  equivalent = subst (λ p. AreEquivalentExpressions (binary_expression p (binary_expression old.operator a is.one) is.other) (binary_expression old.operator a e)) (sym same)
+      (equivalent_trans (binary_expression old.operator (binary_expression old.operator a is.one) is.other) (binary_expression old.operator a (binary_expression old.operator is.one is.other)) (binary_expression old.operator a e)
+      (equivalent_assoc old.operator a is.one is.other)
+      (equivalent_binary old.operator a (binary_expression old.operator is.one is.other) a e (equivalent_refl a) is.equivalent));
 }

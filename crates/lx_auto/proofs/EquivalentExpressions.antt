@@ -3,11 +3,11 @@ use Rattle.std.proofs.Common.{◌≡◌, ◌+◌, Bool, true, false, ◌&&◌, �
 use Rattle.lx_auto.specs.Unfolded.{Unfolded, position_count, nullable}
 use Rattle.lx_auto.specs.Outlines.{AreEquivalentExpressions}
 use Rattle.lx_auto.specs.Passing.{ended, read_list}
-use Rattle.lx_auto.specs.Chunks.{pair_tree, single_tree}
-use Rattle.lx_auto.specs.declared.chunk.Pair.{Pair}
-use Rattle.lx_auto.specs.declared.chunk.Pair.TheVariants.{Both, Either}
-use Rattle.lx_auto.specs.declared.chunk.Single.{Single}
-use Rattle.lx_auto.specs.declared.chunk.Single.TheVariants.{Maybe, Many}
+use Rattle.lx_auto.specs.Chunks.{binary_expression, unary_expression}
+use Rattle.lx_auto.specs.declared.chunk.BinaryOperator.{BinaryOperator}
+use Rattle.lx_auto.specs.declared.chunk.BinaryOperator.TheVariants.{Concatenation, Alternation}
+use Rattle.lx_auto.specs.declared.chunk.UnaryOperator.{UnaryOperator}
+use Rattle.lx_auto.specs.declared.chunk.UnaryOperator.TheVariants.{Optional, OneOrMore}
 
 pub equivalent_refl : (e : Unfolded) → AreEquivalentExpressions e e
 equivalent_refl e = record { count = refl; null = refl; ends = λ marks p. refl; reads = λ marks f p old. refl; no_empty = λ s. s }
@@ -21,9 +21,9 @@ equivalent_trans d e h x y = record {
   no_empty = λ s. x.no_empty (y.no_empty s);
 }
 
-pub equivalent_single : (single : Single) (a b : Unfolded) → AreEquivalentExpressions a b → AreEquivalentExpressions (single_tree single a) (single_tree single b)
-equivalent_single Maybe a b x = record { count = x.count; null = refl; ends = x.ends; reads = x.reads; no_empty = x.no_empty }
-equivalent_single Many a b x = record {
+pub equivalent_unary : (operator : UnaryOperator) (a b : Unfolded) → AreEquivalentExpressions a b → AreEquivalentExpressions (unary_expression operator a) (unary_expression operator b)
+equivalent_unary Optional a b x = record { count = x.count; null = refl; ends = x.ends; reads = x.reads; no_empty = x.no_empty }
+equivalent_unary OneOrMore a b x = record {
   count = x.count;
   null = x.null;
   ends = x.ends;
@@ -31,8 +31,8 @@ equivalent_single Many a b x = record {
   no_empty = x.no_empty;
 }
 
-pub equivalent_pair : (pair : Pair) (a b c d : Unfolded) → AreEquivalentExpressions a c → AreEquivalentExpressions b d → AreEquivalentExpressions (pair_tree pair a b) (pair_tree pair c d)
-equivalent_pair Both a b c d x y = record {
+pub equivalent_binary : (operator : BinaryOperator) (a b c d : Unfolded) → AreEquivalentExpressions a c → AreEquivalentExpressions b d → AreEquivalentExpressions (binary_expression operator a b) (binary_expression operator c d)
+equivalent_binary Concatenation a b c d x y = record {
   count = ap₂ (λ m n. m + n) x.count y.count;
   null = ap₂ (λ f g. f && g) x.null y.null;
   ends = λ marks p.
@@ -48,7 +48,7 @@ equivalent_pair Both a b c d x y = record {
       ∙ y.reads marks g k old);
   no_empty = λ s. (x.no_empty s.0, y.no_empty s.1);
 }
-equivalent_pair Either a b c d x y = record {
+equivalent_binary Alternation a b c d x y = record {
   count = ap₂ (λ m n. m + n) x.count y.count;
   null = ap₂ (λ f g. f || g) x.null y.null;
   ends = λ marks p.
@@ -137,8 +137,8 @@ enters_joined false false false true false = refl
 enters_joined false false false false true = refl
 enters_joined false false false false false = refl
 
-pub equivalent_assoc : (pair : Pair) (a b c : Unfolded) → AreEquivalentExpressions (pair_tree pair (pair_tree pair a b) c) (pair_tree pair a (pair_tree pair b c))
-equivalent_assoc Both a b c = record {
+pub equivalent_assoc : (operator : BinaryOperator) (a b c : Unfolded) → AreEquivalentExpressions (binary_expression operator (binary_expression operator a b) c) (binary_expression operator a (binary_expression operator b c))
+equivalent_assoc Concatenation a b c = record {
   count = omega arith;
   null = and_joined (nullable a) (nullable b) (nullable c);
   ends = λ marks p.
@@ -154,7 +154,7 @@ equivalent_assoc Both a b c = record {
       (ap₂ (λ h n. read_list marks c h n old) (enters_joined f (nullable a) (nullable b) (ended marks a p) (ended marks b k)) at);
   no_empty = λ s. ((s.0, s.1.0), s.1.1);
 }
-equivalent_assoc Either a b c = record {
+equivalent_assoc Alternation a b c = record {
   count = omega arith;
   null = or_joined (nullable a) (nullable b) (nullable c);
   ends = λ marks p.

@@ -10,56 +10,56 @@ use Rattle.lx_auto.specs.Passing.{HasNoEmptyPart}
 use Rattle.lx_auto.specs.declared.node.Node.{Node}
 use Rattle.lx_auto.specs.declared.chunk.GrowingChunk.{GrowingChunk}
 use Rattle.lx_auto.specs.declared.chunk.Outlined.{Outlined}
-use Rattle.lx_auto.specs.declared.chunk.Pair.{Pair}
-use Rattle.lx_auto.specs.declared.chunk.Pair.TheVariants.{Both, Either}
+use Rattle.lx_auto.specs.declared.chunk.BinaryOperator.{BinaryOperator}
+use Rattle.lx_auto.specs.declared.chunk.BinaryOperator.TheVariants.{Concatenation, Alternation}
 use Rattle.lx_auto.specs.declared.chunk.Chunk.{Chunk}
 use Rattle.lx_auto.specs.declared.chunk.Chunk.TheVariants.{Small, Large, Growing}
-use Rattle.lx_auto.specs.declared.chunk.Single.{Single}
-use Rattle.lx_auto.specs.declared.chunk.Single.TheVariants.{Maybe, Many}
+use Rattle.lx_auto.specs.declared.chunk.UnaryOperator.{UnaryOperator}
+use Rattle.lx_auto.specs.declared.chunk.UnaryOperator.TheVariants.{Optional, OneOrMore}
 use Rattle.lx_auto.specs.declared.chunk.SingleBlock.{SingleBlock}
 
--- what a node makes of two expressions
-abbrev pub pair_node : Pair → ℕ → PlainNode
-pair_node Both n = cat_node n
-pair_node Either n = alt_node n
+-- the operator of a node above two expressions: its node, whether it matches the empty word, its expression
+abbrev pub binary_node : BinaryOperator → ℕ → PlainNode
+binary_node Concatenation n = cat_node n
+binary_node Alternation n = alt_node n
 
-abbrev pub pair_null : Pair → Bool → Bool → Bool
-pair_null Both f g = f && g
-pair_null Either f g = f || g
+abbrev pub binary_null : BinaryOperator → Bool → Bool → Bool
+binary_null Concatenation f g = f && g
+binary_null Alternation f g = f || g
 
-abbrev pub pair_tree : Pair → Unfolded → Unfolded → Unfolded
-pair_tree Both a b = cat a b
-pair_tree Either a b = alt a b
+abbrev pub binary_expression : BinaryOperator → Unfolded → Unfolded → Unfolded
+binary_expression Concatenation a b = cat a b
+binary_expression Alternation a b = alt a b
 
--- what a node makes of one
-abbrev pub single_node : Single → PlainNode
-single_node Maybe = opt_node
-single_node Many = plus_node
+-- of a node above one
+abbrev pub unary_node : UnaryOperator → PlainNode
+unary_node Optional = opt_node
+unary_node OneOrMore = plus_node
 
-abbrev pub single_null : Single → Bool → Bool
-single_null Maybe f = true
-single_null Many f = f
+abbrev pub unary_null : UnaryOperator → Bool → Bool
+unary_null Optional f = true
+unary_null OneOrMore f = f
 
-abbrev pub single_tree : Single → Unfolded → Unfolded
-single_tree Maybe a = opt a
-single_tree Many a = plus a
+abbrev pub unary_expression : UnaryOperator → Unfolded → Unfolded
+unary_expression Optional a = opt a
+unary_expression OneOrMore a = plus a
 
 -- On the stack stand the expressions so far, the last one first. Where there are too few, none is left.
-abbrev pub pair_step : (Unfolded → Unfolded → Unfolded) → List Unfolded → List Unfolded
-pair_step make [] = []
-pair_step make (b ∷ []) = []
-pair_step make (b ∷ a ∷ trees) = make a b ∷ trees
+abbrev pub binary_step : (Unfolded → Unfolded → Unfolded) → List Unfolded → List Unfolded
+binary_step make [] = []
+binary_step make (b ∷ []) = []
+binary_step make (b ∷ a ∷ trees) = make a b ∷ trees
 
-abbrev pub single_step : (Unfolded → Unfolded) → List Unfolded → List Unfolded
-single_step make [] = []
-single_step make (a ∷ trees) = make a ∷ trees
+abbrev pub unary_step : (Unfolded → Unfolded) → List Unfolded → List Unfolded
+unary_step make [] = []
+unary_step make (a ∷ trees) = make a ∷ trees
 
 abbrev pub tree_step : PlainNode → List Unfolded → List Unfolded
 tree_step (leaf_node s) trees = leaf s ∷ trees
-tree_step (cat_node n) trees = pair_step cat trees
-tree_step (alt_node n) trees = pair_step alt trees
-tree_step opt_node trees = single_step opt trees
-tree_step plus_node trees = single_step plus trees
+tree_step (cat_node n) trees = binary_step cat trees
+tree_step (alt_node n) trees = binary_step alt trees
+tree_step opt_node trees = unary_step opt trees
+tree_step plus_node trees = unary_step plus trees
 
 abbrev pub trees_from : List PlainNode → List Unfolded → List Unfolded
 trees_from [] trees = trees
@@ -86,7 +86,7 @@ pub record IsGrowingChunkOf (l : GrowingChunk) (e : Unfolded) : Type 0 where
   pub other : Unfolded
   pub first : IsSingleBlockOf l.first one
   pub rest : IsOutlinedOf l.rest other
-  pub equivalent : outlines.AreEquivalentExpressions (pair_tree l.pair one other) e
+  pub equivalent : outlines.AreEquivalentExpressions (binary_expression l.operator one other) e
 
 abbrev pub IsChunkOf : Chunk → Unfolded → Type 0
 IsChunkOf (Small w) e = IsSingleBlockOf w e

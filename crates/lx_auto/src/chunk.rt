@@ -3,22 +3,22 @@
 use crate::node::Node;
 use lx_ere::set::ByteSet;
 
-/// What a node makes of two expressions.
+/// The operator of a node above two expressions.
 #[derive(Clone, Copy)]
-pub(crate) enum Pair {
+pub(crate) enum BinaryOperator {
     /// One, and then the other.
-    Both,
+    Concatenation,
     /// One or the other.
-    Either,
+    Alternation,
 }
 
-/// What a node makes of one expression.
+/// The operator of a node above one expression.
 #[derive(Clone, Copy)]
-pub(crate) enum Single {
+pub(crate) enum UnaryOperator {
     /// It or the empty word.
-    Maybe,
+    Optional,
     /// One or more of it.
-    Many,
+    OneOrMore,
 }
 
 /// An expression that is one block.
@@ -44,7 +44,7 @@ pub(crate) struct Outlined<'s> {
 #[derive(Drop)]
 pub(crate) struct GrowingChunk<'s> {
     /// How the first block is joined to the rest.
-    pub(crate) pair: Pair,
+    pub(crate) operator: BinaryOperator,
     pub(crate) first: SingleBlock<'s>,
     pub(crate) rest: Outlined<'s>,
 }

@@ -6,9 +6,9 @@ ghost use Rattle.lx_auto.specs.NodeViews.{node_view, nodes_view};
 ghost use Rattle.lx_auto.specs.Outlines.{outline_of_block};
 ghost use Rattle.lx_auto.specs.Passing.{HasNoEmptyPart, IsSimplified};
 ghost use Rattle.lx_auto.specs.Chunks as plain;
-ghost use Rattle.lx_auto.specs.Chunks.{IsSingleBlockOf, IsOutlinedOf, IsGrowingChunkOf, IsChunkOf, AreChunks, IsPopped, pair_tree, single_tree, pair_step, single_step, tree_step, IsSplitOf};
+ghost use Rattle.lx_auto.specs.Chunks.{IsSingleBlockOf, IsOutlinedOf, IsGrowingChunkOf, IsChunkOf, AreChunks, IsPopped, binary_expression, unary_expression, binary_step, unary_step, tree_step, IsSplitOf};
 
-use crate::chunk::{Chunk, GrowingChunk, Outlined, Pair, Single, SingleBlock};
+use crate::chunk::{BinaryOperator, Chunk, GrowingChunk, Outlined, SingleBlock, UnaryOperator};
 use crate::marking::{flag, nulls_of};
 use crate::node::Node;
 use lx_ere::set::ByteSet;
@@ -17,39 +17,39 @@ use std::alloc::{AllocError, Global};
 /// How many nodes a block has at most.
 const BLOCK: usize = 512;
 
-fn pair_node(pair: Pair, right: usize) -> Node<'static>
-    ensures { node_view result ≡ plain.pair_node pair right }
+fn binary_node(operator: BinaryOperator, right: usize) -> Node<'static>
+    ensures { node_view result ≡ plain.binary_node operator right }
 {
-    match pair {
-        Pair::Both => Node::Cat(right),
-        Pair::Either => Node::Alt(right),
+    match operator {
+        BinaryOperator::Concatenation => Node::Cat(right),
+        BinaryOperator::Alternation => Node::Alt(right),
     }
 }
 
-fn pair_null(pair: Pair, left: bool, right: bool) -> bool
-    ensures { result ≡ plain.pair_null pair left right }
+fn binary_null(operator: BinaryOperator, left: bool, right: bool) -> bool
+    ensures { result ≡ plain.binary_null operator left right }
 {
-    match pair {
-        Pair::Both => left && right,
-        Pair::Either => left || right,
+    match operator {
+        BinaryOperator::Concatenation => left && right,
+        BinaryOperator::Alternation => left || right,
     }
 }
 
-fn single_node(single: Single) -> Node<'static>
-    ensures { node_view result ≡ plain.single_node single }
+fn unary_node(operator: UnaryOperator) -> Node<'static>
+    ensures { node_view result ≡ plain.unary_node operator }
 {
-    match single {
-        Single::Maybe => Node::Optional,
-        Single::Many => Node::Repeated,
+    match operator {
+        UnaryOperator::Optional => Node::Optional,
+        UnaryOperator::OneOrMore => Node::Repeated,
     }
 }
 
-fn single_null(single: Single, body: bool) -> bool
-    ensures { result ≡ plain.single_null single body }
+fn unary_null(operator: UnaryOperator, body: bool) -> bool
+    ensures { result ≡ plain.unary_null operator body }
 {
-    match single {
-        Single::Maybe => true,
-        Single::Many => body,
+    match operator {
+        UnaryOperator::Optional => true,
+        UnaryOperator::OneOrMore => body,
     }
 }
 
@@ -97,13 +97,13 @@ fn push_blocks<'s>(
 
 // Two expressions that are split into blocks already.
 fn join_outlined<'s>(
-    pair: Pair,
+    operator: BinaryOperator,
     mut left: Outlined<'s>,
     right: Outlined<'s>,
 ) -> Result<Outlined<'s>, AllocError>
-    ensures { (a b : Unfolded) → IsOutlinedOf left.entry a → IsOutlinedOf right.entry b → IfOk result (λ o. IsOutlinedOf o (pair_tree pair a b)) }
+    ensures { (a b : Unfolded) → IsOutlinedOf left.entry a → IsOutlinedOf right.entry b → IfOk result (λ o. IsOutlinedOf o (binary_expression operator a b)) }
 {
-    let node = pair_node(pair, right.outline.len());
+    let node = binary_node(operator, right.outline.len());
     left.outline.extend_from_slice(&right.outline)?;
     left.outline.push(node)?;
     push_blocks(&mut left.blocks, right.blocks)?;
@@ -112,16 +112,16 @@ fn join_outlined<'s>(
 
 // Two blocks that become one.
 fn join_single_blocks<'s>(
-    pair: Pair,
+    operator: BinaryOperator,
     mut left: SingleBlock<'s>,
     right: SingleBlock<'s>,
 ) -> Result<SingleBlock<'s>, AllocError>
-    ensures { (a b : Unfolded) → IsSingleBlockOf left.entry a → IsSingleBlockOf right.entry b → IfOk result (λ w. IsSingleBlockOf w (pair_tree pair a b)) }
+    ensures { (a b : Unfolded) → IsSingleBlockOf left.entry a → IsSingleBlockOf right.entry b → IfOk result (λ w. IsSingleBlockOf w (binary_expression operator a b)) }
 {
-    let node = pair_node(pair, right.nodes.len());
+    let node = binary_node(operator, right.nodes.len());
     left.nodes.extend_from_slice(&right.nodes)?;
     left.nodes.push(node)?;
-    left.nullable = pair_null(pair, left.nullable, right.nullable);
+    left.nullable = binary_null(operator, left.nullable, right.nullable);
     Ok(left)
 }
 
@@ -130,7 +130,7 @@ fn outline_growing<'s>(alloc: Global, growing: GrowingChunk<'s>) -> Result<Outli
     ensures { (e : Unfolded) → IsGrowingChunkOf growing.entry e → IfOk result (λ o. IsOutlinedOf o e) }
 {
     let first = outline_single_block(alloc, growing.first)?;
-    join_outlined(growing.pair, first, growing.rest)
+    join_outlined(growing.operator, first, growing.rest)
 }
 
 // The outline of an expression.
@@ -149,44 +149,52 @@ fn fit_together(left: &SingleBlock, right: &SingleBlock) -> bool {
     left.nodes.len().saturating_add(right.nodes.len()) < BLOCK
 }
 
-fn are_same(one: Pair, other: Pair) -> bool
+fn are_same(one: BinaryOperator, other: BinaryOperator) -> bool
     ensures { result ≡ true → one ≡ other }
 {
     match one {
-        Pair::Both => match other {
-            Pair::Both => true,
-            Pair::Either => false,
+        BinaryOperator::Concatenation => match other {
+            BinaryOperator::Concatenation => true,
+            BinaryOperator::Alternation => false,
         },
-        Pair::Either => match other {
-            Pair::Both => false,
-            Pair::Either => true,
+        BinaryOperator::Alternation => match other {
+            BinaryOperator::Concatenation => false,
+            BinaryOperator::Alternation => true,
         },
     }
 }
 
 // A block in front of an expression that is split into blocks.
-fn prepend<'s>(pair: Pair, first: SingleBlock<'s>, rest: Outlined<'s>) -> GrowingChunk<'s>
-    ensures { (a b : Unfolded) → IsSingleBlockOf first.entry a → IsOutlinedOf rest.entry b → IsGrowingChunkOf result (pair_tree pair a b) }
+fn prepend<'s>(
+    operator: BinaryOperator,
+    first: SingleBlock<'s>,
+    rest: Outlined<'s>,
+) -> GrowingChunk<'s>
+    ensures { (a b : Unfolded) → IsSingleBlockOf first.entry a → IsOutlinedOf rest.entry b → IsGrowingChunkOf result (binary_expression operator a b) }
 {
-    GrowingChunk { pair, first, rest }
+    GrowingChunk {
+        operator,
+        first,
+        rest,
+    }
 }
 
 // A block in front of an expression with a first block, with which it may become one.
 fn prepend_to_growing<'s>(
     alloc: Global,
-    pair: Pair,
+    operator: BinaryOperator,
     left: SingleBlock<'s>,
     right: GrowingChunk<'s>,
 ) -> Result<GrowingChunk<'s>, AllocError>
-    ensures { (a b : Unfolded) → IsSingleBlockOf left.entry a → IsGrowingChunkOf right.entry b → IfOk result (λ l. IsGrowingChunkOf l (pair_tree pair a b)) }
+    ensures { (a b : Unfolded) → IsSingleBlockOf left.entry a → IsGrowingChunkOf right.entry b → IfOk result (λ l. IsGrowingChunkOf l (binary_expression operator a b)) }
 {
-    if !are_same(right.pair, pair) || !fit_together(&left, &right.first) {
+    if !are_same(right.operator, operator) || !fit_together(&left, &right.first) {
         let rest = outline_growing(alloc, right)?;
-        return Ok(prepend(pair, left, rest));
+        return Ok(prepend(operator, left, rest));
     }
-    let first = join_single_blocks(right.pair, left, right.first)?;
+    let first = join_single_blocks(right.operator, left, right.first)?;
     Ok(GrowingChunk {
-        pair: right.pair,
+        operator: right.operator,
         first,
         rest: right.rest,
     })
@@ -195,24 +203,24 @@ fn prepend_to_growing<'s>(
 // A block, and another expression behind it.
 fn join_small<'s>(
     alloc: Global,
-    pair: Pair,
+    operator: BinaryOperator,
     left: SingleBlock<'s>,
     right: Chunk<'s>,
 ) -> Result<Chunk<'s>, AllocError>
-    ensures { (a b : Unfolded) → IsSingleBlockOf left.entry a → IsChunkOf right.entry b → IfOk result (λ p. IsChunkOf p (pair_tree pair a b)) }
+    ensures { (a b : Unfolded) → IsSingleBlockOf left.entry a → IsChunkOf right.entry b → IfOk result (λ p. IsChunkOf p (binary_expression operator a b)) }
 {
     match right {
         Chunk::Small(second) => {
             if fit_together(&left, &second) {
-                let joined = join_single_blocks(pair, left, second)?;
+                let joined = join_single_blocks(operator, left, second)?;
                 return Ok(Chunk::Small(joined));
             }
             let rest = outline_single_block(alloc, second)?;
-            Ok(Chunk::Growing(prepend(pair, left, rest)))
+            Ok(Chunk::Growing(prepend(operator, left, rest)))
         }
-        Chunk::Large(rest) => Ok(Chunk::Growing(prepend(pair, left, rest))),
+        Chunk::Large(rest) => Ok(Chunk::Growing(prepend(operator, left, rest))),
         Chunk::Growing(growing) => {
-            let joined = prepend_to_growing(alloc, pair, left, growing)?;
+            let joined = prepend_to_growing(alloc, operator, left, growing)?;
             Ok(Chunk::Growing(joined))
         }
     }
@@ -221,72 +229,79 @@ fn join_small<'s>(
 // Two expressions, of which the first is split into blocks.
 fn join_large<'s>(
     alloc: Global,
-    pair: Pair,
+    operator: BinaryOperator,
     left: Outlined<'s>,
     right: Chunk<'s>,
 ) -> Result<Chunk<'s>, AllocError>
-    ensures { (a b : Unfolded) → IsOutlinedOf left.entry a → IsChunkOf right.entry b → IfOk result (λ p. IsChunkOf p (pair_tree pair a b)) }
+    ensures { (a b : Unfolded) → IsOutlinedOf left.entry a → IsChunkOf right.entry b → IfOk result (λ p. IsChunkOf p (binary_expression operator a b)) }
 {
     let second = outlined(alloc, right)?;
-    let joined = join_outlined(pair, left, second)?;
+    let joined = join_outlined(operator, left, second)?;
     Ok(Chunk::Large(joined))
 }
 
 // Two expressions.
 fn join<'s>(
     alloc: Global,
-    pair: Pair,
+    operator: BinaryOperator,
     left: Chunk<'s>,
     right: Chunk<'s>,
 ) -> Result<Chunk<'s>, AllocError>
-    ensures { (a b : Unfolded) → IsChunkOf left.entry a → IsChunkOf right.entry b → IfOk result (λ p. IsChunkOf p (pair_tree pair a b)) }
+    ensures { (a b : Unfolded) → IsChunkOf left.entry a → IsChunkOf right.entry b → IfOk result (λ p. IsChunkOf p (binary_expression operator a b)) }
 {
     match left {
-        Chunk::Small(first) => join_small(alloc, pair, first, right),
-        Chunk::Large(first) => join_large(alloc, pair, first, right),
+        Chunk::Small(first) => join_small(alloc, operator, first, right),
+        Chunk::Large(first) => join_large(alloc, operator, first, right),
         Chunk::Growing(growing) => {
             let first = outline_growing(alloc, growing)?;
-            join_large(alloc, pair, first, right)
+            join_large(alloc, operator, first, right)
         }
     }
 }
 
 // A node above a block.
 fn extend_single_block<'s>(
-    single: Single,
+    operator: UnaryOperator,
     mut block: SingleBlock<'s>,
 ) -> Result<SingleBlock<'s>, AllocError>
-    ensures { (a : Unfolded) → IsSingleBlockOf block.entry a → IfOk result (λ w. IsSingleBlockOf w (single_tree single a)) }
+    ensures { (a : Unfolded) → IsSingleBlockOf block.entry a → IfOk result (λ w. IsSingleBlockOf w (unary_expression operator a)) }
 {
-    block.nodes.push(single_node(single))?;
-    block.nullable = single_null(single, block.nullable);
+    block.nodes.push(unary_node(operator))?;
+    block.nullable = unary_null(operator, block.nullable);
     Ok(block)
 }
 
 // A node above an expression that is split into blocks.
-fn extend_outlined<'s>(single: Single, mut body: Outlined<'s>) -> Result<Outlined<'s>, AllocError>
-    ensures { (a : Unfolded) → IsOutlinedOf body.entry a → IfOk result (λ o. IsOutlinedOf o (single_tree single a)) }
+fn extend_outlined<'s>(
+    operator: UnaryOperator,
+    mut body: Outlined<'s>,
+) -> Result<Outlined<'s>, AllocError>
+    ensures { (a : Unfolded) → IsOutlinedOf body.entry a → IfOk result (λ o. IsOutlinedOf o (unary_expression operator a)) }
 {
-    body.outline.push(single_node(single))?;
+    body.outline.push(unary_node(operator))?;
     Ok(body)
 }
 
 // A node above an expression.
-fn extend<'s>(alloc: Global, single: Single, body: Chunk<'s>) -> Result<Chunk<'s>, AllocError>
-    ensures { (a : Unfolded) → IsChunkOf body.entry a → IfOk result (λ p. IsChunkOf p (single_tree single a)) }
+fn extend<'s>(
+    alloc: Global,
+    operator: UnaryOperator,
+    body: Chunk<'s>,
+) -> Result<Chunk<'s>, AllocError>
+    ensures { (a : Unfolded) → IsChunkOf body.entry a → IfOk result (λ p. IsChunkOf p (unary_expression operator a)) }
 {
     match body {
         Chunk::Small(block) => {
-            let extended = extend_single_block(single, block)?;
+            let extended = extend_single_block(operator, block)?;
             Ok(Chunk::Small(extended))
         }
         Chunk::Large(outlined) => {
-            let extended = extend_outlined(single, outlined)?;
+            let extended = extend_outlined(operator, outlined)?;
             Ok(Chunk::Large(extended))
         }
         Chunk::Growing(growing) => {
             let outlined = outline_growing(alloc, growing)?;
-            let extended = extend_outlined(single, outlined)?;
+            let extended = extend_outlined(operator, outlined)?;
             Ok(Chunk::Large(extended))
         }
     }
@@ -313,8 +328,12 @@ fn pop_chunk<'s>(chunks: &mut Vec<Chunk<'s>>) -> Option<Chunk<'s>>
 }
 
 // Puts a node above the last two expressions.
-fn add_pair<'s>(alloc: Global, pair: Pair, chunks: &mut Vec<Chunk<'s>>) -> Result<(), AllocError>
-    ensures { (trees : List Unfolded) → AreChunks (reverse chunks.old.items) trees → OnOk result (AreChunks (reverse chunks.new.items) (pair_step (pair_tree pair) trees)) }
+fn add_binary<'s>(
+    alloc: Global,
+    operator: BinaryOperator,
+    chunks: &mut Vec<Chunk<'s>>,
+) -> Result<(), AllocError>
+    ensures { (trees : List Unfolded) → AreChunks (reverse chunks.old.items) trees → OnOk result (AreChunks (reverse chunks.new.items) (binary_step (binary_expression operator) trees)) }
 {
     let Some(right) = pop_chunk(chunks) else {
         return Ok(());
@@ -322,23 +341,23 @@ fn add_pair<'s>(alloc: Global, pair: Pair, chunks: &mut Vec<Chunk<'s>>) -> Resul
     let Some(left) = pop_chunk(chunks) else {
         return Ok(());
     };
-    let joined = join(alloc, pair, left, right)?;
+    let joined = join(alloc, operator, left, right)?;
     chunks.push(joined)?;
     Ok(())
 }
 
 // Puts a node above the last expression.
-fn add_single<'s>(
+fn add_unary<'s>(
     alloc: Global,
-    single: Single,
+    operator: UnaryOperator,
     chunks: &mut Vec<Chunk<'s>>,
 ) -> Result<(), AllocError>
-    ensures { (trees : List Unfolded) → AreChunks (reverse chunks.old.items) trees → OnOk result (AreChunks (reverse chunks.new.items) (single_step (single_tree single) trees)) }
+    ensures { (trees : List Unfolded) → AreChunks (reverse chunks.old.items) trees → OnOk result (AreChunks (reverse chunks.new.items) (unary_step (unary_expression operator) trees)) }
 {
     let Some(body) = pop_chunk(chunks) else {
         return Ok(());
     };
-    let extended = extend(alloc, single, body)?;
+    let extended = extend(alloc, operator, body)?;
     chunks.push(extended)?;
     Ok(())
 }
@@ -357,10 +376,10 @@ fn add_node<'s>(
             chunks.push(chunk)?;
             Ok(())
         }
-        Node::Cat(_) => add_pair(alloc, Pair::Both, chunks),
-        Node::Alt(_) => add_pair(alloc, Pair::Either, chunks),
-        Node::Optional => add_single(alloc, Single::Maybe, chunks),
-        Node::Repeated => add_single(alloc, Single::Many, chunks),
+        Node::Cat(_) => add_binary(alloc, BinaryOperator::Concatenation, chunks),
+        Node::Alt(_) => add_binary(alloc, BinaryOperator::Alternation, chunks),
+        Node::Optional => add_unary(alloc, UnaryOperator::Optional, chunks),
+        Node::Repeated => add_unary(alloc, UnaryOperator::OneOrMore, chunks),
     }
 }
 

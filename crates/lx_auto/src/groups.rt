@@ -73,7 +73,7 @@ fn find_group(leaf: &Leaf, groups: &Groups, representatives: &[u8], byte: u8) ->
 }
 
 // The new group of a byte: one that is there, or one that it begins.
-fn place(
+fn group_for(
     leaf: &Leaf,
     groups: &Groups,
     byte: u8,
@@ -103,7 +103,7 @@ fn split(alloc: Global, leaf: &Leaf, groups: &Groups) -> Result<Groups, AllocErr
     let mut classes = Vec::new(alloc);
     let mut representatives = Vec::new(alloc);
     for i in 0..256usize {
-        let class = place(leaf, groups, i as u8, &mut representatives)?;
+        let class = group_for(leaf, groups, i as u8, &mut representatives)?;
         classes.push(class as u8)?;
     }
     Ok(Groups {
