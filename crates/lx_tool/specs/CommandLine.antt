@@ -11,9 +11,15 @@ use Rattle.clap.specs.Simple.{on_top}
 use Rattle.clap.specs.ValueTests.{is_unsigned_in}
 use Rattle.clap.specs.Walk.{is_empty}
 use Rattle.clap.specs.Words.{App, IsAmong, Row, Rule, Text, all_of, fault_of, first_of, new_app, new_rule, one_of, subcommand_of, with_rule, with_subcommand}
+use Rattle.std.specs.declared.alloc.Global.{Global}
+use Rattle.std.specs.declared.string.String.{String}
 use Rattle.lx_tool.specs.declared.command_line.ListOrder.{ListOrder}
 use Rattle.lx_tool.specs.declared.command_line.Order.{Order}
 use Rattle.lx_tool.specs.declared.command_line.Order.TheVariants as order
+
+-- words, as texts
+abbrev pub words_of : List (String Global) → List Text
+words_of words = map (λ word. word.bytes.items) words
 
 -- ---- the command line, as `clap` reads it
 

@@ -2,7 +2,7 @@
 
 ghost use Rattle.std.specs.Prelude.{◌≡◌, ◌≢◌, ◌≤◌, ◌<◌, IfOk, Ok, Err, None, codes, length, map, true, is_some, option_and_then};
 ghost use Rattle.clap.specs.Words.{found_of, kind_of, rows_of, subcommand_rows_of};
-ghost use Rattle.lx_tool.specs.CommandLine.{IsFault, PlainWordsAsk, asked_as, asked_by, asked_of, files_in, items_in, order_in, plain_order, rules_in, workers_in};
+ghost use Rattle.lx_tool.specs.CommandLine.{IsFault, PlainWordsAsk, asked_as, asked_by, asked_of, files_in, items_in, order_in, plain_order, rules_in, workers_in, words_of};
 
 use super::app::command;
 use super::{ITEMS, ListOrder, Order, Refusal, ScanOrder, WORKERS};
@@ -12,11 +12,11 @@ use std::alloc::{AllocError, Global};
 
 /// What the words ask for; the first is the program's name.
 pub(crate) fn read_words(alloc: Global, words: &[String]) -> Result<Order<'_>, Refusal>
-    ensures asked { IfOk result (λ order. asked_by (map (λ word. word.bytes.items) words.now) ≡ asked_as order) }
-    ensures refused { (text : Error) → result ≡ Err (Refusal.Words text) → asked_by (map (λ word. word.bytes.items) words.now) ≡ None }
+    ensures asked { IfOk result (λ order. asked_by (words_of words.now) ≡ asked_as order) }
+    ensures refused { (text : Error) → result ≡ Err (Refusal.Words text) → asked_by (words_of words.now) ≡ None }
     // The help is one answer of `clap`, and the others refuse the words.
-    ensures help_asked { (text : Error) → result ≡ Ok (Order.Help text) → IsFault (map (λ word. word.bytes.items) words.now) ErrorKind.DisplayHelp }
-    ensures faulty { (text : Error) → result ≡ Err (Refusal.Words text) → (kind_of text ≢ ErrorKind.DisplayHelp) × IsFault (map (λ word. word.bytes.items) words.now) (kind_of text) }
+    ensures help_asked { (text : Error) → result ≡ Ok (Order.Help text) → IsFault (words_of words.now) ErrorKind.DisplayHelp }
+    ensures faulty { (text : Error) → result ≡ Err (Refusal.Words text) → (kind_of text ≢ ErrorKind.DisplayHelp) × IsFault (words_of words.now) (kind_of text) }
     ensures stored { length words.now ≤ 1 → result ≡ Ok Order.Stored }
     ensures help { (text : Error) → result ≡ Ok (Order.Help text) → kind_of text ≡ ErrorKind.DisplayHelp }
     // That memory was refused is no fault of the words.
