@@ -1,8 +1,8 @@
 -- What `pattern_end` is: the place where the pattern at the front of a text ends.
-use Rattle.std.proofs.Common.{◌≡◌, ℕ, zero, suc, ◌≤◌, ◌⊎◌, inl, inr, List, length, refl, subst, arith}
-use Rattle.lx_ere.specs.PatternGrammar.{IsPatternEnd}
+use Rattle.std.proofs.Common.{◌≡◌, ℕ, zero, suc, ◌-◌, ◌≤◌, ◌⊎◌, inl, inr, List, length, refl, subst, arith}
+use Rattle.lx_ere.specs.PatternGrammar.{BehindPattern, IsPatternEnd}
 use Rattle.lx_ere.specs.PatternEnd.{least, pattern_end}
-use Rattle.lx_ere.specs.PatternEndLaws.{some_end, ends_or_not}
+use Rattle.lx_ere.specs.PatternEndLaws.{some_end, ends_or_not, end_of, one_end}
 
 least_step : (P : ℕ → Type 0) (rest : ℕ) (first : P 0 ⊎ ¬ (P 0)) (n : ℕ) → P n → ((m : ℕ) → n ≡ suc m → P (suc rest)) → P (elim first [ inl _ ↦ 0 | inr _ ↦ suc rest ])
 least_step P rest (inl here) n holds further = here
@@ -23,3 +23,7 @@ unfolding pattern_end
 is_pattern_end text =
     let there = some_end text in
     least_holds (IsPatternEnd text) (ends_or_not text) (length text) (there.0) (let h = there.1 in h.within) (there.1)
+
+-- the place, by what stands behind the pattern
+pub pattern_end_is : (text behind : List ℕ) → BehindPattern text behind → length text - length behind ≡ pattern_end text
+pattern_end_is text behind h = one_end text (length text - length behind) (pattern_end text) (end_of text behind h) (is_pattern_end text)

@@ -124,6 +124,7 @@ fn behind_pattern(text: &[u8]) -> &[u8]
 ///
 /// A backslash takes the next byte along, a quoted string runs to its closing quote, and brackets run to their closing bracket; what is not
 /// closed runs to the end. The text may have any length.
+#[tactic(auto, using(crate::specs::PatternEndLaws::end_of, crate::proofs::LeastEnd::pattern_end_is))]
 pub fn pattern_end(text: &[u8]) -> usize
     ensures value { result ≡ pattern_end text.now }
     ensures end { IsPatternEnd text.now result }

@@ -1,5 +1,5 @@
 -- What the rules of a specification say, where nothing is wrong with them.
-use Rattle.std.specs.Prelude.{◌≡◌, ℕ, zero, suc, Bool, nat_eq, if◌then◌else◌, List, [], ◌∷◌, ◌++◌, length, map, filter, Option, Some, None, unwrap_or, Contains}
+use Rattle.std.specs.Prelude.{◌≡◌, ℕ, zero, suc, Bool, false, nat_eq, if◌then◌else◌, List, [], ◌∷◌, ◌++◌, length, map, filter, Option, Some, None, unwrap_or, Contains, slice_get}
 use Rattle.std.specs.List.{list_any, position}
 use Rattle.std.specs.Cmp.Lexicographic.{pointwise}
 use Rattle.lx_ere.specs.Regex.{Regex, Reading}
@@ -8,8 +8,8 @@ use Rattle.lx_spec.specs.Plain.{StartCondition, PlainDefinition, PlainRule, Plai
 use Rattle.lx_spec.specs.Sections.{RawDefinition, RawRule}
 use Rattle.lx_spec.specs.RuleLines.{Prefix, absent, unclosed, listed}
 use Rattle.lx_spec.specs.Actions.{Value, name, number, Statement, nothing, echo, begin, return, Action, shared, own, IsAction}
-use Rattle.lx_spec.specs.Dictionary.{row_of, mentions_of}
-use Rattle.lx_spec.specs.Graph.{IsMention}
+use Rattle.lx_spec.specs.Dictionary.{row_of, mentions_of, unreadable_marks}
+use Rattle.lx_spec.specs.Graph.{IsMention, is_marked}
 use Rattle.lx_spec.specs.Verdict.{SymbolTable, condition_number, fields_of}
 use Rattle.lx_spec.specs.declared.rule.Kind.{Kind}
 use Rattle.lx_spec.specs.declared.rule.Kind.TheVariants as kind
@@ -126,9 +126,22 @@ pub data AreReached (Reached : ℕ → Type 0) : ℕ → List RawDefinition → 
 abbrev pub patterns_in : List ResolvedRule → List Regex
 patterns_in resolved = map (λ s. s.reading.tree) resolved
 
+-- The definitions that the patterns of these rules reach, in order.
+abbrev pub AreReachedBy : List ResolvedRule → List RawDefinition → List (Option Regex) → List PlainDefinition → Type 0
+AreReachedBy resolved raw_definitions trees definitions = AreReached (IsReached raw_definitions trees (patterns_in resolved)) 0 raw_definitions trees definitions
+
+-- Each definition that they reach has a reading.
+abbrev pub AreReadable : List ResolvedRule → List RawDefinition → List (Option Regex) → Type 0
+AreReadable resolved raw_definitions trees = (i : ℕ) → IsReached raw_definitions trees (patterns_in resolved) i → is_marked (unreadable_marks trees) i ≡ false
+
+-- Where definition i stands in front of the others, what is reached from it on is there, once what is reached behind it was.
+abbrev pub PutsReached : (ℕ → Type 0) → List RawDefinition → ℕ → Option Regex → List PlainDefinition → List PlainDefinition → Type 0
+PutsReached Reached raw_definitions i tree old new = (d : RawDefinition) → slice_get raw_definitions i ≡ Some d → (more : List RawDefinition) (trees : List (Option Regex)) →
+    AreReached Reached (suc i) more trees old → AreReached Reached i (d ∷ more) (tree ∷ trees) new
+
 -- The specification that rules say which stand on these conditions and definitions.
 pub record AreSpec (table : SymbolTable) (raws : List RawRule) (resolved : List ResolvedRule) (spec : PlainSpec) : Type 0 where
   pub conditions : spec.conditions ≡ table.start_conditions
-  pub definitions : AreReached (IsReached table.definitions table.trees (patterns_in resolved)) 0 table.definitions table.trees spec.definitions
+  pub definitions : AreReachedBy resolved table.definitions table.trees spec.definitions
   pub kinds : spec.kinds ≡ kinds_of resolved
   pub rules : spec.rules ≡ rules_of table.start_conditions (kinds_of resolved) raws resolved

@@ -162,3 +162,7 @@ continued (Some place) before n rest = sections_behind before place n rest
 abbrev pub Goes : {X : Type 0} → (X → ParsedSections × Option Place) → ℕ → List (List ℕ) → Result X SpecFault → Result ParsedSections SpecFault → Type 0
 Goes view n rest (Ok x) read = read ≡ continued (view x).1 (view x).0 (n + 1) rest
 Goes view n rest (Err f) read = f ≢ out_of_memory → read ≡ Err f
+
+-- Taking line n, which stands at a place, gave what reading from there gives, whatever lines follow.
+abbrev pub TakesLine : {X : Type 0} → (X → ParsedSections × Option Place) → ParsedSections → Place → ℕ → List ℕ → Result X SpecFault → Type 0
+TakesLine view before place n line result = (rest : List (List ℕ)) → Goes view n rest result (sections_behind before place n (line ∷ rest))

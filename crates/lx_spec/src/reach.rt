@@ -1,14 +1,12 @@
 // Which definitions rules reach, and the list of them.
-ghost use Rattle.std.specs.Prelude.{◌≡◌, ℕ, suc, ◌<◌, ◌≤◌, ◌↔◌, ◌∷◌, List, Option, Some, false, map, reverse, length, IfOk, OnOk, IsTrue, Contains, vec_len, slice_get, slice_index};
+ghost use Rattle.std.specs.Prelude.{◌≡◌, ℕ, ◌<◌, ◌≤◌, ◌↔◌, false, map, reverse, length, IfOk, OnOk, IsTrue, Contains, vec_len, slice_index};
 ghost use Rattle.std.specs.List.{flat_map};
-ghost use Rattle.lx_ere.specs.Regex.{Regex};
 ghost use Rattle.lx_spec.specs.Dictionary.{row_of, mention_of, is_unreadable, unreadable_marks};
 ghost use Rattle.lx_spec.specs.views.Dictionaries.{dictionary_view, IsDictionary};
 ghost use Rattle.lx_spec.specs.Graph.{is_marked};
-ghost use Rattle.lx_spec.specs.Outcome.{IsReached, AreReached, patterns_in};
+ghost use Rattle.lx_spec.specs.Outcome.{IsReached, AreReached, AreReachedBy, AreReadable, PutsReached, patterns_in};
 ghost use Rattle.lx_spec.specs.views.Rules.{definition_view};
 ghost use Rattle.lx_spec.specs.views.ResolvedRules.{resolved_view};
-ghost use Rattle.lx_spec.specs.Sections as plain;
 ghost use Rattle.lx_spec.specs.views.Sections.{raw_definition_view};
 ghost use Rattle.lx_spec.specs.views.Trees.{tree_view, trees_view};
 
@@ -72,7 +70,8 @@ fn reached_of(
 ) -> Result<Vec<bool>, AllocError>
     requires { IsDictionary (map raw_definition_view index.now.definitions.now) (dictionary_view dictionary.now) }
     ensures len { IfOk result (λ marks. vec_len marks ≡ length index.now.definitions.now) }
-    ensures reached { IfOk result (λ marks. (i : ℕ) → IsTrue (is_marked marks.items i) ↔ IsReached (map raw_definition_view index.now.definitions.now) (trees_view dictionary.now.trees.items) (patterns_in (map resolved_view resolved.now)) i) }
+    ensures reached { IfOk result (λ marks. (i : ℕ) →
+        IsTrue (is_marked marks.items i) ↔ IsReached (map raw_definition_view index.now.definitions.now) (trees_view dictionary.now.trees.items) (patterns_in (map resolved_view resolved.now)) i) }
 {
     let row = row_of_all(alloc, index, resolved)?;
     let turned = turned(alloc, &dictionary.mentions)?;
@@ -92,9 +91,8 @@ fn push_marked(
     requires raw_definitions { i < length raw_definitions.now }
     requires marks { i < length marks.now }
     requires readable { IsTrue (is_marked marks.now i) → is_unreadable (tree_view tree) ≡ false }
-    ensures { OnOk result ((d : plain.RawDefinition) → slice_get (map raw_definition_view raw_definitions.now) i ≡ Some d → (more : List plain.RawDefinition) (trees : List (Option Regex)) →
-        AreReached (λ j. IsTrue (is_marked marks.now j)) (suc i) more trees (map definition_view (reverse backwards.old.items)) →
-        AreReached (λ j. IsTrue (is_marked marks.now j)) i (d ∷ more) (tree_view tree ∷ trees) (map definition_view (reverse backwards.new.items))) }
+    ensures { OnOk result (PutsReached (λ j. IsTrue (is_marked marks.now j)) (map raw_definition_view raw_definitions.now) i (tree_view tree)
+        (map definition_view (reverse backwards.old.items)) (map definition_view (reverse backwards.new.items))) }
 {
     if marks[i] {
         if let Some(expr) = tree {
@@ -141,8 +139,8 @@ pub(crate) fn definitions_of(
     resolved: &[ResolvedRule],
 ) -> Result<Vec<Definition>, AllocError>
     requires dictionary { IsDictionary (map raw_definition_view index.now.definitions.now) (dictionary_view dictionary) }
-    requires readable { (i : ℕ) → IsReached (map raw_definition_view index.now.definitions.now) (trees_view dictionary.trees.items) (patterns_in (map resolved_view resolved.now)) i → is_marked (unreadable_marks (trees_view dictionary.trees.items)) i ≡ false }
-    ensures definitions { IfOk result (λ v. AreReached (IsReached (map raw_definition_view index.now.definitions.now) (trees_view dictionary.trees.items) (patterns_in (map resolved_view resolved.now))) 0 (map raw_definition_view index.now.definitions.now) (trees_view dictionary.trees.items) (map definition_view v.items)) }
+    requires readable { AreReadable (map resolved_view resolved.now) (map raw_definition_view index.now.definitions.now) (trees_view dictionary.trees.items) }
+    ensures definitions { IfOk result (λ v. AreReachedBy (map resolved_view resolved.now) (map raw_definition_view index.now.definitions.now) (trees_view dictionary.trees.items) (map definition_view v.items)) }
     ensures few { IfOk result (λ v. vec_len v ≤ length index.now.definitions.now) }
 {
     let marks = reached_of(alloc, index, &dictionary, resolved)?;

@@ -1,17 +1,16 @@
 // The sections: what they say, or their first fault.
-ghost use Rattle.std.specs.Prelude.{◌≡◌, ◌+◌, ◌<◌, ◌≤◌, ◌∷◌, List, ℕ, length, nat_eq, IfOk, IfErr, Err, []};
+ghost use Rattle.std.specs.Prelude.{◌≡◌, ◌+◌, ◌<◌, ◌≤◌, List, ℕ, length, nat_eq, IfOk, IfErr, Err, []};
 ghost use Rattle.std.specs.List.{list_any};
-ghost use Rattle.std.specs.Option.{option_map};
 ghost use Rattle.std.specs.Cmp.Lexicographic.{pointwise};
 ghost use Rattle.lx_spec.specs.Blocks as blocks;
 ghost use Rattle.lx_spec.specs.Bytes.{words_of};
 ghost use Rattle.lx_spec.specs.Faults.{out_of_memory};
 ghost use Rattle.lx_spec.specs.Limits.{max_specification_bytes};
 ghost use Rattle.lx_spec.specs.Sections as plain;
-ghost use Rattle.lx_spec.specs.Sections.{Gives, Goes};
+ghost use Rattle.lx_spec.specs.Sections.{Gives, Goes, TakesLine};
 ghost use Rattle.lx_spec.specs.views.Sections.{raw_rule_view, sections_view};
 ghost use Rattle.lx_spec.specs.views.RuleLines.{prefix_view};
-ghost use Rattle.lx_spec.specs.views.Places.{place_view};
+ghost use Rattle.lx_spec.specs.views.Places.{place_view, taken_view};
 
 use crate::block::{Count, Mode, is_closed, with_line};
 use crate::bytes::{begins_with, has_pair};
@@ -160,7 +159,7 @@ fn take_definition<'a>(
     number: u32,
     line: &'a [u8],
 ) -> Result<(ParsedSections<'a>, Option<Place<'a>>), SpecFault>
-    ensures { (rest : List (List ℕ)) → Goes (λ d. (sections_view d.0, option_map place_view d.1)) number rest result (plain.sections_behind (sections_view sections.entry) plain.definitions number (line.now ∷ rest)) }
+    ensures { TakesLine taken_view (sections_view sections.entry) plain.definitions number line.now result }
 {
     match line_of(line) {
         Line::Skipped => Ok((sections, Some(Place::Definitions))),
@@ -187,7 +186,8 @@ fn continue_rule<'a>(
     sections: ParsedSections<'a>,
     begun: OpenRule<'a>,
 ) -> Result<(ParsedSections<'a>, Option<Place<'a>>), SpecFault>
-    ensures { (number : ℕ) (rest : List (List ℕ)) → Goes (λ d. (sections_view d.0, option_map place_view d.1)) number rest result (plain.with_entries (sections_view sections.entry) (plain.entries_behind (raw_rule_view begun.entry.rule) begun.entry.count (number + 1) rest)) }
+    ensures { (number : ℕ) (rest : List (List ℕ)) → Goes taken_view number rest result
+        (plain.with_entries (sections_view sections.entry) (plain.entries_behind (raw_rule_view begun.entry.rule) begun.entry.count (number + 1) rest)) }
 {
     if is_closed(begun.count) {
         let OpenRule { rule, .. } = begun;
@@ -252,7 +252,7 @@ fn take_rule<'a>(
     line: &'a [u8],
 ) -> Result<(ParsedSections<'a>, Option<Place<'a>>), SpecFault>
     requires { 0 < number }
-    ensures { (rest : List (List ℕ)) → Goes (λ d. (sections_view d.0, option_map place_view d.1)) number rest result (plain.sections_behind (sections_view sections.entry) plain.rules number (line.now ∷ rest)) }
+    ensures { TakesLine taken_view (sections_view sections.entry) plain.rules number line.now result }
 {
     match rule_line_of(line) {
         RuleLine::Skipped => Ok((sections, Some(Place::Rules))),
@@ -278,7 +278,7 @@ fn take_line<'a>(
     line: &'a [u8],
 ) -> Result<(ParsedSections<'a>, Option<Place<'a>>), SpecFault>
     requires { 0 < number }
-    ensures { (rest : List (List ℕ)) → Goes (λ d. (sections_view d.0, option_map place_view d.1)) number rest result (plain.sections_behind (sections_view sections.entry) (place_view place.entry) number (line.now ∷ rest)) }
+    ensures { TakesLine taken_view (sections_view sections.entry) (place_view place.entry) number line.now result }
 {
     match place {
         Place::Definitions => take_definition(sections, number, line),

@@ -11,11 +11,17 @@ use Rattle.clap.specs.Simple.{on_top}
 use Rattle.clap.specs.ValueTests.{is_unsigned_in}
 use Rattle.clap.specs.Walk.{is_empty}
 use Rattle.clap.specs.Words.{App, IsAmong, Row, Rule, Text, all_of, fault_of, first_of, new_app, new_rule, one_of, subcommand_of, with_rule, with_subcommand}
+use Rattle.std.specs.declared.alloc.Global.{Global}
+use Rattle.std.specs.declared.string.String.{String}
 use Rattle.lx_piece.specs.Plans.{max_items}
 use Rattle.lx_post.specs.Claimed.{max_workers}
 use Rattle.lx_tool.specs.declared.command_line.ListRequest.{ListRequest}
 use Rattle.lx_tool.specs.declared.command_line.Request.{Request}
 use Rattle.lx_tool.specs.declared.command_line.Request.TheVariants as request
+
+-- words, as texts
+abbrev pub words_of : List (String Global) → List Text
+words_of words = map (λ word. word.bytes.items) words
 
 -- ---- the command line, as `clap` reads it
 

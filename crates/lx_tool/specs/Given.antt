@@ -28,6 +28,11 @@ pub record ArePartlyListed {S : Type 0} (gives : S → List ℕ → PlainInput �
   pub bytes : AreBytes inputs
   pub listed : ListsPrefix inputs
 
+-- The sources gave inputs for these names, in this order, whose listing, as `Lists` says, is what was written; `cut` names those that were cut short.
+abbrev pub ListsGiven : {S : Type 0} → (S → List ℕ → PlainInput → S → Type 0) → (List PlainInput → Option (List ℕ) → Option (List ℕ) → Type 0) → List (List ℕ) → S → S →
+    Option (List ℕ) → Option (List ℕ) → List (List ℕ) → Type 0
+ListsGiven gives Lists names before after old new cut = AreListed gives (λ inputs. Lists inputs old new) names before after cut
+
 -- one of the files with these names can't be opened, or memory was refused
 abbrev pub IsUnread : List (List ℕ) → Failure → Type 0
 IsUnread names (Specification fault) = ⊥
@@ -66,3 +71,9 @@ FailsListing Refused Part names before after old new TooManyFiles = ⊥
 FailsListing Refused Part names before after old new (NotRead name) = Contains names name.now × Keeps old new
 FailsListing Refused Part names before after old new Output = Part
 FailsListing Refused Part names before after old new Memory = Keeps old new ⊎ Part
+
+-- That listing failed: the part that was written, if any, is as `ListsPrefix` says.
+abbrev pub FailsGiven : {S : Type 0} → (S → List ℕ → PlainInput → S → Type 0) → (Failure → Type 0) → (List PlainInput → Option (List ℕ) → Option (List ℕ) → Type 0) → List (List ℕ) → S → S →
+    Option (List ℕ) → Option (List ℕ) → Failure → Type 0
+FailsGiven gives Refused ListsPrefix names before after old new failure =
+    FailsListing Refused (ArePartlyListed gives (λ inputs. ListsPrefix inputs old new) names before after) names before after old new failure

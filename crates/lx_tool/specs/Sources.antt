@@ -5,6 +5,10 @@ use Rattle.std.specs.Io.KnownBytes.{Consumes}
 use Rattle.std.specs.Str.{bytes_eq}
 use Rattle.lx_piece.specs.Plans.{PlainInput}
 
+-- names, as texts
+abbrev pub texts_of : List (Bor (List ℕ)) → List (List ℕ)
+texts_of names = map (λ name. name.now) names
+
 -- a file that was read to its end
 abbrev pub whole : List ℕ → PlainInput
 whole bytes = record { bytes = bytes; cut = false }

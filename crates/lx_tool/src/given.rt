@@ -3,9 +3,9 @@
 ghost use Rattle.std.specs.Prelude.{◌≡◌, ◌<◌, ◌≤◌, [], ◌∷◌, All, IfOk, IfErr, length, map, vec_len};
 ghost use Rattle.lx_piece.specs.Plans.{input_view, max_files, max_items};
 ghost use Rattle.lx_post.specs.Claimed.{max_workers};
-ghost use Rattle.lx_tool.specs.Given.{AreListed, ArePartlyListed, AreRead, FailsListing, IsNoTable, IsUnread};
+ghost use Rattle.lx_tool.specs.Given.{AreRead, FailsGiven, IsNoTable, IsUnread, ListsGiven};
 ghost use Rattle.lx_tool.specs.Planning.{AreBytes, ListsBy, ListsPrefixBy, ListsByRules, ListsPrefixByRules, ListsByText, ListsPrefixByText};
-ghost use Rattle.lx_tool.specs.Sources.{AreGiven, cut_names, whole};
+ghost use Rattle.lx_tool.specs.Sources.{AreGiven, cut_names, texts_of, whole};
 ghost use Rattle.lx_tool.specs.Tabling.{HasNoTables};
 
 use crate::failure::Failure;
@@ -68,10 +68,10 @@ fn read_files<'a, S: Sources>(
     sources: &mut S,
     names: &[&'a str],
 ) -> Result<Vec<Input>, Failure<'a>>
-    ensures ok { IfOk result (λ files. AreGiven S.gives sources.old (map (λ name. name.now) names.now) (map input_view files.items) sources.new) }
+    ensures ok { IfOk result (λ files. AreGiven S.gives sources.old (texts_of names.now) (map input_view files.items) sources.new) }
     ensures bytes { IfOk result (λ files. AreBytes (map input_view files.items)) }
     ensures len { IfOk result (λ files. vec_len files ≡ length names.now) }
-    ensures err { IfErr result (λ failure. IsUnread (map (λ name. name.now) names.now) failure) }
+    ensures err { IfErr result (λ failure. IsUnread (texts_of names.now) failure) }
 {
     let mut files = Vec::new(alloc);
     for name in names {
@@ -87,7 +87,7 @@ fn names_of_cut<'a>(
     files: &[Input],
 ) -> Result<Vec<&'a str>, AllocError>
     requires { length files.now ≡ length names.now }
-    ensures { IfOk result (λ cut. map (λ name. name.now) cut.items ≡ cut_names (map (λ name. name.now) names.now) (map input_view files.now)) }
+    ensures { IfOk result (λ cut. texts_of cut.items ≡ cut_names (texts_of names.now) (map input_view files.now)) }
 {
     let mut cut = Vec::new(alloc);
     for i in 0..files.len() {
@@ -112,9 +112,9 @@ fn read_given<'a, S: Sources>(
     sources: &mut S,
     names: &[&'a str],
 ) -> Result<Given<'a>, Failure<'a>>
-    ensures ok { IfOk result (λ given. AreRead S.gives (map (λ name. name.now) names.now) sources.old sources.new (map input_view given.files.items) (map (λ name. name.now) given.cut.items)) }
+    ensures ok { IfOk result (λ given. AreRead S.gives (texts_of names.now) sources.old sources.new (map input_view given.files.items) (texts_of given.cut.items)) }
     ensures len { IfOk result (λ given. vec_len given.files ≡ length names.now) }
-    ensures err { IfErr result (λ failure. IsUnread (map (λ name. name.now) names.now) failure) }
+    ensures err { IfErr result (λ failure. IsUnread (texts_of names.now) failure) }
 {
     let files = read_files(alloc, sources, names)?;
     let cut = names_of_cut(alloc, names, &files)?;
@@ -133,10 +133,8 @@ fn list_given<'a, S: Sources, W: Write>(
     requires few_files { length names.now ≤ max_files }
     requires some_items { 0 < per_piece }
     requires few_items { per_piece ≤ max_items }
-    ensures ok { IfOk result (λ cut. AreListed S.gives (λ inputs. ListsBy tables inputs (W.contents out.old) (W.contents out.new))
-        (map (λ name. name.now) names.now) sources.old sources.new (map (λ name. name.now) cut.items)) }
-    ensures err { IfErr result (λ failure. FailsListing (λ _. ⊥) (ArePartlyListed S.gives (λ inputs. ListsPrefixBy tables inputs (W.contents out.old) (W.contents out.new))
-        (map (λ name. name.now) names.now) sources.old sources.new) (map (λ name. name.now) names.now) sources.old sources.new (W.contents out.old) (W.contents out.new) failure) }
+    ensures ok { IfOk result (λ cut. ListsGiven S.gives (ListsBy tables) (texts_of names.now) sources.old sources.new (W.contents out.old) (W.contents out.new) (texts_of cut.items)) }
+    ensures err { IfErr result (FailsGiven S.gives (λ _. ⊥) (ListsPrefixBy tables) (texts_of names.now) sources.old sources.new (W.contents out.old) (W.contents out.new)) }
 {
     let given = read_given(alloc, sources, names)?;
     if given.files.is_empty() {
@@ -162,10 +160,8 @@ fn scan_given<'a, T: Threads + Wait + Sync, S: Sources, W: Write>(
     requires few_items { per_piece ≤ max_items }
     requires some_workers { 0 < workers }
     requires few_workers { workers ≤ max_workers }
-    ensures ok { IfOk result (λ cut. AreListed S.gives (λ inputs. ListsBy tables inputs (W.contents out.old) (W.contents out.new))
-        (map (λ name. name.now) names.now) sources.old sources.new (map (λ name. name.now) cut.items)) }
-    ensures err { IfErr result (λ failure. FailsListing (λ _. ⊥) (ArePartlyListed S.gives (λ inputs. ListsPrefixBy tables inputs (W.contents out.old) (W.contents out.new))
-        (map (λ name. name.now) names.now) sources.old sources.new) (map (λ name. name.now) names.now) sources.old sources.new (W.contents out.old) (W.contents out.new) failure) }
+    ensures ok { IfOk result (λ cut. ListsGiven S.gives (ListsBy tables) (texts_of names.now) sources.old sources.new (W.contents out.old) (W.contents out.new) (texts_of cut.items)) }
+    ensures err { IfErr result (FailsGiven S.gives (λ _. ⊥) (ListsPrefixBy tables) (texts_of names.now) sources.old sources.new (W.contents out.old) (W.contents out.new)) }
 {
     let given = read_given(alloc, sources, names)?;
     if given.files.is_empty() {
@@ -188,11 +184,8 @@ pub fn list_by_specification<'a, S: Sources, W: Write>(
     requires few_files { length names.now ≤ max_files }
     requires some_items { 0 < per_piece }
     requires few_items { per_piece ≤ max_items }
-    ensures ok { IfOk result (λ cut. AreListed S.gives (λ inputs. ListsByRules text.now inputs (W.contents out.old) (W.contents out.new))
-        (map (λ name. name.now) names.now) sources.old sources.new (map (λ name. name.now) cut.items)) }
-    ensures err { IfErr result (λ failure. FailsListing (HasNoTables text.now)
-        (ArePartlyListed S.gives (λ inputs. ListsPrefixByRules text.now inputs (W.contents out.old) (W.contents out.new)) (map (λ name. name.now) names.now) sources.old sources.new)
-        (map (λ name. name.now) names.now) sources.old sources.new (W.contents out.old) (W.contents out.new) failure) }
+    ensures ok { IfOk result (λ cut. ListsGiven S.gives (ListsByRules text.now) (texts_of names.now) sources.old sources.new (W.contents out.old) (W.contents out.new) (texts_of cut.items)) }
+    ensures err { IfErr result (FailsGiven S.gives (HasNoTables text.now) (ListsPrefixByRules text.now) (texts_of names.now) sources.old sources.new (W.contents out.old) (W.contents out.new)) }
 {
     items_are_by_rules();
     let tables = tables_of_text(alloc, text)?;
@@ -219,11 +212,8 @@ pub fn list_by_tables<'a, T: Threads + Wait + Sync, S: Sources, W: Write>(
     requires few_items { per_piece ≤ max_items }
     requires some_workers { 0 < workers }
     requires few_workers { workers ≤ max_workers }
-    ensures ok { IfOk result (λ cut. AreListed S.gives (λ inputs. ListsByText text.now inputs (W.contents out.old) (W.contents out.new))
-        (map (λ name. name.now) names.now) sources.old sources.new (map (λ name. name.now) cut.items)) }
-    ensures err { IfErr result (λ failure. FailsListing (IsNoTable text.now)
-        (ArePartlyListed S.gives (λ inputs. ListsPrefixByText text.now inputs (W.contents out.old) (W.contents out.new)) (map (λ name. name.now) names.now) sources.old sources.new)
-        (map (λ name. name.now) names.now) sources.old sources.new (W.contents out.old) (W.contents out.new) failure) }
+    ensures ok { IfOk result (λ cut. ListsGiven S.gives (ListsByText text.now) (texts_of names.now) sources.old sources.new (W.contents out.old) (W.contents out.new) (texts_of cut.items)) }
+    ensures err { IfErr result (FailsGiven S.gives (IsNoTable text.now) (ListsPrefixByText text.now) (texts_of names.now) sources.old sources.new (W.contents out.old) (W.contents out.new)) }
 {
     let tables = Tables::read(alloc, text)?;
     // its contract says what holds of all tables

@@ -1,11 +1,11 @@
 //! The program `lx`, but for the real files and streams.
 
-ghost use Rattle.std.specs.Prelude.{◌≡◌, ◌<◌, ◌≤◌, [], ◌∷◌, Some, IfOk, IfErr, OnOk, IfSome, length, map};
+ghost use Rattle.std.specs.Prelude.{◌≡◌, ◌<◌, ◌≤◌, [], ◌∷◌, Some, IfOk, IfErr, OnOk, IfSome, length};
 ghost use Rattle.std.specs.Io.KnownBytes.{Keeps};
-ghost use Rattle.lx_tool.specs.CommandLine.{asked_as, asked_by, plain_order, run as run-asked, scan as scan-asked, gen as gen-asked, up as up-asked};
+ghost use Rattle.lx_tool.specs.CommandLine.{asked_as, asked_by, plain_order, run as run-asked, scan as scan-asked, gen as gen-asked, up as up-asked, words_of};
 ghost use Rattle.lx_tool.specs.Commands.{HasDone, HasEnded, HasFailed, HasObeyed, stored_specification, stored_text};
 ghost use Rattle.lx_tool.specs.Planning.{ListsByRules};
-ghost use Rattle.lx_tool.specs.Sources.{whole};
+ghost use Rattle.lx_tool.specs.Sources.{texts_of, whole};
 ghost use Rattle.lx_tool.specs.Statuses.{status_of};
 ghost use Rattle.lx_tool.specs.Tabling.{HasNoTables};
 
@@ -44,10 +44,10 @@ pub fn run<R: Threads + Wait + Sync, S: Sources, O: Write, E: Write>(
 ) -> u8
     ensures known { result ≤ 5 }
     ensures done { result ≡ 0 →
-        IfSome (asked_by (map (λ word. word.bytes.items) words.now)) (HasDone S.gives sources.old sources.new (O.contents out.old) (O.contents out.new) []) }
+        IfSome (asked_by (words_of words.now)) (HasDone S.gives sources.old sources.new (O.contents out.old) (O.contents out.new) []) }
     // All was listed and a file was cut short; or the words, the specification, the tables or a file were refused, and nothing was written.
     ensures ended { 0 < result → result < 4 →
-        HasEnded S.gives (asked_by (map (λ word. word.bytes.items) words.now)) sources.old sources.new (O.contents out.old) (O.contents out.new) result }
+        HasEnded S.gives (asked_by (words_of words.now)) sources.old sources.new (O.contents out.old) (O.contents out.new) result }
 {
     match execute(rt, alloc, words, sources, out) {
         Ok(cut) => tell_cut(&cut, err),
@@ -81,9 +81,8 @@ fn execute<'a, R: Threads + Wait + Sync, S: Sources, O: Write>(
     sources: &mut S,
     out: &mut O,
 ) -> Result<Vec<&'a str>, Failure<'a>>
-    ensures ok { IfOk result (λ cut.
-        HasObeyed S.gives sources.old sources.new (O.contents out.old) (O.contents out.new) (map (λ name. name.now) cut.items) (asked_by (map (λ word. word.bytes.items) words.now))) }
-    ensures err { IfErr result (HasFailed S.gives (asked_by (map (λ word. word.bytes.items) words.now)) sources.old (O.contents out.old) (O.contents out.new)) }
+    ensures ok { IfOk result (λ cut. HasObeyed S.gives sources.old sources.new (O.contents out.old) (O.contents out.new) (texts_of cut.items) (asked_by (words_of words.now))) }
+    ensures err { IfErr result (HasFailed S.gives (asked_by (words_of words.now)) sources.old (O.contents out.old) (O.contents out.new)) }
 {
     let cut = match read_words(alloc, words) {
         Ok(order) => carry_out(rt, alloc, order, sources, out)?,
@@ -102,8 +101,7 @@ fn carry_out<'a, R: Threads + Wait + Sync, S: Sources, O: Write>(
     sources: &mut S,
     out: &mut O,
 ) -> Result<Vec<&'a str>, Failure<'a>>
-    ensures ok { IfOk result (λ cut.
-        HasObeyed S.gives sources.old sources.new (O.contents out.old) (O.contents out.new) (map (λ name. name.now) cut.items) (asked_as order.entry)) }
+    ensures ok { IfOk result (λ cut. HasObeyed S.gives sources.old sources.new (O.contents out.old) (O.contents out.new) (texts_of cut.items) (asked_as order.entry)) }
     ensures err { IfErr result (HasFailed S.gives (asked_as order.entry) sources.old (O.contents out.old) (O.contents out.new)) }
 {
     match order {
@@ -149,8 +147,7 @@ fn list_by_rules_of<'a, S: Sources, O: Write>(
     sources: &mut S,
     out: &mut O,
 ) -> Result<Vec<&'a str>, Failure<'a>>
-    ensures ok { IfOk result (λ cut.
-        HasDone S.gives sources.old sources.new (O.contents out.old) (O.contents out.new) (map (λ name. name.now) cut.items) (run-asked (plain_order order.now))) }
+    ensures ok { IfOk result (λ cut. HasDone S.gives sources.old sources.new (O.contents out.old) (O.contents out.new) (texts_of cut.items) (run-asked (plain_order order.now))) }
     ensures err { IfErr result (HasFailed S.gives (Some (run-asked (plain_order order.now))) sources.old (O.contents out.old) (O.contents out.new)) }
 {
     if order.files.len() > MAX_FILES {
@@ -168,8 +165,7 @@ fn list_by_tables_of<'a, R: Threads + Wait + Sync, S: Sources, O: Write>(
     sources: &mut S,
     out: &mut O,
 ) -> Result<Vec<&'a str>, Failure<'a>>
-    ensures ok { IfOk result (λ cut.
-        HasDone S.gives sources.old sources.new (O.contents out.old) (O.contents out.new) (map (λ name. name.now) cut.items) (scan-asked order.now.workers (plain_order order.now.list))) }
+    ensures ok { IfOk result (λ cut. HasDone S.gives sources.old sources.new (O.contents out.old) (O.contents out.new) (texts_of cut.items) (scan-asked order.now.workers (plain_order order.now.list))) }
     ensures err { IfErr result (HasFailed S.gives (Some (scan-asked order.now.workers (plain_order order.now.list))) sources.old (O.contents out.old) (O.contents out.new)) }
 {
     let list = &order.list;

@@ -4,7 +4,7 @@ ghost use Rattle.std.specs.Prelude.{◌≡◌, ◌≢◌, ◌≤◌, ◌<◌, If
 ghost use Rattle.clap.specs.Words.{found_of, kind_of, rows_of, subcommand_rows_of};
 ghost use Rattle.lx_piece.specs.Plans.{max_items};
 ghost use Rattle.lx_post.specs.Claimed.{max_workers};
-ghost use Rattle.lx_tool.specs.CommandLine.{IsFault, PlainWordsAsk, asked_as, asked_by, asked_of, files_in, items_in, request_in, plain_order, rules_in, workers_in};
+ghost use Rattle.lx_tool.specs.CommandLine.{IsFault, PlainWordsAsk, asked_as, asked_by, asked_of, files_in, items_in, request_in, plain_order, rules_in, workers_in, words_of};
 
 use super::app::command;
 use super::{ITEMS, ListRequest, Refusal, Request, ScanRequest, WORKERS};
@@ -16,11 +16,11 @@ use std::alloc::{AllocError, Global};
 
 /// What the words ask for; the first is the program's name.
 pub(crate) fn read_words(alloc: Global, words: &[String]) -> Result<Request<'_>, Refusal>
-    ensures asked { IfOk result (λ request. asked_by (map (λ word. word.bytes.items) words.now) ≡ asked_as request) }
-    ensures refused { (text : Error) → result ≡ Err (Refusal.Words text) → asked_by (map (λ word. word.bytes.items) words.now) ≡ None }
+    ensures asked { IfOk result (λ request. asked_by (words_of words.now) ≡ asked_as request) }
+    ensures refused { (text : Error) → result ≡ Err (Refusal.Words text) → asked_by (words_of words.now) ≡ None }
     // The help is one answer of `clap`, and the others refuse the words.
-    ensures help_asked { (text : Error) → result ≡ Ok (Request.Help text) → IsFault (map (λ word. word.bytes.items) words.now) ErrorKind.DisplayHelp }
-    ensures faulty { (text : Error) → result ≡ Err (Refusal.Words text) → (kind_of text ≢ ErrorKind.DisplayHelp) × IsFault (map (λ word. word.bytes.items) words.now) (kind_of text) }
+    ensures help_asked { (text : Error) → result ≡ Ok (Request.Help text) → IsFault (words_of words.now) ErrorKind.DisplayHelp }
+    ensures faulty { (text : Error) → result ≡ Err (Refusal.Words text) → (kind_of text ≢ ErrorKind.DisplayHelp) × IsFault (words_of words.now) (kind_of text) }
     ensures stored { length words.now ≤ 1 → result ≡ Ok Request.Stored }
     ensures help { (text : Error) → result ≡ Ok (Request.Help text) → kind_of text ≡ ErrorKind.DisplayHelp }
     // That memory was refused is no fault of the words.
