@@ -3,7 +3,7 @@
 ghost use Rattle.std.specs.Prelude.{◌≡◌, ◌<◌, ◌≤◌, IfOk, length};
 ghost use Rattle.lx_piece.specs.Cutting.{IsCutterOf};
 
-use crate::rows::{TWO_WORDS, plan_of};
+use crate::rows::{FILE_OF_TWO_WORDS, plan_of};
 use crate::stop::{Stop, refuse_from_here};
 use lx_fixtures::{NO_RULES, THREE_RULES};
 use lx_piece::{Collector, Cutter, Items, Mark, Piece, Plan, Refused, Why};
@@ -57,7 +57,7 @@ pub(crate) fn cuts(rt: &impl Print, alloc: Global) -> Result<(), Stop> {
     let full = echo_plan(alloc, 256)?;
     let one_more = echo_plan(alloc, 257)?;
     let two = echo_plan(alloc, 512)?;
-    let words = plan_of(alloc, THREE_RULES, TWO_WORDS, 1)?;
+    let words = plan_of(alloc, THREE_RULES, FILE_OF_TWO_WORDS, 1)?;
     print_first_pieces(rt, alloc, &full)?;
     print_first_pieces(rt, alloc, &one_more)?;
     print_first_pieces(rt, alloc, &two)?;

@@ -1,6 +1,6 @@
 //! Listings.
 
-use crate::rows::{TWO_WORDS, plan_of};
+use crate::rows::{FILE_OF_TWO_WORDS, plan_of};
 use crate::stop::{Stop, refuse_from_here};
 use lx_fixtures::{THREE_RULES, take_first};
 use lx_piece::{Plan, Reader, ReaderFault};
@@ -29,7 +29,7 @@ pub(crate) fn print_part(rt: &impl Print, written: &[u8]) -> io::Result<()> {
 
 /// `print_listing` of two words by the three rules.
 pub(crate) fn prints_listing(rt: &impl Print, alloc: Global) -> Result<(), Stop> {
-    let plan = plan_of(alloc, THREE_RULES, TWO_WORDS, 1)?;
+    let plan = plan_of(alloc, THREE_RULES, FILE_OF_TWO_WORDS, 1)?;
     let Ok(mut written) = Vec::with_capacity(alloc, ROOM) else {
         return Err(Stop::NotBegun);
     };
@@ -54,7 +54,7 @@ fn faults_of_new(rt: &impl Print, alloc: Global, plan: &Plan) -> Result<u64, All
 
 /// `Listing::new` over the output.
 pub(crate) fn makes_listing(rt: &impl Print, alloc: Global) -> Result<(), Stop> {
-    let plan = plan_of(alloc, THREE_RULES, TWO_WORDS, 1)?;
+    let plan = plan_of(alloc, THREE_RULES, FILE_OF_TWO_WORDS, 1)?;
     let made = match faults_of_new(rt, alloc, &plan) {
         Err(AllocError) => {
             println!(rt; "refused")?;
@@ -85,7 +85,7 @@ fn take_once(
 
 /// `Listing::take` of a piece with two words.
 pub(crate) fn takes(rt: &impl Print, alloc: Global) -> Result<(), Stop> {
-    let plan = plan_of(alloc, THREE_RULES, TWO_WORDS, 256)?;
+    let plan = plan_of(alloc, THREE_RULES, FILE_OF_TWO_WORDS, 256)?;
     let Ok(mut written) = Vec::with_capacity(alloc, ROOM) else {
         return Err(Stop::NotBegun);
     };
@@ -104,7 +104,7 @@ pub(crate) fn takes(rt: &impl Print, alloc: Global) -> Result<(), Stop> {
 
 /// `faults` of a listing.
 pub(crate) fn counts_faults(rt: &impl Print, alloc: Global) -> Result<(), Stop> {
-    let plan = plan_of(alloc, THREE_RULES, TWO_WORDS, 1)?;
+    let plan = plan_of(alloc, THREE_RULES, FILE_OF_TWO_WORDS, 1)?;
     let Ok(listing) = Listing::new(alloc, &plan, io::writer(rt)) else {
         return Err(Stop::NotBegun);
     };

@@ -7,7 +7,7 @@ ghost use Rattle.lx_post.specs.Posted.{IsTakePassOf, fresh_send};
 
 use crate::collecting::print_piece;
 use crate::relays::first_piece;
-use crate::rows::{TWO_WORDS, plan_of};
+use crate::rows::{FILE_OF_TWO_WORDS, plan_of};
 use crate::stop::{Stop, refuse_from_here};
 use lx_fixtures::{THREE_FILES, THREE_RULES};
 use lx_piece::{Arrivals, Piece, Plan};
@@ -180,7 +180,7 @@ fn send_and_receive<R: Print + Wait>(
 
 /// `send`, `receive` and `finish` of one worker.
 pub(crate) fn sends<R: Print + Wait>(rt: &R, alloc: Global) -> Result<(), Stop> {
-    let plan = plan_of(alloc, THREE_RULES, TWO_WORDS, 256)?;
+    let plan = plan_of(alloc, THREE_RULES, FILE_OF_TWO_WORDS, 256)?;
     let _files = plan.files();
     let Ok(piece) = first_piece(alloc, &plan, 0) else {
         return Err(Stop::NotBegun);
@@ -223,7 +223,7 @@ fn send_and_arrive<R: Print + Wait>(
 
 /// `PostArrivals::new`, `next` and `into_pass` of one worker.
 pub(crate) fn arrives<R: Print + Wait>(rt: &R, alloc: Global) -> Result<(), Stop> {
-    let plan = plan_of(alloc, THREE_RULES, TWO_WORDS, 256)?;
+    let plan = plan_of(alloc, THREE_RULES, FILE_OF_TWO_WORDS, 256)?;
     let _files = plan.files();
     let Ok(piece) = first_piece(alloc, &plan, 0) else {
         return Err(Stop::NotBegun);

@@ -10,7 +10,7 @@ use lx_tables::Tables;
 use std::alloc::Global;
 
 /// Two words, in a file that was read to its end.
-pub(crate) const TWO_WORDS: &[(&[u8], bool)] = &[(lx_fixtures::TWO_WORDS, false)];
+pub(crate) const FILE_OF_TWO_WORDS: &[(&[u8], bool)] = &[(lx_fixtures::TWO_WORDS, false)];
 
 /// The specification of the three rules.
 pub(crate) fn three_rules(alloc: Global) -> Result<Spec, Stop> {

@@ -1,13 +1,13 @@
 //! Sources of files.
 
-use crate::rows::AB_12;
 use crate::stop::Stop;
+use lx_fixtures::TWO_WORDS;
 use lx_tool::{ListSources, SourceFault, Sources};
 use std::alloc::Global;
 
 /// `read` of the second file of a list.
 pub(crate) fn reads_source(rt: &impl Print, alloc: Global) -> Result<(), Stop> {
-    let files: [(&str, &[u8]); 2] = [("a", b"a"), ("words", AB_12)];
+    let files: [(&str, &[u8]); 2] = [("a", b"a"), ("words", TWO_WORDS)];
     let mut sources = ListSources::new(files.as_slice());
     let read = match sources.read(alloc, "words") {
         Err(SourceFault::Memory) => {
