@@ -3,7 +3,7 @@ use Rattle.std.specs.Prelude.{slice_index, All, Contains}
 use Rattle.std.specs.List.{list_any}
 use Rattle.std.proofs.lemmas.Bool.{both_ways, and_parts, and_from, cases_lt, cases_Bool, eqb-true, eq-eqb, ne_eqb, ltb-true, lt-ltb, or_right, or_from, not_from_true, false_from_ne_true}
 use Rattle.std.proofs.lemmas.List.Elements.{All-nil, All-head, All-tail, All-contains}
-use Rattle.lx_piece.specs.declared.piece.Piece.{Piece}
+use Rattle.lx_piece.specs.Pieces.{ItemPiece}
 use Rattle.lx_piece.specs.declared.reply.Why.{Why}
 use Rattle.lx_piece.specs.Plans.{Planned, files_of}
 use Rattle.lx_piece.specs.Pieces.{is_closing, top_number, IsPieceOf, piece_at, pieces_of}
@@ -14,11 +14,11 @@ use Rattle.lx_piece.proofs.AnyOf.{any_last, any_of}
 use Rattle.lx_piece.proofs.Deliveries.{with_planned, has_more}
 
 -- a closing piece of the plan is the last of its file
-closing_number : (plan : Planned) (p : Piece) → IsPieceOf plan p → is_closing p ≡ true → p.number + 1 ≡ pieces_of plan p.file
+closing_number : (plan : Planned) (p : ItemPiece) → IsPieceOf plan p → is_closing p ≡ true → p.number + 1 ≡ pieces_of plan p.file
 closing_number plan p is closing = eqb-true (p.number + 1) (pieces_of plan p.file) (sym (marked_last plan p.file p.number) ∙ sym (ap is_closing is.whole) ∙ closing)
 
 -- among pieces of the plan, none closes the file before one of its pieces
-none_before : (plan : Planned) (accepted : List Piece) (p : Piece) → All (IsPieceOf plan) accepted → IsPieceOf plan p → list_any (closes_before p) accepted ≡ false
+none_before : (plan : Planned) (accepted : List ItemPiece) (p : ItemPiece) → All (IsPieceOf plan) accepted → IsPieceOf plan p → list_any (closes_before p) accepted ≡ false
 none_before plan accepted p all is = false_from_ne_true (list_any (closes_before p) accepted) (λ h.
     let found = any_of (IsPieceOf plan) (closes_before p) accepted all h in
     let q = found.0 in
@@ -30,7 +30,7 @@ none_before plan accepted p all is = false_from_ne_true (list_any (closes_before
     absurd (omega arith))
 
 -- and none comes behind the closing one
-none_later : (plan : Planned) (accepted : List Piece) (p : Piece) → All (IsPieceOf plan) accepted → IsPieceOf plan p → (is_closing p && list_any (is_later p) accepted) ≡ false
+none_later : (plan : Planned) (accepted : List ItemPiece) (p : ItemPiece) → All (IsPieceOf plan) accepted → IsPieceOf plan p → (is_closing p && list_any (is_later p) accepted) ≡ false
 none_later plan accepted p all is = false_from_ne_true (is_closing p && list_any (is_later p) accepted) (λ h.
     let c = and_parts (is_closing p) (list_any (is_later p) accepted) h in
     let found = any_of (IsPieceOf plan) (is_later p) accepted all c.1 in
@@ -42,9 +42,9 @@ none_later plan accepted p all is = false_from_ne_true (is_closing p && list_any
     absurd (omega arith))
 
 -- so a piece of the plan is accepted where it wasn't before
-accepted_new : (plan : Planned) (accepted : List Piece) (p : Piece) → All (IsPieceOf plan) accepted → IsPieceOf plan p → has_piece p.file p.number accepted ≡ false → cause_against (shape_of plan) accepted p ≡ None
+accepted_new : (plan : Planned) (accepted : List ItemPiece) (p : ItemPiece) → All (IsPieceOf plan) accepted → IsPieceOf plan p → has_piece p.file p.number accepted ≡ false → cause_against (shape_of plan) accepted p ≡ None
 accepted_new plan accepted p all is new =
-    let run = not_from_true (nat_eq p.run plan.run) (eq-eqb p.run plan.run (ap (λ (q : Piece). q.run) is.whole)) in
+    let run = not_from_true (nat_eq p.run plan.run) (eq-eqb p.run plan.run (ap (λ (q : ItemPiece). q.run) is.whole)) in
     let file = not_from_true (nat_lt p.file (files_of plan)) (lt-ltb p.file (files_of plan) is.file) in
     let countable = is.countable in
     let after = or_from (nat_eq p.number top_number) (list_any (closes_before p) accepted) (ne_eqb p.number top_number (λ e. absurd (omega arith))) (none_before plan accepted p all is) in
@@ -52,7 +52,7 @@ accepted_new plan accepted p all is new =
     rw (run, file, new, after, later) refl
 
 -- once it has come it was accepted, then or before
-accepted_then : (plan : Planned) (accepted : List Piece) (p : Piece) → All (IsPieceOf plan) accepted → IsPieceOf plan p → has_piece p.file p.number (with_arrival (shape_of plan) accepted p) ≡ true
+accepted_then : (plan : Planned) (accepted : List ItemPiece) (p : ItemPiece) → All (IsPieceOf plan) accepted → IsPieceOf plan p → has_piece p.file p.number (with_arrival (shape_of plan) accepted p) ≡ true
 accepted_then plan accepted p all is = elim (cases_Bool (has_piece p.file p.number accepted)) [
   | inl there ↦ has_more (shape_of plan) accepted p p.file p.number (cause_against (shape_of plan) accepted p) there
   | inr new ↦
@@ -62,11 +62,11 @@ accepted_then plan accepted p all is = elim (cases_Bool (has_piece p.file p.numb
 ]
 
 -- a piece in a list stands first or in the rest
-first_or_rest : (q : Piece) (came : List Piece) (p : Piece) → Contains (q ∷ came) p → (q ≡ p) ⊎ Contains came p
+first_or_rest : (q : ItemPiece) (came : List ItemPiece) (p : ItemPiece) → Contains (q ∷ came) p → (q ≡ p) ⊎ Contains came p
 first_or_rest q came p (zero, within, at) = inl at
 first_or_rest q came p (suc k, within, at) = inr (k, omega arith, at)
 
-accepted_from : (plan : Planned) (accepted came : List Piece) (p : Piece) → All (IsPieceOf plan) accepted → AreHonest plan came → IsPieceOf plan p → Contains came p ⊎ (has_piece p.file p.number accepted ≡ true) → has_piece p.file p.number (accepted_behind (shape_of plan) accepted came) ≡ true
+accepted_from : (plan : Planned) (accepted came : List ItemPiece) (p : ItemPiece) → All (IsPieceOf plan) accepted → AreHonest plan came → IsPieceOf plan p → Contains came p ⊎ (has_piece p.file p.number accepted ≡ true) → has_piece p.file p.number (accepted_behind (shape_of plan) accepted came) ≡ true
 accepted_from plan accepted [] p all honest is h = elim h [ inl at ↦ absurd (omega (arith, at.1)) | inr there ↦ there ]
 accepted_from plan accepted (q ∷ came) p all honest is h =
     let next = with_planned plan accepted q all (All-head (IsHonest plan) q came honest) in
@@ -80,7 +80,7 @@ accepted_from plan accepted (q ∷ came) p all honest is h =
     accepted_from plan (with_arrival (shape_of plan) accepted q) came p next (All-tail (IsHonest plan) q came honest) is more
 
 -- a file of which every piece came was taken whole
-pub taken_whole : (plan : Planned) (came : List Piece) (counts : List ℕ) (file : ℕ) → AreHonest plan came → AllDelivered (shape_of plan) came counts → file < files_of plan → slice_index counts file ≤ pieces_of plan file → AreAllAmong plan file came → slice_index counts file ≡ pieces_of plan file
+pub taken_whole : (plan : Planned) (came : List ItemPiece) (counts : List ℕ) (file : ℕ) → AreHonest plan came → AllDelivered (shape_of plan) came counts → file < files_of plan → slice_index counts file ≤ pieces_of plan file → AreAllAmong plan file came → slice_index counts file ≡ pieces_of plan file
 taken_whole plan came counts file honest delivered within at_most all =
     elim (cases_lt (slice_index counts file) (pieces_of plan file)) [
       | inl less ↦

@@ -17,7 +17,7 @@ closing_number None n h = absurd (both_ways false refl h)
 closing_number (Some k) n h = (k, eq-eqb k k refl, h)
 
 -- a file is closed before p exactly where its closing number is below p's
-pub closed_alike : (buffer : Buffered) (accepted : List Piece) (p : Piece) → BufferStandsFor buffer p.file accepted → list_any (closes_before p) accepted ≡ closed_before buffer.closing p.number
+pub closed_alike : {C : Type 0} (buffer : Buffered C) (accepted : List (Piece C)) (p : Piece C) → BufferStandsFor buffer p.file accepted → list_any (closes_before p) accepted ≡ closed_before buffer.closing p.number
 closed_alike buffer accepted p s =
     same_tests (list_any (closes_before p) accepted) (closed_before buffer.closing p.number)
     (λ h.
@@ -36,7 +36,7 @@ closed_alike buffer accepted p s =
     w.2 (closes_before p) (and_from (is_closing q) (nat_eq q.file p.file && nat_lt q.number p.number) a.0 (and_from (nat_eq q.file p.file) (nat_lt q.number p.number) b.0 (ap (λ i. nat_lt i p.number) (eqb-true q.number k.0 b.1) ∙ k.2))))
 
 -- a later piece that was accepted is held, where p itself was not delivered
-pub later_is_held : (buffer : Buffered) (accepted : List Piece) (p : Piece) → BufferStandsFor buffer p.file accepted → buffer.next ≤ p.number → list_any (is_later p) accepted ≡ true → (m : ℕ) × (p.number < m) × (is_some (held_at buffer m) ≡ true)
+pub later_is_held : {C : Type 0} (buffer : Buffered C) (accepted : List (Piece C)) (p : Piece C) → BufferStandsFor buffer p.file accepted → buffer.next ≤ p.number → list_any (is_later p) accepted ≡ true → (m : ℕ) × (p.number < m) × (is_some (held_at buffer m) ≡ true)
 later_is_held buffer accepted p s l h =
     let w = any_witness (is_later p) accepted h in
     let q = w.0 in
@@ -46,7 +46,7 @@ later_is_held buffer accepted p s l h =
     let beyond : nat_lt q.number buffer.next ≡ false = le-ltb q.number buffer.next (omega arith) in
     (q.number, above, subst (λ t. (t || is_some (held_at buffer q.number)) ≡ true) beyond (sym (s.numbers q.number) ∙ there))
 
-pub held_is_later : (buffer : Buffered) (accepted : List Piece) (p : Piece) (m : ℕ) → BufferStandsFor buffer p.file accepted → p.number < m → is_some (held_at buffer m) ≡ true → list_any (is_later p) accepted ≡ true
+pub held_is_later : {C : Type 0} (buffer : Buffered C) (accepted : List (Piece C)) (p : Piece C) (m : ℕ) → BufferStandsFor buffer p.file accepted → p.number < m → is_some (held_at buffer m) ≡ true → list_any (is_later p) accepted ≡ true
 held_is_later buffer accepted p m s l h =
     let w = any_witness (is_numbered p.file m) accepted (s.numbers m ∙ or_right (nat_lt m buffer.next) (is_some (held_at buffer m)) h) in
     let q = w.0 in
@@ -54,20 +54,20 @@ held_is_later buffer accepted p m s l h =
     w.2 (is_later p) (and_from (nat_eq q.file p.file) (nat_lt p.number q.number) b.0 (ap (λ i. nat_lt p.number i) (eqb-true q.number m b.1) ∙ lt-ltb p.number m l))
 
 -- the causes against a piece that is no double, by what the buffer keeps
-pub refused_after_last : (buffer : Buffered) (accepted : List Piece) (p : Piece) → BufferStandsFor buffer p.file accepted → has_number buffer p.number ≡ false → (nat_eq p.number top_number || closed_before buffer.closing p.number) ≡ true → Some AfterLast ≡ cause_among accepted p
+pub refused_after_last : {C : Type 0} (buffer : Buffered C) (accepted : List (Piece C)) (p : Piece C) → BufferStandsFor buffer p.file accepted → has_number buffer p.number ≡ false → (nat_eq p.number top_number || closed_before buffer.closing p.number) ≡ true → Some AfterLast ≡ cause_among accepted p
 refused_after_last buffer accepted p s h e =
     let d = s.numbers p.number ∙ h in
     let f = ap (λ t. nat_eq p.number top_number || t) (closed_alike buffer accepted p s) ∙ e in
     rw (d, f) refl
 
-pub refused_contradicts : (buffer : Buffered) (accepted : List Piece) (p : Piece) → BufferStandsFor buffer p.file accepted → has_number buffer p.number ≡ false → (nat_eq p.number top_number || closed_before buffer.closing p.number) ≡ false → (is_closing p) ≡ true → (m : ℕ) × (p.number < m) × (is_some (held_at buffer m) ≡ true) → Some Contradicts ≡ cause_among accepted p
+pub refused_contradicts : {C : Type 0} (buffer : Buffered C) (accepted : List (Piece C)) (p : Piece C) → BufferStandsFor buffer p.file accepted → has_number buffer p.number ≡ false → (nat_eq p.number top_number || closed_before buffer.closing p.number) ≡ false → (is_closing p) ≡ true → (m : ℕ) × (p.number < m) × (is_some (held_at buffer m) ≡ true) → Some Contradicts ≡ cause_among accepted p
 refused_contradicts buffer accepted p s h e last w =
     let d = s.numbers p.number ∙ h in
     let f = ap (λ t. nat_eq p.number top_number || t) (closed_alike buffer accepted p s) ∙ e in
     let g = and_from (is_closing p) (list_any (is_later p) accepted) last (held_is_later buffer accepted p w.0 s w.1 w.2) in
     rw (d, f, g) refl
 
-pub not_refused : (buffer : Buffered) (accepted : List Piece) (p : Piece) → BufferStandsFor buffer p.file accepted → has_number buffer p.number ≡ false → (nat_eq p.number top_number || closed_before buffer.closing p.number) ≡ false → ((is_closing p) ≡ true → (m : ℕ) → p.number < m → held_at buffer m ≡ None) → None ≡ cause_among accepted p
+pub not_refused : {C : Type 0} (buffer : Buffered C) (accepted : List (Piece C)) (p : Piece C) → BufferStandsFor buffer p.file accepted → has_number buffer p.number ≡ false → (nat_eq p.number top_number || closed_before buffer.closing p.number) ≡ false → ((is_closing p) ≡ true → (m : ℕ) → p.number < m → held_at buffer m ≡ None) → None ≡ cause_among accepted p
 not_refused buffer accepted p s h e n =
     let d = s.numbers p.number ∙ h in
     let f = ap (λ t. nat_eq p.number top_number || t) (closed_alike buffer accepted p s) ∙ e in

@@ -1,6 +1,8 @@
 -- Lists cut in two, and how many pieces a list makes.
 use Rattle.std.proofs.Common.{◌≡◌, ℕ, suc, ◌+◌, ◌-◌, ◌*◌, ◌<◌, ◌≤◌, Bool, true, false, inl, inr, List, [], ◌∷◌, ◌++◌, Option, Some, None, length, take, drop, nat_eq, if◌then◌else◌, is_some, not, refl, sym, ◌∙◌, ap, subst, arith, add-one, append-nil}
-use Rattle.std.specs.Prelude.{IfNone}
+use Rattle.std.specs.Prelude.{All, IfNone}
+use Rattle.std.proofs.lemmas.List.Elements.{All-drop, All-take}
+use Rattle.lx_scan.specs.ItemParts.{IsItemOf}
 use Rattle.std.specs.Int.{div_ceil}
 use Rattle.std.proofs.lemmas.Bool.{both_ways, eq-eqb, ne_eqb, cases_lt}
 use Rattle.std.proofs.lemmas.Grind.{div_ceil_times}
@@ -15,8 +17,8 @@ use Rattle.lx_piece.specs.declared.piece.Mark.{Mark}
 use Rattle.lx_piece.specs.declared.piece.Mark.TheVariants.{More, Whole, Cut}
 use Rattle.lx_piece.specs.declared.piece.Piece.{Piece}
 use Rattle.lx_piece.specs.Cutting.{Cutting, IsCutterOf, items_ahead}
-use Rattle.lx_piece.specs.Plans.{Planned, bytes_of, is_cut, items_of}
-use Rattle.lx_piece.specs.Pieces.{IsPieceOf, mark_of, part, piece_at, piece_count, pieces_of, top_number}
+use Rattle.lx_piece.specs.Plans.{IsPlan, Planned, bytes_of, is_cut, items_of, kinds_of}
+use Rattle.lx_piece.specs.Pieces.{IsPieceBy, mark_of, part, piece_by, piece_count, pieces_of, top_number}
 
 -- ---- a list as what was taken of it and what is left
 pub taken_most : {X : Type 0} (xs ys all : List X) (most : ℕ) → xs ++ ys ≡ all → length xs ≡ most → take most all ≡ xs
@@ -148,17 +150,24 @@ module _ (plan : Planned) (cutter : Cutting) (items : List Item) (next : Option 
     end = λ _ none. none_behind next end_behind none;
   }
 
-  pub piece_is : (run : ℕ) (mark : Mark) (last cut : Bool) → run ≡ plan.run → is_some next ≡ not last → cut ≡ is_cut plan cutter.file → mark ≡ (if last then (if cut then Cut else Whole) else More) →
-      ◌≡◌ {A = Piece} (record { run = run; file = cutter.file; number = cutter.next; mark = mark; items = items }) (piece_at plan cutter.file cutter.next)
-  piece_is run mark last cut same none reading marked = parts run plan.run mark (mark_of plan cutter.file cutter.next) items (part plan.per_piece all cutter.next) same
+  pub piece_is : {C : Type 0} (made : Planned → ℕ → List Item → C) (content : C) (run : ℕ) (mark : Mark) (last cut : Bool) → content ≡ made plan cutter.file items → run ≡ plan.run → is_some next ≡ not last → cut ≡ is_cut plan cutter.file → mark ≡ (if last then (if cut then Cut else Whole) else More) →
+      ◌≡◌ {A = Piece C} (record { run = run; file = cutter.file; number = cutter.next; mark = mark; items = content }) (piece_by made plan cutter.file cutter.next)
+  piece_is {C} made content run mark last cut carries same none reading marked = parts run plan.run mark (mark_of plan cutter.file cutter.next) content (made plan cutter.file (part plan.per_piece all cutter.next)) same
       (marked ∙ ap (λ b. if b then (if cut then Cut else Whole) else More) (last_is plan.per_piece all cutter.next next (items_left plan.table (bytes_of plan cutter.file) cursor) last some rest_behind end_behind there none)
       ∙ ap (λ b. if nat_eq (cutter.next + 1) (pieces_of plan cutter.file) then (if b then Cut else Whole) else More) reading)
-      (takes.items_are ∙ ap (λ xs. take plan.per_piece xs) is.items)
+      (carries ∙ ap (λ xs. made plan cutter.file xs) (takes.items_are ∙ ap (λ xs. take plan.per_piece xs) is.items))
     where
-      parts : (r s : ℕ) (m n : Mark) (xs ys : List Item) → r ≡ s → m ≡ n → xs ≡ ys →
-          ◌≡◌ {A = Piece} (record { run = r; file = cutter.file; number = cutter.next; mark = m; items = xs }) (record { run = s; file = cutter.file; number = cutter.next; mark = n; items = ys })
+      parts : (r s : ℕ) (m n : Mark) (xs ys : C) → r ≡ s → m ≡ n → xs ≡ ys →
+          ◌≡◌ {A = Piece C} (record { run = r; file = cutter.file; number = cutter.next; mark = m; items = xs }) (record { run = s; file = cutter.file; number = cutter.next; mark = n; items = ys })
       parts r s m n xs ys e f g = cc
 
-  pub is_piece : (run : ℕ) (mark : Mark) (last cut : Bool) → cutter.next < top_number → run ≡ plan.run → is_some next ≡ not last → cut ≡ is_cut plan cutter.file → mark ≡ (if last then (if cut then Cut else Whole) else More) →
-      IsPieceOf plan (record { run = run; file = cutter.file; number = cutter.next; mark = mark; items = items })
-  is_piece run mark last cut countable same none reading marked = record { file = is.file; number = there; countable = countable; whole = piece_is run mark last cut same none reading marked }
+  pub is_piece : {C : Type 0} (made : Planned → ℕ → List Item → C) (content : C) (run : ℕ) (mark : Mark) (last cut : Bool) → content ≡ made plan cutter.file items → cutter.next < top_number → run ≡ plan.run → is_some next ≡ not last → cut ≡ is_cut plan cutter.file → mark ≡ (if last then (if cut then Cut else Whole) else More) →
+      IsPieceBy made plan (record { run = run; file = cutter.file; number = cutter.next; mark = mark; items = content })
+  is_piece made content run mark last cut carries countable same none reading marked = record { file = is.file; number = there; countable = countable; whole = piece_is made content run mark last cut carries same none reading marked }
+
+  -- they are items of the file
+  pub are_items : IsPlan plan → All (IsItemOf (kinds_of plan) (bytes_of plan cutter.file)) items
+  are_items whole =
+      subst (λ xs. All (IsItemOf (kinds_of plan) (bytes_of plan cutter.file)) xs) (sym (takes.items_are ∙ ap (λ xs. take plan.per_piece xs) is.items))
+      (All-take (IsItemOf (kinds_of plan) (bytes_of plan cutter.file)) plan.per_piece (drop (cutter.next * plan.per_piece) all)
+      (All-drop (IsItemOf (kinds_of plan) (bytes_of plan cutter.file)) (cutter.next * plan.per_piece) all (whole.items cutter.file)))

@@ -4,12 +4,13 @@ use Rattle.std.proofs.lemmas.Bool.{and_parts, cases_lt, eqb-true, ltb-true, lt-l
 use Rattle.std.proofs.lemmas.Option.{slice_get-get_or}
 use Rattle.std.proofs.lemmas.List.Elements.{All-nil, All-head, All-tail, All-push, All-contains}
 use Rattle.std.proofs.lemmas.List.{get_or-replicate, length-replicate, length_push, same_from_push}
-use Rattle.lx_piece.specs.declared.piece.Piece.{Piece}
+use Rattle.lx_scan.specs.declared.item.Item.{Item}
+use Rattle.lx_piece.specs.Pieces.{ItemPiece}
 use Rattle.lx_piece.specs.declared.reply.Why.{Why}
 use Rattle.lx_piece.specs.Plans.{Planned, files_of}
 use Rattle.lx_piece.specs.Pieces.{IsPieceOf, pieces_of}
 use Rattle.lx_piece.specs.Arrivals.{RunShape, shape_of, IsHonest, AreHonest, accepted_behind, accepted_of, with_arrival, joined, cause_against, has_piece, is_numbered, reply_to, replies_of, IsLeastMissing}
-use Rattle.lx_piece.specs.Kept.{Kept, BufferStandsFor, StandsFor, NoneReady, shape_of_kept, held_at, delivered_counts, is_ready_at, fresh_buffer}
+use Rattle.lx_piece.specs.Kept.{ItemKept, BufferStandsFor, StandsFor, NoneReady, shape_of_kept, held_at, delivered_counts, is_ready_at, fresh_buffer}
 use Rattle.lx_piece.specs.declared.reply.Reply.{Reply}
 use Rattle.lx_piece.specs.Relayed.{TakesAllInOrder, HoldsPlanned, AllDelivered, AtMostDelivered, AreAtMost, RelayedInPart}
 use Rattle.lx_piece.proofs.SoFar.{SoFar}
@@ -19,7 +20,7 @@ use Rattle.lx_piece.proofs.Standing.{known, accepted_last, replies_last}
 use Rattle.lx_piece.proofs.Relays.{nexts, length-nexts, count_at}
 
 -- an honest arrival leaves the accepted pieces the plan's
-pub with_planned : (plan : Planned) (accepted : List Piece) (p : Piece) → All (IsPieceOf plan) accepted → IsHonest plan p → All (IsPieceOf plan) (with_arrival (shape_of plan) accepted p)
+pub with_planned : (plan : Planned) (accepted : List ItemPiece) (p : ItemPiece) → All (IsPieceOf plan) accepted → IsHonest plan p → All (IsPieceOf plan) (with_arrival (shape_of plan) accepted p)
 with_planned plan accepted p h first =
     let go : (cause : Option Why) → cause ≡ cause_against (shape_of plan) accepted p → All (IsPieceOf plan) (joined cause accepted p) = elim [
       | None ↦ λ e.
@@ -30,13 +31,13 @@ with_planned plan accepted p h first =
     go (cause_against (shape_of plan) accepted p) refl
 
 -- the pieces accepted from an honest list are the plan's
-accepted_planned : (plan : Planned) (accepted came : List Piece) → All (IsPieceOf plan) accepted → AreHonest plan came → All (IsPieceOf plan) (accepted_behind (shape_of plan) accepted came)
+accepted_planned : (plan : Planned) (accepted came : List ItemPiece) → All (IsPieceOf plan) accepted → AreHonest plan came → All (IsPieceOf plan) (accepted_behind (shape_of plan) accepted came)
 accepted_planned plan accepted [] h honest = h
 accepted_planned plan accepted (p ∷ came) h honest =
     accepted_planned plan (with_arrival (shape_of plan) accepted p) came (with_planned plan accepted p h (All-head (IsHonest plan) p came honest)) (All-tail (IsHonest plan) p came honest)
 
 -- so is what a collector holds that stands for the list
-pub planned_from : (plan : Planned) (kept : Kept) (came : List Piece) → shape_of_kept kept ≡ shape_of plan → StandsFor kept came → AreHonest plan came → HoldsPlanned plan kept.buffers
+pub planned_from : (plan : Planned) (kept : ItemKept) (came : List ItemPiece) → shape_of_kept kept ≡ shape_of plan → StandsFor kept came → AreHonest plan came → HoldsPlanned plan kept.buffers
 planned_from plan kept came e s honest =
     record {
       files = ap (λ (shape : RunShape). shape.files) e;
@@ -47,7 +48,7 @@ planned_from plan kept came e s honest =
     }
 
 -- where nothing more can be delivered, all was
-pub all_delivered : (shape : RunShape) (kept : Kept) (came : List Piece) (counts : List ℕ) → shape_of_kept kept ≡ shape → StandsFor kept came → NoneReady kept.buffers → counts ≡ delivered_counts kept → AllDelivered shape came counts
+pub all_delivered : (shape : RunShape) (kept : ItemKept) (came : List ItemPiece) (counts : List ℕ) → shape_of_kept kept ≡ shape → StandsFor kept came → NoneReady kept.buffers → counts ≡ delivered_counts kept → AllDelivered shape came counts
 all_delivered shape kept came counts e s ready c =
     record {
       files = ap length c ∙ length-nexts kept.buffers ∙ ap (λ (t : RunShape). t.files) e;
@@ -64,7 +65,7 @@ all_delivered shape kept came counts e s ready c =
     }
 
 -- what was delivered was accepted
-pub at_most_delivered : (shape : RunShape) (kept : Kept) (came : List Piece) (counts : List ℕ) → shape_of_kept kept ≡ shape → StandsFor kept came → AreAtMost counts (delivered_counts kept) → AtMostDelivered shape came counts
+pub at_most_delivered : (shape : RunShape) (kept : ItemKept) (came : List ItemPiece) (counts : List ℕ) → shape_of_kept kept ≡ shape → StandsFor kept came → AreAtMost counts (delivered_counts kept) → AtMostDelivered shape came counts
 at_most_delivered shape kept came counts e s c =
     record {
       files = c.files ∙ length-nexts kept.buffers ∙ ap (λ (t : RunShape). t.files) e;
@@ -81,12 +82,12 @@ at_most_delivered shape kept came counts e s c =
 pub same_at_most : (counts others : List ℕ) → counts ≡ others → AreAtMost counts others
 same_at_most counts others e = record { files = ap length e; each = λ file. (let f = ap (λ (ns : List ℕ). slice_index ns file) e in omega arith) }
 
-pub has_more : (shape : RunShape) (accepted : List Piece) (p : Piece) (file j : ℕ) (cause : Option Why) → has_piece file j accepted ≡ true → has_piece file j (joined cause accepted p) ≡ true
+pub has_more : (shape : RunShape) (accepted : List ItemPiece) (p : ItemPiece) (file j : ℕ) (cause : Option Why) → has_piece file j accepted ≡ true → has_piece file j (joined cause accepted p) ≡ true
 has_more shape accepted p file j None h = any_last (is_numbered file j) accepted p ∙ or_left (has_piece file j accepted) (is_numbered file j p) h
 has_more shape accepted p file j (Some why) h = h
 
 -- an arrival more takes nothing back
-pub at_most_more : (shape : RunShape) (came : List Piece) (counts : List ℕ) (p : Piece) → AtMostDelivered shape came counts → AtMostDelivered shape (came ++ p ∷ []) counts
+pub at_most_more : (shape : RunShape) (came : List ItemPiece) (counts : List ℕ) (p : ItemPiece) → AtMostDelivered shape came counts → AtMostDelivered shape (came ++ p ∷ []) counts
 at_most_more shape came counts p h =
     record {
       files = h.files;
@@ -94,32 +95,32 @@ at_most_more shape came counts p h =
     }
 
 -- at the start no file is ready, and every count is 0
-pub fresh_ready : (n g : ℕ) → is_ready_at (slice_get (replicate n fresh_buffer) g) ≡ false
+pub fresh_ready : (n g : ℕ) → is_ready_at {C = List Item} (slice_get (replicate n fresh_buffer) g) ≡ false
 fresh_ready zero g = refl
 fresh_ready (suc n) zero = refl
 fresh_ready (suc n) (suc g) = fresh_ready n g
 
-pub fresh_counts : (n : ℕ) → nexts (replicate n fresh_buffer) ≡ replicate n 0
+pub fresh_counts : (n : ℕ) → nexts {C = List Item} (replicate n fresh_buffer) ≡ replicate n 0
 fresh_counts zero = refl
 fresh_counts (suc n) = ap (λ (ns : List ℕ). 0 ∷ ns) (fresh_counts n)
 
-pub fresh_shape : (plan : Planned) (kept : Kept) (run files : ℕ) → kept ≡ record { run = run; buffers = replicate files fresh_buffer } → run ≡ plan.run → files ≡ files_of plan → shape_of_kept kept ≡ shape_of plan
+pub fresh_shape : (plan : Planned) (kept : ItemKept) (run files : ℕ) → kept ≡ record { run = run; buffers = replicate files fresh_buffer } → run ≡ plan.run → files ≡ files_of plan → shape_of_kept kept ≡ shape_of plan
 fresh_shape plan kept run files k r f =
     ap shape_of_kept k
     ∙ ap (λ (n : ℕ). record { run = run; files = n }) (length-replicate files fresh_buffer ∙ f)
     ∙ ap (λ (n : ℕ). record { run = n; files = files_of plan }) r
 
-pub fresh_delivered : (plan : Planned) (kept : Kept) (run files : ℕ) → kept ≡ record { run = run; buffers = replicate files fresh_buffer } → files ≡ files_of plan → replicate (files_of plan) 0 ≡ delivered_counts kept
+pub fresh_delivered : (plan : Planned) (kept : ItemKept) (run files : ℕ) → kept ≡ record { run = run; buffers = replicate files fresh_buffer } → files ≡ files_of plan → replicate (files_of plan) 0 ≡ delivered_counts kept
 fresh_delivered plan kept run files k f = sym (ap delivered_counts k ∙ fresh_counts files ∙ ap (λ (n : ℕ). replicate n 0) f)
 
 -- all that the list before its last arrival delivers was taken
-abbrev pub IsEager : Planned → List Piece → List ℕ → Type 0
-IsEager plan came counts = (before : List Piece) (last : Piece) → came ≡ before ++ last ∷ [] → (file k : ℕ) → file < files_of plan → IsLeastMissing (accepted_of (shape_of plan) before) file k → k ≤ slice_index counts file
+abbrev pub IsEager : Planned → List ItemPiece → List ℕ → Type 0
+IsEager plan came counts = (before : List ItemPiece) (last : ItemPiece) → came ≡ before ++ last ∷ [] → (file k : ℕ) → file < files_of plan → IsLeastMissing (accepted_of (shape_of plan) before) file k → k ≤ slice_index counts file
 
 -- so it is where all of the list before was delivered and no count has fallen since
-eager_behind : (plan : Planned) (came : List Piece) (p : Piece) (counts after : List ℕ) → AllDelivered (shape_of plan) came counts → AreAtMost counts after → IsEager plan (came ++ p ∷ []) after
+eager_behind : (plan : Planned) (came : List ItemPiece) (p : ItemPiece) (counts after : List ℕ) → AllDelivered (shape_of plan) came counts → AreAtMost counts after → IsEager plan (came ++ p ∷ []) after
 eager_behind plan came p counts after h rise = λ before last e file k within least.
-    let here = subst (λ (list : List Piece). IsLeastMissing (accepted_of (shape_of plan) list) file k) (sym (same_from_push came before p last e).0) least in
+    let here = subst (λ (list : List ItemPiece). IsLeastMissing (accepted_of (shape_of plan) list) file k) (sym (same_from_push came before p last e).0) least in
     let risen = rise.each file in
     elim (cases_lt (slice_index counts file) k) [
       | inl below ↦ let there = here.below (slice_index counts file) below in let missing = (h.each file within).missing in absurd (cc)
@@ -127,7 +128,7 @@ eager_behind plan came p counts after h rise = λ before last e file k within le
     ]
 
 -- one arrival more
-pub so_far_with : {S : Type 0} (plan : Planned) (leads : S → List Piece → S → Type 0) (goes_on : (s t u : S) (xs ys : List Piece) → leads s xs t → leads t ys u → leads s (xs ++ ys) u) (s t u : S) (old new : Kept) (replies : List Reply) (p : Piece) (reply : Reply) → SoFar plan (λ came. leads s came t) old replies → leads t (p ∷ []) u → IsHonest plan p → shape_of_kept old ≡ shape_of plan → ((came : List Piece) → StandsFor old came → reply ≡ reply_to (shape_of_kept old) (accepted_of (shape_of_kept old) came) p) → ((came : List Piece) → StandsFor old came → StandsFor new (came ++ p ∷ [])) → SoFar plan (λ came. leads s came u) new (replies ++ reply ∷ [])
+pub so_far_with : {S : Type 0} (plan : Planned) (leads : S → List ItemPiece → S → Type 0) (goes_on : (s t u : S) (xs ys : List ItemPiece) → leads s xs t → leads t ys u → leads s (xs ++ ys) u) (s t u : S) (old new : ItemKept) (replies : List Reply) (p : ItemPiece) (reply : Reply) → SoFar plan (λ came. leads s came t) old replies → leads t (p ∷ []) u → IsHonest plan p → shape_of_kept old ≡ shape_of plan → ((came : List ItemPiece) → StandsFor old came → reply ≡ reply_to (shape_of_kept old) (accepted_of (shape_of_kept old) came) p) → ((came : List ItemPiece) → StandsFor old came → StandsFor new (came ++ p ∷ [])) → SoFar plan (λ came. leads s came u) new (replies ++ reply ∷ [])
 so_far_with plan leads goes_on s t u old new replies p reply so led honest e answers stands =
     record {
       came = so.came ++ p ∷ [];
@@ -141,11 +142,11 @@ so_far_with plan leads goes_on s t u old new replies p reply so led honest e ans
     }
 
 -- what is delivered out changes nothing of that
-pub so_far_still : (plan : Planned) (leads : List Piece → Type 0) (old new : Kept) (replies : List Reply) → SoFar plan leads old replies → ((came : List Piece) → StandsFor old came → StandsFor new came) → SoFar plan leads new replies
+pub so_far_still : (plan : Planned) (leads : List ItemPiece → Type 0) (old new : ItemKept) (replies : List Reply) → SoFar plan leads old replies → ((came : List ItemPiece) → StandsFor old came → StandsFor new came) → SoFar plan leads new replies
 so_far_still plan leads old new replies so stands = record { came = so.came; led = so.led; honest = so.honest; replied = so.replied; stands = stands so.came so.stands }
 
 -- of each file no more was taken than its pieces
-pub taken_from : (plan : Planned) (came : List Piece) (counts : List ℕ) → 0 < plan.per_piece → AreHonest plan came → AtMostDelivered (shape_of plan) came counts → TakesAllInOrder plan counts
+pub taken_from : (plan : Planned) (came : List ItemPiece) (counts : List ℕ) → 0 < plan.per_piece → AreHonest plan came → AtMostDelivered (shape_of plan) came counts → TakesAllInOrder plan counts
 taken_from plan came counts some honest h =
     let within : (file : ℕ) → file < files_of plan → slice_index counts file ≤ pieces_of plan file = λ file l.
     elim (cases_lt (pieces_of plan file) (slice_index counts file)) [
@@ -160,13 +161,13 @@ taken_from plan came counts some honest h =
     ] in
     record { within = within; each = λ file l. takes_in_order plan file (slice_index counts file) some (within file l) }
 
-in_part : (plan : Planned) (leads : List Piece → Type 0) (kept : Kept) (replies : List Reply) (counts : List ℕ) → 0 < plan.per_piece → (so : SoFar plan leads kept replies) → shape_of_kept kept ≡ shape_of plan → AreAtMost counts (delivered_counts kept) → IsEager plan so.came counts → RelayedInPart plan leads counts
+in_part : (plan : Planned) (leads : List ItemPiece → Type 0) (kept : ItemKept) (replies : List Reply) (counts : List ℕ) → 0 < plan.per_piece → (so : SoFar plan leads kept replies) → shape_of_kept kept ≡ shape_of plan → AreAtMost counts (delivered_counts kept) → IsEager plan so.came counts → RelayedInPart plan leads counts
 in_part plan leads kept replies counts some so e c eager =
     let delivered = at_most_delivered (shape_of plan) kept so.came counts e so.stands c in
     record { came = so.came; led = so.led; honest = so.honest; delivered = delivered; eager = eager; taken = taken_from plan so.came counts some so.honest delivered }
 
 -- an arrival behind which some was delivered, and then the reader failed
-pub in_part_behind : {S : Type 0} (plan : Planned) (leads : S → List Piece → S → Type 0) (goes_on : (s t u : S) (xs ys : List Piece) → leads s xs t → leads t ys u → leads s (xs ++ ys) u) (s t u : S) (old mid new : Kept) (replies : List Reply) (before counts : List ℕ) (p : Piece) (reply : Reply) → 0 < plan.per_piece → SoFar plan (λ came. leads s came t) old replies → leads t (p ∷ []) u → IsHonest plan p → shape_of_kept old ≡ shape_of plan → NoneReady old.buffers → before ≡ delivered_counts old → ((came : List Piece) → StandsFor old came → reply ≡ reply_to (shape_of_kept old) (accepted_of (shape_of_kept old) came) p) → ((came : List Piece) → StandsFor old came → StandsFor mid (came ++ p ∷ [])) → ((came : List Piece) → StandsFor mid came → StandsFor new came) → shape_of_kept new ≡ shape_of plan → AreAtMost counts (delivered_counts new) → AreAtMost before counts → RelayedInPart plan (λ came. leads s came u) counts
+pub in_part_behind : {S : Type 0} (plan : Planned) (leads : S → List ItemPiece → S → Type 0) (goes_on : (s t u : S) (xs ys : List ItemPiece) → leads s xs t → leads t ys u → leads s (xs ++ ys) u) (s t u : S) (old mid new : ItemKept) (replies : List Reply) (before counts : List ℕ) (p : ItemPiece) (reply : Reply) → 0 < plan.per_piece → SoFar plan (λ came. leads s came t) old replies → leads t (p ∷ []) u → IsHonest plan p → shape_of_kept old ≡ shape_of plan → NoneReady old.buffers → before ≡ delivered_counts old → ((came : List ItemPiece) → StandsFor old came → reply ≡ reply_to (shape_of_kept old) (accepted_of (shape_of_kept old) came) p) → ((came : List ItemPiece) → StandsFor old came → StandsFor mid (came ++ p ∷ [])) → ((came : List ItemPiece) → StandsFor mid came → StandsFor new came) → shape_of_kept new ≡ shape_of plan → AreAtMost counts (delivered_counts new) → AreAtMost before counts → RelayedInPart plan (λ came. leads s came u) counts
 unfolding so_far_with so_far_still
 in_part_behind plan leads goes_on s t u old mid new replies before counts p reply some so led honest e ready c answers stands still shape most risen =
     let with = so_far_with plan leads goes_on s t u old mid replies p reply so led honest e answers stands in
@@ -175,7 +176,7 @@ in_part_behind plan leads goes_on s t u old mid new replies before counts p repl
     (eager_behind plan so.came p before counts (all_delivered (shape_of plan) old so.came before e so.stands ready c) risen)
 
 -- an arrival that no reply was given to
-pub in_part_with : {S : Type 0} (plan : Planned) (leads : S → List Piece → S → Type 0) (goes_on : (s t u : S) (xs ys : List Piece) → leads s xs t → leads t ys u → leads s (xs ++ ys) u) (s t u : S) (kept : Kept) (replies : List Reply) (counts : List ℕ) (p : Piece) → 0 < plan.per_piece → SoFar plan (λ came. leads s came t) kept replies → leads t (p ∷ []) u → IsHonest plan p → shape_of_kept kept ≡ shape_of plan → NoneReady kept.buffers → counts ≡ delivered_counts kept → RelayedInPart plan (λ came. leads s came u) counts
+pub in_part_with : {S : Type 0} (plan : Planned) (leads : S → List ItemPiece → S → Type 0) (goes_on : (s t u : S) (xs ys : List ItemPiece) → leads s xs t → leads t ys u → leads s (xs ++ ys) u) (s t u : S) (kept : ItemKept) (replies : List Reply) (counts : List ℕ) (p : ItemPiece) → 0 < plan.per_piece → SoFar plan (λ came. leads s came t) kept replies → leads t (p ∷ []) u → IsHonest plan p → shape_of_kept kept ≡ shape_of plan → NoneReady kept.buffers → counts ≡ delivered_counts kept → RelayedInPart plan (λ came. leads s came u) counts
 in_part_with plan leads goes_on s t u kept replies counts p some so led honest e ready c =
     let delivered = at_most_delivered (shape_of plan) kept so.came counts e so.stands (same_at_most counts (delivered_counts kept) c) in
     record {
@@ -188,7 +189,7 @@ in_part_with plan leads goes_on s t u kept replies counts p some so led honest e
     }
 
 -- before anything came nothing was taken
-pub part_at_start : (plan : Planned) (leads : List Piece → Type 0) (counts : List ℕ) → 0 < plan.per_piece → leads [] → counts ≡ replicate (files_of plan) 0 → RelayedInPart plan leads counts
+pub part_at_start : (plan : Planned) (leads : List ItemPiece → Type 0) (counts : List ℕ) → 0 < plan.per_piece → leads [] → counts ≡ replicate (files_of plan) 0 → RelayedInPart plan leads counts
 part_at_start plan leads counts some led e =
     let delivered : AtMostDelivered (shape_of plan) [] counts =
     record {

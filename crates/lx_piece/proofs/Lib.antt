@@ -10,3 +10,4 @@ pub mod Closed
 pub mod Cutting
 pub mod Arrived
 pub mod Whole
+pub mod Turned

@@ -11,7 +11,7 @@ use Rattle.lx_piece.specs.declared.piece.Piece.{Piece}
 use Rattle.lx_piece.specs.Kept.{Buffered, Advances, Delivers, IsReadySet, is_ready, is_ready_at, held_at}
 
 -- where a file is ready, it has a buffer
-pub ready_buffer : (o : Option Buffered) → is_ready_at o ≡ true → (buffer : Buffered) × (o ≡ Some buffer) × (is_ready buffer ≡ true)
+pub ready_buffer : {C : Type 0} (o : Option (Buffered C)) → is_ready_at o ≡ true → (buffer : Buffered C) × (o ≡ Some buffer) × (is_ready buffer ≡ true)
 ready_buffer None h = absurd (both_ways false refl h)
 ready_buffer (Some buffer) h = (buffer, refl, h)
 
@@ -19,7 +19,7 @@ is_above : (m n : ℕ) → n < m → is_gt (nat_cmp m n) ≡ true
 is_above m n l = rw (le-ltb m n (omega arith), ne_eqb m n (λ e. absurd (omega arith))) refl
 
 -- the lowest of the ready files hands its next piece on
-pub lowest_delivers : (buffers : List Buffered) (ready : BTreeSet ℕ) (file : ℕ) (buffer advanced : Buffered) (p : Piece) → IsReadySet buffers ready → contains nat_cmp ready file ≡ true → ((q : ℕ) → contains nat_cmp ready q ≡ true → is_gt (nat_cmp file q) ≡ false) → buffer ≡ get_or buffers file buffer → held_at buffer buffer.next ≡ Some p → Advances buffer advanced → Delivers buffers file p (slice_set buffers file advanced)
+pub lowest_delivers : {C : Type 0} (buffers : List (Buffered C)) (ready : BTreeSet ℕ) (file : ℕ) (buffer advanced : Buffered C) (p : Piece C) → IsReadySet buffers ready → contains nat_cmp ready file ≡ true → ((q : ℕ) → contains nat_cmp ready q ≡ true → is_gt (nat_cmp file q) ≡ false) → buffer ≡ get_or buffers file buffer → held_at buffer buffer.next ≡ Some p → Advances buffer advanced → Delivers buffers file p (slice_set buffers file advanced)
 lowest_delivers buffers ready file buffer advanced p set has least at next moves =
     let r = ready_buffer (slice_get buffers file) (sym (set.each file) ∙ has) in
     let same : buffer ≡ r.0 = at ∙ (sym (unwrap_or-slice_get buffers file buffer) ∙ ap (λ o. unwrap_or o buffer) r.1) in
@@ -54,7 +54,7 @@ at_number k n = elim (cases_eq n k) [
 ]
 
 -- the set is kept when one file's buffer changes
-pub ready_set_with : (buffers : List Buffered) (ready after : BTreeSet ℕ) (file : ℕ) (advanced : Buffered) → IsReadySet buffers ready → file < length buffers → contains nat_cmp after file ≡ is_ready advanced → ((g : ℕ) → (g ≡ file → ⊥) → contains nat_cmp after g ≡ contains nat_cmp ready g) → IsReadySet (slice_set buffers file advanced) after
+pub ready_set_with : {C : Type 0} (buffers : List (Buffered C)) (ready after : BTreeSet ℕ) (file : ℕ) (advanced : Buffered C) → IsReadySet buffers ready → file < length buffers → contains nat_cmp after file ≡ is_ready advanced → ((g : ℕ) → (g ≡ file → ⊥) → contains nat_cmp after g ≡ contains nat_cmp ready g) → IsReadySet (slice_set buffers file advanced) after
 ready_set_with buffers ready after file advanced set within here others =
     record {
       few = rw length-set set.few;

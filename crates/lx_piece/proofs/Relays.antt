@@ -6,43 +6,45 @@ use Rattle.std.proofs.lemmas.List.{map-set, get_or-map, get_or-set_same, get_or-
 use Rattle.std.proofs.lemmas.List.Sums.{sum_by-set}
 use Rattle.std.proofs.Math.ListN.{length-set}
 use Rattle.std.proofs.Math.Seq.{map-set_same}
+use Rattle.lx_scan.specs.declared.item.Item.{Item}
 use Rattle.lx_piece.specs.declared.piece.Piece.{Piece}
+use Rattle.lx_piece.specs.Pieces.{ItemPiece}
 use Rattle.lx_piece.specs.PieceLaws.{takes_in_order}
 use Rattle.lx_piece.specs.Plans.{Planned}
-use Rattle.lx_piece.specs.Kept.{Buffered, Delivers, KeepsIn, held_at, held_total}
-use Rattle.lx_piece.specs.Relayed.{HoldsPlanned, IsNextPiece, AreAtMost}
+use Rattle.lx_piece.specs.Kept.{Buffered, ItemLane, Delivers, KeepsIn, held_at, held_total}
+use Rattle.lx_piece.specs.Relayed.{HoldsPlanned, HoldsPlannedBy, IsNextPiece, AreAtMost}
 use Rattle.lx_piece.proofs.Readies.{get_set_same, get_set_other}
 use Rattle.lx_piece.proofs.Standing.{same_some}
 
 -- the counts of these buffers
-abbrev pub nexts : List Buffered → List ℕ
-nexts buffers = map (λ (buffer : Buffered). buffer.next) buffers
+abbrev pub nexts : {C : Type 0} → List (Buffered C) → List ℕ
+nexts {C} buffers = map (λ (buffer : Buffered C). buffer.next) buffers
 
-pub length-nexts : (buffers : List Buffered) → length (nexts buffers) ≡ length buffers
+pub length-nexts : {C : Type 0} (buffers : List (Buffered C)) → length (nexts buffers) ≡ length buffers
 length-nexts [] = refl
 length-nexts (buffer ∷ buffers) = ap suc (length-nexts buffers)
 
 -- a piece that is kept changes no count
-pub counts_kept : (old new : List Buffered) (p : Piece) → KeepsIn old p new → nexts new ≡ nexts old
-counts_kept old new p k =
+pub counts_kept : {C : Type 0} (old new : List (Buffered C)) (p : Piece C) → KeepsIn old p new → nexts new ≡ nexts old
+counts_kept {C} old new p k =
     ap nexts k.after
-    ∙ map-set_same (λ (buffer : Buffered). buffer.next) old p.file k.kept k.buffer (k.keeps.next ∙ sym (ap (λ (buffer : Buffered). buffer.next) (get_or_from_slice_get old p.file k.buffer k.buffer k.there)))
+    ∙ map-set_same (λ (buffer : Buffered C). buffer.next) old p.file k.kept k.buffer (k.keeps.next ∙ sym (ap (λ (buffer : Buffered C). buffer.next) (get_or_from_slice_get old p.file k.buffer k.buffer k.there)))
 
 -- a file's count
-pub count_at : (buffers : List Buffered) (file : ℕ) (buffer : Buffered) → slice_get buffers file ≡ Some buffer → slice_index (nexts buffers) file ≡ buffer.next
-count_at buffers file buffer h =
-    get_or-map (λ (l : Buffered). l.next) buffers file buffer 0 (slice_get_within buffers file buffer h)
-    ∙ ap (λ (l : Buffered). l.next) (get_or_from_slice_get buffers file buffer buffer h)
+pub count_at : {C : Type 0} (buffers : List (Buffered C)) (file : ℕ) (buffer : Buffered C) → slice_get buffers file ≡ Some buffer → slice_index (nexts buffers) file ≡ buffer.next
+count_at {C} buffers file buffer h =
+    get_or-map (λ (l : Buffered C). l.next) buffers file buffer 0 (slice_get_within buffers file buffer h)
+    ∙ ap (λ (l : Buffered C). l.next) (get_or_from_slice_get buffers file buffer buffer h)
 
 -- a piece that is delivered raises its file's count by one
-pub counts_delivered : (old new : List Buffered) (file : ℕ) (p : Piece) → Delivers old file p new → nexts new ≡ slice_set (nexts old) file (slice_index (nexts old) file + 1)
-counts_delivered old new file p h =
+pub counts_delivered : {C : Type 0} (old new : List (Buffered C)) (file : ℕ) (p : Piece C) → Delivers old file p new → nexts new ≡ slice_set (nexts old) file (slice_index (nexts old) file + 1)
+counts_delivered {C} old new file p h =
     ap nexts h.after
-    ∙ map-set (λ (buffer : Buffered). buffer.next) old file h.advanced
+    ∙ map-set (λ (buffer : Buffered C). buffer.next) old file h.advanced
     ∙ ap (λ (n : ℕ). slice_set (nexts old) file n) (h.moves.next ∙ ap (λ (n : ℕ). n + 1) (sym (count_at old file h.buffer h.there)))
 
 -- the piece that is delivered is the one that the reader takes next of its file
-pub delivered_is_next : (plan : Planned) (counts : List ℕ) (old new : List Buffered) (file : ℕ) (p : Piece) → 0 < plan.per_piece → HoldsPlanned plan old → counts ≡ nexts old → Delivers old file p new → IsNextPiece plan counts p
+pub delivered_is_next : (plan : Planned) (counts : List ℕ) (old new : List ItemLane) (file : ℕ) (p : ItemPiece) → 0 < plan.per_piece → HoldsPlanned plan old → counts ≡ nexts old → Delivers old file p new → IsNextPiece plan counts p
 delivered_is_next plan counts old new file p some s e h =
     let is = s.each file h.buffer h.there h.buffer.next p h.next in
     let number = is.2 ∙ sym (count_at old file h.buffer h.there) ∙ ap (λ (n : ℕ). slice_index (nexts old) n) (sym is.1) ∙ sym (ap (λ (ns : List ℕ). slice_index ns p.file) e) in
@@ -54,7 +56,7 @@ delivered_is_next plan counts old new file p some s e h =
     }
 
 -- the reader's counts follow the collector's
-pub counts_follow : (plan : Planned) (counts after : List ℕ) (old new : List Buffered) (file : ℕ) (p : Piece) → HoldsPlanned plan old → counts ≡ nexts old → Delivers old file p new → after ≡ slice_set counts p.file (slice_index counts p.file + 1) → after ≡ nexts new
+pub counts_follow : (plan : Planned) (counts after : List ℕ) (old new : List ItemLane) (file : ℕ) (p : ItemPiece) → HoldsPlanned plan old → counts ≡ nexts old → Delivers old file p new → after ≡ slice_set counts p.file (slice_index counts p.file + 1) → after ≡ nexts new
 counts_follow plan counts after old new file p s e h a =
     let is = s.each file h.buffer h.there h.buffer.next p h.next in
     a
@@ -63,8 +65,8 @@ counts_follow plan counts after old new file p s e h a =
     ∙ sym (counts_delivered old new file p h)
 
 -- what is held stays the plan's
-pub planned_delivered : (plan : Planned) (old new : List Buffered) (file : ℕ) (p : Piece) → HoldsPlanned plan old → Delivers old file p new → HoldsPlanned plan new
-planned_delivered plan old new file p s h =
+pub planned_delivered : {C : Type 0} (made : Planned → ℕ → List Item → C) (plan : Planned) (old new : List (Buffered C)) (file : ℕ) (p : Piece C) → HoldsPlannedBy made plan old → Delivers old file p new → HoldsPlannedBy made plan new
+planned_delivered made plan old new file p s h =
     record {
       files = ap length h.after ∙ length-set old file h.advanced ∙ s.files;
       each = λ g buffer at n q held.
@@ -86,19 +88,19 @@ planned_delivered plan old new file p s h =
     }
 
 -- fewer pieces are held
-pub fewer_held : (old new : List Buffered) (file : ℕ) (p : Piece) → Delivers old file p new → held_total new < held_total old
-fewer_held old new file p h =
-    let total = sum_by-set (λ (buffer : Buffered). length buffer.held) old file h.advanced h.buffer (slice_get_within old file h.buffer h.there) in
-    let buffer = ap (λ (l : Buffered). length l.held) (get_or_from_slice_get old file h.buffer h.buffer h.there) in
+pub fewer_held : {C : Type 0} (old new : List (Buffered C)) (file : ℕ) (p : Piece C) → Delivers old file p new → held_total new < held_total old
+fewer_held {C} old new file p h =
+    let total = sum_by-set (λ (buffer : Buffered C). length buffer.held) old file h.advanced h.buffer (slice_get_within old file h.buffer h.there) in
+    let buffer = ap (λ (l : Buffered C). length l.held) (get_or_from_slice_get old file h.buffer h.buffer h.there) in
     let fewer = h.moves.fewer in
     let now = ap held_total h.after in
     omega arith
 
-pub same_size : (old new : List Buffered) (file : ℕ) (p : Piece) → Delivers old file p new → length new ≡ length old
+pub same_size : {C : Type 0} (old new : List (Buffered C)) (file : ℕ) (p : Piece C) → Delivers old file p new → length new ≡ length old
 same_size old new file p h = ap length h.after ∙ length-set old file h.advanced
 
 -- the counts before are at most those after
-pub counts_rise : (old new : List Buffered) (file : ℕ) (p : Piece) → Delivers old file p new → AreAtMost (nexts old) (nexts new)
+pub counts_rise : {C : Type 0} (old new : List (Buffered C)) (file : ℕ) (p : Piece C) → Delivers old file p new → AreAtMost (nexts old) (nexts new)
 counts_rise old new file p h =
     record {
       files = length-nexts old ∙ sym (same_size old new file p h) ∙ sym (length-nexts new);
@@ -119,7 +121,7 @@ counts_rise old new file p h =
     }
 
 -- so counts that follow the collector's have not fallen
-pub risen_more : (first counts after : List ℕ) (old new : List Buffered) (file : ℕ) (p : Piece) → AreAtMost first counts → counts ≡ nexts old → after ≡ nexts new → Delivers old file p new → AreAtMost first after
+pub risen_more : {C : Type 0} (first counts after : List ℕ) (old new : List (Buffered C)) (file : ℕ) (p : Piece C) → AreAtMost first counts → counts ≡ nexts old → after ≡ nexts new → Delivers old file p new → AreAtMost first after
 risen_more first counts after old new file p before e f h =
     let step = counts_rise old new file p h in
     record {

@@ -13,13 +13,13 @@ use Rattle.lx_piece.specs.Kept.{Buffered, BufferStandsFor, KeepsPiece, Advances,
 use Rattle.lx_piece.proofs.AnyOf.{same_tests, any_witness, any_last, choice_none, or_none}
 
 -- what no cause against p says
-pub record NoCause (accepted : List Piece) (p : Piece) : Type 0 where
+pub record NoCause {C : Type 0} (accepted : List (Piece C)) (p : Piece C) : Type 0 where
   pub new : has_piece p.file p.number accepted ≡ false
   pub countable : nat_eq p.number top_number ≡ false
   pub before_closing : list_any (closes_before p) accepted ≡ false
   pub consistent : ((is_closing p) && list_any (is_later p) accepted) ≡ false
 
-pub no_cause : (accepted : List Piece) (p : Piece) → None ≡ cause_among accepted p → NoCause accepted p
+pub no_cause : {C : Type 0} (accepted : List (Piece C)) (p : Piece C) → None ≡ cause_among accepted p → NoCause accepted p
 no_cause accepted p h =
     let a = choice_none (has_piece p.file p.number accepted) Double _ h in
     let b = choice_none (nat_eq p.number top_number || list_any (closes_before p) accepted) AfterLast _ a.1 in
@@ -28,7 +28,7 @@ no_cause accepted p h =
     record { new = a.0; countable = d.0; before_closing = d.1; consistent = c.0 }
 
 -- no other piece of the file with a mark that only last pieces have was accepted
-no_other_marked : (test : Piece → Bool) (accepted : List Piece) (p : Piece) (n : ℕ) → NoCause accepted p → ((q : Piece) → test q ≡ true → is_closing q ≡ true) → is_closing p ≡ true → (p.number ≡ n → ⊥) →
+no_other_marked : {C : Type 0} (test : Piece C → Bool) (accepted : List (Piece C)) (p : Piece C) (n : ℕ) → NoCause accepted p → ((q : Piece C) → test q ≡ true → is_closing q ≡ true) → is_closing p ≡ true → (p.number ≡ n → ⊥) →
     list_any (λ r. test r && is_numbered p.file n r) accepted ≡ false
 no_other_marked test accepted p n none closes last other = false_from_ne_true (list_any (λ r. test r && is_numbered p.file n r) accepted) (λ h.
     let w = any_witness (λ r. test r && is_numbered p.file n r) accepted h in
@@ -53,11 +53,11 @@ truncated_closes Whole h = absurd (both_ways false refl h)
 truncated_closes Cut h = refl
 
 -- The number of an accepted piece with a mark that only last pieces have, once p is accepted too.
-kept_mark : (test : Piece → Bool) (accepted : List Piece) (p : Piece) (old new : Option ℕ) (n : ℕ) → NoCause accepted p → ((q : Piece) → test q ≡ true → is_closing q ≡ true) →
+kept_mark : {C : Type 0} (test : Piece C → Bool) (accepted : List (Piece C)) (p : Piece C) (old new : Option ℕ) (n : ℕ) → NoCause accepted p → ((q : Piece C) → test q ≡ true → is_closing q ≡ true) →
     new ≡ (if test p then Some p.number else old) → list_any (λ r. test r && is_numbered p.file n r) accepted ≡ is_number old n →
     list_any (λ r. test r && is_numbered p.file n r) (accepted ++ p ∷ []) ≡ is_number new n
-kept_mark test accepted p old new n clear closes is stands =
-    let marked : Piece → Bool = λ r. test r && is_numbered p.file n r in
+kept_mark {C} test accepted p old new n clear closes is stands =
+    let marked : Piece C → Bool = λ r. test r && is_numbered p.file n r in
     let more = any_last marked accepted p in
     elim (cases_Bool (test p)) [
       | inl has ↦
@@ -80,8 +80,8 @@ kept_mark test accepted p old new n clear closes is stands =
     ]
 
 -- a buffer that keeps an accepted piece stands for it too
-pub kept_stands : (old new : Buffered) (accepted : List Piece) (p : Piece) → BufferStandsFor old p.file accepted → KeepsPiece old p new → None ≡ cause_among accepted p → BufferStandsFor new p.file (accepted ++ p ∷ [])
-kept_stands old new accepted p s k none =
+pub kept_stands : {C : Type 0} (old new : Buffered C) (accepted : List (Piece C)) (p : Piece C) → BufferStandsFor old p.file accepted → KeepsPiece old p new → None ≡ cause_among accepted p → BufferStandsFor new p.file (accepted ++ p ∷ [])
+kept_stands {C} old new accepted p s k none =
     let clear = no_cause accepted p none in
     record {
       numbers = λ n. elim (cases_eq n p.number) [
@@ -93,13 +93,13 @@ kept_stands old new accepted p s k none =
             any_last (is_numbered p.file n) accepted p
             ∙ or_none (has_piece p.file n accepted) (is_numbered p.file n p) (and_right (nat_eq p.file p.file) (nat_eq p.number n) (ne_eqb p.number n (λ e. d (sym e))))
             ∙ s.numbers n
-            ∙ sym (ap (λ (m : ℕ). nat_lt n m || is_some (held_at new n)) k.next ∙ ap (λ (o : Option Piece). nat_lt n old.next || is_some o) (k.held n ∙ ap (λ b. if b then Some p else held_at old n) (ne_eqb n p.number d)))
+            ∙ sym (ap (λ (m : ℕ). nat_lt n m || is_some (held_at new n)) k.next ∙ ap (λ (o : Option (Piece C)). nat_lt n old.next || is_some o) (k.held n ∙ ap (λ b. if b then Some p else held_at old n) (ne_eqb n p.number d)))
       ];
       held = λ n q h. elim (cases_eq n p.number) [
         | inl e ↦
             let is : Some p ≡ Some q = sym (k.held n ∙ ap (λ b. if b then Some p else held_at old n) (eq-eqb n p.number e)) ∙ h in
             let same : p ≡ q = cc in
-            (ap (λ (r : Piece). r.file) (sym same), ap (λ (r : Piece). r.number) (sym same) ∙ sym e, Contains-append_right accepted (p ∷ []) q (subst (λ r. Contains (p ∷ []) r) same (0, omega arith, refl)))
+            (ap (λ (r : Piece C). r.file) (sym same), ap (λ (r : Piece C). r.number) (sym same) ∙ sym e, Contains-append_right accepted (p ∷ []) q (subst (λ r. Contains (p ∷ []) r) same (0, omega arith, refl)))
         | inr d ↦
             let was = s.held n q (sym (k.held n ∙ ap (λ b. if b then Some p else held_at old n) (ne_eqb n p.number d)) ∙ h) in
             (was.0, was.1, Contains-append_left accepted (p ∷ []) q was.2)
@@ -109,7 +109,7 @@ kept_stands old new accepted p s k none =
     }
 
 -- a piece of another file changes nothing for a buffer
-pub other_stands : (buffer : Buffered) (file : ℕ) (accepted : List Piece) (p : Piece) → BufferStandsFor buffer file accepted → (p.file ≡ file → ⊥) → BufferStandsFor buffer file (accepted ++ p ∷ [])
+pub other_stands : {C : Type 0} (buffer : Buffered C) (file : ℕ) (accepted : List (Piece C)) (p : Piece C) → BufferStandsFor buffer file accepted → (p.file ≡ file → ⊥) → BufferStandsFor buffer file (accepted ++ p ∷ [])
 other_stands buffer file accepted p s other =
     let away : (n : ℕ) → is_numbered file n p ≡ false = λ n. and_left (nat_eq p.file file) (nat_eq p.number n) (ne_eqb p.file file other) in
     record {
@@ -123,8 +123,8 @@ one_more : (n k : ℕ) → (n ≡ k → ⊥) → nat_lt n (k + 1) ≡ nat_lt n k
 one_more n k d = same_tests (nat_lt n (k + 1)) (nat_lt n k) (λ h. let l = ltb-true n (k + 1) h in lt-ltb n k (omega arith)) (λ h. let l = ltb-true n k h in lt-ltb n (k + 1) (omega arith))
 
 -- a buffer that delivered its next piece on stands for the same
-pub advanced_stands : (old new : Buffered) (file : ℕ) (accepted : List Piece) → BufferStandsFor old file accepted → Advances old new → is_ready old ≡ true → BufferStandsFor new file accepted
-advanced_stands old new file accepted s m ready =
+pub advanced_stands : {C : Type 0} (old new : Buffered C) (file : ℕ) (accepted : List (Piece C)) → BufferStandsFor old file accepted → Advances old new → is_ready old ≡ true → BufferStandsFor new file accepted
+advanced_stands {C} old new file accepted s m ready =
     record {
       numbers = λ n. s.numbers n ∙ elim (cases_eq n old.next) [
         | inl e ↦
@@ -133,7 +133,7 @@ advanced_stands old new file accepted s m ready =
         | inr d ↦
             sym (ap (λ (i : ℕ). nat_lt n i || is_some (held_at new n)) m.next
             ∙ ap (λ b. b || is_some (held_at new n)) (one_more n old.next d)
-            ∙ ap (λ (o : Option Piece). nat_lt n old.next || is_some o) (m.held n ∙ ap (λ b. if b then None else held_at old n) (ne_eqb n old.next d)))
+            ∙ ap (λ (o : Option (Piece C)). nat_lt n old.next || is_some o) (m.held n ∙ ap (λ b. if b then None else held_at old n) (ne_eqb n old.next d)))
       ];
       held = λ n q h. elim (cases_eq n old.next) [
         | inl e ↦

@@ -1,19 +1,19 @@
 use Rattle.std.proofs.Common.{ℕ, ◌≡◌, ◌<◌, List, [], ◌++◌, subst, append-nil}
-use Rattle.lx_piece.specs.declared.piece.Piece.{Piece}
+use Rattle.lx_piece.specs.Pieces.{ItemPiece}
 use Rattle.lx_piece.specs.declared.reply.Reply.{Reply}
 use Rattle.lx_piece.specs.Plans.{Planned}
 use Rattle.lx_piece.specs.Arrivals.{RunShape, shape_of}
-use Rattle.lx_piece.specs.Kept.{Kept, NoneReady, shape_of_kept, delivered_counts}
+use Rattle.lx_piece.specs.Kept.{ItemKept, NoneReady, shape_of_kept, delivered_counts}
 use Rattle.lx_piece.specs.Relayed.{AllDelivered, AtMostDelivered, Relayed}
 use Rattle.lx_piece.proofs.SoFar.{SoFar}
 use Rattle.lx_piece.proofs.Deliveries.{all_delivered, taken_from}
 use Rattle.lx_piece.proofs.Arrived.{taken_whole}
 
 -- where all was delivered, no more than that was
-at_most_all : (shape : RunShape) (came : List Piece) (counts : List ℕ) → AllDelivered shape came counts → AtMostDelivered shape came counts
+at_most_all : (shape : RunShape) (came : List ItemPiece) (counts : List ℕ) → AllDelivered shape came counts → AtMostDelivered shape came counts
 at_most_all shape came counts h = record { files = h.files; each = λ file j within l. (h.each file within).below j l }
 
-pub whole : {S : Type 0} (plan : Planned) (leads : S → List Piece → S → Type 0) (goes_on : (s t u : S) (xs ys : List Piece) → leads s xs t → leads t ys u → leads s (xs ++ ys) u) (s t u : S) (kept : Kept) (replies : List Reply) (counts : List ℕ) → 0 < plan.per_piece → SoFar plan (λ came. leads s came t) kept replies → leads t [] u → shape_of_kept kept ≡ shape_of plan → NoneReady kept.buffers → counts ≡ delivered_counts kept → Relayed plan (λ came. leads s came u) replies counts
+pub whole : {S : Type 0} (plan : Planned) (leads : S → List ItemPiece → S → Type 0) (goes_on : (s t u : S) (xs ys : List ItemPiece) → leads s xs t → leads t ys u → leads s (xs ++ ys) u) (s t u : S) (kept : ItemKept) (replies : List Reply) (counts : List ℕ) → 0 < plan.per_piece → SoFar plan (λ came. leads s came t) kept replies → leads t [] u → shape_of_kept kept ≡ shape_of plan → NoneReady kept.buffers → counts ≡ delivered_counts kept → Relayed plan (λ came. leads s came u) replies counts
 whole plan leads goes_on s t u kept replies counts some so led e ready c =
     let delivered = all_delivered (shape_of plan) kept so.came counts e so.stands ready c in
     let taken = taken_from plan so.came counts some so.honest (at_most_all (shape_of plan) so.came counts delivered) in

@@ -3,6 +3,7 @@ use Rattle.std.specs.Ordering.{nat_cmp}
 use Rattle.std.specs.BTreeMap.{is_at}
 use Rattle.std.specs.BTreeSet.{BTreeSet, contains}
 use Rattle.std.specs.Map.{lookup}
+use Rattle.lx_scan.specs.declared.item.Item.{Item}
 use Rattle.lx_piece.specs.declared.piece.Piece.{Piece}
 use Rattle.lx_piece.specs.declared.reply.Why.{Why}
 use Rattle.lx_piece.specs.Plans.{max_files}
@@ -11,34 +12,41 @@ use Rattle.lx_piece.specs.Arrivals.{RunShape, accepted_of, cause_against, has_pi
 
 -- What a collector keeps of one file: how many pieces were delivered, the number of the closing piece, the same where that piece is marked
 -- Cut, and the pieces held by their numbers.
-pub record Buffered : Type 0 where
+pub record Buffered (C : Type 0) : Type 0 where
   pub next : ℕ
   pub closing : Option ℕ
   pub truncated : Option ℕ
-  pub held : List (ℕ × Piece)
+  pub held : List (ℕ × (Piece C))
 
 -- what a collector keeps
-pub record Kept : Type 0 where
+pub record Kept (C : Type 0) : Type 0 where
   pub run : ℕ
-  pub buffers : List Buffered
+  pub buffers : List (Buffered C)
 
-abbrev pub shape_of_kept : Kept → RunShape
+-- the same where the pieces carry their items
+abbrev pub ItemLane : Type 0
+ItemLane = Buffered (List Item)
+
+abbrev pub ItemKept : Type 0
+ItemKept = Kept (List Item)
+
+abbrev pub shape_of_kept : {C : Type 0} → Kept C → RunShape
 shape_of_kept kept = record { run = kept.run; files = length kept.buffers }
 
 -- those that a collector accepted of these arrivals
-abbrev pub accepted_by : Kept → List Piece → List Piece
+abbrev pub accepted_by : {C : Type 0} → Kept C → List (Piece C) → List (Piece C)
 accepted_by kept came = accepted_of (shape_of_kept kept) came
 
 -- the first cause that it has against an arrival behind these
-abbrev pub cause_by : Kept → List Piece → Piece → Option Why
+abbrev pub cause_by : {C : Type 0} → Kept C → List (Piece C) → Piece C → Option Why
 cause_by kept came p = cause_against (shape_of_kept kept) (accepted_by kept came) p
 
 -- the piece held under a number
-abbrev pub held_at : Buffered → ℕ → Option Piece
+abbrev pub held_at : {C : Type 0} → Buffered C → ℕ → Option (Piece C)
 held_at buffer number = lookup (is_at (nat_cmp number)) buffer.held
 
 -- whether a piece of this number was delivered or is held
-abbrev pub has_number : Buffered → ℕ → Bool
+abbrev pub has_number : {C : Type 0} → Buffered C → ℕ → Bool
 has_number buffer number = nat_lt number buffer.next || is_some (held_at buffer number)
 
 -- whether the number is the closing one
@@ -47,22 +55,22 @@ is_number None n = false
 is_number (Some m) n = m == n
 
 -- a file's buffer stands for these accepted pieces
-pub record BufferStandsFor (buffer : Buffered) (file : ℕ) (accepted : List Piece) : Type 0 where
+pub record BufferStandsFor {C : Type 0} (buffer : Buffered C) (file : ℕ) (accepted : List (Piece C)) : Type 0 where
   pub numbers : (n : ℕ) → has_piece file n accepted ≡ has_number buffer n
-  pub held : (n : ℕ) (p : Piece) → held_at buffer n ≡ Some p → (p.file ≡ file) × (p.number ≡ n) × Contains accepted p
+  pub held : (n : ℕ) (p : Piece C) → held_at buffer n ≡ Some p → (p.file ≡ file) × (p.number ≡ n) × Contains accepted p
   pub closing : (n : ℕ) → has_closing file n accepted ≡ is_number buffer.closing n
   pub truncated : (n : ℕ) → has_truncated file n accepted ≡ is_number buffer.truncated n
 
 -- a collector stands for a list of arrivals
-pub record StandsFor (kept : Kept) (came : List Piece) : Type 0 where
-  pub each : (file : ℕ) (buffer : Buffered) → slice_get kept.buffers file ≡ Some buffer → BufferStandsFor buffer file (accepted_by kept came)
+pub record StandsFor {C : Type 0} (kept : Kept C) (came : List (Piece C)) : Type 0 where
+  pub each : (file : ℕ) (buffer : Buffered C) → slice_get kept.buffers file ≡ Some buffer → BufferStandsFor buffer file (accepted_by kept came)
 
 -- whether the file's next piece is held
-abbrev pub is_ready : Buffered → Bool
+abbrev pub is_ready : {C : Type 0} → Buffered C → Bool
 is_ready buffer = is_some (held_at buffer buffer.next)
 
 -- the next piece was delivered
-pub record Advances (old new : Buffered) : Type 0 where
+pub record Advances {C : Type 0} (old new : Buffered C) : Type 0 where
   pub next : new.next ≡ old.next + 1
   pub closing : new.closing ≡ old.closing
   pub truncated : new.truncated ≡ old.truncated
@@ -75,29 +83,29 @@ closed_before None n = false
 closed_before (Some m) n = nat_lt m n
 
 -- the closing number once p is kept
-abbrev pub closing_with : Option ℕ → Piece → Option ℕ
+abbrev pub closing_with : {C : Type 0} → Option ℕ → Piece C → Option ℕ
 closing_with closing p = if is_closing p then Some p.number else closing
 
 -- the same, of the number of a piece marked Cut
-abbrev pub truncated_with : Option ℕ → Piece → Option ℕ
+abbrev pub truncated_with : {C : Type 0} → Option ℕ → Piece C → Option ℕ
 truncated_with truncated p = if is_cut_short p then Some p.number else truncated
 
 -- the buffer holds p besides
-pub record KeepsPiece (old : Buffered) (p : Piece) (new : Buffered) : Type 0 where
+pub record KeepsPiece {C : Type 0} (old : Buffered C) (p : Piece C) (new : Buffered C) : Type 0 where
   pub next : new.next ≡ old.next
   pub closing : new.closing ≡ closing_with old.closing p
   pub truncated : new.truncated ≡ truncated_with old.truncated p
   pub held : (n : ℕ) → held_at new n ≡ (if n == p.number then Some p else held_at old n)
 
 -- whether the file's next piece is held, and false where there is no such file
-abbrev pub is_ready_at : Option Buffered → Bool
+abbrev pub is_ready_at : {C : Type 0} → Option (Buffered C) → Bool
 is_ready_at None = false
 is_ready_at (Some buffer) = is_ready buffer
 
 -- p is delivered: the next piece of the lowest file that holds its next
-pub record Delivers (old : List Buffered) (file : ℕ) (p : Piece) (new : List Buffered) : Type 0 where
-  pub buffer : Buffered
-  pub advanced : Buffered
+pub record Delivers {C : Type 0} (old : List (Buffered C)) (file : ℕ) (p : Piece C) (new : List (Buffered C)) : Type 0 where
+  pub buffer : Buffered C
+  pub advanced : Buffered C
   pub there : slice_get old file ≡ Some buffer
   pub next : held_at buffer buffer.next ≡ Some p
   pub lowest : (g : ℕ) → g < file → is_ready_at (slice_get old g) ≡ false
@@ -105,13 +113,13 @@ pub record Delivers (old : List Buffered) (file : ℕ) (p : Piece) (new : List B
   pub after : new ≡ slice_set old file advanced
 
 -- no file's next piece is held
-abbrev pub NoneReady : List Buffered → Type 0
+abbrev pub NoneReady : {C : Type 0} → List (Buffered C) → Type 0
 NoneReady buffers = (g : ℕ) → is_ready_at (slice_get buffers g) ≡ false
 
 -- p is held besides in its file's buffer
-pub record KeepsIn (old : List Buffered) (p : Piece) (new : List Buffered) : Type 0 where
-  pub buffer : Buffered
-  pub kept : Buffered
+pub record KeepsIn {C : Type 0} (old : List (Buffered C)) (p : Piece C) (new : List (Buffered C)) : Type 0 where
+  pub buffer : Buffered C
+  pub kept : Buffered C
   pub there : slice_get old p.file ≡ Some buffer
   pub keeps : KeepsPiece buffer p kept
   pub after : new ≡ slice_set old p.file kept
@@ -122,21 +130,21 @@ pub record IsReadySet (buffers : List Buffered) (ready : BTreeSet ℕ) : Type 0 
   pub each : (g : ℕ) → contains nat_cmp ready g ≡ is_ready_at (slice_get buffers g)
 
 -- what is kept of a file of which nothing came
-abbrev pub fresh_buffer : Buffered
+abbrev pub fresh_buffer : {C : Type 0} → Buffered C
 fresh_buffer = record { next = 0; closing = None; truncated = None; held = [] }
 
 -- how many pieces of each file were delivered
-abbrev pub delivered_counts : Kept → List ℕ
+abbrev pub delivered_counts : {C : Type 0} → Kept C → List ℕ
 delivered_counts kept = map (λ buffer. buffer.next) kept.buffers
 
 -- how many pieces are held
-abbrev pub held_total : List Buffered → ℕ
+abbrev pub held_total : {C : Type 0} → List (Buffered C) → ℕ
 held_total buffers = sum_by (λ buffer. length buffer.held) buffers
 
 -- the closing piece was delivered
-abbrev pub is_buffer_closed : Buffered → Bool
+abbrev pub is_buffer_closed : {C : Type 0} → Buffered C → Bool
 is_buffer_closed buffer = closed_before buffer.closing buffer.next
 
 -- it was, and is marked Cut
-abbrev pub is_buffer_truncated : Buffered → Bool
+abbrev pub is_buffer_truncated : {C : Type 0} → Buffered C → Bool
 is_buffer_truncated buffer = closed_before buffer.truncated buffer.next

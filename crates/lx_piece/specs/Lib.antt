@@ -6,3 +6,4 @@ pub mod Arrivals
 pub mod Kept
 pub mod Relayed
 pub mod Listed
+pub mod Turns

@@ -10,9 +10,8 @@ use Rattle.std.proofs.Math.Seq.{take-add}
 use Rattle.std.proofs.Math.Nat.{suc-mul, mul-le-mul_right, zero-mul}
 use Rattle.lx_scan.specs.declared.item.Item.{Item}
 use Rattle.lx_piece.specs.declared.piece.Mark.TheVariants.{More, Whole, Cut}
-use Rattle.lx_piece.specs.declared.piece.Piece.{Piece}
 use Rattle.lx_piece.specs.Plans.{Planned, is_cut, items_of}
-use Rattle.lx_piece.specs.Pieces.{is_closing, is_closing_mark, is_cut_mark, is_cut_short, piece_at, pieces_of, piece_count, pieces_to, contents, part, IsPrefix, TakesInOrder}
+use Rattle.lx_piece.specs.Pieces.{ItemPiece, is_closing, is_closing_mark, is_cut_mark, is_cut_short, piece_at, pieces_of, piece_count, pieces_to, contents, part, IsPrefix, TakesInOrder}
 
 -- a test of a list with one element more
 any_last : {X : Type 0} (test : X → Bool) (xs : List X) (x : X) → list_any test (xs ++ x ∷ []) ≡ (list_any test xs || test x)
@@ -22,7 +21,7 @@ any_last test xs x = list_any-append test xs (x ∷ []) ∙ ap (λ b. list_any t
 pub contents_to : (plan : Planned) (file count : ℕ) → contents (pieces_to plan file count) ≡ take (count * plan.per_piece) (items_of plan file)
 contents_to plan file zero = rw zero-mul refl
 contents_to plan file (suc count) =
-    flat_map-append (λ (piece : Piece). piece.items) (pieces_to plan file count) (piece_at plan file count ∷ [])
+    flat_map-append (λ (piece : ItemPiece). piece.items) (pieces_to plan file count) (piece_at plan file count ∷ [])
     ∙ ap (λ items. items ++ (part plan.per_piece (items_of plan file) count ++ [])) (contents_to plan file count)
     ∙ ap (λ items. take (count * plan.per_piece) (items_of plan file) ++ items) (append-nil (part plan.per_piece (items_of plan file) count))
     ∙ sym (ap (λ n. take n (items_of plan file)) (suc-mul count plan.per_piece) ∙ take-add (count * plan.per_piece) plan.per_piece (items_of plan file))

@@ -20,11 +20,11 @@ is_cut_mark Whole = false
 is_cut_mark Cut = true
 
 -- whether it is marked as the last piece of its file
-abbrev pub is_closing : Piece → Bool
+abbrev pub is_closing : {C : Type 0} → Piece C → Bool
 is_closing piece = is_closing_mark piece.mark
 
 -- whether it is marked as the last piece of a file whose reading failed
-abbrev pub is_cut_short : Piece → Bool
+abbrev pub is_cut_short : {C : Type 0} → Piece C → Bool
 is_cut_short piece = is_cut_mark piece.mark
 
 -- the greatest number of 64 bits, which no piece of a plan has
@@ -47,32 +47,46 @@ part per_piece items number = take per_piece (drop (number * per_piece) items)
 abbrev pub mark_of : Planned → ℕ → ℕ → Mark
 mark_of plan file number = if number + 1 == pieces_of plan file then (if is_cut plan file then Cut else Whole) else More
 
--- the piece of a file with this number
-abbrev pub piece_at : Planned → ℕ → ℕ → Piece
-piece_at plan file number =
+-- what a piece of items carries: the items
+abbrev pub bare : Planned → ℕ → List Item → List Item
+bare plan file items = items
+
+-- the piece of a file with this number, which carries what is made of its items
+abbrev pub piece_by : {C : Type 0} → (Planned → ℕ → List Item → C) → Planned → ℕ → ℕ → Piece C
+piece_by made plan file number =
     record {
       run = plan.run;
       file = file;
       number = number;
       mark = mark_of plan file number;
-      items = part plan.per_piece (items_of plan file) number;
+      items = made plan file (part plan.per_piece (items_of plan file) number);
     }
 
 -- p is the plan's piece of its file and number
-pub record IsPieceOf (plan : Planned) (p : Piece) : Type 0 where
+pub record IsPieceBy {C : Type 0} (made : Planned → ℕ → List Item → C) (plan : Planned) (p : Piece C) : Type 0 where
   pub file : p.file < files_of plan
   pub number : p.number < pieces_of plan p.file
   pub countable : p.number < top_number
-  pub whole : p ≡ piece_at plan p.file p.number
+  pub whole : p ≡ piece_by made plan p.file p.number
+
+-- a piece that carries its items
+abbrev pub ItemPiece : Type 0
+ItemPiece = Piece (List Item)
+
+abbrev pub piece_at : Planned → ℕ → ℕ → ItemPiece
+piece_at plan file number = piece_by bare plan file number
+
+abbrev pub IsPieceOf : Planned → ItemPiece → Type 0
+IsPieceOf plan p = IsPieceBy bare plan p
 
 -- the pieces of a file from 0 on, this many
-abbrev pub pieces_to : Planned → ℕ → ℕ → List Piece
+abbrev pub pieces_to : Planned → ℕ → ℕ → List ItemPiece
 pieces_to plan file zero = []
 pieces_to plan file (suc count) = pieces_to plan file count ++ piece_at plan file count ∷ []
 
 -- the items of pieces, one piece after the other
-abbrev pub contents : List Piece → List Item
-contents pieces = flat_map (λ (piece : Piece). piece.items) pieces
+abbrev pub contents : List ItemPiece → List Item
+contents pieces = flat_map (λ (piece : ItemPiece). piece.items) pieces
 
 -- the first begins the second
 abbrev pub IsPrefix : {X : Type 0} → List X → List X → Type 0

@@ -1,5 +1,5 @@
 ghost use Rattle.std.specs.Prelude.{◌≡◌, List, [], ◌∷◌, ◌++◌, MatchOption, IfSome};
-ghost use Rattle.lx_piece.specs.declared.piece.Piece.{Piece};
+ghost use Rattle.lx_piece.specs.Pieces.{ItemPiece};
 ghost use Rattle.lx_piece.specs.Plans.{Planned};
 ghost use Rattle.lx_piece.specs.Arrivals.{IsHonest};
 
@@ -11,7 +11,7 @@ pub trait Arrivals {
     ghost plan: { Self → Planned };
 
     /// The pieces of the list come, in this order, between one state and a later one.
-    ghost leads: { Self → List Piece → Self → Type 0 };
+    ghost leads: { Self → List ItemPiece → Self → Type 0 };
 
     /// No piece comes any more.
     ghost has_ended: { Self → Type 0 };
@@ -25,5 +25,5 @@ pub trait Arrivals {
 
     ghost stays: { (s : Self) → leads s [] s };
 
-    ghost goes_on: { (s t u : Self) (xs ys : List Piece) → leads s xs t → leads t ys u → leads s (xs ++ ys) u };
+    ghost goes_on: { (s t u : Self) (xs ys : List ItemPiece) → leads s xs t → leads t ys u → leads s (xs ++ ys) u };
 }

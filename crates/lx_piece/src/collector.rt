@@ -5,6 +5,7 @@ ghost use Rattle.lx_piece.specs.Pieces.{top_number};
 ghost use Rattle.lx_piece.specs.Plans.{max_files};
 ghost use Rattle.lx_piece.specs.Kept.{Buffered, StandsFor, Delivers, NoneReady, KeepsIn, IsReadySet, fresh_buffer, has_number, is_buffer_closed, is_buffer_truncated, delivered_counts, accepted_by, cause_by};
 
+use crate::items::Items;
 use crate::piece::Piece;
 use crate::reorder_buffer::ReorderBuffer;
 use crate::reply::{Refused, Why};
@@ -13,15 +14,15 @@ use std::collections::BTreeSet;
 use std::marker::Model;
 
 /// Holds the piece in its file's buffer. It comes back where memory is refused.
-fn keep_in(
-    buffers: &mut Vec<ReorderBuffer>,
+fn keep_in<C: Drop>(
+    buffers: &mut Vec<ReorderBuffer<C>>,
     ready: &mut BTreeSet<u32>,
-    piece: Piece,
-) -> Result<(), Piece>
+    piece: Piece<C>,
+) -> Result<(), Piece<C>>
     requires file { piece.file < length buffers.old.items }
     requires countable { piece.number < top_number }
     requires ready_set { IsReadySet buffers.old.items ready.old }
-    requires new { (buffer : Buffered) → slice_get buffers.old.items piece.file ≡ Some buffer → has_number buffer piece.number ≡ false }
+    requires new { (buffer : Buffered C) → slice_get buffers.old.items piece.file ≡ Some buffer → has_number buffer piece.number ≡ false }
     ensures ok { OnOk result (KeepsIn buffers.old.items piece buffers.new.items) }
     ensures err { IfErr result (λ back. (back ≡ piece) × (buffers.new.items ≡ buffers.old.items)) }
     ensures ready_set { IsReadySet buffers.new.items ready.new }
@@ -44,7 +45,10 @@ fn keep_in(
 }
 
 /// Hands on the next piece of the lowest file that holds it.
-fn deliver_lowest(buffers: &mut Vec<ReorderBuffer>, ready: &mut BTreeSet<u32>) -> Option<Piece>
+fn deliver_lowest<C: Drop>(
+    buffers: &mut Vec<ReorderBuffer<C>>,
+    ready: &mut BTreeSet<u32>,
+) -> Option<Piece<C>>
     requires { IsReadySet buffers.old.items ready.old }
     ensures delivered { MatchOption result (NoneReady buffers.old.items × (buffers.new.items ≡ buffers.old.items)) (λ p. (file : ℕ) × Delivers buffers.old.items file p buffers.new.items) }
     ensures ready_set { IsReadySet buffers.new.items ready.new }
@@ -58,7 +62,7 @@ fn deliver_lowest(buffers: &mut Vec<ReorderBuffer>, ready: &mut BTreeSet<u32>) -
     Some(piece)
 }
 
-fn fresh_buffers(alloc: Global, files: u32) -> Result<Vec<ReorderBuffer>, AllocError>
+fn fresh_buffers<C: Drop>(alloc: Global, files: u32) -> Result<Vec<ReorderBuffer<C>>, AllocError>
     ensures { IfOk result (λ buffers. buffers.items ≡ replicate files fresh_buffer) }
 {
     let mut buffers = Vec::new(alloc);
@@ -70,24 +74,24 @@ fn fresh_buffers(alloc: Global, files: u32) -> Result<Vec<ReorderBuffer>, AllocE
 
 /// Puts the pieces of a run's files in order.
 #[derive(Drop)]
-pub struct Collector {
+pub struct Collector<C = Items> {
     run: u64,
-    buffers: Vec<ReorderBuffer>,
+    buffers: Vec<ReorderBuffer<C>>,
     ready: BTreeSet<u32>,
 }
 
-impl Model for Collector {
+impl<C> Model for Collector<C> {
     ghost use Rattle.lx_piece.specs.Kept.{Kept, IsReadySet};
 
-    ghost Value = { Kept };
+    ghost Value = { Kept C };
 
     ghost view = { λ s. record { run = s.run; buffers = s.buffers.items } };
 
     ghost invariant = { λ s. IsReadySet s.buffers.items s.ready };
 }
 
-impl Collector {
-    pub fn new(alloc: Global, run: u64, files: u32) -> Result<Collector, AllocError>
+impl<C: Drop> Collector<C> {
+    pub fn new(alloc: Global, run: u64, files: u32) -> Result<Collector<C>, AllocError>
         requires some { 0 < files }
         requires few { files ≤ max_files }
         ensures kept { IfOk result (λ c. c ≡ record { run = run; buffers = replicate files fresh_buffer }) }
@@ -101,11 +105,11 @@ impl Collector {
     }
 
     /// The first cause against a piece.
-    fn cause(&self, piece: &Piece) -> Option<Why>
-        ensures first { (came : List Piece) → StandsFor self.now came → result ≡ cause_by self.now came piece.now }
+    fn cause(&self, piece: &Piece<C>) -> Option<Why>
+        ensures first { (came : List (Piece C)) → StandsFor self.now came → result ≡ cause_by self.now came piece.now }
         ensures file { IfNone result (piece.now.file < length self.now.buffers) }
         ensures countable { IfNone result (piece.now.number < top_number) }
-        ensures new { IfNone result ((buffer : Buffered) → slice_get self.now.buffers piece.now.file ≡ Some buffer → has_number buffer piece.now.number ≡ false) }
+        ensures new { IfNone result ((buffer : Buffered C) → slice_get self.now.buffers piece.now.file ≡ Some buffer → has_number buffer piece.now.number ≡ false) }
     {
         if piece.run != self.run {
             return Some(Why::WrongRun);
@@ -118,14 +122,14 @@ impl Collector {
     }
 
     /// Takes a piece in, or gives it back with the cause. A piece that comes back leaves all as it was.
-    pub fn offer(&mut self, piece: Piece) -> Result<(), Refused>
+    pub fn offer(&mut self, piece: Piece<C>) -> Result<(), Refused<C>>
         // The answer is that to the piece behind all that came, but for memory.
-        ensures reply { (came : List Piece) → StandsFor self.old came → MatchResult result
+        ensures reply { (came : List (Piece C)) → StandsFor self.old came → MatchResult result
             (λ _. cause_by self.old came piece ≡ None)
             (λ refused. (refused.why ≡ Why.Memory) ⊎ (cause_by self.old came piece ≡ Some refused.why)) }
         // Memory stands behind every other cause.
-        ensures memory { (came : List Piece) → StandsFor self.old came → IfErr result (λ refused. refused.why ≡ Why.Memory → cause_by self.old came piece ≡ None) }
-        ensures ok { (came : List Piece) → StandsFor self.old came → OnOk result (StandsFor self.new (came ++ piece ∷ [])) }
+        ensures memory { (came : List (Piece C)) → StandsFor self.old came → IfErr result (λ refused. refused.why ≡ Why.Memory → cause_by self.old came piece ≡ None) }
+        ensures ok { (came : List (Piece C)) → StandsFor self.old came → OnOk result (StandsFor self.new (came ++ piece ∷ [])) }
         ensures kept { OnOk result (KeepsIn self.old.buffers piece self.new.buffers) }
         ensures run { self.new.run ≡ self.old.run }
         ensures err { IfErr result (λ refused. (refused.piece ≡ piece) × (self.new ≡ self.old)) }
@@ -143,10 +147,10 @@ impl Collector {
     }
 
     /// Hands on the next piece of the lowest file that holds it, if one does.
-    pub fn deliver(&mut self) -> Option<Piece>
+    pub fn deliver(&mut self) -> Option<Piece<C>>
         ensures delivered { MatchOption result (NoneReady self.old.buffers × (self.new ≡ self.old)) (λ p. (file : ℕ) × Delivers self.old.buffers file p self.new.buffers) }
         ensures run { self.new.run ≡ self.old.run }
-        ensures stands { (came : List Piece) → StandsFor self.old came → StandsFor self.new came }
+        ensures stands { (came : List (Piece C)) → StandsFor self.old came → StandsFor self.new came }
     {
         deliver_lowest(&mut self.buffers, &mut self.ready)
     }
@@ -154,8 +158,8 @@ impl Collector {
     /// The closing piece of the file was delivered.
     pub fn is_closed(&self, file: u32) -> bool
         requires { file < length self.now.buffers }
-        ensures buffer { (buffer : Buffered) → slice_get self.now.buffers file ≡ Some buffer → result ≡ is_buffer_closed buffer }
-        ensures closed { (came : List Piece) → StandsFor self.now came → IsTrue result ↔
+        ensures buffer { (buffer : Buffered C) → slice_get self.now.buffers file ≡ Some buffer → result ≡ is_buffer_closed buffer }
+        ensures closed { (came : List (Piece C)) → StandsFor self.now came → IsTrue result ↔
             IsClosedBelow (accepted_by self.now came) file (slice_index (delivered_counts self.now) file) }
     {
         let buffer = &self.buffers[file as usize];
@@ -165,8 +169,8 @@ impl Collector {
     /// The closing piece of the file was delivered, and is marked Cut.
     pub fn is_cut(&self, file: u32) -> bool
         requires { file < length self.now.buffers }
-        ensures buffer { (buffer : Buffered) → slice_get self.now.buffers file ≡ Some buffer → result ≡ is_buffer_truncated buffer }
-        ensures cut { (came : List Piece) → StandsFor self.now came → IsTrue result ↔
+        ensures buffer { (buffer : Buffered C) → slice_get self.now.buffers file ≡ Some buffer → result ≡ is_buffer_truncated buffer }
+        ensures cut { (came : List (Piece C)) → StandsFor self.now came → IsTrue result ↔
             IsTruncatedBelow (accepted_by self.now came) file (slice_index (delivered_counts self.now) file) }
     {
         let buffer = &self.buffers[file as usize];
@@ -176,14 +180,14 @@ impl Collector {
     /// The closing piece of each file was delivered.
     pub fn all_closed(&self) -> bool
         ensures buffers { IsTrue result ↔ All (λ buffer. is_buffer_closed buffer ≡ true) self.now.buffers }
-        ensures closed { (came : List Piece) → StandsFor self.now came → IsTrue result ↔ ((file : ℕ) → file < length self.now.buffers →
+        ensures closed { (came : List (Piece C)) → StandsFor self.now came → IsTrue result ↔ ((file : ℕ) → file < length self.now.buffers →
             IsClosedBelow (accepted_by self.now came) file (slice_index (delivered_counts self.now) file)) }
     {
         all_buffers_closed(&self.buffers)
     }
 }
 
-fn all_buffers_closed(buffers: &[ReorderBuffer]) -> bool
+fn all_buffers_closed<C: Drop>(buffers: &[ReorderBuffer<C>]) -> bool
     ensures { IsTrue result ↔ All (λ buffer. is_buffer_closed buffer ≡ true) buffers.now }
 {
     buffers.iter().all(|buffer| buffer.is_closed())

@@ -4,10 +4,10 @@ ghost use Rattle.std.specs.Prelude.{if◌then◌else◌, ◌≡◌, ◌+◌, ◌
 ghost use Rattle.lx_scan.specs.Cursors.{IsInText, items_left, listed};
 ghost use Rattle.lx_scan.specs.declared.item.Item.{Item};
 ghost use Rattle.lx_piece.specs.Cutting.{IsCutterOf, items_ahead};
-ghost use Rattle.lx_piece.specs.Pieces.{IsPieceOf, mark_of, piece_at, pieces_of};
+ghost use Rattle.lx_piece.specs.Pieces.{IsPieceBy, IsPieceOf, mark_of, piece_at, piece_by, pieces_of};
 ghost use Rattle.lx_piece.specs.Plans.{bytes_of, files_of, is_cut};
 
-use crate::items::Items;
+use crate::maker::{KeepItems, Maker};
 use crate::piece::{Mark, Piece};
 use crate::plan::Plan;
 use lx_scan::{Cursor, Item};
@@ -96,8 +96,8 @@ impl Cutter {
         }
     }
 
-    /// The next piece of the file, and `None` behind the last one from then on. The plan is the one that the
-    /// cutter was made with. Where memory is refused nothing has changed.
+    /// The next piece of the file, which carries its items, and `None` behind the last one from then on. The plan is the one that
+    /// the cutter was made with. Where memory is refused nothing has changed.
     pub fn next_piece(&mut self, plan: &Plan) -> Result<Option<Piece>, AllocError>
         requires { IsCutterOf plan.now self.old }
         ensures cutter { IsCutterOf plan.now self.new }
@@ -107,7 +107,26 @@ impl Cutter {
             (λ piece. IsPieceOf plan.now piece × (piece ≡ piece_at plan.now self.old.file self.old.next) × (self.new.next ≡ self.old.next + 1))) }
         ensures err { OnErr result (self.new ≡ self.old) }
     {
+        self.next_made(plan, &mut KeepItems)
+    }
+
+    /// The same, where the piece carries what is made of its items.
+    pub fn next_made<M: Maker>(
+        &mut self,
+        plan: &Plan,
+        maker: &mut M,
+    ) -> Result<Option<Piece<M::Made>>, AllocError>
+        requires { IsCutterOf plan.now self.old }
+        ensures cutter { IsCutterOf plan.now self.new }
+        ensures file { self.new.file ≡ self.old.file }
+        ensures piece { IfOk result (λ next. MatchOption next
+            ((self.old.next ≡ pieces_of plan.now self.old.file) × (self.new ≡ self.old))
+            (λ piece. IsPieceBy M.made plan.now piece × (piece ≡ piece_by M.made plan.now self.old.file self.old.next) × (self.new.next ≡ self.old.next + 1))) }
+        ensures err { OnErr result (self.new ≡ self.old) }
+    {
         let most = plan.per_piece() as usize;
+        // its contract says that the items of a plan's files are items of these
+        let _files = plan.files();
         if self.number > 0 && self.ahead.is_none() {
             return Ok(None);
         }
@@ -133,7 +152,7 @@ impl Cutter {
             file: self.file,
             number: self.number,
             mark: mark(ahead.is_none(), plan.is_cut(self.file)),
-            items: Items::from_vec(items),
+            items: maker.make(plan, self.file, items),
         };
         self.number += 1;
         self.cursor = cursor;

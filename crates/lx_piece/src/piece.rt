@@ -15,7 +15,7 @@ pub enum Mark {
 
 /// A part of the items of a file.
 #[derive(Debug, Drop)]
-pub struct Piece {
+pub struct Piece<C = Items> {
     /// The number of the run that it belongs to.
     pub run: u64,
     /// The file, from 0.
@@ -23,10 +23,11 @@ pub struct Piece {
     /// Its place, from 0, among the pieces of its file.
     pub number: u64,
     pub mark: Mark,
-    pub items: Items,
+    /// Its items, or what is made of them.
+    pub items: C,
 }
 
-impl Piece {
+impl<C> Piece<C> {
     ghost use Rattle.lx_piece.specs.Pieces.{is_closing, is_cut_short};
 
     /// No piece of the file comes behind it.

@@ -1,5 +1,5 @@
 ghost use Rattle.std.specs.Prelude.{◌≡◌, ◌<◌, List, [], ◌∷◌, ◌++◌, length, replicate, OnOk, OnErr, IfOk, IfErr, Ok, Err};
-ghost use Rattle.lx_piece.specs.declared.piece.Piece.{Piece};
+ghost use Rattle.lx_piece.specs.Pieces.{ItemPiece};
 ghost use Rattle.lx_piece.specs.Plans.{files_of};
 ghost use Rattle.lx_piece.specs.Pieces.{top_number};
 ghost use Rattle.lx_piece.specs.Arrivals.{accepted_of, replies_of, reply_to};
@@ -47,8 +47,8 @@ impl<T: Drop> From<AllocFailed<T>> for RelayFault {
 
 /// Offers an arrival. Only memory keeps it from a reply, and then nothing has changed.
 fn offer_to(collector: &mut Collector, piece: Piece) -> Result<Reply, RelayFault>
-    ensures reply { (came : List Piece) → StandsFor collector.old came → IfOk result (λ reply. reply ≡ reply_to (shape_of_kept collector.old) (accepted_of (shape_of_kept collector.old) came) piece) }
-    ensures stands { (came : List Piece) → StandsFor collector.old came → OnOk result (StandsFor collector.new (came ++ piece ∷ [])) }
+    ensures reply { (came : List ItemPiece) → StandsFor collector.old came → IfOk result (λ reply. reply ≡ reply_to (shape_of_kept collector.old) (accepted_of (shape_of_kept collector.old) came) piece) }
+    ensures stands { (came : List ItemPiece) → StandsFor collector.old came → OnOk result (StandsFor collector.new (came ++ piece ∷ [])) }
     ensures shape { shape_of_kept collector.new ≡ shape_of_kept collector.old }
     ensures counts { delivered_counts collector.new ≡ delivered_counts collector.old }
     ensures memory { IfErr result (λ fault. fault ≡ RelayFault.Memory) }
@@ -71,7 +71,7 @@ fn deliver_all<R: Reader>(collector: &mut Collector, reader: &mut R) -> Result<(
     requires countable { R.fault_count reader.old < top_number }
     ensures plan { R.plan reader.new ≡ R.plan reader.old }
     ensures follows { R.follows reader.old reader.new }
-    ensures stands { (came : List Piece) → StandsFor collector.old came → StandsFor collector.new came }
+    ensures stands { (came : List ItemPiece) → StandsFor collector.old came → StandsFor collector.new came }
     ensures shape { shape_of_kept collector.new ≡ shape_of_kept collector.old }
     ensures ok { OnOk result ((R.counts reader.new ≡ delivered_counts collector.new) × NoneReady collector.new.buffers × (R.fault_count reader.new ≡ R.fault_count reader.old)) }
     ensures err { OnErr result (AreAtMost (R.counts reader.new) (delivered_counts collector.new) × AreAtMost (R.counts reader.old) (R.counts reader.new)) }

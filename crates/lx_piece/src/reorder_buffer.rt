@@ -22,7 +22,7 @@ fn is_below(known: Option<u64>, number: u64) -> bool
 
 /// What a collector keeps of one file.
 #[derive(Drop)]
-pub(crate) struct ReorderBuffer {
+pub(crate) struct ReorderBuffer<C> {
     /// How many pieces were delivered, so the number of the next.
     next: u64,
     /// The number of the closing piece, once it was accepted.
@@ -30,24 +30,24 @@ pub(crate) struct ReorderBuffer {
     /// The same, where that piece is marked Cut.
     truncated: Option<u64>,
     /// The pieces that were accepted and not yet delivered, by their numbers.
-    held: BTreeMap<u64, Piece>,
+    held: BTreeMap<u64, Piece<C>>,
 }
 
-impl Model for ReorderBuffer {
+impl<C> Model for ReorderBuffer<C> {
     ghost use Rattle.std.specs.Prelude.{ℕ, ◌<◌, IsSome};
     ghost use Rattle.std.specs.Ordering.{nat_cmp};
     ghost use Rattle.std.specs.BTreeMap.{get};
     ghost use Rattle.lx_piece.specs.Pieces.{top_number};
     ghost use Rattle.lx_piece.specs.Kept.{Buffered};
 
-    ghost Value = { Buffered };
+    ghost Value = { Buffered C };
 
     ghost view = { λ s. record { next = s.next; closing = s.closing; truncated = s.truncated; held = s.held.entries } };
 
     ghost invariant = { λ s. (n : ℕ) → IsSome (get nat_cmp s.held n) → n < top_number };
 }
 
-impl ReorderBuffer {
+impl<C: Drop> ReorderBuffer<C> {
     /// The buffer of a file of which nothing came.
     pub(crate) fn new(alloc: Global) -> Self
         ensures { result ≡ fresh_buffer }
@@ -86,8 +86,8 @@ impl ReorderBuffer {
     }
 
     /// The first cause against a piece of this file.
-    pub(crate) fn cause(&self, piece: &Piece) -> Option<Why>
-        ensures first { (accepted : List Piece) → BufferStandsFor self.now piece.now.file accepted → result ≡ cause_among accepted piece.now }
+    pub(crate) fn cause(&self, piece: &Piece<C>) -> Option<Why>
+        ensures first { (accepted : List (Piece C)) → BufferStandsFor self.now piece.now.file accepted → result ≡ cause_among accepted piece.now }
         ensures countable { IfNone result (piece.now.number < top_number) }
         ensures new { IfNone result (has_number self.now piece.now.number ≡ false) }
     {
@@ -104,7 +104,7 @@ impl ReorderBuffer {
     }
 
     /// Holds the piece. It comes back where memory is refused, and nothing has changed then.
-    pub(crate) fn keep(&mut self, piece: Piece) -> Result<(), Piece>
+    pub(crate) fn keep(&mut self, piece: Piece<C>) -> Result<(), Piece<C>>
         requires { piece.number < top_number }
         ensures ok { OnOk result (KeepsPiece self.old piece self.new) }
         ensures err { IfErr result (λ back. (back ≡ piece) × (self.new ≡ self.old)) }
@@ -127,7 +127,7 @@ impl ReorderBuffer {
     }
 
     /// Takes the next piece out, if it is held.
-    pub(crate) fn deliver(&mut self) -> Option<Piece>
+    pub(crate) fn deliver(&mut self) -> Option<Piece<C>>
         ensures piece { result ≡ held_at self.old self.old.next }
         ensures none { IfNone result (self.new ≡ self.old) }
         ensures some { IfSome result (λ _. Advances self.old self.new) }

@@ -1,3 +1,4 @@
+use crate::items::Items;
 use crate::piece::Piece;
 use thiserror::Error;
 
@@ -35,7 +36,7 @@ pub enum Reply {
 /// A piece that a collector gives back, and why.
 #[derive(Debug, Drop, Error)]
 #[error("{why}")]
-pub struct Refused {
+pub struct Refused<C = Items> {
     pub why: Why,
-    pub piece: Piece,
+    pub piece: Piece<C>,
 }

@@ -7,13 +7,13 @@ use Rattle.lx_piece.proofs.collector.deliver_lowest.Goals as goal
 use Rattle.lx_piece.proofs.collector.deliver_lowest.Goals.{then-not-is_ready, else-not-is_ready}
 
 pub returns-clause-delivered : goal.returns-clause-delivered
-returns-clause-delivered c =
+returns-clause-delivered g c =
     let file = c.in_ok-file.ensures in
     let piece = c.in_ok-piece.ensures in
     (c.in_ok-file.field-0.now, lowest_delivers _ _ _ _ _ _ c.requires file.member file.least c.index_mut-buffer.ensures.value (sym piece.piece) piece.some)
 
 pub returns-clause-ready_set : goal.returns-clause-ready_set
-returns-clause-ready_set c =
+returns-clause-ready_set g c =
     let file = c.in_ok-file.field-0.now in
     let ready = c.args.ready.now in
     let hands = lowest_delivers _ _ _ _ _ _ c.requires c.in_ok-file.ensures.member c.in_ok-file.ensures.least c.index_mut-buffer.ensures.value (sym c.in_ok-piece.ensures.piece) c.in_ok-piece.ensures.some in

@@ -1,5 +1,5 @@
 use Rattle.std.proofs.Common.{◌≡◌, List}
-use Rattle.lx_piece.specs.declared.piece.Piece.{Piece}
+use Rattle.lx_piece.specs.Pieces.{ItemPiece}
 use Rattle.lx_piece.specs.Kept.{StandsFor, shape_of_kept, delivered_counts, held_total}
 use Rattle.lx_piece.specs.Relayed.{HoldsPlanned, AreAtMost}
 use Rattle.lx_piece.proofs.relaying.deliver_all.Given as goal
@@ -14,7 +14,7 @@ invariant-loop-piece g l =
       counts : g.R.Reader.counts l.reader ≡ delivered_counts l.collector;
       risen : AreAtMost (g.R.Reader.counts l.fn.reader) (g.R.Reader.counts l.reader);
       faults : g.R.Reader.fault_count l.reader ≡ g.R.Reader.fault_count l.fn.reader;
-      stands : (came : List Piece) → StandsFor l.fn.collector came → StandsFor l.collector came;
+      stands : (came : List ItemPiece) → StandsFor l.fn.collector came → StandsFor l.collector came;
       shape : shape_of_kept l.collector ≡ shape_of_kept l.fn.collector;
     }
 

@@ -7,7 +7,7 @@ use Rattle.lx_piece.proofs.reorder_buffer.ReorderBuffer.cause.Goals as goal
 use Rattle.lx_piece.proofs.reorder_buffer.ReorderBuffer.cause.Goals.{then-piece-via-then-piece, then-piece-via-else-piece+then-is_closed_before, else-is_closing-via-then-is_closing+else-holds_later, else-is_closing-via-else-is_closing}
 
 pub returns-then-piece-clause-first : goal.returns-then-piece-clause-first
-returns-then-piece-clause-first c = λ accepted s.
+returns-then-piece-clause-first g c = λ accepted s.
     let n = c.args.piece.now.number in
     let buffer = c.args.self.now in
     refused_after_last buffer accepted c.args.piece.now s (sym c.has.ensures ∙ c.if-has.false)
@@ -17,7 +17,7 @@ returns-then-piece-clause-first c = λ accepted s.
     ])
 
 pub returns-then-holds_later-clause-first : goal.returns-then-holds_later-clause-first
-returns-then-holds_later-clause-first c = λ accepted s.
+returns-then-holds_later-clause-first g c = λ accepted s.
     let n = c.args.piece.now.number in
     let buffer = c.args.self.now in
     refused_contradicts buffer accepted c.args.piece.now s (sym c.has.ensures ∙ c.if-has.false)
@@ -26,7 +26,7 @@ returns-then-holds_later-clause-first c = λ accepted s.
     (c.holds_later.ensures.yes c.if-holds_later.true)
 
 pub returns-clause-first : goal.returns-clause-first
-returns-clause-first c = λ accepted s.
+returns-clause-first g c = λ accepted s.
     let n = c.args.piece.now.number in
     let buffer = c.args.self.now in
     not_refused buffer accepted c.args.piece.now s (sym c.has.ensures ∙ c.if-has.false)

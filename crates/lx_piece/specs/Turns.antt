@@ -1,0 +1,32 @@
+-- The pieces of a plan in its order: file after file, and of each file one after the other.
+use Rattle.std.specs.Prelude.{ℕ, ◌≡◌, ◌+◌, ◌<◌, ◌==◌, if◌then◌else◌, List}
+use Rattle.lx_scan.specs.declared.item.Item.{Item}
+use Rattle.lx_piece.specs.declared.piece.Piece.{Piece}
+use Rattle.lx_piece.specs.Plans.{Planned, files_of}
+use Rattle.lx_piece.specs.Pieces.{IsPieceBy, pieces_of}
+
+-- before a piece: its file, and its number
+pub record Turn : Type 0 where
+  pub file : ℕ
+  pub number : ℕ
+
+abbrev pub first_turn : Turn
+first_turn = record { file = 0; number = 0 }
+
+-- behind the last piece of the last file
+abbrev pub last_turn : Planned → Turn
+last_turn plan = record { file = files_of plan; number = 0 }
+
+-- the turn once so many pieces of a file were taken
+abbrev pub turn_at : Planned → ℕ → ℕ → Turn
+turn_at plan file count = if count == pieces_of plan file then record { file = file + 1; number = 0 } else record { file = file; number = count }
+
+-- behind the piece of this turn: the next one of its file, or the first one of the file behind it
+abbrev pub turn_after : Planned → Turn → Turn
+turn_after plan turn = turn_at plan turn.file (turn.number + 1)
+
+-- p is the piece of this turn
+pub record HasTurn {C : Type 0} (made : Planned → ℕ → List Item → C) (plan : Planned) (turn : Turn) (p : Piece C) : Type 0 where
+  pub piece : IsPieceBy made plan p
+  pub file : p.file ≡ turn.file
+  pub number : p.number ≡ turn.number

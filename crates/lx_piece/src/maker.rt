@@ -1,0 +1,38 @@
+//! What is made of the items of a piece, for the piece to carry.
+ghost use Rattle.std.specs.Prelude.{◌≡◌, ◌<◌, ℕ, List, All};
+ghost use Rattle.lx_scan.specs.declared.item.Item.{Item};
+ghost use Rattle.lx_scan.specs.ItemParts.{IsItemOf};
+ghost use Rattle.lx_piece.specs.Plans.{Planned, bytes_of, files_of, kinds_of};
+
+use crate::items::Items;
+use crate::plan::Plan;
+use lx_scan::Item;
+
+/// Makes of the items of a piece what the piece carries.
+pub trait Maker {
+    type Made;
+
+    /// What it makes of items of a file of a plan.
+    ghost made: { Planned → ℕ → List Item → Self.Made };
+
+    fn make(&mut self, plan: &Plan, file: u32, items: Vec<Item>) -> Self::Made
+        requires file { file < files_of plan.now }
+        requires items { All (IsItemOf (kinds_of plan.now) (bytes_of plan.now file)) items.items }
+        ensures { result ≡ made plan.now file items.items };
+}
+
+/// Leaves the items as they are.
+#[derive(Clone, Copy, Debug)]
+pub struct KeepItems;
+
+impl Maker for KeepItems {
+    ghost use Rattle.lx_piece.specs.Pieces.{bare};
+
+    type Made = Items;
+
+    ghost made = { bare };
+
+    fn make(&mut self, _plan: &Plan, _file: u32, items: Vec<Item>) -> Items {
+        Items::from_vec(items)
+    }
+}
