@@ -6,13 +6,12 @@ use Rattle.std.proofs.lemmas.List.{map-set, get_or-map, get_or-set_same, get_or-
 use Rattle.std.proofs.lemmas.List.Sums.{sum_by-set}
 use Rattle.std.proofs.Math.ListN.{length-set}
 use Rattle.std.proofs.Math.Seq.{map-set_same}
-use Rattle.lx_scan.specs.declared.item.Item.{Item}
 use Rattle.lx_piece.specs.declared.piece.Piece.{Piece}
-use Rattle.lx_piece.specs.Pieces.{ItemPiece}
+use Rattle.lx_piece.specs.Pieces.{Making}
 use Rattle.lx_piece.specs.PieceLaws.{takes_in_order}
 use Rattle.lx_piece.specs.Plans.{Planned}
-use Rattle.lx_piece.specs.Kept.{Buffered, ItemLane, Delivers, KeepsIn, held_at, held_total}
-use Rattle.lx_piece.specs.Relayed.{HoldsPlanned, HoldsPlannedBy, IsNextPiece, AreAtMost}
+use Rattle.lx_piece.specs.Kept.{Buffered, Delivers, KeepsIn, held_at, held_total}
+use Rattle.lx_piece.specs.Relayed.{HoldsPlanned, IsNextPieceBy, AreAtMost}
 use Rattle.lx_piece.proofs.Readies.{get_set_same, get_set_other}
 use Rattle.lx_piece.proofs.Standing.{same_some}
 
@@ -44,8 +43,8 @@ counts_delivered {C} old new file p h =
     ∙ ap (λ (n : ℕ). slice_set (nexts old) file n) (h.moves.next ∙ ap (λ (n : ℕ). n + 1) (sym (count_at old file h.buffer h.there)))
 
 -- the piece that is delivered is the one that the reader takes next of its file
-pub delivered_is_next : (plan : Planned) (counts : List ℕ) (old new : List ItemLane) (file : ℕ) (p : ItemPiece) → 0 < plan.per_piece → HoldsPlanned plan old → counts ≡ nexts old → Delivers old file p new → IsNextPiece plan counts p
-delivered_is_next plan counts old new file p some s e h =
+pub delivered_is_next : {C : Type 0} (made : Making C) (plan : Planned) (counts : List ℕ) (old new : List (Buffered C)) (file : ℕ) (p : Piece C) → 0 < plan.per_piece → HoldsPlanned made plan old → counts ≡ nexts old → Delivers old file p new → IsNextPieceBy made plan counts p
+delivered_is_next made plan counts old new file p some s e h =
     let is = s.each file h.buffer h.there h.buffer.next p h.next in
     let number = is.2 ∙ sym (count_at old file h.buffer h.there) ∙ ap (λ (n : ℕ). slice_index (nexts old) n) (sym is.1) ∙ sym (ap (λ (ns : List ℕ). slice_index ns p.file) e) in
     let below = is.0.number in
@@ -56,8 +55,8 @@ delivered_is_next plan counts old new file p some s e h =
     }
 
 -- the reader's counts follow the collector's
-pub counts_follow : (plan : Planned) (counts after : List ℕ) (old new : List ItemLane) (file : ℕ) (p : ItemPiece) → HoldsPlanned plan old → counts ≡ nexts old → Delivers old file p new → after ≡ slice_set counts p.file (slice_index counts p.file + 1) → after ≡ nexts new
-counts_follow plan counts after old new file p s e h a =
+pub counts_follow : {C : Type 0} (made : Making C) (plan : Planned) (counts after : List ℕ) (old new : List (Buffered C)) (file : ℕ) (p : Piece C) → HoldsPlanned made plan old → counts ≡ nexts old → Delivers old file p new → after ≡ slice_set counts p.file (slice_index counts p.file + 1) → after ≡ nexts new
+counts_follow made plan counts after old new file p s e h a =
     let is = s.each file h.buffer h.there h.buffer.next p h.next in
     a
     ∙ ap (λ (ns : List ℕ). slice_set ns p.file (slice_index ns p.file + 1)) e
@@ -65,7 +64,7 @@ counts_follow plan counts after old new file p s e h a =
     ∙ sym (counts_delivered old new file p h)
 
 -- what is held stays the plan's
-pub planned_delivered : {C : Type 0} (made : Planned → ℕ → List Item → C) (plan : Planned) (old new : List (Buffered C)) (file : ℕ) (p : Piece C) → HoldsPlannedBy made plan old → Delivers old file p new → HoldsPlannedBy made plan new
+pub planned_delivered : {C : Type 0} (made : Making C) (plan : Planned) (old new : List (Buffered C)) (file : ℕ) (p : Piece C) → HoldsPlanned made plan old → Delivers old file p new → HoldsPlanned made plan new
 planned_delivered made plan old new file p s h =
     record {
       files = ap length h.after ∙ length-set old file h.advanced ∙ s.files;

@@ -6,8 +6,7 @@ use Rattle.lx_piece.specs.declared.reply.Why.TheVariants.{WrongRun, UnknownFile,
 use Rattle.lx_piece.specs.declared.reply.Reply.{Reply}
 use Rattle.lx_piece.specs.declared.reply.Reply.TheVariants.{Accepted, Refused}
 use Rattle.lx_piece.specs.Plans.{Planned, files_of}
-use Rattle.lx_scan.specs.declared.item.Item.{Item}
-use Rattle.lx_piece.specs.Pieces.{ItemPiece, bare, is_closing, is_cut_short, IsPieceBy, top_number}
+use Rattle.lx_piece.specs.Pieces.{ItemPiece, Making, bare, is_closing, is_cut_short, IsPieceBy, top_number}
 
 -- the run that pieces are of: its number, and how many files it has
 pub record RunShape : Type 0 where
@@ -18,10 +17,10 @@ abbrev pub shape_of : Planned → RunShape
 shape_of plan = record { run = plan.run; files = files_of plan }
 
 -- an arrival of the plan's run and one of its files is the plan's piece
-abbrev pub IsHonestBy : {C : Type 0} → (Planned → ℕ → List Item → C) → Planned → Piece C → Type 0
+abbrev pub IsHonestBy : {C : Type 0} → Making C → Planned → Piece C → Type 0
 IsHonestBy made plan p = p.run ≡ plan.run → p.file < files_of plan → IsPieceBy made plan p
 
-abbrev pub AreHonestBy : {C : Type 0} → (Planned → ℕ → List Item → C) → Planned → List (Piece C) → Type 0
+abbrev pub AreHonestBy : {C : Type 0} → Making C → Planned → List (Piece C) → Type 0
 AreHonestBy made plan came = All (IsHonestBy made plan) came
 
 abbrev pub IsHonest : Planned → ItemPiece → Type 0

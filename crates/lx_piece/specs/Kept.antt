@@ -3,7 +3,6 @@ use Rattle.std.specs.Ordering.{nat_cmp}
 use Rattle.std.specs.BTreeMap.{is_at}
 use Rattle.std.specs.BTreeSet.{BTreeSet, contains}
 use Rattle.std.specs.Map.{lookup}
-use Rattle.lx_scan.specs.declared.item.Item.{Item}
 use Rattle.lx_piece.specs.declared.piece.Piece.{Piece}
 use Rattle.lx_piece.specs.declared.reply.Why.{Why}
 use Rattle.lx_piece.specs.Plans.{max_files}
@@ -16,19 +15,12 @@ pub record Buffered (C : Type 0) : Type 0 where
   pub next : ℕ
   pub closing : Option ℕ
   pub truncated : Option ℕ
-  pub held : List (ℕ × (Piece C))
+  pub held : List (ℕ × Piece C)
 
 -- what a collector keeps
 pub record Kept (C : Type 0) : Type 0 where
   pub run : ℕ
   pub buffers : List (Buffered C)
-
--- the same where the pieces carry their items
-abbrev pub ItemLane : Type 0
-ItemLane = Buffered (List Item)
-
-abbrev pub ItemKept : Type 0
-ItemKept = Kept (List Item)
 
 abbrev pub shape_of_kept : {C : Type 0} → Kept C → RunShape
 shape_of_kept kept = record { run = kept.run; files = length kept.buffers }
@@ -125,7 +117,7 @@ pub record KeepsIn {C : Type 0} (old : List (Buffered C)) (p : Piece C) (new : L
   pub after : new ≡ slice_set old p.file kept
 
 -- the set has the files whose next piece is held
-pub record IsReadySet (buffers : List Buffered) (ready : BTreeSet ℕ) : Type 0 where
+pub record IsReadySet {C : Type 0} (buffers : List (Buffered C)) (ready : BTreeSet ℕ) : Type 0 where
   pub few : length buffers ≤ max_files
   pub each : (g : ℕ) → contains nat_cmp ready g ≡ is_ready_at (slice_get buffers g)
 

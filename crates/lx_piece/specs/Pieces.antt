@@ -47,12 +47,16 @@ part per_piece items number = take per_piece (drop (number * per_piece) items)
 abbrev pub mark_of : Planned → ℕ → ℕ → Mark
 mark_of plan file number = if number + 1 == pieces_of plan file then (if is_cut plan file then Cut else Whole) else More
 
--- what a piece of items carries: the items
-abbrev pub bare : Planned → ℕ → List Item → List Item
+-- what is made of items of a file of a plan, for a piece to carry
+abbrev pub Making : Type 0 → Type 0
+Making C = Planned → ℕ → List Item → C
+
+-- the items as they are
+abbrev pub bare : Making (List Item)
 bare plan file items = items
 
 -- the piece of a file with this number, which carries what is made of its items
-abbrev pub piece_by : {C : Type 0} → (Planned → ℕ → List Item → C) → Planned → ℕ → ℕ → Piece C
+abbrev pub piece_by : {C : Type 0} → Making C → Planned → ℕ → ℕ → Piece C
 piece_by made plan file number =
     record {
       run = plan.run;
@@ -63,7 +67,7 @@ piece_by made plan file number =
     }
 
 -- p is the plan's piece of its file and number
-pub record IsPieceBy {C : Type 0} (made : Planned → ℕ → List Item → C) (plan : Planned) (p : Piece C) : Type 0 where
+pub record IsPieceBy {C : Type 0} (made : Making C) (plan : Planned) (p : Piece C) : Type 0 where
   pub file : p.file < files_of plan
   pub number : p.number < pieces_of plan p.file
   pub countable : p.number < top_number

@@ -1,17 +1,19 @@
 use Rattle.std.specs.Prelude.{ℕ, ◌≡◌, ◌<◌, ◌≤◌, true, List, [], ◌∷◌, ◌++◌, Some, Contains, length, slice_index, slice_get}
-use Rattle.lx_piece.specs.declared.reply.Reply.{Reply}
-use Rattle.lx_piece.specs.Kept.{Buffered, ItemLane, held_at}
-use Rattle.lx_scan.specs.declared.item.Item.{Item}
 use Rattle.lx_piece.specs.declared.piece.Piece.{Piece}
+use Rattle.lx_piece.specs.declared.reply.Reply.{Reply}
+use Rattle.lx_piece.specs.Kept.{Buffered, held_at}
 use Rattle.lx_piece.specs.Plans.{Planned, files_of}
-use Rattle.lx_piece.specs.Pieces.{ItemPiece, bare, IsPieceBy, IsPieceOf, TakesInOrder, pieces_of, piece_at}
-use Rattle.lx_piece.specs.Arrivals.{RunShape, shape_of, AreHonest, accepted_of, replies_of, has_piece, IsLeastMissing}
+use Rattle.lx_piece.specs.Pieces.{ItemPiece, Making, bare, IsPieceBy, TakesInOrder, pieces_of, piece_by}
+use Rattle.lx_piece.specs.Arrivals.{RunShape, shape_of, AreHonestBy, accepted_of, replies_of, has_piece, IsLeastMissing}
 
 -- p is the piece that a reader with these counts takes next of its file, of which it took the first ones, in order
-pub record IsNextPiece (plan : Planned) (counts : List ℕ) (p : ItemPiece) : Type 0 where
-  pub planned : IsPieceOf plan p
+pub record IsNextPieceBy {C : Type 0} (made : Making C) (plan : Planned) (counts : List ℕ) (p : Piece C) : Type 0 where
+  pub planned : IsPieceBy made plan p
   pub number : p.number ≡ slice_index counts p.file
   pub taken : TakesInOrder plan p.file (slice_index counts p.file)
+
+abbrev pub IsNextPiece : Planned → List ℕ → ItemPiece → Type 0
+IsNextPiece plan counts p = IsNextPieceBy bare plan counts p
 
 -- of each file the pieces taken are some of its first ones, and so in order and none twice
 pub record TakesAllInOrder (plan : Planned) (counts : List ℕ) : Type 0 where
@@ -19,46 +21,52 @@ pub record TakesAllInOrder (plan : Planned) (counts : List ℕ) : Type 0 where
   pub each : (file : ℕ) → file < files_of plan → TakesInOrder plan file (slice_index counts file)
 
 -- the counts are, for each file, the least number that isn't accepted
-pub record AllDelivered (shape : RunShape) (came : List ItemPiece) (counts : List ℕ) : Type 0 where
+pub record AllDelivered {C : Type 0} (shape : RunShape) (came : List (Piece C)) (counts : List ℕ) : Type 0 where
   pub files : length counts ≡ shape.files
   pub each : (file : ℕ) → file < shape.files → IsLeastMissing (accepted_of shape came) file (slice_index counts file)
 
 -- the counts are no greater than that
-pub record AtMostDelivered (shape : RunShape) (came : List ItemPiece) (counts : List ℕ) : Type 0 where
+pub record AtMostDelivered {C : Type 0} (shape : RunShape) (came : List (Piece C)) (counts : List ℕ) : Type 0 where
   pub files : length counts ≡ shape.files
   pub each : (file j : ℕ) → file < shape.files → j < slice_index counts file → has_piece file j (accepted_of shape came) ≡ true
 
 -- every piece of a file is among these
+abbrev pub AreAllAmongBy : {C : Type 0} → Making C → Planned → ℕ → List (Piece C) → Type 0
+AreAllAmongBy made plan file came = (number : ℕ) → number < pieces_of plan file → Contains came (piece_by made plan file number)
+
 abbrev pub AreAllAmong : Planned → ℕ → List ItemPiece → Type 0
-AreAllAmong plan file came = (number : ℕ) → number < pieces_of plan file → Contains came (piece_at plan file number)
+AreAllAmong plan file came = AreAllAmongBy bare plan file came
 
 -- What a whole run answered and delivered: the list that came, its replies, all that it delivers, and of each
 -- file no more than its pieces. A file of which every piece came was taken whole.
-pub record Relayed (plan : Planned) (leads : List ItemPiece → Type 0) (replies : List Reply) (counts : List ℕ) : Type 0 where
-  pub came : List ItemPiece
+pub record RelayedBy {C : Type 0} (made : Making C) (plan : Planned) (leads : List (Piece C) → Type 0) (replies : List Reply) (counts : List ℕ) : Type 0 where
+  pub came : List (Piece C)
   pub led : leads came
-  pub honest : AreHonest plan came
+  pub honest : AreHonestBy made plan came
   pub replied : replies ≡ replies_of (shape_of plan) came
   pub delivered : AllDelivered (shape_of plan) came counts
   pub taken : TakesAllInOrder plan counts
-  pub whole : (file : ℕ) → file < files_of plan → AreAllAmong plan file came → slice_index counts file ≡ pieces_of plan file
+  pub whole : (file : ℕ) → file < files_of plan → AreAllAmongBy made plan file came → slice_index counts file ≡ pieces_of plan file
+
+abbrev pub Relayed : Planned → (List ItemPiece → Type 0) → List Reply → List ℕ → Type 0
+Relayed plan leads replies counts = RelayedBy bare plan leads replies counts
 
 -- what a run that failed delivered: no more than the list taken so far delivers, and no less than the list before its last arrival delivers
-pub record RelayedInPart (plan : Planned) (leads : List ItemPiece → Type 0) (counts : List ℕ) : Type 0 where
-  pub came : List ItemPiece
+pub record RelayedInPartBy {C : Type 0} (made : Making C) (plan : Planned) (leads : List (Piece C) → Type 0) (counts : List ℕ) : Type 0 where
+  pub came : List (Piece C)
   pub led : leads came
-  pub honest : AreHonest plan came
+  pub honest : AreHonestBy made plan came
   pub delivered : AtMostDelivered (shape_of plan) came counts
-  pub eager : (before : List ItemPiece) (last : ItemPiece) → came ≡ before ++ last ∷ [] → (file k : ℕ) → file < files_of plan → IsLeastMissing (accepted_of (shape_of plan) before) file k → k ≤ slice_index counts file
+  pub eager : (before : List (Piece C)) (last : Piece C) → came ≡ before ++ last ∷ [] → (file k : ℕ) → file < files_of plan → IsLeastMissing (accepted_of (shape_of plan) before) file k → k ≤ slice_index counts file
   pub taken : TakesAllInOrder plan counts
 
+abbrev pub RelayedInPart : Planned → (List ItemPiece → Type 0) → List ℕ → Type 0
+RelayedInPart plan leads counts = RelayedInPartBy bare plan leads counts
+
 -- each held piece is the plan's piece of its file and number
-pub record HoldsPlannedBy {C : Type 0} (made : Planned → ℕ → List Item → C) (plan : Planned) (buffers : List (Buffered C)) : Type 0 where
+pub record HoldsPlanned {C : Type 0} (made : Making C) (plan : Planned) (buffers : List (Buffered C)) : Type 0 where
   pub files : length buffers ≡ files_of plan
   pub each : (file : ℕ) (buffer : Buffered C) → slice_get buffers file ≡ Some buffer → (n : ℕ) (p : Piece C) → held_at buffer n ≡ Some p → IsPieceBy made plan p × (p.file ≡ file) × (p.number ≡ n)
-
-abbrev pub HoldsPlanned : Planned → List ItemLane → Type 0
-HoldsPlanned plan buffers = HoldsPlannedBy bare plan buffers
 
 -- no count is above another list's
 pub record AreAtMost (counts others : List ℕ) : Type 0 where

@@ -1,9 +1,8 @@
 -- The pieces of a plan in its order: file after file, and of each file one after the other.
-use Rattle.std.specs.Prelude.{ℕ, ◌≡◌, ◌+◌, ◌<◌, ◌==◌, if◌then◌else◌, List}
-use Rattle.lx_scan.specs.declared.item.Item.{Item}
+use Rattle.std.specs.Prelude.{ℕ, ◌≡◌, ◌+◌, ◌<◌, ◌==◌, if◌then◌else◌}
 use Rattle.lx_piece.specs.declared.piece.Piece.{Piece}
 use Rattle.lx_piece.specs.Plans.{Planned, files_of}
-use Rattle.lx_piece.specs.Pieces.{IsPieceBy, pieces_of}
+use Rattle.lx_piece.specs.Pieces.{Making, IsPieceBy, pieces_of}
 
 -- before a piece: its file, and its number
 pub record Turn : Type 0 where
@@ -26,7 +25,7 @@ abbrev pub turn_after : Planned → Turn → Turn
 turn_after plan turn = turn_at plan turn.file (turn.number + 1)
 
 -- p is the piece of this turn
-pub record HasTurn {C : Type 0} (made : Planned → ℕ → List Item → C) (plan : Planned) (turn : Turn) (p : Piece C) : Type 0 where
+pub record HasTurn {C : Type 0} (made : Making C) (plan : Planned) (turn : Turn) (p : Piece C) : Type 0 where
   pub piece : IsPieceBy made plan p
   pub file : p.file ≡ turn.file
   pub number : p.number ≡ turn.number

@@ -90,8 +90,21 @@ impl<C> Model for Collector<C> {
     ghost invariant = { λ s. IsReadySet s.buffers.items s.ready };
 }
 
+impl Collector {
+    /// A collector of pieces that carry their items, to which nothing came.
+    pub fn new(alloc: Global, run: u64, files: u32) -> Result<Collector, AllocError>
+        requires some { 0 < files }
+        requires few { files ≤ max_files }
+        ensures kept { IfOk result (λ c. c ≡ record { run = run; buffers = replicate files fresh_buffer }) }
+        ensures stands { IfOk result (λ c. StandsFor c []) }
+    {
+        Collector::of(alloc, run, files)
+    }
+}
+
 impl<C: Drop> Collector<C> {
-    pub fn new(alloc: Global, run: u64, files: u32) -> Result<Collector<C>, AllocError>
+    /// A collector to which nothing came.
+    pub fn of(alloc: Global, run: u64, files: u32) -> Result<Collector<C>, AllocError>
         requires some { 0 < files }
         requires few { files ≤ max_files }
         ensures kept { IfOk result (λ c. c ≡ record { run = run; buffers = replicate files fresh_buffer }) }

@@ -138,7 +138,7 @@ impl Cutter {
         let mut cursor = self.cursor;
         // few items are left where few bytes are, but for those that are echoed more than once
         let expected = most.min(text.len() - cursor.place.offset + 1);
-        let mut items = Vec::with_capacity(self.alloc, expected)?;
+        let mut items = maker.room(self.alloc, expected)?;
         let ahead = take_items(
             plan.tables(),
             text,

@@ -3,6 +3,7 @@
 #![tactic(auto)]
 
 mod arrivals;
+mod arrivals_of;
 mod collector;
 mod cutter;
 mod input;
@@ -12,6 +13,7 @@ mod maker;
 mod piece;
 mod plan;
 mod reader;
+mod reader_of;
 mod relaying;
 mod reorder_buffer;
 mod reply;
@@ -19,6 +21,7 @@ mod taker;
 mod turning;
 
 pub use arrivals::Arrivals;
+pub use arrivals_of::ArrivalsOf;
 pub use collector::Collector;
 pub use cutter::Cutter;
 pub use input::Input;
@@ -27,8 +30,9 @@ pub use list_arrivals::ListArrivals;
 pub use maker::{KeepItems, Maker};
 pub use piece::{Mark, Piece};
 pub use plan::{MAX_FILES, MAX_ITEMS, Plan};
-pub use reader::{Reader, ReaderFault};
-pub use relaying::{RelayFault, relay};
+pub use reader::{Held, Reader, ReaderFault};
+pub use reader_of::ReaderOf;
+pub use relaying::{RelayFault, relay, relay_of};
 pub use reply::{Refused, Reply, Why};
 pub use taker::Taker;
 pub use turning::take_in_turn;

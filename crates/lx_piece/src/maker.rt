@@ -1,20 +1,30 @@
 //! What is made of the items of a piece, for the piece to carry.
-ghost use Rattle.std.specs.Prelude.{◌≡◌, ◌<◌, ℕ, List, All};
-ghost use Rattle.lx_scan.specs.declared.item.Item.{Item};
+
+ghost use Rattle.std.specs.Prelude.{◌≡◌, ◌<◌, [], All, IfOk};
 ghost use Rattle.lx_scan.specs.ItemParts.{IsItemOf};
-ghost use Rattle.lx_piece.specs.Plans.{Planned, bytes_of, files_of, kinds_of};
+ghost use Rattle.lx_piece.specs.Pieces.{Making};
+ghost use Rattle.lx_piece.specs.Plans.{bytes_of, files_of, kinds_of};
 
 use crate::items::Items;
 use crate::plan::Plan;
 use lx_scan::Item;
+use std::alloc::{AllocError, Global};
 
 /// Makes of the items of a piece what the piece carries.
 pub trait Maker {
-    type Made;
+    type Made: Drop;
 
     /// What it makes of items of a file of a plan.
-    ghost made: { Planned → ℕ → List Item → Self.Made };
+    ghost made: { Making Self.Made };
 
+    /// An empty list in which the items of the next piece find room, `items` at most. Where it lies is the maker's matter.
+    fn room(&mut self, alloc: Global, items: usize) -> Result<Vec<Item>, AllocError>
+        ensures { IfOk result (λ list. list.items ≡ []) }
+    {
+        Vec::with_capacity(alloc, items)
+    }
+
+    /// Makes it of the items of a piece of a file. No memory is asked for that could be refused.
     fn make(&mut self, plan: &Plan, file: u32, items: Vec<Item>) -> Self::Made
         requires file { file < files_of plan.now }
         requires items { All (IsItemOf (kinds_of plan.now) (bytes_of plan.now file)) items.items }

@@ -16,6 +16,20 @@ pub enum ReaderFault {
     Memory,
 }
 
+/// What a reader holds for later. No contract speaks of it: workers wait by it while much is held.
+#[derive(Clone, Copy, Debug, PartialEq, Eq)]
+pub struct Held {
+    /// The file that is waited for.
+    pub file: u32,
+    /// How many bytes are held of the files behind it.
+    pub bytes: u64,
+}
+
+impl Held {
+    /// That nothing is held.
+    pub const NOTHING: Held = Held { file: 0, bytes: 0 };
+}
+
 /// What takes the pieces of a plan's files, those of each file in order.
 pub trait Reader {
     /// The plan whose pieces it takes.
@@ -46,6 +60,11 @@ pub trait Reader {
     /// How often its device failed.
     fn faults(&self) -> u64
         ensures { result ≡ fault_count self.now };
+
+    /// What it holds for later.
+    fn held(&self) -> Held {
+        Held::NOTHING
+    }
 
     ghost follows_itself: { (s : Self) → follows s s };
 

@@ -1,5 +1,5 @@
 use Rattle.std.proofs.Common.{sym, ◌∙◌, subst}
-use Rattle.lx_piece.specs.Relayed.{IsNextPiece, AreAtMost}
+use Rattle.lx_piece.specs.Relayed.{IsNextPieceBy, AreAtMost}
 use Rattle.lx_piece.proofs.Relays.{nexts, delivered_is_next, counts_follow, planned_delivered, fewer_held, counts_rise, risen_more, same_size}
 use Rattle.lx_piece.proofs.Standing.{same_shape}
 use Rattle.lx_piece.proofs.relaying.deliver_all.Goals as goal
@@ -8,8 +8,8 @@ pub take-requires-clause-next : goal.take-requires-clause-next
 take-requires-clause-next g c =
     let i = c.loop-piece.invariant in
     let h = c.in-Some.ensures.delivered in
-    subst (λ plan. IsNextPiece plan (g.R.Reader.counts c.loop-piece.reader) c.in-Some.piece) (sym i.plan)
-    (delivered_is_next _ _ _ _ h.0 c.in-Some.piece c.requires.per_piece i.planned i.counts h.1)
+    subst (λ plan. IsNextPieceBy g.M.Maker.made plan (g.R.ReaderOf.counts c.loop-piece.reader) c.in-Some.piece) (sym i.plan)
+    (delivered_is_next g.M.Maker.made _ _ _ _ h.0 c.in-Some.piece c.requires.per_piece i.planned i.counts h.1)
 
 pub loop-piece-smaller : goal.loop-piece-smaller
 loop-piece-smaller g c = let h = c.in-Some.ensures.delivered in fewer_held _ _ h.0 c.in-Some.piece h.1
@@ -19,11 +19,11 @@ loop-piece-preserved g c =
     let i = c.loop-piece.invariant in
     let h = c.in-Some.ensures.delivered in
     let took = c.in-Ok.ensures in
-    let counts = counts_follow _ _ _ _ _ h.0 c.in-Some.piece i.planned i.counts h.1 took.ok in
+    let counts = counts_follow g.M.Maker.made _ _ _ _ _ h.0 c.in-Some.piece i.planned i.counts h.1 took.ok in
     record {
       plan = took.plan ∙ i.plan;
-      follows = g.met.R.Reader.follows_on _ _ _ i.follows took.follows;
-      planned = planned_delivered _ _ _ _ h.0 c.in-Some.piece i.planned h.1;
+      follows = g.met.R.ReaderOf.follows_on _ _ _ i.follows took.follows;
+      planned = planned_delivered g.M.Maker.made _ _ _ _ h.0 c.in-Some.piece i.planned h.1;
       counts = counts;
       risen = risen_more _ _ _ _ _ h.0 c.in-Some.piece i.risen i.counts counts h.1;
       faults = took.no_fault ∙ i.faults;
@@ -35,12 +35,12 @@ pub returns-in-Err-Device-clause-err : goal.returns-in-Err-Device-clause-err
 returns-in-Err-Device-clause-err g c =
     let h = c.in-Some.ensures.delivered in (
       subst (λ counts. AreAtMost counts (nexts c.deliver.new.self.buffers)) (sym (c.in-Err-Device.ensures.err ∙ c.loop-piece.invariant.counts)) (counts_rise _ _ h.0 c.in-Some.piece h.1),
-      subst (AreAtMost (g.R.Reader.counts c.args.reader.now)) (sym c.in-Err-Device.ensures.err) c.loop-piece.invariant.risen,
+      subst (AreAtMost (g.R.ReaderOf.counts c.args.reader.now)) (sym c.in-Err-Device.ensures.err) c.loop-piece.invariant.risen,
     )
 
 pub returns-in-Err-Memory-clause-err : goal.returns-in-Err-Memory-clause-err
 returns-in-Err-Memory-clause-err g c =
     let h = c.in-Some.ensures.delivered in (
       subst (λ counts. AreAtMost counts (nexts c.deliver.new.self.buffers)) (sym (c.in-Err-Memory.ensures.err ∙ c.loop-piece.invariant.counts)) (counts_rise _ _ h.0 c.in-Some.piece h.1),
-      subst (AreAtMost (g.R.Reader.counts c.args.reader.now)) (sym c.in-Err-Memory.ensures.err) c.loop-piece.invariant.risen,
+      subst (AreAtMost (g.R.ReaderOf.counts c.args.reader.now)) (sym c.in-Err-Memory.ensures.err) c.loop-piece.invariant.risen,
     )

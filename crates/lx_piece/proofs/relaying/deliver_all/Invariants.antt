@@ -1,5 +1,5 @@
 use Rattle.std.proofs.Common.{◌≡◌, List}
-use Rattle.lx_piece.specs.Pieces.{ItemPiece}
+use Rattle.lx_piece.specs.declared.piece.Piece.{Piece}
 use Rattle.lx_piece.specs.Kept.{StandsFor, shape_of_kept, delivered_counts, held_total}
 use Rattle.lx_piece.specs.Relayed.{HoldsPlanned, AreAtMost}
 use Rattle.lx_piece.proofs.relaying.deliver_all.Given as goal
@@ -8,13 +8,13 @@ use Rattle.lx_piece.proofs.relaying.deliver_all.Given as goal
 abbrev pub invariant-loop-piece : goal.invariant-loop-piece
 invariant-loop-piece g l =
     record {
-      plan : g.R.Reader.plan l.reader ≡ g.R.Reader.plan l.fn.reader;
-      follows : g.R.Reader.follows l.fn.reader l.reader;
-      planned : HoldsPlanned (g.R.Reader.plan l.fn.reader) l.collector.buffers;
-      counts : g.R.Reader.counts l.reader ≡ delivered_counts l.collector;
-      risen : AreAtMost (g.R.Reader.counts l.fn.reader) (g.R.Reader.counts l.reader);
-      faults : g.R.Reader.fault_count l.reader ≡ g.R.Reader.fault_count l.fn.reader;
-      stands : (came : List ItemPiece) → StandsFor l.fn.collector came → StandsFor l.collector came;
+      plan : g.R.ReaderOf.plan l.reader ≡ g.R.ReaderOf.plan l.fn.reader;
+      follows : g.R.ReaderOf.follows l.fn.reader l.reader;
+      planned : HoldsPlanned g.M.Maker.made (g.R.ReaderOf.plan l.fn.reader) l.collector.buffers;
+      counts : g.R.ReaderOf.counts l.reader ≡ delivered_counts l.collector;
+      risen : AreAtMost (g.R.ReaderOf.counts l.fn.reader) (g.R.ReaderOf.counts l.reader);
+      faults : g.R.ReaderOf.fault_count l.reader ≡ g.R.ReaderOf.fault_count l.fn.reader;
+      stands : (came : List (Piece g.M.Maker.Made)) → StandsFor l.fn.collector came → StandsFor l.collector came;
       shape : shape_of_kept l.collector ≡ shape_of_kept l.fn.collector;
     }
 

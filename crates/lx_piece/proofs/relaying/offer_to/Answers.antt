@@ -6,10 +6,10 @@ use Rattle.lx_piece.proofs.Relays.{counts_kept}
 use Rattle.lx_piece.proofs.relaying.offer_to.Goals as goal
 
 pub returns-in-Ok-clause-counts : goal.returns-in-Ok-clause-counts
-returns-in-Ok-clause-counts c = counts_kept _ _ c.args.piece c.in-Ok.ensures.kept
+returns-in-Ok-clause-counts g c = counts_kept _ _ c.args.piece c.in-Ok.ensures.kept
 
 pub returns : goal.returns
-returns c =
+returns g c =
     let e = c.in-Err.ensures in
     let same = e.err.1 in
     let why = c.in-Err.refused.why in
