@@ -94,14 +94,14 @@ at_most_more shape came counts p h =
     }
 
 -- at the start no file is ready, and every count is 0
-pub fresh_ready : {C : Type 0} (n g : ℕ) → is_ready_at (slice_get (replicate n (fresh_buffer {C = C})) g) ≡ false
-fresh_ready zero g = refl
-fresh_ready (suc n) zero = refl
-fresh_ready (suc n) (suc g) = fresh_ready n g
+pub fresh_ready : (C : Type 0) (n g : ℕ) → is_ready_at (slice_get (replicate n (fresh_buffer {C = C})) g) ≡ false
+fresh_ready C zero g = refl
+fresh_ready C (suc n) zero = refl
+fresh_ready C (suc n) (suc g) = fresh_ready C n g
 
-pub fresh_counts : {C : Type 0} (n : ℕ) → nexts (replicate n (fresh_buffer {C = C})) ≡ replicate n 0
-fresh_counts zero = refl
-fresh_counts (suc n) = ap (λ (ns : List ℕ). 0 ∷ ns) (fresh_counts n)
+pub fresh_counts : (C : Type 0) (n : ℕ) → nexts (replicate n (fresh_buffer {C = C})) ≡ replicate n 0
+fresh_counts C zero = refl
+fresh_counts C (suc n) = ap (λ (ns : List ℕ). 0 ∷ ns) (fresh_counts C n)
 
 pub fresh_shape : {C : Type 0} (plan : Planned) (kept : Kept C) (run files : ℕ) → kept ≡ record { run = run; buffers = replicate files fresh_buffer } → run ≡ plan.run → files ≡ files_of plan → shape_of_kept kept ≡ shape_of plan
 fresh_shape plan kept run files k r f =
@@ -110,7 +110,7 @@ fresh_shape plan kept run files k r f =
     ∙ ap (λ (n : ℕ). record { run = n; files = files_of plan }) r
 
 pub fresh_delivered : {C : Type 0} (plan : Planned) (kept : Kept C) (run files : ℕ) → kept ≡ record { run = run; buffers = replicate files fresh_buffer } → files ≡ files_of plan → replicate (files_of plan) 0 ≡ delivered_counts kept
-fresh_delivered plan kept run files k f = sym (ap delivered_counts k ∙ fresh_counts files ∙ ap (λ (n : ℕ). replicate n 0) f)
+fresh_delivered plan kept run files k f = sym (ap delivered_counts k ∙ fresh_counts _ files ∙ ap (λ (n : ℕ). replicate n 0) f)
 
 -- all that the list before its last arrival delivers was taken
 abbrev pub IsEager : {C : Type 0} → Planned → List (Piece C) → List ℕ → Type 0

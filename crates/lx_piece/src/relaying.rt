@@ -67,7 +67,10 @@ fn offer_to<C: Drop>(collector: &mut Collector<C>, piece: Piece<C>) -> Result<Re
 }
 
 /// Hands the reader all that can be delivered.
-fn deliver_all<M: Maker, R: ReaderOf<M>>(collector: &mut Collector<M::Made>, reader: &mut R) -> Result<(), RelayFault>
+fn deliver_all<M: Maker, R: ReaderOf<M>>(
+    collector: &mut Collector<M::Made>,
+    reader: &mut R,
+) -> Result<(), RelayFault>
     requires per_piece { 0 < (R.plan reader.old).per_piece }
     requires planned { HoldsPlanned M.made (R.plan reader.old) collector.old.buffers }
     requires counts { R.counts reader.old ≡ delivered_counts collector.old }

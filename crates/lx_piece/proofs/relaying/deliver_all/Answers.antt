@@ -23,7 +23,7 @@ loop-piece-preserved g c =
     record {
       plan = took.plan ∙ i.plan;
       follows = g.met.R.ReaderOf.follows_on _ _ _ i.follows took.follows;
-      planned = planned_delivered g.M.Maker.made _ _ _ _ h.0 c.in-Some.piece i.planned h.1;
+      planned = planned_delivered g.M.Maker.made _ _ _ h.0 c.in-Some.piece i.planned h.1;
       counts = counts;
       risen = risen_more _ _ _ _ _ h.0 c.in-Some.piece i.risen i.counts counts h.1;
       faults = took.no_fault ∙ i.faults;

@@ -14,7 +14,7 @@ invariant-loop-piece g l =
       counts : g.R.ReaderOf.counts l.reader ≡ delivered_counts l.collector;
       risen : AreAtMost (g.R.ReaderOf.counts l.fn.reader) (g.R.ReaderOf.counts l.reader);
       faults : g.R.ReaderOf.fault_count l.reader ≡ g.R.ReaderOf.fault_count l.fn.reader;
-      stands : (came : List (Piece g.M.Maker.Made)) → StandsFor l.fn.collector came → StandsFor l.collector came;
+      stands : (came : List (Piece _)) → StandsFor l.fn.collector came → StandsFor l.collector came;
       shape : shape_of_kept l.collector ≡ shape_of_kept l.fn.collector;
     }
 

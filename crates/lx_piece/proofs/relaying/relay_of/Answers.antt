@@ -26,7 +26,7 @@ loop-piece-init g c =
       counts = c.requires.nothing_taken ∙ fresh_delivered c.args.plan.now _ _ _ k.kept c.files.ensures.count;
       faults = refl;
       shape = fresh_shape c.args.plan.now _ _ _ k.kept c.run.ensures c.files.ensures.count;
-      ready = λ file. ap (λ kept. is_ready_at (slice_get kept.buffers file)) k.kept ∙ fresh_ready c.files.result file;
+      ready = λ file. ap (λ kept. is_ready_at (slice_get kept.buffers file)) k.kept ∙ fresh_ready _ c.files.result file;
       so_far = record { came = []; led = g.met.A.ArrivalsOf.stays _; honest = All-nil (IsHonestBy g.M.Maker.made c.args.plan.now); replied = c.new-replies.ensures.items; stands = k.stands };
     }
 
@@ -63,15 +63,18 @@ loop-piece-preserved g c =
     let honest = subst (λ plan. IsHonestBy g.M.Maker.made plan c.in-Some.piece) i.arrivals_plan c.in-Some.ensures.honest in
     let so = so_far_with g.M.Maker.made c.args.plan.now g.A.ArrivalsOf.leads g.met.A.ArrivalsOf.goes_on _ _ _ c.loop-piece.collector c.offer_to.new.collector _ c.in-Some.piece c.in_ok-reply.reply i.so_far c.in-Some.ensures.leads honest i.shape b.reply b.stands in
     let then = so_far_still g.M.Maker.made c.args.plan.now _ c.offer_to.new.collector c.deliver_all.new.collector _ so h.stands in
+    let heard = c.hear.ensures in
     record {
-      arrivals_plan = c.in-Some.ensures.plan ∙ i.arrivals_plan;
+      arrivals_plan = ap g.A.ArrivalsOf.plan heard ∙ c.in-Some.ensures.plan ∙ i.arrivals_plan;
       reader_plan = h.plan ∙ i.reader_plan;
       follows = g.met.R.ReaderOf.follows_on _ _ _ i.follows h.follows;
       counts = h.ok.0;
       faults = h.ok.2 ∙ i.faults;
       shape = h.shape ∙ (b.shape ∙ i.shape);
       ready = h.ok.1;
-      so_far = subst (λ replies. SoFar g.M.Maker.made c.args.plan.now (λ came. g.A.ArrivalsOf.leads c.args.arrivals.now came c.next.new.self) c.deliver_all.new.collector replies) (sym c.in_ok-push.ensures.items) then;
+      so_far =
+          subst (λ arrivals. SoFar g.M.Maker.made c.args.plan.now (λ came. g.A.ArrivalsOf.leads c.args.arrivals.now came arrivals) c.deliver_all.new.collector c.push.new.self.items) (sym heard)
+          (subst (λ replies. SoFar g.M.Maker.made c.args.plan.now (λ came. g.A.ArrivalsOf.leads c.args.arrivals.now came c.next.new.self) c.deliver_all.new.collector replies) (sym c.in_ok-push.ensures.items) then);
     }
 
 pub returns-in_err-deliver_all-clause-err : goal.returns-in_err-deliver_all-clause-err
