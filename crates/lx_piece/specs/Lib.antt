@@ -7,3 +7,5 @@ pub mod Kept
 pub mod Relayed
 pub mod Listed
 pub mod Turns
+pub mod Passing
+pub mod PassingLaws
