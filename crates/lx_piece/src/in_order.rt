@@ -1,6 +1,6 @@
 //! Pieces of all files, handed on in the plan's order.
 
-ghost use Rattle.std.specs.Prelude.{◌≡◌, ◌≢◌, ◌+◌, ◌<◌, ◌≤◌, ◌==◌, ◌∷◌, [], ◌++◌, ℕ, Err, OnOk, OnErr, IfOk, IfErr, IfSome, IfNone, length, replicate, slice_set, slice_index, true, false};
+ghost use Rattle.std.specs.Prelude.{◌≡◌, ◌≢◌, ◌+◌, ◌<◌, ◌≤◌, ◌==◌, ◌∷◌, [], ◌++◌, ℕ, Err, OnOk, OnErr, IfOk, IfErr, IfSome, IfNone, List, length, replicate, slice_set, slice_index, true, false};
 ghost use Rattle.lx_piece.specs.Passing.{AreFirstPieces, KeepsUp, counted, PassesOn, TookWaiting, Waits, queued, waiting_of};
 ghost use Rattle.lx_piece.specs.Pieces.{pieces_of, top_number};
 ghost use Rattle.lx_piece.specs.Plans.{IsPlan, files_of};
@@ -177,7 +177,7 @@ impl<M: Maker, T: Taker<M>> InOrder<M, T> {
 
     /// The taker, as far as it has come.
     pub fn into_taker(self) -> T
-        ensures { result ≡ self.entry.taker }
+        ensures { result ≡ self.taker }
     {
         self.taker
     }
