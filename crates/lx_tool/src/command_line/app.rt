@@ -48,10 +48,7 @@ fn run_command<'a>(alloc: Global) -> Result<Command<'a>, AllocError>
 {
     Command::new(alloc, "run")
         .about("Lists the tokens and the echoed bytes of files by a specification")
-        .arg(workers(
-            alloc,
-            "With how many threads the files are scanned, from 1 to 8, and else on one",
-        ))?
+        .arg(run_workers(alloc))?
         .arg(items(alloc))?
         .arg(specification(alloc))?
         .arg(files(alloc))
@@ -63,11 +60,7 @@ fn scan_command<'a>(alloc: Global) -> Result<Command<'a>, AllocError>
 {
     Command::new(alloc, "scan")
         .about("Lists the tokens and the echoed bytes of files by tables")
-        .arg(workers(
-            alloc,
-            "With how many threads the files are scanned, from 1 to 8",
-        )
-        .default_value("4"))?
+        .arg(scan_workers(alloc))?
         .arg(items(alloc))?
         .arg(tables(alloc))?
         .arg(files(alloc))
@@ -112,6 +105,22 @@ fn workers<'a>(alloc: Global, help: &'a str) -> Arg<'a>
         .value_name("N")
         .help(help)
         .value_parser(value_parser!(u8).range(1..=i64::from(MAX_WORKERS)))
+}
+
+fn run_workers<'a>(alloc: Global) -> Arg<'a>
+    ensures rule { rule_of result ≡ workers_rule [] }
+    ensures local { result.global ≡ false }
+{
+    let help = "With how many threads the files are scanned, from 1 to 8, and else on one";
+    workers(alloc, help)
+}
+
+fn scan_workers<'a>(alloc: Global) -> Arg<'a>
+    ensures rule { rule_of result ≡ workers_rule (codes "4" ∷ []) }
+    ensures local { result.global ≡ false }
+{
+    let help = "With how many threads the files are scanned, from 1 to 8";
+    workers(alloc, help).default_value("4")
 }
 
 fn files<'a>(alloc: Global) -> Arg<'a>
