@@ -62,7 +62,7 @@ module _ (old mid new : Option (List ℕ)) (kept : Keeps mid new) where
       given = h.given;
       listed = listed_kept (λ inputs. ListsByRules h.text inputs old mid) (λ inputs. ListsByRules h.text inputs old new) (rules_kept h.text) order.files h.between h.listed;
     }
-    obeyed_kept (Some (scan workers order)) h = record {
+    obeyed_kept (Some (scan order)) h = record {
       text = h.text;
       between = h.between;
       given = h.given;
@@ -133,12 +133,12 @@ module _ {S : Type 0} (gives : S → List ℕ → PlainInput → S → Type 0) (
         refused : (failure : Failure) → HasNoTables text failure → AreRulesRefused gives before (run order) failure
         refused failure h = record { text = text; after = between; given = given; refused = h }
 
-    pub scan_refused : (workers : ℕ) (order : PlainOrder) (after : S) (Part : Type 0) → gives before order.rules (whole text) between →
-        (failure : Failure) → FailsListing (IsNoTable text) Part order.files between after old new failure → HasFailed gives (Some (scan workers order)) before old new failure
-    scan_refused workers order after Part given =
-        listing_refused (scan workers order) order.files between after (IsNoTable text) Part refused (no_table_tells text) (contains_behind order.files order.rules)
+    pub scan_refused : (order : PlainOrder) (after : S) (Part : Type 0) → gives before order.rules (whole text) between →
+        (failure : Failure) → FailsListing (IsNoTable text) Part order.files between after old new failure → HasFailed gives (Some (scan order)) before old new failure
+    scan_refused order after Part given =
+        listing_refused (scan order) order.files between after (IsNoTable text) Part refused (no_table_tells text) (contains_behind order.files order.rules)
       where
-        refused : (failure : Failure) → IsNoTable text failure → AreRulesRefused gives before (scan workers order) failure
+        refused : (failure : Failure) → IsNoTable text failure → AreRulesRefused gives before (scan order) failure
         refused failure h = record { text = text; after = between; given = given; refused = h }
 
     pub gen_refused : (name : List ℕ) → gives before name (whole text) between →

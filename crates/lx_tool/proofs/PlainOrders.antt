@@ -25,17 +25,17 @@ use Rattle.lx_tool.specs.CommandLine.{Asked, IsItems, IsPlainWord, IsWorkers, Pl
 
 -- ---- the two subcommands, as they are built
 
--- `run`, or `scan` with the number of `-j`, where it is given
+-- `run` or `scan`, with the number of `-j`, where it is given
 pub data Listing : Type 0 where
-  of_run : Listing
+  of_run : Option Text → Listing
   of_scan : Option Text → Listing
 
 abbrev name : Listing → Text
-name of_run = codes "run"
+name (of_run w) = codes "run"
 name (of_scan w) = codes "scan"
 
 abbrev id : Listing → Text
-id of_run = codes "SPEC"
+id (of_run w) = codes "SPEC"
 id (of_scan w) = codes "TABLES"
 
 abbrev one_value : Rule → Rule
@@ -50,10 +50,10 @@ files = record files_rule { index = Some 2; parser = Some parser.String }
 abbrev help : Rule
 help = record help_rule { range = Some (record { start_inclusive = 0; end_inclusive = 0 }); parser = Some parser.String }
 
--- the flag that only `scan` takes
+-- the flag `-j`, which has a default for `scan` alone
 abbrev own_rules : Listing → List Rule
-own_rules of_run = []
-own_rules (of_scan w) = one_value workers_rule ∷ []
+own_rules (of_run w) = one_value (workers_rule []) ∷ []
+own_rules (of_scan w) = one_value (workers_rule (codes "4" ∷ [])) ∷ []
 
 abbrev listing : Listing → Shape
 listing b = record (new_shape (name b)) {
@@ -64,7 +64,7 @@ listing b = record (new_shape (name b)) {
 
 enters : (b : Listing) → Enters (name b) (listing b)
 unfolding lx_app walked
-enters of_run = record { passes = refl; goes = refl; found = refl }
+enters (of_run w) = record { passes = refl; goes = refl; found = refl }
 enters (of_scan w) = record { passes = refl; goes = refl; found = refl }
 
 -- ---- the numbers of `-b` and `-j`
@@ -99,13 +99,15 @@ at_number id k = record { rows = []; pending = Some (id, k ∷ []); skip = 0 }
 
 -- what is held behind the words of `-j`
 abbrev held_first : Listing → Held
-held_first of_run = nothing_held
+held_first (of_run None) = nothing_held
+held_first (of_run (Some j)) = at_number (codes "workers") j
 held_first (of_scan None) = nothing_held
 held_first (of_scan (Some j)) = at_number (codes "workers") j
 
 -- the rows once they are settled
 abbrev rows_first : Listing → List Row
-rows_first of_run = []
+rows_first (of_run None) = []
+rows_first (of_run (Some j)) = number_row (codes "workers") j ∷ []
 rows_first (of_scan None) = []
 rows_first (of_scan (Some j)) = number_row (codes "workers") j ∷ []
 
@@ -120,11 +122,11 @@ rows_before b (Some k) = rows_first b ++ number_row (codes "items") k ∷ []
 
 -- the numbers are ones that the flags take
 abbrev AreGiven : Listing → Option Text → Type 0
-AreGiven of_run o = IsItems o
+AreGiven (of_run w) o = IsWorkers w × IsItems o
 AreGiven (of_scan w) o = IsWorkers w × IsItems o
 
 abbrev IsReadyFirst : Listing → Type 0
-IsReadyFirst of_run = ⊤
+IsReadyFirst (of_run w) = IfSome w (IsReady 8)
 IsReadyFirst (of_scan w) = IfSome w (IsReady 8)
 
 abbrev AreReady : Listing → Option Text → Type 0
@@ -139,7 +141,7 @@ workers_ready None given = tt
 workers_ready (Some j) given = ready 8 (omega arith) j given
 
 all_ready : (b : Listing) (o : Option Text) → AreGiven b o → AreReady b o
-all_ready of_run o given = (tt, items_ready o given)
+all_ready (of_run w) o given = (workers_ready w given.0, items_ready o given.1)
 all_ready (of_scan w) o given = (workers_ready w given.0, items_ready o given.1)
 
 -- ---- the walk
@@ -154,50 +156,58 @@ abbrev at_files : Listing → Option Text → Text → List Text → Walk
 at_files b o r fs = standing (record { rows = rows_before b o ++ row (id b) (r ∷ []) ∷ []; pending = Some (codes "FILE", fs); skip = 0 }) positional 2
 
 rules_pass : (b : Listing) (o : Option Text) → AreReady b o → positional_fault (listing b).rules false (rules b) (held_before b o) ≡ []
-rules_pass of_run None ready = refl
-rules_pass of_run (Some k) ready = rw ready.1.1 refl
+rules_pass (of_run None) None ready = refl
+rules_pass (of_run None) (Some k) ready = rw ready.1.1 refl
+rules_pass (of_run (Some j)) None ready = rw ready.0.1 refl
+rules_pass (of_run (Some j)) (Some k) ready = rw ready.1.1 refl
 rules_pass (of_scan None) None ready = refl
 rules_pass (of_scan None) (Some k) ready = rw ready.1.1 refl
 rules_pass (of_scan (Some j)) None ready = rw ready.0.1 refl
 rules_pass (of_scan (Some j)) (Some k) ready = rw ready.1.1 refl
 
 rules_go : (b : Listing) (o : Option Text) (r : Text) → to_positional (listing b).rules (Some (rules b)) r (standing (held_before b o) idle 1) (held_before b o) ≡ at_rules b o r
-rules_go of_run None r = refl
-rules_go of_run (Some k) r = refl
+rules_go (of_run None) None r = refl
+rules_go (of_run None) (Some k) r = refl
+rules_go (of_run (Some j)) None r = refl
+rules_go (of_run (Some j)) (Some k) r = refl
 rules_go (of_scan None) None r = refl
 rules_go (of_scan None) (Some k) r = refl
 rules_go (of_scan (Some j)) None r = refl
 rules_go (of_scan (Some j)) (Some k) r = refl
 
 first_passes : (b : Listing) (o : Option Text) (r : Text) → positional_fault (listing b).rules false files (at_rules b o r).held ≡ []
-first_passes of_run None r = refl
-first_passes of_run (Some k) r = refl
+first_passes (of_run None) None r = refl
+first_passes (of_run None) (Some k) r = refl
+first_passes (of_run (Some j)) None r = refl
+first_passes (of_run (Some j)) (Some k) r = refl
 first_passes (of_scan None) None r = refl
 first_passes (of_scan None) (Some k) r = refl
 first_passes (of_scan (Some j)) None r = refl
 first_passes (of_scan (Some j)) (Some k) r = refl
 
 first_goes : (b : Listing) (o : Option Text) (r f : Text) → to_positional (listing b).rules (Some files) f (at_rules b o r) (at_rules b o r).held ≡ at_files b o r (f ∷ [])
-first_goes of_run None r f = refl
-first_goes of_run (Some k) r f = refl
+first_goes (of_run None) None r f = refl
+first_goes (of_run None) (Some k) r f = refl
+first_goes (of_run (Some j)) None r f = refl
+first_goes (of_run (Some j)) (Some k) r f = refl
 first_goes (of_scan None) None r f = refl
 first_goes (of_scan None) (Some k) r f = refl
 first_goes (of_scan (Some j)) None r f = refl
 first_goes (of_scan (Some j)) (Some k) r f = refl
 
 more_passes : (b : Listing) (o : Option Text) (r : Text) (fs : List Text) → positional_fault (listing b).rules false files (at_files b o r fs).held ≡ []
-more_passes of_run o r fs = refl
+more_passes (of_run w) o r fs = refl
 more_passes (of_scan w) o r fs = refl
 
 more_goes : (b : Listing) (o : Option Text) (r f : Text) (fs : List Text) → to_positional (listing b).rules (Some files) f (at_files b o r fs) (at_files b o r fs).held ≡ at_files b o r (fs ++ f ∷ [])
 more_goes b o r f fs = refl
 
 here_rules : (b : Listing) → arg_by_index (listing b).rules 1 ≡ Some (rules b)
-here_rules of_run = refl
+here_rules (of_run w) = refl
 here_rules (of_scan w) = refl
 
 here_files : (b : Listing) → arg_by_index (listing b).rules 2 ≡ Some files
-here_files of_run = refl
+here_files (of_run w) = refl
 here_files (of_scan w) = refl
 
 more_steps : (b : Listing) (o : Option Text) (r : Text) (fs gs : List Text) → All IsPlainWord gs → Steps (listing b) [] (at_files b o r fs) gs (at_files b o r (fs ++ gs))
@@ -227,13 +237,15 @@ at_dash b = standing (record { rows = rows_first b; pending = Some (codes "items
 
 dash_passes : (b : Listing) → IsReadyFirst b → turn_fault (listing b) [] (standing (held_first b) idle 1) (codes "-b") ≡ []
 unfolding clap_on_literals
-dash_passes of_run ready = refl
+dash_passes (of_run None) ready = refl
+dash_passes (of_run (Some j)) ready = rw ready.1 refl
 dash_passes (of_scan None) ready = refl
 dash_passes (of_scan (Some j)) ready = rw ready.1 refl
 
 dash_goes : (b : Listing) → walked (listing b).rules [] (standing (held_first b) idle 1) (codes "-b") ≡ at_dash b
 unfolding clap_on_literals at_dash
-dash_goes of_run = refl
+dash_goes (of_run None) = refl
+dash_goes (of_run (Some j)) = refl
 dash_goes (of_scan None) = refl
 dash_goes (of_scan (Some j)) = refl
 
@@ -247,10 +259,10 @@ number_passes b k plain =
 
 number_goes : (b : Listing) (k : Text) → IsPlainWord k → walked (listing b).rules [] (at_dash b) k ≡ standing (held_before b (Some k)) idle 1
 unfolding at_dash walked
-number_goes of_run k plain =
-    let h = (at_dash of_run).held in
+number_goes (of_run w) k plain =
+    let h = (at_dash (of_run w)).held in
     let waiting = option (codes "items") in
-    rw (met_plain (listing of_run) k h waiting 1 plain refl) refl
+    rw (met_plain (listing (of_run w)) k h waiting 1 plain refl) refl
 number_goes (of_scan w) k plain =
     let h = (at_dash (of_scan w)).held in
     let waiting = option (codes "items") in
@@ -260,24 +272,30 @@ number_goes (of_scan w) k plain =
 at_workers : Walk
 at_workers = standing (record { rows = []; pending = Some (codes "workers", []); skip = 0 }) (option (codes "workers")) 1
 
-workers_dash_passes : (w : Option Text) → turn_fault (listing (of_scan w)) [] (walk_from nothing_held) (codes "-j") ≡ []
+workers_dash_passes : (b : Listing) → turn_fault (listing b) [] (walk_from nothing_held) (codes "-j") ≡ []
 unfolding clap_on_literals
-workers_dash_passes w = refl
+workers_dash_passes (of_run w) = refl
+workers_dash_passes (of_scan w) = refl
 
-workers_dash_goes : (w : Option Text) → walked (listing (of_scan w)).rules [] (walk_from nothing_held) (codes "-j") ≡ at_workers
+workers_dash_goes : (b : Listing) → walked (listing b).rules [] (walk_from nothing_held) (codes "-j") ≡ at_workers
 unfolding clap_on_literals at_workers
-workers_dash_goes w = refl
+workers_dash_goes (of_run w) = refl
+workers_dash_goes (of_scan w) = refl
 
-workers_pass : (w : Option Text) (j : Text) → IsPlainWord j → turn_fault (listing (of_scan w)) [] at_workers j ≡ []
+workers_pass : (b : Listing) (j : Text) → IsPlainWord j → turn_fault (listing b) [] at_workers j ≡ []
 unfolding at_workers
-workers_pass w j plain =
+workers_pass b j plain =
     let h = at_workers.held in
     let waiting = option (codes "workers") in
-    rw (no_fault (listing (of_scan w)) j h waiting 1 plain refl, met_plain (listing (of_scan w)) j h waiting 1 plain refl) refl
+    rw (no_fault (listing b) j h waiting 1 plain refl, met_plain (listing b) j h waiting 1 plain refl) refl
 
-workers_go : (w : Option Text) (j : Text) → IsPlainWord j → walked (listing (of_scan w)).rules [] at_workers j ≡ standing (at_number (codes "workers") j) idle 1
+workers_go : (b : Listing) (j : Text) → IsPlainWord j → walked (listing b).rules [] at_workers j ≡ standing (at_number (codes "workers") j) idle 1
 unfolding at_workers walked
-workers_go w j plain =
+workers_go (of_run w) j plain =
+    let h = at_workers.held in
+    let waiting = option (codes "workers") in
+    rw (met_plain (listing (of_run w)) j h waiting 1 plain refl) refl
+workers_go (of_scan w) j plain =
     let h = at_workers.held in
     let waiting = option (codes "workers") in
     rw (met_plain (listing (of_scan w)) j h waiting 1 plain refl) refl
@@ -290,18 +308,22 @@ items_steps b (Some k) r f fs ready plain first more =
     (step_then _ _ _ _ _ k _ (number_passes b k ready.1.0) (number_goes b k ready.1.0)
     (name_steps b (Some k) r f fs ready plain first more))
 
--- the words of `-j`, which only `scan` takes
+-- the words of `-j`
 abbrev first_words : Listing → List Text
-first_words of_run = []
+first_words (of_run w) = workers_words w
 first_words (of_scan w) = workers_words w
 
 all_steps : (b : Listing) (o : Option Text) (r f : Text) (fs : List Text) → AreReady b o → IsPlainWord r → IsPlainWord f → All IsPlainWord fs
     → Steps (listing b) [] (walk_from nothing_held) (first_words b ++ (items_words o ++ r ∷ f ∷ fs)) (at_files b o r (f ∷ fs))
-all_steps of_run o r f fs ready plain first more = items_steps of_run o r f fs ready plain first more
+all_steps (of_run None) o r f fs ready plain first more = items_steps (of_run None) o r f fs ready plain first more
+all_steps (of_run (Some j)) o r f fs ready plain first more =
+    step_then _ _ _ _ _ (codes "-j") _ (workers_dash_passes (of_run (Some j))) (workers_dash_goes (of_run (Some j)))
+    (step_then _ _ _ _ _ j _ (workers_pass (of_run (Some j)) j ready.0.0) (workers_go (of_run (Some j)) j ready.0.0)
+    (items_steps (of_run (Some j)) o r f fs ready plain first more))
 all_steps (of_scan None) o r f fs ready plain first more = items_steps (of_scan None) o r f fs ready plain first more
 all_steps (of_scan (Some j)) o r f fs ready plain first more =
-    step_then _ _ _ _ _ (codes "-j") _ (workers_dash_passes (Some j)) (workers_dash_goes (Some j))
-    (step_then _ _ _ _ _ j _ (workers_pass (Some j) j ready.0.0) (workers_go (Some j) j ready.0.0)
+    step_then _ _ _ _ _ (codes "-j") _ (workers_dash_passes (of_scan (Some j))) (workers_dash_goes (of_scan (Some j)))
+    (step_then _ _ _ _ _ j _ (workers_pass (of_scan (Some j)) j ready.0.0) (workers_go (of_scan (Some j)) j ready.0.0)
     (items_steps (of_scan (Some j)) o r f fs ready plain first more))
 
 -- ---- where the words end
@@ -311,15 +333,17 @@ strings ignore_case [] = refl
 strings ignore_case (v ∷ vs) = strings ignore_case vs
 
 files_pass : (b : Listing) (o : Option Text) (r f : Text) (fs : List Text) → length fs < usize_max → settle_fault (listing b).rules false (at_files b o r (f ∷ fs)).held ≡ []
-files_pass of_run o r f fs few = rw (ne_eqb (length (f ∷ fs)) 0 (λ e. omega arith), le-ltb (length (f ∷ fs)) 1 (omega arith), le-ltb usize_max (length (f ∷ fs)) (omega arith)) (strings false (f ∷ fs))
+files_pass (of_run w) o r f fs few = rw (ne_eqb (length (f ∷ fs)) 0 (λ e. omega arith), le-ltb (length (f ∷ fs)) 1 (omega arith), le-ltb usize_max (length (f ∷ fs)) (omega arith)) (strings false (f ∷ fs))
 files_pass (of_scan w) o r f fs few = rw (ne_eqb (length (f ∷ fs)) 0 (λ e. omega arith), le-ltb (length (f ∷ fs)) 1 (omega arith), le-ltb usize_max (length (f ∷ fs)) (omega arith)) (strings false (f ∷ fs))
 
 abbrev settled_rows : Listing → Option Text → Text → List Text → List Row
 settled_rows b o r fs = rows_before b o ++ row (id b) (r ∷ []) ∷ row (codes "FILE") fs ∷ []
 
 settles : (b : Listing) (o : Option Text) (r f : Text) (fs : List Text) → (settled (listing b).rules (at_files b o r (f ∷ fs)).held).rows ≡ settled_rows b o r (f ∷ fs)
-settles of_run None r f fs = refl
-settles of_run (Some k) r f fs = refl
+settles (of_run None) None r f fs = refl
+settles (of_run None) (Some k) r f fs = refl
+settles (of_run (Some j)) None r f fs = refl
+settles (of_run (Some j)) (Some k) r f fs = refl
 settles (of_scan None) None r f fs = refl
 settles (of_scan None) (Some k) r f fs = refl
 settles (of_scan (Some j)) None r f fs = refl
@@ -327,8 +351,10 @@ settles (of_scan (Some j)) (Some k) r f fs = refl
 
 defaults_pass : (b : Listing) (o : Option Text) (r : Text) (fs : List Text) → defaults_fault (settled_rows b o r fs) (listing b).rules ≡ []
 unfolding defaults_fault
-defaults_pass of_run None r fs = refl
-defaults_pass of_run (Some k) r fs = refl
+defaults_pass (of_run None) None r fs = refl
+defaults_pass (of_run None) (Some k) r fs = refl
+defaults_pass (of_run (Some j)) None r fs = refl
+defaults_pass (of_run (Some j)) (Some k) r fs = refl
 defaults_pass (of_scan None) None r fs = refl
 defaults_pass (of_scan None) (Some k) r fs = refl
 defaults_pass (of_scan (Some j)) None r fs = refl
@@ -339,7 +365,8 @@ abbrev default_row : Text → Text → Row
 default_row id k = record { id = id; values = k ∷ []; count = None; source = Some DefaultValue; reading = reading.WithoutMinus }
 
 abbrev workers_default : Listing → List Row
-workers_default of_run = []
+workers_default (of_run None) = []
+workers_default (of_run (Some j)) = []
 workers_default (of_scan None) = default_row (codes "workers") (codes "4") ∷ []
 workers_default (of_scan (Some j)) = []
 
@@ -352,16 +379,20 @@ abbrev end_rows : Listing → Option Text → Text → List Text → List Row
 end_rows b o r fs = settled_rows b o r fs ++ (workers_default b ++ items_default o)
 
 finishes : (b : Listing) (o : Option Text) (r : Text) (fs : List Text) → fold with_default (settled_rows b o r fs) (listing b).rules ≡ end_rows b o r fs
-finishes of_run None r fs = refl
-finishes of_run (Some k) r fs = refl
+finishes (of_run None) None r fs = refl
+finishes (of_run None) (Some k) r fs = refl
+finishes (of_run (Some j)) None r fs = refl
+finishes (of_run (Some j)) (Some k) r fs = refl
 finishes (of_scan None) None r fs = refl
 finishes (of_scan None) (Some k) r fs = refl
 finishes (of_scan (Some j)) None r fs = refl
 finishes (of_scan (Some j)) (Some k) r fs = refl
 
 checks : (b : Listing) (o : Option Text) (r : Text) (fs : List Text) → check_fault (listing b) (end_rows b o r fs) false ≡ []
-checks of_run None r fs = refl
-checks of_run (Some k) r fs = refl
+checks (of_run None) None r fs = refl
+checks (of_run None) (Some k) r fs = refl
+checks (of_run (Some j)) None r fs = refl
+checks (of_run (Some j)) (Some k) r fs = refl
 checks (of_scan None) None r fs = refl
 checks (of_scan None) (Some k) r fs = refl
 checks (of_scan (Some j)) None r fs = refl
@@ -380,21 +411,28 @@ ends_well b o r f fs few =
 
 -- ---- what is asked
 
+-- by how many workers
+abbrev workers_of : Listing → ℕ
+workers_of (of_run w) = workers_given 0 w
+workers_of (of_scan w) = workers_given 4 w
+
 abbrev ask : Listing → PlainOrder → Asked
-ask of_run = run
-ask (of_scan w) = scan (workers_given w)
+ask (of_run w) = run
+ask (of_scan w) = scan
 
 asks_order : (b : Listing) (o : Option Text) (r f : Text) (fs : List Text) → AreReady b o → AreGiven b o
-    → asked_of (name b, end_rows b o r (f ∷ fs)) ≡ Some (ask b (record { per_piece = items_given o; rules = r; files = f ∷ fs }))
-asks_order of_run None r f fs ready given = refl
-asks_order of_run (Some k) r f fs ready given = rw (no_hyphen k ready.1.0, given) refl
+    → asked_of (name b, end_rows b o r (f ∷ fs)) ≡ Some (ask b (record { workers = workers_of b; per_piece = items_given o; rules = r; files = f ∷ fs }))
+asks_order (of_run None) None r f fs ready given = refl
+asks_order (of_run None) (Some k) r f fs ready given = rw (no_hyphen k ready.1.0, given.1) refl
+asks_order (of_run (Some j)) None r f fs ready given = rw (no_hyphen j ready.0.0, given.0) refl
+asks_order (of_run (Some j)) (Some k) r f fs ready given = rw (no_hyphen j ready.0.0, given.0, no_hyphen k ready.1.0, given.1) refl
 asks_order (of_scan None) None r f fs ready given = refl
 asks_order (of_scan None) (Some k) r f fs ready given = rw (no_hyphen k ready.1.0, given.1) refl
 asks_order (of_scan (Some j)) None r f fs ready given = rw (no_hyphen j ready.0.0, given.0) refl
 asks_order (of_scan (Some j)) (Some k) r f fs ready given = rw (no_hyphen j ready.0.0, given.0, no_hyphen k ready.1.0, given.1) refl
 
 pub plain_words_ask : (b : Listing) (program : Text) (o : Option Text) (r f : Text) (fs : List Text) → AreGiven b o → All IsPlainWord (r ∷ f ∷ fs) → length fs < usize_max
-    → asked_by (program ∷ name b ∷ (first_words b ++ (items_words o ++ r ∷ f ∷ fs))) ≡ Some (ask b (record { per_piece = items_given o; rules = r; files = f ∷ fs }))
+    → asked_by (program ∷ name b ∷ (first_words b ++ (items_words o ++ r ∷ f ∷ fs))) ≡ Some (ask b (record { workers = workers_of b; per_piece = items_given o; rules = r; files = f ∷ fs }))
 plain_words_ask b program o r f fs given all few =
     asks program (name b) _ (listing b) _ (enters b)
     (all_steps b o r f fs (all_ready b o given) (all 0 [] (omega arith)) (all 1 [] (omega arith)) (All-drop IsPlainWord 2 (r ∷ f ∷ fs) all))

@@ -38,13 +38,13 @@ items_rule = record (new_rule (codes "items")) {
   defaults = codes "256" ∷ [];
 }
 
--- `-j N`, from 1 to `max_workers`, and 4 where it isn't given
-abbrev pub workers_rule : Rule
-workers_rule = record (new_rule (codes "workers")) {
+-- `-j N`, from 1 to `max_workers`, with these defaults
+abbrev pub workers_rule : List Text → Rule
+workers_rule defaults = record (new_rule (codes "workers")) {
   short = Some 106;
   value_names = 1;
   parser = Some (Signed (pos 1) (pos max_workers));
-  defaults = codes "4" ∷ [];
+  defaults = defaults;
 }
 
 -- FILE.., at least one
@@ -59,17 +59,9 @@ files_rule = record (new_rule (codes "FILE")) {
 abbrev pub one_file_app : Text → Text → App
 one_file_app name id = with_rule (new_app name) (rules_rule id)
 
--- `[-b K]`, SPEC or TABLES, and FILE..
-abbrev pub with_list : App → Text → App
-with_list a id = with_rule (with_rule (with_rule a items_rule) (rules_rule id)) files_rule
-
--- `run [-b K] SPEC FILE..`
-abbrev pub list_app : Text → Text → App
-list_app name id = with_list (new_app name) id
-
--- `scan [-j N] [-b K] TABLES FILE..`
-abbrev pub scan_app : App
-scan_app = with_list (with_rule (new_app (codes "scan")) workers_rule) (codes "TABLES")
+-- `[-j N] [-b K]`, SPEC or TABLES, and FILE..
+abbrev pub list_app : Text → List Text → Text → App
+list_app name workers id = with_rule (with_rule (with_rule (with_rule (new_app name) (workers_rule workers)) items_rule) (rules_rule id)) files_rule
 
 -- a subcommand has to be given, and none is `help`
 abbrev pub bare_app : App
@@ -78,12 +70,14 @@ bare_app = on_top (λ s. record s { disable_help_subcommand = true; subcommand_r
 unfoldable pub lx_app : App
 lx_app = with_subcommand (with_subcommand (with_subcommand (with_subcommand bare_app
     (one_file_app (codes "gen") (codes "SPEC")).top) (one_file_app (codes "up") (codes "TABLES")).top)
-    scan_app.top) (list_app (codes "run") (codes "SPEC")).top
+    (list_app (codes "scan") (codes "4" ∷ []) (codes "TABLES")).top) (list_app (codes "run") [] (codes "SPEC")).top
 
 -- ---- what words ask for
 
--- a listing: how many items a piece has, the name of the specification or of the tables, and the names of the files
+-- a listing: how many workers scan the files, where with none the calling thread does; how many items a piece has; the name of the specification or of the
+-- tables; and the names of the files
 pub record PlainOrder : Type 0 where
+  pub workers : ℕ
   pub per_piece : ℕ
   pub rules : Text
   pub files : List Text
@@ -91,8 +85,7 @@ pub record PlainOrder : Type 0 where
 pub data Asked : Type 0 where
   stored : Asked
   run : PlainOrder → Asked
-  -- with how many threads the files are scanned, and what is listed
-  scan : ℕ → PlainOrder → Asked
+  scan : PlainOrder → Asked
   gen : Text → Asked
   up : Text → Asked
 
@@ -105,8 +98,8 @@ abbrev pub items_in : List Row → ℕ
 items_in rows = number_in (codes "items") max_items 256 rows
 
 -- the number of `-j`
-abbrev pub workers_in : List Row → ℕ
-workers_in rows = number_in (codes "workers") max_workers 4 rows
+abbrev pub workers_in : ℕ → List Row → ℕ
+workers_in default rows = number_in (codes "workers") max_workers default rows
 
 abbrev pub rules_in : Text → List Row → Text
 rules_in id rows = unwrap_or (first_of id rows) []
@@ -114,16 +107,17 @@ rules_in id rows = unwrap_or (first_of id rows) []
 abbrev pub files_in : List Row → List Text
 files_in rows = unwrap_or (all_of (codes "FILE") rows) []
 
-abbrev pub request_in : Text → List Row → PlainOrder
-request_in id rows = record { per_piece = items_in rows; rules = rules_in id rows; files = files_in rows }
+-- a listing, by so many workers where `-j` isn't given
+abbrev pub request_in : Text → ℕ → List Row → PlainOrder
+request_in id workers rows = record { workers = workers_in workers rows; per_piece = items_in rows; rules = rules_in id rows; files = files_in rows }
 
 -- what a subcommand asks for, by the rows of its arguments
 abbrev pub asked_of : Text × List Row → Option Asked
 asked_of p =
     if bytes_eq p.0 (codes "gen") then Some (gen (rules_in (codes "SPEC") p.1))
     else (if bytes_eq p.0 (codes "up") then Some (up (rules_in (codes "TABLES") p.1))
-    else (if bytes_eq p.0 (codes "scan") then Some (scan (workers_in p.1) (request_in (codes "TABLES") p.1))
-    else (if bytes_eq p.0 (codes "run") then Some (run (request_in (codes "SPEC") p.1)) else None)))
+    else (if bytes_eq p.0 (codes "scan") then Some (scan (request_in (codes "TABLES") 4 p.1))
+    else (if bytes_eq p.0 (codes "run") then Some (run (request_in (codes "SPEC") 0 p.1)) else None)))
 
 -- `clap` may answer the words by an error of this kind, of which the help is one
 abbrev pub IsFault : List Text → ErrorKind → Type 0
@@ -141,14 +135,14 @@ asked_by words = if nat_le (length words) 1 then Some stored
 -- ---- the code's requests
 
 abbrev pub plain_order : ListRequest → PlainOrder
-plain_order o = record { per_piece = o.per_piece; rules = o.rules.now; files = map (λ name. name.now) o.files.items }
+plain_order o = record { workers = o.workers; per_piece = o.per_piece; rules = o.rules.now; files = map (λ name. name.now) o.files.items }
 
 -- what a request was asked by; the help is none
 abbrev pub asked_as : Request → Option Asked
 asked_as request.Stored = Some stored
 asked_as (request.Help text) = None
 asked_as (request.Run o) = Some (run (plain_order o))
-asked_as (request.Scan o) = Some (scan o.workers (plain_order o.list))
+asked_as (request.Scan o) = Some (scan (plain_order o))
 asked_as (request.Gen name) = Some (gen name.now)
 asked_as (request.Up name) = Some (up name.now)
 
@@ -184,8 +178,8 @@ IsItems number = IsNumber max_items number
 abbrev pub workers_words : Option Text → List Text
 workers_words number = number_words (codes "-j") number
 
-abbrev pub workers_given : Option Text → ℕ
-workers_given number = number_given 4 number
+abbrev pub workers_given : ℕ → Option Text → ℕ
+workers_given default number = number_given default number
 
 abbrev pub IsWorkers : Option Text → Type 0
 IsWorkers number = IsNumber max_workers number
@@ -194,7 +188,7 @@ IsWorkers number = IsNumber max_workers number
 pub record PlainWordsAsk : Type 0 where
   pub gens : (program spec : Text) → IsPlainWord spec → asked_by (program ∷ codes "gen" ∷ spec ∷ []) ≡ Some (gen spec)
   pub ups : (program tables : Text) → IsPlainWord tables → asked_by (program ∷ codes "up" ∷ tables ∷ []) ≡ Some (up tables)
-  pub runs : (program : Text) (number : Option Text) (spec file : Text) (files : List Text) → IsItems number → All IsPlainWord (spec ∷ file ∷ files) → length files < usize_max
-      → asked_by (program ∷ codes "run" ∷ (items_words number ++ spec ∷ file ∷ files)) ≡ Some (run (record { per_piece = items_given number; rules = spec; files = file ∷ files }))
+  pub runs : (program : Text) (workers number : Option Text) (spec file : Text) (files : List Text) → IsWorkers workers → IsItems number → All IsPlainWord (spec ∷ file ∷ files) → length files < usize_max
+      → asked_by (program ∷ codes "run" ∷ (workers_words workers ++ (items_words number ++ spec ∷ file ∷ files))) ≡ Some (run (record { workers = workers_given 0 workers; per_piece = items_given number; rules = spec; files = file ∷ files }))
   pub scans : (program : Text) (workers number : Option Text) (tables file : Text) (files : List Text) → IsWorkers workers → IsItems number → All IsPlainWord (tables ∷ file ∷ files) → length files < usize_max
-      → asked_by (program ∷ codes "scan" ∷ (workers_words workers ++ (items_words number ++ tables ∷ file ∷ files))) ≡ Some (scan (workers_given workers) (record { per_piece = items_given number; rules = tables; files = file ∷ files }))
+      → asked_by (program ∷ codes "scan" ∷ (workers_words workers ++ (items_words number ++ tables ∷ file ∷ files))) ≡ Some (scan (record { workers = workers_given 4 workers; per_piece = items_given number; rules = tables; files = file ∷ files }))

@@ -1,7 +1,7 @@
 -- What the program does, by what its words ask for.
 use Rattle.std.specs.Prelude.{◌≡◌, ◌≢◌, ℕ, ◌<◌, ◌⊎◌, List, [], ◌∷◌, Option, Some, None, Contains, IsSomeAnd, MatchOption, codes, length}
 use Rattle.std.specs.Io.KnownBytes.{Keeps}
-use Rattle.lx_piece.specs.Plans.{PlainInput}
+use Rattle.lx_piece.specs.Plans.{PlainInput, max_files}
 use Rattle.lx_tool.specs.CommandLine.{Asked, PlainOrder, stored, run, scan, gen, up}
 use Rattle.lx_tool.specs.Given.{AreListed, IsNoTable}
 use Rattle.lx_tool.specs.Planning.{ListsByRules, ListsByText}
@@ -37,7 +37,7 @@ pub record IsPrinted {S : Type 0} (gives : S → List ℕ → PlainInput → S �
 abbrev pub HasDone : {S : Type 0} → (S → List ℕ → PlainInput → S → Type 0) → S → S → Option (List ℕ) → Option (List ℕ) → List (List ℕ) → Asked → Type 0
 HasDone gives before after old new cut stored = ListsByRules stored_specification (whole stored_text ∷ []) old new × (cut ≡ [])
 HasDone gives before after old new cut (run order) = AreListedBy gives (λ text inputs. ListsByRules text inputs old new) order before after cut
-HasDone gives before after old new cut (scan workers order) = AreListedBy gives (λ text inputs. ListsByText text inputs old new) order before after cut
+HasDone gives before after old new cut (scan order) = AreListedBy gives (λ text inputs. ListsByText text inputs old new) order before after cut
 HasDone gives before after old new cut (gen name) = IsPrinted gives (λ text. Generates text old new) name before after × (cut ≡ [])
 HasDone gives before after old new cut (up name) = IsPrinted gives (λ text. Upgrades text old new) name before after × (cut ≡ [])
 
@@ -47,7 +47,7 @@ HasDone gives before after old new cut (up name) = IsPrinted gives (λ text. Upg
 abbrev pub files_asked : Asked → List (List ℕ)
 files_asked stored = []
 files_asked (run order) = order.files
-files_asked (scan workers order) = order.files
+files_asked (scan order) = order.files
 files_asked (gen name) = []
 files_asked (up name) = []
 
@@ -55,7 +55,7 @@ files_asked (up name) = []
 abbrev pub names_asked : Asked → List (List ℕ)
 names_asked stored = []
 names_asked (run order) = order.rules ∷ order.files
-names_asked (scan workers order) = order.rules ∷ order.files
+names_asked (scan order) = order.rules ∷ order.files
 names_asked (gen name) = name ∷ []
 names_asked (up name) = name ∷ []
 
@@ -70,7 +70,7 @@ pub record IsTextRefused {S : Type 0} (gives : S → List ℕ → PlainInput →
 abbrev pub AreRulesRefused : {S : Type 0} → (S → List ℕ → PlainInput → S → Type 0) → S → Asked → Failure → Type 0
 AreRulesRefused gives before stored failure = HasNoTables stored_specification failure
 AreRulesRefused gives before (run order) failure = IsTextRefused gives (λ text. HasNoTables text failure) order.rules before
-AreRulesRefused gives before (scan workers order) failure = IsTextRefused gives (λ text. IsNoTable text failure) order.rules before
+AreRulesRefused gives before (scan order) failure = IsTextRefused gives (λ text. IsNoTable text failure) order.rules before
 AreRulesRefused gives before (gen name) failure = IsTextRefused gives (λ text. HasNoTables text failure) name before
 AreRulesRefused gives before (up name) failure = IsTextRefused gives (λ text. IsNoTable text failure) name before
 
@@ -80,7 +80,7 @@ HasCause gives before asked (Specification fault) = AreRulesRefused gives before
 HasCause gives before asked (Automaton fault) = AreRulesRefused gives before asked (Automaton fault)
 HasCause gives before asked (Tables fault) = AreRulesRefused gives before asked (Tables fault)
 HasCause gives before asked (Words error) = ⊥
-HasCause gives before asked TooManyFiles = 65536 < length (files_asked asked)
+HasCause gives before asked TooManyFiles = max_files < length (files_asked asked)
 HasCause gives before asked (NotRead name) = Contains (names_asked asked) name.now
 HasCause gives before asked Output = ⊥
 HasCause gives before asked Memory = ⊥

@@ -14,8 +14,11 @@ pub(crate) use words::read_words;
 /// How many items a piece has where `-b` is not given.
 pub(crate) const ITEMS: u32 = 256;
 
-/// With how many threads files are scanned where `-j` is not given.
+/// By how many workers `scan` lists where `-j` is not given.
 pub(crate) const WORKERS: u8 = 4;
+
+/// No workers: the calling thread scans the files itself, as `run` does where `-j` is not given.
+pub(crate) const ALONE: u8 = 0;
 
 /// What the words of the command line ask for.
 #[derive(Drop)]
@@ -27,33 +30,25 @@ pub(crate) enum Request<'a> {
     /// `run`: the listing of files by a specification.
     Run(ListRequest<'a>),
     /// `scan`: the listing of files by tables.
-    Scan(ScanRequest<'a>),
+    Scan(ListRequest<'a>),
     /// `gen`: the tables of the specification with this name.
     Gen(&'a str),
     /// `up`: the tables with this name, printed in version 2.
     Up(&'a str),
 }
 
-/// The words of `scan`.
-#[derive(Drop)]
-pub(crate) struct ScanRequest<'a> {
-    /// With how many threads the files are scanned.
-    pub(crate) workers: u8,
-    /// What is listed, by tables.
-    pub(crate) list: ListRequest<'a>,
-    ghost some_workers: { 0 < workers },
-    ghost few_workers: { workers ≤ max_workers },
-}
-
-/// The words of `run`, and those of `scan` but for the threads.
+/// The words of `run` and of `scan`.
 #[derive(Drop)]
 pub(crate) struct ListRequest<'a> {
+    /// How many workers scan the files; with none the calling thread does.
+    pub(crate) workers: u8,
     /// How many items a piece has.
     pub(crate) per_piece: u32,
     /// The name of the specification, or of the tables.
     pub(crate) rules: &'a str,
     /// The names of the files.
     pub(crate) files: Vec<&'a str>,
+    ghost few_workers: { workers ≤ max_workers },
     ghost some_items: { 0 < per_piece },
     ghost few_items: { per_piece ≤ max_items },
 }

@@ -9,7 +9,7 @@ ghost use Rattle.lx_tool.specs.Sources.{AreGiven, cut_names, texts_of, whole};
 ghost use Rattle.lx_tool.specs.Tabling.{HasNoTables};
 
 use crate::failure::Failure;
-use crate::planning::{list_files, scan_files};
+use crate::planning::list_files;
 use crate::source::{SourceFault, Sources};
 use crate::tabling::tables_of_text;
 use lx_piece::Input;
@@ -121,31 +121,8 @@ fn read_given<'a, S: Sources>(
     Ok(Given { files, cut })
 }
 
-// Lists the files with these names by the tables, on one thread. All are read before the first line is written.
-fn list_given<'a, S: Sources, W: Write>(
-    alloc: Global,
-    tables: Tables,
-    names: &[&'a str],
-    per_piece: u32,
-    sources: &mut S,
-    out: &mut W,
-) -> Result<Vec<&'a str>, Failure<'a>>
-    requires few_files { length names.now ≤ max_files }
-    requires some_items { 0 < per_piece }
-    requires few_items { per_piece ≤ max_items }
-    ensures ok { IfOk result (λ cut. ListsGiven S.gives (ListsBy tables) (texts_of names.now) sources.old sources.new (W.contents out.old) (W.contents out.new) (texts_of cut.items)) }
-    ensures err { IfErr result (FailsGiven S.gives (λ _. ⊥) (ListsPrefixBy tables) (texts_of names.now) sources.old sources.new (W.contents out.old) (W.contents out.new)) }
-{
-    let given = read_given(alloc, sources, names)?;
-    if given.files.is_empty() {
-        return Ok(given.cut);
-    }
-    list_files(alloc, tables, given.files, per_piece, out)?;
-    Ok(given.cut)
-}
-
-// Lists them in the same way, by workers.
-fn scan_given<'a, T: Threads + Wait + Sync, S: Sources, W: Write>(
+// Lists the files with these names by the tables. All are read before the first line is written.
+fn list_given<'a, T: Threads + Wait + Sync, S: Sources, W: Write>(
     rt: &T,
     alloc: Global,
     tables: Tables,
@@ -158,7 +135,6 @@ fn scan_given<'a, T: Threads + Wait + Sync, S: Sources, W: Write>(
     requires few_files { length names.now ≤ max_files }
     requires some_items { 0 < per_piece }
     requires few_items { per_piece ≤ max_items }
-    requires some_workers { 0 < workers }
     requires few_workers { workers ≤ max_workers }
     ensures ok { IfOk result (λ cut. ListsGiven S.gives (ListsBy tables) (texts_of names.now) sources.old sources.new (W.contents out.old) (W.contents out.new) (texts_of cut.items)) }
     ensures err { IfErr result (FailsGiven S.gives (λ _. ⊥) (ListsPrefixBy tables) (texts_of names.now) sources.old sources.new (W.contents out.old) (W.contents out.new)) }
@@ -167,16 +143,19 @@ fn scan_given<'a, T: Threads + Wait + Sync, S: Sources, W: Write>(
     if given.files.is_empty() {
         return Ok(given.cut);
     }
-    scan_files(rt, alloc, tables, given.files, per_piece, workers, out)?;
+    list_files(rt, alloc, tables, given.files, per_piece, workers, out)?;
     Ok(given.cut)
 }
 
 /// Lists the files with these names by the specification that a text says, with `per_piece` items a piece. The text is judged before a file
-/// is read, and all files are read before the first line is written. The result are the names of those that were cut short, in order.
-pub fn list_by_specification<'a, S: Sources, W: Write>(
+/// is read, and all files are read before the first line is written. 1 to 8 workers scan them, or with none the calling thread. The result are
+/// the names of those that were cut short, in order.
+pub fn list_by_specification<'a, T: Threads + Wait + Sync, S: Sources, W: Write>(
+    rt: &T,
     alloc: Global,
     text: &[u8],
     names: &[&'a str],
+    workers: u8,
     per_piece: u32,
     sources: &mut S,
     out: &mut W,
@@ -184,6 +163,7 @@ pub fn list_by_specification<'a, S: Sources, W: Write>(
     requires few_files { length names.now ≤ max_files }
     requires some_items { 0 < per_piece }
     requires few_items { per_piece ≤ max_items }
+    requires few_workers { workers ≤ max_workers }
     ensures ok { IfOk result (λ cut. ListsGiven S.gives (ListsByRules text.now) (texts_of names.now) sources.old sources.new (W.contents out.old) (W.contents out.new) (texts_of cut.items)) }
     ensures err { IfErr result (FailsGiven S.gives (HasNoTables text.now) (ListsPrefixByRules text.now) (texts_of names.now) sources.old sources.new (W.contents out.old) (W.contents out.new)) }
 {
@@ -191,12 +171,10 @@ pub fn list_by_specification<'a, S: Sources, W: Write>(
     let tables = tables_of_text(alloc, text)?;
     // its contract says what holds of all tables
     let _conditions = tables.conditions();
-    list_given(alloc, tables, names, per_piece, sources, out)
+    list_given(rt, alloc, tables, names, workers, per_piece, sources, out)
 }
 
-/// Lists the files with these names by the tables whose text it is, in either version, by 1 to 8 workers and with `per_piece` items a piece.
-/// The text is judged before a file is read, and all files are read before the first line is written. The result are the names of those that were
-/// cut short, in order.
+/// Lists the files with these names by the tables whose text it is, in either version, and else as `list_by_specification` does.
 pub fn list_by_tables<'a, T: Threads + Wait + Sync, S: Sources, W: Write>(
     rt: &T,
     alloc: Global,
@@ -210,7 +188,6 @@ pub fn list_by_tables<'a, T: Threads + Wait + Sync, S: Sources, W: Write>(
     requires few_files { length names.now ≤ max_files }
     requires some_items { 0 < per_piece }
     requires few_items { per_piece ≤ max_items }
-    requires some_workers { 0 < workers }
     requires few_workers { workers ≤ max_workers }
     ensures ok { IfOk result (λ cut. ListsGiven S.gives (ListsByText text.now) (texts_of names.now) sources.old sources.new (W.contents out.old) (W.contents out.new) (texts_of cut.items)) }
     ensures err { IfErr result (FailsGiven S.gives (IsNoTable text.now) (ListsPrefixByText text.now) (texts_of names.now) sources.old sources.new (W.contents out.old) (W.contents out.new)) }
@@ -218,5 +195,5 @@ pub fn list_by_tables<'a, T: Threads + Wait + Sync, S: Sources, W: Write>(
     let tables = Tables::read(alloc, text)?;
     // its contract says what holds of all tables
     let _conditions = tables.conditions();
-    scan_given(rt, alloc, tables, names, workers, per_piece, sources, out)
+    list_given(rt, alloc, tables, names, workers, per_piece, sources, out)
 }

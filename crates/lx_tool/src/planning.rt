@@ -8,7 +8,7 @@ ghost use Rattle.lx_tables.specs.Reading.{IsTextOf};
 ghost use Rattle.lx_tool.specs.Planning.{AreBytes, ListsBy, ListsPrefixBy, ListsByRules};
 ghost use Rattle.lx_tool.specs.Tabling.{AreTablesOfText};
 
-use crate::printing::{print_listing, scan_listing};
+use crate::printing::list_plan;
 use lx_piece::{Input, Plan};
 use lx_post::RunFault;
 use lx_scan::ruling::items_are_by_rules;
@@ -23,27 +23,8 @@ use std::thread::Threads;
 const RUN: u64 = 1;
 
 /// Writes the lines of the files' items by the tables, with `per_piece` items a piece: all of them, or after a fault a prefix,
-/// possibly empty.
-pub fn list_files<W: Write>(
-    alloc: Global,
-    tables: Tables,
-    files: Vec<Input>,
-    per_piece: u32,
-    out: &mut W,
-) -> Result<(), RunFault>
-    requires some_files { 0 < vec_len files }
-    requires few_files { vec_len files ≤ max_files }
-    requires some_items { 0 < per_piece }
-    requires few_items { per_piece ≤ max_items }
-    ensures ok { OnOk result (ListsBy tables (map input_view files.items) (W.contents out.old) (W.contents out.new)) }
-    ensures err { OnErr result (ListsPrefixBy tables (map input_view files.items) (W.contents out.old) (W.contents out.new)) }
-{
-    let plan = Plan::new(tables, files, per_piece, RUN);
-    print_listing(alloc, &plan, out)
-}
-
-/// Writes the same lines as `list_files`, where 1 to 8 workers scan the files.
-pub fn scan_files<T: Threads + Wait + Sync, W: Write>(
+/// possibly empty. 1 to 8 workers scan the files, or with none the calling thread.
+pub fn list_files<T: Threads + Wait + Sync, W: Write>(
     rt: &T,
     alloc: Global,
     tables: Tables,
@@ -56,13 +37,12 @@ pub fn scan_files<T: Threads + Wait + Sync, W: Write>(
     requires few_files { vec_len files ≤ max_files }
     requires some_items { 0 < per_piece }
     requires few_items { per_piece ≤ max_items }
-    requires some_workers { 0 < workers }
     requires few_workers { workers ≤ max_workers }
     ensures ok { OnOk result (ListsBy tables (map input_view files.items) (W.contents out.old) (W.contents out.new)) }
     ensures err { OnErr result (ListsPrefixBy tables (map input_view files.items) (W.contents out.old) (W.contents out.new)) }
 {
     let plan = Plan::new(tables, files, per_piece, RUN);
-    scan_listing(rt, alloc, &plan, workers, out)
+    list_plan(rt, alloc, &plan, workers, out)
 }
 
 /// A law: what is listed by tables of the specification that a text says are the items by its rules.

@@ -132,3 +132,22 @@ pub fn scan_listing<T: Threads + Wait + Sync, W: Write>(
     } = printer;
     answer
 }
+
+/// Writes the listing of a plan's files, the lines of each file in order and the files in order: by 1 to 8 workers, or by none, on the
+/// calling thread alone. After a fault a prefix of it was written.
+pub fn list_plan<T: Threads + Wait + Sync, W: Write>(
+    rt: &T,
+    alloc: Global,
+    plan: &Plan,
+    workers: u8,
+    out: &mut W,
+) -> Result<(), RunFault>
+    requires { workers ≤ max_workers }
+    ensures ok { OnOk result (Appends (W.contents out.old) (W.contents out.new) (listing_of plan.now)) }
+    ensures err { OnErr result (AppendsPrefix (W.contents out.old) (W.contents out.new) (listing_of plan.now)) }
+{
+    if workers == 0 {
+        return print_listing(alloc, plan, out);
+    }
+    scan_listing(rt, alloc, plan, workers, out)
+}

@@ -9,7 +9,7 @@ ghost use Rattle.lx_tool.specs.Sources.{texts_of, whole};
 ghost use Rattle.lx_tool.specs.Statuses.{status_of};
 ghost use Rattle.lx_tool.specs.Tabling.{HasNoTables};
 
-use crate::command_line::{ITEMS, ListRequest, Refusal, Request, ScanRequest, read_words};
+use crate::command_line::{ALONE, ITEMS, ListRequest, Refusal, Request, read_words};
 use crate::failure::Failure;
 use crate::given::{list_by_specification, list_by_tables, read_whole};
 use crate::planning::{list_files, listings_are_by_rules};
@@ -106,14 +106,14 @@ fn carry_out<'a, R: Threads + Wait + Sync, S: Sources, O: Write>(
 {
     match order {
         Request::Stored => {
-            list_stored(alloc, out)?;
+            list_stored(rt, alloc, out)?;
             Ok(Vec::new(alloc))
         }
         Request::Help(text) => {
             write!(out, "{text}").map_err(|_| Failure::Output)?;
             Ok(Vec::new(alloc))
         }
-        Request::Run(order) => list_by_rules_of(alloc, &order, sources, out),
+        Request::Run(order) => list_by_rules_of(rt, alloc, &order, sources, out),
         Request::Scan(order) => list_by_tables_of(rt, alloc, &order, sources, out),
         Request::Gen(name) => {
             generate_named(alloc, name, sources, out)?;
@@ -127,7 +127,11 @@ fn carry_out<'a, R: Threads + Wait + Sync, S: Sources, O: Write>(
 }
 
 // The stored run.
-fn list_stored<'a, O: Write>(alloc: Global, out: &mut O) -> Result<(), Failure<'a>>
+fn list_stored<'a, R: Threads + Wait + Sync, O: Write>(
+    rt: &R,
+    alloc: Global,
+    out: &mut O,
+) -> Result<(), Failure<'a>>
     ensures ok { OnOk result (ListsByRules stored_specification (whole stored_text ∷ []) (O.contents out.old) (O.contents out.new)) }
     ensures err { IfErr result (λ failure. status_of failure < 4 → HasNoTables stored_specification failure × Keeps (O.contents out.old) (O.contents out.new)) }
 {
@@ -136,12 +140,13 @@ fn list_stored<'a, O: Write>(alloc: Global, out: &mut O) -> Result<(), Failure<'
     // its contract says what holds of all tables
     let _conditions = tables.conditions();
     let file = make_input(alloc, STORED_TEXT, false)?;
-    list_files(alloc, tables, vec![in alloc; file]?, ITEMS, out)?;
+    list_files(rt, alloc, tables, vec![in alloc; file]?, ITEMS, ALONE, out)?;
     Ok(())
 }
 
 // Lists the request's files by its specification.
-fn list_by_rules_of<'a, S: Sources, O: Write>(
+fn list_by_rules_of<'a, R: Threads + Wait + Sync, S: Sources, O: Write>(
+    rt: &R,
     alloc: Global,
     order: &ListRequest<'a>,
     sources: &mut S,
@@ -154,32 +159,40 @@ fn list_by_rules_of<'a, S: Sources, O: Write>(
         return Err(Failure::TooManyFiles);
     }
     let text = read_whole(alloc, sources, order.rules)?;
-    list_by_specification(alloc, &text, &order.files, order.per_piece, sources, out)
+    list_by_specification(
+        rt,
+        alloc,
+        &text,
+        &order.files,
+        order.workers,
+        order.per_piece,
+        sources,
+        out,
+    )
 }
 
-// Lists the request's files by its tables, with its number of workers.
+// Lists the request's files by its tables.
 fn list_by_tables_of<'a, R: Threads + Wait + Sync, S: Sources, O: Write>(
     rt: &R,
     alloc: Global,
-    order: &ScanRequest<'a>,
+    order: &ListRequest<'a>,
     sources: &mut S,
     out: &mut O,
 ) -> Result<Vec<&'a str>, Failure<'a>>
-    ensures ok { IfOk result (λ cut. HasDone S.gives sources.old sources.new (O.contents out.old) (O.contents out.new) (texts_of cut.items) (scan-asked order.now.workers (plain_order order.now.list))) }
-    ensures err { IfErr result (HasFailed S.gives (Some (scan-asked order.now.workers (plain_order order.now.list))) sources.old (O.contents out.old) (O.contents out.new)) }
+    ensures ok { IfOk result (λ cut. HasDone S.gives sources.old sources.new (O.contents out.old) (O.contents out.new) (texts_of cut.items) (scan-asked (plain_order order.now))) }
+    ensures err { IfErr result (HasFailed S.gives (Some (scan-asked (plain_order order.now))) sources.old (O.contents out.old) (O.contents out.new)) }
 {
-    let list = &order.list;
-    if list.files.len() > MAX_FILES {
+    if order.files.len() > MAX_FILES {
         return Err(Failure::TooManyFiles);
     }
-    let text = read_whole(alloc, sources, list.rules)?;
+    let text = read_whole(alloc, sources, order.rules)?;
     list_by_tables(
         rt,
         alloc,
         &text,
-        &list.files,
+        &order.files,
         order.workers,
-        list.per_piece,
+        order.per_piece,
         sources,
         out,
     )

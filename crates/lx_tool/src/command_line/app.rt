@@ -1,9 +1,9 @@
 //! The command line of `lx`, as `clap` reads it.
 
-ghost use Rattle.std.specs.Prelude.{◌≡◌, IfOk, codes, false};
+ghost use Rattle.std.specs.Prelude.{◌≡◌, [], ◌∷◌, IfOk, codes, false};
 ghost use Rattle.clap.specs.Words.{app_of, rule_of};
 ghost use Rattle.clap.specs.declared.builder.Command.TheViews.{out-Command as fields_of};
-ghost use Rattle.lx_tool.specs.CommandLine.{files_rule, items_rule, list_app, lx_app, one_file_app, rules_rule, scan_app, workers_rule};
+ghost use Rattle.lx_tool.specs.CommandLine.{files_rule, items_rule, list_app, lx_app, one_file_app, rules_rule, workers_rule};
 
 use clap::{Arg, ArgAction, Command, value_parser};
 use lx_piece::MAX_ITEMS;
@@ -43,23 +43,24 @@ fn up_command<'a>(alloc: Global) -> Result<Command<'a>, AllocError>
 }
 
 fn run_command<'a>(alloc: Global) -> Result<Command<'a>, AllocError>
-    ensures app { IfOk result (λ command. app_of command ≡ list_app (codes "run") (codes "SPEC")) }
+    ensures app { IfOk result (λ command. app_of command ≡ list_app (codes "run") [] (codes "SPEC")) }
     ensures local { IfOk result (λ command. (fields_of command).has_globals ≡ false) }
 {
     Command::new(alloc, "run")
         .about("Lists the tokens and the echoed bytes of files by a specification")
+        .arg(run_workers(alloc))?
         .arg(items(alloc))?
         .arg(specification(alloc))?
         .arg(files(alloc))
 }
 
 fn scan_command<'a>(alloc: Global) -> Result<Command<'a>, AllocError>
-    ensures app { IfOk result (λ command. app_of command ≡ scan_app) }
+    ensures app { IfOk result (λ command. app_of command ≡ list_app (codes "scan") (codes "4" ∷ []) (codes "TABLES")) }
     ensures local { IfOk result (λ command. (fields_of command).has_globals ≡ false) }
 {
     Command::new(alloc, "scan")
         .about("Lists the tokens and the echoed bytes of files by tables")
-        .arg(workers(alloc))?
+        .arg(scan_workers(alloc))?
         .arg(items(alloc))?
         .arg(tables(alloc))?
         .arg(files(alloc))
@@ -95,16 +96,31 @@ fn items<'a>(alloc: Global) -> Arg<'a>
         .default_value("256")
 }
 
-fn workers<'a>(alloc: Global) -> Arg<'a>
-    ensures rule { rule_of result ≡ workers_rule }
+fn workers<'a>(alloc: Global, help: &'a str) -> Arg<'a>
+    ensures rule { rule_of result ≡ workers_rule [] }
     ensures local { result.global ≡ false }
 {
     Arg::new(alloc, "workers")
         .short('j')
         .value_name("N")
-        .help("With how many threads the files are scanned, from 1 to 8")
+        .help(help)
         .value_parser(value_parser!(u8).range(1..=i64::from(MAX_WORKERS)))
-        .default_value("4")
+}
+
+fn run_workers<'a>(alloc: Global) -> Arg<'a>
+    ensures rule { rule_of result ≡ workers_rule [] }
+    ensures local { result.global ≡ false }
+{
+    let help = "With how many threads the files are scanned, from 1 to 8, and else on one";
+    workers(alloc, help)
+}
+
+fn scan_workers<'a>(alloc: Global) -> Arg<'a>
+    ensures rule { rule_of result ≡ workers_rule (codes "4" ∷ []) }
+    ensures local { result.global ≡ false }
+{
+    let help = "With how many threads the files are scanned, from 1 to 8";
+    workers(alloc, help).default_value("4")
 }
 
 fn files<'a>(alloc: Global) -> Arg<'a>

@@ -7,7 +7,7 @@ ghost use Rattle.lx_post.specs.Claimed.{max_workers};
 ghost use Rattle.lx_tool.specs.CommandLine.{IsFault, PlainWordsAsk, asked_as, asked_by, asked_of, files_in, items_in, request_in, plain_order, rules_in, workers_in, words_of};
 
 use super::app::command;
-use super::{ITEMS, ListRequest, Refusal, Request, ScanRequest, WORKERS};
+use super::{ALONE, ITEMS, ListRequest, Refusal, Request, WORKERS};
 use clap::error::ErrorKind;
 use clap::{ArgMatches, Error};
 use lx_piece::MAX_ITEMS;
@@ -63,29 +63,23 @@ fn named_request_of<'a>(
     match name {
         "gen" => Ok(Request::Gen(rules_of(found, "SPEC"))),
         "up" => Ok(Request::Up(rules_of(found, "TABLES"))),
-        "scan" => Ok(Request::Scan(scan_request_of(alloc, found)?)),
-        _ => Ok(Request::Run(list_request_of(alloc, found, "SPEC")?)),
+        "scan" => Ok(Request::Scan(list_request_of(alloc, found, "TABLES", WORKERS)?)),
+        _ => Ok(Request::Run(list_request_of(alloc, found, "SPEC", ALONE)?)),
     }
 }
 
-fn scan_request_of<'a>(alloc: Global, found: &ArgMatches<'a>) -> Result<ScanRequest<'a>, AllocError>
-    ensures workers { IfOk result (λ request. request.workers ≡ workers_in (rows_of (found_of found.now))) }
-    ensures list { IfOk result (λ request. plain_order request.list ≡ request_in (codes "TABLES") (rows_of (found_of found.now))) }
-{
-    Ok(ScanRequest {
-        workers: workers_of(found),
-        list: list_request_of(alloc, found, "TABLES")?,
-    })
-}
-
+// A listing, by so many workers where `-j` is not given.
 fn list_request_of<'a>(
     alloc: Global,
     found: &ArgMatches<'a>,
     rules: &str,
+    workers: u8,
 ) -> Result<ListRequest<'a>, AllocError>
-    ensures { IfOk result (λ request. plain_order request ≡ request_in rules.now (rows_of (found_of found.now))) }
+    requires { workers ≤ max_workers }
+    ensures { IfOk result (λ request. plain_order request ≡ request_in rules.now workers (rows_of (found_of found.now))) }
 {
     Ok(ListRequest {
+        workers: workers_of(found, workers),
         per_piece: items_of(found),
         rules: rules_of(found, rules),
         files: files_of(alloc, found)?,
@@ -119,15 +113,15 @@ fn items_of(found: &ArgMatches<'_>) -> u32
     }
 }
 
-// With how many threads the files are scanned.
-fn workers_of(found: &ArgMatches<'_>) -> u8
-    ensures workers { result ≡ workers_in (rows_of (found_of found.now)) }
-    ensures some { 0 < result }
+// How many workers scan the files.
+fn workers_of(found: &ArgMatches<'_>, default: u8) -> u8
+    requires { default ≤ max_workers }
+    ensures workers { result ≡ workers_in default (rows_of (found_of found.now)) }
     ensures few { result ≤ max_workers }
 {
     match found.get_one::<u8>("workers") {
         Some(workers) if 0 < workers && workers <= MAX_WORKERS => workers,
-        _ => WORKERS,
+        _ => default,
     }
 }
 

@@ -7,7 +7,8 @@ pub returns : goal.returns
 returns c = record {
   gens = plain_name_asks true;
   ups = plain_name_asks false;
-  runs = plain_words_ask of_run;
+  runs = λ program workers number spec file files some_workers some_items.
+      plain_words_ask (of_run workers) program number spec file files (some_workers, some_items);
   scans = λ program workers number tables file files some_workers some_items.
       plain_words_ask (of_scan workers) program number tables file files (some_workers, some_items);
 }
