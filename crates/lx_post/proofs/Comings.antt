@@ -1,7 +1,7 @@
 -- What came by a post, after one note more.
 use Rattle.std.proofs.Common.{◌≡◌, ℕ, List, [], ◌∷◌, ◌++◌, Option, None, Some, length, drop, sym, refl, ap, ◌∙◌, append_assoc}
 use Rattle.std.proofs.Math.Seq.{drop-append_seam}
-use Rattle.lx_piece.specs.declared.piece.Piece.{Piece}
+use Rattle.lx_piece.specs.Pieces.{ItemPiece}
 use Rattle.lx_post.specs.declared.note.Note.{Note}
 use Rattle.lx_post.specs.declared.note.Note.TheVariants.{Piece as note_piece, End as note_end}
 use Rattle.lx_post.specs.declared.note.WorkerFault.{WorkerFault}
@@ -36,7 +36,7 @@ came_note : (s : Arriving) (n : Note) → CameBetween s (pieces_among (n ∷ [])
 came_note s n = record { notes = n ∷ []; received = refl; since = refl; pieces = refl }
 
 -- a piece is one arrival, and an end is none
-pub came_piece : (s t : Arriving) (worker : ℕ) (piece : Piece) → CameBetween s [] t → CameBetween s (piece ∷ []) (with_arrival t (note_piece worker piece))
+pub came_piece : (s t : Arriving) (worker : ℕ) (piece : ItemPiece) → CameBetween s [] t → CameBetween s (piece ∷ []) (with_arrival t (note_piece worker piece))
 came_piece s t worker piece came = came_on s t (with_arrival t (note_piece worker piece)) [] (piece ∷ []) came (came_note t (note_piece worker piece))
 
 pub came_end : (s t : Arriving) (worker files : ℕ) (fault : Option WorkerFault) → CameBetween s [] t → CameBetween s [] (with_arrival t (note_end worker files fault))

@@ -7,9 +7,8 @@ use Rattle.std.specs.List.{sum_by}
 use Rattle.std.specs.Option.{option_or}
 use Rattle.std.proofs.lemmas.List.Sums.{sum_by-cons}
 use Rattle.std.proofs.lemmas.List.Elements.{All-append, Contains-append_left, Contains-append_right, Contains-append_cases, Contains-push, All-nil, All-cons, All-map, All-same, All-get_or, All-contains}
-use Rattle.lx_piece.specs.declared.piece.Piece.{Piece}
+use Rattle.lx_piece.specs.Pieces.{ItemPiece, piece_at}
 use Rattle.lx_piece.specs.Plans.{Planned, files_of}
-use Rattle.lx_piece.specs.Pieces.{piece_at}
 use Rattle.lx_piece.specs.Relayed.{AreAllAmong}
 use Rattle.lx_post.specs.declared.job.Job.{Job}
 use Rattle.lx_post.specs.declared.note.Note.{Note}
@@ -21,7 +20,7 @@ use Rattle.lx_post.specs.Posted.{Posted, Sent, Taken, IsAllReceived, IsSendPassO
 use Rattle.lx_post.specs.Working.{HasSent, IsReady, HasWorked, IsDone}
 use Rattle.lx_post.proofs.Comings.{fault_push}
 
-keeps_piece : (b : Bool) (n : Note) (xs ns : List Note) (p : Piece) → (Contains (pieces_among xs) p → Contains (pieces_among ns) p) → Contains (pieces_among (cond b (n ∷ xs) xs)) p → Contains (pieces_among (n ∷ ns)) p
+keeps_piece : (b : Bool) (n : Note) (xs ns : List Note) (p : ItemPiece) → (Contains (pieces_among xs) p → Contains (pieces_among ns) p) → Contains (pieces_among (cond b (n ∷ xs) xs)) p → Contains (pieces_among (n ∷ ns)) p
 keeps_piece true (note_piece w q) xs ns p more c =
     ⊎_elim (λ here. Contains-append_left (q ∷ []) (pieces_among ns) p here) (λ there. Contains-append_right (q ∷ []) (pieces_among ns) p (more there)) (Contains-append_cases (q ∷ []) (pieces_among xs) p c)
 keeps_piece true (note_end w f x) xs ns p more c = more c
@@ -29,7 +28,7 @@ keeps_piece false (note_piece w q) xs ns p more c = Contains-append_right (q ∷
 keeps_piece false (note_end w f x) xs ns p more c = more c
 
 -- a piece among one worker's notes is among all
-pub piece_of_one : (worker : ℕ) (ns : List Note) (p : Piece) → Contains (pieces_among (notes_of worker ns)) p → Contains (pieces_among ns) p
+pub piece_of_one : (worker : ℕ) (ns : List Note) (p : ItemPiece) → Contains (pieces_among (notes_of worker ns)) p → Contains (pieces_among ns) p
 piece_of_one worker [] p c = c
 piece_of_one worker (n ∷ ns) p c = keeps_piece (eqb (worker_of n) worker) n (notes_of worker ns) ns p (piece_of_one worker ns p) c
 

@@ -5,9 +5,8 @@ use native.Mathlib.Decide.{dec_lt}
 use Rattle.std.proofs.lemmas.List.{length_push}
 use Rattle.std.proofs.lemmas.List.Elements.{All-contains, Contains-push, Contains-append_left}
 use Rattle.std.proofs.lemmas.Bool.Decides.{nat_tests}
-use Rattle.lx_piece.specs.declared.piece.Piece.{Piece}
+use Rattle.lx_piece.specs.Pieces.{ItemPiece, IsPieceOf, is_closing, piece_at, pieces_of}
 use Rattle.lx_piece.specs.Plans.{Planned}
-use Rattle.lx_piece.specs.Pieces.{IsPieceOf, is_closing, piece_at, pieces_of}
 use Rattle.lx_piece.specs.PieceLaws.{marked_last}
 use Rattle.lx_post.specs.declared.note.Note.{Note}
 use Rattle.lx_post.specs.declared.note.Note.TheVariants.{Piece as note_piece, End as note_end}
@@ -39,7 +38,7 @@ sends_on s t u f g =
       pieces = no_end f.notes g.notes f.pieces g.pieces;
     }
 
-pub sends_piece : (s t : Sent) (worker : ℕ) (piece : Piece) → SendsPieces s t → SendsPieces s (with_sent t (note_piece worker piece))
+pub sends_piece : (s t : Sent) (worker : ℕ) (piece : ItemPiece) → SendsPieces s t → SendsPieces s (with_sent t (note_piece worker piece))
 sends_piece s t worker piece f = sends_on s t (with_sent t (note_piece worker piece)) f record { notes = note_piece worker piece ∷ []; pass = refl; pieces = refl }
 
 -- the pass goes on, so it hasn't ended
@@ -67,7 +66,7 @@ goes_on post plan s t f going =
     }
 
 -- a piece of the plan may be sent
-pub may_send_piece : (post : Posted) (plan : Planned) (s t : Sent) (worker : ℕ) (piece : Piece) → IsGoing post plan s → SendsPieces s t → worker ≡ s.worker → IsPieceOf plan piece
+pub may_send_piece : (post : Posted) (plan : Planned) (s t : Sent) (worker : ℕ) (piece : ItemPiece) → IsGoing post plan s → SendsPieces s t → worker ≡ s.worker → IsPieceOf plan piece
     → MaySend t (note_piece worker piece)
 may_send_piece post plan s t worker piece going f own is =
     let now = goes_on post plan s t f going in
@@ -80,11 +79,11 @@ may_send_piece post plan s t worker piece going f own is =
 pub sent_none : (plan : Planned) (file : ℕ) (s : Sent) → HasSentTo plan file 0 s
 sent_none plan file s = record { each = λ number below. absurd (omega arith) }
 
-pieces_push : (ns : List Note) (worker : ℕ) (piece : Piece) → pieces_among (ns ++ note_piece worker piece ∷ []) ≡ pieces_among ns ++ piece ∷ []
+pieces_push : (ns : List Note) (worker : ℕ) (piece : ItemPiece) → pieces_among (ns ++ note_piece worker piece ∷ []) ≡ pieces_among ns ++ piece ∷ []
 pieces_push ns worker piece = pieces_of_both ns (note_piece worker piece ∷ [])
 
 -- one piece more was sent
-pub sent_one : (plan : Planned) (file count : ℕ) (s : Sent) (worker : ℕ) (piece : Piece) → piece ≡ piece_at plan file count → HasSentTo plan file count s
+pub sent_one : (plan : Planned) (file count : ℕ) (s : Sent) (worker : ℕ) (piece : ItemPiece) → piece ≡ piece_at plan file count → HasSentTo plan file count s
     → HasSentTo plan file (count + 1) (with_sent s (note_piece worker piece))
 sent_one plan file count s worker piece is has =
     record {
@@ -104,11 +103,11 @@ sent_all plan file count s is has = record { all = λ number below. has.each num
 eqb_true : (a b : ℕ) → eqb a b ≡ true → a ≡ b
 eqb_true a b h = grind (arith, nat_tests)
 
-pub last_number : (plan : Planned) (file count : ℕ) (piece : Piece) → piece ≡ piece_at plan file count → is_closing piece ≡ true → count + 1 ≡ pieces_of plan file
+pub last_number : (plan : Planned) (file count : ℕ) (piece : ItemPiece) → piece ≡ piece_at plan file count → is_closing piece ≡ true → count + 1 ≡ pieces_of plan file
 last_number plan file count piece is closing = eqb_true (count + 1) (pieces_of plan file) (sym (marked_last plan file count) ∙ ap is_closing (sym is) ∙ closing)
 
 -- with the last piece all were sent
-pub sent_last : (plan : Planned) (file count : ℕ) (s : Sent) (worker : ℕ) (piece : Piece) → piece ≡ piece_at plan file count → is_closing piece ≡ true → HasSentTo plan file count s
+pub sent_last : (plan : Planned) (file count : ℕ) (s : Sent) (worker : ℕ) (piece : ItemPiece) → piece ≡ piece_at plan file count → is_closing piece ≡ true → HasSentTo plan file count s
     → HasSent plan file (with_sent s (note_piece worker piece))
 sent_last plan file count s worker piece is closing has =
     sent_all plan file (count + 1) (with_sent s (note_piece worker piece)) (last_number plan file count piece is closing) (sent_one plan file count s worker piece is has)

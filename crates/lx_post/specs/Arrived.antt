@@ -1,7 +1,7 @@
 -- Laws of what comes by a post between one state and a later one.
 use Rattle.std.specs.Prelude.{◌≡◌, List, [], ◌∷◌, ◌++◌, refl}
 use Rattle.std.proofs.Common.{sym, ◌∙◌, ap, append_assoc, append-nil}
-use Rattle.lx_piece.specs.declared.piece.Piece.{Piece}
+use Rattle.lx_piece.specs.Pieces.{ItemPiece}
 use Rattle.lx_post.specs.declared.note.Note.{Note}
 use Rattle.lx_post.specs.declared.note.Note.TheVariants.{Piece as note_piece, End as note_end}
 use Rattle.lx_post.specs.Notes.{pieces_among}
@@ -21,7 +21,7 @@ nothing_came s =
       pieces = refl;
     }
 
-pub came_on : (s t u : Arriving) (xs ys : List Piece) → CameBetween s xs t → CameBetween t ys u → CameBetween s (xs ++ ys) u
+pub came_on : (s t u : Arriving) (xs ys : List ItemPiece) → CameBetween s xs t → CameBetween t ys u → CameBetween s (xs ++ ys) u
 came_on s t u xs ys f g =
     record {
       notes = f.notes ++ g.notes;

@@ -1,7 +1,7 @@
 -- Notes that workers send to a post: pieces, and at last an end.
 use Rattle.std.specs.Prelude.{◌≡◌, ℕ, ◌==◌, ◌||◌, Bool, true, false, List, [], ◌∷◌, Option, Some, None, filter}
 use Rattle.std.specs.Option.{option_or}
-use Rattle.lx_piece.specs.declared.piece.Piece.{Piece}
+use Rattle.lx_piece.specs.Pieces.{ItemPiece}
 use Rattle.lx_piece.specs.Plans.{Planned}
 use Rattle.lx_piece.specs.Arrivals.{IsHonest}
 use Rattle.lx_post.specs.declared.note.Note.{Note}
@@ -41,7 +41,7 @@ NothingFollowsEnd [] = Unit {0}
 NothingFollowsEnd (n ∷ notes) = (is_end n ≡ true → notes ≡ []) × NothingFollowsEnd notes
 
 -- the pieces among them, in order
-abbrev pub pieces_among : List Note → List Piece
+abbrev pub pieces_among : List Note → List ItemPiece
 pieces_among [] = []
 pieces_among (note_piece worker piece ∷ notes) = piece ∷ pieces_among notes
 pieces_among (note_end worker files fault ∷ notes) = pieces_among notes

@@ -1,7 +1,7 @@
 -- A post, its passes and its arrivals as contracts see them.
 use Rattle.std.specs.Prelude.{◌≡◌, ◌<◌, ℕ, true, false, List, [], ◌∷◌, ◌++◌, Any}
 use Rattle.atomic_table.specs.Seated.{TableId}
-use Rattle.lx_piece.specs.declared.piece.Piece.{Piece}
+use Rattle.lx_piece.specs.Pieces.{ItemPiece}
 use Rattle.lx_piece.specs.Plans.{Planned}
 use Rattle.lx_post.specs.declared.note.Note.{Note}
 use Rattle.lx_post.specs.Notes.{worker_of, IsHonestNote, notes_of, has_end, pieces_among}
@@ -76,7 +76,7 @@ pub record Arriving : Type 0 where
   pub since : List Note
 
 -- between one state and a later one these pieces came: those of the notes that were received in between
-pub record CameBetween (old : Arriving) (came : List Piece) (new : Arriving) : Type 0 where
+pub record CameBetween (old : Arriving) (came : List ItemPiece) (new : Arriving) : Type 0 where
   pub notes : List Note
   pub received : new.pass ≡ record old.pass { received = old.pass.received ++ notes }
   pub since : new.since ≡ old.since ++ notes

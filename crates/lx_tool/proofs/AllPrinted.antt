@@ -3,9 +3,8 @@ use Rattle.std.specs.Prelude.{slice_index, Contains}
 use Rattle.std.specs.Io.KnownBytes.{Appends}
 use Rattle.std.proofs.lemmas.Bool.{cases_eq, both_ways}
 use Rattle.std.proofs.lemmas.List.Elements.{Contains-append_left, Contains-append_right}
-use Rattle.lx_piece.specs.declared.piece.Piece.{Piece}
+use Rattle.lx_piece.specs.Pieces.{ItemPiece, IsPrefix, piece_at, pieces_of, pieces_to}
 use Rattle.lx_piece.specs.Plans.{Planned, IsPlan, files_of}
-use Rattle.lx_piece.specs.Pieces.{IsPrefix, piece_at, pieces_of, pieces_to}
 use Rattle.lx_piece.specs.Relayed.{AreAllAmong}
 use Rattle.lx_tool.specs.Cuts.{CutSoFar, pieces_below}
 use Rattle.lx_tool.specs.CutLaws.{Cuts}
@@ -29,7 +28,7 @@ piece_below plan (suc files) file number f l = elim (cases_eq file files) [
 ]
 
 -- once all was cut, each piece of each file came
-all_came : (plan : Planned) (old new : CutSoFar) (came : List Piece) → old ≡ record { plan = plan; cut = []; refused = false } → Cuts old came new → new.cut ≡ pieces_below new.plan (files_of new.plan) → (file : ℕ) → file < files_of plan → AreAllAmong plan file came
+all_came : (plan : Planned) (old new : CutSoFar) (came : List ItemPiece) → old ≡ record { plan = plan; cut = []; refused = false } → Cuts old came new → new.cut ≡ pieces_below new.plan (files_of new.plan) → (file : ℕ) → file < files_of plan → AreAllAmong plan file came
 all_came plan old new came start led ended file within = λ number l.
     let same : new.plan ≡ plan = led.0 ∙ ap (λ (s : CutSoFar). s.plan) start in
     let came_is : came ≡ pieces_below plan (files_of plan) =
@@ -45,7 +44,7 @@ printed_whole plan old new a b is start same f closed =
     subst (λ (bs : List ℕ). Appends a b bs) (text ∙ ap listing_of plan_is) f.wrote
 
 -- and so does one to which all pieces of all files came
-pub printed_all : (plan : Planned) (old new : Progress) (a b : Option (List ℕ)) (cut_old cut_new : CutSoFar) (came : List Piece) → IsPlan plan → old ≡ record { plan = plan; counts = replicate (files_of plan) 0; faults = 0; failed = false } → new.plan ≡ old.plan → Prints (printed old a) (printed new b) → cut_old ≡ record { plan = plan; cut = []; refused = false } → Cuts cut_old came cut_new → (cut_new.refused ≡ true) ⊎ (cut_new.cut ≡ pieces_below cut_new.plan (files_of cut_new.plan)) → cut_new.refused ≡ false → ((file : ℕ) → file < files_of plan → AreAllAmong plan file came → slice_index new.counts file ≡ pieces_of plan file) → Appends a b (listing_of plan)
+pub printed_all : (plan : Planned) (old new : Progress) (a b : Option (List ℕ)) (cut_old cut_new : CutSoFar) (came : List ItemPiece) → IsPlan plan → old ≡ record { plan = plan; counts = replicate (files_of plan) 0; faults = 0; failed = false } → new.plan ≡ old.plan → Prints (printed old a) (printed new b) → cut_old ≡ record { plan = plan; cut = []; refused = false } → Cuts cut_old came cut_new → (cut_new.refused ≡ true) ⊎ (cut_new.cut ≡ pieces_below cut_new.plan (files_of cut_new.plan)) → cut_new.refused ≡ false → ((file : ℕ) → file < files_of plan → AreAllAmong plan file came → slice_index new.counts file ≡ pieces_of plan file) → Appends a b (listing_of plan)
 printed_all plan old new a b cut_old cut_new came is start same f cuts_start led ended going whole =
     let all : (file : ℕ) → file < files_of plan → AreAllAmong plan file came = elim ended [
       | inl refused ↦ absurd (both_ways cut_new.refused going refused)

@@ -5,9 +5,8 @@ use Rattle.std.specs.Io.KnownBytes.{Appends}
 use Rattle.std.proofs.lemmas.Bool.{cases_eq}
 use Rattle.std.proofs.lemmas.List.{get_or-set_other, get_or_past}
 use Rattle.std.proofs.Math.ListN.{length-set}
-use Rattle.lx_piece.specs.declared.piece.Piece.{Piece}
+use Rattle.lx_piece.specs.Pieces.{ItemPiece, IsPrefix, is_closing}
 use Rattle.lx_piece.specs.Plans.{Planned, IsPlan, files_of}
-use Rattle.lx_piece.specs.Pieces.{IsPrefix, is_closing}
 use Rattle.lx_piece.specs.PieceLaws.{takes_in_order}
 use Rattle.lx_tool.specs.Lines.{pieces_lines}
 use Rattle.lx_tool.specs.Listings.{AppendsPrefix, AppendsWhole, AreWhole, listing_to, listing_of}
@@ -16,7 +15,7 @@ use Rattle.lx_tool.specs.Waiting.{waiting_of, AreFirstPieces, Waits, WritesOn, W
 use Rattle.lx_tool.proofs.WholeLines.{pieces_whole, whole_both, wrote_both}
 
 -- the lines of a file of which all pieces are there, behind those before it, are those of the files below the next
-pub closed_lines : (plan : Planned) (file : ℕ) (pieces : List Piece) → IsPlan plan → AreFirstPieces plan file pieces → list_any is_closing pieces ≡ true → listing_to plan file ++ pieces_lines plan file pieces ≡ listing_to plan (file + 1)
+pub closed_lines : (plan : Planned) (file : ℕ) (pieces : List ItemPiece) → IsPlan plan → AreFirstPieces plan file pieces → list_any is_closing pieces ≡ true → listing_to plan file ++ pieces_lines plan file pieces ≡ listing_to plan (file + 1)
 closed_lines plan file pieces is are closed =
     let order = takes_in_order plan file are.count is.some_items are.within in
     let all = order.closed.0 (sym (ap (λ ps. list_any is_closing ps) are.same) ∙ closed) in
@@ -25,7 +24,7 @@ closed_lines plan file pieces is are closed =
     ∙ sym (ap (λ (n : ℕ). listing_to plan n) (add-one file))
 
 -- in the midst of the files: those below this one are written
-pub record WroteFiles (plan : Planned) (from : ℕ) (old : List (List Piece)) (file : ℕ) (new : List (List Piece)) (before after : Option (List ℕ)) : Type 0 where
+pub record WroteFiles (plan : Planned) (from : ℕ) (old : List (List ItemPiece)) (file : ℕ) (new : List (List ItemPiece)) (before after : Option (List ℕ)) : Type 0 where
   pub rises : from ≤ file
   pub within : file ≤ files_of plan
   pub closed : (g : ℕ) → from ≤ g → g < file → list_any is_closing (waiting_of old g) ≡ true
@@ -36,7 +35,7 @@ pub record WroteFiles (plan : Planned) (from : ℕ) (old : List (List Piece)) (f
   pub whole : AreWhole bytes
   pub lines : listing_to plan from ++ bytes ≡ listing_to plan file
 
-pub files_none : (plan : Planned) (from : ℕ) (old : List (List Piece)) (before : Option (List ℕ)) → from ≤ files_of plan → WroteFiles plan from old from old before before
+pub files_none : (plan : Planned) (from : ℕ) (old : List (List ItemPiece)) (before : Option (List ℕ)) → from ≤ files_of plan → WroteFiles plan from old from old before before
 files_none plan from old before l =
     record {
       rises = omega arith;
@@ -51,11 +50,11 @@ files_none plan from old before l =
     }
 
 -- what waits of the next file is its first pieces
-pub next_pieces : (plan : Planned) (from : ℕ) (old : List (List Piece)) (file : ℕ) (new : List (List Piece)) (a b : Option (List ℕ)) → Waits plan from old → WroteFiles plan from old file new a b → file < files_of plan → AreFirstPieces plan file (waiting_of new file)
+pub next_pieces : (plan : Planned) (from : ℕ) (old : List (List ItemPiece)) (file : ℕ) (new : List (List ItemPiece)) (a b : Option (List ℕ)) → Waits plan from old → WroteFiles plan from old file new a b → file < files_of plan → AreFirstPieces plan file (waiting_of new file)
 next_pieces plan from old file new a b waits w l = subst (AreFirstPieces plan file) (sym (w.others file (omega arith))) (waits.each file w.rises l)
 
 -- it was written, and is closed
-pub files_more : (plan : Planned) (from : ℕ) (old : List (List Piece)) (file : ℕ) (mid : List (List Piece)) (left : List Piece) (a b c : Option (List ℕ)) → IsPlan plan → Waits plan from old → WroteFiles plan from old file mid a b → file < files_of plan → list_any is_closing (waiting_of mid file) ≡ true → Appends b c (pieces_lines plan file (waiting_of mid file)) → WroteFiles plan from old (file + 1) (slice_set mid file left) a c
+pub files_more : (plan : Planned) (from : ℕ) (old : List (List ItemPiece)) (file : ℕ) (mid : List (List ItemPiece)) (left : List ItemPiece) (a b c : Option (List ℕ)) → IsPlan plan → Waits plan from old → WroteFiles plan from old file mid a b → file < files_of plan → list_any is_closing (waiting_of mid file) ≡ true → Appends b c (pieces_lines plan file (waiting_of mid file)) → WroteFiles plan from old (file + 1) (slice_set mid file left) a c
 files_more plan from old file mid left a b c is waits w l closed wrote =
     let are = next_pieces plan from old file mid a b waits w l in
     let rises = w.rises in
@@ -75,7 +74,7 @@ files_more plan from old file mid left a b c is waits w l closed wrote =
     }
 
 -- it was written, and isn't closed
-pub files_open : (plan : Planned) (from : ℕ) (old : List (List Piece)) (file : ℕ) (mid : List (List Piece)) (left : List Piece) (a b c : Option (List ℕ)) → WroteFiles plan from old file mid a b → file < files_of plan → list_any is_closing (waiting_of mid file) ≡ false → Appends b c (pieces_lines plan file (waiting_of mid file)) → WritesOn plan from old file (slice_set mid file left) a c
+pub files_open : (plan : Planned) (from : ℕ) (old : List (List ItemPiece)) (file : ℕ) (mid : List (List ItemPiece)) (left : List ItemPiece) (a b c : Option (List ℕ)) → WroteFiles plan from old file mid a b → file < files_of plan → list_any is_closing (waiting_of mid file) ≡ false → Appends b c (pieces_lines plan file (waiting_of mid file)) → WritesOn plan from old file (slice_set mid file left) a c
 files_open plan from old file mid left a b c w l unclosed wrote =
     let same = w.others file (omega arith) in
     record {
@@ -94,7 +93,7 @@ files_open plan from old file mid left a b c w l unclosed wrote =
     }
 
 -- all files are written
-pub files_all : (plan : Planned) (from : ℕ) (old : List (List Piece)) (file : ℕ) (new : List (List Piece)) (a b : Option (List ℕ)) → Waits plan from old → WroteFiles plan from old file new a b → files_of plan ≤ file → WritesOn plan from old file new a b
+pub files_all : (plan : Planned) (from : ℕ) (old : List (List ItemPiece)) (file : ℕ) (new : List (List ItemPiece)) (a b : Option (List ℕ)) → Waits plan from old → WroteFiles plan from old file new a b → files_of plan ≤ file → WritesOn plan from old file new a b
 files_all plan from old file new a b waits w past =
     let lists = waits.lists in
     let none : waiting_of old file ≡ [] = get_or_past old file [] (omega arith) in
@@ -111,7 +110,7 @@ files_all plan from old file new a b waits w past =
     }
 
 -- a fault in a file
-pub files_fault : (plan : Planned) (from : ℕ) (old : List (List Piece)) (file : ℕ) (mid : List (List Piece)) (a b c : Option (List ℕ)) → IsPlan plan → Waits plan from old → WroteFiles plan from old file mid a b → file < files_of plan → AppendsPrefix b c (pieces_lines plan file (waiting_of mid file)) → WritesInPart plan (listing_to plan from) a c
+pub files_fault : (plan : Planned) (from : ℕ) (old : List (List ItemPiece)) (file : ℕ) (mid : List (List ItemPiece)) (a b c : Option (List ℕ)) → IsPlan plan → Waits plan from old → WroteFiles plan from old file mid a b → file < files_of plan → AppendsPrefix b c (pieces_lines plan file (waiting_of mid file)) → WritesInPart plan (listing_to plan from) a c
 files_fault plan from old file mid a b c is waits w l fault =
     let are = next_pieces plan from old file mid a b waits w l in
     record {
@@ -124,5 +123,5 @@ files_fault plan from old file mid a b c is waits w l fault =
     }
 
 -- one behind whole lines
-pub files_whole : (plan : Planned) (from : ℕ) (old : List (List Piece)) (file : ℕ) (mid : List (List Piece)) (a b c : Option (List ℕ)) → WroteFiles plan from old file mid a b → AppendsWhole b c → AppendsWhole a c
+pub files_whole : (plan : Planned) (from : ℕ) (old : List (List ItemPiece)) (file : ℕ) (mid : List (List ItemPiece)) (a b c : Option (List ℕ)) → WroteFiles plan from old file mid a b → AppendsWhole b c → AppendsWhole a c
 files_whole plan from old file mid a b c w k = wrote_both a b c (w.bytes, w.whole, w.wrote) k

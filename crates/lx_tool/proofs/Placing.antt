@@ -5,10 +5,9 @@ use Rattle.std.specs.Io.KnownBytes.{Appends}
 use Rattle.std.proofs.lemmas.Bool.{both_ways, cases_eq, cases_lt, eqb-true, eqb-false}
 use Rattle.std.proofs.lemmas.List.{get_or-set_other, get_or-set_same, get_or_past}
 use Rattle.std.proofs.Math.ListN.{length-set}
-use Rattle.lx_piece.specs.declared.piece.Piece.{Piece}
+use Rattle.lx_piece.specs.Pieces.{ItemPiece, IsPrefix, contents, is_closing, piece_at, pieces_of, pieces_to}
 use Rattle.lx_scan.specs.ItemParts.{IsItemOf}
 use Rattle.lx_piece.specs.Plans.{Planned, IsPlan, files_of, bytes_of, kinds_of}
-use Rattle.lx_piece.specs.Pieces.{IsPrefix, contents, is_closing, piece_at, pieces_of, pieces_to}
 use Rattle.lx_piece.specs.PieceLaws.{closed_at, marked_last, takes_in_order}
 use Rattle.lx_piece.specs.Relayed.{IsNextPiece}
 use Rattle.lx_tool.specs.Lines.{piece_lines, pieces_lines}
@@ -18,30 +17,30 @@ use Rattle.lx_tool.specs.Waiting.{waiting_of, Waits, KeepsUp, WritesOn, WritesIn
 use Rattle.lx_tool.proofs.Pieces.{first_items, items_within}
 
 -- the pieces taken of a file and its next one
-pub next_to : (plan : Planned) (counts : List ℕ) (p : Piece) → IsNextPiece plan counts p → pieces_to plan p.file (slice_index counts p.file + 1) ≡ pieces_to plan p.file (slice_index counts p.file) ++ p ∷ []
+pub next_to : (plan : Planned) (counts : List ℕ) (p : ItemPiece) → IsNextPiece plan counts p → pieces_to plan p.file (slice_index counts p.file + 1) ≡ pieces_to plan p.file (slice_index counts p.file) ++ p ∷ []
 next_to plan counts p next =
     let count = slice_index counts p.file in
     let is : piece_at plan p.file count ≡ p = ap (λ (n : ℕ). piece_at plan p.file n) (sym next.number) ∙ sym next.planned.whole in
-    ap (λ (n : ℕ). pieces_to plan p.file n) (add-one count) ∙ ap (λ (q : Piece). pieces_to plan p.file count ++ q ∷ []) is
+    ap (λ (n : ℕ). pieces_to plan p.file n) (add-one count) ∙ ap (λ (q : ItemPiece). pieces_to plan p.file count ++ q ∷ []) is
 
-pub next_lines : (plan : Planned) (counts : List ℕ) (p : Piece) → IsNextPiece plan counts p → taken_lines plan p.file (slice_index counts p.file + 1) ≡ taken_lines plan p.file (slice_index counts p.file) ++ piece_lines plan p.file p
+pub next_lines : (plan : Planned) (counts : List ℕ) (p : ItemPiece) → IsNextPiece plan counts p → taken_lines plan p.file (slice_index counts p.file + 1) ≡ taken_lines plan p.file (slice_index counts p.file) ++ piece_lines plan p.file p
 next_lines plan counts p next =
     ap (λ ps. pieces_lines plan p.file ps) (next_to plan counts p next) ∙ lines_one plan p.file (pieces_to plan p.file (slice_index counts p.file)) p
 
 -- its items are the file's
-pub next_items : (plan : Planned) (counts : List ℕ) (p : Piece) → IsPlan plan → IsNextPiece plan counts p → All (IsItemOf (kinds_of plan) (bytes_of plan p.file)) p.items
+pub next_items : (plan : Planned) (counts : List ℕ) (p : ItemPiece) → IsPlan plan → IsNextPiece plan counts p → All (IsItemOf (kinds_of plan) (bytes_of plan p.file)) p.items
 next_items plan counts p is next =
     items_within (IsItemOf (kinds_of plan) (bytes_of plan p.file)) (pieces_to plan p.file (slice_index counts p.file)) [] p
     (subst (λ ps. All (IsItemOf (kinds_of plan) (bytes_of plan p.file)) (contents ps)) (next_to plan counts p next) (first_items plan p.file (slice_index counts p.file + 1) is next.planned.file))
 
 -- it is marked exactly where it is the file's last one
-pub next_closing : (plan : Planned) (counts : List ℕ) (p : Piece) → IsNextPiece plan counts p → is_closing p ≡ true → slice_index counts p.file + 1 ≡ pieces_of plan p.file
+pub next_closing : (plan : Planned) (counts : List ℕ) (p : ItemPiece) → IsNextPiece plan counts p → is_closing p ≡ true → slice_index counts p.file + 1 ≡ pieces_of plan p.file
 next_closing plan counts p next closing =
     let last = eqb-true (p.number + 1) (pieces_of plan p.file) (sym (ap is_closing next.planned.whole ∙ marked_last plan p.file p.number) ∙ closing) in
     let number = next.number in
     omega arith
 
-pub next_open : (plan : Planned) (counts : List ℕ) (p : Piece) → IsNextPiece plan counts p → is_closing p ≡ false → slice_index counts p.file + 1 ≢ pieces_of plan p.file
+pub next_open : (plan : Planned) (counts : List ℕ) (p : ItemPiece) → IsNextPiece plan counts p → is_closing p ≡ false → slice_index counts p.file + 1 ≢ pieces_of plan p.file
 next_open plan counts p next unmarked = λ e.
     let number = next.number in
     eqb-false (p.number + 1) (pieces_of plan p.file) (sym (ap is_closing next.planned.whole ∙ marked_last plan p.file p.number) ∙ unmarked) (omega arith)
@@ -54,7 +53,7 @@ pub counted_other : (counts : List ℕ) (file other : ℕ) → (other ≡ file �
 counted_other counts file other d = get_or-set_other counts file other (slice_index counts file + 1) 0 d
 
 -- of a file before the first open one no piece comes
-pub not_before : (plan : Planned) (counts : List ℕ) (first : ℕ) (p : Piece) → IsFirstOpen plan counts first → IsNextPiece plan counts p → first ≤ p.file
+pub not_before : (plan : Planned) (counts : List ℕ) (first : ℕ) (p : ItemPiece) → IsFirstOpen plan counts first → IsNextPiece plan counts p → first ≤ p.file
 not_before plan counts first p open_first next = elim (cases_lt p.file first) [
   | inl before ↦
       let all = open_first.below p.file before in
@@ -65,7 +64,7 @@ not_before plan counts first p open_first next = elim (cases_lt p.file first) [
 ]
 
 -- a piece of a later file is kept
-pub placed_later : (plan : Planned) (counts : List ℕ) (first : ℕ) (waiting : List (List Piece)) (p : Piece) (a : Option (List ℕ)) → KeepsUp plan counts first waiting → IsNextPiece plan counts p → (p.file ≡ first → ⊥) → Places plan counts first p.file first (slice_set waiting p.file (waiting_of waiting p.file ++ p ∷ [])) a a
+pub placed_later : (plan : Planned) (counts : List ℕ) (first : ℕ) (waiting : List (List ItemPiece)) (p : ItemPiece) (a : Option (List ℕ)) → KeepsUp plan counts first waiting → IsNextPiece plan counts p → (p.file ≡ first → ⊥) → Places plan counts first p.file first (slice_set waiting p.file (waiting_of waiting p.file ++ p ∷ [])) a a
 placed_later plan counts first waiting p a k next d =
     let behind : first < p.file = (let at = not_before plan counts first p k.first_open next in omega arith) in
     let files = k.first_open.files in
@@ -103,7 +102,7 @@ placed_later plan counts first waiting p a k next d =
     }
 
 -- where it isn't kept, nothing was written
-pub placed_nothing : (plan : Planned) (counts : List ℕ) (first : ℕ) (waiting : List (List Piece)) (a : Option (List ℕ)) → KeepsUp plan counts first waiting → IsPrefix (due_by plan counts first) (listing_of plan) → WritesInPart plan (due_by plan counts first) a a
+pub placed_nothing : (plan : Planned) (counts : List ℕ) (first : ℕ) (waiting : List (List ItemPiece)) (a : Option (List ℕ)) → KeepsUp plan counts first waiting → IsPrefix (due_by plan counts first) (listing_of plan) → WritesInPart plan (due_by plan counts first) a a
 placed_nothing plan counts first waiting a k begins =
     record { bytes = []; wrote = appends_nothing a; prefix = subst (λ (bs : List ℕ). IsPrefix bs (listing_of plan)) (sym (append-nil (due_by plan counts first))) begins }
 
@@ -112,14 +111,14 @@ pub due_by_begins : (plan : Planned) (counts : List ℕ) (first : ℕ) → IsPla
 due_by_begins plan counts first is open_first = due_begins plan counts (due_by plan counts first) (record { plan_is = is; first = first; first_open = open_first; lines = refl })
 
 -- what is due with the next piece of the first open file
-due_more : (plan : Planned) (counts : List ℕ) (first : ℕ) (p : Piece) → IsNextPiece plan counts p → p.file ≡ first → due_by plan counts first ++ piece_lines plan first p ≡ listing_to plan first ++ taken_lines plan first (slice_index counts first + 1)
+due_more : (plan : Planned) (counts : List ℕ) (first : ℕ) (p : ItemPiece) → IsNextPiece plan counts p → p.file ≡ first → due_by plan counts first ++ piece_lines plan first p ≡ listing_to plan first ++ taken_lines plan first (slice_index counts first + 1)
 due_more plan counts first p next e =
     subst (λ (f : ℕ). due_by plan counts f ++ piece_lines plan f p ≡ listing_to plan f ++ taken_lines plan f (slice_index counts f + 1)) e
     (append_assoc (listing_to plan p.file) (taken_lines plan p.file (slice_index counts p.file)) (piece_lines plan p.file p)
     ∙ ap (λ bs. listing_to plan p.file ++ bs) (sym (next_lines plan counts p next)))
 
 -- where it can't be written, a prefix of the listing was
-pub placed_fault : (plan : Planned) (counts : List ℕ) (first : ℕ) (p : Piece) (a b : Option (List ℕ)) → IsPlan plan → first < files_of plan → IsNextPiece plan counts p → p.file ≡ first → AppendsPrefix a b (piece_lines plan first p) → WritesInPart plan (due_by plan counts first) a b
+pub placed_fault : (plan : Planned) (counts : List ℕ) (first : ℕ) (p : ItemPiece) (a b : Option (List ℕ)) → IsPlan plan → first < files_of plan → IsNextPiece plan counts p → p.file ≡ first → AppendsPrefix a b (piece_lines plan first p) → WritesInPart plan (due_by plan counts first) a b
 placed_fault plan counts first p a b is within next e fault =
     record {
       bytes = fault.0;
@@ -131,7 +130,7 @@ placed_fault plan counts first p a b is within next e fault =
     }
 
 -- it doesn't close its file
-pub placed_open : (plan : Planned) (counts : List ℕ) (first : ℕ) (waiting : List (List Piece)) (p : Piece) (a b : Option (List ℕ)) → KeepsUp plan counts first waiting → IsNextPiece plan counts p → p.file ≡ first → is_closing p ≡ false → Appends a b (piece_lines plan first p) → Places plan counts first p.file first waiting a b
+pub placed_open : (plan : Planned) (counts : List ℕ) (first : ℕ) (waiting : List (List ItemPiece)) (p : ItemPiece) (a b : Option (List ℕ)) → KeepsUp plan counts first waiting → IsNextPiece plan counts p → p.file ≡ first → is_closing p ≡ false → Appends a b (piece_lines plan first p) → Places plan counts first p.file first waiting a b
 placed_open plan counts first waiting p a b k next e unmarked wrote =
     let files = k.first_open.files in
     let there = next.planned.file in
@@ -156,7 +155,7 @@ placed_open plan counts first waiting p a b k next e unmarked wrote =
     }
 
 -- the files behind the first open one wait from their first pieces on
-pub waits_behind : (plan : Planned) (counts : List ℕ) (first : ℕ) (waiting : List (List Piece)) → KeepsUp plan counts first waiting → Waits plan (first + 1) waiting
+pub waits_behind : (plan : Planned) (counts : List ℕ) (first : ℕ) (waiting : List (List ItemPiece)) → KeepsUp plan counts first waiting → Waits plan (first + 1) waiting
 waits_behind plan counts first waiting k =
     record {
       lists = k.lists;
@@ -164,7 +163,7 @@ waits_behind plan counts first waiting k =
     }
 
 -- what is due once the first open file is closed
-due_closed : (plan : Planned) (counts : List ℕ) (first : ℕ) (p : Piece) → IsPlan plan → IsNextPiece plan counts p → p.file ≡ first → is_closing p ≡ true → due_by plan counts first ++ piece_lines plan first p ≡ listing_to plan (first + 1)
+due_closed : (plan : Planned) (counts : List ℕ) (first : ℕ) (p : ItemPiece) → IsPlan plan → IsNextPiece plan counts p → p.file ≡ first → is_closing p ≡ true → due_by plan counts first ++ piece_lines plan first p ≡ listing_to plan (first + 1)
 due_closed plan counts first p is next e marked =
     let full = subst (λ (f : ℕ). slice_index counts f + 1 ≡ pieces_of plan f) e (next_closing plan counts p next marked) in
     due_more plan counts first p next e
@@ -172,7 +171,7 @@ due_closed plan counts first p is next e marked =
     ∙ sym (ap (λ (n : ℕ). listing_to plan n) (add-one first))
 
 -- it closes its file, and a fault comes in the files behind it
-pub placed_part : (plan : Planned) (counts : List ℕ) (first : ℕ) (p : Piece) (a m b : Option (List ℕ)) → IsPlan plan → IsNextPiece plan counts p → p.file ≡ first → is_closing p ≡ true → Appends a m (piece_lines plan first p) → WritesInPart plan (listing_to plan (first + 1)) m b → WritesInPart plan (due_by plan counts first) a b
+pub placed_part : (plan : Planned) (counts : List ℕ) (first : ℕ) (p : ItemPiece) (a m b : Option (List ℕ)) → IsPlan plan → IsNextPiece plan counts p → p.file ≡ first → is_closing p ≡ true → Appends a m (piece_lines plan first p) → WritesInPart plan (listing_to plan (first + 1)) m b → WritesInPart plan (due_by plan counts first) a b
 placed_part plan counts first p a m b is next e marked wrote w =
     record {
       bytes = piece_lines plan first p ++ w.bytes;
@@ -182,7 +181,7 @@ placed_part plan counts first p a m b is next e marked wrote w =
     }
 
 -- it closes its file, and what waits behind it is written
-pub placed_closed : (plan : Planned) (counts : List ℕ) (first : ℕ) (waiting : List (List Piece)) (next_file : ℕ) (new : List (List Piece)) (p : Piece) (a m b : Option (List ℕ)) → IsPlan plan → KeepsUp plan counts first waiting → IsNextPiece plan counts p → p.file ≡ first → is_closing p ≡ true → Appends a m (piece_lines plan first p) → WritesOn plan (first + 1) waiting next_file new m b → Places plan counts first p.file next_file new a b
+pub placed_closed : (plan : Planned) (counts : List ℕ) (first : ℕ) (waiting : List (List ItemPiece)) (next_file : ℕ) (new : List (List ItemPiece)) (p : ItemPiece) (a m b : Option (List ℕ)) → IsPlan plan → KeepsUp plan counts first waiting → IsNextPiece plan counts p → p.file ≡ first → is_closing p ≡ true → Appends a m (piece_lines plan first p) → WritesOn plan (first + 1) waiting next_file new m b → Places plan counts first p.file next_file new a b
 placed_closed plan counts first waiting next_file new p a m b is k next e marked wrote w =
     let files = k.first_open.files in
     let lists = k.lists in

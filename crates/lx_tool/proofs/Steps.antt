@@ -2,9 +2,8 @@ use Rattle.std.proofs.Common.{ℕ, ◌≡◌, ◌+◌, ◌<◌, inl, inr, Bool, 
 use Rattle.std.specs.Prelude.{slice_index, slice_set}
 use Rattle.std.proofs.lemmas.Bool.{both_ways, cases_order, cases_lt}
 use Rattle.std.proofs.lemmas.List.{get_or_default, get_or-replicate, get_or_past, length-replicate}
-use Rattle.lx_piece.specs.declared.piece.Piece.{Piece}
+use Rattle.lx_piece.specs.Pieces.{ItemPiece, IsPrefix, pieces_to}
 use Rattle.lx_piece.specs.Plans.{Planned, IsPlan, files_of}
-use Rattle.lx_piece.specs.Pieces.{IsPrefix, pieces_to}
 use Rattle.lx_piece.specs.Relayed.{IsNextPiece}
 use Rattle.lx_tool.specs.Listings.{IsFirstOpen, taken_lines, IsDue, Prints, listing_of, printed}
 use Rattle.lx_tool.specs.ListingLaws.{appends_nothing, due_begins, due_whole}
@@ -27,7 +26,7 @@ first_once plan counts f g a b =
 due_is : (plan : Planned) (counts : List ℕ) (first : ℕ) (text : List ℕ) → IsFirstOpen plan counts first → IsDue plan counts text → text ≡ due_by plan counts first
 due_is plan counts first text a d = d.lines ∙ ap (λ (n : ℕ). due_by plan counts n) (first_once plan counts d.first first d.first_open a)
 
-due_then : (plan : Planned) (counts : List ℕ) (first file next : ℕ) (waiting new : List (List Piece)) (text : List ℕ) (a b : Option (List ℕ)) → KeepsUp plan counts first waiting → (p : Places plan counts first file next new a b) → IsDue plan counts text → IsDue plan (counted counts file) (text ++ p.bytes)
+due_then : (plan : Planned) (counts : List ℕ) (first file next : ℕ) (waiting new : List (List ItemPiece)) (text : List ℕ) (a b : Option (List ℕ)) → KeepsUp plan counts first waiting → (p : Places plan counts first file next new a b) → IsDue plan counts text → IsDue plan (counted counts file) (text ++ p.bytes)
 due_then plan counts first file next waiting new text a b k p d =
     record {
       plan_is = d.plan_is;
@@ -37,7 +36,7 @@ due_then plan counts first file next waiting new text a b k p d =
     }
 
 -- a listing that took a piece
-pub prints_placed : (plan : Planned) (counts : List ℕ) (first file next faults : ℕ) (waiting new : List (List Piece)) (a b : Option (List ℕ)) → KeepsUp plan counts first waiting → Places plan counts first file next new a b → Prints (printed (record { plan = plan; counts = counts; faults = faults; failed = false }) a) (printed (record { plan = plan; counts = counted counts file; faults = faults; failed = false }) b)
+pub prints_placed : (plan : Planned) (counts : List ℕ) (first file next faults : ℕ) (waiting new : List (List ItemPiece)) (a b : Option (List ℕ)) → KeepsUp plan counts first waiting → Places plan counts first file next new a b → Prints (printed (record { plan = plan; counts = counts; faults = faults; failed = false }) a) (printed (record { plan = plan; counts = counted counts file; faults = faults; failed = false }) b)
 prints_placed plan counts first file next faults waiting new a b k p =
     record {
       plan = refl;
@@ -51,7 +50,7 @@ prints_placed plan counts first file next faults waiting new a b k p =
     }
 
 -- a listing that failed at a piece
-pub prints_part : (plan : Planned) (counts : List ℕ) (first faults after : ℕ) (waiting : List (List Piece)) (p : Piece) (a b : Option (List ℕ)) → KeepsUp plan counts first waiting → IsNextPiece plan counts p → WritesInPart plan (due_by plan counts first) a b → Prints (printed (record { plan = plan; counts = counts; faults = faults; failed = false }) a) (printed (record { plan = plan; counts = counts; faults = after; failed = true }) b)
+pub prints_part : (plan : Planned) (counts : List ℕ) (first faults after : ℕ) (waiting : List (List ItemPiece)) (p : ItemPiece) (a b : Option (List ℕ)) → KeepsUp plan counts first waiting → IsNextPiece plan counts p → WritesInPart plan (due_by plan counts first) a b → Prints (printed (record { plan = plan; counts = counts; faults = faults; failed = false }) a) (printed (record { plan = plan; counts = counts; faults = after; failed = true }) b)
 prints_part plan counts first faults after waiting p a b k next w =
     record {
       plan = refl;
@@ -90,7 +89,7 @@ fresh_open plan counts e =
           absurd (omega arith);
     }
 
-pub fresh_keeps : (plan : Planned) (counts : List ℕ) (waiting : List (List Piece)) → counts ≡ replicate (files_of plan) 0 → waiting ≡ replicate (files_of plan) [] → KeepsUp plan counts 0 waiting
+pub fresh_keeps : (plan : Planned) (counts : List ℕ) (waiting : List (List ItemPiece)) → counts ≡ replicate (files_of plan) 0 → waiting ≡ replicate (files_of plan) [] → KeepsUp plan counts 0 waiting
 fresh_keeps plan counts waiting e w =
     let none : (g : ℕ) → g < files_of plan → slice_index counts g ≡ 0 = λ g m. ap (λ (ns : List ℕ). slice_index ns g) e ∙ get_or-replicate (files_of plan) g 0 0 m in
     record {
@@ -118,13 +117,13 @@ pub count_raised : (counts : List ℕ) (file count : ℕ) → file < length coun
 count_raised counts file count l e = ap (λ (n : ℕ). slice_set counts file (n + 1)) (e ∙ get_or_default counts file count 0 l)
 
 -- a step of a listing that hadn't failed, by its fields
-pub placed_at : (plan : Planned) (counts after : List ℕ) (first file next faults : ℕ) (waiting new : List (List Piece)) (a b : Option (List ℕ)) (failed : Bool) → failed ≡ false → after ≡ counted counts file → KeepsUp plan counts first waiting → Places plan counts first file next new a b → Prints (printed (record { plan = plan; counts = counts; faults = faults; failed = failed }) a) (printed (record { plan = plan; counts = after; faults = faults; failed = failed }) b)
+pub placed_at : (plan : Planned) (counts after : List ℕ) (first file next faults : ℕ) (waiting new : List (List ItemPiece)) (a b : Option (List ℕ)) (failed : Bool) → failed ≡ false → after ≡ counted counts file → KeepsUp plan counts first waiting → Places plan counts first file next new a b → Prints (printed (record { plan = plan; counts = counts; faults = faults; failed = failed }) a) (printed (record { plan = plan; counts = after; faults = faults; failed = failed }) b)
 placed_at plan counts after first file next faults waiting new a b failed e raised k p =
     subst (λ (t : Bool). Prints (printed (record { plan = plan; counts = counts; faults = faults; failed = t }) a) (printed (record { plan = plan; counts = after; faults = faults; failed = t }) b)) (sym e)
     (subst (λ (ns : List ℕ). Prints (printed (record { plan = plan; counts = counts; faults = faults; failed = false }) a) (printed (record { plan = plan; counts = ns; faults = faults; failed = false }) b)) (sym raised)
     (prints_placed plan counts first file next faults waiting new a b k p))
 
-pub part_at : (plan : Planned) (counts : List ℕ) (first faults after : ℕ) (waiting : List (List Piece)) (p : Piece) (a b : Option (List ℕ)) (failed : Bool) → failed ≡ false → KeepsUp plan counts first waiting → IsNextPiece plan counts p → WritesInPart plan (due_by plan counts first) a b → Prints (printed (record { plan = plan; counts = counts; faults = faults; failed = failed }) a) (printed (record { plan = plan; counts = counts; faults = after; failed = true }) b)
+pub part_at : (plan : Planned) (counts : List ℕ) (first faults after : ℕ) (waiting : List (List ItemPiece)) (p : ItemPiece) (a b : Option (List ℕ)) (failed : Bool) → failed ≡ false → KeepsUp plan counts first waiting → IsNextPiece plan counts p → WritesInPart plan (due_by plan counts first) a b → Prints (printed (record { plan = plan; counts = counts; faults = faults; failed = failed }) a) (printed (record { plan = plan; counts = counts; faults = after; failed = true }) b)
 part_at plan counts first faults after waiting p a b failed e k next w =
     subst (λ (t : Bool). Prints (printed (record { plan = plan; counts = counts; faults = faults; failed = t }) a) (printed (record { plan = plan; counts = counts; faults = after; failed = true }) b)) (sym e)
     (prints_part plan counts first faults after waiting p a b k next w)

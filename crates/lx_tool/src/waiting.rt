@@ -1,7 +1,7 @@
 ghost use Rattle.std.specs.Prelude.{◌≡◌, ◌≢◌, ◌+◌, ◌<◌, ◌≤◌, ℕ, List, [], ◌∷◌, ◌++◌, IfOk, IfErr, OnOk, OnErr, MatchResult, All, slice_set, length};
 ghost use Rattle.std.specs.Io.KnownBytes.{Appends};
 ghost use Rattle.std.specs.List.{list_any};
-ghost use Rattle.lx_piece.specs.declared.piece.Piece.{Piece};
+ghost use Rattle.lx_piece.specs.Pieces.{ItemPiece};
 ghost use Rattle.lx_scan.specs.ItemParts.{IsItemOf};
 ghost use Rattle.lx_piece.specs.Plans.{IsPlan, files_of, bytes_of, kinds_of};
 ghost use Rattle.lx_piece.specs.Pieces.{contents, is_closing};
