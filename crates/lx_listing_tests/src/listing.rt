@@ -29,15 +29,15 @@ fn lists_each_form_of_line_whatever_the_pieces_are(rt: HostRuntime) -> Result<()
 #[test]
 fn lists_files_by_tables(rt: HostRuntime) -> Result<(), Fail> {
     let alloc = rt.alloc();
-    for (workers, per_piece) in [(0, 1), (0, 256), (2, 1), (8, 256)] {
+    for per_piece in [1, 256] {
         let tables = tables_of(alloc, MIXED_RULES)?;
         let files = inputs(alloc, MIXED_FILES.as_slice())?;
         let mut out = Vec::new(alloc);
-        list_files(&rt, alloc, tables, files, per_piece, workers, &mut out)?;
+        list_files(&rt, alloc, tables, files, per_piece, 2, &mut out)?;
         assert_eq!(rt;
             out.as_slice(),
             MIXED_LISTING.as_bytes(),
-            "by {workers} workers, with {per_piece} items a piece"
+            "by 2 workers, with {per_piece} items a piece"
         );
     }
     Ok(())
