@@ -1,14 +1,18 @@
+use crate::backoff::Backoff;
 use crate::pace::Pace;
 use crate::passes::WORKER_SLOTS;
-use std::sync::atomic::AtomicBool;
+use std::sync::Wait;
+use std::sync::atomic::{AtomicBool, Ordering};
 
 /// What the threads of a run tell each other beside the post. No contract speaks of it.
 #[derive(Drop)]
 pub struct Signals {
     /// Of each worker: its thread can't be made, so its job comes back.
     pub refused: [AtomicBool; WORKER_SLOTS],
-    /// How far the reader is.
+    /// What the reader holds.
     pub pace: Pace,
+    // Each worker was started, or its end was sent.
+    all_started: AtomicBool,
 }
 
 impl Signals {
@@ -17,6 +21,24 @@ impl Signals {
         Signals {
             refused: std::array::from_fn(|_| AtomicBool::new(false)),
             pace: Pace::new(),
+            all_started: AtomicBool::new(false),
         }
+    }
+
+    /// Tells that each worker was started, or its end was sent.
+    pub fn tell_start(&self) {
+        self.all_started.store(true, Ordering::SeqCst);
+    }
+
+    /// Waits for that. Before it no piece is sent, so that the ends of workers that can't be started find room.
+    pub fn wait_for_start<W: Wait>(&self, rt: &W) {
+        let mut backoff = Backoff::new();
+        for _ in rt.forever() {
+            if self.all_started.load(Ordering::SeqCst) {
+                return;
+            }
+            backoff.turn(rt);
+        }
+        unreachable!()
     }
 }
