@@ -11,3 +11,5 @@ pub mod Cutting
 pub mod Arrived
 pub mod Whole
 pub mod Turned
+pub mod Handing
+pub mod AllCut

@@ -7,3 +7,6 @@ pub mod Kept
 pub mod Relayed
 pub mod Listed
 pub mod Turns
+pub mod Passing
+pub mod PassingLaws
+pub mod PlanPieces

@@ -84,9 +84,12 @@ abbrev pub IsPieceOf : Planned → ItemPiece → Type 0
 IsPieceOf plan p = IsPieceBy bare plan p
 
 -- the pieces of a file from 0 on, this many
+abbrev pub pieces_by : {C : Type 0} → Making C → Planned → ℕ → ℕ → List (Piece C)
+pieces_by made plan file zero = []
+pieces_by made plan file (suc count) = pieces_by made plan file count ++ piece_by made plan file count ∷ []
+
 abbrev pub pieces_to : Planned → ℕ → ℕ → List ItemPiece
-pieces_to plan file zero = []
-pieces_to plan file (suc count) = pieces_to plan file count ++ piece_at plan file count ∷ []
+pieces_to plan file count = pieces_by bare plan file count
 
 -- the items of pieces, one piece after the other
 abbrev pub contents : List ItemPiece → List Item

@@ -1,4 +1,4 @@
-use Rattle.std.specs.Prelude.{ℕ, ◌≡◌, ◌<◌, ◌≤◌, true, List, [], ◌∷◌, ◌++◌, Some, Contains, length, slice_index, slice_get}
+use Rattle.std.specs.Prelude.{ℕ, ◌≡◌, ◌≢◌, ◌<◌, ◌≤◌, true, List, [], ◌∷◌, ◌++◌, Some, Contains, length, slice_index, slice_get}
 use Rattle.lx_piece.specs.declared.piece.Piece.{Piece}
 use Rattle.lx_piece.specs.declared.reply.Reply.{Reply}
 use Rattle.lx_piece.specs.Kept.{Buffered, held_at}
@@ -19,6 +19,14 @@ IsNextPiece plan counts p = IsNextPieceBy bare plan counts p
 pub record TakesAllInOrder (plan : Planned) (counts : List ℕ) : Type 0 where
   pub within : (file : ℕ) → file < files_of plan → slice_index counts file ≤ pieces_of plan file
   pub each : (file : ℕ) → file < files_of plan → TakesInOrder plan file (slice_index counts file)
+
+-- of every file each piece was taken
+abbrev pub AreAllTaken : Planned → List ℕ → Type 0
+AreAllTaken plan counts = (file : ℕ) → file < files_of plan → slice_index counts file ≡ pieces_of plan file
+
+-- of some file not each piece was taken
+abbrev pub HasOpenFile : Planned → List ℕ → Type 0
+HasOpenFile plan counts = (file : ℕ) × (file < files_of plan) × (slice_index counts file ≢ pieces_of plan file)
 
 -- the counts are, for each file, the least number that isn't accepted
 pub record AllDelivered {C : Type 0} (shape : RunShape) (came : List (Piece C)) (counts : List ℕ) : Type 0 where

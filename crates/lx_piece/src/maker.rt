@@ -29,7 +29,13 @@ pub trait Maker {
         requires file { file < files_of plan.now }
         requires items { All (IsItemOf (kinds_of plan.now) (bytes_of plan.now file)) items.items }
         ensures { result ≡ made plan.now file items.items };
+
+    /// How many bytes of memory it takes, about. No contract speaks of it.
+    fn weight(made: &Self::Made) -> u64;
 }
+
+// An item has so many bytes.
+const ITEM: u64 = 40;
 
 /// Leaves the items as they are.
 #[derive(Clone, Copy, Debug)]
@@ -44,5 +50,9 @@ impl Maker for KeepItems {
 
     fn make(&mut self, _plan: &Plan, _file: u32, items: Vec<Item>) -> Items {
         Items::from_vec(items)
+    }
+
+    fn weight(made: &Items) -> u64 {
+        ITEM.saturating_mul(made.as_slice().len() as u64)
     }
 }
