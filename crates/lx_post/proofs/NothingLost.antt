@@ -18,7 +18,7 @@ use Rattle.lx_post.specs.Claimed.{Claimed, Drawn, IsSeatOf, times, times_drawn, 
 use Rattle.lx_post.specs.Collected.{AreAllReceived}
 use Rattle.lx_post.specs.Notes.{worker_of, has_end, first_fault, notes_of, pieces_among}
 use Rattle.lx_post.specs.Posted.{Posted, Sent, Taken, IsAllReceived, IsSendPassOf}
-use Rattle.lx_post.specs.Working.{HasSent, IsReady, HasWorked, IsDone}
+use Rattle.lx_post.specs.Working.{HasSent, IsReady, HasWorked, IsDone, IsIdle}
 use Rattle.lx_post.proofs.Comings.{fault_push}
 
 keeps_piece : {C : Type 0} (b : Bool) (n : Note C) (xs ns : List (Note C)) (p : Piece C) → (Contains (pieces_among xs) p → Contains (pieces_among ns) p) → Contains (pieces_among (cond b (n ∷ xs) xs)) p → Contains (pieces_among (n ∷ ns)) p
@@ -125,7 +125,22 @@ every_file_received made claims post plan take jobs seats passes files done s p 
           all_received made plan file take found.0.pass all (own.sent none file found.2);
     }
 
--- with one more ended job
-pub done_more : {C : Type 0} (made : Making C) (claims : Claimed) (post : Posted) (plan : Planned) (new : Job C) (jobs jobs' : List (Job C)) → All (IsDone made claims post plan) jobs → IsDone made claims post plan new → jobs' ≡ jobs ++ new ∷ [] → All (IsDone made claims post plan) jobs'
-done_more made claims post plan new jobs jobs' all done is =
-    All-same (IsDone made claims post plan) jobs' (jobs ++ new ∷ []) is (All-append (IsDone made claims post plan) jobs (new ∷ []) all (All-cons (IsDone made claims post plan) new [] done (All-nil (IsDone made claims post plan))))
+-- with one more, where it found room
+pub all_pushed : {X : Type 0} (P : X → Type 0) (b : Bool) (xs ys : List X) (x : X) → All P xs → P x → ys ≡ cond b (xs ++ x ∷ []) xs → All P ys
+all_pushed P true xs ys x all one is = All-same P ys (xs ++ x ∷ []) is (All-append P xs (x ∷ []) all (All-cons P x [] one (All-nil P)))
+all_pushed P false xs ys x all one is = All-same P ys xs is all
+
+-- a worker that never began is done once its seat was answered that no file is left
+pub done_idle : {C : Type 0} (made : Making C) (claims : Claimed) (post : Posted) (plan : Planned) (job : Job C) (seat : Drawn) → IsIdle claims post plan job → seat ≡ record job.seat { done = true }
+    → IsDone made claims post plan (record { seat = seat; pass = job.pass })
+done_idle made claims post plan job seat idle is =
+    record {
+      word = ap (λ (d : Drawn). d.word) is ∙ ap (λ (d : Drawn). d.word) idle.seat;
+      total = ap (λ (d : Drawn). d.files) is ∙ ap (λ (d : Drawn). d.files) idle.seat;
+      queue = ap (λ (pass : Sent _). pass.queue) idle.pass;
+      worker = idle.worker;
+      done = λ _. ap (λ (d : Drawn). d.done) is;
+      sent = λ _ file some.
+          let none : times file seat.drawn ≡ 0 = ap (λ (d : Drawn). times file d.drawn) is ∙ ap (λ (d : Drawn). times file d.drawn) idle.seat in
+          absurd (omega arith);
+    }

@@ -44,3 +44,22 @@ pub record IsPrepared {C : Type 0} (plan : Planned) (claims : Claimed) (post : P
   pub few_workers : post.workers ≤ max_workers
   pub nothing_received : take ≡ fresh_take post plan
   pub ready : All (IsReady claims post plan) jobs
+
+-- What was received where no fault was met, and the jobs of the workers: those that ended, and those that never began.
+pub record HasReceived {C : Type 0} (made : Making C) (plan : Planned) (claims : Claimed) (post : Posted) (take : Taken C) (ended idle : List (Job C)) (counts : List ℕ) : Type 0 where
+  pub pass : IsTakePassOf post take
+  pub done : All (IsDone made claims post plan) ended
+  pub unbegun : All (IsIdle claims post plan) idle
+  pub collected : IsCollected made plan take counts
+
+-- what the threads of a run came to, where the reader has these counts
+abbrev pub HasRun : {C : Type 0} → Making C → Planned → Claimed → Posted → List ℕ → Ran C → Type 0
+HasRun made plan claims post counts Whole = IsWhole plan counts
+HasRun made plan claims post counts (Received take ended idle) = HasReceived made plan claims post take ended.items idle.items counts
+HasRun made plan claims post counts (Failed named) = Unit {0}
+
+-- what that tells of the reader's faults before and after
+abbrev pub TellsFaultsOf : {C : Type 0} → Ran C → ℕ → ℕ → Type 0
+TellsFaultsOf Whole before after = after ≡ before
+TellsFaultsOf (Received take ended idle) before after = after ≡ before
+TellsFaultsOf (Failed named) before after = named ≡ fault.Reader → before < after

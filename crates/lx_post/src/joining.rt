@@ -100,7 +100,7 @@ fn take_apart<C: Drop>(jobs: Vec<Job<C>>, parts: &mut Parts<C>) -> Result<(), Al
 }
 
 /// That every piece of every file was received, once the jobs of all workers are here and none named a fault.
-pub fn settle_all<W: Wait, G, M: Maker>(
+pub fn settle_all<W: Wait, G, M: Maker + Drop>(
     context: RunContext<'_, W, G, M>,
     take: TakePass<M::Made>,
     mut ended: Vec<Job<M::Made>>,

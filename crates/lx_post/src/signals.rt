@@ -1,3 +1,6 @@
+ghost use Rattle.std.specs.Prelude.{◌<◌};
+ghost use Rattle.lx_post.specs.Claimed.{max_workers};
+
 use crate::backoff::Backoff;
 use crate::pace::Pace;
 use crate::passes::WORKER_SLOTS;
@@ -7,8 +10,8 @@ use std::sync::atomic::{AtomicBool, Ordering};
 /// What the threads of a run tell each other beside the post. No contract speaks of it.
 #[derive(Drop)]
 pub struct Signals {
-    /// Of each worker: its thread can't be made, so its job comes back.
-    pub refused: [AtomicBool; WORKER_SLOTS],
+    // Of each worker: its thread can't be made, so its job comes back.
+    refused: [AtomicBool; WORKER_SLOTS],
     /// What the reader holds.
     pub pace: Pace,
     // Each worker was started, or its end was sent.
@@ -23,6 +26,20 @@ impl Signals {
             pace: Pace::new(),
             all_started: AtomicBool::new(false),
         }
+    }
+
+    /// Lets the job of this worker come back.
+    pub fn refuse(&self, worker: u8)
+        requires { worker < max_workers }
+    {
+        self.refused[usize::from(worker)].store(true, Ordering::SeqCst);
+    }
+
+    /// Whether it is to come back.
+    pub fn is_refused(&self, worker: u8) -> bool
+        requires { worker < max_workers }
+    {
+        self.refused[usize::from(worker)].load(Ordering::SeqCst)
     }
 
     /// Tells that each worker was started, or its end was sent.

@@ -1,5 +1,5 @@
 //! How workers are started.
-ghost use Rattle.std.specs.Prelude.{◌≡◌, ◌<◌, All, IfErr, IfOk, [], None};
+ghost use Rattle.std.specs.Prelude.{◌≡◌, ◌<◌, ◌≤◌, All, IfErr, IfOk, [], None};
 ghost use Rattle.lx_post.specs.Claimed.{AreClaimsOf, max_workers};
 ghost use Rattle.lx_post.specs.Working.{IsDone, IsIdle, IsOutcome, IsReady};
 
@@ -10,7 +10,6 @@ use crate::run_context::RunContext;
 use lx_piece::Maker;
 use std::snapshot::Snapshot;
 use std::sync::Wait;
-use std::sync::atomic::Ordering;
 use std::thread::{Promise, PromisedHandle, Scope};
 
 /// What a worker's outcome keeps: it is of the job that was handed to it.
@@ -47,8 +46,7 @@ impl<'a, W: Wait, G: Gate, M: Maker + Copy> RunContext<'a, W, G, M> {
         requires files { AreClaimsOf self.now.plan.now self.now.claims }
         ensures { IsOutcome M.made job result }
     {
-        let refused = &self.signals.refused[usize::from(job.pass.worker())];
-        if refused.load(Ordering::SeqCst) {
+        if self.signals.is_refused(job.pass.worker()) {
             return Outcome::Back(job);
         }
         Outcome::Done(self.work(job))
@@ -100,7 +98,7 @@ fn start<'s, 'a, E, W: Wait + Sync, G: Gate + Sync, M: Maker<Made: Send> + Copy 
         Ok(handle) => Ok(handle),
         Err(back) => {
             // the closure has the job, and gives it back at once
-            context.signals.refused[usize::from(worker)].store(true, Ordering::SeqCst);
+            context.signals.refuse(worker);
             Err((back.value)())
         }
     }
@@ -123,7 +121,6 @@ fn start_or_idle<'s, 'a, E, W: Wait + Sync, G: Gate + Sync, M: Maker<Made: Send>
     ensures idle { All (λ job. IsIdle context.now.claims context.now.post context.now.plan.now job) workers.old.idle.items
         → All (λ job. IsIdle context.now.claims context.now.post context.now.plan.now job) workers.new.idle.items }
 {
-    let before = Snapshot::of(&job);
     // room was reserved, so that no push is refused
     let _pushed = match start(context, scope, job) {
         Ok(handle) => workers.handles.push(handle).is_ok(),
