@@ -47,6 +47,7 @@ impl<'a, W: Threads, G, M: Maker> RunContext<'a, W, G, M> {
 
 impl<'a, W: Wait, G, M: Maker> RunContext<'a, W, G, M> {
     // Lets the seat of a worker that never began draw. `None` where it is answered a file.
+    #[tactic(auto, using(crate::proofs::NothingLost::done_idle))]
     fn draw_for(&self, job: Job<M::Made>) -> Option<Job<M::Made>>
         requires { IsIdle self.now.claims self.now.post self.now.plan.now job }
         ensures { IfSome result (λ done. IsDone M.made self.now.claims self.now.post self.now.plan.now done) }
@@ -59,6 +60,7 @@ impl<'a, W: Wait, G, M: Maker> RunContext<'a, W, G, M> {
     }
 
     // Lets the seat of each worker that never began draw: the others drew all files, so each is answered that none is left.
+    #[tactic(auto, using(crate::proofs::NothingLost::all_pushed))]
     fn draw_for_all(
         &self,
         idle: Vec<Job<M::Made>>,

@@ -39,6 +39,7 @@ enum Unstarted {
 }
 
 // A job for each worker.
+#[tactic(auto, using(crate::proofs::NothingLost::all_pushed))]
 fn jobs_of<M: Maker>(
     alloc: Global,
     mut seats: Vec<ClaimSeat>,
@@ -135,6 +136,7 @@ fn run_alone<W, G, M: Maker + Copy + Drop, R: ReaderOf<M>>(
 }
 
 // Starts the workers, hands on what they send, and joins them.
+#[tactic(auto, using(crate::proofs::Received::none_taken))]
 fn run<
     's,
     'a,

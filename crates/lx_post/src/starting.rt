@@ -105,6 +105,7 @@ fn start<'s, 'a, E, W: Wait + Sync, G: Gate + Sync, M: Maker<Made: Send> + Copy 
 }
 
 // Starts a worker. Where it can't be started, its end is sent for it, and its job goes to those that are idle.
+#[tactic(auto, using(crate::proofs::NothingLost::all_pushed))]
 fn start_or_idle<'s, 'a, E, W: Wait + Sync, G: Gate + Sync, M: Maker<Made: Send> + Copy + Sync>(
     context: &'s RunContext<'a, W, G, M>,
     scope: &Scope<'s, E>,
