@@ -1,10 +1,10 @@
 use Rattle.std.proofs.Common.{◌≡◌, ◌≤◌, replicate, vec_capacity, []}
 use Rattle.lx_piece.specs.Passing.{queued}
-use Rattle.lx_piece.proofs.in_order.InOrder.new.Given as goal
+use Rattle.lx_piece.proofs.in_order.empty_queues.Given as goal
 
 abbrev pub invariant-loop-file : goal.invariant-loop-file
 invariant-loop-file g l =
     record {
-      empty : queued l.waiting.items ≡ replicate l._file [];
-      room : l.files ≤ vec_capacity l.waiting;
+      empty : queued l.queues.items ≡ replicate l._file [];
+      room : l.files ≤ vec_capacity l.queues;
     }
