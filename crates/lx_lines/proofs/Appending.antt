@@ -5,8 +5,8 @@ use Rattle.std.proofs.lemmas.List.{take_all, take_more, take-append-drop}
 use Rattle.std.proofs.lemmas.Grind.{flat_map-append}
 use Rattle.std.specs.List.{flat_map}
 use Rattle.std.proofs.Math.ListN.{length-drop}
-use Rattle.lx_tool.specs.Listings.{AppendsPrefix}
-use Rattle.lx_tool.specs.ListingLaws.{appends_both, prefix_behind, prefix_then, prefix_before}
+use Rattle.lx_lines.specs.Listings.{AppendsPrefix}
+use Rattle.lx_lines.specs.ListingLaws.{appends_both, prefix_behind, prefix_then, prefix_before}
 
 -- the first bytes of a text, and then further ones
 pub appends_more : (a b c : Option (List ℕ)) (bs : List ℕ) (d n : ℕ) → Appends a b (take d bs) → Appends b c (take n (drop d bs)) → Appends a c (take (d + n) bs)

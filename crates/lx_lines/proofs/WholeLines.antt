@@ -2,13 +2,12 @@ use Rattle.std.proofs.Common.{ℕ, ◌≡◌, inl, inr, Bool, true, false, List,
 use Rattle.std.specs.Prelude.{codes, decimal}
 use Rattle.std.specs.Io.KnownBytes.{Appends, Keeps}
 use Rattle.lx_scan.specs.declared.item.Item.{Item}
-use Rattle.lx_piece.specs.declared.piece.Piece.{Piece}
-use Rattle.lx_piece.specs.Pieces.{is_cut_short}
+use Rattle.lx_piece.specs.Pieces.{ItemPiece, is_cut_short}
 use Rattle.lx_piece.specs.Plans.{Planned}
-use Rattle.lx_tool.specs.Lines.{cut_lines, line_of, lines_of, piece_lines, pieces_lines}
-use Rattle.lx_tool.specs.Listings.{AreWhole, AppendsWhole}
-use Rattle.lx_tool.specs.ListingLaws.{appends_both, appends_nothing}
-use Rattle.lx_tool.proofs.Appending.{kept_appends}
+use Rattle.lx_lines.specs.Lines.{cut_lines, line_of, lines_of, piece_lines, pieces_lines}
+use Rattle.lx_lines.specs.Listings.{AreWhole, AppendsWhole}
+use Rattle.lx_lines.specs.ListingLaws.{appends_both, appends_nothing}
+use Rattle.lx_lines.proofs.Appending.{kept_appends}
 
 -- the bytes end with a line feed
 abbrev EndsLine : List ℕ → Type 0
@@ -32,10 +31,10 @@ cut_whole : (file : ℕ) (cut : Bool) → AreWhole (cut_lines file cut)
 cut_whole file false = inl refl
 cut_whole file true = inr (decimal file ++ codes " ! cut", sym (append_assoc (decimal file) (codes " ! cut") (10 ∷ [])))
 
-pub piece_whole : (plan : Planned) (file : ℕ) (piece : Piece) → AreWhole (piece_lines plan file piece)
+pub piece_whole : (plan : Planned) (file : ℕ) (piece : ItemPiece) → AreWhole (piece_lines plan file piece)
 piece_whole plan file piece = whole_both (lines_of plan file piece.items) (cut_lines file (is_cut_short piece)) (lines_whole plan file piece.items) (cut_whole file (is_cut_short piece))
 
-pub pieces_whole : (plan : Planned) (file : ℕ) (pieces : List Piece) → AreWhole (pieces_lines plan file pieces)
+pub pieces_whole : (plan : Planned) (file : ℕ) (pieces : List ItemPiece) → AreWhole (pieces_lines plan file pieces)
 pieces_whole plan file [] = inl refl
 pieces_whole plan file (piece ∷ pieces) = whole_both (piece_lines plan file piece) (pieces_lines plan file pieces) (piece_whole plan file piece) (pieces_whole plan file pieces)
 
@@ -44,11 +43,11 @@ pub wrote_lines : (plan : Planned) (file : ℕ) (items : List Item) (a b : Optio
 wrote_lines plan file items a b h = (lines_of plan file items, lines_whole plan file items, h)
 
 -- those of a piece
-pub wrote_piece : (plan : Planned) (file : ℕ) (piece : Piece) (a b : Option (List ℕ)) → Appends a b (piece_lines plan file piece) → AppendsWhole a b
+pub wrote_piece : (plan : Planned) (file : ℕ) (piece : ItemPiece) (a b : Option (List ℕ)) → Appends a b (piece_lines plan file piece) → AppendsWhole a b
 wrote_piece plan file piece a b h = (piece_lines plan file piece, piece_whole plan file piece, h)
 
 -- those of pieces
-pub wrote_pieces : (plan : Planned) (file : ℕ) (pieces : List Piece) (a b : Option (List ℕ)) → Appends a b (pieces_lines plan file pieces) → AppendsWhole a b
+pub wrote_pieces : (plan : Planned) (file : ℕ) (pieces : List ItemPiece) (a b : Option (List ℕ)) → Appends a b (pieces_lines plan file pieces) → AppendsWhole a b
 wrote_pieces plan file pieces a b h = (pieces_lines plan file pieces, pieces_whole plan file pieces, h)
 
 -- nothing was written

@@ -5,8 +5,7 @@ use Rattle.lx_spec.specs.declared.rule.Kind.TheVariants.{Name, Number}
 use Rattle.lx_scan.specs.declared.item.Item.{Item}
 use Rattle.lx_scan.specs.declared.item.Item.TheVariants.{Token, Echo}
 use Rattle.lx_scan.specs.ItemParts.{line_of as line_number, start_of, len_of, text_of}
-use Rattle.lx_piece.specs.declared.piece.Piece.{Piece}
-use Rattle.lx_piece.specs.Pieces.{is_cut_short}
+use Rattle.lx_piece.specs.Pieces.{ItemPiece, is_cut_short}
 use Rattle.lx_piece.specs.Plans.{Planned, bytes_of, is_cut, items_of, kind_of}
 
 -- an upper-case hexadecimal digit
@@ -57,11 +56,11 @@ abbrev pub cut_lines : ℕ → Bool → List ℕ
 cut_lines file cut = if cut then cut_line file else []
 
 -- the lines of a piece of a file: those of its items, and behind them that line where it is marked Cut
-abbrev pub piece_lines : Planned → ℕ → Piece → List ℕ
+abbrev pub piece_lines : Planned → ℕ → ItemPiece → List ℕ
 piece_lines plan file piece = lines_of plan file piece.items ++ cut_lines file (is_cut_short piece)
 
 -- the lines of pieces of a file, in order
-abbrev pub pieces_lines : Planned → ℕ → List Piece → List ℕ
+abbrev pub pieces_lines : Planned → ℕ → List ItemPiece → List ℕ
 pieces_lines plan file pieces = flat_map (piece_lines plan file) pieces
 
 -- the lines of a file: those of its items, and behind them that line where its reading failed

@@ -6,12 +6,12 @@ use Rattle.std.proofs.lemmas.Bool.{cases_Bool, cases_eq, cases_lt, both_ways, eq
 use Rattle.std.proofs.lemmas.Grind.{flat_map-append}
 use Rattle.std.proofs.lemmas.List.{drop_all, get_or_past, take_all}
 use Rattle.lx_scan.specs.declared.item.Item.{Item}
-use Rattle.lx_piece.specs.declared.piece.Piece.{Piece}
 use Rattle.lx_piece.specs.Plans.{Planned, IsPlan, files_of, is_cut, items_of}
-use Rattle.lx_piece.specs.Pieces.{IsPrefix, contents, part, piece_at, pieces_of, pieces_to}
+use Rattle.lx_piece.specs.Pieces.{IsPrefix, ItemPiece, contents, part, piece_at, pieces_of, pieces_to}
+use Rattle.lx_piece.specs.Relayed.{AreAllTaken, HasOpenFile}
 use Rattle.lx_piece.specs.PieceLaws.{marked_cut, pieces_hold, prefix_to, whole_at}
-use Rattle.lx_tool.specs.Lines.{cut_lines, file_lines, line_of, lines_of, piece_lines, pieces_lines}
-use Rattle.lx_tool.specs.Listings.{listing_to, listing_of, taken_lines, IsDue, AreAllClosed, HasOpenFile, Printed, Prints}
+use Rattle.lx_lines.specs.Lines.{cut_lines, file_lines, line_of, lines_of, piece_lines, pieces_lines}
+use Rattle.lx_lines.specs.Listings.{listing_to, listing_of, taken_lines, IsDue, Printed, Prints}
 
 -- nothing was appended
 pub appends_nothing : (o : Option (List ℕ)) → Appends o o []
@@ -47,7 +47,7 @@ prefix_lines plan file xs ys f =
     (lines_of plan file f.0, sym (flat_map-append (line_of plan file) xs f.0) ∙ ap (λ items. lines_of plan file items) f.1)
 
 -- the lines of pieces and then of one more
-pub lines_one : (plan : Planned) (file : ℕ) (xs : List Piece) (piece : Piece) → pieces_lines plan file (xs ++ piece ∷ []) ≡ pieces_lines plan file xs ++ piece_lines plan file piece
+pub lines_one : (plan : Planned) (file : ℕ) (xs : List ItemPiece) (piece : ItemPiece) → pieces_lines plan file (xs ++ piece ∷ []) ≡ pieces_lines plan file xs ++ piece_lines plan file piece
 lines_one plan file xs piece =
     flat_map-append (piece_lines plan file) xs (piece ∷ []) ∙ ap (λ bytes. pieces_lines plan file xs ++ bytes) (append-nil (piece_lines plan file piece))
 
@@ -56,7 +56,7 @@ items_one : (plan : Planned) (file count : ℕ) → lines_of plan file (contents
 items_one plan file count =
     let items = part plan.per_piece (items_of plan file) count in
     ap (λ all. lines_of plan file all)
-    (flat_map-append (λ (piece : Piece). piece.items) (pieces_to plan file count) (piece_at plan file count ∷ []) ∙ ap (λ more. contents (pieces_to plan file count) ++ more) (append-nil items))
+    (flat_map-append (λ (piece : ItemPiece). piece.items) (pieces_to plan file count) (piece_at plan file count ∷ []) ∙ ap (λ more. contents (pieces_to plan file count) ++ more) (append-nil items))
     ∙ flat_map-append (line_of plan file) (contents (pieces_to plan file count)) items
 
 -- but for the last one, a piece has the lines of its items
@@ -150,7 +150,7 @@ due_begins plan counts text d =
     ])
 
 -- what is due once every file is closed
-pub due_whole : (plan : Planned) (counts text : List ℕ) → AreAllClosed plan counts → IsDue plan counts text → text ≡ listing_of plan
+pub due_whole : (plan : Planned) (counts text : List ℕ) → AreAllTaken plan counts → IsDue plan counts text → text ≡ listing_of plan
 due_whole plan counts text closed d =
     let size = d.first_open.files in
     let within = d.first_open.within in
@@ -196,7 +196,7 @@ prints_on s t u f h =
       whole = λ working closed text due. elim (cases_Bool t.progress.failed) [
         | inl failed ↦
             let some_open = f.stuck working failed in
-            let before = subst (λ (plan : Planned). AreAllClosed plan t.progress.counts) h.plan (subst (λ (counts : List ℕ). AreAllClosed u.progress.plan counts) (h.stopped failed).2 closed) in
+            let before = subst (λ (plan : Planned). AreAllTaken plan t.progress.counts) h.plan (subst (λ (counts : List ℕ). AreAllTaken u.progress.plan counts) (h.stopped failed).2 closed) in
             absurd (some_open.2 (before some_open.0 some_open.1))
         | inr going ↦ sym (append_assoc text f.bytes h.bytes) ∙ h.whole going closed (text ++ f.bytes) (f.due working going text due)
       ];

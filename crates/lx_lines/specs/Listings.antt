@@ -1,8 +1,10 @@
-use Rattle.std.specs.Prelude.{ℕ, zero, suc, ◌≡◌, ◌≢◌, ◌<◌, ◌≤◌, ◌⊎◌, Bool, true, false, List, [], ◌∷◌, ◌++◌, Option, length, slice_index}
+use Rattle.std.specs.Prelude.{ℕ, zero, suc, ◌≡◌, ◌≤◌, ◌⊎◌, Bool, true, false, List, [], ◌∷◌, ◌++◌, Option, slice_index}
 use Rattle.std.specs.Io.KnownBytes.{Appends}
 use Rattle.lx_piece.specs.Plans.{Planned, IsPlan, files_of}
-use Rattle.lx_piece.specs.Pieces.{IsPrefix, pieces_of, pieces_to}
-use Rattle.lx_tool.specs.Lines.{file_lines, pieces_lines}
+use Rattle.lx_piece.specs.Pieces.{IsPrefix, pieces_to}
+use Rattle.lx_piece.specs.Relayed.{AreAllTaken, HasOpenFile}
+use Rattle.lx_piece.specs.Turns.{Turn, IsFirstOpen}
+use Rattle.lx_lines.specs.Lines.{file_lines, pieces_lines}
 
 -- the lines of the files below this one, in order
 abbrev pub listing_to : Planned → ℕ → List ℕ
@@ -17,12 +19,15 @@ listing_of plan = listing_to plan (files_of plan)
 abbrev pub taken_lines : Planned → ℕ → ℕ → List ℕ
 taken_lines plan file count = pieces_lines plan file (pieces_to plan file count)
 
--- By these counts of pieces taken, it is the first file that isn't closed, or the number of files where each is.
-pub record IsFirstOpen (plan : Planned) (counts : List ℕ) (first : ℕ) : Type 0 where
-  pub files : length counts ≡ files_of plan
-  pub within : first ≤ files_of plan
-  pub below : (file : ℕ) → file < first → slice_index counts file ≡ pieces_of plan file
-  pub not_closed : first < files_of plan → slice_index counts first ≢ pieces_of plan first
+-- a turn of the plan: that of a piece, or the one behind the last file
+pub record IsTurnOf (plan : Planned) (turn : Turn) : Type 0 where
+  pub plan_is : IsPlan plan
+  pub within : turn.file ≤ files_of plan
+  pub first : turn.file ≡ files_of plan → turn.number ≡ 0
+
+-- the lines of the pieces before a turn
+abbrev pub lines_before : Planned → Turn → List ℕ
+lines_before plan turn = listing_to plan turn.file ++ taken_lines plan turn.file turn.number
 
 -- text is the lines of the pieces taken of the files up to and with the first that isn't closed
 pub record IsDue (plan : Planned) (counts : List ℕ) (text : List ℕ) : Type 0 where
@@ -30,14 +35,6 @@ pub record IsDue (plan : Planned) (counts : List ℕ) (text : List ℕ) : Type 0
   pub first : ℕ
   pub first_open : IsFirstOpen plan counts first
   pub lines : text ≡ listing_to plan first ++ taken_lines plan first (slice_index counts first)
-
--- of some file not each piece was taken
-abbrev pub HasOpenFile : Planned → List ℕ → Type 0
-HasOpenFile plan counts = (file : ℕ) × (file < files_of plan) × (slice_index counts file ≢ pieces_of plan file)
-
--- of every file each piece was taken
-abbrev pub AreAllClosed : Planned → List ℕ → Type 0
-AreAllClosed plan counts = (file : ℕ) → file < files_of plan → slice_index counts file ≡ pieces_of plan file
 
 -- known bytes grow by a prefix of these
 abbrev pub AppendsPrefix : Option (List ℕ) → Option (List ℕ) → List ℕ → Type 0
@@ -76,7 +73,7 @@ pub record Prints (old new : Printed) : Type 0 where
   -- A prefix of the listing, failed or not.
   pub prefix : old.progress.failed ≡ false → (text : List ℕ) → IsDue old.progress.plan old.progress.counts text → IsPrefix (text ++ bytes) (listing_of old.progress.plan)
   -- Once every file is closed, all of the listing.
-  pub whole : old.progress.failed ≡ false → AreAllClosed new.progress.plan new.progress.counts → (text : List ℕ) → IsDue old.progress.plan old.progress.counts text → text ++ bytes ≡ listing_of new.progress.plan
+  pub whole : old.progress.failed ≡ false → AreAllTaken new.progress.plan new.progress.counts → (text : List ℕ) → IsDue old.progress.plan old.progress.counts text → text ++ bytes ≡ listing_of new.progress.plan
   -- Where it fails, a file stays open.
   pub stuck : old.progress.failed ≡ false → new.progress.failed ≡ true → HasOpenFile new.progress.plan new.progress.counts
   -- Once it has failed, nothing, and it takes no piece.

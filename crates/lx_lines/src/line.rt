@@ -1,9 +1,9 @@
-ghost use Rattle.std.specs.Prelude.{◌≡◌, ◌<◌, ◌≤◌, ◌++◌, OnOk, codes, decimal, length, take};
+ghost use Rattle.std.specs.Prelude.{◌≡◌, ◌<◌, ◌≤◌, ◌++◌, All, OnOk, codes, decimal, length, take};
 ghost use Rattle.std.specs.List.{flat_map};
 ghost use Rattle.lx_scan.specs.ItemParts as parts;
 ghost use Rattle.lx_scan.specs.ItemParts.{start_of, len_of, IsItemOf, IsKindAmong, NamesKindAmong};
 ghost use Rattle.lx_piece.specs.Plans.{files_of, bytes_of, kinds_of};
-ghost use Rattle.lx_tool.specs.Lines.{hex_digit, escaped, class_text, name_text, kind_text, line_of, cut_line};
+ghost use Rattle.lx_lines.specs.Lines.{hex_digit, escaped, class_text, name_text, kind_text, line_of, lines_of, cut_line};
 
 use itoa::Buffer;
 use lx_piece::Plan;
@@ -117,35 +117,43 @@ fn line_number(item: &Item) -> u64
     }
 }
 
-/// Makes the line of an item of a file, in place of what the buffer held. Where memory is refused the buffer
-/// holds a part of it.
-pub(crate) fn make_line(
-    line: &mut Vec<u8>,
-    plan: &Plan,
-    file: u32,
-    item: &Item,
-) -> Result<(), AllocError>
+/// Puts the line of an item of a file behind what the block holds. Where memory is refused a part of it stands there.
+fn push_line(block: &mut Vec<u8>, plan: &Plan, file: u32, item: &Item) -> Result<(), AllocError>
     requires file { file < files_of plan.now }
     requires item { IsItemOf (kinds_of plan.now) (bytes_of plan.now file) item.now }
-    ensures { OnOk result (line.new.items ≡ line_of plan.now file item.now) }
+    ensures { OnOk result (block.new.items ≡ block.old.items ++ line_of plan.now file item.now) }
 {
     let (start, len) = extent(item);
-    line.clear();
-    push_field(line, u64::from(file))?;
-    push_kind(line, plan, item)?;
-    push_field(line, line_number(item))?;
-    push_field(line, start as u64)?;
-    push_field(line, len as u64)?;
-    push_text(line, item.text(plan.bytes(file)))?;
-    line.extend_from_slice(b"\n")
+    push_field(block, u64::from(file))?;
+    push_kind(block, plan, item)?;
+    push_field(block, line_number(item))?;
+    push_field(block, start as u64)?;
+    push_field(block, len as u64)?;
+    push_text(block, item.text(plan.bytes(file)))?;
+    block.extend_from_slice(b"\n")
 }
 
-/// Makes the line behind the items of a file whose reading failed, in place of what the buffer held. Where memory is
-/// refused the buffer holds a part of it.
-pub(crate) fn make_cut_line(line: &mut Vec<u8>, file: u32) -> Result<(), AllocError>
-    ensures { OnOk result (line.new.items ≡ cut_line file) }
+/// Puts the lines of items of a file behind what the block holds.
+pub(crate) fn push_lines(
+    block: &mut Vec<u8>,
+    plan: &Plan,
+    file: u32,
+    items: &[Item],
+) -> Result<(), AllocError>
+    requires file { file < files_of plan.now }
+    requires items { All (IsItemOf (kinds_of plan.now) (bytes_of plan.now file)) items.now }
+    ensures { OnOk result (block.new.items ≡ block.old.items ++ lines_of plan.now file items.now) }
 {
-    line.clear();
-    push_number(line, u64::from(file))?;
-    line.extend_from_slice(b" ! cut\n")
+    for item in items {
+        push_line(block, plan, file, item)?;
+    }
+    Ok(())
+}
+
+/// Puts the line of a file whose reading failed behind what the block holds.
+pub(crate) fn push_cut_line(block: &mut Vec<u8>, file: u32) -> Result<(), AllocError>
+    ensures { OnOk result (block.new.items ≡ block.old.items ++ cut_line file) }
+{
+    push_number(block, u64::from(file))?;
+    block.extend_from_slice(b" ! cut\n")
 }
