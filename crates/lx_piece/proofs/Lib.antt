@@ -12,3 +12,4 @@ pub mod Arrived
 pub mod Whole
 pub mod Turned
 pub mod Handing
+pub mod AllCut

@@ -9,3 +9,4 @@ pub mod Listed
 pub mod Turns
 pub mod Passing
 pub mod PassingLaws
+pub mod PlanPieces
