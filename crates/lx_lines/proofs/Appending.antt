@@ -38,6 +38,13 @@ prefix_taken a b bs n h = (take n bs, (drop n bs, take-append-drop n bs), h)
 pub kept_prefix : (a b c : Option (List ℕ)) (bs : List ℕ) (d : ℕ) → Appends a b (take d bs) → Keeps b c → AppendsPrefix a c bs
 kept_prefix a b c bs d h k = prefix_taken a c bs d (subst (λ (front : List ℕ). Appends a c front) (append-nil (take d bs)) (appends_both a b c (take d bs) [] h (kept_appends b c k)))
 
+-- the first bytes of a text, and then a prefix of some further ones
+pub prefix_part : (a b c : Option (List ℕ)) (bs : List ℕ) (d n : ℕ) → Appends a b (take d bs) → AppendsPrefix b c (take n (drop d bs)) → AppendsPrefix a c bs
+prefix_part a b c bs d n h k =
+    subst (λ (all : List ℕ). AppendsPrefix a c all) (take-append-drop (d + n) bs)
+    (prefix_more a c (take (d + n) bs) (drop (d + n) bs)
+    (subst (λ (front : List ℕ). AppendsPrefix a c front) (sym (take-add d n bs)) (appends_prefix a b c (take d bs) (take n (drop d bs)) h k)))
+
 -- the texts of the first elements, and then that of the next
 pub texts_more : {X : Type 0} (text : X → List ℕ) (xs : List X) (i : ℕ) (d : X) → i < length xs → flat_map text (take (i + 1) xs) ≡ flat_map text (take i xs) ++ text (get_or xs i d)
 texts_more text xs i d l =

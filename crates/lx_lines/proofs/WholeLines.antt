@@ -7,6 +7,7 @@ use Rattle.lx_piece.specs.Plans.{Planned}
 use Rattle.lx_lines.specs.Lines.{cut_lines, line_of, lines_of, piece_lines, pieces_lines}
 use Rattle.lx_lines.specs.Listings.{AreWhole, AppendsWhole}
 use Rattle.lx_lines.specs.ListingLaws.{appends_both, appends_nothing}
+use Rattle.lx_lines.specs.PrintingLaws.{whole_both}
 use Rattle.lx_lines.proofs.Appending.{kept_appends}
 
 -- the bytes end with a line feed
@@ -15,13 +16,6 @@ EndsLine bytes = (front : List ℕ) × (bytes ≡ front ++ 10 ∷ [])
 
 line_ends : (plan : Planned) (file : ℕ) (item : Item) → EndsLine (line_of plan file item)
 line_ends plan file item = (_, refl)
-
--- whole lines, and then further ones
-pub whole_both : (xs ys : List ℕ) → AreWhole xs → AreWhole ys → AreWhole (xs ++ ys)
-whole_both xs ys h k = elim k [
-  | inl none ↦ subst AreWhole (sym (ap (λ bs. xs ++ bs) none ∙ append-nil xs)) h
-  | inr e ↦ inr (xs ++ e.0, ap (λ bs. xs ++ bs) e.1 ∙ sym (append_assoc xs e.0 (10 ∷ [])))
-]
 
 pub lines_whole : (plan : Planned) (file : ℕ) (items : List Item) → AreWhole (lines_of plan file items)
 lines_whole plan file [] = inl refl

@@ -1,4 +1,6 @@
 pub mod Lines
 pub mod Listings
 pub mod ListingLaws
+pub mod Printing
+pub mod PrintingLaws
 pub mod Shown

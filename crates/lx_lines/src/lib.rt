@@ -3,9 +3,15 @@
 
 mod line;
 mod maker;
+mod printer;
 mod shown;
+mod sink;
 mod spares;
+mod writing;
 
 pub use maker::LineMaker;
+pub use printer::Printer;
 pub use shown::Shown;
+pub use sink::{Lent, LineSink, Owned};
 pub use spares::{Alone, Shared, Spares};
+pub use writing::LineWrites;
