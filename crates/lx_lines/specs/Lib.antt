@@ -1,4 +1,5 @@
 pub mod Lines
+pub mod ListedLaws
 pub mod Listings
 pub mod ListingLaws
 pub mod Printing

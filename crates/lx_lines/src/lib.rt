@@ -4,6 +4,7 @@
 mod line;
 mod maker;
 mod printer;
+mod printing;
 mod shown;
 mod sink;
 mod spares;
@@ -11,6 +12,7 @@ mod writing;
 
 pub use maker::LineMaker;
 pub use printer::Printer;
+pub use printing::{print_lines, print_listing};
 pub use shown::Shown;
 pub use sink::{Lent, LineSink, Owned};
 pub use spares::{Alone, Shared, Spares};
