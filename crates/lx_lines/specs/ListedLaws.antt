@@ -134,3 +134,12 @@ listed_part wrote at plan old new is plan_is first fresh working passed =
             took.written,
           )
     ]
+
+-- The same of a printer to which nothing was handed yet.
+pub all_listed : {S T : Type 0} (wrote : S → List ℕ → S → Type 0) (taker : T) (at : T → Printing S) (plan : Planned) (old new : Passing T) → IsPlan plan → (at taker).plan ≡ plan → (at taker).turn ≡ first_turn → old ≡ record { taker = taker; counts = replicate (files_of plan) 0; faults = 0; failed = false } → Passed wrote at old new → AreAllTaken plan new.counts → wrote (at taker).sink (listing_of plan) (at new.taker).sink
+all_listed {S} {T} wrote taker at plan old new is plan_is first start passed all =
+    listed_whole wrote at plan (record { taker = taker; counts = replicate (files_of plan) 0; faults = 0; failed = false }) new is plan_is first refl refl (subst (λ (o : Passing T). Passed wrote at o new) start passed) all
+
+pub part_listed : {S T : Type 0} (wrote : S → List ℕ → S → Type 0) (taker : T) (at : T → Printing S) (plan : Planned) (old new : Passing T) → IsPlan plan → (at taker).plan ≡ plan → (at taker).turn ≡ first_turn → old ≡ record { taker = taker; counts = replicate (files_of plan) 0; faults = 0; failed = false } → Passed wrote at old new → WrotePrefix wrote (at taker).sink (listing_of plan) (at new.taker).sink
+part_listed {S} {T} wrote taker at plan old new is plan_is first start passed =
+    listed_part wrote at plan (record { taker = taker; counts = replicate (files_of plan) 0; faults = 0; failed = false }) new is plan_is first refl refl (subst (λ (o : Passing T). Passed wrote at o new) start passed)

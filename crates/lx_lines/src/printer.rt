@@ -65,6 +65,23 @@ impl<'p, Y: Spares, S: LineSink> Printer<'p, Y, S> {
             number: 0,
         }
     }
+
+    /// Where its lines went.
+    pub fn into_sink(self) -> S
+    where
+        Y: Drop,
+        ensures { result ≡ self.entry.sink }
+    {
+        let Printer {
+            alloc: _alloc,
+            plan: _plan,
+            spares: _spares,
+            sink,
+            file: _file,
+            number: _number,
+        } = self;
+        sink
+    }
 }
 
 impl<'p, Y: Spares, S: LineSink> Taker<LineMaker<Y>> for Printer<'p, Y, S> {

@@ -27,7 +27,7 @@ fn print_all<'p, Y: Spares + Drop, S: LineSink + Drop>(
     requires file { printer.file ≡ 0 }
     requires number { printer.number ≡ 0 }
     ensures ok { OnOk result.1 (S.wrote printer.entry.sink (listing_of plan.now) result.0.sink) }
-    ensures err { OnErr result.1 (WrotePrefix S.wrote printer.entry.sink (listing_of plan.now) result.0.sink) }
+    ensures part { WrotePrefix S.wrote printer.entry.sink (listing_of plan.now) result.0.sink }
 {
     match InOrder::<LineMaker<Y>, Printer<'p, Y, S>>::new(alloc, plan, printer) {
         Ok(mut order) => {
@@ -36,6 +36,24 @@ fn print_all<'p, Y: Spares + Drop, S: LineSink + Drop>(
         }
         Err(refused) => (refused.value, Err(RelayFault::Memory)),
     }
+}
+
+// Hands all pieces of the plan to a new printer over a lent writer.
+fn print_to<'w, W: Write>(
+    alloc: Global,
+    plan: &Plan,
+    sink: Lent<'w, W>,
+) -> (Lent<'w, W>, Result<(), RelayFault>)
+    ensures same_reference { result.0.out.ghost_name ≡ sink.entry.out.ghost_name }
+    ensures ok { OnOk result.1 (Appends (W.contents sink.entry.out.now) (W.contents result.0.out.now) (listing_of plan.now)) }
+    ensures err { OnErr result.1 (AppendsPrefix (W.contents sink.entry.out.now) (W.contents result.0.out.now) (listing_of plan.now)) }
+{
+    // what holds of every plan
+    let _files = plan.files();
+    let spares = Alone::new();
+    let printer = Printer::new(alloc, plan, &spares, sink);
+    let (printer, answer) = print_all(alloc, plan, LineMaker::new(alloc, &spares), printer);
+    (printer.into_sink(), answer)
 }
 
 /// Writes the listing of a plan's files on one thread, the lines of each file in order and the files in order. The lines of each
@@ -49,20 +67,8 @@ pub fn print_lines<W: Write>(
     ensures ok { OnOk result (Appends (W.contents out.old) (W.contents out.new) (listing_of plan.now)) }
     ensures err { OnErr result (AppendsPrefix (W.contents out.old) (W.contents out.new) (listing_of plan.now)) }
 {
-    // what holds of every plan
-    let _files = plan.files();
-    let spares = Alone::new();
-    let printer = Printer::new(alloc, plan, &spares, Lent { out, writes });
-    let (printer, answer) = print_all(alloc, plan, LineMaker::new(alloc, &spares), printer);
+    let (sink, answer) = print_to(alloc, plan, Lent { out, writes });
     // taken apart, so that what the writer holds in the end is known
-    let Printer {
-        alloc: _alloc,
-        plan: _plan,
-        spares: _spares,
-        sink,
-        file: _file,
-        number: _number,
-    } = printer;
     let Lent {
         out: _out,
         writes: _writes,
