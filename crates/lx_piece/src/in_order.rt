@@ -14,7 +14,7 @@ use crate::plan::Plan;
 use crate::reader::{Held, ReaderFault};
 use crate::reader_of::ReaderOf;
 use crate::taker::Taker;
-use std::alloc::{AllocError, Global};
+use std::alloc::{AllocError, AllocFailed, Global};
 use std::collections::VecDeque;
 use std::marker::Model;
 
@@ -150,25 +150,37 @@ fn place<M: Maker, T: Taker<M>>(
     take_waiting::<M, T>(taker, first + 1, waiting, bytes)
 }
 
+// As many empty queues.
+fn empty_queues<C: Drop>(alloc: Global, files: u32) -> Result<Vec<VecDeque<Piece<C>>>, AllocError>
+    ensures { IfOk result (λ queues. queued queues.items ≡ replicate files []) }
+{
+    let mut queues = Vec::with_capacity(alloc, files as usize)?;
+    for _file in 0..files {
+        queues.push_reserved(VecDeque::new(alloc));
+    }
+    Ok(queues)
+}
+
 impl<M: Maker, T: Taker<M>> InOrder<M, T> {
-    /// A reader to which nothing came, and a taker that took nothing.
-    pub fn new(alloc: Global, plan: &Plan, taker: T) -> Result<InOrder<M, T>, AllocError>
-    where
-        T: Drop,
+    /// A reader to which nothing came, and a taker that took nothing. Where memory is refused the taker comes back as it was.
+    pub fn new(alloc: Global, plan: &Plan, taker: T) -> Result<InOrder<M, T>, AllocFailed<T>>
         requires plan { T.plan taker ≡ plan.now }
         requires turn { T.turn taker ≡ first_turn }
-        ensures { IfOk result (λ order. order ≡ record { taker = taker; counts = replicate (files_of plan.now) 0; faults = 0; failed = false }) }
+        ensures ok { IfOk result (λ order. order ≡ record { taker = taker; counts = replicate (files_of plan.now) 0; faults = 0; failed = false }) }
+        ensures back { IfErr result (λ refused. refused.value ≡ taker) }
     {
         let files = plan.files();
-        let mut waiting = Vec::with_capacity(alloc, files as usize)?;
-        for _file in 0..files {
-            waiting.push_reserved(VecDeque::new(alloc));
-        }
+        let Ok(waiting) = empty_queues(alloc, files) else {
+            return Err(AllocFailed { value: taker });
+        };
+        let Ok(counts) = vec![in alloc; 0; files as usize] else {
+            return Err(AllocFailed { value: taker });
+        };
         Ok(InOrder {
             taker,
             first: 0,
             waiting,
-            counts: vec![in alloc; 0; files as usize]?,
+            counts,
             bytes: 0,
             faults: 0,
             failed: false,

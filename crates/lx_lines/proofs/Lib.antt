@@ -1,0 +1,4 @@
+pub mod Appending
+pub mod Behind
+pub mod Turning
+pub mod WholeLines

@@ -1,0 +1,19 @@
+//! What a listing is: lines, what pieces carry of them, and the printer that writes them in the plan's order.
+#![tactic(auto)]
+
+mod line;
+mod maker;
+mod printer;
+mod printing;
+mod shown;
+mod sink;
+mod spares;
+mod writing;
+
+pub use maker::LineMaker;
+pub use printer::Printer;
+pub use printing::{print_lines, print_listing};
+pub use shown::Shown;
+pub use sink::{Lent, LineSink, Owned};
+pub use spares::{Alone, Shared, Spares};
+pub use writing::LineWrites;
