@@ -1,13 +1,13 @@
 -- The completion of an automaton, out of its encoded lists.
-use Rattle.std.proofs.Common.{◌≡◌, ℕ, ◌+◌, ◌-◌, ◌*◌, ◌<◌, Some, List, ◌∷◌, ◌++◌, length, replicate, slice_index, refl, sym, ◌∙◌, ap, subst, arith, inl, inr, add-one, length-append}
+use Rattle.std.proofs.Common.{◌≡◌, ℕ, ◌+◌, ◌-◌, ◌*◌, ◌<◌, Some, List, ◌∷◌, ◌++◌, length, map, replicate, slice_index, refl, sym, ◌∙◌, ap, subst, arith, inl, inr, add-one, length-append}
 use Rattle.std.proofs.lemmas.Bool.{cases_eq}
 use Rattle.std.proofs.lemmas.List.{get_or_append_left, get_or-append_right, get_or-replicate, length-replicate, length-map}
-use Rattle.lx_auto.specs.Automata.{IsMachine, state_count}
-use Rattle.lx_auto.specs.EncodedOptions.{decoded_option, machine_of}
+use Rattle.lx_automaton.specs.Automata.{Machine, IsMachine, state_count}
+use Rattle.lx_automaton.specs.EncodedOptions.{decoded_option, machine_of}
 use Rattle.lx_auto.specs.Completion.{total, label_of, step_of, IsComplete, IsCompletion}
 use Rattle.lx_auto.specs.declared.complete.Complete.{Complete}
-use Rattle.lx_auto.proofs.RowMajor.{suc_row}
-use Rattle.lx_auto.proofs.EncodedLists.{decoded_at, decoded_option-some}
+use Rattle.lx_automaton.proofs.RowMajor.{suc_row}
+use Rattle.lx_automaton.proofs.EncodedLists.{decoded_at, decoded_option-some}
 
 pub encoded_below : (n encoded : ℕ) → ((t : ℕ) → decoded_option encoded ≡ Some t → t < n) → encoded < n + 1
 encoded_below n encoded f = elim (cases_eq encoded 0) [
@@ -75,3 +75,9 @@ module _ (starts : List (ℕ × ℕ)) (classes : List ℕ) (width : ℕ) (accept
     labels = λ s h. ap decoded_option (label_after s) ∙ sym (decoded_at accepted s);
     steps = λ s c hs hc. ap decoded_option (step_after s c) ∙ sym (decoded_at targets (s * width + c));
   }
+
+pub completion_of_lists : (a : Machine) (accepted targets : List ℕ) (m : Complete) → IsMachine a → map decoded_option accepted ≡ a.accepted →
+    map decoded_option targets ≡ a.targets → m.width ≡ a.width → m.next.items ≡ replicate a.width 0 ++ targets → m.labels.items ≡ 0 ∷ accepted → IsCompletion a m
+completion_of_lists a accepted targets m is e f width next labels =
+    let same : machine_of a.starts a.classes a.width accepted targets ≡ a = rw (e, f) refl in
+    subst (λ q. IsCompletion q m) same (completion a.starts a.classes a.width accepted targets m (subst IsMachine (sym same) is) width next labels)

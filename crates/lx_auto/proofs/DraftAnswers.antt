@@ -8,18 +8,18 @@ use Rattle.std.proofs.lemmas.Nat.{div-add-mod', mod_below}
 use Rattle.std.proofs.lemmas.Option.{slice_get_within}
 use Rattle.std.proofs.Math.ListN as math
 use Rattle.lx_spec.specs.Plain.{PlainSpec}
-use Rattle.lx_auto.specs.Automata.{Machine, IsMachine, HasSameSteps, state_count, start_of, accepted_by, class_target, state_after, accepted_at, answer}
+use Rattle.lx_automaton.specs.Automata.{Machine, IsMachine, HasSameSteps, state_count, start_of, accepted_by, class_target, state_after, accepted_at, answer}
 use Rattle.lx_auto.specs.Drafting.{AreAllBelow, IsDrafted}
 use Rattle.lx_auto.specs.Exploring.{IsExplored, start_count, start_number}
 use Rattle.lx_auto.specs.Leaves.{PlainLeaf, AreLeavesOf, AreGroupsOf}
-use Rattle.lx_auto.specs.Meaning.{ReachesWhole, IsAnswer, IsAutomatonOf}
+use Rattle.lx_automaton.specs.Meaning.{ReachesWhole, IsAnswer, IsAutomatonOf}
 use Rattle.lx_auto.specs.PositionSets.{numbered}
 use Rattle.lx_auto.specs.PositionTables.{AreMatchedBelow}
 use Rattle.lx_auto.specs.Sets.{IsEarliestMatched}
 use Rattle.lx_auto.specs.SetTable.{Positions, set_of, IsTarget}
 use Rattle.lx_auto.specs.Simplified.{simplified_pattern}
 use Rattle.lx_auto.proofs.Drafted.{IsAfter, read_after, start_below}
-use Rattle.lx_auto.proofs.RowMajor.{in_row}
+use Rattle.lx_automaton.proofs.RowMajor.{in_row}
 use Rattle.lx_auto.proofs.Membership.{contains_nil}
 use Rattle.lx_auto.proofs.Merged.{same_answers}
 use Rattle.lx_auto.proofs.Reached.{numbered_rules}

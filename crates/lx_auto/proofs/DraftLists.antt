@@ -1,10 +1,10 @@
 -- The lists of the draft, put together.
 use Rattle.std.proofs.Common.{◌≡◌, ℕ, zero, suc, ◌+◌, ◌*◌, ◌<◌, ◌++◌, ◌∷◌, refl, Bool, true, false, List, Option, None, length, map, replicate, ap}
 use Rattle.std.specs.Option.{option_map}
-use Rattle.lx_auto.specs.Automata.{start_of}
+use Rattle.lx_automaton.specs.Automata.{start_of}
 use Rattle.lx_auto.specs.Drafting.{AreStartStates, IsDrafted}
 use Rattle.lx_auto.specs.Exploring.{start_number}
-use Rattle.lx_auto.specs.EncodedOptions.{decoded_option, machine_of}
+use Rattle.lx_automaton.specs.EncodedOptions.{decoded_option, machine_of}
 
 -- so many times nothing, encoded
 pub none_encoded : (n : ℕ) → map decoded_option (replicate n 0) ≡ replicate n None

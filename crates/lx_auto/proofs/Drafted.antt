@@ -14,9 +14,9 @@ use Rattle.lx_auto.specs.Sets.{AreFirst, AreFollowing}
 use Rattle.lx_auto.specs.Leaves.{PlainLeaf, has_byte, AreLeavesOf, AreGroupsOf}
 use Rattle.lx_auto.specs.SetTable.{Positions, set_of, IsTarget}
 use Rattle.lx_auto.specs.Exploring.{positions_with_byte, IsSource, IsExplored, start_number, start_count}
-use Rattle.lx_auto.specs.Automata.{Machine, start_of, class_target, target_of, state_after}
+use Rattle.lx_automaton.specs.Automata.{Machine, start_of, class_target, target_of, state_after}
 use Rattle.lx_auto.specs.Drafting.{IsDrafted}
-use Rattle.lx_auto.proofs.RowMajor.{in_row}
+use Rattle.lx_automaton.proofs.RowMajor.{in_row}
 use Rattle.lx_auto.proofs.Membership.{contains_nil}
 use Rattle.lx_auto.proofs.Reached.{positions_with_byte_means}
 use Rattle.lx_auto.proofs.SetStepped.{first_set, next_set}

@@ -6,17 +6,17 @@ use Rattle.std.proofs.lemmas.List.Elements.{All-head, All-tail}
 use Rattle.std.proofs.lemmas.Map.Steps.{length-le_from_distinct_below}
 use Rattle.std.proofs.lemmas.Map.Keys.{IsDistinct-from_apart}
 use Rattle.lx_spec.specs.Plain.{PlainSpec}
-use Rattle.lx_auto.specs.Automata.{Machine, IsMachine, HasSameSteps, state_count, start_of, target_of, answer_from, answer}
-use Rattle.lx_auto.specs.Equivalence.{AreEquivalentMachines, IsMinimal, HasLiveSteps}
-use Rattle.lx_auto.specs.Automata.{HasByteClasses}
-use Rattle.lx_auto.specs.Meaning.{IsAnswer, IsAutomatonOf}
-use Rattle.lx_auto.specs.EncodedOptions.{machine_of}
+use Rattle.lx_automaton.specs.Automata.{Machine, IsMachine, HasSameSteps, state_count, start_of, target_of, answer_from, answer}
+use Rattle.lx_automaton.specs.Equivalence.{AreEquivalentMachines, IsMinimal, HasLiveSteps}
+use Rattle.lx_automaton.specs.Automata.{HasByteClasses}
+use Rattle.lx_automaton.specs.Meaning.{IsAnswer, IsAutomatonOf}
+use Rattle.lx_automaton.specs.EncodedOptions.{machine_of}
 use Rattle.lx_auto.specs.Completion.{total, IsCompletion}
 use Rattle.lx_auto.specs.Partitions.{block, block_count, member_of, IsSound, IsStable}
 use Rattle.lx_auto.specs.Quotients.{AreStates, AreStarts, HaveNoDeadStart, HasDeadStart, AreRowStates, AreLabels, AreTargets}
 use Rattle.lx_auto.specs.declared.complete.Complete.{Complete}
 use Rattle.lx_auto.specs.declared.partition.Partition.{Partition}
-use Rattle.lx_auto.proofs.EncodedLists.{different}
+use Rattle.lx_automaton.proofs.EncodedLists.{different}
 use Rattle.lx_auto.proofs.Simulating.{answer_at}
 use Rattle.lx_auto.proofs.Splits.{below_from_any, blocks_at_most}
 use Rattle.lx_auto.proofs.Quotients.{q, is_machine, quotient_answers, quotient_distinguishable, quotient_live}

@@ -5,7 +5,7 @@ use Rattle.std.proofs.lemmas.List.{length-map, get_or_default}
 use Rattle.std.proofs.lemmas.Map.Steps.{length-le_from_distinct_below}
 use Rattle.std.proofs.lemmas.Map.Keys.{IsDistinct-from_apart}
 use Rattle.lx_spec.specs.Plain.{PlainSpec}
-use Rattle.lx_auto.specs.Automata.{Machine, start_of, state_after}
+use Rattle.lx_automaton.specs.Automata.{Machine, start_of, state_after}
 use Rattle.lx_auto.specs.Drafting.{IsDrafted}
 use Rattle.lx_auto.specs.Exploring.{IsExplored, start_count}
 use Rattle.lx_auto.specs.Leaves.{PlainLeaf, AreLeavesOf, AreGroupsOf}
@@ -15,7 +15,7 @@ use Rattle.lx_auto.specs.SetTable.{Positions, set_of}
 use Rattle.lx_auto.specs.Simplified.{simplified_pattern}
 use Rattle.lx_auto.proofs.Drafted.{IsAfter, read_after}
 use Rattle.lx_auto.proofs.MoreSets.{same_position_sets}
-use Rattle.lx_auto.proofs.EncodedLists.{different}
+use Rattle.lx_automaton.proofs.EncodedLists.{different}
 use Rattle.lx_auto.proofs.SetStepped.{nothing_read}
 use Rattle.lx_auto.proofs.Splits.{below_from_any}
 

@@ -7,7 +7,7 @@ use Rattle.lx_auto.specs.Partitions.{block}
 use Rattle.lx_auto.specs.Quotients.{number_of, AreStarts, AreTargets}
 use Rattle.lx_auto.specs.declared.complete.Complete.{Complete}
 use Rattle.lx_auto.specs.declared.partition.Partition.{Partition}
-use Rattle.lx_auto.proofs.RowMajor.{same_row}
+use Rattle.lx_automaton.proofs.RowMajor.{same_row}
 
 pub target_push : (m : Complete) (p : Partition) (rows targets : List ℕ) (i c x : ℕ) → AreTargets m p rows targets (i * m.width + c) → c < m.width →
     x ≡ block p (step_of m (slice_index rows i) c) → AreTargets m p rows (targets ++ x ∷ []) (i * m.width + (c + 1))

@@ -3,17 +3,17 @@ use Rattle.std.proofs.Common.{◌≡◌, ◌≢◌, ℕ, ◌+◌, ◌-◌, ◌*�
 use Rattle.std.proofs.lemmas.Bool.{cases_lt, cases_eq}
 use Rattle.std.proofs.lemmas.List.{length-map, get_or_past}
 use Rattle.std.proofs.lemmas.List.Elements.{All-head, All-tail}
-use Rattle.lx_auto.specs.Automata.{Machine, IsMachine, HasByteClasses, state_count, start_of, accepted_by, class_target, target_of, answer_from, answer}
-use Rattle.lx_auto.specs.EncodedOptions.{decoded_option}
-use Rattle.lx_auto.specs.Equivalence.{AreDistinguishable, IsLive, AreEquivalentMachines}
+use Rattle.lx_automaton.specs.Automata.{Machine, IsMachine, HasByteClasses, state_count, start_of, accepted_by, class_target, target_of, answer_from, answer}
+use Rattle.lx_automaton.specs.EncodedOptions.{decoded_option}
+use Rattle.lx_automaton.specs.Equivalence.{AreDistinguishable, IsLive, AreEquivalentMachines}
 use Rattle.lx_auto.specs.Completion.{total, label_of, step_of, after, IsComplete, IsCompletion}
 use Rattle.lx_auto.specs.Partitions.{block, block_count, IsSound, IsStable}
 use Rattle.lx_auto.specs.Quotients.{number_of, AreStarts, AreRowStates, AreLabels, AreTargets}
 use Rattle.lx_auto.specs.Simulations.{Simulates}
 use Rattle.lx_auto.specs.declared.complete.Complete.{Complete}
 use Rattle.lx_auto.specs.declared.partition.Partition.{Partition}
-use Rattle.lx_auto.proofs.RowMajor.{in_row}
-use Rattle.lx_auto.proofs.EncodedLists.{decoded_at, decoded_option-some, different}
+use Rattle.lx_automaton.proofs.RowMajor.{in_row}
+use Rattle.lx_automaton.proofs.EncodedLists.{decoded_at, decoded_option-some, different}
 use Rattle.lx_auto.proofs.Simulating.{answer_at, classes_of, answered, decoded_option-same, simulates_itself, spelled}
 
 module _ (a : Machine) (m : Complete) (p : Partition) (starts : List (ℕ × ℕ)) (rows labels targets : List ℕ)

@@ -3,12 +3,12 @@ use Rattle.std.proofs.Common.{◌≡◌, ℕ, suc, ◌+◌, ◌-◌, ◌<◌, �
 use Rattle.std.proofs.lemmas.Bool.{cases_eq}
 use Rattle.std.proofs.lemmas.Bool.Decides.{eqb_tells, nat_tests}
 use Rattle.std.proofs.lemmas.List.Elements.{All-head, All-tail, All-cons}
-use Rattle.lx_auto.specs.Automata.{Machine, IsMachine, HasByteClasses, state_after, accepted_at, are_numbered}
-use Rattle.lx_auto.specs.EncodedOptions.{decoded_option}
+use Rattle.lx_automaton.specs.Automata.{Machine, IsMachine, HasByteClasses, state_after, accepted_at, are_numbered}
+use Rattle.lx_automaton.specs.EncodedOptions.{decoded_option}
 use Rattle.lx_auto.specs.Completion.{total, label_of, step_of, after, IsCompletion}
 use Rattle.lx_auto.specs.Simulations.{Simulates}
 use Rattle.lx_auto.specs.declared.complete.Complete.{Complete}
-use Rattle.lx_auto.proofs.EncodedLists.{decoded_option-some}
+use Rattle.lx_automaton.proofs.EncodedLists.{decoded_option-some}
 
 -- the answer after a word from where a step leads
 abbrev pub answer_at : Machine → Option ℕ → List ℕ → Option ℕ

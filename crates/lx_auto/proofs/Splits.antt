@@ -8,7 +8,7 @@ use Rattle.std.proofs.lemmas.Map.Steps.{length-le_from_distinct_below}
 use Rattle.std.proofs.lemmas.Map.Keys.{IsDistinct-from_apart}
 use Rattle.std.specs.List.{list_any}
 use Rattle.std.proofs.Common.{eqb}
-use Rattle.lx_auto.proofs.EncodedLists.{different}
+use Rattle.lx_automaton.proofs.EncodedLists.{different}
 use Rattle.lx_auto.specs.Completion.{total, step_of, IsComplete, AreDistinguishableByClasses}
 use Rattle.lx_auto.specs.Partitions.{block, block_count, member_of, flag, IsSound, IsSplitter, IsMoved, IsRemaining, AreMovedStates, AreRenumbered, AreFlags, IsStableBlock}
 use Rattle.lx_auto.specs.declared.complete.Complete.{Complete}

@@ -2,7 +2,7 @@
 -- the position sets in the order of their numbers.
 use Rattle.std.specs.Prelude.{◌≡◌, ℕ, ◌+◌, ◌*◌, ◌<◌, ◌++◌, Bool, List, length, map, replicate, slice_index_or, Option, None, IfSome}
 use Rattle.std.specs.Option.{option_map}
-use Rattle.lx_auto.specs.Automata.{Machine, start_of}
+use Rattle.lx_automaton.specs.Automata.{Machine, start_of}
 use Rattle.lx_auto.specs.Exploring.{start_number}
 
 -- The draft over so many conditions: no start accepts a rule, each set accepts the rule that it matches, and a step to set j leads to

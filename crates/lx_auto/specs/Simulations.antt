@@ -1,7 +1,7 @@
 -- An automaton steps and accepts as a complete one does, whose states are encoded: as one more than the state that does so, or as 0 where nothing is accepted from there.
 use Rattle.std.specs.Prelude.{◌≡◌, ◌≢◌, ℕ, ◌-◌, ◌<◌, slice_index}
-use Rattle.lx_auto.specs.Automata.{Machine, accepted_by, class_target}
-use Rattle.lx_auto.specs.EncodedOptions.{decoded_option}
+use Rattle.lx_automaton.specs.Automata.{Machine, accepted_by, class_target}
+use Rattle.lx_automaton.specs.EncodedOptions.{decoded_option}
 use Rattle.lx_auto.specs.Completion.{total, label_of, step_of}
 use Rattle.lx_auto.specs.declared.complete.Complete.{Complete}
 

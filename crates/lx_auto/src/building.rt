@@ -2,18 +2,16 @@
 
 ghost use Rattle.std.specs.Prelude.{◌≡◌, ◌<◌, ◌≤◌, IfOk, IfErr};
 ghost use Rattle.lx_spec.specs.views.Specs.{spec_view};
-ghost use Rattle.lx_auto.specs.Automata.{IsMachine};
+ghost use Rattle.lx_automaton.specs.Automata.{IsMachine};
 ghost use Rattle.lx_auto.specs.Counts.{count_of_spec};
-ghost use Rattle.lx_auto.specs.Meaning.{IsAutomatonOf};
+ghost use Rattle.lx_automaton.specs.Meaning.{IsAutomatonOf};
 ghost use Rattle.lx_auto.specs.PositionSets.{HasMoreReachedSets};
 
-use crate::automaton::Automaton;
-use crate::classes::with_byte_classes;
-use crate::draft::Draft;
 use crate::drafting::draft_of;
 use crate::explore::explore;
 use crate::fault::BuildFault;
 use crate::spec_positions::positions_of;
+use lx_automaton::{Automaton, Draft, with_byte_classes};
 use lx_spec::read::specs_are_well_formed;
 use lx_spec::spec::Spec;
 use std::alloc::Global;

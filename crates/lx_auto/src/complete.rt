@@ -3,7 +3,7 @@
 ghost use Rattle.std.specs.Prelude.{◌≡◌, ◌<◌, ◌+◌, ◌*◌, ◌++◌, ◌∷◌, IfOk, length, replicate};
 ghost use Rattle.lx_auto.specs.Completion.{total, step_of, label_of, IsComplete, IsCompletion};
 
-use crate::automaton::Automaton;
+use lx_automaton::Automaton;
 use std::alloc::{AllocError, Global};
 
 /// An automaton that steps on every class from every state: state 0 stands for a missing step, s + 1 for the state s.
@@ -32,12 +32,13 @@ pub(crate) fn step(m: &Complete, state: usize, class: usize) -> usize
 pub(crate) fn completion_of(alloc: Global, automaton: &Automaton) -> Result<Complete, AllocError>
     ensures { IfOk result (λ m. IsCompletion automaton.now m) }
 {
-    let mut next = vec![in alloc; 0; automaton.width]?;
-    next.extend_from_slice(&automaton.targets)?;
+    let width = automaton.classes() as usize;
+    let mut next = vec![in alloc; 0; width]?;
+    next.extend_from_slice(automaton.encoded_targets())?;
     let mut labels = vec![in alloc; 0; 1]?;
-    labels.extend_from_slice(&automaton.accepted)?;
+    labels.extend_from_slice(automaton.encoded_rules())?;
     Ok(Complete {
-        width: automaton.width,
+        width,
         next,
         labels,
     })

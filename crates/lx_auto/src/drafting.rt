@@ -2,13 +2,13 @@
 
 ghost use Rattle.std.specs.Prelude.{◌≡◌, ◌+◌, ◌*◌, ◌<◌, ◌≤◌, ◌++◌, IfOk, IfSome, None, length, map, replicate};
 ghost use Rattle.std.specs.Option.{option_map};
-ghost use Rattle.lx_auto.specs.Automata.{Machine, IsMachine};
+ghost use Rattle.lx_automaton.specs.Automata.{Machine, IsMachine};
 ghost use Rattle.lx_auto.specs.Drafting.{AreAllBelow, AreStartStates, IsDrafted};
-ghost use Rattle.lx_auto.specs.EncodedOptions.{decoded_option};
+ghost use Rattle.lx_automaton.specs.EncodedOptions.{decoded_option};
 
-use crate::draft::Draft;
 use crate::explored::Explored;
 use crate::groups::Groups;
+use lx_automaton::Draft;
 use std::alloc::{AllocError, Global};
 
 // The states of the starts, two for each condition.

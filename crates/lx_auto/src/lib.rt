@@ -3,7 +3,6 @@
 #![tactic(auto)]
 
 mod active;
-pub mod automaton;
 mod block;
 mod block_steps;
 mod blocks;
@@ -11,11 +10,9 @@ pub mod building;
 mod candidates;
 mod chunk;
 mod chunking;
-pub mod classes;
 mod complete;
 mod count;
 mod definition_order;
-mod draft;
 mod drafting;
 mod explore;
 mod explored;
@@ -47,7 +44,7 @@ mod unfold;
 mod unfolded_rules;
 mod worklist;
 
-pub use crate::automaton::{Automaton, State};
 pub use crate::building::build;
 pub use crate::fault::BuildFault;
 pub use crate::merging::merge;
+pub use lx_automaton::{Automaton, State};

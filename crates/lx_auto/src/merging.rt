@@ -2,15 +2,14 @@
 
 ghost use Rattle.std.specs.Prelude.{◌≡◌, IfOk, length};
 ghost use Rattle.lx_spec.specs.Plain.{PlainSpec};
-ghost use Rattle.lx_auto.specs.Equivalence.{AreEquivalentMachines, IsMinimal, HasLiveSteps};
-ghost use Rattle.lx_auto.specs.Meaning.{IsAutomatonOf};
+ghost use Rattle.lx_automaton.specs.Equivalence.{AreEquivalentMachines, IsMinimal, HasLiveSteps};
+ghost use Rattle.lx_automaton.specs.Meaning.{IsAutomatonOf};
 
-use crate::automaton::Automaton;
-use crate::classes::with_byte_classes;
 use crate::complete::completion_of;
 use crate::partition::by_labels;
 use crate::quotient::quotient;
 use crate::split::refined;
+use lx_automaton::{Automaton, with_byte_classes};
 use std::alloc::{AllocError, Global};
 
 /// The minimal automaton with the same answers, so one of the same specification: no two of its states are equivalent, and each

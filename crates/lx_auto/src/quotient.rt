@@ -1,16 +1,15 @@
 // The automaton of the blocks of a partition.
 
 ghost use Rattle.std.specs.Prelude.{◌≡◌, ◌≢◌, ◌<◌, ◌≤◌, ◌+◌, ◌*◌, ℕ, Bool, true, false, if◌then◌else◌, IfOk, OnOk, length, slice_index};
-ghost use Rattle.lx_auto.specs.Automata.{IsMachine, state_count};
+ghost use Rattle.lx_automaton.specs.Automata.{IsMachine, state_count};
 ghost use Rattle.lx_auto.specs.Completion.{total, IsComplete, IsCompletion};
-ghost use Rattle.lx_auto.specs.Equivalence.{AreEquivalentMachines, IsMinimal, HasLiveSteps};
+ghost use Rattle.lx_automaton.specs.Equivalence.{AreEquivalentMachines, IsMinimal, HasLiveSteps};
 ghost use Rattle.lx_auto.specs.Partitions.{block, block_count, IsSound, IsStable};
 ghost use Rattle.lx_auto.specs.Quotients.{number_of, AreStates, AreStarts, HaveNoDeadStart, HasDeadStart, AreRowStates, AreLabels, AreTargets};
 
-use crate::automaton::Automaton;
 use crate::complete::{Complete, step};
-use crate::draft::Draft;
 use crate::partition::Partition;
+use lx_automaton::{Automaton, Draft};
 use std::alloc::{AllocError, Global};
 
 /// The state of the quotient for a state of the automaton.
@@ -146,11 +145,12 @@ pub(crate) fn quotient(
     ensures minimal { IfOk result (λ q. IsMinimal q) }
     ensures live { IfOk result (λ q. HasLiveSteps q) }
 {
-    let dead = has_dead_start(m, p, &automaton.starts);
+    let width = automaton.classes() as usize;
+    let dead = has_dead_start(m, p, automaton.starts());
     let rows = rows_of(alloc, p, dead)?;
-    let starts = starts_of(alloc, m, p, &automaton.starts)?;
+    let starts = starts_of(alloc, m, p, automaton.starts())?;
     let labels = labels_of(alloc, m, &rows)?;
     let targets = targets_of(alloc, m, p, &rows)?;
-    let classes = Vec::from_slice(alloc, &automaton.classes)?;
-    Ok(Draft::of(starts, classes, automaton.width, labels, targets))
+    let classes = Vec::from_slice(alloc, automaton.byte_classes())?;
+    Ok(Draft::of(starts, classes, width, labels, targets))
 }

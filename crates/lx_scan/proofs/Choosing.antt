@@ -3,7 +3,7 @@ use Rattle.std.proofs.Common.{◌≡◌, ℕ, zero, suc, ◌-◌, ◌<◌, ◌�
 use Rattle.std.specs.Prelude.{MatchOption}
 use Rattle.std.specs.Option.{option_map, option_or}
 use Rattle.std.proofs.lemmas.Bool.{cases_lt, ltb-true, lt-ltb}
-use Rattle.lx_auto.specs.Automata.{Machine, accepted_at, accepted_by, state_after, start_of, answer}
+use Rattle.lx_automaton.specs.Automata.{Machine, accepted_at, accepted_by, state_after, start_of, answer}
 use Rattle.lx_tables.specs.Model.{Table, IsTable, rule_at}
 use Rattle.lx_scan.specs.Answers.{IsByAnswers, IsAnswered, choice_of, furthest, match_after, token_len}
 

@@ -4,7 +4,7 @@ use Rattle.std.specs.Prelude.{slice_index}
 use Rattle.std.specs.List.{flat_map, range_with_len}
 use Rattle.std.proofs.lemmas.List.{get_or_append_left, get_or-append-add, length-append}
 use Rattle.std.proofs.lemmas.List.FromFn.{get_or-map-range_with_len, length-map-range_with_len}
-use Rattle.lx_auto.specs.Automata.{Machine, IsMachine, HasByteClasses, HasSameSteps, state_count, class_target, target_of}
+use Rattle.lx_automaton.specs.Automata.{Machine, IsMachine, HasByteClasses, HasSameSteps, state_count, class_target, target_of}
 use Rattle.lx_tables.specs.Model.{TableRule, Table, IsTable}
 use Rattle.lx_tables.specs.Limits.{HasLimits}
 use Rattle.lx_tables.specs.Texts.{text_1, all_bytes}

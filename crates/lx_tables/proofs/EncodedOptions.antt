@@ -4,9 +4,9 @@ use Rattle.std.specs.Prelude.{IfSome}
 use Rattle.std.proofs.lemmas.Bool.{cases_eq}
 use Rattle.std.proofs.lemmas.Bool.Decides.{eqb_tells}
 use Rattle.std.proofs.lemmas.Nat.{row_fits}
-use Rattle.lx_auto.specs.Automata.{Machine, IsMachine, HasByteClasses, class_target}
+use Rattle.lx_automaton.specs.Automata.{Machine, IsMachine, HasByteClasses, class_target}
 use Rattle.lx_tables.specs.Model.{AreByteClasses}
-use Rattle.lx_auto.specs.EncodedOptions.{decoded_option}
+use Rattle.lx_automaton.specs.EncodedOptions.{decoded_option}
 
 pub encoded_option_at : (xs : List ℕ) (i : ℕ) → slice_index_or (map decoded_option xs) i None ≡ decoded_option (slice_index xs i)
 encoded_option_at [] i = refl

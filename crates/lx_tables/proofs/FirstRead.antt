@@ -3,7 +3,7 @@ use Rattle.std.proofs.Common.{ℕ, ◌≡◌, ◌<◌, ◌+◌, Bool, true, fals
 use Rattle.std.specs.Prelude.{slice_index, codes, ◌==◌, if◌then◌else◌}
 use Rattle.std.specs.List.{flat_map, range_with_len}
 use Rattle.std.proofs.lemmas.List.{length-map, get_or-map}
-use Rattle.lx_auto.specs.Automata.{Machine, state_count, accepted_by, target_of}
+use Rattle.lx_automaton.specs.Automata.{Machine, state_count, accepted_by, target_of}
 use Rattle.lx_tables.specs.Model.{Table, IsTable}
 use Rattle.lx_tables.specs.Texts.{accepts_text, all_bytes, ranges_text, ranges_from, byte_ranges, range_text, same_value, state_line_1, states_text, text_1}
 use Rattle.lx_tables.specs.declared.version.Version.TheVariants.{First}

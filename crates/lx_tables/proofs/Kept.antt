@@ -10,7 +10,7 @@ use Rattle.lx_spec.specs.Invariant.{are_distinct, are_steps, are_conditions, is_
 use Rattle.lx_spec.specs.declared.rule.Kind.TheVariants.{Name, Number}
 use Rattle.lx_spec.specs.declared.rule.Step.{Step}
 use Rattle.lx_spec.specs.declared.rule.Step.TheVariants.{Echo, Begin, Return}
-use Rattle.lx_auto.specs.Automata.{Machine, IsMachine, HasByteClasses, accepted_by}
+use Rattle.lx_automaton.specs.Automata.{Machine, IsMachine, HasByteClasses, accepted_by}
 use Rattle.lx_tables.specs.Model.{IsTable, table_rule}
 
 left-of : (a b : Bool) → IsTrue (a && b) → IsTrue a

@@ -2,10 +2,10 @@
 use Rattle.std.proofs.Common.{◌≡◌, ℕ, ◌*◌, ◌≤◌, List, length, map, refl, ◌∙◌, arith}
 use Rattle.lx_spec.specs.Plain.{PlainSpec}
 use Rattle.lx_spec.specs.Invariant.{IsWellFormed}
-use Rattle.lx_auto.specs.Automata.{Machine, IsMachine, HasByteClasses, state_count}
-use Rattle.lx_auto.specs.Equivalence.{AreEquivalentMachines}
-use Rattle.lx_auto.specs.Meaning.{IsAutomatonOf}
-use Rattle.lx_auto.specs.EncodedOptions.{machine_of}
+use Rattle.lx_automaton.specs.Automata.{Machine, IsMachine, HasByteClasses, state_count}
+use Rattle.lx_automaton.specs.Equivalence.{AreEquivalentMachines}
+use Rattle.lx_automaton.specs.Meaning.{IsAutomatonOf}
+use Rattle.lx_automaton.specs.EncodedOptions.{machine_of}
 use Rattle.lx_tables.specs.Model.{Table, IsTable, AreTablesOf, table_rule}
 use Rattle.lx_tables.specs.Numbered.{AreAllMet, AreStarts, AreAccepted, AreRows}
 use Rattle.lx_tables.proofs.Kept.{table_kept}

@@ -2,7 +2,7 @@
 use Rattle.std.specs.Prelude.{ℕ, ◌≡◌, ◌+◌, ◌<◌, ◌≤◌, ◌==◌, ◌&&◌, ◌⊎◌, Bool, true, false, nat_lt, if◌then◌else◌, List, [], ◌∷◌, Option}
 use Rattle.std.proofs.Common.{sym, ◌∙◌, ap, ap₂, subst, arith, refl, inl, inr}
 use Rattle.std.proofs.lemmas.Bool.{ltb-true, eqb-true, and_parts, cases_eq}
-use Rattle.lx_auto.specs.Automata.{are_numbered}
+use Rattle.lx_automaton.specs.Automata.{are_numbered}
 
 -- the steps of classes: for each class and each state the state that follows
 abbrev pub Steps : Type 0

@@ -2,7 +2,7 @@
 use Rattle.std.proofs.Common.{ℕ, zero, suc, ◌≡◌, ◌<◌, ◌≤◌, ◌+◌, ◌*◌, List, [], ◌∷◌, ◌++◌, Option, None, length, map, sym, ◌∙◌, ap, ap₂, refl, arith}
 use Rattle.std.specs.Prelude.{slice_index, slice_index_or}
 use Rattle.std.specs.List.{flat_map, range_with_len}
-use Rattle.lx_auto.specs.Automata.{Machine, IsMachine, HasByteClasses, state_count, class_target, target_of}
+use Rattle.lx_automaton.specs.Automata.{Machine, IsMachine, HasByteClasses, state_count, class_target, target_of}
 use Rattle.lx_tables.proofs.Numbers.{Steps, StepAlike, AlikeBelow, one_numbering}
 use Rattle.lx_tables.proofs.RowLists.{rows_are}
 

@@ -4,7 +4,7 @@ use Rattle.std.specs.Prelude.{if◌then◌else◌, replicate, slice_index}
 use Rattle.std.specs.List.{range_with_len}
 use Rattle.std.proofs.lemmas.Bool.{ne_eqb}
 use Rattle.std.proofs.lemmas.List.{map-append}
-use Rattle.lx_auto.specs.EncodedOptions.{decoded_option}
+use Rattle.lx_automaton.specs.EncodedOptions.{decoded_option}
 use Rattle.lx_spec.specs.declared.rule.Step.{Step}
 use Rattle.lx_tables.specs.Model.{Table}
 use Rattle.lx_tables.specs.Texts.{all_bytes}

@@ -5,10 +5,10 @@ use Rattle.std.proofs.lemmas.List.{length-map, get_or_past}
 use Rattle.std.proofs.lemmas.List.Elements.{All-head, All-tail}
 use Rattle.std.proofs.lemmas.Option.{slice_get_within}
 use Rattle.lx_spec.specs.Plain.{PlainSpec}
-use Rattle.lx_auto.specs.Automata.{Machine, IsMachine, HasByteClasses, state_count, start_of, accepted_by, class_target, target_of, state_after, accepted_at, answer}
-use Rattle.lx_auto.specs.Equivalence.{AreEquivalentMachines}
-use Rattle.lx_auto.specs.Meaning.{IsAnswer, IsAutomatonOf}
-use Rattle.lx_auto.specs.EncodedOptions.{decoded_option, machine_of}
+use Rattle.lx_automaton.specs.Automata.{Machine, IsMachine, HasByteClasses, state_count, start_of, accepted_by, class_target, target_of, state_after, accepted_at, answer}
+use Rattle.lx_automaton.specs.Equivalence.{AreEquivalentMachines}
+use Rattle.lx_automaton.specs.Meaning.{IsAnswer, IsAutomatonOf}
+use Rattle.lx_automaton.specs.EncodedOptions.{decoded_option, machine_of}
 use Rattle.lx_tables.specs.Numbered.{AreAllMet, AreStarts, AreAccepted, AreRows, encoded_option_of, rule_below}
 use Rattle.lx_tables.proofs.Meeting.{all_met}
 use Rattle.lx_tables.proofs.EncodedOptions.{encoded_option_at, decoded_option-some, decoded_option-same, encoded_option_above, in_row}

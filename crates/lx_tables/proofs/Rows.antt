@@ -3,8 +3,8 @@ use Rattle.std.proofs.Common.{◌≡◌, ℕ, ◌+◌, ◌*◌, ◌<◌, List, [
 use Rattle.std.proofs.lemmas.Bool.{cases_lt}
 use Rattle.std.proofs.lemmas.List.{get_or_append_left, get_or_push, length_push}
 use Rattle.std.proofs.lemmas.Nat.{row_fits}
-use Rattle.lx_auto.specs.Automata.{Machine, accepted_by, class_target}
-use Rattle.lx_auto.specs.EncodedOptions.{decoded_option}
+use Rattle.lx_automaton.specs.Automata.{Machine, accepted_by, class_target}
+use Rattle.lx_automaton.specs.EncodedOptions.{decoded_option}
 use Rattle.lx_tables.specs.Numbered.{AreStarts, AreAccepted, AreRows, encoded_option_of, rule_below}
 
 same_row : (i j c d w : ℕ) → c < w → d < w → i * w + c ≡ j * w + d → (i ≡ j) × (c ≡ d)

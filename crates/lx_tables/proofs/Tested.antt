@@ -8,8 +8,8 @@ use Rattle.std.proofs.lemmas.List.{length-map}
 use Rattle.std.proofs.lemmas.List.Folds.{list_all-map}
 use Rattle.std.proofs.lemmas.Nat.{div-add-mod'}
 use Rattle.std.proofs.Math.Nat.{mod-lt, mul-zero, div-lt_iff_lt-mul}
-use Rattle.lx_auto.specs.Automata.{Machine, state_count, start_of, accepted_by}
-use Rattle.lx_auto.specs.EncodedOptions.{decoded_option, machine_of}
+use Rattle.lx_automaton.specs.Automata.{Machine, state_count, start_of, accepted_by}
+use Rattle.lx_automaton.specs.EncodedOptions.{decoded_option, machine_of}
 use Rattle.lx_spec.specs.Invariant.{are_steps}
 use Rattle.lx_tables.specs.Limits.{IsMachineFor, are_rules, is_start, have_lengths, are_in_range}
 use Rattle.lx_tables.specs.Views.{rule_view, rules_view}

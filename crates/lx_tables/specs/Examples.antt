@@ -2,7 +2,7 @@
 use Rattle.std.specs.Prelude.{ℕ, ◌≡◌, [], ◌∷◌, ◌++◌, Some, None, Bool, true, false, codes, replicate}
 use Rattle.lx_spec.specs.declared.rule.Kind.TheVariants.{Name}
 use Rattle.lx_spec.specs.declared.rule.Step.TheVariants.{Return}
-use Rattle.lx_auto.specs.Automata.{Machine}
+use Rattle.lx_automaton.specs.Automata.{Machine}
 use Rattle.lx_tables.specs.Model.{TableRule, Table}
 use Rattle.lx_tables.specs.Texts.{text_1, text_2}
 

@@ -3,7 +3,7 @@ use Rattle.std.specs.Prelude.{◌≡◌, ℕ, ◌*◌, ◌<◌, ◌≤◌, ◌==
 use Rattle.std.specs.List.{list_all}
 use Rattle.lx_spec.specs.Bytes.{is_identifier}
 use Rattle.lx_spec.specs.Invariant.{are_distinct, are_steps}
-use Rattle.lx_auto.specs.Automata.{Machine, IsMachine, accepted_by}
+use Rattle.lx_automaton.specs.Automata.{Machine, IsMachine, accepted_by}
 use Rattle.lx_tables.specs.Model.{TableRule, Table}
 
 -- the machine is one, and each rule that it accepts is one of so many

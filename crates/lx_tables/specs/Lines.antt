@@ -1,6 +1,6 @@
 -- The parts of lines that the printer chooses among.
 use Rattle.std.specs.Prelude.{ℕ, ◌<◌, List, ◌++◌, Option, Some, codes, slice_index}
-use Rattle.lx_auto.specs.Automata.{Machine, state_count, accepted_by, target_of}
+use Rattle.lx_automaton.specs.Automata.{Machine, state_count, accepted_by, target_of}
 use Rattle.lx_tables.specs.Texts.{byte_ranges, entries_text, accepts_text}
 use Rattle.lx_tables.specs.declared.byte_values.ByteValues.{ByteValues}
 use Rattle.lx_tables.specs.declared.byte_values.ByteValues.TheVariants.{Classes, Targets}

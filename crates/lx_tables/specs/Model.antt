@@ -6,8 +6,8 @@ use Rattle.lx_spec.specs.Plain.{PlainRule, PlainSpec}
 use Rattle.lx_spec.specs.Bytes.{is_identifier}
 use Rattle.lx_spec.specs.Invariant.{are_distinct, are_steps}
 use Rattle.lx_spec.specs.declared.rule.Step.{Step}
-use Rattle.lx_auto.specs.Automata.{Machine, IsMachine, HasByteClasses, state_count, accepted_by, target_of, are_numbered}
-use Rattle.lx_auto.specs.Meaning.{IsAutomatonOf}
+use Rattle.lx_automaton.specs.Automata.{Machine, IsMachine, HasByteClasses, state_count, accepted_by, target_of, are_numbered}
+use Rattle.lx_automaton.specs.Meaning.{IsAutomatonOf}
 
 -- a rule: whether it ends with `$`, and what its action does
 pub record TableRule : Type 0 where

@@ -1,7 +1,7 @@
 -- States of an automaton in another order.
 use Rattle.std.specs.Prelude.{◌≡◌, ◌≢◌, ℕ, ◌+◌, ◌-◌, ◌*◌, ◌<◌, ◌≤◌, ◌==◌, nat_lt, if◌then◌else◌, List, [], ◌∷◌, Option, Some, None, length, slice_index, slice_index_or}
-use Rattle.lx_auto.specs.Automata.{Machine, accepted_by, class_target}
-use Rattle.lx_auto.specs.EncodedOptions.{decoded_option}
+use Rattle.lx_automaton.specs.Automata.{Machine, accepted_by, class_target}
+use Rattle.lx_automaton.specs.EncodedOptions.{decoded_option}
 
 -- how many of the encoded options are 0
 abbrev pub zeros : List ℕ → ℕ

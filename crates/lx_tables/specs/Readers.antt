@@ -6,7 +6,7 @@ use Rattle.std.specs.Char.{is_ascii_digit}
 use Rattle.lx_spec.specs.declared.rule.Kind.TheVariants.{Name, Number}
 use Rattle.lx_spec.specs.declared.rule.Step.{Step}
 use Rattle.lx_spec.specs.declared.rule.Step.TheVariants.{Echo, Begin, Return}
-use Rattle.lx_auto.specs.Automata.{state_count, target_of}
+use Rattle.lx_automaton.specs.Automata.{state_count, target_of}
 use Rattle.lx_tables.specs.Model.{TableRule, Table}
 use Rattle.lx_tables.specs.Texts.{all_bytes}
 use Rattle.lx_tables.specs.declared.version.Version.{Version}

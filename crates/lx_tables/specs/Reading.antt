@@ -1,6 +1,6 @@
 -- What reading tables from a text tells.
 use Rattle.std.specs.Prelude.{◌≡◌, ℕ, ◌==◌, ◌⊎◌, if◌then◌else◌, List, slice_index}
-use Rattle.lx_auto.specs.Automata.{HasSameSteps}
+use Rattle.lx_automaton.specs.Automata.{HasSameSteps}
 use Rattle.lx_tables.specs.Model.{Table, IsTable}
 use Rattle.lx_tables.specs.Texts.{text_1, text_2}
 

@@ -5,7 +5,7 @@ use Rattle.std.specs.List.{flat_map, range_with_len}
 use Rattle.lx_spec.specs.declared.rule.Kind.TheVariants.{Name, Number}
 use Rattle.lx_spec.specs.declared.rule.Step.{Step}
 use Rattle.lx_spec.specs.declared.rule.Step.TheVariants.{Echo, Begin, Return}
-use Rattle.lx_auto.specs.Automata.{Machine, state_count, accepted_by, class_target, target_of}
+use Rattle.lx_automaton.specs.Automata.{Machine, state_count, accepted_by, class_target, target_of}
 use Rattle.lx_tables.specs.Model.{TableRule, Table}
 
 -- `decimal`, opened only where a proof says so

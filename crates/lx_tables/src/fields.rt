@@ -1,7 +1,7 @@
 // The fields of a table's text, read leniently: each function answers for every text, with a value and what stands behind it.
 
 ghost use Rattle.std.specs.Prelude.{◌≡◌, ◌<◌, ◌≤◌, ◌==◌, drop, slice_index};
-ghost use Rattle.lx_auto.specs.EncodedOptions.{decoded_option};
+ghost use Rattle.lx_automaton.specs.EncodedOptions.{decoded_option};
 ghost use Rattle.lx_tables.specs.Readers.{read_digits, read_count, read_start, read_line, read_kind, read_step, read_accepts, read_range, read_entry, read_run, below, within, step_of};
 
 use crate::version::Version;

@@ -2,7 +2,7 @@
 
 ghost use Rattle.std.specs.Prelude.{◌≡◌, ◌++◌, ◌≤◌, ◌/◌, IfOk, OnOk, length, map, min, replicate};
 ghost use Rattle.lx_spec.specs.views.Rules.{names_view};
-ghost use Rattle.lx_auto.specs.EncodedOptions.{decoded_option};
+ghost use Rattle.lx_automaton.specs.EncodedOptions.{decoded_option};
 ghost use Rattle.lx_tables.specs.Readers.{onto, state_onto, read_list, read_start, read_kind, read_rule, read_steps, read_front, read_row, read_state, read_lines, read_states, read_1, read_2, read_text, read_classes, class_of};
 ghost use Rattle.lx_tables.specs.Texts.{all_bytes};
 ghost use Rattle.lx_tables.specs.Views.{rule_view, rules_view, front_view, raw_view};

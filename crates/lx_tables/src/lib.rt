@@ -23,4 +23,4 @@ mod writing;
 
 pub use crate::fault::TableFault;
 pub use crate::tables::Tables;
-pub use lx_auto::State;
+pub use lx_automaton::State;

@@ -5,7 +5,7 @@ ghost use Rattle.std.specs.List.{list_all};
 ghost use Rattle.lx_spec.specs.Bytes as bytes;
 ghost use Rattle.lx_spec.specs.Invariant as invariant;
 ghost use Rattle.lx_spec.specs.views.Rules.{names_view};
-ghost use Rattle.lx_auto.specs.EncodedOptions.{machine_of};
+ghost use Rattle.lx_automaton.specs.EncodedOptions.{machine_of};
 ghost use Rattle.lx_tables.specs.Limits as limits;
 ghost use Rattle.lx_tables.specs.Limits.{AreKinds, HasLimits, IsMachineFor};
 ghost use Rattle.lx_tables.specs.Views.{raw_view, rules_view};

@@ -2,8 +2,8 @@
 
 ghost use Rattle.std.specs.Prelude.{◌≡◌, ◌<◌, ◌++◌, ℕ, List, OnOk, OnErr, codes, length};
 ghost use Rattle.std.specs.List.{flat_map};
-ghost use Rattle.lx_auto.specs.Automata.{state_count};
-ghost use Rattle.lx_auto.specs.EncodedOptions.{decoded_option};
+ghost use Rattle.lx_automaton.specs.Automata.{state_count};
+ghost use Rattle.lx_automaton.specs.EncodedOptions.{decoded_option};
 ghost use Rattle.lx_tables.specs.Lines.{value_of, HasState, targets_text, state_line};
 ghost use Rattle.lx_tables.specs.Output.{Wrote, WrotePrefix};
 ghost use Rattle.lx_tables.specs.Texts.{start_line, kind_line, step_text, line_end_text, range_text, byte_ranges, accepts_text, entries_text, entry_text, class_line};
@@ -13,7 +13,7 @@ use crate::tables::Tables;
 use crate::version::Version;
 use crate::writing::{write_bytes, write_numbered, write_parts};
 use itoa::Buffer;
-use lx_auto::State;
+use lx_automaton::State;
 use lx_spec::rule::{Kind, Step};
 use std::io::{self, Write};
 

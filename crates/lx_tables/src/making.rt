@@ -2,15 +2,15 @@
 
 ghost use Rattle.std.specs.Prelude.{IfOk};
 ghost use Rattle.lx_spec.specs.views.Specs.{spec_view};
-ghost use Rattle.lx_auto.specs.Equivalence.{AreEquivalentMachines};
-ghost use Rattle.lx_auto.specs.Meaning.{IsAutomatonOf};
+ghost use Rattle.lx_automaton.specs.Equivalence.{AreEquivalentMachines};
+ghost use Rattle.lx_automaton.specs.Meaning.{IsAutomatonOf};
 ghost use Rattle.lx_tables.specs.Model.{AreTablesOf};
 
 use crate::copying::{kinds_of, rules_of};
 use crate::reordering::{accepted_of, classes_of, rows_of, starts_of};
 use crate::state_order::state_order_of;
 use crate::tables::Tables;
-use lx_auto::Automaton;
+use lx_automaton::Automaton;
 use lx_spec::read::specs_are_well_formed;
 use lx_spec::spec::Spec;
 use std::alloc::{AllocError, Global};

@@ -2,7 +2,7 @@
 
 ghost use Rattle.std.specs.Prelude.{OnOk, OnErr, length};
 ghost use Rattle.std.specs.List.{flat_map, range_with_len};
-ghost use Rattle.lx_auto.specs.Automata.{state_count};
+ghost use Rattle.lx_automaton.specs.Automata.{state_count};
 ghost use Rattle.lx_tables.specs.Lines.{state_line};
 ghost use Rattle.lx_tables.specs.Output.{Wrote, WrotePrefix};
 ghost use Rattle.lx_tables.specs.Texts.{start_line, kind_line, rule_line, front_text, states_text, text_1, text_2};

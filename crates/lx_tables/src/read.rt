@@ -12,7 +12,7 @@ use crate::lenient::read_leniently;
 use crate::limits::has_limits;
 use crate::raw::RawTables;
 use crate::tables::Tables;
-use lx_auto::Automaton;
+use lx_automaton::Automaton;
 use std::alloc::{AllocError, Global};
 
 /// Tables of lists that were tested, over byte classes.

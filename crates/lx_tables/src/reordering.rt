@@ -1,12 +1,12 @@
 // The lists of an automaton, with its states in another order.
 
 ghost use Rattle.std.specs.Prelude.{◌≡◌, ◌<◌, ◌≤◌, ◌+◌, ◌*◌, ℕ, IfOk, OnOk, length, slice_index};
-ghost use Rattle.lx_auto.specs.Automata.{state_count, accepted_by, class_target};
-ghost use Rattle.lx_auto.specs.EncodedOptions.{decoded_option};
+ghost use Rattle.lx_automaton.specs.Automata.{state_count, accepted_by, class_target};
+ghost use Rattle.lx_automaton.specs.EncodedOptions.{decoded_option};
 ghost use Rattle.lx_tables.specs.Numbered.{AreAllMet, AreStarts, AreAccepted, AreRows, encoded_option_of, rule_below};
 
 use crate::state_order::StateOrder;
-use lx_auto::{Automaton, State};
+use lx_automaton::{Automaton, State};
 use std::alloc::{AllocError, Global};
 
 /// The new number of a state.

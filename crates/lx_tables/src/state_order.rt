@@ -2,10 +2,10 @@
 // then at line begin, each state when it is first met; then those to which the states in order step, by rising class.
 
 ghost use Rattle.std.specs.Prelude.{◌≡◌, ◌≢◌, ◌<◌, ◌≤◌, ℕ, IfOk, OnOk, length, slice_index};
-ghost use Rattle.lx_auto.specs.Automata.{state_count};
+ghost use Rattle.lx_automaton.specs.Automata.{state_count};
 ghost use Rattle.lx_tables.specs.Numbered.{AreMet, AreAllMet};
 
-use lx_auto::{Automaton, State};
+use lx_automaton::{Automaton, State};
 use std::alloc::{AllocError, Global};
 
 /// The states of an automaton in another order.

@@ -2,13 +2,13 @@
 
 ghost use Rattle.std.specs.Prelude.{◌≡◌, ◌<◌, ◌≤◌, length, IfSome, option_map, slice_index};
 ghost use Rattle.lx_spec.specs.views.Rules.{names_view};
-ghost use Rattle.lx_auto.specs.Automata.{state_count, start_of, accepted_by, class_target, target_of};
-ghost use Rattle.lx_auto.specs.EncodedOptions.{decoded_option};
+ghost use Rattle.lx_automaton.specs.Automata.{state_count, start_of, accepted_by, class_target, target_of};
+ghost use Rattle.lx_automaton.specs.EncodedOptions.{decoded_option};
 ghost use Rattle.lx_tables.specs.Model.{Table, IsTable, AreByteClasses, rule_at, kind_at};
 ghost use Rattle.lx_tables.specs.Views.{rules_view};
 
 use crate::table_rule::TableRule;
-use lx_auto::{Automaton, State};
+use lx_automaton::{Automaton, State};
 use lx_spec::rule::Step;
 use std::marker::Model;
 

@@ -2,12 +2,13 @@
 
 ghost use Rattle.std.specs.Prelude.{◌≡◌, ◌<◌, ◌≤◌, IfOk, IfErr};
 ghost use Rattle.lx_auto.specs.Counts.{count_of_spec};
-ghost use Rattle.lx_auto.specs.Equivalence.{IsMinimal, HasLiveSteps};
-ghost use Rattle.lx_auto.specs.Meaning.{IsAutomatonOf};
+ghost use Rattle.lx_automaton.specs.Equivalence.{IsMinimal, HasLiveSteps};
+ghost use Rattle.lx_automaton.specs.Meaning.{IsAutomatonOf};
 ghost use Rattle.lx_auto.specs.PositionSets.{HasMoreReachedSets};
 ghost use Rattle.lx_spec.specs.views.Specs.{spec_view};
 
-use lx_auto::{Automaton, BuildFault, build, merge};
+use lx_auto::{BuildFault, build, merge};
+use lx_automaton::Automaton;
 use lx_spec::spec::Spec;
 use std::alloc::Global;
 

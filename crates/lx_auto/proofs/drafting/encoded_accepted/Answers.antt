@@ -1,7 +1,7 @@
 use Rattle.std.proofs.Common.{◌≡◌, ℕ, None, map, replicate, rules, ◌∙◌, ap, sym}
 use Rattle.std.proofs.lemmas.List.{append-nil}
 use Rattle.lx_auto.proofs.DraftLists.{none_encoded}
-use Rattle.lx_auto.specs.EncodedOptions.{decoded_option}
+use Rattle.lx_automaton.specs.EncodedOptions.{decoded_option}
 use Rattle.lx_auto.proofs.drafting.encoded_accepted.Goals as goal
 
 pub loop-rule-init : goal.loop-rule-init

@@ -1,5 +1,5 @@
 use Rattle.std.proofs.Common.{◌≡◌, ◌++◌, None, map, replicate, take}
-use Rattle.lx_auto.specs.EncodedOptions.{decoded_option}
+use Rattle.lx_automaton.specs.EncodedOptions.{decoded_option}
 use Rattle.lx_auto.proofs.drafting.encoded_accepted.Given as goal
 
 abbrev pub invariant-loop-rule : goal.invariant-loop-rule

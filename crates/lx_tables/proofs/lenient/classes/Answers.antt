@@ -1,5 +1,5 @@
 use Rattle.std.proofs.Common.{◌∙◌, ℕ, List, Option, map, ap}
-use Rattle.lx_auto.specs.EncodedOptions.{decoded_option}
+use Rattle.lx_automaton.specs.EncodedOptions.{decoded_option}
 use Rattle.lx_tables.specs.Readers.{onto, read_row, class_of}
 use Rattle.lx_tables.specs.declared.version.Version.TheVariants.{First}
 use Rattle.lx_tables.proofs.Onto.{pair}

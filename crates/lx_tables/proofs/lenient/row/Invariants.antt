@@ -1,5 +1,5 @@
 use Rattle.std.proofs.Common.{◌≡◌, ◌≤◌, map}
-use Rattle.lx_auto.specs.EncodedOptions.{decoded_option}
+use Rattle.lx_automaton.specs.EncodedOptions.{decoded_option}
 use Rattle.lx_tables.specs.Readers.{onto, read_row}
 use Rattle.lx_tables.proofs.lenient.row.Given as goal
 

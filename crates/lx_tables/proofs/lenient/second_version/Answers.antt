@@ -1,5 +1,5 @@
 use Rattle.std.proofs.Common.{◌∙◌, map, ap}
-use Rattle.lx_auto.specs.EncodedOptions.{decoded_option}
+use Rattle.lx_automaton.specs.EncodedOptions.{decoded_option}
 use Rattle.lx_tables.specs.Readers.{read_front, read_classes, read_states}
 use Rattle.lx_tables.specs.Views.{front_view}
 use Rattle.lx_tables.specs.declared.version.Version.TheVariants.{Second}

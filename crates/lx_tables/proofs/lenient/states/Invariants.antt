@@ -1,5 +1,5 @@
 use Rattle.std.proofs.Common.{◌≡◌, ◌-◌, map}
-use Rattle.lx_auto.specs.EncodedOptions.{decoded_option}
+use Rattle.lx_automaton.specs.EncodedOptions.{decoded_option}
 use Rattle.lx_tables.specs.Readers.{read_lines, read_states}
 use Rattle.lx_tables.proofs.Onto.{lines_onto}
 use Rattle.lx_tables.proofs.lenient.states.Given as goal

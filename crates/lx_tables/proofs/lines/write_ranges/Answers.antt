@@ -1,6 +1,6 @@
 use Rattle.std.proofs.Common.{ℕ, List, ◌≡◌, ◌-◌, sym, ◌∙◌, subst, arith, [], append-nil}
 use Rattle.std.proofs.lemmas.Result.{err_from_is_err_and, on_err_weaker, on_ok_weaker}
-use Rattle.lx_auto.specs.EncodedOptions.{decoded_option}
+use Rattle.lx_automaton.specs.EncodedOptions.{decoded_option}
 use Rattle.lx_tables.specs.Lines.{value_of}
 use Rattle.lx_tables.specs.Texts.{range_text, byte_ranges}
 use Rattle.lx_tables.proofs.Written.{WroteBefore, before_all, before_more, before_prefix, before_end}

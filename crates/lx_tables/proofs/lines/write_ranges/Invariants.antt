@@ -1,5 +1,5 @@
 use Rattle.std.proofs.Common.{◌<◌, ◌≤◌, ◌-◌, drop, map}
-use Rattle.lx_auto.specs.EncodedOptions.{decoded_option}
+use Rattle.lx_automaton.specs.EncodedOptions.{decoded_option}
 use Rattle.lx_tables.specs.Lines.{value_of}
 use Rattle.lx_tables.specs.Texts.{all_bytes, ranges_from, byte_ranges}
 use Rattle.lx_tables.proofs.Written.{WroteBefore}

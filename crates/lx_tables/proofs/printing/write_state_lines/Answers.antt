@@ -1,6 +1,6 @@
 use Rattle.std.proofs.lemmas.Result.{err_from_is_err_and}
 use Rattle.std.proofs.Common.{arith}
-use Rattle.lx_auto.specs.Automata.{state_count}
+use Rattle.lx_automaton.specs.Automata.{state_count}
 use Rattle.lx_tables.specs.Lines.{state_line}
 use Rattle.lx_tables.proofs.Written.{number_next, number_prefix, number_end}
 use Rattle.lx_tables.proofs.printing.write_state_lines.Goals as goal

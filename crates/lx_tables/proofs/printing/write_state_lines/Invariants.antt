@@ -1,6 +1,6 @@
 use Rattle.std.proofs.Common.{take}
 use Rattle.std.specs.List.{flat_map, range_with_len}
-use Rattle.lx_auto.specs.Automata.{state_count}
+use Rattle.lx_automaton.specs.Automata.{state_count}
 use Rattle.lx_tables.specs.Lines.{state_line}
 use Rattle.lx_tables.specs.Output.{Wrote}
 use Rattle.lx_tables.proofs.printing.write_state_lines.Given as goal

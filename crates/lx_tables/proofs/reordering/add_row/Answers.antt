@@ -1,6 +1,6 @@
 use Rattle.std.proofs.Common.{◌∙◌, ap, arith}
 use Rattle.std.proofs.lemmas.List.{get_or_read}
-use Rattle.lx_auto.specs.Automata.{class_target}
+use Rattle.lx_automaton.specs.Automata.{class_target}
 use Rattle.lx_tables.specs.Numbered.{encoded_option_of}
 use Rattle.lx_tables.proofs.Rows.{row_push}
 use Rattle.lx_tables.proofs.reordering.add_row.Goals as goal

@@ -1,5 +1,5 @@
 use Rattle.std.proofs.Common.{◌≡◌, ◌≢◌, ◌<◌, ℕ, length, slice_index}
-use Rattle.lx_auto.specs.Automata.{state_count}
+use Rattle.lx_automaton.specs.Automata.{state_count}
 use Rattle.lx_tables.specs.Numbered.{AreMet}
 use Rattle.lx_tables.proofs.state_order.meet_others.Given as goal
 

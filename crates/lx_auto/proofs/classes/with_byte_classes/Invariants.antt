@@ -1,5 +1,0 @@
-use Rattle.lx_auto.specs.Classing.{AreNumbersBelow}
-use Rattle.lx_auto.proofs.classes.with_byte_classes.Given as goal
-
-abbrev pub invariant-loop-byte : goal.invariant-loop-byte
-invariant-loop-byte l = AreNumbersBelow l.draft l.byte l.numbers.items l.representatives.items

@@ -1,0 +1,4 @@
+pub mod RowMajor
+pub mod EncodedLists
+pub mod ClassSteps
+pub mod ClassRows

@@ -1,0 +1,5 @@
+pub mod Automata
+pub mod EncodedOptions
+pub mod Classing
+pub mod Equivalence
+pub mod Meaning

@@ -1,0 +1,213 @@
+//! Byte classes: two bytes are of one class exactly where every state steps alike on both.
+
+ghost use Rattle.std.specs.Prelude.{◌≡◌, ◌<◌, ◌≤◌, ◌+◌, ◌*◌, ◌↔◌, ℕ, IsTrue, IfOk, OnOk, IfSome, IfNone, MatchOption, length, slice_index, vec_len};
+ghost use Rattle.lx_automaton.specs.Automata.{IsMachine, HasByteClasses, HasSameSteps, state_count};
+ghost use Rattle.lx_automaton.specs.Classing.{HasSameColumns, AreNumbersBelow, IsNumberFor, AreRows};
+ghost use Rattle.lx_automaton.specs.EncodedOptions.{machine_of};
+
+use crate::automaton::Automaton;
+use crate::draft::Draft;
+use std::alloc::{AllocError, Global};
+
+// How many bytes there are.
+const BYTES: usize = 256;
+
+/// Whether one of these states steps differently on the two classes.
+fn are_distinguished(
+    draft: &Draft,
+    class: usize,
+    other: usize,
+    distinguishing_states: &[usize],
+) -> bool
+    requires class { class < draft.now.width }
+    requires other { other < draft.now.width }
+    ensures { IsTrue result → HasSameColumns draft.now class other → ⊥ }
+{
+    for state in distinguishing_states {
+        if *state < draft.states()
+            && draft.encoded_target(*state, class) != draft.encoded_target(*state, other)
+        {
+            return true;
+        }
+    }
+    false
+}
+
+/// The first state that steps differently on the two classes.
+fn first_distinguishing_state(draft: &Draft, class: usize, other: usize) -> Option<usize>
+    requires class { class < draft.now.width }
+    requires other { other < draft.now.width }
+    ensures { MatchOption result (HasSameColumns draft.now class other) (λ _. HasSameColumns draft.now class other → ⊥) }
+{
+    for state in 0..draft.states() {
+        if draft.encoded_target(state, class) != draft.encoded_target(state, other) {
+            return Some(state);
+        }
+    }
+    None
+}
+
+/// Whether every state steps alike on the two classes. States that distinguish classes are tried first; each one more of them splits
+/// the classes further, so there are at most 255, and seldom are all states gone over.
+fn has_same_columns(
+    draft: &Draft,
+    class: usize,
+    other: usize,
+    distinguishing_states: &mut Vec<usize>,
+) -> Result<bool, AllocError>
+    requires class { class < draft.now.width }
+    requires other { other < draft.now.width }
+    ensures { IfOk result (λ same. IsTrue same ↔ HasSameColumns draft.now class other) }
+{
+    if are_distinguished(draft, class, other, distinguishing_states) {
+        return Ok(false);
+    }
+    match first_distinguishing_state(draft, class, other) {
+        None => Ok(true),
+        Some(state) => {
+            distinguishing_states.push(state)?;
+            Ok(false)
+        }
+    }
+}
+
+/// The first byte below this one whose provisional class is the same.
+fn earlier_byte(draft: &Draft, byte: usize) -> Option<usize>
+    requires { byte < 256 }
+    ensures below { IfSome result (λ b. b < byte) }
+    ensures same { IfSome result (λ b. slice_index draft.now.classes b ≡ slice_index draft.now.classes byte) }
+{
+    let class = draft.class(byte);
+    for earlier in 0..byte {
+        if draft.class(earlier) == class {
+            return Some(earlier);
+        }
+    }
+    None
+}
+
+/// The number of the representative with the class's column; without one the next number.
+fn number_for(
+    draft: &Draft,
+    representatives: &[u8],
+    class: usize,
+    distinguishing_states: &mut Vec<usize>,
+) -> Result<usize, AllocError>
+    requires class { class < draft.now.width }
+    requires classes { (j : ℕ) → j < length representatives.now → slice_index representatives.now j < draft.now.width }
+    ensures { IfOk result (IsNumberFor draft.now representatives.now class) }
+{
+    for number in 0..representatives.len() {
+        if has_same_columns(
+            draft,
+            representatives[number] as usize,
+            class,
+            distinguishing_states,
+        )? {
+            return Ok(number);
+        }
+    }
+    Ok(representatives.len())
+}
+
+/// Numbers one byte more.
+fn add_byte(
+    draft: &Draft,
+    byte: usize,
+    numbers: &mut Vec<u8>,
+    representatives: &mut Vec<u8>,
+    distinguishing_states: &mut Vec<usize>,
+) -> Result<(), AllocError>
+    requires byte { byte < 256 }
+    requires numbers { AreNumbersBelow draft.now byte numbers.old.items representatives.old.items }
+    ensures { OnOk result (AreNumbersBelow draft.now (byte + 1) numbers.new.items representatives.new.items) }
+{
+    if let Some(earlier) = earlier_byte(draft, byte) {
+        let number = numbers[earlier];
+        numbers.push(number)?;
+        return Ok(());
+    }
+    let class = draft.class(byte);
+    let number = number_for(draft, representatives, class, distinguishing_states)?;
+    numbers.push(number as u8)?;
+    if number < representatives.len() {
+        return Ok(());
+    }
+    representatives.push(class as u8)?;
+    Ok(())
+}
+
+/// Adds the row of a state over the representatives.
+fn add_row(
+    draft: &Draft,
+    representatives: &[u8],
+    state: usize,
+    encoded: &mut Vec<u16>,
+) -> Result<(), AllocError>
+    requires state { state < state_count draft.now }
+    requires classes { (j : ℕ) → j < length representatives.now → slice_index representatives.now j < draft.now.width }
+    requires rows { AreRows draft.now representatives.now encoded.old.items (state * length representatives.now) }
+    ensures { OnOk result (AreRows draft.now representatives.now encoded.new.items ((state + 1) * length representatives.now)) }
+{
+    for number in 0..representatives.len() {
+        let target = draft.encoded_target(state, representatives[number] as usize);
+        encoded.push(target)?;
+    }
+    Ok(())
+}
+
+/// The rows of all states over the representatives.
+fn rows_over(alloc: Global, draft: &Draft, representatives: &[u8]) -> Result<Vec<u16>, AllocError>
+    requires classes { (j : ℕ) → j < length representatives.now → slice_index representatives.now j < draft.now.width }
+    ensures { IfOk result (λ encoded. AreRows draft.now representatives.now encoded.items (state_count draft.now * length representatives.now)) }
+{
+    let mut encoded = Vec::new(alloc);
+    for state in 0..draft.states() {
+        add_row(draft, representatives, state, &mut encoded)?;
+    }
+    Ok(encoded)
+}
+
+impl Automaton {
+    /// The automaton of these lists, as `of` has them, over its byte classes: the classes that are handed in may be finer.
+    pub fn over_byte_classes(
+        alloc: Global,
+        starts: Vec<(u32, u32)>,
+        classes: Vec<u8>,
+        width: usize,
+        accepted: Vec<u16>,
+        targets: Vec<u16>,
+    ) -> Result<Automaton, AllocError>
+        requires { IsMachine (machine_of starts.items classes.items width accepted.items targets.items) }
+        ensures machine { IfOk result (λ a. IsMachine a) }
+        ensures classes { IfOk result (λ a. HasByteClasses a) }
+        ensures steps { IfOk result (λ a. HasSameSteps (machine_of starts.items classes.items width accepted.items targets.items) a) }
+    {
+        let draft = Draft::of(starts, classes, width, accepted, targets);
+        with_byte_classes(alloc, &draft)
+    }
+}
+
+/// The automaton that steps alike, over byte classes.
+pub fn with_byte_classes(alloc: Global, draft: &Draft) -> Result<Automaton, AllocError>
+    ensures machine { IfOk result (λ a. IsMachine a) }
+    ensures classes { IfOk result (λ a. HasByteClasses a) }
+    ensures steps { IfOk result (λ a. HasSameSteps draft.now a) }
+{
+    let mut numbers = Vec::new(alloc);
+    let mut representatives = Vec::new(alloc);
+    let mut distinguishing_states = Vec::new(alloc);
+    for byte in 0..BYTES {
+        add_byte(
+            draft,
+            byte,
+            &mut numbers,
+            &mut representatives,
+            &mut distinguishing_states,
+        )?;
+    }
+    let targets = rows_over(alloc, draft, &representatives)?;
+    let starts = Vec::from_slice(alloc, &draft.starts)?;
+    let accepted = Vec::from_slice(alloc, &draft.accepted)?;
+    Ok(Automaton::of(starts, numbers, representatives.len(), accepted, targets))
+}

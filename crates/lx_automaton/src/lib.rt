@@ -1,0 +1,11 @@
+//! Deterministic automata over classes of bytes (Rabin and Scott 1959), what they answer, and how one is made of lists: what makes an
+//! automaton of a specification, or merges its states, stands above, and so does what reads one.
+#![tactic(auto)]
+
+pub mod automaton;
+pub mod classes;
+pub mod draft;
+
+pub use crate::automaton::{Automaton, State};
+pub use crate::classes::with_byte_classes;
+pub use crate::draft::Draft;
