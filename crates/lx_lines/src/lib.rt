@@ -12,7 +12,7 @@ mod writing;
 
 pub use maker::LineMaker;
 pub use printer::Printer;
-pub use printing::{print_lines, print_listing};
+pub use printing::{list_plan, print_listing};
 pub use shown::Shown;
 pub use sink::{Lent, LineSink, Owned};
 pub use spares::{Alone, Shared, Spares};

@@ -145,7 +145,16 @@ fn list_given<'a, T: Threads + Wait + Sync, S: Sources, W: Write>(
     if given.files.is_empty() {
         return Ok(given.cut);
     }
-    list_files(rt, alloc, tables, given.files, per_piece, workers, writes, out)?;
+    list_files(
+        rt,
+        alloc,
+        tables,
+        given.files,
+        per_piece,
+        workers,
+        writes,
+        out,
+    )?;
     Ok(given.cut)
 }
 
@@ -174,7 +183,9 @@ pub fn list_by_specification<'a, T: Threads + Wait + Sync, S: Sources, W: Write>
     let tables = tables_of_text(alloc, text)?;
     // its contract says what holds of all tables
     let _conditions = tables.conditions();
-    list_given(rt, alloc, tables, names, workers, per_piece, sources, writes, out)
+    list_given(
+        rt, alloc, tables, names, workers, per_piece, sources, writes, out,
+    )
 }
 
 /// Lists the files with these names by the tables whose text it is, in either version, and else as `list_by_specification` does.
@@ -199,5 +210,7 @@ pub fn list_by_tables<'a, T: Threads + Wait + Sync, S: Sources, W: Write>(
     let tables = Tables::read(alloc, text)?;
     // its contract says what holds of all tables
     let _conditions = tables.conditions();
-    list_given(rt, alloc, tables, names, workers, per_piece, sources, writes, out)
+    list_given(
+        rt, alloc, tables, names, workers, per_piece, sources, writes, out,
+    )
 }

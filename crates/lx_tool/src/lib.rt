@@ -6,17 +6,15 @@ mod failure;
 mod given;
 mod merged;
 mod planning;
-mod printing;
 mod program;
 mod reading;
 mod source;
 mod tabling;
 
 pub use failure::Failure;
-pub use lx_lines::{LineWrites, Listing};
 pub use given::{list_by_specification, list_by_tables};
+pub use lx_lines::{LineWrites, Listing, list_plan, print_listing};
 pub use planning::{list_files, listings_are_by_rules, printed_tables_list_by_rules};
-pub use printing::{list_plan, print_listing};
 pub use program::{run, run_with};
 pub use reading::read_to_end;
 pub use source::{ListSources, SourceFault, Sources};

@@ -8,8 +8,7 @@ ghost use Rattle.lx_tables.specs.Reading.{IsTextOf};
 ghost use Rattle.lx_tool.specs.Planning.{AreBytes, ListsBy, ListsPrefixBy, ListsByRules};
 ghost use Rattle.lx_tool.specs.Tabling.{AreTablesOfText};
 
-use crate::printing::list_plan;
-use lx_lines::LineWrites;
+use lx_lines::{LineWrites, list_plan};
 use lx_piece::{Input, Plan};
 use lx_post::RunFault;
 use lx_scan::ruling::items_are_by_rules;

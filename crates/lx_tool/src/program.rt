@@ -165,7 +165,16 @@ fn list_stored<'a, R: Threads + Wait + Sync, O: Write>(
     // its contract says what holds of all tables
     let _conditions = tables.conditions();
     let file = make_input(alloc, STORED_TEXT, false)?;
-    list_files(rt, alloc, tables, vec![in alloc; file]?, ITEMS, ALONE, writes, out)?;
+    list_files(
+        rt,
+        alloc,
+        tables,
+        vec![in alloc; file]?,
+        ITEMS,
+        ALONE,
+        writes,
+        out,
+    )?;
     Ok(())
 }
 
