@@ -67,11 +67,13 @@ pub fn print_lines<W: Write>(
     ensures ok { OnOk result (Appends (W.contents out.old) (W.contents out.new) (listing_of plan.now)) }
     ensures err { OnErr result (AppendsPrefix (W.contents out.old) (W.contents out.new) (listing_of plan.now)) }
 {
-    let (sink, answer) = print_to(alloc, plan, Lent { out, writes });
+    let whole = writes == LineWrites::Whole;
+    let sink = Lent { out, whole };
+    let (sink, answer) = print_to(alloc, plan, sink);
     // taken apart, so that what the writer holds in the end is known
     let Lent {
         out: _out,
-        writes: _writes,
+        whole: _whole,
     } = sink;
     answer
 }
