@@ -143,3 +143,65 @@ all_listed {S} {T} wrote taker at plan old new is plan_is first start passed all
 pub part_listed : {S T : Type 0} (wrote : S → List ℕ → S → Type 0) (taker : T) (at : T → Printing S) (plan : Planned) (old new : Passing T) → IsPlan plan → (at taker).plan ≡ plan → (at taker).turn ≡ first_turn → old ≡ record { taker = taker; counts = replicate (files_of plan) 0; faults = 0; failed = false } → Passed wrote at old new → WrotePrefix wrote (at taker).sink (listing_of plan) (at new.taker).sink
 part_listed {S} {T} wrote taker at plan old new is plan_is first start passed =
     listed_part wrote at plan (record { taker = taker; counts = replicate (files_of plan) 0; faults = 0; failed = false }) new is plan_is first refl refl (subst (λ (o : Passing T). Passed wrote at o new) start passed)
+
+-- how far a listing came, by what was handed on
+abbrev pub progress_of : {T : Type 0} → Planned → Passing T → Progress
+progress_of plan s = record { plan = plan; counts = s.counts; faults = s.faults; failed = s.failed }
+
+-- What a listing printed while pieces were handed on to its printer.
+pub prints_passed : {S T : Type 0} (plan : Planned) (old new : Passing T) (at : T → Printing S) (wrote : S → List ℕ → S → Type 0) (contents : S → Option (List ℕ)) (appends : (s t : S) (bs : List ℕ) → wrote s bs t → Appends (contents s) (contents t) bs) → IsPlan plan → (at old.taker).plan ≡ plan → (old.failed ≡ false → IsTurnBy plan old.counts (at old.taker).turn) → Passed wrote at old new → Prints (printed (progress_of plan old) (contents (at old.taker).sink)) (printed (progress_of plan new) (contents (at new.taker).sink))
+prints_passed {S} {T} plan old new at wrote contents appends is plan_is turn passed = elim (cases_Bool old.failed) [
+  | inl before ↦
+      let stopped = passed.stopped before in
+      record {
+        plan = refl;
+        bytes = [];
+        wrote = subst (λ (t : T). Appends (contents (at old.taker).sink) (contents (at t).sink) []) (sym stopped.1) (appends_nothing (contents (at old.taker).sink));
+        due = λ working. absurd (both_ways old.failed working before);
+        prefix = λ working. absurd (both_ways old.failed working before);
+        whole = λ working. absurd (both_ways old.failed working before);
+        stuck = λ working. absurd (both_ways old.failed working before);
+        stopped = λ _. (stopped.0, refl, stopped.2);
+      }
+  | inr working ↦
+      let by = turn working in
+      let at_turn = subst (λ (p : Planned). IsTurnOf p (at old.taker).turn) (sym plan_is) (turn_is plan old.counts (at old.taker).turn is by) in
+      let same = passed.same ∙ plan_is in
+      elim (cases_Bool new.failed) [
+        | inl failed ↦
+            let part = (passed.fell working failed).1 in
+            let some_open : HasOpenFile plan new.counts = subst (λ (p : Planned). HasOpenFile p new.counts) same (passed.stuck working failed) in
+            record {
+              plan = refl;
+              bytes = part.bytes;
+              wrote = appends (at old.taker).sink (at new.taker).sink part.bytes part.written;
+              due = λ _ going. absurd (both_ways new.failed going failed);
+              prefix = λ _ text due.
+                  subst (λ (bs : List ℕ). IsPrefix (bs ++ part.bytes) (listing_of plan)) (sym (due_is plan old.counts (at old.taker).turn text by due))
+                  (subst (λ (p : Planned). IsPrefix (lines_before p (at old.taker).turn ++ part.bytes) (listing_of p)) plan_is (part.prefix at_turn));
+              whole = λ _ all. absurd (some_open.2 (all some_open.0 some_open.1));
+              stuck = λ _ _. some_open;
+              stopped = λ before. absurd (both_ways old.failed working before);
+            }
+        | inr going ↦
+            let took = passed.took working going in
+            let before_is = subst (λ (p : Planned). IsTurnBy p old.counts (at old.taker).turn) (sym plan_is) by in
+            let after_by = subst (λ (p : Planned). IsTurnBy p new.counts (at new.taker).turn) same (passed.turned working going before_is) in
+            let joined : lines_before plan (at old.taker).turn ++ took.bytes ≡ lines_before plan (at new.taker).turn =
+            subst (λ (p : Planned). lines_before p (at old.taker).turn ++ took.bytes ≡ lines_before p (at new.taker).turn) plan_is (took.due at_turn) in
+            let text_is : (text : List ℕ) → IsDue plan old.counts text → text ++ took.bytes ≡ lines_before plan (at new.taker).turn =
+            λ text due. ap (λ bs. bs ++ took.bytes) (due_is plan old.counts (at old.taker).turn text by due) ∙ joined in
+            let due_then : (text : List ℕ) → IsDue plan old.counts text → IsDue plan new.counts (text ++ took.bytes) =
+            λ text due. subst (λ (bs : List ℕ). IsDue plan new.counts bs) (sym (text_is text due)) (due_by_turn plan new.counts (at new.taker).turn is after_by) in
+            record {
+              plan = refl;
+              bytes = took.bytes;
+              wrote = appends (at old.taker).sink (at new.taker).sink took.bytes took.written;
+              due = λ _ _ text due. due_then text due;
+              prefix = λ _ text due. due_begins plan new.counts (text ++ took.bytes) (due_then text due);
+              whole = λ _ all text due. due_whole plan new.counts (text ++ took.bytes) all (due_then text due);
+              stuck = λ _ failed. absurd (both_ways new.failed going failed);
+              stopped = λ before. absurd (both_ways old.failed working before);
+            }
+      ]
+]

@@ -1,13 +1,13 @@
 -- What a printer writes, which takes pieces in the plan's order.
-use Rattle.std.specs.Prelude.{ℕ, ◌≡◌, List, ◌++◌}
+use Rattle.std.specs.Prelude.{ℕ, ◌≡◌, Bool, false, List, ◌++◌}
 use Rattle.lx_piece.specs.declared.reader.ReaderFault.{ReaderFault}
 use Rattle.lx_piece.specs.declared.reader.ReaderFault.TheVariants.{Memory}
-use Rattle.lx_piece.specs.Plans.{Planned}
+use Rattle.lx_piece.specs.Plans.{Planned, IsPlan}
 use Rattle.lx_piece.specs.declared.piece.Piece.{Piece}
-use Rattle.lx_piece.specs.Pieces.{IsPrefix, is_cut_short}
-use Rattle.lx_piece.specs.Turns.{Turn}
+use Rattle.lx_piece.specs.Pieces.{IsPrefix, ItemPiece, is_cut_short}
+use Rattle.lx_piece.specs.Turns.{Turn, IsTurnBy}
 use Rattle.lx_lines.specs.Lines.{cut_lines, lines_of}
-use Rattle.lx_lines.specs.Shown.{ShownItems}
+use Rattle.lx_lines.specs.Shown.{ShownItems, shown}
 use Rattle.lx_lines.specs.Listings.{AreWhole, IsTurnOf, lines_before, listing_of}
 
 -- a prefix of these bytes was written
@@ -45,3 +45,13 @@ pub record PrintsPart {S : Type 0} (wrote : S → List ℕ → S → Type 0) (ol
 -- the lines of a piece that carries what is shown of it
 abbrev pub shown_lines : Piece ShownItems → List ℕ
 shown_lines piece = lines_of piece.items.plan piece.file piece.items.items ++ cut_lines piece.file (is_cut_short piece)
+
+-- the same piece, with its items as what a listing's pieces carry
+abbrev pub as_shown : Planned → ItemPiece → Piece ShownItems
+as_shown plan piece = record { run = piece.run; file = piece.file; number = piece.number; mark = piece.mark; items = shown plan piece.file piece.items }
+
+-- what holds of a listing between two calls
+pub record IsInStep (plan own : Planned) (turn : Turn) (counts : List ℕ) (failed : Bool) : Type 0 where
+  pub same : own ≡ plan
+  pub plan_is : IsPlan plan
+  pub turn_is : failed ≡ false → IsTurnBy plan counts turn

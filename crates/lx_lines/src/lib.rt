@@ -2,6 +2,7 @@
 #![tactic(auto)]
 
 mod line;
+mod listing;
 mod maker;
 mod printer;
 mod printing;
@@ -10,6 +11,7 @@ mod sink;
 mod spares;
 mod writing;
 
+pub use listing::Listing;
 pub use maker::LineMaker;
 pub use printer::Printer;
 pub use printing::{list_plan, print_listing};

@@ -49,7 +49,8 @@ impl<W: Write> LineSink for Owned<W> {
 #[derive(Drop)]
 pub struct Lent<'w, W: Write> {
     pub out: &'w mut W,
-    pub writes: LineWrites,
+    /// Whether a block goes out in one write, or each line by itself.
+    pub whole: bool,
 }
 
 impl<'w, W: Write> LineSink for Lent<'w, W> {
@@ -61,7 +62,12 @@ impl<'w, W: Write> LineSink for Lent<'w, W> {
     ghost wrote = { λ s bytes t. Appends (W.contents s.out.now) (W.contents t.out.now) bytes × (t.out.ghost_name ≡ s.out.ghost_name) };
 
     fn write_lines(&mut self, block: &[u8]) -> Result<(), ReaderFault> {
-        write_block(self.out, self.writes, block)
+        let writes = if self.whole {
+            LineWrites::Whole
+        } else {
+            LineWrites::EachLine
+        };
+        write_block(self.out, writes, block)
     }
 
     ghost wrote_nothing = { λ s. (appends_nothing (W.contents s.out.now), refl) };
