@@ -134,7 +134,11 @@ pub fn list_plan<T: Threads + Wait + Sync, W: Write>(
     ensures ok { OnOk result (Appends (W.contents out.old) (W.contents out.new) (listing_of plan.now)) }
     ensures err { OnErr result (AppendsPrefix (W.contents out.old) (W.contents out.new) (listing_of plan.now)) }
 {
-    let sink = Lent { out, writes };
+    let mut writes = writes;
+    let sink = Lent {
+        out,
+        writes: &mut writes,
+    };
     let (sink, answer) = if workers == 0 {
         print_to(alloc, plan, sink)
     } else {
@@ -154,9 +158,10 @@ pub fn print_listing<W: Write>(alloc: Global, plan: &Plan, out: &mut W) -> Resul
     ensures ok { OnOk result (Appends (W.contents out.old) (W.contents out.new) (listing_of plan.now)) }
     ensures err { OnErr result (AppendsPrefix (W.contents out.old) (W.contents out.new) (listing_of plan.now)) }
 {
+    let mut writes = LineWrites::EachLine;
     let sink = Lent {
         out,
-        writes: LineWrites::EachLine,
+        writes: &mut writes,
     };
     let (sink, answer) = print_to(alloc, plan, sink);
     // taken apart, so that what the writer holds in the end is known
