@@ -121,7 +121,10 @@ pub fn settle_all<W: Wait, G, M: Maker + Drop>(
     context.draw_for_all(idle, &mut ended)?;
     take_apart(ended, &mut parts)?;
     let RunContext {
-        rt, claims, post, ..
+        rt,
+        claims,
+        post,
+        ..
     } = context;
     let Parts { seats, passes } = parts;
     let Ok(_files) = claims.settle(seats) else {

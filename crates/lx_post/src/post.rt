@@ -113,7 +113,11 @@ impl<M: Maker> Post<M> {
     }
 
     // A pass for the next worker.
-    fn add_worker(&self, pass: &mut Pass<Note<M::Made>, PassView<M::Made>>, worker: u8) -> SendPass<M::Made>
+    fn add_worker(
+        &self,
+        pass: &mut Pass<Note<M::Made>, PassView<M::Made>>,
+        worker: u8,
+    ) -> SendPass<M::Made>
         requires post { (pass.old.table_id ≡ self.now.queue) × (pass.old.me.1 ≡ []) }
         requires next { (view pass.old ≡ taker (view pass.old).plan worker [] no_worker []) × (worker < max_workers) }
         ensures post { (pass.new.table_id ≡ self.now.queue) × (pass.new.me.1 ≡ []) }
