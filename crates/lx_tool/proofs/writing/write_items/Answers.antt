@@ -1,7 +1,7 @@
 use Rattle.std.proofs.Common.{sym, ◌∙◌, take}
 use Rattle.std.proofs.lemmas.Result.{err_from_is_err_and}
 use Rattle.lx_scan.specs.declared.item.Item.TheVariants.{Token}
-use Rattle.lx_spec.specs.declared.rule.Kind.TheVariants.{Name}
+use Rattle.lx_rules.specs.declared.rule.Kind.TheVariants.{Name}
 use Rattle.lx_tool.specs.Lines.{line_of}
 use Rattle.lx_tool.proofs.Appending.{appends_next, prefix_next}
 use Rattle.lx_tool.proofs.WholeLines.{wrote_both, wrote_kept, wrote_lines}
