@@ -1,7 +1,8 @@
-use Rattle.std.specs.Prelude.{ℕ, ◌≡◌, ◌+◌, ◌<◌, ◌≤◌, ◌==◌, Bool, false, ◌||◌, nat_lt, is_some, List, [], Option, Some, None, Contains, length, slice_get, slice_set, map, sum_by, if◌then◌else◌}
+use Rattle.std.specs.Prelude.{ℕ, ◌≡◌, ◌+◌, ◌<◌, ◌≤◌, ◌==◌, Bool, true, false, ◌||◌, nat_lt, is_some, List, [], ◌∷◌, Option, Some, None, Contains, length, slice_get, slice_set, map, sum_by, if◌then◌else◌}
 use Rattle.std.specs.Ordering.{nat_cmp}
 use Rattle.std.specs.BTreeMap.{is_at}
 use Rattle.std.specs.BTreeSet.{BTreeSet, contains}
+use Rattle.std.specs.List.{list_any}
 use Rattle.std.specs.Map.{lookup}
 use Rattle.lx_piece.specs.declared.piece.Piece.{Piece}
 use Rattle.lx_piece.specs.declared.reply.Why.{Why}
@@ -16,6 +17,11 @@ pub record Buffered (C : Type 0) : Type 0 where
   pub closing : Option ℕ
   pub truncated : Option ℕ
   pub held : List (ℕ × Piece C)
+
+-- the pieces of these numbers and, in front of them, the next one
+abbrev pub with_next : {C : Type 0} → ℕ → Option (Piece C) → List (ℕ × Piece C) → List (ℕ × Piece C)
+with_next next None pieces = pieces
+with_next next (Some piece) pieces = (next, piece) ∷ pieces
 
 -- what a collector keeps
 pub record Kept (C : Type 0) : Type 0 where
@@ -82,6 +88,13 @@ closing_with closing p = if is_closing p then Some p.number else closing
 abbrev pub truncated_with : {C : Type 0} → Option ℕ → Piece C → Option ℕ
 truncated_with truncated p = if is_cut_short p then Some p.number else truncated
 
+-- p is held besides, and nothing else has changed
+pub record HoldsPiece {C : Type 0} (old : Buffered C) (p : Piece C) (new : Buffered C) : Type 0 where
+  pub next : new.next ≡ old.next
+  pub closing : new.closing ≡ old.closing
+  pub truncated : new.truncated ≡ old.truncated
+  pub held : (n : ℕ) → held_at new n ≡ (if n == p.number then Some p else held_at old n)
+
 -- the buffer holds p besides
 pub record KeepsPiece {C : Type 0} (old : Buffered C) (p : Piece C) (new : Buffered C) : Type 0 where
   pub next : new.next ≡ old.next
@@ -116,10 +129,24 @@ pub record KeepsIn {C : Type 0} (old : List (Buffered C)) (p : Piece C) (new : L
   pub keeps : KeepsPiece buffer p kept
   pub after : new ≡ slice_set old p.file kept
 
--- the set has the files whose next piece is held
-pub record IsReadySet {C : Type 0} (buffers : List (Buffered C)) (ready : BTreeSet ℕ) : Type 0 where
+-- these and, in front of them, the lowest
+abbrev pub with_lowest : Option ℕ → List ℕ → List ℕ
+with_lowest None files = files
+with_lowest (Some lowest) files = lowest ∷ files
+
+-- the others are above the lowest, and none where there is no lowest
+abbrev pub AreAbove : Option ℕ → BTreeSet ℕ → Type 0
+AreAbove None others = (file : ℕ) → contains nat_cmp others file ≡ false
+AreAbove (Some lowest) others = (file : ℕ) → contains nat_cmp others file ≡ true → lowest < file
+
+-- whether the file is among these
+abbrev pub has_file : List ℕ → ℕ → Bool
+has_file files file = list_any (is_at (nat_cmp file)) files
+
+-- these are the files whose next piece is held
+pub record IsReadySet {C : Type 0} (buffers : List (Buffered C)) (ready : List ℕ) : Type 0 where
   pub few : length buffers ≤ max_files
-  pub each : (g : ℕ) → contains nat_cmp ready g ≡ is_ready_at (slice_get buffers g)
+  pub each : (g : ℕ) → has_file ready g ≡ is_ready_at (slice_get buffers g)
 
 -- what is kept of a file of which nothing came
 abbrev pub fresh_buffer : {C : Type 0} → Buffered C

@@ -7,16 +7,16 @@ ghost use Rattle.lx_piece.specs.Kept.{Buffered, StandsFor, Delivers, NoneReady, 
 
 use crate::items::Items;
 use crate::piece::Piece;
+use crate::ready_files::ReadyFiles;
 use crate::reorder_buffer::ReorderBuffer;
 use crate::reply::{Refused, Why};
 use std::alloc::{AllocError, Global};
-use std::collections::BTreeSet;
 use std::marker::Model;
 
 /// Holds the piece in its file's buffer. It comes back where memory is refused.
 fn keep_in<C: Drop>(
     buffers: &mut Vec<ReorderBuffer<C>>,
-    ready: &mut BTreeSet<u32>,
+    ready: &mut ReadyFiles,
     piece: Piece<C>,
 ) -> Result<(), Piece<C>>
     requires file { piece.file < length buffers.old.items }
@@ -37,7 +37,7 @@ fn keep_in<C: Drop>(
         Ok(()) => Ok(()),
         Err(piece) => {
             if is_next {
-                ready.remove(&file);
+                ready.remove(file);
             }
             Err(piece)
         }
@@ -47,17 +47,17 @@ fn keep_in<C: Drop>(
 /// Hands on the next piece of the lowest file that holds it.
 fn deliver_lowest<C: Drop>(
     buffers: &mut Vec<ReorderBuffer<C>>,
-    ready: &mut BTreeSet<u32>,
+    ready: &mut ReadyFiles,
 ) -> Option<Piece<C>>
     requires { IsReadySet buffers.old.items ready.old }
     ensures delivered { MatchOption result (NoneReady buffers.old.items × (buffers.new.items ≡ buffers.old.items)) (λ p. (file : ℕ) × Delivers buffers.old.items file p buffers.new.items) }
     ensures ready_set { IsReadySet buffers.new.items ready.new }
 {
-    let file = *ready.first()?;
+    let file = ready.first()?;
     let buffer = &mut buffers[file as usize];
     let piece = buffer.deliver()?;
     if !buffer.is_ready() {
-        ready.remove(&file);
+        ready.remove(file);
     }
     Some(piece)
 }
@@ -77,7 +77,7 @@ fn fresh_buffers<C: Drop>(alloc: Global, files: u32) -> Result<Vec<ReorderBuffer
 pub struct Collector<C = Items> {
     run: u64,
     buffers: Vec<ReorderBuffer<C>>,
-    ready: BTreeSet<u32>,
+    ready: ReadyFiles,
 }
 
 impl<C> Model for Collector<C> {
@@ -113,7 +113,7 @@ impl<C: Drop> Collector<C> {
         Ok(Collector {
             run,
             buffers: fresh_buffers(alloc, files)?,
-            ready: BTreeSet::new(alloc),
+            ready: ReadyFiles::new(alloc),
         })
     }
 

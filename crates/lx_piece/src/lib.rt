@@ -16,6 +16,7 @@ mod plan;
 mod plan_pieces;
 mod reader;
 mod reader_of;
+mod ready_files;
 mod relaying;
 mod reorder_buffer;
 mod reply;

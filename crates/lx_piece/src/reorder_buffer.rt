@@ -1,8 +1,8 @@
-ghost use Rattle.std.specs.Prelude.{◌≡◌, ◌<◌, ℕ, List, OnOk, IfErr, IfNone, IfSome, IsTrue, IsSome, None, false};
+ghost use Rattle.std.specs.Prelude.{◌≡◌, ◌<◌, ◌≤◌, ℕ, List, OnOk, IfErr, IfNone, IfSome, IsTrue, IsSome, None, false};
 ghost use Rattle.lx_piece.specs.declared.piece.Piece.{Piece};
 ghost use Rattle.lx_piece.specs.Arrivals.{cause_among};
 ghost use Rattle.lx_piece.specs.Pieces.{top_number};
-ghost use Rattle.lx_piece.specs.Kept.{BufferStandsFor, held_at, has_number, is_ready, Advances, KeepsPiece, closed_before, is_buffer_closed, is_buffer_truncated, fresh_buffer};
+ghost use Rattle.lx_piece.specs.Kept.{BufferStandsFor, held_at, has_number, is_ready, Advances, HoldsPiece, KeepsPiece, closed_before, is_buffer_closed, is_buffer_truncated, fresh_buffer};
 
 use crate::piece::Piece;
 use crate::reply::Why;
@@ -29,22 +29,27 @@ pub(crate) struct ReorderBuffer<C> {
     closing: Option<u64>,
     /// The same, where that piece is marked Cut.
     truncated: Option<u64>,
-    /// The pieces that were accepted and not yet delivered, by their numbers.
-    held: BTreeMap<u64, Piece<C>>,
+    /// The next piece, where it was accepted while it was the next: mostly each one is, and then none takes memory.
+    ready: Option<Piece<C>>,
+    /// The other pieces that were accepted and not yet delivered, by their numbers.
+    later: BTreeMap<u64, Piece<C>>,
 }
 
 impl<C> Model for ReorderBuffer<C> {
-    ghost use Rattle.std.specs.Prelude.{ℕ, ◌<◌, IsSome};
+    ghost use Rattle.std.specs.Prelude.{ℕ, ◌<◌, ◌≡◌, IsSome, None};
     ghost use Rattle.std.specs.Ordering.{nat_cmp};
     ghost use Rattle.std.specs.BTreeMap.{get};
     ghost use Rattle.lx_piece.specs.Pieces.{top_number};
-    ghost use Rattle.lx_piece.specs.Kept.{Buffered};
+    ghost use Rattle.lx_piece.specs.Kept.{Buffered, with_next};
 
     ghost Value = { Buffered C };
 
-    ghost view = { λ s. record { next = s.next; closing = s.closing; truncated = s.truncated; held = s.held.entries } };
+    ghost view = { λ s. record { next = s.next; closing = s.closing; truncated = s.truncated; held = with_next s.next s.ready s.later.entries } };
 
-    ghost invariant = { λ s. (n : ℕ) → IsSome (get nat_cmp s.held n) → n < top_number };
+    ghost invariant = { λ s.
+        ((n : ℕ) → IsSome (get nat_cmp s.later n) → n < top_number)
+        × (IsSome s.ready → s.next < top_number)
+        × (IsSome s.ready → get nat_cmp s.later s.next ≡ None) };
 }
 
 impl<C: Drop> ReorderBuffer<C> {
@@ -56,7 +61,8 @@ impl<C: Drop> ReorderBuffer<C> {
             next: 0,
             closing: None,
             truncated: None,
-            held: BTreeMap::new(alloc),
+            ready: None,
+            later: BTreeMap::new(alloc),
         }
     }
 
@@ -64,7 +70,9 @@ impl<C: Drop> ReorderBuffer<C> {
     fn has(&self, number: u64) -> bool
         ensures { result ≡ has_number self.now number }
     {
-        number < self.next || self.held.contains_key(&number)
+        number < self.next
+            || (number == self.next && self.ready.is_some())
+            || self.later.contains_key(&number)
     }
 
     /// The closing number is known, and below this one.
@@ -74,12 +82,13 @@ impl<C: Drop> ReorderBuffer<C> {
         is_below(self.closing, number)
     }
 
-    /// A piece of a greater number is held.
+    /// A piece of a greater number is held. The one of this number wasn't delivered.
     fn holds_later(&self, number: u64) -> bool
+        requires { self.now.next ≤ number }
         ensures yes { IsTrue result → (later : ℕ) × (number < later) × IsSome (held_at self.now later) }
         ensures no { result ≡ false → (later : ℕ) → number < later → held_at self.now later ≡ None }
     {
-        match self.held.last_key_value() {
+        match self.later.last_key_value() {
             Some((greatest, _)) => number < *greatest,
             None => false,
         }
@@ -103,27 +112,41 @@ impl<C: Drop> ReorderBuffer<C> {
         None
     }
 
+    // Puts the piece among those that are held. It comes back where memory is refused, and nothing has changed then.
+    fn hold(&mut self, piece: Piece<C>) -> Result<(), Piece<C>>
+        requires countable { piece.number < top_number }
+        requires new { has_number self.old piece.number ≡ false }
+        ensures ok { OnOk result (HoldsPiece self.old piece self.new) }
+        ensures err { IfErr result (λ back. (back ≡ piece) × (self.new ≡ self.old)) }
+    {
+        if piece.number == self.next {
+            self.ready = Some(piece);
+            return Ok(());
+        }
+        match self.later.insert(piece.number, piece) {
+            Ok(_) => Ok(()),
+            Err(refused) => Err(refused.value.1),
+        }
+    }
+
     /// Holds the piece. It comes back where memory is refused, and nothing has changed then.
     pub(crate) fn keep(&mut self, piece: Piece<C>) -> Result<(), Piece<C>>
-        requires { piece.number < top_number }
+        requires countable { piece.number < top_number }
+        requires new { has_number self.old piece.number ≡ false }
         ensures ok { OnOk result (KeepsPiece self.old piece self.new) }
         ensures err { IfErr result (λ back. (back ≡ piece) × (self.new ≡ self.old)) }
     {
         let number = piece.number;
         let closes = piece.is_closing();
         let is_truncated = piece.is_cut_short();
-        match self.held.insert(number, piece) {
-            Ok(_) => {
-                if closes {
-                    self.closing = Some(number);
-                }
-                if is_truncated {
-                    self.truncated = Some(number);
-                }
-                Ok(())
-            }
-            Err(refused) => Err(refused.value.1),
+        self.hold(piece)?;
+        if closes {
+            self.closing = Some(number);
         }
+        if is_truncated {
+            self.truncated = Some(number);
+        }
+        Ok(())
     }
 
     /// Takes the next piece out, if it is held.
@@ -132,7 +155,10 @@ impl<C: Drop> ReorderBuffer<C> {
         ensures none { IfNone result (self.new ≡ self.old) }
         ensures some { IfSome result (λ _. Advances self.old self.new) }
     {
-        let piece = self.held.remove(&self.next)?;
+        let piece = match self.ready.take() {
+            Some(piece) => piece,
+            None => self.later.remove(&self.next)?,
+        };
         self.next += 1;
         Some(piece)
     }
@@ -148,7 +174,7 @@ impl<C: Drop> ReorderBuffer<C> {
     pub(crate) fn is_ready(&self) -> bool
         ensures { result ≡ is_ready self.now }
     {
-        self.held.contains_key(&self.next)
+        self.ready.is_some() || self.later.contains_key(&self.next)
     }
 
     /// The closing piece was delivered.
