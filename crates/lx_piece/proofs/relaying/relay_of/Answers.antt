@@ -1,5 +1,5 @@
-use Rattle.std.proofs.Common.{◌<◌, sym, ◌∙◌, subst, ap, [], refl}
-use Rattle.std.specs.Prelude.{slice_get}
+use Rattle.std.proofs.Common.{◌≡◌, ◌<◌, sym, ◌∙◌, subst, ap, [], refl, Err, arith}
+use Rattle.std.specs.Prelude.{Result, slice_get}
 use Rattle.std.proofs.lemmas.List.Elements.{All-nil}
 use Rattle.std.proofs.lemmas.Result.{err_from_is_err_and}
 use Rattle.lx_piece.specs.Plans.{Planned}
@@ -88,3 +88,22 @@ returns-in_err-deliver_all-clause-err g c =
 
 pub deliver_all-requires-clause-per_piece : goal.deliver_all-requires-clause-per_piece
 deliver_all-requires-clause-per_piece g c = subst (λ (plan : Planned). 0 < plan.per_piece) (sym c.loop-piece.invariant.reader_plan) c.files.ensures.plan.some_items
+
+pub returns-in_err-deliver_all-clause-follows : goal.returns-in_err-deliver_all-clause-follows
+returns-in_err-deliver_all-clause-follows g c = g.met.R.ReaderOf.follows_on _ _ _ c.loop-piece.invariant.follows c.in_err-deliver_all.ensures.follows
+
+-- an answer has one fault
+same_fault : {X E : Type 0} (answer : Result X E) (fault other : E) → answer ≡ Err fault → answer ≡ Err other → fault ≡ other
+same_fault answer fault other is also = cc
+
+pub returns-in_err-deliver_all-clause-reader_fault : goal.returns-in_err-deliver_all-clause-reader_fault
+returns-in_err-deliver_all-clause-reader_fault g c = λ e.
+    let p = err_from_is_err_and c.from_residual-in_err-deliver_all.result c.from_residual-in_err-deliver_all.ensures.1 in
+    let same = c.loop-piece.invariant.faults in
+    let more = c.in_err-deliver_all.ensures.reader (ap Err (sym p.2 ∙ same_fault _ _ _ p.1 e)) in
+    omega arith
+
+pub returns-in_err-deliver_all-clause-memory : goal.returns-in_err-deliver_all-clause-memory
+returns-in_err-deliver_all-clause-memory g c = λ e.
+    let p = err_from_is_err_and c.from_residual-in_err-deliver_all.result c.from_residual-in_err-deliver_all.ensures.1 in
+    c.in_err-deliver_all.ensures.memory (ap Err (sym p.2 ∙ same_fault _ _ _ p.1 e)) ∙ c.loop-piece.invariant.faults

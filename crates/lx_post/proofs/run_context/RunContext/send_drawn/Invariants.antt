@@ -6,5 +6,5 @@ abbrev pub invariant-loop : goal.invariant-loop
 invariant-loop g l = record {
   seat : IsSeatOf l.self.claims l.seat;
   pass : SendsPieces l.initial.pass l.pass;
-  drawn : HasDrawn g.M.Maker.made l.self.plan l.files l.seat l.pass;
+  drawn : HasDrawn g.M.Maker.made l.self.plan.now l.files l.seat l.pass;
 }
