@@ -1,15 +1,15 @@
 -- Pieces handed on in the plan's order: those of a file that wait, and those of the files behind it.
-use Rattle.std.proofs.Common.{ℕ, zero, suc, ◌≡◌, ◌≢◌, ◌+◌, ◌<◌, ◌≤◌, ◌==◌, inl, inr, Bool, true, false, List, [], ◌∷◌, ◌++◌, refl, sym, ◌∙◌, ap, subst, arith, length, get_or, replicate, append_assoc, append-nil, add-one, Global}
+use Rattle.std.proofs.Common.{ℕ, zero, suc, ◌≡◌, ◌≢◌, ◌+◌, ◌<◌, ◌≤◌, ◌==◌, inl, inr, Bool, true, false, List, [], ◌∷◌, ◌++◌, refl, sym, ◌∙◌, ap, subst, arith, length, get_or, replicate, append_assoc, add-one, Global}
 use Rattle.std.specs.Prelude.{slice_index, slice_set}
 use Rattle.std.specs.declared.collections.VecDeque.{VecDeque}
-use Rattle.std.proofs.lemmas.Bool.{both_ways, cases_eq, cases_lt, eqb-true, eqb-false, eq-eqb, ne_eqb}
+use Rattle.std.proofs.lemmas.Bool.{both_ways, cases_eq, cases_lt, eqb-true, eqb-false, ne_eqb}
 use Rattle.std.proofs.lemmas.List.{get_or-map, map-set, length-map, length_push, length-append, length-replicate, get_or-replicate, get_or-set_other, get_or-set_same, get_or_past, get_or_append_left, get_or_default}
 use Rattle.std.proofs.Math.ListN.{length-set}
 use Rattle.std.proofs.Math.Seq.{get_or-append_seam}
 use Rattle.lx_piece.specs.declared.piece.Piece.{Piece}
 use Rattle.lx_piece.specs.declared.reader.ReaderFault.{ReaderFault}
-use Rattle.lx_piece.specs.Plans.{Planned, IsPlan, files_of}
-use Rattle.lx_piece.specs.Pieces.{Making, IsPieceBy, is_closing, piece_by, pieces_by, pieces_of, top_number}
+use Rattle.lx_piece.specs.Plans.{Planned, files_of}
+use Rattle.lx_piece.specs.Pieces.{Making, is_closing, piece_by, pieces_by, pieces_of}
 use Rattle.lx_piece.specs.PieceLaws.{marked_last}
 use Rattle.lx_piece.specs.Relayed.{IsNextPieceBy}
 use Rattle.lx_piece.specs.Turns.{Turn, HasTurn, IsFirstOpen, IsTurnBy, turn_after, turn_at}

@@ -1,9 +1,9 @@
 -- The turn of a piece, and the one behind it.
-use Rattle.std.proofs.Common.{ℕ, ◌≡◌, ◌+◌, ◌<◌, nat_eq, if◌then◌else◌, refl, ap, arith, ◌∙◌}
+use Rattle.std.proofs.Common.{ℕ, ◌≡◌, ◌+◌, ◌<◌, if◌then◌else◌, ap, arith}
 use Rattle.std.proofs.lemmas.Bool.{eq-eqb, ne_eqb}
 use Rattle.lx_piece.specs.Plans.{Planned}
 use Rattle.lx_piece.specs.Pieces.{pieces_of}
-use Rattle.lx_piece.specs.Turns.{Turn, turn_at}
+use Rattle.lx_piece.specs.Turns.{turn_at}
 
 -- where pieces of the file are left it is the turn of the next one
 pub turn_left : (plan : Planned) (file count : ℕ) → count < pieces_of plan file → turn_at plan file count ≡ record { file = file; number = count }

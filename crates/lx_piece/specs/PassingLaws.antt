@@ -1,6 +1,6 @@
 -- What a reader that hands pieces on in order did between two states, and between the second and a third one.
-use Rattle.std.specs.Prelude.{◌≡◌, Bool, true, false, List, ℕ, refl}
-use Rattle.std.proofs.Common.{inl, inr, sym, ◌∙◌, ap, subst}
+use Rattle.std.specs.Prelude.{List, ℕ, refl}
+use Rattle.std.proofs.Common.{inl, inr, sym, ◌∙◌, subst}
 use Rattle.std.proofs.lemmas.Bool.{both_ways, cases_Bool}
 use Rattle.lx_piece.specs.declared.reader.ReaderFault.{ReaderFault}
 use Rattle.lx_piece.specs.Plans.{Planned}

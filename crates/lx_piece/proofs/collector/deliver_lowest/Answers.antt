@@ -1,4 +1,4 @@
-use Rattle.std.proofs.Common.{sym, ◌∙◌, ap, refl, false, cond, nat_cmp}
+use Rattle.std.proofs.Common.{sym, ◌∙◌, ap, refl, false, cond}
 use Rattle.std.proofs.lemmas.Bool.{ne_eqb, eq-eqb}
 use Rattle.std.proofs.lemmas.Option.{slice_get_within}
 use Rattle.lx_piece.specs.Kept.{has_file}

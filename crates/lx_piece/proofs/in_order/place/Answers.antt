@@ -1,4 +1,4 @@
-use Rattle.std.proofs.Common.{ℕ, sym, ◌∙◌, subst, ◌+◌}
+use Rattle.std.proofs.Common.{sym, ◌∙◌, subst, ◌+◌}
 use Rattle.std.proofs.lemmas.Result.{IfOk-weaker}
 use Rattle.lx_piece.specs.Plans.{Planned}
 use Rattle.lx_piece.specs.Passing.{KeepsUp, TookWaiting, counted, queued}

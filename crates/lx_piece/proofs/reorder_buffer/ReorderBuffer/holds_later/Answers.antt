@@ -1,7 +1,5 @@
-use Rattle.std.proofs.Common.{rules, ◌∙◌, sym, ap, nat_lt, Some, subst}
-use Rattle.std.specs.Prelude.{IsSome}
+use Rattle.std.proofs.Common.{rules}
 use Rattle.std.proofs.lemmas.Bool.{ltb-true}
-use Rattle.lx_piece.specs.Kept.{held_at}
 use Rattle.lx_piece.proofs.reorder_buffer.ReorderBuffer.holds_later.Goals as goal
 
 pub returns-in-Some-clause-yes : goal.returns-in-Some-clause-yes
