@@ -39,4 +39,9 @@ impl Items {
     {
         self.list.as_slice()
     }
+
+    /// For how many items there is memory.
+    pub(crate) fn capacity(&self) -> usize {
+        self.list.capacity()
+    }
 }

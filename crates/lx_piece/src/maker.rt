@@ -53,6 +53,6 @@ impl Maker for KeepItems {
     }
 
     fn weight(made: &Items) -> u64 {
-        ITEM.saturating_mul(made.as_slice().len() as u64)
+        ITEM.saturating_mul(made.capacity() as u64)
     }
 }
