@@ -41,15 +41,6 @@ pub fresh_turn : (plan : Planned) (counts : List ℕ) (turn : Turn) → counts �
 fresh_turn plan counts turn e t =
     subst (λ (u : Turn). IsTurnBy plan counts u) (sym t) (record { first = fresh_open plan counts e; number = sym (fresh_count plan counts e) })
 
-pub fresh_due : (plan : Planned) (counts : List ℕ) → IsPlan plan → counts ≡ replicate (files_of plan) 0 → IsDue plan counts []
-fresh_due plan counts is e =
-    record {
-      plan_is = is;
-      first = 0;
-      first_open = fresh_open plan counts e;
-      lines = sym (ap (λ (count : ℕ). taken_lines plan 0 count) (fresh_count plan counts e));
-    }
-
 -- the turn by counts of pieces taken is one of the plan
 pub turn_is : (plan : Planned) (counts : List ℕ) (turn : Turn) → IsPlan plan → IsTurnBy plan counts turn → IsTurnOf plan turn
 turn_is plan counts turn is by =
