@@ -52,9 +52,6 @@ texts_more text xs i d l =
     ∙ flat_map-append text (take i xs) (get_or xs i d ∷ [])
     ∙ ap (λ bs. flat_map text (take i xs) ++ bs) (append-nil (text (get_or xs i d)))
 
-pub appends_next : {X : Type 0} (text : X → List ℕ) (a b c : Option (List ℕ)) (xs : List X) (i : ℕ) (d : X) → i < length xs → Appends a b (flat_map text (take i xs)) → Appends b c (text (get_or xs i d)) → Appends a c (flat_map text (take (i + 1) xs))
-appends_next text a b c xs i d l h k = subst (λ (bs : List ℕ). Appends a c bs) (sym (texts_more text xs i d l)) (appends_both a b c (flat_map text (take i xs)) (text (get_or xs i d)) h k)
-
 -- the texts of the first elements, and then a prefix of that of the next
 pub prefix_next : {X : Type 0} (text : X → List ℕ) (a b c : Option (List ℕ)) (xs : List X) (i : ℕ) (d : X) → i < length xs → Appends a b (flat_map text (take i xs)) → AppendsPrefix b c (text (get_or xs i d)) → AppendsPrefix a c (flat_map text xs)
 prefix_next text a b c xs i d l h k =

@@ -1,5 +1,5 @@
 -- One call of a listing, which hands a piece on.
-use Rattle.std.proofs.Common.{ℕ, ◌≡◌, inl, inr, Bool, true, false, List, sym, ◌∙◌, subst}
+use Rattle.std.proofs.Common.{ℕ, inl, inr, List, sym, ◌∙◌, subst}
 use Rattle.std.proofs.lemmas.Bool.{both_ways, cases_Bool}
 use Rattle.lx_piece.specs.Passing.{Passing}
 use Rattle.lx_piece.specs.Plans.{Planned}

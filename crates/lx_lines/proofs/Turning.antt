@@ -1,6 +1,5 @@
 -- The lines of a piece stand between its turn and the next one.
-use Rattle.std.proofs.Common.{ℕ, ◌≡◌, ◌+◌, ◌<◌, ◌≤◌, suc, nat_eq, ◌==◌, if◌then◌else◌, inl, inr, Bool, true, false, List, [], ◌++◌, refl, sym, ◌∙◌, ap, subst, arith, add-one, append_assoc, append-nil}
-use Rattle.std.specs.Prelude.{OnErr}
+use Rattle.std.proofs.Common.{ℕ, ◌≡◌, ◌+◌, ◌<◌, suc, ◌==◌, if◌then◌else◌, inl, inr, Bool, true, false, List, ◌++◌, refl, sym, ◌∙◌, ap, subst, arith, add-one, append_assoc, append-nil}
 use Rattle.std.proofs.lemmas.Bool.{cases_eq, eq-eqb, ne_eqb}
 use Rattle.lx_piece.specs.declared.piece.Piece.{Piece}
 use Rattle.lx_piece.specs.declared.reader.ReaderFault.{ReaderFault}
@@ -9,10 +8,10 @@ use Rattle.lx_piece.specs.Pieces.{IsPrefix, is_closing, piece_at, piece_by, piec
 use Rattle.lx_piece.specs.PieceLaws.{marked_last}
 use Rattle.lx_piece.specs.Plans.{Planned, IsPlan, files_of}
 use Rattle.lx_piece.specs.Turns.{HasTurn, Turn, turn_after}
-use Rattle.lx_lines.specs.Lines.{file_lines, piece_lines}
+use Rattle.lx_lines.specs.Lines.{piece_lines}
 use Rattle.lx_lines.specs.Listings.{AreWhole, IsTurnOf, lines_before, listing_of, listing_to, taken_lines}
 use Rattle.lx_lines.specs.ListingLaws.{lines_one, prefix_behind, prefix_then, whole_lines}
-use Rattle.lx_lines.specs.Printing.{Printing, PrintsPart, PrintsTo, WrotePrefix, shown_lines}
+use Rattle.lx_lines.specs.Printing.{PrintsPart, PrintsTo, WrotePrefix, shown_lines}
 use Rattle.lx_lines.specs.PrintingLaws.{turn_begins}
 use Rattle.lx_lines.specs.Shown.{ShownItems, shown}
 use Rattle.lx_lines.proofs.WholeLines.{piece_whole}

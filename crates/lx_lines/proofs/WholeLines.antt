@@ -1,10 +1,10 @@
-use Rattle.std.proofs.Common.{ℕ, ◌≡◌, inl, inr, Bool, true, false, List, [], ◌∷◌, ◌++◌, Option, refl, sym, ◌∙◌, ap, subst, append_assoc, append-nil}
+use Rattle.std.proofs.Common.{ℕ, ◌≡◌, inl, inr, Bool, true, false, List, [], ◌∷◌, ◌++◌, Option, refl, sym, append_assoc}
 use Rattle.std.specs.Prelude.{codes, decimal}
-use Rattle.std.specs.Io.KnownBytes.{Appends, Keeps}
+use Rattle.std.specs.Io.KnownBytes.{Keeps}
 use Rattle.lx_scan.specs.declared.item.Item.{Item}
 use Rattle.lx_piece.specs.Pieces.{ItemPiece, is_cut_short}
 use Rattle.lx_piece.specs.Plans.{Planned}
-use Rattle.lx_lines.specs.Lines.{cut_lines, line_of, lines_of, piece_lines, pieces_lines}
+use Rattle.lx_lines.specs.Lines.{cut_lines, line_of, lines_of, piece_lines}
 use Rattle.lx_lines.specs.Listings.{AreWhole, AppendsWhole}
 use Rattle.lx_lines.specs.ListingLaws.{appends_both, appends_nothing}
 use Rattle.lx_lines.specs.PrintingLaws.{whole_both}
@@ -27,22 +27,6 @@ cut_whole file true = inr (decimal file ++ codes " ! cut", sym (append_assoc (de
 
 pub piece_whole : (plan : Planned) (file : ℕ) (piece : ItemPiece) → AreWhole (piece_lines plan file piece)
 piece_whole plan file piece = whole_both (lines_of plan file piece.items) (cut_lines file (is_cut_short piece)) (lines_whole plan file piece.items) (cut_whole file (is_cut_short piece))
-
-pub pieces_whole : (plan : Planned) (file : ℕ) (pieces : List ItemPiece) → AreWhole (pieces_lines plan file pieces)
-pieces_whole plan file [] = inl refl
-pieces_whole plan file (piece ∷ pieces) = whole_both (piece_lines plan file piece) (pieces_lines plan file pieces) (piece_whole plan file piece) (pieces_whole plan file pieces)
-
--- the lines of items were written
-pub wrote_lines : (plan : Planned) (file : ℕ) (items : List Item) (a b : Option (List ℕ)) → Appends a b (lines_of plan file items) → AppendsWhole a b
-wrote_lines plan file items a b h = (lines_of plan file items, lines_whole plan file items, h)
-
--- those of a piece
-pub wrote_piece : (plan : Planned) (file : ℕ) (piece : ItemPiece) (a b : Option (List ℕ)) → Appends a b (piece_lines plan file piece) → AppendsWhole a b
-wrote_piece plan file piece a b h = (piece_lines plan file piece, piece_whole plan file piece, h)
-
--- those of pieces
-pub wrote_pieces : (plan : Planned) (file : ℕ) (pieces : List ItemPiece) (a b : Option (List ℕ)) → Appends a b (pieces_lines plan file pieces) → AppendsWhole a b
-wrote_pieces plan file pieces a b h = (pieces_lines plan file pieces, pieces_whole plan file pieces, h)
 
 -- nothing was written
 pub wrote_nothing : (a : Option (List ℕ)) → AppendsWhole a a

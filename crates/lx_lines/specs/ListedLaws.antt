@@ -1,17 +1,16 @@
 -- What was written by a printer to which a plan's pieces were handed on in order.
-use Rattle.std.proofs.Common.{ℕ, ◌≡◌, ◌+◌, ◌<◌, ◌≤◌, inl, inr, Bool, true, false, List, [], ◌++◌, Option, refl, sym, ◌∙◌, ap, subst, arith, length, replicate, append-nil}
+use Rattle.std.proofs.Common.{ℕ, ◌≡◌, inl, inr, false, List, [], ◌++◌, Option, refl, sym, ◌∙◌, ap, subst, arith, length, replicate}
 use Rattle.std.specs.Prelude.{slice_index}
 use Rattle.std.specs.Io.KnownBytes.{Appends}
 use Rattle.std.proofs.lemmas.Bool.{both_ways, cases_Bool, cases_lt, cases_order}
 use Rattle.std.proofs.lemmas.List.{get_or-replicate, get_or_past, length-replicate}
-use Rattle.lx_piece.specs.declared.reader.ReaderFault.{ReaderFault}
 use Rattle.lx_piece.specs.Passing.{Passing, PassesOn}
-use Rattle.lx_piece.specs.Pieces.{IsPrefix, pieces_of}
+use Rattle.lx_piece.specs.Pieces.{IsPrefix}
 use Rattle.lx_piece.specs.Plans.{Planned, IsPlan, files_of}
 use Rattle.lx_piece.specs.Relayed.{AreAllTaken, HasOpenFile}
 use Rattle.lx_piece.specs.Turns.{Turn, IsFirstOpen, IsTurnBy, first_turn}
-use Rattle.lx_lines.specs.Listings.{IsDue, IsTurnOf, Printed, Prints, Progress, lines_before, listing_of, listing_to, printed, taken_lines}
-use Rattle.lx_lines.specs.ListingLaws.{appends_nothing, due_begins, due_whole, prefix_all}
+use Rattle.lx_lines.specs.Listings.{IsDue, IsTurnOf, Prints, Progress, lines_before, listing_of, listing_to, printed, taken_lines}
+use Rattle.lx_lines.specs.ListingLaws.{appends_nothing, due_begins, due_whole}
 use Rattle.lx_lines.specs.Printing.{Printing, PrintsTo, PrintsPart, WrotePrefix}
 use Rattle.lx_lines.specs.PrintingLaws.{turn_begins}
 
@@ -40,15 +39,6 @@ fresh_count plan counts e = elim (cases_lt 0 (files_of plan)) [
 pub fresh_turn : (plan : Planned) (counts : List ℕ) (turn : Turn) → counts ≡ replicate (files_of plan) 0 → turn ≡ first_turn → IsTurnBy plan counts turn
 fresh_turn plan counts turn e t =
     subst (λ (u : Turn). IsTurnBy plan counts u) (sym t) (record { first = fresh_open plan counts e; number = sym (fresh_count plan counts e) })
-
-pub fresh_due : (plan : Planned) (counts : List ℕ) → IsPlan plan → counts ≡ replicate (files_of plan) 0 → IsDue plan counts []
-fresh_due plan counts is e =
-    record {
-      plan_is = is;
-      first = 0;
-      first_open = fresh_open plan counts e;
-      lines = sym (ap (λ (count : ℕ). taken_lines plan 0 count) (fresh_count plan counts e));
-    }
 
 -- the turn by counts of pieces taken is one of the plan
 pub turn_is : (plan : Planned) (counts : List ℕ) (turn : Turn) → IsPlan plan → IsTurnBy plan counts turn → IsTurnOf plan turn

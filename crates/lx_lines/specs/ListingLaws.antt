@@ -29,9 +29,6 @@ appends_both (Some a) (Some b) (Some c) xs ys h k = k ∙ (ap (λ bs. bs ++ ys) 
 pub prefix_all : {X : Type 0} (xs : List X) → IsPrefix xs xs
 prefix_all xs = ([], append-nil xs)
 
-pub prefix_none : {X : Type 0} (xs : List X) → IsPrefix [] xs
-prefix_none xs = (xs, refl)
-
 pub prefix_then : {X : Type 0} (xs ys zs : List X) → IsPrefix xs ys → IsPrefix ys zs → IsPrefix xs zs
 prefix_then xs ys zs f h = (f.0 ++ h.0, sym (append_assoc xs f.0 h.0) ∙ ap (λ l. l ++ h.0) f.1 ∙ h.1)
 

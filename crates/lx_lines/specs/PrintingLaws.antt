@@ -1,8 +1,8 @@
-use Rattle.std.proofs.Common.{ℕ, ◌≡◌, ◌+◌, ◌<◌, ◌≤◌, inl, inr, Bool, List, [], ◌∷◌, ◌++◌, refl, sym, ◌∙◌, ap, subst, arith, append_assoc, append-nil}
+use Rattle.std.proofs.Common.{ℕ, ◌≡◌, inl, inr, List, [], ◌∷◌, ◌++◌, refl, sym, ◌∙◌, ap, subst, arith, append_assoc, append-nil}
 use Rattle.std.proofs.lemmas.Bool.{cases_lt}
 use Rattle.lx_piece.specs.declared.reader.ReaderFault.{ReaderFault}
 use Rattle.lx_piece.specs.declared.reader.ReaderFault.TheVariants.{Memory}
-use Rattle.lx_piece.specs.Plans.{Planned, IsPlan, files_of}
+use Rattle.lx_piece.specs.Plans.{Planned, files_of}
 use Rattle.lx_piece.specs.Pieces.{IsPrefix}
 use Rattle.lx_piece.specs.Turns.{Turn}
 use Rattle.lx_lines.specs.Listings.{AreWhole, IsTurnOf, lines_before, listing_of, listing_to, taken_lines}

@@ -12,10 +12,5 @@ mod spares;
 mod writing;
 
 pub use listing::Listing;
-pub use maker::LineMaker;
-pub use printer::Printer;
 pub use printing::{list_plan, print_listing};
-pub use shown::Shown;
-pub use sink::{Lent, LineSink, Owned};
-pub use spares::{Alone, Shared, Spares};
 pub use writing::LineWrites;

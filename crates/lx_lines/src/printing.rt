@@ -134,11 +134,7 @@ pub fn list_plan<T: Threads + Wait + Sync, W: Write>(
     ensures ok { OnOk result (Appends (W.contents out.old) (W.contents out.new) (listing_of plan.now)) }
     ensures err { OnErr result (AppendsPrefix (W.contents out.old) (W.contents out.new) (listing_of plan.now)) }
 {
-    let mut writes = writes;
-    let sink = Lent {
-        out,
-        writes: &mut writes,
-    };
+    let sink = Lent { writes, out };
     let (sink, answer) = if workers == 0 {
         print_to(alloc, plan, sink)
     } else {
@@ -146,8 +142,8 @@ pub fn list_plan<T: Threads + Wait + Sync, W: Write>(
     };
     // taken apart, so that what the writer holds in the end is known
     let Lent {
-        out: _out,
         writes: _writes,
+        out: _out,
     } = sink;
     answer
 }
@@ -158,16 +154,15 @@ pub fn print_listing<W: Write>(alloc: Global, plan: &Plan, out: &mut W) -> Resul
     ensures ok { OnOk result (Appends (W.contents out.old) (W.contents out.new) (listing_of plan.now)) }
     ensures err { OnErr result (AppendsPrefix (W.contents out.old) (W.contents out.new) (listing_of plan.now)) }
 {
-    let mut writes = LineWrites::EachLine;
     let sink = Lent {
+        writes: LineWrites::EachLine,
         out,
-        writes: &mut writes,
     };
     let (sink, answer) = print_to(alloc, plan, sink);
     // taken apart, so that what the writer holds in the end is known
     let Lent {
-        out: _out,
         writes: _writes,
+        out: _out,
     } = sink;
     answer
 }

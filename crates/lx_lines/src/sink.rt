@@ -45,12 +45,12 @@ impl<W: Write> LineSink for Owned<W> {
     ghost wrote_on = { λ s t u xs ys f h. appends_both (W.contents s.out) (W.contents t.out) (W.contents u.out) xs ys f h };
 }
 
-/// A writer that is lent. It stays the same one, so that what it holds in the end is known. (Its fields are all lent: the prover knows what a
-/// writer holds in the end only where nothing but `&mut` stands beside it.)
+/// A writer that is lent. It stays the same one, so that what it holds in the end is known. (It is the last field: the prover loses a writer
+/// that stands before another field.)
 #[derive(Drop)]
 pub struct Lent<'w, W: Write> {
+    pub writes: LineWrites,
     pub out: &'w mut W,
-    pub writes: &'w mut LineWrites,
 }
 
 impl<'w, W: Write> LineSink for Lent<'w, W> {
@@ -62,7 +62,7 @@ impl<'w, W: Write> LineSink for Lent<'w, W> {
     ghost wrote = { λ s bytes t. Appends (W.contents s.out.now) (W.contents t.out.now) bytes × (t.out.ghost_name ≡ s.out.ghost_name) };
 
     fn write_lines(&mut self, block: &[u8]) -> Result<(), ReaderFault> {
-        write_block(self.out, *self.writes, block)
+        write_block(self.out, self.writes, block)
     }
 
     ghost wrote_nothing = { λ s. (appends_nothing (W.contents s.out.now), refl) };

@@ -90,12 +90,19 @@ impl Spares for Alone {
 // So many pieces are on their way before workers make lines.
 const MANY: u64 = 8;
 
+// A list or a block. One type for both, since the prover refuses a function with queues of two types.
+#[derive(Drop)]
+enum Spare {
+    List(Vec<Item>),
+    Block(Vec<u8>),
+}
+
 /// What the workers and the printer share.
 #[derive(Drop)]
 pub struct Shared<'r, R: Wait> {
     rt: &'r R,
-    lists: ArrayQueue<Vec<Item>>,
-    blocks: ArrayQueue<Vec<u8>>,
+    lists: ArrayQueue<Spare>,
+    blocks: ArrayQueue<Spare>,
     pieces: AtomicU64,
 }
 
@@ -115,19 +122,25 @@ impl<'r, R: Wait> Shared<'r, R> {
 
 impl<'r, R: Wait> Spares for Shared<'r, R> {
     fn take_list(&self) -> Option<Vec<Item>> {
-        self.lists.pop(self.rt)
+        match self.lists.pop(self.rt) {
+            Some(Spare::List(list)) => Some(list),
+            _ => None,
+        }
     }
 
     fn give_list(&self, list: Vec<Item>) {
-        let _refused = self.lists.push(self.rt, list);
+        let _refused = self.lists.push(self.rt, Spare::List(list));
     }
 
     fn take_block(&self) -> Option<Vec<u8>> {
-        self.blocks.pop(self.rt)
+        match self.blocks.pop(self.rt) {
+            Some(Spare::Block(block)) => Some(block),
+            _ => None,
+        }
     }
 
     fn give_block(&self, block: Vec<u8>) {
-        let _refused = self.blocks.push(self.rt, block);
+        let _refused = self.blocks.push(self.rt, Spare::Block(block));
     }
 
     fn send(&self) {

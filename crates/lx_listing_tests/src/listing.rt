@@ -7,7 +7,7 @@ use lx_fixtures::{
 };
 use lx_piece::{ListArrivals, Reader, ReaderFault, relay};
 use lx_post::RunFault;
-use lx_tool::{Listing, list_files, print_listing};
+use lx_tool::{LineWrites, Listing, list_files, list_plan, print_listing};
 use std::test::Fail;
 
 #[test]
@@ -33,13 +33,56 @@ fn lists_files_by_tables(rt: HostRuntime) -> Result<(), Fail> {
         let tables = tables_of(alloc, MIXED_RULES)?;
         let files = inputs(alloc, MIXED_FILES.as_slice())?;
         let mut out = Vec::new(alloc);
-        list_files(&rt, alloc, tables, files, per_piece, 2, &mut out)?;
+        list_files(
+            &rt,
+            alloc,
+            tables,
+            files,
+            per_piece,
+            2,
+            LineWrites::Whole,
+            &mut out,
+        )?;
         assert_eq!(rt;
             out.as_slice(),
             MIXED_LISTING.as_bytes(),
             "by 2 workers, with {per_piece} items a piece"
         );
     }
+    Ok(())
+}
+
+/// Of the five files of the mixed listing the second one has no lines.
+#[test]
+fn writes_each_line_or_each_block_by_itself(rt: HostRuntime) -> Result<(), Fail> {
+    let alloc = rt.alloc();
+    let plan = mixed_plan(alloc, 256)?;
+    for (writes, calls) in [(LineWrites::EachLine, 14), (LineWrites::Whole, 4)] {
+        for workers in [0, 2] {
+            let mut out = failing_writer(alloc, 4_096, 0, false);
+            list_plan(&rt, alloc, &plan, workers, writes, &mut out)?;
+            assert_eq!(rt;
+                out.held.as_slice(),
+                MIXED_LISTING.as_bytes(),
+                "{writes:?}, {workers} workers"
+            );
+            assert_eq!(rt; out.calls, calls, "{writes:?}, {workers} workers");
+        }
+    }
+    Ok(())
+}
+
+#[test]
+fn leaves_whole_blocks_where_the_writer_fails(rt: HostRuntime) -> Result<(), Fail> {
+    let alloc = rt.alloc();
+    let plan = plan_of(alloc, NO_RULES, &[(b"hi", true), (b"hi", false)], 256)?;
+    let mut out = failing_writer(alloc, 4_096, 2, false);
+    let ended = list_plan(&rt, alloc, &plan, 0, LineWrites::Whole, &mut out);
+    assert!(rt; ended == Err(RunFault::Reader) && out.calls == 2);
+    assert_eq!(rt;
+        out.held.as_slice(),
+        b"0 E - 1 0 1 h\n0 E - 1 1 1 i\n0 ! cut\n"
+    );
     Ok(())
 }
 

@@ -34,7 +34,7 @@ static STORED_TEXT: &[u8] = b"ab 12\n";
 /// the tables or the help go to `out`, which is flushed, and what went wrong to `err`, whose own faults change nothing.
 /// The result is the exit status: 0, all was done; 1, the specification was refused, or is too large for an automaton, or the tables
 /// were refused; 2, the command line was refused; 3, a file can't be read, or all was listed and a file was cut short; 4, the output
-/// failed; 5, memory was refused, or a thread.
+/// failed; 5, memory was refused.
 /// Each line of a listing goes out in a write of its own.
 pub fn run<R: Threads + Wait + Sync, S: Sources, O: Write, E: Write>(
     rt: &R,
