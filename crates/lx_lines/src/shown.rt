@@ -105,7 +105,7 @@ impl Shown {
     /// How many bytes of memory it takes, about.
     pub(crate) fn weight(&self) -> u64 {
         match &self.form {
-            Form::Bare(items) => ITEM.saturating_mul(items.len() as u64),
+            Form::Bare(items) => ITEM.saturating_mul(items.capacity() as u64),
             Form::Lines(block) => block.capacity() as u64,
         }
     }
