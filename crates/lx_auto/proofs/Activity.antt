@@ -2,9 +2,9 @@
 use Rattle.std.proofs.Common.{◌≡◌, ℕ, zero, suc, ◌+◌, ◌≤◌, ◌<◌, ◌↔◌, inl, inr, Bool, true, List, [], ◌∷◌, ◌++◌, Some, length, get_or, map, sym, ◌∙◌, ap, subst, arith}
 use Rattle.std.proofs.lemmas.Bool.{cases_lt}
 use Rattle.std.specs.Prelude.{slice_get}
-use Rattle.lx_spec.specs.Plain.{PlainRule, PlainSpec}
-use Rattle.lx_spec.specs.declared.rule.Rule.{Rule}
-use Rattle.lx_spec.specs.views.Rules.{rule_view}
+use Rattle.lx_rules.specs.Plain.{PlainRule, PlainSpec}
+use Rattle.lx_rules.specs.declared.rule.Rule.{Rule}
+use Rattle.lx_rules.specs.views.Rules.{rule_view}
 use Rattle.lx_auto.specs.Marking.{flag}
 use Rattle.lx_auto.specs.Starts.{IsActiveAt}
 use Rattle.lx_auto.specs.Following.{AreActive, AreActiveBelow}

@@ -8,11 +8,11 @@ use Rattle.std.proofs.lemmas.Bool.Decides.{nat_tests}
 use Rattle.std.proofs.lemmas.List.{append-nil}
 use Rattle.std.proofs.lemmas.List.Folds.{list_all-append}
 use Rattle.lx_ere.specs.Regex.{Regex, nil, one_of, then, or, times, named}
-use Rattle.lx_spec.specs.Names.{names_of}
-use Rattle.lx_spec.specs.Nesting.{tree_named, holds_of, is_no_name, is_within}
-use Rattle.lx_spec.specs.Plain.{PlainDefinition}
-use Rattle.lx_spec.specs.views.Rules.{definition_view}
-use Rattle.lx_spec.specs.declared.definition.Definition.{Definition}
+use Rattle.lx_rules.specs.Names.{names_of}
+use Rattle.lx_rules.specs.Nesting.{tree_named, holds_of, is_no_name, is_within}
+use Rattle.lx_rules.specs.Plain.{PlainDefinition}
+use Rattle.lx_rules.specs.views.Rules.{definition_view}
+use Rattle.lx_rules.specs.declared.definition.Definition.{Definition}
 use Rattle.lx_auto.specs.Unfolded.{Unfolded, empty, leaf}
 use Rattle.lx_auto.specs.Nodes.{PlainNode, nodes_of}
 use Rattle.lx_auto.specs.Simplified.{cat_of, alt_of, simplified_repeated, simplified, simplified_if_defined, simplified_name}

@@ -3,9 +3,9 @@ use Rattle.std.proofs.Common.{◌≡◌, ◌∙◌, ℕ, zero, suc, ◌+◌, ◌
 use Rattle.std.specs.Prelude.{slice_get}
 use Rattle.std.specs.Option.{option_map}
 use Rattle.lx_ere.specs.Regex.{Regex, nil, one_of, then, or, times, named, regex_of}
-use Rattle.lx_spec.specs.Plain.{PlainDefinition, PlainRule}
-use Rattle.lx_spec.specs.views.Rules.{definition_view}
-use Rattle.lx_spec.specs.declared.definition.Definition.{Definition}
+use Rattle.lx_rules.specs.Plain.{PlainDefinition, PlainRule}
+use Rattle.lx_rules.specs.views.Rules.{definition_view}
+use Rattle.lx_rules.specs.declared.definition.Definition.{Definition}
 use Rattle.lx_auto.specs.Counts.{copies_of, count_in, count_if_defined, count_of_name, count_of_pattern, newline_count, count_of_rules}
 use Rattle.lx_auto.specs.NameViews.{place_of, tree_at}
 use Rattle.lx_auto.specs.CountViews.{count_of_place, looked_up, counts_behind, counts_at}

@@ -3,9 +3,9 @@ use Rattle.std.proofs.Common.{◌≡◌, ◌∙◌, ℕ, zero, suc, ◌+◌, ◌
 use Rattle.std.specs.List.{list_all}
 use Rattle.std.proofs.lemmas.Bool.{false≢true}
 use Rattle.lx_ere.specs.Regex.{Regex, nil, one_of, then, or, times, named}
-use Rattle.lx_spec.specs.Names.{names_of}
-use Rattle.lx_spec.specs.Nesting.{tree_named, holds_of, is_no_name, is_within}
-use Rattle.lx_spec.specs.Plain.{PlainDefinition}
+use Rattle.lx_rules.specs.Names.{names_of}
+use Rattle.lx_rules.specs.Nesting.{tree_named, holds_of, is_no_name, is_within}
+use Rattle.lx_rules.specs.Plain.{PlainDefinition}
 use Rattle.lx_auto.specs.Unfolded.{Unfolded}
 use Rattle.lx_auto.specs.Counts.{copies_of, count_in, count_if_defined, count_of_name}
 use Rattle.lx_auto.specs.Simplified.{cat_of, alt_of, simplified_repeated, simplified, simplified_if_defined, simplified_name}

@@ -6,7 +6,7 @@ use Rattle.std.proofs.lemmas.List.{append-nil}
 use Rattle.std.proofs.lemmas.List.Elements.{All-head, All-tail}
 use Rattle.std.proofs.Math.ListN as math
 use Rattle.lx_ere.specs.Regex.{Regex}
-use Rattle.lx_spec.specs.Plain.{PlainSpec}
+use Rattle.lx_rules.specs.Plain.{PlainSpec}
 use Rattle.lx_auto.specs.Unfolded.{Unfolded}
 use Rattle.lx_auto.specs.PositionSets.{numbered, StartAndWord, InPositionSet}
 use Rattle.lx_auto.specs.SetSteps.{HasSomeByte, IsSetOf}

@@ -2,8 +2,8 @@
 use Rattle.std.proofs.Common.{◌≡◌, ◌∙◌, ℕ, zero, suc, ◌⊎◌, inl, inr, List, [], ◌∷◌, ◌++◌, Option, Some, None, map, refl, ap, sym, subst}
 use Rattle.std.specs.Prelude.{slice_get, slice_set}
 use Rattle.lx_ere.specs.Regex.{regex_of}
-use Rattle.lx_spec.specs.views.Rules.{definition_view}
-use Rattle.lx_spec.specs.declared.definition.Definition.{Definition}
+use Rattle.lx_rules.specs.views.Rules.{definition_view}
+use Rattle.lx_rules.specs.declared.definition.Definition.{Definition}
 use Rattle.lx_auto.specs.NodeViews.{nodes_view}
 use Rattle.lx_auto.specs.Unfolding.{Unfolds, AreFragments}
 use Rattle.lx_auto.specs.declared.fragment.Fragment.{Fragment}

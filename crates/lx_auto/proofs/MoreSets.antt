@@ -2,7 +2,7 @@
 use Rattle.std.proofs.Common.{◌≡◌, ◌≢◌, ℕ, zero, suc, ◌+◌, ◌<◌, ◌↔◌, inl, inr, Bool, true, false, List, [], ◌∷◌, ◌++◌, length, Some, refl, sym, ◌∙◌, ap, ap₂, subst, arith}
 use Rattle.std.specs.Prelude.{slice_get, slice_index_or, Contains, All}
 use Rattle.lx_ere.specs.Regex.{Regex}
-use Rattle.lx_spec.specs.Plain.{PlainRule, PlainSpec}
+use Rattle.lx_rules.specs.Plain.{PlainRule, PlainSpec}
 use Rattle.lx_auto.specs.Unfolded.{Unfolded, position_count, PositionWord, own_position}
 use Rattle.lx_auto.specs.WrittenOut.{pattern_written_out}
 use Rattle.lx_auto.specs.Simplified.{simplified_pattern}

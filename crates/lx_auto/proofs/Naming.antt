@@ -3,9 +3,9 @@ use Rattle.std.proofs.Common.{◌≡◌, ◌∙◌, ℕ, zero, suc, ◌<◌, Boo
 use Rattle.std.specs.Cmp.Lexicographic.{pointwise}
 use Rattle.std.specs.Option.{option_or, option_map}
 use Rattle.lx_ere.specs.Regex.{regex_of}
-use Rattle.lx_spec.specs.Nesting.{tree_named}
-use Rattle.lx_spec.specs.views.Rules.{definition_view}
-use Rattle.lx_spec.specs.declared.definition.Definition.{Definition}
+use Rattle.lx_rules.specs.Nesting.{tree_named}
+use Rattle.lx_rules.specs.views.Rules.{definition_view}
+use Rattle.lx_rules.specs.declared.definition.Definition.{Definition}
 use Rattle.lx_auto.specs.NameViews.{place_of, tree_at}
 
 -- The first place among one definition more.

@@ -2,10 +2,10 @@
 use Rattle.std.proofs.Common.{◌≡◌, ℕ, zero, suc, ◌<◌, IsTrue, Bool, true, false, ◌&&◌, List, [], ◌∷◌, length, get_or, map, refl, sym, subst, arith}
 use Rattle.std.specs.List.{list_all}
 use Rattle.lx_ere.specs.Regex.{Regex, regex_of}
-use Rattle.lx_spec.specs.views.Rules.{rule_view}
-use Rattle.lx_spec.specs.declared.rule.Rule.{Rule}
-use Rattle.lx_spec.specs.Nesting.{is_within, are_nested, expressions_of}
-use Rattle.lx_spec.specs.Plain.{PlainDefinition}
+use Rattle.lx_rules.specs.views.Rules.{rule_view}
+use Rattle.lx_rules.specs.declared.rule.Rule.{Rule}
+use Rattle.lx_rules.specs.Nesting.{is_within, are_nested, expressions_of}
+use Rattle.lx_rules.specs.Plain.{PlainDefinition}
 use Rattle.lx_auto.specs.Nodes.{PlainNode}
 use Rattle.lx_auto.specs.NodeViews.{Appends}
 use Rattle.lx_auto.specs.Simplified.{simplified_pattern}

@@ -4,7 +4,7 @@ use Rattle.std.specs.Prelude.{slice_get, All}
 use Rattle.std.proofs.lemmas.List.{length-map, get_or_default}
 use Rattle.std.proofs.lemmas.Map.Steps.{length-le_from_distinct_below}
 use Rattle.std.proofs.lemmas.Map.Keys.{IsDistinct-from_apart}
-use Rattle.lx_spec.specs.Plain.{PlainSpec}
+use Rattle.lx_rules.specs.Plain.{PlainSpec}
 use Rattle.lx_automaton.specs.Automata.{Machine, start_of, state_after}
 use Rattle.lx_auto.specs.Drafting.{IsDrafted}
 use Rattle.lx_auto.specs.Exploring.{IsExplored, start_count}

@@ -9,10 +9,10 @@ use Rattle.std.proofs.lemmas.Bool.{leb-true}
 use Rattle.lx_ere.specs.Bounds.{is_ordered, has_ordered_bounds}
 use Rattle.lx_ere.specs.Regex.{Regex, nil, one_of, then, or, times, named}
 use Rattle.lx_ere.specs.Matching.{Splits, Repeats, RepeatsBetween, Matches}
-use Rattle.lx_spec.specs.Invariant.{are_distinct, are_definitions}
-use Rattle.lx_spec.specs.Names.{names_of, Defines, DefinedMatches, NameMatches}
-use Rattle.lx_spec.specs.Nesting.{tree_named, holds_of, is_no_name, is_within}
-use Rattle.lx_spec.specs.Plain.{PlainDefinition}
+use Rattle.lx_rules.specs.Invariant.{are_distinct, are_definitions}
+use Rattle.lx_rules.specs.Names.{names_of, Defines, DefinedMatches, NameMatches}
+use Rattle.lx_rules.specs.Nesting.{tree_named, holds_of, is_no_name, is_within}
+use Rattle.lx_rules.specs.Plain.{PlainDefinition}
 use Rattle.lx_auto.specs.Unfolded.{Unfolded, cat, alt, opt, plus, position_count, Joined, ByteWord}
 use Rattle.lx_auto.specs.WrittenOut.{counted, unbounded, repeated, written_out, written_if_defined, name_written_out, pattern_written_out}
 use Rattle.lx_auto.proofs.Appending.{and-left, and-right, all-left, all-right}

@@ -1,8 +1,8 @@
 -- Leaving away what has no position, and writing repeats out, keeps the number of positions that is counted.
 use Rattle.std.proofs.Common.{◌≡◌, ℕ, zero, suc, ◌+◌, ◌*◌, max, Bool, true, false, List, Option, Some, None, refl, ◌∙◌, ap, arith}
 use Rattle.lx_ere.specs.Regex.{Regex, nil, one_of, then, or, times, named}
-use Rattle.lx_spec.specs.Plain.{PlainDefinition}
-use Rattle.lx_spec.specs.Nesting.{tree_named}
+use Rattle.lx_rules.specs.Plain.{PlainDefinition}
+use Rattle.lx_rules.specs.Nesting.{tree_named}
 use Rattle.lx_auto.specs.Unfolded.{Unfolded, empty, leaf, cat, alt, opt, plus, position_count, nullable}
 use Rattle.lx_auto.specs.WrittenOut.{counted, unbounded, repeated, written_out, written_if_defined, name_written_out, pattern_written_out}
 use Rattle.lx_auto.specs.Counts.{copies_of, count_in, count_if_defined, count_of_name, count_of_pattern}

@@ -3,7 +3,7 @@ use Rattle.std.proofs.Common.{◌≡◌, ℕ, zero, suc, ◌+◌, ◌≤◌, ◌
 use Rattle.std.proofs.lemmas.Bool.{cases_lt}
 use Rattle.std.specs.Prelude.{slice_get}
 use Rattle.lx_ere.specs.Regex.{Regex}
-use Rattle.lx_spec.specs.Plain.{PlainRule}
+use Rattle.lx_rules.specs.Plain.{PlainRule}
 use Rattle.lx_auto.specs.Unfolded.{Unfolded, position_count}
 use Rattle.lx_auto.specs.Positions.{First}
 use Rattle.lx_auto.specs.Counts.{newline_count}

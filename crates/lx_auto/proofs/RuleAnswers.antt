@@ -7,10 +7,10 @@ use Rattle.std.proofs.Math.Seq.{take-append_seam, take-length}
 use Rattle.lx_ere.specs.Bounds.{has_ordered_bounds}
 use Rattle.lx_ere.specs.Regex.{Regex}
 use Rattle.lx_ere.specs.Matching.{Matches}
-use Rattle.lx_spec.specs.Plain.{PlainDefinition, PlainRule, PlainSpec}
-use Rattle.lx_spec.specs.Choice.{SpecNames, Fits, reach}
-use Rattle.lx_spec.specs.Invariant.{are_definitions, are_ordered, IsWellFormed}
-use Rattle.lx_spec.specs.Nesting.{is_within, are_nested, expressions_of}
+use Rattle.lx_rules.specs.Plain.{PlainDefinition, PlainRule, PlainSpec}
+use Rattle.lx_rules.specs.Choice.{SpecNames, Fits, reach}
+use Rattle.lx_rules.specs.Invariant.{are_definitions, are_ordered, IsWellFormed}
+use Rattle.lx_rules.specs.Nesting.{is_within, are_nested, expressions_of}
 use Rattle.lx_auto.specs.Unfolded.{Unfolded, position_count, ByteWord, byte_of_set}
 use Rattle.lx_auto.specs.Counts.{newline_count}
 use Rattle.lx_auto.specs.Simplified.{simplified_pattern}

@@ -2,9 +2,9 @@
 use Rattle.std.proofs.Common.{◌≡◌, ℕ, zero, suc, ◌+◌, ◌≤◌, ◌<◌, ◌⊎◌, inl, inr, List, [], ◌∷◌, ◌++◌, Some, None, length, map, take, refl, sym, ◌∙◌, ap, subst, arith}
 use Rattle.std.specs.Prelude.{slice_get}
 use Rattle.lx_ere.specs.Regex.{Regex}
-use Rattle.lx_spec.specs.Plain.{PlainDefinition, PlainRule}
-use Rattle.lx_spec.specs.declared.rule.Rule.{Rule}
-use Rattle.lx_spec.specs.views.Rules.{rule_view}
+use Rattle.lx_rules.specs.Plain.{PlainDefinition, PlainRule}
+use Rattle.lx_rules.specs.declared.rule.Rule.{Rule}
+use Rattle.lx_rules.specs.views.Rules.{rule_view}
 use Rattle.lx_auto.specs.Unfolded.{Unfolded, position_count}
 use Rattle.lx_auto.specs.Counts.{newline_count, count_of_rule, count_of_rules}
 use Rattle.lx_auto.specs.Simplified.{simplified_pattern}

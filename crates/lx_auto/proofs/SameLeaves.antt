@@ -1,8 +1,8 @@
 -- Leaving away what has no position, and writing repeats out, gives the same leaves, in the same order.
 use Rattle.std.proofs.Common.{◌≡◌, ℕ, zero, suc, ◌+◌, ◌-◌, ◌↔◌, Bool, true, false, List, [], ◌∷◌, ◌++◌, length, Option, Some, None, refl, sym, ◌∙◌, ap₂, subst, arith}
 use Rattle.lx_ere.specs.Regex.{Regex, nil, one_of, then, or, times, named}
-use Rattle.lx_spec.specs.Plain.{PlainDefinition}
-use Rattle.lx_spec.specs.Nesting.{tree_named}
+use Rattle.lx_rules.specs.Plain.{PlainDefinition}
+use Rattle.lx_rules.specs.Nesting.{tree_named}
 use Rattle.lx_auto.specs.Unfolded.{Unfolded, empty, leaf, cat, alt, opt, plus, nullable}
 use Rattle.lx_auto.specs.WrittenOut.{counted, unbounded, repeated, written_out, written_if_defined, name_written_out, pattern_written_out}
 use Rattle.lx_auto.specs.Simplified.{opt_unless, opt_of, plus_of, cat_of, alt_of, simplified_counted, simplified_unbounded, simplified_repeated, simplified, simplified_if_defined, simplified_name, simplified_pattern}

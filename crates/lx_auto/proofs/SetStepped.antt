@@ -2,7 +2,7 @@
 use Rattle.std.proofs.Common.{◌≡◌, ◌≢◌, ℕ, ◌↔◌, Bool, List, [], ◌∷◌, ◌++◌, Some, sym, ◌∙◌, subst}
 use Rattle.std.specs.Prelude.{slice_get}
 use Rattle.lx_ere.specs.Regex.{Regex}
-use Rattle.lx_spec.specs.Plain.{PlainRule, PlainSpec}
+use Rattle.lx_rules.specs.Plain.{PlainRule, PlainSpec}
 use Rattle.lx_auto.specs.Unfolded.{Unfolded}
 use Rattle.lx_auto.specs.Starts.{IsActiveAt}
 use Rattle.lx_auto.specs.PositionSets.{NumberedRule, numbered, HasRuleByte, CanHaveReadLast}

@@ -1,8 +1,8 @@
 -- How many positions a specification has, counted before anything is unfolded.
 use Rattle.std.specs.Prelude.{ℕ, zero, suc, ◌+◌, ◌*◌, max, Bool, true, false, List, [], ◌∷◌, Option, Some, None}
 use Rattle.lx_ere.specs.Regex.{Regex, nil, one_of, then, or, times, named}
-use Rattle.lx_spec.specs.Plain.{PlainDefinition, PlainRule, PlainSpec}
-use Rattle.lx_spec.specs.Nesting.{tree_named}
+use Rattle.lx_rules.specs.Plain.{PlainDefinition, PlainRule, PlainSpec}
+use Rattle.lx_rules.specs.Nesting.{tree_named}
 
 -- as many copies as the high bound says; without one as many as have to stand there, and one at least
 abbrev pub copies_of : ℕ → Option ℕ → ℕ

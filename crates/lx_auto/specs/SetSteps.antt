@@ -1,6 +1,6 @@
 -- From a set of positions to what can be read next, and to the rules that have matched.
 use Rattle.std.specs.Prelude.{◌≡◌, ℕ, ◌<◌, ◌↔◌, Bool, List, length, slice_index, slice_get, Some, Contains}
-use Rattle.lx_spec.specs.Plain.{PlainSpec}
+use Rattle.lx_rules.specs.Plain.{PlainSpec}
 use Rattle.lx_auto.specs.Positions.{First}
 use Rattle.lx_auto.specs.Starts.{IsActiveAt}
 use Rattle.lx_auto.specs.PositionSets.{NumberedRule, HasRuleByte, StartAndWord, InPositionSet}

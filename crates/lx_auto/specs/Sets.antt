@@ -1,6 +1,6 @@
 -- What is found of a set of positions, and of a start.
 use Rattle.std.specs.Prelude.{ℕ, ◌<◌, ◌↔◌, Bool, List, Option, Contains, MatchOption}
-use Rattle.lx_spec.specs.Plain.{PlainSpec}
+use Rattle.lx_rules.specs.Plain.{PlainSpec}
 use Rattle.lx_auto.specs.PositionSets.{NumberedRule}
 use Rattle.lx_auto.specs.SetSteps.{IsFirstAt, FollowsSet, IsMatchedBy, IsRising}
 

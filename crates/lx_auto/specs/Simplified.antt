@@ -1,8 +1,8 @@
 -- The expression as it is kept: what has no position is left away, and so is a second `opt` or `plus` upon the first.
 use Rattle.std.specs.Prelude.{ℕ, zero, suc, Bool, true, false, List, Option, Some, None}
 use Rattle.lx_ere.specs.Regex.{Regex, nil, one_of, then, or, times, named}
-use Rattle.lx_spec.specs.Plain.{PlainDefinition}
-use Rattle.lx_spec.specs.Nesting.{tree_named}
+use Rattle.lx_rules.specs.Plain.{PlainDefinition}
+use Rattle.lx_rules.specs.Nesting.{tree_named}
 use Rattle.lx_auto.specs.Unfolded.{Unfolded, empty, leaf, cat, alt, opt, plus, nullable}
 
 -- optional, unless it matches the empty word already

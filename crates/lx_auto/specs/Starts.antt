@@ -1,7 +1,7 @@
 -- Where a rule is active at a start: in the condition, and at line begin where it asks for that.
 use Rattle.std.specs.Prelude.{ℕ, Bool, IsTrue}
-use Rattle.lx_spec.specs.Plain.{PlainRule, PlainSpec}
-use Rattle.lx_spec.specs.Choice.{IsActive}
+use Rattle.lx_rules.specs.Plain.{PlainRule, PlainSpec}
+use Rattle.lx_rules.specs.Choice.{IsActive}
 
 pub record IsActiveAt (spec : PlainSpec) (rule : PlainRule) (condition : ℕ) (begin : Bool) : Type 0 where
   pub active : IsActive spec rule condition

@@ -1,10 +1,10 @@
 -- What the nodes say that are appended for an expression, where its names are defined and nested no deeper than so.
 use Rattle.std.specs.Prelude.{◌≡◌, ℕ, suc, ◌≤◌, IsTrue, List, [], Option, Some, map, slice_get}
 use Rattle.lx_ere.specs.Regex.{Regex, regex_of}
-use Rattle.lx_spec.specs.Nesting.{is_within, holds_of}
-use Rattle.lx_spec.specs.Plain.{PlainDefinition}
-use Rattle.lx_spec.specs.views.Rules.{definition_view}
-use Rattle.lx_spec.specs.declared.definition.Definition.{Definition}
+use Rattle.lx_rules.specs.Nesting.{is_within, holds_of}
+use Rattle.lx_rules.specs.Plain.{PlainDefinition}
+use Rattle.lx_rules.specs.views.Rules.{definition_view}
+use Rattle.lx_rules.specs.declared.definition.Definition.{Definition}
 use Rattle.lx_auto.specs.Nodes.{PlainNode}
 use Rattle.lx_auto.specs.Simplified.{simplified, simplified_if_defined, simplified_name}
 use Rattle.lx_auto.specs.NodeViews.{nodes_view, Appends}

@@ -1,13 +1,13 @@
 // Which rules are active at a start.
 ghost use Rattle.std.specs.Prelude.{◌≡◌, ◌<◌, ◌↔◌, true, IfOk, length};
-ghost use Rattle.lx_spec.specs.Choice.{IsActive};
-ghost use Rattle.lx_spec.specs.views.Rules.{rule_view};
-ghost use Rattle.lx_spec.specs.views.Specs.{spec_view};
+ghost use Rattle.lx_rules.specs.Choice.{IsActive};
+ghost use Rattle.lx_rules.specs.views.Rules.{rule_view};
+ghost use Rattle.lx_rules.specs.views.Specs.{spec_view};
 ghost use Rattle.lx_auto.specs.Starts.{IsActiveAt};
 ghost use Rattle.lx_auto.specs.Following.{AreActive};
 
-use lx_spec::rule::Rule;
-use lx_spec::spec::Spec;
+use lx_rules::rule::Rule;
+use lx_rules::spec::Spec;
 use std::alloc::{AllocError, Global};
 
 // Whether the rule is active in the condition.

@@ -1,7 +1,7 @@
 //! The automaton of a specification (Rabin and Scott 1959: the subset construction, over sets of positions).
 
 ghost use Rattle.std.specs.Prelude.{◌≡◌, ◌<◌, ◌≤◌, IfOk, IfErr};
-ghost use Rattle.lx_spec.specs.views.Specs.{spec_view};
+ghost use Rattle.lx_rules.specs.views.Specs.{spec_view};
 ghost use Rattle.lx_automaton.specs.Automata.{IsMachine};
 ghost use Rattle.lx_auto.specs.Counts.{count_of_spec};
 ghost use Rattle.lx_automaton.specs.Meaning.{IsAutomatonOf};
@@ -12,8 +12,8 @@ use crate::explore::explore;
 use crate::fault::BuildFault;
 use crate::spec_positions::positions_of;
 use lx_automaton::{Automaton, Draft, with_byte_classes};
-use lx_spec::read::specs_are_well_formed;
-use lx_spec::spec::Spec;
+use lx_rules::spec::Spec;
+use lx_rules::well_formed::specs_are_well_formed;
 use std::alloc::Global;
 
 // The most reached sets.

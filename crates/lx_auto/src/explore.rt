@@ -1,8 +1,8 @@
 // Position sets, reached one after the other from the starts (Rabin and Scott 1959: the subset construction).
 ghost use Rattle.std.specs.Prelude.{◌≡◌, ◌≢◌, ◌+◌, ◌*◌, ◌<◌, ◌≤◌, ◌⊎◌, [], ℕ, List, IfOk, IfErr, OnOk, length};
 ghost use Rattle.lx_ere.specs.Regex.{Regex};
-ghost use Rattle.lx_spec.specs.Plain.{PlainSpec};
-ghost use Rattle.lx_spec.specs.views.Specs.{spec_view};
+ghost use Rattle.lx_rules.specs.Plain.{PlainSpec};
+ghost use Rattle.lx_rules.specs.views.Specs.{spec_view};
 ghost use Rattle.lx_auto.specs.PositionTables.{AreStatesOf, ArePositionsOf};
 ghost use Rattle.lx_auto.specs.Sets.{IsEarliestMatched};
 ghost use Rattle.lx_auto.specs.Unfolded.{Unfolded};
@@ -21,7 +21,7 @@ use crate::leaf::{Leaf, has};
 use crate::position_table::PositionTable;
 use crate::set_numbering::{empty_table, number_of};
 use crate::set_table::{PositionSet, SetTable};
-use lx_spec::spec::Spec;
+use lx_rules::spec::Spec;
 use smallvec::SmallVec;
 use std::alloc::{AllocError, Global};
 

@@ -1,6 +1,6 @@
 // What follows a set of positions, and what a start begins with.
 ghost use Rattle.std.specs.Prelude.{◌≡◌, ◌≤◌, ◌<◌, ◌+◌, ℕ, Bool, true, false, List, IfOk, OnOk, length};
-ghost use Rattle.lx_spec.specs.Plain.{PlainSpec};
+ghost use Rattle.lx_rules.specs.Plain.{PlainSpec};
 ghost use Rattle.lx_auto.specs.Blocks.{IsClear};
 ghost use Rattle.lx_auto.specs.PositionSets.{NumberedRule};
 ghost use Rattle.lx_auto.specs.RuleParts.{IsPartOf, ArePartsOf, AreReadsOf};

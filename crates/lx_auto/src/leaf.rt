@@ -1,7 +1,7 @@
 // The leaves of the positions, in order.
 ghost use Rattle.std.specs.Prelude.{◌≡◌, ◌++◌, ℕ, List, IfOk, OnOk};
 ghost use Rattle.lx_ere.specs.Regex.{Regex};
-ghost use Rattle.lx_spec.specs.Plain.{PlainRule};
+ghost use Rattle.lx_rules.specs.Plain.{PlainRule};
 ghost use Rattle.lx_auto.specs.Unfolded.{Unfolded};
 ghost use Rattle.lx_auto.specs.NodeViews.{node_view, nodes_view};
 ghost use Rattle.lx_auto.specs.PositionSets.{numbered};

@@ -1,7 +1,7 @@
 //! Merging of equivalent states (Moore 1956, Hopcroft 1971).
 
 ghost use Rattle.std.specs.Prelude.{◌≡◌, IfOk, length};
-ghost use Rattle.lx_spec.specs.Plain.{PlainSpec};
+ghost use Rattle.lx_rules.specs.Plain.{PlainSpec};
 ghost use Rattle.lx_automaton.specs.Equivalence.{AreEquivalentMachines, IsMinimal, HasLiveSteps};
 ghost use Rattle.lx_automaton.specs.Meaning.{IsAutomatonOf};
 

@@ -1,10 +1,10 @@
 // Definitions by their names.
 ghost use Rattle.std.specs.Prelude.{◌≡◌, ℕ, List, IfOk};
-ghost use Rattle.lx_spec.specs.views.NameTables.{number_at};
+ghost use Rattle.lx_rules.specs.views.NameTables.{number_at};
 ghost use Rattle.lx_auto.specs.NameViews.{place_of};
 
-use lx_spec::definition::Definition;
-use lx_spec::name_table::add_number;
+use lx_rules::definition::Definition;
+use lx_rules::name_table::add_number;
 use std::alloc::{AllocError, Global};
 use std::collections::BTreeMap;
 

@@ -1,9 +1,9 @@
 // The rules of a specification, unfolded and numbered.
 ghost use Rattle.std.specs.Prelude.{◌≡◌, ◌+◌, ◌≤◌, ◌<◌, ◌^◌, ◌⊎◌, ◌∷◌, [], length, map, IsTrue, IfOk, IfErr};
 ghost use Rattle.lx_ere.specs.Regex.{regex_of};
-ghost use Rattle.lx_spec.specs.Nesting.{are_nested, expressions_of};
-ghost use Rattle.lx_spec.specs.views.Rules.{definition_view, rule_view};
-ghost use Rattle.lx_spec.specs.views.Specs.{spec_view};
+ghost use Rattle.lx_rules.specs.Nesting.{are_nested, expressions_of};
+ghost use Rattle.lx_rules.specs.views.Rules.{definition_view, rule_view};
+ghost use Rattle.lx_rules.specs.views.Specs.{spec_view};
 ghost use Rattle.lx_auto.specs.Counts.{count_of_rules, count_of_spec, newline_count};
 ghost use Rattle.lx_auto.specs.Nodes.{nodes_of};
 ghost use Rattle.lx_auto.specs.NodeLeaves.{leaves_in};
@@ -26,8 +26,8 @@ use crate::node::Node;
 use crate::rule_part::RulePart;
 use crate::unfold::unfold;
 use crate::unfolded_rules::UnfoldedRules;
-use lx_spec::rule::Rule;
-use lx_spec::spec::Spec;
+use lx_rules::rule::Rule;
+use lx_rules::spec::Spec;
 use std::alloc::{AllocError, Global};
 
 // The nodes of a rule's expression.

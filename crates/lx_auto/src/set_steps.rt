@@ -1,6 +1,6 @@
 // From a set of positions to those that can be read next, and to the rule that has matched.
 ghost use Rattle.std.specs.Prelude.{◌≡◌, ◌+◌, ◌++◌, ◌<◌, ◌≤◌, ◌↔◌, ℕ, List, IfOk, OnOk, true, false, length, drop, if◌then◌else◌};
-ghost use Rattle.lx_spec.specs.Plain.{PlainSpec};
+ghost use Rattle.lx_rules.specs.Plain.{PlainSpec};
 ghost use Rattle.lx_auto.specs.Blocks.{IsClear};
 ghost use Rattle.lx_auto.specs.Counts.{newline_count};
 ghost use Rattle.lx_auto.specs.Marking as plain;

@@ -1,6 +1,6 @@
 // The positions of a specification, with what is known of them.
 ghost use Rattle.std.specs.Prelude.{◌≡◌, ◌<◌, ◌≤◌, ◌⊎◌, IfOk, IfErr};
-ghost use Rattle.lx_spec.specs.views.Specs.{spec_view};
+ghost use Rattle.lx_rules.specs.views.Specs.{spec_view};
 ghost use Rattle.lx_auto.specs.Counts.{count_of_spec};
 ghost use Rattle.lx_auto.specs.PositionTables.{ArePositionsOf};
 ghost use Rattle.lx_auto.specs.Simplified.{simplified_pattern};
@@ -10,7 +10,7 @@ use crate::groups::groups_of;
 use crate::leaf::leaves_of;
 use crate::position_table::PositionTable;
 use crate::rule_unfolding::unfold_rules;
-use lx_spec::spec::Spec;
+use lx_rules::spec::Spec;
 use std::alloc::Global;
 
 /// The positions of a specification's rules, the bytes of each, and the bytes in groups.

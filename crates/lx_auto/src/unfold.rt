@@ -1,7 +1,7 @@
 // Expressions, unfolded to nodes.
 ghost use Rattle.std.specs.Prelude.{◌≡◌, ◌≤◌, ◌++◌, map, IfOk, OnOk, Some};
 ghost use Rattle.lx_ere.specs.Regex.{regex_of};
-ghost use Rattle.lx_spec.specs.views.Rules.{definition_view};
+ghost use Rattle.lx_rules.specs.views.Rules.{definition_view};
 ghost use Rattle.lx_auto.specs.NameViews.{tree_at};
 ghost use Rattle.lx_auto.specs.NodeViews.{nodes_view, Appends};
 ghost use Rattle.lx_auto.specs.Unfolded.{leaf};

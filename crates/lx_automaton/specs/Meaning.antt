@@ -1,7 +1,7 @@
 -- What an automaton of a specification answers after a text: the earliest rule that fits so that its reach is the whole text.
 use Rattle.std.specs.Prelude.{◌≡◌, ℕ, ◌<◌, Bool, List, length, slice_get, Option, Some, MatchOption, All}
-use Rattle.lx_spec.specs.Plain.{PlainRule, PlainSpec}
-use Rattle.lx_spec.specs.Choice.{Fits, reach}
+use Rattle.lx_rules.specs.Plain.{PlainRule, PlainSpec}
+use Rattle.lx_rules.specs.Choice.{Fits, reach}
 use Rattle.lx_automaton.specs.Automata.{Machine, answer}
 
 -- rule i fits under the condition, and its reach is the whole text

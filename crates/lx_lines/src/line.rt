@@ -7,8 +7,8 @@ ghost use Rattle.lx_lines.specs.Lines.{hex_digit, escaped, class_text, name_text
 
 use itoa::Buffer;
 use lx_piece::Plan;
+use lx_rules::rule::Kind;
 use lx_scan::Item;
-use lx_spec::rule::Kind;
 use std::alloc::AllocError;
 
 fn hex_digit(n: u8) -> u8

@@ -3,8 +3,8 @@ use Rattle.std.proofs.Common.{◌≡◌, ℕ, ◌+◌, ◌<◌, ◌≤◌, ◌�
 use Rattle.std.specs.Prelude.{slice_get}
 use Rattle.std.proofs.lemmas.Bool.{cases_lt}
 use Rattle.std.proofs.lemmas.Option.{slice_get_within}
-use Rattle.lx_spec.specs.Plain.{PlainRule, PlainSpec}
-use Rattle.lx_spec.specs.Choice.{Fits, reach, IsChoice}
+use Rattle.lx_rules.specs.Plain.{PlainRule, PlainSpec}
+use Rattle.lx_rules.specs.Choice.{Fits, reach, IsChoice}
 
 abbrev plus_if : Bool → ℕ → ℕ
 plus_if true n = n + 1

@@ -4,8 +4,8 @@ use Rattle.std.specs.Prelude.{slice_get}
 use Rattle.std.proofs.lemmas.Bool.{cases_lt}
 use Rattle.std.proofs.lemmas.Option.{slice_get_within}
 use Rattle.lx_ere.specs.Matching.{Matches}
-use Rattle.lx_spec.specs.Plain.{PlainDefinition}
-use Rattle.lx_spec.specs.Names.{DefinedMatches, NameMatches}
+use Rattle.lx_rules.specs.Plain.{PlainDefinition}
+use Rattle.lx_rules.specs.Names.{DefinedMatches, NameMatches}
 
 -- the word is one of what one of the first k definitions has under this name
 pub record DefinedBelow (inner : List ℕ → List ℕ → Type 0) (definitions : List PlainDefinition) (name : List ℕ) (k : ℕ) (word : List ℕ) : Type 0 where

@@ -1,7 +1,7 @@
 -- How far one rule fits a text.
 use Rattle.std.specs.Prelude.{ℕ, ◌≤◌, Bool, List, Option, MatchOption}
-use Rattle.lx_spec.specs.Choice.{Fits}
-use Rattle.lx_spec.specs.Plain.{PlainRule, PlainSpec}
+use Rattle.lx_rules.specs.Choice.{Fits}
+use Rattle.lx_rules.specs.Plain.{PlainRule, PlainSpec}
 
 -- The rule fits n bytes, and no more than n.
 pub record FitsAtMost (spec : PlainSpec) (rule : PlainRule) (condition : ℕ) (begin : Bool) (text : List ℕ) (n : ℕ) : Type 0 where

@@ -5,16 +5,16 @@ ghost use Rattle.std.specs.Ordering.{nat_cmp};
 ghost use Rattle.std.specs.BTreeSet.{contains};
 ghost use Rattle.lx_ere.specs.Regex.{regex_of};
 ghost use Rattle.lx_ere.specs.Matching.{Matches};
-ghost use Rattle.lx_spec.specs.Choice.{IsActive, IsChoice, SpecNames, reach};
-ghost use Rattle.lx_spec.specs.views.Rules.{rule_view};
-ghost use Rattle.lx_spec.specs.views.Specs.{spec_view};
+ghost use Rattle.lx_rules.specs.Choice.{IsActive, IsChoice, SpecNames, reach};
+ghost use Rattle.lx_rules.specs.views.Rules.{rule_view};
+ghost use Rattle.lx_rules.specs.views.Specs.{spec_view};
 ghost use Rattle.lx_plain.specs.Longest.{IsLongest};
 ghost use Rattle.lx_plain.specs.Places.{AreLengths};
 
 use crate::matcher::ends;
 use lx_ere::expr::Expr;
-use lx_spec::rule::Rule;
-use lx_spec::spec::Spec;
+use lx_rules::rule::Rule;
+use lx_rules::spec::Spec;
 use std::alloc::{AllocError, Global};
 use std::collections::BTreeSet;
 

@@ -6,8 +6,8 @@ use crate::fault::Fault;
 use lx_auto::{build, merge};
 use lx_fixtures::inputs;
 use lx_piece::{Cutter, Plan};
+use lx_rules::spec::Spec;
 use lx_scan::{Item, scan};
-use lx_spec::spec::Spec;
 use lx_tables::Tables;
 use std::alloc::{AllocError, Global};
 

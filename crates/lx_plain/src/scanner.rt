@@ -1,9 +1,9 @@
 //! The items of a text, match after match by the plain choice. What it relies on it asks of the choice each time.
 
 use crate::choice::choose;
+use lx_rules::rule::Step;
+use lx_rules::spec::Spec;
 use lx_scan::Item;
-use lx_spec::rule::Step;
-use lx_spec::spec::Spec;
 use std::alloc::{AllocError, Global};
 
 /// What is done where no rule matches.

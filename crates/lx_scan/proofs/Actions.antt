@@ -4,11 +4,11 @@ use Rattle.std.specs.Prelude.{slice_index_or}
 use Rattle.std.specs.List.{list_all}
 use Rattle.std.proofs.lemmas.Bool.{and_parts, true≢false}
 use Rattle.std.proofs.lemmas.List.Elements.{All-nil, All-cons}
-use Rattle.lx_spec.specs.declared.rule.Kind.{Kind}
-use Rattle.lx_spec.specs.declared.rule.Kind.TheVariants.{Name, Number}
-use Rattle.lx_spec.specs.declared.rule.Step.{Step}
-use Rattle.lx_spec.specs.declared.rule.Step.TheVariants.{Echo, Begin, Return}
-use Rattle.lx_spec.specs.Invariant.{are_steps, is_kind}
+use Rattle.lx_rules.specs.declared.rule.Kind.{Kind}
+use Rattle.lx_rules.specs.declared.rule.Kind.TheVariants.{Name, Number}
+use Rattle.lx_rules.specs.declared.rule.Step.{Step}
+use Rattle.lx_rules.specs.declared.rule.Step.TheVariants.{Echo, Begin, Return}
+use Rattle.lx_rules.specs.Invariant.{are_steps, is_kind}
 use Rattle.lx_tables.specs.Model.{Table, IsTable}
 use Rattle.lx_scan.specs.ItemParts.{IsItemOf, IsKindAmong, line_at}
 use Rattle.lx_scan.specs.Items.{steps_at}

@@ -5,8 +5,8 @@ use Rattle.std.proofs.lemmas.Bool.{cases_lt}
 use Rattle.std.proofs.lemmas.List.{take-take, length-take-le, get_or-take}
 use Rattle.std.proofs.lemmas.List.Elements.{All-take}
 use Rattle.std.proofs.lemmas.Option.{slice_get_within, slice_get-get_or, get_or_from_slice_get}
-use Rattle.lx_spec.specs.Plain.{PlainRule, PlainSpec}
-use Rattle.lx_spec.specs.Choice.{Fits, IsChoice, IsChosen, reach}
+use Rattle.lx_rules.specs.Plain.{PlainRule, PlainSpec}
+use Rattle.lx_rules.specs.Choice.{Fits, IsChoice, IsChosen, reach}
 use Rattle.lx_automaton.specs.Automata.{answer}
 use Rattle.lx_automaton.specs.Meaning.{IsAnswer, ReachesWhole}
 use Rattle.lx_tables.specs.Model.{Table, TableRule, AreTablesOf, rule_at, table_rule}

@@ -4,9 +4,9 @@ use Rattle.std.specs.Prelude.{slice_index, slice_index_or}
 use Rattle.std.specs.Option.{option_map}
 use Rattle.std.proofs.lemmas.List.{length-drop, get_or-drop}
 use Rattle.std.proofs.lemmas.List.Elements.{All-drop}
-use Rattle.lx_spec.specs.declared.rule.Step.{Step}
-use Rattle.lx_spec.specs.Choice.{IsChoice}
-use Rattle.lx_spec.specs.Plain.{PlainRule, PlainSpec}
+use Rattle.lx_rules.specs.declared.rule.Step.{Step}
+use Rattle.lx_rules.specs.Choice.{IsChoice}
+use Rattle.lx_rules.specs.Plain.{PlainRule, PlainSpec}
 use Rattle.lx_tables.specs.Model.{AreTablesOf, IsTable, Table, TableRule, table_rule}
 use Rattle.lx_scan.specs.declared.item.Item.{Item}
 use Rattle.lx_scan.specs.declared.place.Match.{Match}

@@ -1,10 +1,10 @@
 -- The items of a text by the rules of a specification (XCU `lex`, "Rules in lex" and "Actions in lex"): a list of matches that runs from the text's begin to its
 -- end, and what is done at each. How a match is chosen is an argument.
 use Rattle.std.specs.Prelude.{◌≡◌, ℕ, ◌+◌, ◌-◌, ◌<◌, Bool, nat_eq, List, [], ◌∷◌, ◌++◌, Option, Some, None, slice_index, slice_index_or, length, drop, take, map}
-use Rattle.lx_spec.specs.declared.rule.Step.{Step}
-use Rattle.lx_spec.specs.declared.rule.Step.TheVariants.{Echo}
-use Rattle.lx_spec.specs.Choice.{IsChoice}
-use Rattle.lx_spec.specs.Plain.{PlainSpec}
+use Rattle.lx_rules.specs.declared.rule.Step.{Step}
+use Rattle.lx_rules.specs.declared.rule.Step.TheVariants.{Echo}
+use Rattle.lx_rules.specs.Choice.{IsChoice}
+use Rattle.lx_rules.specs.Plain.{PlainSpec}
 use Rattle.lx_scan.specs.declared.item.Item.{Item}
 use Rattle.lx_scan.specs.declared.place.Match.{Match}
 use Rattle.lx_scan.specs.declared.place.Place.{Place}

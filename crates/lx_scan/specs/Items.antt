@@ -1,8 +1,8 @@
 -- The items of a text by tables: match after match, the choice by answers at each, and what the chosen rule does (XCU `lex`, "Rules in lex" and "Actions
 -- in lex").
 use Rattle.std.specs.Prelude.{ℕ, zero, suc, ◌+◌, ◌-◌, true, nat_eq, List, [], ◌∷◌, ◌++◌, Option, Some, None, slice_index, drop, take}
-use Rattle.lx_spec.specs.declared.rule.Step.{Step}
-use Rattle.lx_spec.specs.declared.rule.Step.TheVariants.{Echo}
+use Rattle.lx_rules.specs.declared.rule.Step.{Step}
+use Rattle.lx_rules.specs.declared.rule.Step.TheVariants.{Echo}
 use Rattle.lx_tables.specs.Model.{Table, rule_at}
 use Rattle.lx_scan.specs.declared.item.Item.{Item}
 use Rattle.lx_scan.specs.declared.place.Place.{Place}

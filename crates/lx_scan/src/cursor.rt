@@ -11,7 +11,7 @@ ghost use Rattle.lx_scan.specs.Steps.{items_of_steps};
 use crate::item::Item;
 use crate::place::{Match, Place};
 use crate::scanner::next_match;
-use lx_spec::rule::Step;
+use lx_rules::rule::Step;
 use lx_tables::Tables;
 
 /// Between two items of a text: at a match, with so many steps of its rule's action done, and before the place behind it.

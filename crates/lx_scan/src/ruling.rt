@@ -1,8 +1,8 @@
 //! By tables of a specification the choice and the items of a text are those by its rules, and there is one list of items.
 
 ghost use Rattle.std.specs.Prelude.{◌≡◌, ◌<◌, ℕ, All, Bool, List, length};
-ghost use Rattle.lx_spec.specs.Choice.{IsChoice};
-ghost use Rattle.lx_spec.specs.Plain.{PlainSpec};
+ghost use Rattle.lx_rules.specs.Choice.{IsChoice};
+ghost use Rattle.lx_rules.specs.Plain.{PlainSpec};
 ghost use Rattle.lx_tables.specs.Model.{AreTablesOf, IsTable, Table};
 ghost use Rattle.lx_scan.specs.Answers.{choice_of};
 ghost use Rattle.lx_scan.specs.ByRules.{AreItemsBy};

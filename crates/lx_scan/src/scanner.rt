@@ -11,7 +11,7 @@ use crate::choice::choose;
 use crate::cursor::{Cursor, steps_of_match};
 use crate::item::Item;
 use crate::place::{Match, Place};
-use lx_spec::rule::Step;
+use lx_rules::rule::Step;
 use lx_tables::Tables;
 use std::alloc::{AllocError, Global};
 

@@ -7,7 +7,7 @@ use Rattle.std.proofs.lemmas.Bool.Decides.{nat_tests}
 use Rattle.std.proofs.lemmas.List.Elements.{All-from_recursion}
 use Rattle.std.proofs.lemmas.List.{length-map}
 use Rattle.lx_ere.specs.Regex.{Regex}
-use Rattle.lx_spec.specs.Names.{names_of}
+use Rattle.lx_rules.specs.Names.{names_of}
 use Rattle.lx_spec.specs.Sections.{RawDefinition}
 use Rattle.lx_spec.specs.Graph.{AreBelow, nowhere}
 use Rattle.lx_spec.specs.Dictionary.{AreTrees, number_of, row_of, row_in, mention_of, mentions_in, mentions_from, is_incomplete}

@@ -3,17 +3,17 @@ use Rattle.std.proofs.Common.{◌≡◌, ◌∙◌, ℕ, zero, suc, ◌-◌, ◌
 use Rattle.std.specs.Prelude.{Result, MatchResult, IfOk, slice_get, reverse}
 use Rattle.std.proofs.lemmas.List.{reverse-append}
 use Rattle.std.proofs.lemmas.Result.{MatchResult-weaker}
-use Rattle.lx_spec.specs.Plain.{StartCondition, PlainRule}
+use Rattle.lx_rules.specs.Plain.{StartCondition, PlainRule}
+use Rattle.lx_rules.specs.views.Rules.{rule_view}
+use Rattle.lx_rules.specs.declared.rule.Rule.{Rule}
+use Rattle.lx_rules.specs.declared.rule.Step.{Step}
 use Rattle.lx_spec.specs.Sections.{RawRule}
 use Rattle.lx_spec.specs.Actions.{Action, shared, own}
 use Rattle.lx_spec.specs.Outcome.{ResolvedRule, actions_in, first_own, steps_of, rules_of, with_kind, returned_by, kinds_behind, statements_in}
 use Rattle.lx_spec.specs.views.Steps.{steps_at_end, steps_before}
-use Rattle.lx_spec.specs.views.Rules.{rule_view}
 use Rattle.lx_spec.specs.views.Actions.{action_view}
 use Rattle.lx_spec.specs.views.ResolvedRules.{resolved_view}
 use Rattle.lx_spec.specs.declared.resolved_rule.ResolvedRule.{ResolvedRule as CodeRule}
-use Rattle.lx_spec.specs.declared.rule.Rule.{Rule}
-use Rattle.lx_spec.specs.declared.rule.Step.{Step}
 use Rattle.lx_spec.proofs.Returned.{kinds-own}
 
 last-at : (x : Rule) (rules : List Rule) (r : Rule) → slice_get (x ∷ rules) (length rules) ≡ Some r → steps_at_end (map rule_view (x ∷ rules)) ≡ r.action

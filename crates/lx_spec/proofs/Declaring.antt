@@ -3,7 +3,7 @@ use Rattle.std.proofs.Common.{◌≡◌, ℕ, ◌≤◌, ◌<◌, Bool, true, fa
 use Rattle.std.specs.List.{list_any}
 use Rattle.std.specs.Cmp.Lexicographic.{pointwise}
 use Rattle.std.proofs.lemmas.Bool.Decides.{nat_tests}
-use Rattle.lx_spec.specs.Limits.{max_definitions, max_start_conditions}
+use Rattle.lx_rules.specs.Limits.{max_definitions, max_start_conditions}
 use Rattle.lx_spec.specs.Faults.{fault}
 use Rattle.lx_spec.specs.Sections.{ParsedSections, ◌>>=◌, with_definition, with_start_condition, with_start_conditions}
 use Rattle.lx_spec.specs.declared.fault.Code.TheVariants as code

@@ -6,7 +6,7 @@ use Rattle.std.specs.Cmp.Lexicographic.{pointwise}
 use Rattle.std.proofs.lemmas.Bool.Decides.{Decides-eqb}
 use Rattle.std.proofs.lemmas.Slice.Eq.{slice_eq-Decides}
 use Rattle.std.proofs.lemmas.List.Folds.{list_any-append}
-use Rattle.lx_spec.specs.Invariant.{are_distinct}
+use Rattle.lx_rules.specs.Invariant.{are_distinct}
 use Rattle.lx_spec.proofs.Conjunctions.{both, left-of, right-of}
 
 pub same-name : (a b : List ℕ) → pointwise nat_eq a b ≡ true → a ≡ b

@@ -4,7 +4,7 @@ use Rattle.std.specs.Prelude.{IsTrue, Contains, slice_index}
 use Rattle.std.proofs.lemmas.Bool.{false≢true}
 use Rattle.lx_ere.specs.Regex.{Regex, Reading}
 use Rattle.lx_ere.specs.Pattern.{IsPattern}
-use Rattle.lx_spec.specs.Limits.{max_name_depth}
+use Rattle.lx_rules.specs.Limits.{max_name_depth}
 use Rattle.lx_spec.specs.Dictionary.{row_of, all_defined, mentions_of, unreadable_marks, incomplete_marks}
 use Rattle.lx_spec.specs.views.Dictionaries.{dictionary_view}
 use Rattle.lx_spec.specs.Graph.{IsMention, Leads, Follow, is_marked}

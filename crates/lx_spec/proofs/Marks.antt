@@ -9,7 +9,7 @@ use Rattle.std.proofs.lemmas.List.Elements.{Contains-get_or, Contains-push, Cont
 use Rattle.std.proofs.lemmas.Bool.Decides.{nat_tests}
 use Rattle.std.proofs.lemmas.Bool.{false≢true}
 use borrow.Author.Count.{below_more}
-use Rattle.lx_spec.specs.Limits.{max_name_depth}
+use Rattle.lx_rules.specs.Limits.{max_name_depth}
 use Rattle.lx_spec.specs.declared.graph.Mention.{Mention}
 use Rattle.lx_spec.specs.Graph.{nowhere, IsMention, AreBelow, Leads, itself, along, AreMarked, list_at, is_marked, unmarked, Follow, AreSound, Reach}
 

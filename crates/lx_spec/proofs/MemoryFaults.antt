@@ -2,7 +2,7 @@
 use Rattle.std.proofs.Common.{◌≡◌, ◌≢◌, ◌∙◌, ℕ, zero, suc, Bool, true, false, cond, List, [], ◌∷◌, Ok, Err, Result, refl, sym, ap, subst, arith, length, nat_eq, nat_lt}
 use Rattle.std.specs.List.{list_any}
 use Rattle.std.specs.Cmp.Lexicographic.{pointwise}
-use Rattle.lx_spec.specs.Limits.{max_definitions, max_rules, max_start_conditions}
+use Rattle.lx_rules.specs.Limits.{max_definitions, max_rules, max_start_conditions}
 use Rattle.lx_spec.specs.Bytes.{lines}
 use Rattle.lx_spec.specs.Faults.{fault, out_of_memory}
 use Rattle.lx_spec.specs.Sections.{RawRule, ParsedSections, Entry, conditions, definition, rule, formless, unclosed, endless, definitions, entries, ◌>>=◌, with_start_condition, with_start_conditions, with_rule, with_entry, with_entries, only_initial}

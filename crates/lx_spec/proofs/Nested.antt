@@ -9,10 +9,10 @@ use Rattle.std.proofs.lemmas.Bool.Decides.{nat_tests}
 use Rattle.std.proofs.lemmas.List.{length-map}
 use Rattle.std.proofs.lemmas.List.Elements.{Contains-append_left, Contains-append_right}
 use Rattle.lx_ere.specs.Regex.{Regex}
-use Rattle.lx_spec.specs.Limits.{max_name_depth}
-use Rattle.lx_spec.specs.Plain.{PlainDefinition}
-use Rattle.lx_spec.specs.Names.{names_of}
-use Rattle.lx_spec.specs.Nesting.{tree_named, holds_of, is_no_name, is_within, are_nested}
+use Rattle.lx_rules.specs.Limits.{max_name_depth}
+use Rattle.lx_rules.specs.Plain.{PlainDefinition}
+use Rattle.lx_rules.specs.Names.{names_of}
+use Rattle.lx_rules.specs.Nesting.{tree_named, holds_of, is_no_name, is_within, are_nested}
 use Rattle.lx_spec.specs.Sections.{RawDefinition, RawRule}
 use Rattle.lx_spec.specs.Dictionary.{number_of, row_of, all_defined, mention_of, mentions_in, mentions_from, mentions_of, is_incomplete, incomplete_marks}
 use Rattle.lx_spec.specs.First.{HoldsOfNone}

@@ -2,7 +2,7 @@
 use Rattle.std.proofs.Common.{◌≡◌, ◌∙◌, ℕ, List, Option, Ok, Err, Result, refl, ap, sym, subst, arith}
 use Rattle.lx_ere.specs.Regex.{Regex, Reading}
 use Rattle.lx_ere.specs.Pattern.{IsPattern, IsSubstitute}
-use Rattle.lx_spec.specs.Plain.{PlainSpec}
+use Rattle.lx_rules.specs.Plain.{PlainSpec}
 use Rattle.lx_spec.specs.First.{IsFirst, here, later, HoldsOfNone}
 use Rattle.lx_spec.specs.Sections.{ParsedSections}
 use Rattle.lx_spec.specs.Dictionary.{AreTrees}

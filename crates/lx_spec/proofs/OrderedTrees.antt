@@ -5,8 +5,8 @@ use Rattle.std.specs.List.{list_all}
 use Rattle.lx_ere.specs.Regex.{Regex, Reading}
 use Rattle.lx_ere.specs.Bounds.{has_ordered_bounds}
 use Rattle.lx_ere.specs.Pattern.{IsPattern, IsSubstitute}
-use Rattle.lx_spec.specs.Plain.{StartCondition, PlainDefinition}
-use Rattle.lx_spec.specs.Invariant.{are_ordered}
+use Rattle.lx_rules.specs.Plain.{StartCondition, PlainDefinition}
+use Rattle.lx_rules.specs.Invariant.{are_ordered}
 use Rattle.lx_spec.specs.Sections.{RawDefinition, RawRule}
 use Rattle.lx_spec.specs.Dictionary.{AreTrees}
 use Rattle.lx_spec.specs.Outcome.{ResolvedRule, AreResolved, AreReached, none, reached, passed, patterns_in}

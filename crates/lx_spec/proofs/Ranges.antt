@@ -4,14 +4,15 @@ use Rattle.std.specs.Prelude.{IsTrue}
 use Rattle.std.specs.List.{list_all, list_any}
 use Rattle.std.specs.Cmp.Lexicographic.{pointwise}
 use Rattle.std.proofs.lemmas.Bool.Decides.{nat_tests}
-use Rattle.lx_spec.specs.Plain.{StartCondition, PlainDefinition, PlainRule}
-use Rattle.lx_spec.specs.Bytes.{is_identifier}
+use Rattle.lx_rules.specs.Plain.{StartCondition, PlainDefinition, PlainRule}
+use Rattle.lx_rules.specs.Identifiers.{is_identifier}
+use Rattle.lx_rules.specs.Invariant.{are_distinct, are_definitions, are_steps, are_conditions, is_rule, are_kinds, is_number}
+use Rattle.lx_rules.specs.Nesting.{expressions_of}
 use Rattle.lx_spec.specs.Sections.{RawDefinition, RawRule}
 use Rattle.lx_spec.specs.views.Actions.{value_view, statement_view, statements_view, action_view}
 use Rattle.lx_spec.specs.Outcome.{ResolvedRule, AreResolved, AreReached, none, reached, passed, patterns_in, actions_in, first_own, statements_in, returned_by, with_kind, kinds_behind, kinds_of, steps_of, rules_of}
-use Rattle.lx_spec.specs.Invariant.{are_distinct, are_raw_definitions, are_definitions, are_steps, are_conditions, is_rule, are_kinds, is_number}
+use Rattle.lx_spec.specs.WellFormed.{are_raw_definitions}
 use Rattle.lx_ere.specs.Regex.{Regex}
-use Rattle.lx_spec.specs.Nesting.{expressions_of}
 use Rattle.lx_spec.specs.views.ResolvedRules.{resolved_view}
 use Rattle.lx_spec.specs.views.Sections.{raw_rule_view}
 use Rattle.lx_spec.specs.declared.returned_value.Value.{Value as CodeValue}

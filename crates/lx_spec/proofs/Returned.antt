@@ -5,12 +5,12 @@ use Rattle.std.specs.List.{list_all, list_any, position, position_or_len, flat_m
 use Rattle.std.specs.Cmp.Lexicographic.{pointwise}
 use Rattle.std.proofs.lemmas.List.{append-nil, length-append}
 use Rattle.std.proofs.lemmas.Bool.Decides.{nat_tests}
-use Rattle.lx_spec.specs.Plain.{StartCondition, PlainRule}
-use Rattle.lx_spec.specs.Bytes.{is_identifier}
+use Rattle.lx_rules.specs.Plain.{StartCondition, PlainRule}
+use Rattle.lx_rules.specs.Identifiers.{is_identifier}
+use Rattle.lx_rules.specs.Invariant.{are_distinct, is_kind, are_steps, returned_names, next_number}
 use Rattle.lx_spec.specs.Sections.{RawRule}
 use Rattle.lx_spec.specs.Actions.{Value, name, number, Statement, nothing, echo, begin, return, Action, shared, own}
 use Rattle.lx_spec.specs.Outcome.{ResolvedRule, actions_in, first_own, statements_in, returned_by, with_kind, kinds_behind, kind_of, steps_of, rules_of, number_or_first}
-use Rattle.lx_spec.specs.Invariant.{are_distinct, is_kind, are_steps, returned_names, next_number}
 use Rattle.lx_spec.proofs.Conjunctions.{both, left-of, right-of, all-push}
 use Rattle.lx_spec.proofs.Distinct.{distinct-push, same-name-is}
 

@@ -4,7 +4,7 @@ use Rattle.std.proofs.Common.{◌≡◌, ℕ, zero, suc, get_or, arith, ◌+◌,
 use Rattle.std.specs.List.{position, position_or_len, prefix_len, filter_map, list_all}
 use Rattle.std.proofs.lemmas.List.{length-map}
 use Rattle.lx_ere.specs.Regex.{Regex}
-use Rattle.lx_spec.specs.Names.{names_of}
+use Rattle.lx_rules.specs.Names.{names_of}
 use Rattle.lx_spec.specs.Sections.{RawDefinition}
 use Rattle.lx_spec.specs.Dictionary.{number_of, row_of}
 use Rattle.std.proofs.lemmas.List.Elements.{filter_map-append}

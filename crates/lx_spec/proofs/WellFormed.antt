@@ -4,11 +4,12 @@ use Rattle.std.specs.Prelude.{IsTrue}
 use Rattle.std.specs.List.{list_any}
 use Rattle.std.specs.Cmp.Lexicographic.{pointwise}
 use Rattle.std.proofs.lemmas.List.{map_push}
-use Rattle.lx_spec.specs.Limits.{max_definitions, max_rules, max_start_conditions}
-use Rattle.lx_spec.specs.Plain.{StartCondition}
+use Rattle.lx_rules.specs.Limits.{max_definitions, max_rules, max_start_conditions}
+use Rattle.lx_rules.specs.Plain.{StartCondition}
+use Rattle.lx_rules.specs.Invariant.{are_distinct, begins_initial, are_start_conditions}
 use Rattle.lx_spec.specs.Faults.{fault}
 use Rattle.lx_spec.specs.Sections.{RawDefinition, RawRule, ParsedSections, Entry, conditions, definition, rule, formless, unclosed, endless, ◌>>=◌, with_start_condition, with_start_conditions, with_definition, with_rule, with_entry, with_entries, only_initial}
-use Rattle.lx_spec.specs.Invariant.{are_distinct, begins_initial, are_start_conditions, are_raw_definitions, AreWellFormed}
+use Rattle.lx_spec.specs.WellFormed.{are_raw_definitions, AreWellFormed}
 use Rattle.lx_spec.specs.declared.fault.Code.TheVariants as code
 use Rattle.lx_spec.specs.declared.fault.SpecFault.{SpecFault}
 use Rattle.lx_spec.proofs.Conjunctions.{both, left-of, right-of}

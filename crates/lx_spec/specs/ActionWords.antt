@@ -1,6 +1,7 @@
 -- The words of an action (XCU `lex`, "Actions in lex").
 use Rattle.std.specs.Prelude.{◌≡◌, ℕ, Bool, not, ◌||◌, nat_eq, if◌then◌else◌, List, [], ◌∷◌, drop, Option, Some, None}
-use Rattle.lx_spec.specs.Bytes.{is_blank, is_word_byte, begins_with, run, behind_run}
+use Rattle.lx_rules.specs.Identifiers.{is_word_byte}
+use Rattle.lx_spec.specs.Bytes.{is_blank, begins_with, run, behind_run}
 use Rattle.lx_spec.specs.Constants.{constant_at}
 
 pub data Word : Type 0 where

@@ -2,7 +2,7 @@
 use Rattle.std.specs.Prelude.{◌≡◌, ℕ, suc, Bool, true, false, not, ◌&&◌, ◌||◌, nat_eq, if◌then◌else◌, List, [], ◌∷◌, Option, Some, None, codes}
 use Rattle.std.specs.List.{list_all}
 use Rattle.std.specs.Cmp.Lexicographic.{pointwise}
-use Rattle.lx_spec.specs.Bytes.{is_digit, is_identifier}
+use Rattle.lx_rules.specs.Identifiers.{is_digit, is_identifier}
 use Rattle.lx_spec.specs.Lines.{is_empty}
 use Rattle.lx_spec.specs.Constants.{decimal_below}
 use Rattle.lx_spec.specs.ActionWords.{Word, letters, byte, bar, semicolon, open_brace, close_brace, open_group, close_group, AreWords}

@@ -1,6 +1,6 @@
 -- Bytes, words and lines.
-use Rattle.std.specs.Prelude.{ℕ, Bool, false, not, ◌&&◌, ◌||◌, nat_eq, nat_le, if◌then◌else◌, List, [], ◌∷◌, map, take, drop, Option, Some, None}
-use Rattle.std.specs.List.{list_all, prefix_len}
+use Rattle.std.specs.Prelude.{ℕ, Bool, false, not, ◌&&◌, ◌||◌, nat_eq, if◌then◌else◌, List, [], ◌∷◌, map, take, drop, Option, Some, None}
+use Rattle.std.specs.List.{prefix_len}
 use Rattle.bstr.specs.Text.{lines_of, without_terminator}
 
 -- the lines of a text, without LF, or CR LF, at their ends
@@ -10,22 +10,6 @@ lines text = map without_terminator (lines_of text)
 -- a space or a tab
 abbrev pub is_blank : ℕ → Bool
 is_blank c = nat_eq c 32 || nat_eq c 9
-
-abbrev pub is_between : ℕ → ℕ → ℕ → Bool
-is_between low high c = nat_le low c && nat_le c high
-
-abbrev pub is_digit : ℕ → Bool
-is_digit c = is_between 48 57 c
-
-abbrev pub is_letter : ℕ → Bool
-is_letter c = is_between 65 90 c || is_between 97 122 c
-
-abbrev pub is_alphanumeric : ℕ → Bool
-is_alphanumeric c = is_letter c || is_digit c
-
--- a letter, a digit or _
-abbrev pub is_word_byte : ℕ → Bool
-is_word_byte c = is_alphanumeric c || nat_eq c 95
 
 -- the first byte passes the test
 abbrev pub begins : (ℕ → Bool) → List ℕ → Bool
@@ -49,14 +33,6 @@ behind_run p text = drop (prefix_len p text) text
 -- the longest run at the front of bytes that pass the test
 abbrev pub run : (ℕ → Bool) → List ℕ → List ℕ
 run p text = take (prefix_len p text) text
-
-abbrev pub begins_identifier : ℕ → Bool
-begins_identifier c = is_letter c || nat_eq c 95
-
--- a letter or _, and then letters, digits or _
-abbrev pub is_identifier : List ℕ → Bool
-is_identifier [] = false
-is_identifier (c ∷ text) = begins_identifier c && list_all is_word_byte text
 
 abbrev pub keep : ℕ → List ℕ → List ℕ
 keep c [] = if is_blank c then [] else c ∷ []

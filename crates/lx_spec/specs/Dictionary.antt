@@ -4,7 +4,7 @@ use Rattle.std.specs.List.{filter_map, list_all, position}
 use Rattle.std.specs.Cmp.Lexicographic.{pointwise}
 use Rattle.lx_ere.specs.Regex.{Regex}
 use Rattle.lx_ere.specs.Pattern.{IsSubstitute}
-use Rattle.lx_spec.specs.Names.{names_of}
+use Rattle.lx_rules.specs.Names.{names_of}
 use Rattle.lx_spec.specs.Sections.{RawDefinition}
 use Rattle.lx_spec.specs.declared.graph.Mention.{Mention}
 

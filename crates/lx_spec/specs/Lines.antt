@@ -2,7 +2,8 @@
 use Rattle.std.specs.Prelude.{ℕ, ◌==◌, Bool, true, false, not, ◌&&◌, ◌||◌, nat_eq, if◌then◌else◌, List, [], ◌∷◌, length, drop, codes}
 use Rattle.std.specs.List.{list_all}
 use Rattle.std.specs.Cmp.Lexicographic.{pointwise}
-use Rattle.lx_spec.specs.Bytes.{is_blank, is_digit, is_alphanumeric, is_word_byte, begins, begins_with, has_pair, run, behind_run, is_identifier, trimmed, words_of}
+use Rattle.lx_rules.specs.Identifiers.{is_digit, is_alphanumeric, is_word_byte, is_identifier}
+use Rattle.lx_spec.specs.Bytes.{is_blank, begins, begins_with, has_pair, run, behind_run, trimmed, words_of}
 
 pub data Line : Type 0 where
   -- empty, code, a comment on one line, or a declaration without effect

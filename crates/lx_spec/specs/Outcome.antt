@@ -4,17 +4,17 @@ use Rattle.std.specs.List.{list_any, position}
 use Rattle.std.specs.Cmp.Lexicographic.{pointwise}
 use Rattle.lx_ere.specs.Regex.{Regex, Reading}
 use Rattle.lx_ere.specs.Pattern.{IsPattern}
-use Rattle.lx_spec.specs.Plain.{StartCondition, PlainDefinition, PlainRule, PlainSpec}
+use Rattle.lx_rules.specs.Plain.{StartCondition, PlainDefinition, PlainRule, PlainSpec}
+use Rattle.lx_rules.specs.declared.rule.Kind.{Kind}
+use Rattle.lx_rules.specs.declared.rule.Kind.TheVariants as kind
+use Rattle.lx_rules.specs.declared.rule.Step.{Step}
+use Rattle.lx_rules.specs.declared.rule.Step.TheVariants as step
 use Rattle.lx_spec.specs.Sections.{RawDefinition, RawRule}
 use Rattle.lx_spec.specs.RuleLines.{Prefix, absent, unclosed, listed}
 use Rattle.lx_spec.specs.Actions.{Value, name, number, Statement, nothing, echo, begin, return, Action, shared, own, IsAction}
 use Rattle.lx_spec.specs.Dictionary.{row_of, mentions_of, unreadable_marks}
 use Rattle.lx_spec.specs.Graph.{IsMention, is_marked}
 use Rattle.lx_spec.specs.Verdict.{SymbolTable, condition_number, fields_of}
-use Rattle.lx_spec.specs.declared.rule.Kind.{Kind}
-use Rattle.lx_spec.specs.declared.rule.Kind.TheVariants as kind
-use Rattle.lx_spec.specs.declared.rule.Step.{Step}
-use Rattle.lx_spec.specs.declared.rule.Step.TheVariants as step
 
 -- the number of a condition that is declared
 abbrev pub number_or_first : List StartCondition → List ℕ → ℕ

@@ -2,8 +2,8 @@
 use Rattle.std.specs.Prelude.{◌≡◌, ◌≢◌, ℕ, ◌+◌, Bool, true, false, nat_eq, nat_lt, if◌then◌else◌, List, [], ◌∷◌, ◌++◌, length, Option, Some, None, Result, Ok, Err}
 use Rattle.std.specs.List.{list_any}
 use Rattle.std.specs.Cmp.Lexicographic.{pointwise}
-use Rattle.lx_spec.specs.Limits.{max_definitions, max_rules, max_start_conditions}
-use Rattle.lx_spec.specs.Plain.{StartCondition}
+use Rattle.lx_rules.specs.Limits.{max_definitions, max_rules, max_start_conditions}
+use Rattle.lx_rules.specs.Plain.{StartCondition}
 use Rattle.lx_spec.specs.Bytes.{lines, begins_with, has_pair}
 use Rattle.lx_spec.specs.Blocks.{start, with_line, is_closed}
 use Rattle.lx_spec.specs.Faults.{fault, out_of_memory}

@@ -4,8 +4,8 @@ use Rattle.std.specs.List.{list_all, position}
 use Rattle.std.specs.Cmp.Lexicographic.{pointwise}
 use Rattle.lx_ere.specs.Regex.{Regex, Reading}
 use Rattle.lx_ere.specs.Pattern.{IsPattern}
-use Rattle.lx_spec.specs.Limits.{max_name_depth}
-use Rattle.lx_spec.specs.Plain.{StartCondition}
+use Rattle.lx_rules.specs.Limits.{max_name_depth}
+use Rattle.lx_rules.specs.Plain.{StartCondition}
 use Rattle.lx_spec.specs.Faults.{fault, out_of_memory}
 use Rattle.lx_spec.specs.First.{IsFirst, HoldsOfNone}
 use Rattle.lx_spec.specs.Sections.{RawDefinition, RawRule}

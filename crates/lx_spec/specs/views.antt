@@ -1,18 +1,14 @@
 -- What the values of the code stand for: each without where it lies in memory.
 pub mod Actions
-pub mod Conditions
 pub mod DefinitionFaults
 pub mod Dictionaries
 pub mod Fields
 pub mod Lines
-pub mod NameTables
 pub mod Pieces
 pub mod Places
 pub mod ResolvedRules
 pub mod RuleLines
-pub mod Rules
 pub mod Sections
-pub mod Specs
 pub mod Steps
 pub mod SymbolTables
 pub mod Trees

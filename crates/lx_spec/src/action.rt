@@ -2,17 +2,17 @@
 ghost use Rattle.std.specs.Prelude.{◌≡◌, ◌+◌, ◌≤◌, length, drop, IfSome, OnSome, IfOk, MatchOption, List};
 ghost use Rattle.std.specs.List.{list_all};
 ghost use Rattle.std.specs.Option.{option_map};
-ghost use Rattle.lx_spec.specs.Bytes as bytes;
+ghost use Rattle.lx_rules.specs.Identifiers.{is_digit};
 ghost use Rattle.lx_spec.specs.Actions as plain;
 ghost use Rattle.lx_spec.specs.Actions.{AreStatements, IsAction};
 ghost use Rattle.lx_spec.specs.views.Words.{word_view, words_view};
 ghost use Rattle.lx_spec.specs.views.Actions.{value_view, statement_view, statements_view, action_view};
 ghost use Rattle.lx_spec.specs.views.Turns.{turn_view, TakesWords};
 
-use crate::bytes::{is_digit, is_identifier};
 use crate::constant::decimal_below;
 use crate::returned_value::{Identifier, KindNumber, Value};
 use crate::word::{Word, read_words};
+use lx_rules::identifier::{is_digit, is_identifier};
 use std::alloc::{AllocError, Global};
 
 /// A statement of an action.
@@ -46,7 +46,7 @@ enum Turn<'t> {
 }
 
 fn are_digits(text: &[u8]) -> bool
-    ensures { result ≡ list_all bytes.is_digit text.now }
+    ensures { result ≡ list_all is_digit text.now }
 {
     text.iter().all(|c| is_digit(*c))
 }

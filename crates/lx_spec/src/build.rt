@@ -1,25 +1,24 @@
 // The specification that rules without a fault say.
 ghost use Rattle.std.specs.Prelude.{◌≡◌, [], ◌∷◌, Some, ◌+◌, ◌<◌, ◌≤◌, length, map, IfOk, vec_len};
 ghost use Rattle.std.specs.Option.{option_map};
+ghost use Rattle.lx_rules.specs.views.Conditions.{condition_view};
+ghost use Rattle.lx_rules.specs.Limits.{max_rules, max_start_conditions};
+ghost use Rattle.lx_rules.specs.views.Rules.{rule_view, names_view};
+ghost use Rattle.lx_rules.specs.views.Specs.{spec_view};
 ghost use Rattle.lx_spec.specs.views.Actions.{value_view, statements_view, action_view};
 ghost use Rattle.lx_spec.specs.views.Steps.{steps_at_end, steps_before, with_steps};
-ghost use Rattle.lx_spec.specs.views.Conditions.{condition_view};
 ghost use Rattle.lx_spec.specs.views.Dictionaries.{dictionary_view, IsDictionary};
 ghost use Rattle.lx_spec.specs.First.{HoldsOfNone};
-ghost use Rattle.lx_spec.specs.Limits.{max_rules, max_start_conditions};
 ghost use Rattle.lx_spec.specs.Outcome as plain;
 ghost use Rattle.lx_spec.specs.Outcome.{AreResolved, AreSpec};
-ghost use Rattle.lx_spec.specs.views.Rules.{rule_view, names_view};
 ghost use Rattle.lx_spec.specs.views.ResolvedRules.{resolved_view};
 ghost use Rattle.lx_spec.specs.views.Sections.{raw_rule_view, start_condition_view, raw_definition_view, sections_view};
-ghost use Rattle.lx_spec.specs.views.Specs.{spec_view};
 ghost use Rattle.lx_spec.specs.views.Trees.{trees_view};
 ghost use Rattle.lx_spec.specs.Verdict.{Holds, cases};
 ghost use Rattle.lx_spec.specs.Whole.{symbols_of};
-ghost use Rattle.lx_spec.specs.Invariant.{AreWellFormed};
+ghost use Rattle.lx_spec.specs.WellFormed.{AreWellFormed};
 
 use crate::action::{Action, Statement};
-use crate::condition::Condition;
 use crate::definition_index::DefinitionIndex;
 use crate::dictionary::Dictionary;
 use crate::kind_index::{KindIndex, with_name};
@@ -27,10 +26,11 @@ use crate::parsed_sections::{ParsedSections, RawRule, StartCondition};
 use crate::reach::definitions_of;
 use crate::resolved_rule::{ResolvedRule, number_or_first};
 use crate::returned_value::Value;
-use crate::rule::{Kind, Rule, Step};
-use crate::spec::Spec;
-use crate::steps::Steps;
 use lx_ere::read::bounds_are_ordered;
+use lx_rules::condition::Condition;
+use lx_rules::rule::{Kind, Rule, Step};
+use lx_rules::spec::Spec;
+use lx_rules::steps::Steps;
 use std::alloc::{AllocError, Global};
 
 // What some statements return.

@@ -1,7 +1,7 @@
 // Where each definition leads: to a substitute without a reading, to a name that isn't defined, or along 33 names.
 ghost use Rattle.std.specs.Prelude.{◌≡◌, ℕ, ◌<◌, ◌↔◌, length, map, IsTrue, IfOk, Contains, slice_index, nat_le};
+ghost use Rattle.lx_rules.specs.Limits.{max_name_depth};
 ghost use Rattle.lx_spec.specs.Dictionary.{unreadable_marks};
-ghost use Rattle.lx_spec.specs.Limits.{max_name_depth};
 ghost use Rattle.lx_spec.specs.Graph.{AreBelow, is_marked};
 ghost use Rattle.lx_spec.specs.views.Trees.{trees_view};
 ghost use Rattle.lx_spec.specs.views.Dictionaries.{dictionary_view};

@@ -1,11 +1,11 @@
 // Definitions by their names.
 ghost use Rattle.std.specs.Prelude.{◌≡◌, ℕ, List, map, IfOk};
+ghost use Rattle.lx_rules.specs.views.NameTables.{number_at};
 ghost use Rattle.lx_spec.specs.Dictionary as plain;
-ghost use Rattle.lx_spec.specs.views.NameTables.{number_at};
 ghost use Rattle.lx_spec.specs.views.Sections.{raw_definition_view};
 
-use crate::name_table::add_number;
 use crate::parsed_sections::RawDefinition;
+use lx_rules::name_table::add_number;
 use std::alloc::{AllocError, Global};
 use std::collections::BTreeMap;
 

@@ -2,12 +2,12 @@
 ghost use Rattle.std.specs.Prelude.{◌≡◌, ◌+◌, ◌≤◌, ℕ, List, [], Some, nat_eq, IfOk, vec_len};
 ghost use Rattle.std.specs.Cmp.Lexicographic.{pointwise};
 ghost use Rattle.std.specs.List.{position};
+ghost use Rattle.lx_rules.specs.views.NameTables.{number_at};
+ghost use Rattle.lx_rules.specs.views.Rules.{names_view};
 ghost use Rattle.lx_spec.specs.Actions.{name};
-ghost use Rattle.lx_spec.specs.views.NameTables.{number_at};
 ghost use Rattle.lx_spec.specs.Outcome.{with_kind};
-ghost use Rattle.lx_spec.specs.views.Rules.{names_view};
 
-use crate::name_table::add_number;
+use lx_rules::name_table::add_number;
 use std::alloc::{AllocError, Global};
 use std::collections::BTreeMap;
 

@@ -2,14 +2,15 @@
 ghost use Rattle.std.specs.Prelude.{◌≡◌, ◌≤◌, length};
 ghost use Rattle.std.specs.List.{list_all, prefix_len};
 ghost use Rattle.std.specs.Option.{option_map};
+ghost use Rattle.lx_rules.specs.Identifiers.{is_digit, is_identifier};
 ghost use Rattle.lx_spec.specs.Bytes as bytes;
 ghost use Rattle.lx_spec.specs.Lines as plain;
 ghost use Rattle.lx_spec.specs.views.Lines.{line_view};
 
 use crate::bytes::{
-    alphanumeric_len, begins_with, blanks_len, has_pair, is_blank, is_digit, is_identifier,
-    trimmed, word_len,
+    alphanumeric_len, begins_with, blanks_len, has_pair, is_blank, trimmed, word_len,
 };
+use lx_rules::identifier::{is_digit, is_identifier};
 
 /// What a line of the first section says. The names of conditions stand in `names` with blanks between.
 #[derive(Drop)]
@@ -58,7 +59,7 @@ pub(crate) fn next_word(text: &[u8]) -> Option<(&[u8], &[u8])>
 
 #[tactic(auto, using(crate::proofs::Words::word_steps))]
 fn are_identifiers(text: &[u8]) -> bool
-    ensures { result ≡ list_all bytes.is_identifier (bytes.words_of text.now) }
+    ensures { result ≡ list_all is_identifier (bytes.words_of text.now) }
 {
     let mut rest = text;
     while let Some((word, behind)) = next_word(rest) {
@@ -113,7 +114,7 @@ fn is_size_word(word: &[u8]) -> bool
 }
 
 fn are_digits(text: &[u8]) -> bool
-    ensures { result ≡ list_all bytes.is_digit text.now }
+    ensures { result ≡ list_all is_digit text.now }
 {
     text.iter().all(|c| is_digit(*c))
 }

@@ -1,6 +1,6 @@
 // What the sections say, entry by entry.
 ghost use Rattle.std.specs.Prelude.{◌<◌, ◌≤◌, length};
-ghost use Rattle.lx_spec.specs.Limits.{max_definitions, max_rules, max_start_conditions};
+ghost use Rattle.lx_rules.specs.Limits.{max_definitions, max_rules, max_start_conditions};
 
 use crate::block::Count;
 use crate::rule_line::Prefix;

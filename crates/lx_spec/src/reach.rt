@@ -1,22 +1,22 @@
 // Which definitions rules reach, and the list of them.
 ghost use Rattle.std.specs.Prelude.{◌≡◌, ℕ, ◌<◌, ◌≤◌, ◌↔◌, false, map, reverse, length, IfOk, OnOk, IsTrue, Contains, vec_len, slice_index};
 ghost use Rattle.std.specs.List.{flat_map};
+ghost use Rattle.lx_rules.specs.views.Rules.{definition_view};
 ghost use Rattle.lx_spec.specs.Dictionary.{row_of, mention_of, is_unreadable, unreadable_marks};
 ghost use Rattle.lx_spec.specs.views.Dictionaries.{dictionary_view, IsDictionary};
 ghost use Rattle.lx_spec.specs.Graph.{is_marked};
 ghost use Rattle.lx_spec.specs.Outcome.{IsReached, AreReached, AreReachedBy, AreReadable, PutsReached, patterns_in};
-ghost use Rattle.lx_spec.specs.views.Rules.{definition_view};
 ghost use Rattle.lx_spec.specs.views.ResolvedRules.{resolved_view};
 ghost use Rattle.lx_spec.specs.views.Sections.{raw_definition_view};
 ghost use Rattle.lx_spec.specs.views.Trees.{tree_view, trees_view};
 
-use crate::definition::Definition;
 use crate::definition_index::DefinitionIndex;
 use crate::dictionary::{Dictionary, push_row};
 use crate::graph::{Mention, spread};
 use crate::parsed_sections::RawDefinition;
 use crate::resolved_rule::ResolvedRule;
 use lx_ere::expr::Expr;
+use lx_rules::definition::Definition;
 use std::alloc::{AllocError, Global};
 
 // The numbers of the definitions that the patterns of rules name.

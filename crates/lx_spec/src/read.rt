@@ -3,16 +3,15 @@ ghost use Rattle.std.specs.Prelude.{◌≡◌, ◌≢◌, ℕ, List, Option, map
 ghost use Rattle.lx_ere.specs.PatternEnd.{pattern_end};
 ghost use Rattle.lx_ere.specs.PatternGrammar.{IsPatternEnd};
 ghost use Rattle.lx_ere.specs.Regex.{Regex};
-ghost use Rattle.lx_spec.specs.Plain.{PlainSpec};
+ghost use Rattle.lx_rules.specs.Plain.{PlainSpec};
+ghost use Rattle.lx_rules.specs.views.Specs.{spec_view};
 ghost use Rattle.lx_spec.specs.Dictionary.{AreTrees};
 ghost use Rattle.lx_spec.specs.views.Dictionaries.{dictionary_view, IsDictionary};
 ghost use Rattle.lx_spec.specs.Faults.{out_of_memory};
 ghost use Rattle.lx_spec.specs.First.{HoldsOfNone};
-ghost use Rattle.lx_spec.specs.Invariant.{IsWellFormed};
 ghost use Rattle.lx_spec.specs.Outcome.{AreResolved};
 ghost use Rattle.lx_spec.specs.views.ResolvedRules.{resolved_view};
 ghost use Rattle.lx_spec.specs.views.Sections.{sections_view};
-ghost use Rattle.lx_spec.specs.views.Specs.{spec_view};
 ghost use Rattle.lx_spec.specs.views.Trees.{trees_view};
 ghost use Rattle.lx_spec.specs.Verdict.{Holds, IsFirstFault, cases};
 ghost use Rattle.lx_spec.specs.Whole.{IsFault, IsRead, symbols_of};
@@ -25,10 +24,10 @@ use crate::fault::{Code, SpecFault};
 use crate::parsed_sections::ParsedSections;
 use crate::resolved_rule::{ResolvedRule, resolve_rules};
 use crate::section::read_sections;
-use crate::spec::Spec;
 use crate::symbol_table::SymbolTable;
 use lx_ere::extent::{one_pattern_end, some_pattern_end};
 use lx_ere::read::{one_reading, one_substitute};
+use lx_rules::spec::Spec;
 use std::alloc::Global;
 
 // The most bytes of a specification.
@@ -99,8 +98,3 @@ pub fn one_verdict()
     one_reading();
     one_substitute();
 }
-
-/// A law: what every specification keeps, over its plain values.
-pub fn specs_are_well_formed()
-    ensures { (spec : Spec) → IsWellFormed (spec_view spec) }
-{}

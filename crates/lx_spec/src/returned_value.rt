@@ -1,6 +1,6 @@
 // What actions return (XCU `lex`, "Actions in lex": `return`).
 ghost use Rattle.std.specs.Prelude.{◌<◌, IsTrue};
-ghost use Rattle.lx_spec.specs.Bytes.{is_identifier};
+ghost use Rattle.lx_rules.specs.Identifiers.{is_identifier};
 
 /// A number below 2,147,483,648.
 #[derive(Clone, Copy)]

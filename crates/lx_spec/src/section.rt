@@ -2,10 +2,10 @@
 ghost use Rattle.std.specs.Prelude.{◌≡◌, ◌+◌, ◌<◌, ◌≤◌, List, ℕ, length, nat_eq, IfOk, IfErr, Err, []};
 ghost use Rattle.std.specs.List.{list_any};
 ghost use Rattle.std.specs.Cmp.Lexicographic.{pointwise};
+ghost use Rattle.lx_rules.specs.Limits.{max_specification_bytes};
 ghost use Rattle.lx_spec.specs.Blocks as blocks;
 ghost use Rattle.lx_spec.specs.Bytes.{words_of};
 ghost use Rattle.lx_spec.specs.Faults.{out_of_memory};
-ghost use Rattle.lx_spec.specs.Limits.{max_specification_bytes};
 ghost use Rattle.lx_spec.specs.Sections as plain;
 ghost use Rattle.lx_spec.specs.Sections.{Gives, Goes, TakesLine};
 ghost use Rattle.lx_spec.specs.views.Sections.{raw_rule_view, sections_view};

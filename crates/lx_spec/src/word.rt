@@ -2,14 +2,15 @@
 ghost use Rattle.std.specs.Prelude.{◌≡◌, ◌+◌, ◌<◌, ◌≤◌, length, IfSome, IfOk, MatchOption, List};
 ghost use Rattle.std.specs.List.{prefix_len};
 ghost use Rattle.std.specs.Option.{option_map};
-ghost use Rattle.lx_spec.specs.Bytes as bytes;
+ghost use Rattle.lx_rules.specs.Identifiers.{is_word_byte};
 ghost use Rattle.lx_spec.specs.ActionWords as plain;
 ghost use Rattle.lx_spec.specs.ActionWords.{AreWords};
 ghost use Rattle.lx_spec.specs.views.Words.{word_view, words_view};
 ghost use Rattle.lx_spec.specs.views.Pieces.{piece_view, LeavesLess};
 
-use crate::bytes::{begins_with, is_blank, is_word_byte, word_len};
+use crate::bytes::{begins_with, is_blank, word_len};
 use crate::constant::constant_at;
+use lx_rules::identifier::is_word_byte;
 use std::alloc::{AllocError, Global};
 
 /// A word of an action.
@@ -97,7 +98,7 @@ fn comment_at(text: &[u8]) -> Piece<'_>
 }
 
 fn letters_piece(text: &[u8]) -> Piece<'_>
-    requires { 0 < prefix_len bytes.is_word_byte text.now }
+    requires { 0 < prefix_len is_word_byte text.now }
     ensures value { piece_view result ≡ plain.letters_piece text.now }
     ensures less { LeavesLess result (length text.now) }
 {

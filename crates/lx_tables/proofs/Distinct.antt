@@ -7,8 +7,8 @@ use Rattle.std.specs.Option.{is_some, option_or}
 use Rattle.std.specs.declared.alloc.Global.{Global}
 use Rattle.std.specs.declared.vec.Vec.{Vec}
 use Rattle.std.proofs.lemmas.List.{drop_more, drop_all, get_or-map, length-map}
-use Rattle.lx_spec.specs.Invariant.{are_distinct}
-use Rattle.lx_spec.specs.views.Rules.{names_view}
+use Rattle.lx_rules.specs.Invariant.{are_distinct}
+use Rattle.lx_rules.specs.views.Rules.{names_view}
 
 -- whether a name is one of these
 abbrev pub is_among : List (List ℕ) → List ℕ → Bool

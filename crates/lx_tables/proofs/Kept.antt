@@ -4,12 +4,12 @@ use Rattle.std.specs.Prelude.{IsTrue}
 use Rattle.std.specs.List.{list_all, flat_map}
 use Rattle.std.proofs.lemmas.Bool.{eqb-true}
 use Rattle.std.proofs.lemmas.List.{length-append, length-map}
-use Rattle.lx_spec.specs.Plain.{PlainRule, PlainSpec}
-use Rattle.lx_spec.specs.Bytes.{is_identifier}
-use Rattle.lx_spec.specs.Invariant.{are_distinct, are_steps, are_conditions, is_rule, returned_names, next_number, is_number, are_kinds, IsWellFormed}
-use Rattle.lx_spec.specs.declared.rule.Kind.TheVariants.{Name, Number}
-use Rattle.lx_spec.specs.declared.rule.Step.{Step}
-use Rattle.lx_spec.specs.declared.rule.Step.TheVariants.{Echo, Begin, Return}
+use Rattle.lx_rules.specs.Plain.{PlainRule, PlainSpec}
+use Rattle.lx_rules.specs.Identifiers.{is_identifier}
+use Rattle.lx_rules.specs.Invariant.{are_distinct, are_steps, are_conditions, is_rule, returned_names, next_number, is_number, are_kinds, IsWellFormed}
+use Rattle.lx_rules.specs.declared.rule.Kind.TheVariants.{Name, Number}
+use Rattle.lx_rules.specs.declared.rule.Step.{Step}
+use Rattle.lx_rules.specs.declared.rule.Step.TheVariants.{Echo, Begin, Return}
 use Rattle.lx_automaton.specs.Automata.{Machine, IsMachine, HasByteClasses, accepted_by}
 use Rattle.lx_tables.specs.Model.{IsTable, table_rule}
 

@@ -6,11 +6,11 @@ use Rattle.std.proofs.lemmas.Bool.{ltb-true, lt-ltb}
 use Rattle.std.proofs.lemmas.Bool.Decides.{eqb_tells}
 use Rattle.std.proofs.lemmas.List.{length-append}
 use Rattle.std.proofs.lemmas.Grind.{replicate_next}
-use Rattle.lx_spec.specs.Bytes.{is_identifier, begins_identifier, is_word_byte}
-use Rattle.lx_spec.specs.Invariant.{are_steps}
-use Rattle.lx_spec.specs.declared.rule.Kind.TheVariants.{Name, Number}
-use Rattle.lx_spec.specs.declared.rule.Step.{Step}
-use Rattle.lx_spec.specs.declared.rule.Step.TheVariants.{Echo, Begin, Return}
+use Rattle.lx_rules.specs.Identifiers.{is_identifier, begins_identifier, is_word_byte}
+use Rattle.lx_rules.specs.Invariant.{are_steps}
+use Rattle.lx_rules.specs.declared.rule.Kind.TheVariants.{Name, Number}
+use Rattle.lx_rules.specs.declared.rule.Step.{Step}
+use Rattle.lx_rules.specs.declared.rule.Step.TheVariants.{Echo, Begin, Return}
 use Rattle.lx_tables.specs.Model.{TableRule}
 use Rattle.lx_tables.specs.Texts.{kind_line, step_text, line_end_text, rule_line, entry_text, accepts_text}
 use Rattle.lx_tables.proofs.NumbersRead.{NoDigit, number_read, run_is, one_value}

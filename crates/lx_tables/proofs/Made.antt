@@ -1,7 +1,7 @@
 -- The tables made of a specification and its automaton.
 use Rattle.std.proofs.Common.{◌≡◌, ℕ, ◌*◌, ◌≤◌, List, length, map, refl, ◌∙◌, arith}
-use Rattle.lx_spec.specs.Plain.{PlainSpec}
-use Rattle.lx_spec.specs.Invariant.{IsWellFormed}
+use Rattle.lx_rules.specs.Plain.{PlainSpec}
+use Rattle.lx_rules.specs.Invariant.{IsWellFormed}
 use Rattle.lx_automaton.specs.Automata.{Machine, IsMachine, HasByteClasses, state_count}
 use Rattle.lx_automaton.specs.Equivalence.{AreEquivalentMachines}
 use Rattle.lx_automaton.specs.Meaning.{IsAutomatonOf}

@@ -5,7 +5,7 @@ use Rattle.std.specs.List.{range_with_len}
 use Rattle.std.proofs.lemmas.Bool.{ne_eqb}
 use Rattle.std.proofs.lemmas.List.{map-append}
 use Rattle.lx_automaton.specs.EncodedOptions.{decoded_option}
-use Rattle.lx_spec.specs.declared.rule.Step.{Step}
+use Rattle.lx_rules.specs.declared.rule.Step.{Step}
 use Rattle.lx_tables.specs.Model.{Table}
 use Rattle.lx_tables.specs.Texts.{all_bytes}
 use Rattle.lx_tables.specs.Readers.{onto, state_onto, read_many, read_state, read_lines, read_step, read_steps, read_run, read_row, read_count, read_classes, read_states, Front, read_front, table_of, read_1, read_2, read_text, below, within}

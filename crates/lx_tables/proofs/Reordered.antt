@@ -4,7 +4,7 @@ use Rattle.std.proofs.lemmas.Bool.{cases_lt, ltb-true, lt-ltb}
 use Rattle.std.proofs.lemmas.List.{length-map, get_or_past}
 use Rattle.std.proofs.lemmas.List.Elements.{All-head, All-tail}
 use Rattle.std.proofs.lemmas.Option.{slice_get_within}
-use Rattle.lx_spec.specs.Plain.{PlainSpec}
+use Rattle.lx_rules.specs.Plain.{PlainSpec}
 use Rattle.lx_automaton.specs.Automata.{Machine, IsMachine, HasByteClasses, state_count, start_of, accepted_by, class_target, target_of, state_after, accepted_at, answer}
 use Rattle.lx_automaton.specs.Equivalence.{AreEquivalentMachines}
 use Rattle.lx_automaton.specs.Meaning.{IsAnswer, IsAutomatonOf}

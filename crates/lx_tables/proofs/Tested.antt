@@ -10,7 +10,7 @@ use Rattle.std.proofs.lemmas.Nat.{div-add-mod'}
 use Rattle.std.proofs.Math.Nat.{mod-lt, mul-zero, div-lt_iff_lt-mul}
 use Rattle.lx_automaton.specs.Automata.{Machine, state_count, start_of, accepted_by}
 use Rattle.lx_automaton.specs.EncodedOptions.{decoded_option, machine_of}
-use Rattle.lx_spec.specs.Invariant.{are_steps}
+use Rattle.lx_rules.specs.Invariant.{are_steps}
 use Rattle.lx_tables.specs.Limits.{IsMachineFor, are_rules, is_start, have_lengths, are_in_range}
 use Rattle.lx_tables.specs.Views.{rule_view, rules_view}
 use Rattle.lx_tables.specs.declared.table_rule.TableRule.{TableRule as CodeRule}

@@ -2,7 +2,7 @@
 use Rattle.std.proofs.Common.{ℕ, ◌≡◌, ◌≢◌, Bool, true, false, List, Option, None, length, inl, inr, sym, ◌∙◌, ap, subst}
 use Rattle.std.specs.Prelude.{IsTrue, ◌==◌, if◌then◌else◌, slice_index, slice_index_or}
 use Rattle.std.specs.List.{list_all}
-use Rattle.lx_spec.specs.Invariant.{are_steps}
+use Rattle.lx_rules.specs.Invariant.{are_steps}
 use Rattle.lx_automaton.specs.Automata.{Machine, IsMachine, HasByteClasses, HasSameSteps}
 use Rattle.lx_tables.specs.Model.{TableRule, Table, IsTable}
 use Rattle.lx_tables.specs.Limits.{HasLimits}

@@ -5,8 +5,8 @@ use Rattle.std.specs.List.{flat_map, list_all, range_with_len}
 use Rattle.std.proofs.lemmas.Bool.{lt-ltb}
 use Rattle.std.proofs.lemmas.List.{length-map, get_or-map}
 use Rattle.std.proofs.lemmas.List.FromFn.{fill_by_all}
-use Rattle.lx_spec.specs.Bytes.{is_identifier}
-use Rattle.lx_spec.specs.Invariant.{are_steps}
+use Rattle.lx_rules.specs.Identifiers.{is_identifier}
+use Rattle.lx_rules.specs.Invariant.{are_steps}
 use Rattle.lx_automaton.specs.Automata.{Machine, state_count, accepted_by, class_target}
 use Rattle.lx_tables.specs.Model.{TableRule, Table, IsTable}
 use Rattle.lx_tables.specs.Texts.{start_line, kind_line, rule_line, count_line, front_text, accepts_text, entries_text, all_bytes, ranges_text, byte_ranges, class_line, state_line_2, states_text, text_2}

@@ -1,7 +1,7 @@
 -- Four tables and their eight texts: what the definitions of the texts compute.
 use Rattle.std.specs.Prelude.{ℕ, ◌≡◌, [], ◌∷◌, ◌++◌, Some, None, Bool, true, false, codes, replicate}
-use Rattle.lx_spec.specs.declared.rule.Kind.TheVariants.{Name}
-use Rattle.lx_spec.specs.declared.rule.Step.TheVariants.{Return}
+use Rattle.lx_rules.specs.declared.rule.Kind.TheVariants.{Name}
+use Rattle.lx_rules.specs.declared.rule.Step.TheVariants.{Return}
 use Rattle.lx_automaton.specs.Automata.{Machine}
 use Rattle.lx_tables.specs.Model.{TableRule, Table}
 use Rattle.lx_tables.specs.Texts.{text_1, text_2}

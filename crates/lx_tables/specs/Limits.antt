@@ -1,8 +1,8 @@
 -- What is tested of lists that were read: all that holds of tables, but for the byte classes.
 use Rattle.std.specs.Prelude.{◌≡◌, ℕ, ◌*◌, ◌<◌, ◌≤◌, ◌==◌, ◌&&◌, nat_lt, nat_le, Bool, IsTrue, List, Some, length}
 use Rattle.std.specs.List.{list_all}
-use Rattle.lx_spec.specs.Bytes.{is_identifier}
-use Rattle.lx_spec.specs.Invariant.{are_distinct, are_steps}
+use Rattle.lx_rules.specs.Identifiers.{is_identifier}
+use Rattle.lx_rules.specs.Invariant.{are_distinct, are_steps}
 use Rattle.lx_automaton.specs.Automata.{Machine, IsMachine, accepted_by}
 use Rattle.lx_tables.specs.Model.{TableRule, Table}
 

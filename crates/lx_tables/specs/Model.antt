@@ -2,10 +2,10 @@
 -- lex"). The form of tables is this project's own, as POSIX leaves it open.
 use Rattle.std.specs.Prelude.{◌≡◌, ℕ, ◌<◌, ◌≤◌, ◌↔◌, Bool, false, IsTrue, List, [], Some, length, map, slice_index, slice_index_or}
 use Rattle.std.specs.List.{list_all}
-use Rattle.lx_spec.specs.Plain.{PlainRule, PlainSpec}
-use Rattle.lx_spec.specs.Bytes.{is_identifier}
-use Rattle.lx_spec.specs.Invariant.{are_distinct, are_steps}
-use Rattle.lx_spec.specs.declared.rule.Step.{Step}
+use Rattle.lx_rules.specs.Plain.{PlainRule, PlainSpec}
+use Rattle.lx_rules.specs.Identifiers.{is_identifier}
+use Rattle.lx_rules.specs.Invariant.{are_distinct, are_steps}
+use Rattle.lx_rules.specs.declared.rule.Step.{Step}
 use Rattle.lx_automaton.specs.Automata.{Machine, IsMachine, HasByteClasses, state_count, accepted_by, target_of, are_numbered}
 use Rattle.lx_automaton.specs.Meaning.{IsAutomatonOf}
 

@@ -2,9 +2,9 @@
 -- Version 1 has the steps of a state by ranges of bytes, version 2 by classes of bytes.
 use Rattle.std.specs.Prelude.{ℕ, ◌+◌, ◌==◌, Bool, true, false, if◌then◌else◌, List, [], ◌∷◌, ◌++◌, Option, Some, None, length, map, codes, decimal, slice_index}
 use Rattle.std.specs.List.{flat_map, range_with_len}
-use Rattle.lx_spec.specs.declared.rule.Kind.TheVariants.{Name, Number}
-use Rattle.lx_spec.specs.declared.rule.Step.{Step}
-use Rattle.lx_spec.specs.declared.rule.Step.TheVariants.{Echo, Begin, Return}
+use Rattle.lx_rules.specs.declared.rule.Kind.TheVariants.{Name, Number}
+use Rattle.lx_rules.specs.declared.rule.Step.{Step}
+use Rattle.lx_rules.specs.declared.rule.Step.TheVariants.{Echo, Begin, Return}
 use Rattle.lx_automaton.specs.Automata.{Machine, state_count, accepted_by, class_target, target_of}
 use Rattle.lx_tables.specs.Model.{TableRule, Table}
 

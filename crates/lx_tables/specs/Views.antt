@@ -1,6 +1,6 @@
 -- What was read of tables in the code, without where it lies in memory.
 use Rattle.std.specs.Prelude.{List, map}
-use Rattle.lx_spec.specs.views.Rules.{names_view}
+use Rattle.lx_rules.specs.views.Rules.{names_view}
 use Rattle.lx_automaton.specs.EncodedOptions.{machine_of}
 use Rattle.lx_tables.specs.Model.{TableRule, Table}
 use Rattle.lx_tables.specs.Readers.{Front}

@@ -1,13 +1,13 @@
 // What tables have of a specification: its kinds, and of its rules the line ends and the steps.
 
 ghost use Rattle.std.specs.Prelude.{◌≡◌, IfOk, map};
-ghost use Rattle.lx_spec.specs.views.Specs.{spec_view};
-ghost use Rattle.lx_spec.specs.views.Rules.{names_view};
+ghost use Rattle.lx_rules.specs.views.Specs.{spec_view};
+ghost use Rattle.lx_rules.specs.views.Rules.{names_view};
 ghost use Rattle.lx_tables.specs.Model.{table_rule};
 ghost use Rattle.lx_tables.specs.Views.{rules_view};
 
 use crate::table_rule::TableRule;
-use lx_spec::spec::Spec;
+use lx_rules::spec::Spec;
 use std::alloc::{AllocError, Global};
 
 /// The names of the kinds.

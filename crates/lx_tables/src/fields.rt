@@ -5,7 +5,7 @@ ghost use Rattle.lx_automaton.specs.EncodedOptions.{decoded_option};
 ghost use Rattle.lx_tables.specs.Readers.{read_digits, read_count, read_start, read_line, read_kind, read_step, read_accepts, read_range, read_entry, read_run, below, within, step_of};
 
 use crate::version::Version;
-use lx_spec::rule::{Kind, Step};
+use lx_rules::rule::{Kind, Step};
 
 /// The number at the front of a text. It grows no more from 429,496,729 on, so that it fits.
 pub(crate) fn number(text: &[u8]) -> (u32, &[u8])

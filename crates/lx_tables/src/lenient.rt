@@ -1,7 +1,7 @@
 // A table's text, read leniently: each function answers for every text, with the lists that it has if it is one.
 
 ghost use Rattle.std.specs.Prelude.{◌≡◌, ◌++◌, ◌≤◌, ◌/◌, IfOk, OnOk, length, map, min, replicate};
-ghost use Rattle.lx_spec.specs.views.Rules.{names_view};
+ghost use Rattle.lx_rules.specs.views.Rules.{names_view};
 ghost use Rattle.lx_automaton.specs.EncodedOptions.{decoded_option};
 ghost use Rattle.lx_tables.specs.Readers.{onto, state_onto, read_list, read_start, read_kind, read_rule, read_steps, read_front, read_row, read_state, read_lines, read_states, read_1, read_2, read_text, read_classes, class_of};
 ghost use Rattle.lx_tables.specs.Texts.{all_bytes};
@@ -13,8 +13,8 @@ use crate::fields::{
 use crate::raw::{RawFront, RawTables};
 use crate::table_rule::TableRule;
 use crate::version::Version;
-use lx_spec::rule::Step;
-use lx_spec::steps::Steps;
+use lx_rules::rule::Step;
+use lx_rules::steps::Steps;
 use std::alloc::{AllocError, Global};
 
 /// A count of conditions and their starts.

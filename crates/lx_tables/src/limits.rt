@@ -2,9 +2,9 @@
 
 ghost use Rattle.std.specs.Prelude.{◌≡◌, ◌≤◌, ◌↔◌, nat_lt, nat_le, IsTrue, IfOk, length};
 ghost use Rattle.std.specs.List.{list_all};
-ghost use Rattle.lx_spec.specs.Bytes as bytes;
-ghost use Rattle.lx_spec.specs.Invariant as invariant;
-ghost use Rattle.lx_spec.specs.views.Rules.{names_view};
+ghost use Rattle.lx_rules.specs.Identifiers.{is_identifier};
+ghost use Rattle.lx_rules.specs.Invariant as invariant;
+ghost use Rattle.lx_rules.specs.views.Rules.{names_view};
 ghost use Rattle.lx_automaton.specs.EncodedOptions.{machine_of};
 ghost use Rattle.lx_tables.specs.Limits as limits;
 ghost use Rattle.lx_tables.specs.Limits.{AreKinds, HasLimits, IsMachineFor};
@@ -12,9 +12,9 @@ ghost use Rattle.lx_tables.specs.Views.{raw_view, rules_view};
 
 use crate::raw::RawTables;
 use crate::table_rule::TableRule;
-use lx_spec::bytes::is_identifier;
-use lx_spec::name_table::add_number;
-use lx_spec::rule::{Kind, Step};
+use lx_rules::identifier::is_identifier;
+use lx_rules::name_table::add_number;
+use lx_rules::rule::{Kind, Step};
 use std::alloc::{AllocError, Global};
 use std::collections::BTreeMap;
 
@@ -105,7 +105,7 @@ fn are_rules(conditions: usize, kinds: usize, rules: &[TableRule]) -> bool
 }
 
 fn are_identifiers(names: &[Vec<u8>]) -> bool
-    ensures { result ≡ list_all (λ name. bytes.is_identifier name.items) names.now }
+    ensures { result ≡ list_all (λ name. is_identifier name.items) names.now }
 {
     names.iter().all(|name| is_identifier(name))
 }

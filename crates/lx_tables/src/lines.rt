@@ -14,7 +14,7 @@ use crate::version::Version;
 use crate::writing::{write_bytes, write_numbered, write_parts};
 use itoa::Buffer;
 use lx_automaton::State;
-use lx_spec::rule::{Kind, Step};
+use lx_rules::rule::{Kind, Step};
 use std::io::{self, Write};
 
 pub(crate) fn write_start<W: Write>(

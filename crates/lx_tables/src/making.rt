@@ -1,7 +1,7 @@
 //! Tables of a specification.
 
 ghost use Rattle.std.specs.Prelude.{IfOk};
-ghost use Rattle.lx_spec.specs.views.Specs.{spec_view};
+ghost use Rattle.lx_rules.specs.views.Specs.{spec_view};
 ghost use Rattle.lx_automaton.specs.Equivalence.{AreEquivalentMachines};
 ghost use Rattle.lx_automaton.specs.Meaning.{IsAutomatonOf};
 ghost use Rattle.lx_tables.specs.Model.{AreTablesOf};
@@ -11,8 +11,8 @@ use crate::reordering::{accepted_of, classes_of, rows_of, starts_of};
 use crate::state_order::state_order_of;
 use crate::tables::Tables;
 use lx_automaton::Automaton;
-use lx_spec::read::specs_are_well_formed;
-use lx_spec::spec::Spec;
+use lx_rules::spec::Spec;
+use lx_rules::well_formed::specs_are_well_formed;
 use std::alloc::{AllocError, Global};
 
 impl Tables {

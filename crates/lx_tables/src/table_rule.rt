@@ -1,6 +1,6 @@
 // What tables keep of a rule.
 
-use lx_spec::steps::Steps;
+use lx_rules::steps::Steps;
 
 /// A rule: whether it ends with `$`, and the steps of its action.
 #[derive(Drop)]

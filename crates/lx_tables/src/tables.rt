@@ -1,7 +1,7 @@
 //! Tables of a scanner in memory: an automaton over byte classes, kinds, and what rules do.
 
 ghost use Rattle.std.specs.Prelude.{◌≡◌, ◌<◌, ◌≤◌, length, IfSome, option_map, slice_index};
-ghost use Rattle.lx_spec.specs.views.Rules.{names_view};
+ghost use Rattle.lx_rules.specs.views.Rules.{names_view};
 ghost use Rattle.lx_automaton.specs.Automata.{state_count, start_of, accepted_by, class_target, target_of};
 ghost use Rattle.lx_automaton.specs.EncodedOptions.{decoded_option};
 ghost use Rattle.lx_tables.specs.Model.{Table, IsTable, AreByteClasses, rule_at, kind_at};
@@ -9,7 +9,7 @@ ghost use Rattle.lx_tables.specs.Views.{rules_view};
 
 use crate::table_rule::TableRule;
 use lx_automaton::{Automaton, State};
-use lx_spec::rule::Step;
+use lx_rules::rule::Step;
 use std::marker::Model;
 
 /// The tables of a scanner: an automaton over byte classes, the kinds of tokens, and of each rule whether it ends with `$` and the

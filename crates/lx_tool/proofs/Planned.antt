@@ -1,7 +1,7 @@
 -- Plans by tables, and by the rules of a specification.
 use Rattle.std.proofs.Common.{◌≡◌, ℕ, ◌<◌, List, Option, inl, inr, All, refl, sym, ◌∙◌, ap, arith}
 use Rattle.std.specs.Prelude.{slice_index}
-use Rattle.lx_spec.specs.Plain.{PlainSpec}
+use Rattle.lx_rules.specs.Plain.{PlainSpec}
 use Rattle.lx_tables.specs.Model.{Table, IsTable, AreTablesOf}
 use Rattle.lx_tables.specs.Reading.{IsTextOf}
 use Rattle.lx_tables.specs.Texts.{text_1, text_2}

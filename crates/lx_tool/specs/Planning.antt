@@ -1,7 +1,7 @@
 -- What is listed of files, by tables and by the rules of a specification.
 use Rattle.std.specs.Prelude.{◌≡◌, ℕ, ◌<◌, List, Option, All, length}
 use Rattle.std.specs.Io.KnownBytes.{Appends}
-use Rattle.lx_spec.specs.Plain.{PlainSpec}
+use Rattle.lx_rules.specs.Plain.{PlainSpec}
 use Rattle.lx_spec.specs.Whole.{IsRead}
 use Rattle.lx_tables.specs.Model.{Table, IsTable}
 use Rattle.lx_tables.specs.Reading.{IsTextOf}

@@ -1,7 +1,7 @@
 -- What is printed of a specification's tables, and of tables whose text is read.
 use Rattle.std.specs.Prelude.{◌≡◌, ◌≢◌, ℕ, ◌<◌, ◌≤◌, ⊤, List, Option}
 use Rattle.std.specs.Io.KnownBytes.{Keeps}
-use Rattle.lx_spec.specs.Plain.{PlainSpec}
+use Rattle.lx_rules.specs.Plain.{PlainSpec}
 use Rattle.lx_spec.specs.Whole.{IsFault, IsRead}
 use Rattle.lx_spec.specs.declared.fault.Code.TheVariants as code
 use Rattle.lx_auto.specs.Counts.{count_of_spec}

@@ -5,11 +5,11 @@ ghost use Rattle.lx_auto.specs.Counts.{count_of_spec};
 ghost use Rattle.lx_automaton.specs.Equivalence.{IsMinimal, HasLiveSteps};
 ghost use Rattle.lx_automaton.specs.Meaning.{IsAutomatonOf};
 ghost use Rattle.lx_auto.specs.PositionSets.{HasMoreReachedSets};
-ghost use Rattle.lx_spec.specs.views.Specs.{spec_view};
+ghost use Rattle.lx_rules.specs.views.Specs.{spec_view};
 
 use lx_auto::{BuildFault, build, merge};
 use lx_automaton::Automaton;
-use lx_spec::spec::Spec;
+use lx_rules::spec::Spec;
 use std::alloc::Global;
 
 /// The merged automaton of a specification. E30 comes where it has more positions than the limit, and E31 where it hasn't and has

@@ -1,6 +1,6 @@
 -- What the marks of the code say of the definitions.
 use Rattle.std.specs.Prelude.{◌≡◌, ℕ, ◌↔◌, IsTrue, length}
-use Rattle.lx_spec.specs.Limits.{max_name_depth}
+use Rattle.lx_rules.specs.Limits.{max_name_depth}
 use Rattle.lx_spec.specs.Dictionary.{unreadable_marks}
 use Rattle.lx_spec.specs.views.Dictionaries.{Known}
 use Rattle.lx_spec.specs.Graph.{IsMention, Leads, Follow, is_marked}

@@ -1,6 +1,6 @@
 -- What the sections say, in the code, without where it lies in memory.
 use Rattle.std.specs.Prelude.{map}
-use Rattle.lx_spec.specs.Plain as spec
+use Rattle.lx_rules.specs.Plain as spec
 use Rattle.lx_spec.specs.Sections as plain
 use Rattle.lx_spec.specs.views.RuleLines.{prefix_view}
 use Rattle.lx_spec.specs.declared.parsed_sections.StartCondition.{StartCondition}

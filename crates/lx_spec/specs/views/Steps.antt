@@ -1,9 +1,9 @@
 -- The steps of rules in the code, without where they lie in memory.
 use Rattle.std.specs.Prelude.{ℕ, List, [], ◌∷◌}
-use Rattle.lx_spec.specs.Plain.{StartCondition, PlainRule}
+use Rattle.lx_rules.specs.Plain.{StartCondition, PlainRule}
+use Rattle.lx_rules.specs.declared.rule.Step.{Step}
 use Rattle.lx_spec.specs.Actions.{Action, shared, own}
 use Rattle.lx_spec.specs.Outcome.{ResolvedRule, steps_of}
-use Rattle.lx_spec.specs.declared.rule.Step.{Step}
 
 -- the steps of the last of some rules
 abbrev pub steps_at_end : List PlainRule → List Step

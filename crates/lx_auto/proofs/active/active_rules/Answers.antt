@@ -1,7 +1,7 @@
 use Rattle.std.proofs.Common.{arith}
 use Rattle.std.proofs.lemmas.List.{length-map}
-use Rattle.lx_spec.specs.views.Rules.{rule_view}
-use Rattle.lx_spec.specs.views.Specs.{spec_view}
+use Rattle.lx_rules.specs.views.Rules.{rule_view}
+use Rattle.lx_rules.specs.views.Specs.{spec_view}
 use Rattle.lx_auto.proofs.Activity.{active_all}
 use Rattle.lx_auto.proofs.active.active_rules.Goals as goal
 

@@ -1,4 +1,4 @@
-use Rattle.lx_spec.specs.views.Specs.{spec_view}
+use Rattle.lx_rules.specs.views.Specs.{spec_view}
 use Rattle.lx_auto.specs.Following.{AreActiveBelow}
 use Rattle.lx_auto.proofs.active.active_rules.Given as goal
 

@@ -1,4 +1,4 @@
-use Rattle.lx_spec.specs.views.Specs.{spec_view}
+use Rattle.lx_rules.specs.views.Specs.{spec_view}
 use Rattle.lx_auto.proofs.DraftAnswers.{same_steps_answers}
 use Rattle.lx_auto.proofs.building.build.Goals as goal
 

@@ -1,6 +1,6 @@
 use Rattle.std.proofs.Common.{◌≡◌, ◌∙◌, List, ap, sym, arith, add-one}
 use Rattle.std.specs.Cmp.Lexicographic.{same_text}
-use Rattle.lx_spec.specs.declared.definition.Definition.{Definition}
+use Rattle.lx_rules.specs.declared.definition.Definition.{Definition}
 use Rattle.lx_auto.specs.CountViews.{counts_behind, counts_at}
 use Rattle.lx_auto.proofs.Counting.{counts-first, counts-next, counts-settled}
 use Rattle.lx_auto.proofs.count.count_definitions.Goals as goal

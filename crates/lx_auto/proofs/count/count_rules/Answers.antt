@@ -1,9 +1,9 @@
 use Rattle.std.proofs.Common.{◌≡◌, ◌∙◌, ◌+◌, ℕ, List, map, take, min, get_or, ap, sym, arith}
 use Rattle.std.proofs.lemmas.List.{map_more}
 use Rattle.lx_ere.specs.Regex.{regex_of}
-use Rattle.lx_spec.specs.Plain.{PlainDefinition}
-use Rattle.lx_spec.specs.views.Rules.{definition_view, rule_view}
-use Rattle.lx_spec.specs.declared.rule.Rule.{Rule}
+use Rattle.lx_rules.specs.Plain.{PlainDefinition}
+use Rattle.lx_rules.specs.views.Rules.{definition_view, rule_view}
+use Rattle.lx_rules.specs.declared.rule.Rule.{Rule}
 use Rattle.lx_auto.specs.Counts.{count_in, count_of_pattern, count_of_rules, newline_count}
 use Rattle.lx_auto.specs.CountViews.{looked_up}
 use Rattle.lx_auto.proofs.Counting.{count-pattern, count-more}

@@ -1,5 +1,5 @@
 use Rattle.std.proofs.Common.{◌≡◌, min, map, take}
-use Rattle.lx_spec.specs.views.Rules.{definition_view, rule_view}
+use Rattle.lx_rules.specs.views.Rules.{definition_view, rule_view}
 use Rattle.lx_auto.specs.Counts.{count_of_rules}
 use Rattle.lx_auto.proofs.count.count_rules.Given as goal
 

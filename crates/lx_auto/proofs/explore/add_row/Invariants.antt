@@ -1,6 +1,6 @@
 use Rattle.std.proofs.Common.{◌≡◌, ◌≤◌, ◌<◌, ◌+◌, ◌*◌, ℕ, length}
 use Rattle.lx_ere.specs.Regex.{Regex}
-use Rattle.lx_spec.specs.Plain.{PlainSpec}
+use Rattle.lx_rules.specs.Plain.{PlainSpec}
 use Rattle.lx_auto.specs.Unfolded.{Unfolded}
 use Rattle.lx_auto.specs.LeafViews.{leaves_view}
 use Rattle.lx_auto.specs.PositionSets.{numbered}

@@ -3,7 +3,7 @@ use Rattle.std.specs.Cmp.Lexicographic.{pointwise}
 use Rattle.std.specs.Option.{option_or}
 use Rattle.std.proofs.lemmas.List.{take_all}
 use Rattle.lx_auto.specs.NameViews.{place_of}
-use Rattle.lx_spec.specs.declared.definition.Definition.{Definition}
+use Rattle.lx_rules.specs.declared.definition.Definition.{Definition}
 use Rattle.lx_auto.proofs.Naming.{place-more}
 use Rattle.lx_auto.proofs.names.index_names.Goals as goal
 

@@ -1,5 +1,5 @@
 use Rattle.std.proofs.Common.{◌≡◌, ℕ, List, take}
-use Rattle.lx_spec.specs.views.NameTables.{number_at}
+use Rattle.lx_rules.specs.views.NameTables.{number_at}
 use Rattle.lx_auto.specs.NameViews.{place_of}
 use Rattle.lx_auto.proofs.names.index_names.Given as goal
 

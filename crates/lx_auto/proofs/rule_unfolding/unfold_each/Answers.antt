@@ -1,8 +1,8 @@
 use Rattle.std.proofs.Common.{◌≡◌, ◌∙◌, ◌+◌, ◌++◌, ◌∷◌, [], ℕ, List, map, take, ap, subst, sym, arith}
 use Rattle.std.proofs.lemmas.List.{map_more}
-use Rattle.lx_spec.specs.Plain.{PlainDefinition, PlainRule}
-use Rattle.lx_spec.specs.declared.rule.Rule.{Rule}
-use Rattle.lx_spec.specs.views.Rules.{definition_view, rule_view}
+use Rattle.lx_rules.specs.Plain.{PlainDefinition, PlainRule}
+use Rattle.lx_rules.specs.declared.rule.Rule.{Rule}
+use Rattle.lx_rules.specs.views.Rules.{definition_view, rule_view}
 use Rattle.lx_auto.specs.Counts.{count_of_rules}
 use Rattle.lx_auto.specs.Nodes.{nodes_of}
 use Rattle.lx_auto.specs.NodeViews.{nodes_view}

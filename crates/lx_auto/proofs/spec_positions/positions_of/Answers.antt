@@ -1,5 +1,5 @@
 use Rattle.std.proofs.Common.{sym, subst}
-use Rattle.lx_spec.specs.views.Specs.{spec_view}
+use Rattle.lx_rules.specs.views.Specs.{spec_view}
 use Rattle.lx_auto.specs.LeafViews.{leaves_view}
 use Rattle.lx_auto.specs.Leaves.{AreGroupsOf}
 use Rattle.lx_auto.specs.PositionSets.{numbered}

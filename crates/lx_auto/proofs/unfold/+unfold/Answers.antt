@@ -7,9 +7,9 @@ use Rattle.std.proofs.lemmas.Option.{slice_get_read}
 use Rattle.std.specs.Option.{option_map}
 use Rattle.std.proofs.lemmas.Result.{IfOk-weaker}
 use Rattle.lx_ere.specs.Regex.{Regex, then, or, times, named, regex_of}
-use Rattle.lx_spec.specs.Plain.{PlainDefinition}
-use Rattle.lx_spec.specs.views.Rules.{definition_view}
-use Rattle.lx_spec.specs.declared.definition.Definition.{Definition}
+use Rattle.lx_rules.specs.Plain.{PlainDefinition}
+use Rattle.lx_rules.specs.views.Rules.{definition_view}
+use Rattle.lx_rules.specs.declared.definition.Definition.{Definition}
 use Rattle.lx_auto.specs.Nodes.{PlainNode}
 use Rattle.lx_auto.specs.NameViews.{place_of, tree_at}
 use Rattle.lx_auto.specs.NodeViews.{node_view, nodes_view}

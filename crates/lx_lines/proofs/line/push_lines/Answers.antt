@@ -1,6 +1,6 @@
 use Rattle.std.proofs.Common.{◌++◌, ◌∙◌, ap, append_assoc, get_or, sym, take}
 use Rattle.lx_scan.specs.declared.item.Item.TheVariants.{Token}
-use Rattle.lx_spec.specs.declared.rule.Kind.TheVariants.{Name}
+use Rattle.lx_rules.specs.declared.rule.Kind.TheVariants.{Name}
 use Rattle.lx_lines.specs.Lines.{line_of, lines_of}
 use Rattle.lx_lines.proofs.Appending.{texts_more}
 use Rattle.lx_lines.proofs.line.push_lines.Goals as goal

@@ -2,10 +2,10 @@ use Rattle.std.proofs.Common.{◌≡◌, ◌<◌, ◌≤◌, Some, length, refl,
 use Rattle.std.specs.Prelude.{slice_get}
 use Rattle.std.proofs.lemmas.Option.{slice_get_read}
 use Rattle.std.proofs.lemmas.List.{length-map}
-use Rattle.lx_spec.specs.Choice.{reach}
-use Rattle.lx_spec.specs.Plain.{PlainRule, PlainSpec}
-use Rattle.lx_spec.specs.views.Rules.{rule_view}
-use Rattle.lx_spec.specs.views.Specs.{spec_view}
+use Rattle.lx_rules.specs.Choice.{reach}
+use Rattle.lx_rules.specs.Plain.{PlainRule, PlainSpec}
+use Rattle.lx_rules.specs.views.Rules.{rule_view}
+use Rattle.lx_rules.specs.views.Specs.{spec_view}
 use Rattle.lx_plain.proofs.Best.{Best-none, Best-new, Best-old, Best-all}
 use Rattle.lx_plain.proofs.Viewed.{viewed_at}
 use Rattle.lx_plain.proofs.choice.choose.Goals as goal

@@ -1,4 +1,4 @@
-use Rattle.lx_spec.specs.views.Specs.{spec_view}
+use Rattle.lx_rules.specs.views.Specs.{spec_view}
 use Rattle.lx_plain.proofs.Best.{Best}
 use Rattle.lx_plain.proofs.choice.choose.Given as goal
 

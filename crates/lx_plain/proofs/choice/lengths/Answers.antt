@@ -2,8 +2,8 @@ use Rattle.std.proofs.Common.{ℕ, List}
 use Rattle.std.proofs.lemmas.Result.{IfOk-weaker}
 use Rattle.lx_ere.specs.Regex.{regex_of}
 use Rattle.lx_ere.specs.Matching.{Matches}
-use Rattle.lx_spec.specs.Choice.{SpecNames}
-use Rattle.lx_spec.specs.views.Specs.{spec_view}
+use Rattle.lx_rules.specs.Choice.{SpecNames}
+use Rattle.lx_rules.specs.views.Specs.{spec_view}
 use Rattle.lx_plain.specs.Places.{AreEnds, AreLengths}
 use Rattle.lx_plain.proofs.PlaceLemmas.{lengths_from_ends}
 use Rattle.lx_plain.proofs.choice.lengths.Goals as goal

@@ -3,9 +3,9 @@ use Rattle.std.specs.Ordering.{nat_cmp}
 use Rattle.std.specs.BTreeSet.{contains, btree_set_len}
 use Rattle.lx_ere.specs.Regex.{regex_of}
 use Rattle.lx_ere.specs.Matching.{Matches}
-use Rattle.lx_spec.specs.Choice.{Fits, SpecNames}
-use Rattle.lx_spec.specs.views.Rules.{rule_view}
-use Rattle.lx_spec.specs.views.Specs.{spec_view}
+use Rattle.lx_rules.specs.Choice.{Fits, SpecNames}
+use Rattle.lx_rules.specs.views.Rules.{rule_view}
+use Rattle.lx_rules.specs.views.Specs.{spec_view}
 use Rattle.lx_plain.proofs.choice.longest.Given as goal
 
 abbrev pub invariant-loop-n : goal.invariant-loop-n

@@ -8,9 +8,9 @@ use Rattle.std.proofs.lemmas.Option.{slice_get_read}
 use Rattle.std.proofs.lemmas.Result.{IfOk-weaker}
 use Rattle.lx_ere.specs.Regex.{regex_of, one_of}
 use Rattle.lx_ere.specs.Matching.{Matches, Splits, Repeats, RepeatsBetween}
-use Rattle.lx_spec.specs.Names.{NameMatches}
-use Rattle.lx_spec.specs.Plain.{PlainDefinition}
-use Rattle.lx_spec.specs.views.Rules.{definition_view}
+use Rattle.lx_rules.specs.Names.{NameMatches}
+use Rattle.lx_rules.specs.Plain.{PlainDefinition}
+use Rattle.lx_rules.specs.views.Rules.{definition_view}
 use Rattle.lx_plain.specs.Places.{AreEnds, AreWithin, AnyNumber, AtMost}
 use Rattle.lx_plain.proofs.PlaceLemmas.{ends_within, all_within, ends_map, ends_then, ends_or, ends_byte, closing_goes_on, closing_ends, closing_falls, repeats_more, repeats_fewer, at_most_more, at_most_fewer, between_any, any_between, between_at_most, at_most_between}
 use Rattle.lx_plain.proofs.SetLemmas.{is_empty, nothing_in}

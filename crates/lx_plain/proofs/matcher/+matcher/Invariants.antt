@@ -3,8 +3,8 @@ use Rattle.std.specs.BTreeSet.{btree_set_len, IsOrdered}
 use Rattle.std.specs.Ordering.{nat_cmp}
 use Rattle.lx_ere.specs.Regex.{regex_of}
 use Rattle.lx_ere.specs.Matching.{Matches, Repeats}
-use Rattle.lx_spec.specs.Names.{NameMatches}
-use Rattle.lx_spec.specs.views.Rules.{definition_view}
+use Rattle.lx_rules.specs.Names.{NameMatches}
+use Rattle.lx_rules.specs.views.Rules.{definition_view}
 use Rattle.lx_plain.specs.Places.{AreEnds, AreWithin, AtMost}
 use Rattle.lx_plain.proofs.PlaceLemmas.{IsClosing}
 use Rattle.lx_plain.proofs.SetLemmas.{is_empty}

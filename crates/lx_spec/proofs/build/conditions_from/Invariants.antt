@@ -1,5 +1,5 @@
 use Rattle.std.proofs.Common.{◌≡◌, map, take}
-use Rattle.lx_spec.specs.views.Conditions.{condition_view}
+use Rattle.lx_rules.specs.views.Conditions.{condition_view}
 use Rattle.lx_spec.specs.views.Sections.{start_condition_view}
 use Rattle.lx_spec.proofs.build.conditions_from.Given as goal
 

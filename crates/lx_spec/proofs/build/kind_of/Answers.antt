@@ -1,10 +1,10 @@
 use Rattle.std.proofs.Common.{◌∙◌, ℕ, Option, ap, sym}
 use Rattle.std.specs.Prelude.{unwrap_or}
+use Rattle.lx_rules.specs.views.Rules.{names_view}
+use Rattle.lx_rules.specs.declared.rule.Kind.TheVariants as kind
 use Rattle.lx_spec.specs.views.Actions.{value_view}
-use Rattle.lx_spec.specs.views.Rules.{names_view}
 use Rattle.lx_spec.specs.Outcome as plain
 use Rattle.lx_spec.specs.declared.returned_value.Value.{Value}
-use Rattle.lx_spec.specs.declared.rule.Kind.TheVariants as kind
 use Rattle.lx_spec.proofs.build.kind_of.Goals as goal
 
 pub returns-in-Name : goal.returns-in-Name

@@ -1,5 +1,5 @@
 use Rattle.std.proofs.Common.{◌≡◌, ◌∙◌, ℕ, map, drop, ap, sym, subst, add-one, arith}
-use Rattle.lx_spec.specs.views.Rules.{names_view}
+use Rattle.lx_rules.specs.views.Rules.{names_view}
 use Rattle.lx_spec.specs.views.ResolvedRules.{resolved_view}
 use Rattle.lx_spec.specs.Outcome as plain
 use Rattle.lx_spec.proofs.Building.{kinds-next}

@@ -1,17 +1,17 @@
 use Rattle.std.proofs.Common.{◌≡◌, ◌∙◌, ◌++◌, ◌∷◌, [], List, ℕ, map, drop, take, get_or, length, vec_len, suc, add-one, ap, sym, arith}
 use Rattle.std.specs.Prelude.{reverse}
 use Rattle.std.proofs.lemmas.List.{map_push}
-use Rattle.lx_spec.specs.Plain.{PlainRule}
+use Rattle.lx_rules.specs.Plain.{PlainRule}
+use Rattle.lx_rules.specs.views.Rules.{rule_view, names_view}
+use Rattle.lx_rules.specs.declared.rule.Step.{Step}
+use Rattle.lx_rules.specs.declared.rule.Rule.{Rule}
 use Rattle.lx_spec.specs.views.Actions.{action_view}
 use Rattle.lx_spec.specs.views.Steps.{steps_at_end, with_steps}
-use Rattle.lx_spec.specs.views.Rules.{rule_view, names_view}
 use Rattle.lx_spec.specs.views.ResolvedRules.{resolved_view}
 use Rattle.lx_spec.specs.views.Sections.{start_condition_view, raw_rule_view}
 use Rattle.lx_spec.specs.Outcome as plain
-use Rattle.lx_spec.specs.declared.rule.Step.{Step}
 use Rattle.lx_spec.specs.declared.resolved_rule.ResolvedRule.{ResolvedRule}
 use Rattle.lx_spec.specs.declared.parsed_sections.RawRule.{RawRule}
-use Rattle.lx_spec.specs.declared.rule.Rule.{Rule}
 use Rattle.lx_spec.proofs.Building.{drop-item, drop-last, take-front, end-push, before-is, reverse-push, rules-more}
 use Rattle.lx_spec.proofs.build.rules_of.Goals as goal
 

@@ -1,7 +1,7 @@
 use Rattle.std.proofs.Common.{◌≡◌, ◌≤◌, map, drop, take, vec_len}
 use Rattle.std.specs.Prelude.{reverse}
+use Rattle.lx_rules.specs.views.Rules.{rule_view, names_view}
 use Rattle.lx_spec.specs.views.Steps.{steps_at_end}
-use Rattle.lx_spec.specs.views.Rules.{rule_view, names_view}
 use Rattle.lx_spec.specs.views.ResolvedRules.{resolved_view}
 use Rattle.lx_spec.specs.views.Sections.{start_condition_view, raw_rule_view}
 use Rattle.lx_spec.specs.Outcome as plain

@@ -2,12 +2,12 @@ use Rattle.std.proofs.Common.{◌≡◌, ◌∙◌, ℕ, List, length, map, ap, 
 use Rattle.std.specs.Prelude.{IsTrue}
 use Rattle.std.proofs.lemmas.List.{length-map}
 use Rattle.lx_ere.specs.Regex.{Regex}
-use Rattle.lx_spec.specs.Plain.{StartCondition}
-use Rattle.lx_spec.specs.Invariant.{are_start_conditions, are_ordered}
-use Rattle.lx_spec.specs.Nesting.{are_nested}
+use Rattle.lx_rules.specs.Plain.{StartCondition}
+use Rattle.lx_rules.specs.Invariant.{are_start_conditions, are_ordered}
+use Rattle.lx_rules.specs.Nesting.{are_nested}
+use Rattle.lx_rules.specs.views.Conditions.{condition_view}
+use Rattle.lx_rules.specs.views.Rules.{rule_view, definition_view, names_view}
 use Rattle.lx_spec.specs.Outcome.{AreReached, IsReached, patterns_in, rules_of, kinds_of}
-use Rattle.lx_spec.specs.views.Conditions.{condition_view}
-use Rattle.lx_spec.specs.views.Rules.{rule_view, definition_view, names_view}
 use Rattle.lx_spec.specs.views.ResolvedRules.{resolved_view}
 use Rattle.lx_spec.specs.views.Sections.{start_condition_view, raw_definition_view, raw_rule_view, sections_view}
 use Rattle.lx_spec.specs.views.Trees.{trees_view}

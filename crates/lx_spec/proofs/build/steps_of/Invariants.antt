@@ -1,6 +1,6 @@
 use Rattle.std.proofs.Common.{◌≡◌, ◌++◌, map, drop}
+use Rattle.lx_rules.specs.views.Rules.{names_view}
 use Rattle.lx_spec.specs.views.Actions.{statement_view}
-use Rattle.lx_spec.specs.views.Rules.{names_view}
 use Rattle.lx_spec.specs.views.Sections.{start_condition_view}
 use Rattle.lx_spec.specs.Outcome as plain
 use Rattle.lx_spec.proofs.build.steps_of.Given as goal

@@ -2,7 +2,7 @@ use Rattle.std.proofs.Common.{◌≡◌, ◌∙◌, ◌↔◌, ◌≤◌, ℕ, B
 use Rattle.std.specs.Prelude.{IsTrue, slice_index}
 use Rattle.std.proofs.lemmas.Bool.Decides.{nat_tests}
 use Rattle.std.proofs.lemmas.List.{length-map}
-use Rattle.lx_spec.specs.Limits.{max_name_depth}
+use Rattle.lx_rules.specs.Limits.{max_name_depth}
 use Rattle.lx_spec.specs.declared.graph.Mention.{Mention}
 use Rattle.lx_spec.specs.Dictionary.{unreadable_marks, is_unreadable}
 use Rattle.lx_spec.specs.views.Trees.{tree_view, trees_view}

@@ -1,7 +1,7 @@
 use Rattle.std.proofs.Common.{◌≡◌, ℕ, List, take, nat_eq}
 use Rattle.std.specs.Cmp.Lexicographic.{pointwise}
 use Rattle.std.specs.List.{position}
-use Rattle.lx_spec.specs.views.NameTables.{number_at}
+use Rattle.lx_rules.specs.views.NameTables.{number_at}
 use Rattle.lx_spec.proofs.definition_index.definition_index_of.Given as goal
 
 abbrev pub invariant-loop-i : goal.invariant-loop-i

@@ -1,7 +1,7 @@
 use Rattle.std.proofs.Common.{◌≡◌, ◌∙◌, ◌++◌, map, ap, sym, inl, inr}
 use Rattle.lx_ere.specs.declared.expr.Expr.{Expr}
 use Rattle.lx_ere.specs.Regex.{regex_of}
-use Rattle.lx_spec.specs.Names.{names_of}
+use Rattle.lx_rules.specs.Names.{names_of}
 use Rattle.lx_spec.specs.views.Sections.{raw_definition_view}
 use Rattle.lx_spec.proofs.Rows.{row-joined}
 use Rattle.lx_spec.proofs.dictionary.+push_row.Goals as goal

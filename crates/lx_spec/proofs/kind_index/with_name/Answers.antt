@@ -6,7 +6,7 @@ use Rattle.std.specs.Option.{option_or}
 use Rattle.std.specs.declared.alloc.Global.{Global}
 use Rattle.std.specs.declared.vec.Vec.{Vec}
 use Rattle.std.proofs.lemmas.List.{map_push, length-map}
-use Rattle.lx_spec.specs.views.Rules.{names_view}
+use Rattle.lx_rules.specs.views.Rules.{names_view}
 use Rattle.lx_spec.proofs.Indexing.{position-any, position-push}
 use Rattle.lx_spec.proofs.kind_index.with_name.Goals as goal
 

@@ -2,9 +2,9 @@ use Rattle.std.proofs.Common.{◌≤◌, ◌↔◌, ℕ, Bool, List, length, map
 use Rattle.std.specs.Prelude.{IsTrue}
 use Rattle.std.proofs.lemmas.List.{length-map}
 use Rattle.std.proofs.lemmas.Result.{IfOk-weaker}
+use Rattle.lx_rules.specs.views.Rules.{definition_view}
 use Rattle.lx_spec.specs.Graph.{is_marked}
 use Rattle.lx_spec.specs.Outcome.{IsReached, AreReached, patterns_in}
-use Rattle.lx_spec.specs.views.Rules.{definition_view}
 use Rattle.lx_spec.specs.views.ResolvedRules.{resolved_view}
 use Rattle.lx_spec.specs.views.Sections.{raw_definition_view}
 use Rattle.lx_spec.specs.views.Trees.{tree_view, trees_view}

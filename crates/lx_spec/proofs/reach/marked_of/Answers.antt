@@ -3,13 +3,13 @@ use Rattle.std.specs.Prelude.{IsTrue, slice_get}
 use Rattle.std.proofs.Math.Seq.{take-length}
 use Rattle.std.proofs.lemmas.List.{length-map}
 use Rattle.lx_ere.specs.Regex.{Regex}
+use Rattle.lx_rules.specs.views.Rules.{definition_view}
+use Rattle.lx_rules.specs.declared.definition.Definition.{Definition}
 use Rattle.lx_spec.specs.Dictionary.{is_unreadable}
 use Rattle.lx_spec.specs.Graph.{is_marked}
 use Rattle.lx_spec.specs.Outcome.{AreReached}
-use Rattle.lx_spec.specs.views.Rules.{definition_view}
 use Rattle.lx_spec.specs.views.Sections.{raw_definition_view}
 use Rattle.lx_spec.specs.views.Trees.{tree_view, trees_view}
-use Rattle.lx_spec.specs.declared.definition.Definition.{Definition}
 use Rattle.lx_spec.proofs.Reached.{reached-none, reached-before, popped, drop-map, marked-at, drop-at}
 use Rattle.lx_spec.proofs.reach.marked_of.Goals as goal
 

@@ -1,8 +1,8 @@
 use Rattle.std.proofs.Common.{◌≡◌, ◌≤◌, length, map, take, drop, reverse, vec_len}
 use Rattle.std.specs.Prelude.{IsTrue}
+use Rattle.lx_rules.specs.views.Rules.{definition_view}
 use Rattle.lx_spec.specs.Graph.{is_marked}
 use Rattle.lx_spec.specs.Outcome.{AreReached}
-use Rattle.lx_spec.specs.views.Rules.{definition_view}
 use Rattle.lx_spec.specs.views.Sections.{raw_definition_view}
 use Rattle.lx_spec.specs.views.Trees.{trees_view}
 use Rattle.lx_spec.proofs.reach.marked_of.Given as goal

@@ -2,9 +2,9 @@ use Rattle.std.proofs.Common.{◌≡◌, ◌∙◌, [], Some, map, reverse, get_
 use Rattle.std.specs.Prelude.{IsTrue}
 use Rattle.std.proofs.lemmas.Bool.{false≢true}
 use Rattle.lx_ere.specs.Regex.{regex_of}
+use Rattle.lx_rules.specs.views.Rules.{definition_view}
 use Rattle.lx_spec.specs.Graph.{is_marked}
 use Rattle.lx_spec.specs.Outcome.{passed}
-use Rattle.lx_spec.specs.views.Rules.{definition_view}
 use Rattle.lx_spec.specs.views.Sections.{raw_definition_view}
 use Rattle.lx_spec.specs.Sections as plain
 use Rattle.lx_spec.specs.views.Trees.{tree_view}

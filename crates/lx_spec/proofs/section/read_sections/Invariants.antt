@@ -1,5 +1,5 @@
 use Rattle.std.proofs.Common.{◌≡◌, ◌+◌, ◌<◌, ◌≤◌, length}
-use Rattle.lx_spec.specs.Limits.{max_specification_bytes}
+use Rattle.lx_rules.specs.Limits.{max_specification_bytes}
 use Rattle.lx_spec.specs.Sections as plain
 use Rattle.lx_spec.specs.views.Sections.{sections_view}
 use Rattle.lx_spec.specs.views.Places.{place_view}

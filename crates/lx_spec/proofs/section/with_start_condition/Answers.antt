@@ -2,7 +2,7 @@ use Rattle.std.proofs.Common.{◌≡◌, false, nat_eq, List, [], ◌∷◌, ◌
 use Rattle.std.specs.List.{list_any}
 use Rattle.std.specs.Cmp.Lexicographic.{pointwise}
 use Rattle.std.proofs.lemmas.List.{map_push, length-map}
-use Rattle.lx_spec.specs.Plain as spec
+use Rattle.lx_rules.specs.Plain as spec
 use Rattle.lx_spec.specs.views.Sections.{start_condition_view, sections_view}
 use Rattle.lx_spec.specs.declared.parsed_sections.StartCondition.{StartCondition}
 use Rattle.lx_spec.proofs.Words.{list_any-map}

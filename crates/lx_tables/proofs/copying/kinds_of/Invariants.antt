@@ -1,5 +1,5 @@
 use Rattle.std.proofs.Common.{◌≡◌, take}
-use Rattle.lx_spec.specs.views.Rules.{names_view}
+use Rattle.lx_rules.specs.views.Rules.{names_view}
 use Rattle.lx_tables.proofs.copying.kinds_of.Given as goal
 
 abbrev pub invariant-loop-kind : goal.invariant-loop-kind

@@ -1,5 +1,5 @@
 use Rattle.std.proofs.Common.{◌≡◌, map, take}
-use Rattle.lx_spec.specs.views.Rules.{rule_view}
+use Rattle.lx_rules.specs.views.Rules.{rule_view}
 use Rattle.lx_tables.specs.Model.{table_rule}
 use Rattle.lx_tables.specs.Views.{rules_view}
 use Rattle.lx_tables.proofs.copying.rules_of.Given as goal

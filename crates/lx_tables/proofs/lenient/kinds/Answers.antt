@@ -1,6 +1,6 @@
 use Rattle.std.proofs.Common.{◌-◌, ◌+◌, ◌∙◌, ◌∷◌, ◌++◌, ℕ, List, [], ap, arith}
 use Rattle.std.proofs.lemmas.List.{map-append}
-use Rattle.lx_spec.specs.views.Rules.{names_view}
+use Rattle.lx_rules.specs.views.Rules.{names_view}
 use Rattle.lx_tables.specs.Readers.{read_kind}
 use Rattle.lx_tables.proofs.Onto.{onto_more}
 use Rattle.lx_tables.proofs.lenient.kinds.Goals as goal

@@ -1,5 +1,5 @@
 use Rattle.std.proofs.Common.{◌≡◌, ◌-◌}
-use Rattle.lx_spec.specs.views.Rules.{names_view}
+use Rattle.lx_rules.specs.views.Rules.{names_view}
 use Rattle.lx_tables.specs.Readers.{onto, read_list, read_many, read_kind}
 use Rattle.lx_tables.proofs.lenient.kinds.Given as goal
 

@@ -1,8 +1,8 @@
 use Rattle.std.proofs.Common.{◌≡◌, ◌-◌, ◌+◌, ◌∙◌, ℕ, List, sym, arith, ap, drop}
 use Rattle.std.specs.Option.{is_some}
-use Rattle.lx_spec.specs.Invariant.{are_distinct}
-use Rattle.lx_spec.specs.views.NameTables.{number_at}
-use Rattle.lx_spec.specs.views.Rules.{names_view}
+use Rattle.lx_rules.specs.Invariant.{are_distinct}
+use Rattle.lx_rules.specs.views.NameTables.{number_at}
+use Rattle.lx_rules.specs.views.Rules.{names_view}
 use Rattle.lx_tables.proofs.Distinct.{is_among, seen_next, distinct_next, distinct_again}
 use Rattle.lx_tables.proofs.limits.are_distinct.Goals as goal
 

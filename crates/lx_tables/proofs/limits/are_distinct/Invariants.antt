@@ -1,8 +1,8 @@
 use Rattle.std.proofs.Common.{◌≡◌, ◌≤◌, ℕ, List, true, drop, length}
 use Rattle.std.specs.Option.{is_some}
-use Rattle.lx_spec.specs.Invariant.{are_distinct}
-use Rattle.lx_spec.specs.views.NameTables.{number_at}
-use Rattle.lx_spec.specs.views.Rules.{names_view}
+use Rattle.lx_rules.specs.Invariant.{are_distinct}
+use Rattle.lx_rules.specs.views.NameTables.{number_at}
+use Rattle.lx_rules.specs.views.Rules.{names_view}
 use Rattle.lx_tables.proofs.Distinct.{is_among}
 use Rattle.lx_tables.proofs.limits.are_distinct.Given as goal
 

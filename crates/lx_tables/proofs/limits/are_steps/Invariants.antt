@@ -1,5 +1,5 @@
 use Rattle.std.proofs.Common.{◌≡◌, length}
-use Rattle.lx_spec.specs.Invariant as invariant
+use Rattle.lx_rules.specs.Invariant as invariant
 use Rattle.lx_tables.proofs.limits.are_steps.Given as goal
 
 abbrev pub invariant-loop-step : goal.invariant-loop-step

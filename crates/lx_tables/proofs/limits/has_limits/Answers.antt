@@ -2,7 +2,7 @@ use Rattle.std.proofs.Common.{◌∙◌, sym, arith, length}
 use Rattle.std.specs.Prelude.{IsTrue}
 use Rattle.std.proofs.lemmas.List.{length-map}
 use Rattle.std.proofs.lemmas.Result.{IfOk-weaker}
-use Rattle.lx_spec.specs.views.Rules.{names_view}
+use Rattle.lx_rules.specs.views.Rules.{names_view}
 use Rattle.lx_tables.specs.Views.{rule_view}
 use Rattle.lx_tables.proofs.Tested.{steps_are}
 use Rattle.lx_tables.proofs.limits.has_limits.Goals as goal

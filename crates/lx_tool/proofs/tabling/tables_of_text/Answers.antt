@@ -1,5 +1,5 @@
 use Rattle.std.proofs.lemmas.Result.{err_from_is_err_and}
-use Rattle.lx_spec.specs.views.Specs.{spec_view}
+use Rattle.lx_rules.specs.views.Specs.{spec_view}
 use Rattle.lx_tool.proofs.Tabled.{too_large}
 use Rattle.lx_tool.proofs.tabling.tables_of_text.Goals as goal
 

@@ -1,5 +1,5 @@
 use Rattle.std.proofs.Common.{◌≡◌, ◌∙◌, rules}
-use Rattle.lx_spec.specs.views.NameTables.{number_at}
+use Rattle.lx_rules.specs.views.NameTables.{number_at}
 use Rattle.lx_spec.proofs.kind_index.KindIndex.place_of.Goals as goal
 
 pub returns : goal.returns

@@ -1,7 +1,7 @@
 use Rattle.std.proofs.Common.{◌≡◌, ◌≤◌, length, arith}
 use Rattle.std.proofs.lemmas.List.{length-map}
-use Rattle.lx_spec.specs.views.Rules.{rule_view}
-use Rattle.lx_spec.specs.views.Specs.{spec_view}
+use Rattle.lx_rules.specs.views.Rules.{rule_view}
+use Rattle.lx_rules.specs.views.Specs.{spec_view}
 use Rattle.lx_tables.proofs.Made.{made_table, made_of, made_alike}
 use Rattle.lx_tables.proofs.tables.Tables.of.Goals as goal
 

@@ -1,11 +1,11 @@
 // A specification, read.
 ghost use Rattle.std.specs.Prelude.{◌<◌, ◌≤◌, length, map, IsTrue};
 ghost use Rattle.std.specs.List.{list_all};
-ghost use Rattle.lx_spec.specs.views.Conditions.{condition_view};
-ghost use Rattle.lx_spec.specs.Invariant.{are_start_conditions, are_definitions, are_ordered, are_kinds, is_rule};
-ghost use Rattle.lx_spec.specs.Limits.{max_definitions, max_rules, max_start_conditions};
-ghost use Rattle.lx_spec.specs.Nesting.{are_nested, expressions_of};
-ghost use Rattle.lx_spec.specs.views.Rules.{rule_view, definition_view, names_view};
+ghost use Rattle.lx_rules.specs.views.Conditions.{condition_view};
+ghost use Rattle.lx_rules.specs.Invariant.{are_start_conditions, are_definitions, are_ordered, are_kinds, is_rule};
+ghost use Rattle.lx_rules.specs.Limits.{max_definitions, max_rules, max_start_conditions};
+ghost use Rattle.lx_rules.specs.Nesting.{are_nested, expressions_of};
+ghost use Rattle.lx_rules.specs.views.Rules.{rule_view, definition_view, names_view};
 
 use crate::condition::Condition;
 use crate::definition::Definition;

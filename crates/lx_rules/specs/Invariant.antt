@@ -4,15 +4,14 @@ use Rattle.std.specs.List.{list_all, list_any, flat_map}
 use Rattle.std.specs.Cmp.Lexicographic.{pointwise}
 use Rattle.lx_ere.specs.Regex.{Regex}
 use Rattle.lx_ere.specs.Bounds.{has_ordered_bounds}
-use Rattle.lx_spec.specs.Limits.{max_definitions, max_rules, max_start_conditions}
-use Rattle.lx_spec.specs.Plain.{StartCondition, PlainDefinition, PlainRule, PlainSpec}
-use Rattle.lx_spec.specs.Bytes.{is_identifier}
-use Rattle.lx_spec.specs.Nesting.{are_nested, expressions_of}
-use Rattle.lx_spec.specs.declared.rule.Kind.{Kind}
-use Rattle.lx_spec.specs.declared.rule.Kind.TheVariants.{Name, Number}
-use Rattle.lx_spec.specs.declared.rule.Step.{Step}
-use Rattle.lx_spec.specs.declared.rule.Step.TheVariants.{Echo, Begin, Return}
-use Rattle.lx_spec.specs.Sections.{RawDefinition, ParsedSections}
+use Rattle.lx_rules.specs.Limits.{max_definitions, max_rules, max_start_conditions}
+use Rattle.lx_rules.specs.Plain.{StartCondition, PlainDefinition, PlainRule, PlainSpec}
+use Rattle.lx_rules.specs.Identifiers.{is_identifier}
+use Rattle.lx_rules.specs.Nesting.{are_nested, expressions_of}
+use Rattle.lx_rules.specs.declared.rule.Kind.{Kind}
+use Rattle.lx_rules.specs.declared.rule.Kind.TheVariants.{Name, Number}
+use Rattle.lx_rules.specs.declared.rule.Step.{Step}
+use Rattle.lx_rules.specs.declared.rule.Step.TheVariants.{Echo, Begin, Return}
 
 -- no two of the names are the same
 abbrev pub are_distinct : List (List ℕ) → Bool
@@ -31,14 +30,6 @@ begins_initial (s ∷ more) = pointwise nat_eq s.name initial_letters && not s.e
 -- the first condition is INITIAL, and no two have the same name
 unfoldable pub are_start_conditions : List StartCondition → Bool
 are_start_conditions start_conditions = begins_initial start_conditions && are_distinct (map (λ s. s.name) start_conditions)
-
-abbrev pub are_raw_definitions : List RawDefinition → Bool
-are_raw_definitions raw_definitions = are_distinct (map (λ d. d.name) raw_definitions)
-
--- The conditions and the definitions of the sections have distinct names, and INITIAL is the first condition.
-pub record AreWellFormed (sections : ParsedSections) : Type 0 where
-  pub start_conditions : IsTrue (are_start_conditions sections.start_conditions)
-  pub definitions : IsTrue (are_raw_definitions sections.definitions)
 
 -- no two definitions have the same name
 unfoldable pub are_definitions : List PlainDefinition → Bool

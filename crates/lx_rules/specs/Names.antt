@@ -2,7 +2,7 @@
 use Rattle.std.specs.Prelude.{◌≡◌, ℕ, zero, suc, List, [], ◌∷◌, ◌++◌, slice_get, Some}
 use Rattle.lx_ere.specs.Regex.{Regex, nil, one_of, then, or, times, named}
 use Rattle.lx_ere.specs.Matching.{Matches}
-use Rattle.lx_spec.specs.Plain.{PlainDefinition}
+use Rattle.lx_rules.specs.Plain.{PlainDefinition}
 
 -- the names that stand in an expression, from left to right, as often as they stand there
 abbrev pub names_of : Regex → List (List ℕ)

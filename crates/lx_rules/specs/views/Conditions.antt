@@ -1,6 +1,6 @@
 -- The conditions of a specification, without where they lie in memory.
-use Rattle.lx_spec.specs.Plain.{StartCondition}
-use Rattle.lx_spec.specs.declared.condition.Condition.{Condition}
+use Rattle.lx_rules.specs.Plain.{StartCondition}
+use Rattle.lx_rules.specs.declared.condition.Condition.{Condition}
 
 abbrev pub condition_view : Condition → StartCondition
 condition_view c = record { name = c.name.items; exclusive = c.exclusive }

@@ -1,9 +1,9 @@
 -- The specification of the code, without where it lies in memory.
 use Rattle.std.specs.Prelude.{map}
-use Rattle.lx_spec.specs.Plain.{PlainSpec}
-use Rattle.lx_spec.specs.views.Conditions.{condition_view}
-use Rattle.lx_spec.specs.views.Rules.{rule_view, definition_view, names_view}
-use Rattle.lx_spec.specs.declared.spec.Spec.{Spec}
+use Rattle.lx_rules.specs.Plain.{PlainSpec}
+use Rattle.lx_rules.specs.views.Conditions.{condition_view}
+use Rattle.lx_rules.specs.views.Rules.{rule_view, definition_view, names_view}
+use Rattle.lx_rules.specs.declared.spec.Spec.{Spec}
 
 abbrev pub spec_view : Spec → PlainSpec
 spec_view s = record {

@@ -3,9 +3,9 @@ use Rattle.std.specs.Prelude.{ℕ, zero, suc, Bool, true, false, nat_eq, if◌th
 use Rattle.std.specs.List.{list_all}
 use Rattle.std.specs.Cmp.Lexicographic.{pointwise}
 use Rattle.lx_ere.specs.Regex.{Regex}
-use Rattle.lx_spec.specs.Limits.{max_name_depth}
-use Rattle.lx_spec.specs.Plain.{PlainDefinition, PlainRule}
-use Rattle.lx_spec.specs.Names.{names_of}
+use Rattle.lx_rules.specs.Limits.{max_name_depth}
+use Rattle.lx_rules.specs.Plain.{PlainDefinition, PlainRule}
+use Rattle.lx_rules.specs.Names.{names_of}
 
 -- what the first definition with this name stands for
 abbrev pub tree_named : List PlainDefinition → List ℕ → Option Regex

@@ -15,7 +15,7 @@ pub struct Steps {
 impl Model for Steps {
     ghost use Rattle.std.specs.Prelude.{List};
     ghost use Rattle.std.specs.Arc.{arc_slice_items};
-    ghost use Rattle.lx_spec.specs.declared.rule.Step.{Step};
+    ghost use Rattle.lx_rules.specs.declared.rule.Step.{Step};
 
     ghost Value = { List Step };
 

@@ -2,9 +2,9 @@
 use Rattle.std.specs.Prelude.{◌≡◌, ℕ, ◌+◌, ◌<◌, ◌≤◌, ◌⊎◌, Bool, false, IsTrue, if◌then◌else◌, List, Option, Some, MatchOption, Contains, slice_get, length, take}
 use Rattle.std.specs.Option.{option_map}
 use Rattle.lx_ere.specs.Matching.{Matches}
-use Rattle.lx_spec.specs.Limits.{max_name_depth}
-use Rattle.lx_spec.specs.Names.{NameMatches}
-use Rattle.lx_spec.specs.Plain.{PlainRule, PlainSpec}
+use Rattle.lx_rules.specs.Limits.{max_name_depth}
+use Rattle.lx_rules.specs.Names.{NameMatches}
+use Rattle.lx_rules.specs.Plain.{PlainRule, PlainSpec}
 
 -- A rule with a list of conditions is active in those, and a rule without one in each condition that isn't exclusive.
 abbrev pub IsActive : PlainSpec → PlainRule → ℕ → Type 0

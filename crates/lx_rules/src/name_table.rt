@@ -2,7 +2,7 @@
 ghost use Rattle.std.specs.Prelude.{◌≡◌, ℕ, List, Some, None, nat_eq, cond, OnOk};
 ghost use Rattle.std.specs.Cmp.Lexicographic.{pointwise};
 ghost use Rattle.std.specs.Option.{option_or};
-ghost use Rattle.lx_spec.specs.views.NameTables.{number_at};
+ghost use Rattle.lx_rules.specs.views.NameTables.{number_at};
 
 use std::alloc::{AllocError, Global};
 use std::collections::BTreeMap;

@@ -1,7 +1,7 @@
 -- A specification as plain values, without where it lies in memory.
 use Rattle.std.specs.Prelude.{ℕ, Bool, List, Option}
 use Rattle.lx_ere.specs.Regex.{Regex, Reading}
-use Rattle.lx_spec.specs.declared.rule.Step.{Step}
+use Rattle.lx_rules.specs.declared.rule.Step.{Step}
 
 -- a start condition (XCU `lex`, "Definitions in lex": `%s` and `%x`)
 pub record StartCondition : Type 0 where

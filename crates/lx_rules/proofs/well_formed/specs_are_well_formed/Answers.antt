@@ -1,8 +1,8 @@
 use Rattle.std.proofs.Common.{arith}
 use Rattle.std.proofs.lemmas.List.{length-map}
-use Rattle.lx_spec.specs.views.Conditions.{condition_view}
-use Rattle.lx_spec.specs.views.Rules.{rule_view, definition_view}
-use Rattle.lx_spec.proofs.read.specs_are_well_formed.Goals as goal
+use Rattle.lx_rules.specs.views.Conditions.{condition_view}
+use Rattle.lx_rules.specs.views.Rules.{rule_view, definition_view}
+use Rattle.lx_rules.proofs.well_formed.specs_are_well_formed.Goals as goal
 
 pub returns : goal.returns
 returns c = λ spec.

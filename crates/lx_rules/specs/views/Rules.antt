@@ -4,9 +4,9 @@ use Rattle.std.specs.Option.{option_map}
 use Rattle.std.specs.declared.alloc.Global.{Global}
 use Rattle.std.specs.declared.vec.Vec.{Vec}
 use Rattle.lx_ere.specs.Regex.{regex_of, reading_of}
-use Rattle.lx_spec.specs.Plain.{PlainDefinition, PlainRule}
-use Rattle.lx_spec.specs.declared.definition.Definition.{Definition}
-use Rattle.lx_spec.specs.declared.rule.Rule.{Rule}
+use Rattle.lx_rules.specs.Plain.{PlainDefinition, PlainRule}
+use Rattle.lx_rules.specs.declared.definition.Definition.{Definition}
+use Rattle.lx_rules.specs.declared.rule.Rule.{Rule}
 
 abbrev pub rule_view : Rule → PlainRule
 rule_view r = record { line = r.line; conditions = option_map (λ v. v.items) r.conditions; reading = reading_of r.pattern; steps = r.action }
