@@ -79,10 +79,8 @@ fn leaves_whole_blocks_where_the_writer_fails(rt: HostRuntime) -> Result<(), Fai
     let mut out = failing_writer(alloc, 4_096, 2, false);
     let ended = list_plan(&rt, alloc, &plan, 0, LineWrites::Whole, &mut out);
     assert!(rt; ended == Err(RunFault::Reader) && out.calls == 2);
-    assert_eq!(rt;
-        out.held.as_slice(),
-        b"0 E - 1 0 1 h\n0 E - 1 1 1 i\n0 ! cut\n"
-    );
+    let wanted = "0 E - 1 0 1 h\n0 E - 1 1 1 i\n0 ! cut\n";
+    assert_eq!(rt; out.held.as_slice(), wanted.as_bytes());
     Ok(())
 }
 
