@@ -47,6 +47,7 @@ fn line_end(block: &[u8], from: usize) -> usize
     end + 1
 }
 
+// Writes a block, each line in a write of its own.
 fn write_each<W: Write>(out: &mut W, block: &[u8]) -> Result<(), ReaderFault>
     ensures ok { OnOk result (Appends (W.contents out.old) (W.contents out.new) block.now) }
     ensures err { OnErr result (AppendsPrefix (W.contents out.old) (W.contents out.new) block.now) }
