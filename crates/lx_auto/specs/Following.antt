@@ -1,6 +1,6 @@
 -- From the positions that are marked to those that can be read next, rule by rule.
 use Rattle.std.specs.Prelude.{◌≡◌, ℕ, ◌+◌, ◌<◌, ◌≤◌, ◌↔◌, ◌⊎◌, Bool, true, List, length, slice_get, Option, Some, None, MatchOption}
-use Rattle.lx_rules.specs.Plain.{PlainRule, PlainSpec}
+use Rattle.lx_rules.specs.Plain.{PlainSpec}
 use Rattle.lx_auto.specs.Positions.{First}
 use Rattle.lx_rules.specs.Starts.{IsActiveAt}
 use Rattle.lx_auto.specs.PositionSets.{NumberedRule, size_of}
