@@ -1,11 +1,11 @@
 -- What the automaton of the blocks keeps over byte classes, and that it has few states.
-use Rattle.std.proofs.Common.{◌≡◌, ◌≢◌, ℕ, ◌+◌, ◌*◌, ◌<◌, ◌≤◌, Bool, true, false, Option, Some, None, List, [], ◌∷◌, ◌++◌, length, slice_index, slice_index_or, slice_set, get_or, All, refl, sym, ◌∙◌, ap, subst, arith, inl, inr, eqb, if◌then◌else◌}
+use Rattle.std.proofs.Common.{◌≡◌, ◌≢◌, ℕ, ◌+◌, ◌*◌, ◌<◌, ◌≤◌, Bool, true, false, Option, Some, List, [], ◌∷◌, ◌++◌, length, slice_index, slice_index_or, slice_set, get_or, refl, sym, ◌∙◌, ap, subst, arith, inl, inr, eqb, if◌then◌else◌}
 use Rattle.std.proofs.lemmas.Bool.{cases_lt, cases_eq}
 use Rattle.std.proofs.lemmas.List.{get_or_append_left, get_or_push, length_push, length-set, get_or-set_same, get_or-set_other, get_or_default}
 use Rattle.std.proofs.lemmas.Map.Steps.{length-le_from_distinct_below}
 use Rattle.std.proofs.lemmas.Map.Keys.{IsDistinct-from_apart}
 use Rattle.lx_rules.specs.Plain.{PlainSpec}
-use Rattle.lx_automaton.specs.Automata.{Machine, IsMachine, HasSameSteps, state_count, start_of, target_of, answer_from, answer}
+use Rattle.lx_automaton.specs.Automata.{Machine, IsMachine, HasSameSteps, state_count, start_of, target_of}
 use Rattle.lx_automaton.specs.Equivalence.{AreEquivalentMachines, IsMinimal, HasLiveSteps}
 use Rattle.lx_automaton.specs.Automata.{HasByteClasses}
 use Rattle.lx_automaton.specs.Meaning.{IsAnswer, IsAutomatonOf}

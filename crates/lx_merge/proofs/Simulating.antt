@@ -1,9 +1,9 @@
 -- An automaton that simulates a complete one answers by its labels; words of classes are spelled by bytes.
-use Rattle.std.proofs.Common.{◌≡◌, ℕ, suc, ◌+◌, ◌-◌, ◌<◌, ◌≤◌, ◌==◌, ◌&&◌, nat_lt, Bool, true, false, IsTrue, Option, Some, None, List, [], ◌∷◌, length, map, slice_index, All, refl, sym, ◌∙◌, ap, ap₂, arith, inl, inr}
+use Rattle.std.proofs.Common.{◌≡◌, ℕ, suc, ◌+◌, ◌-◌, ◌<◌, ◌≤◌, ◌==◌, ◌&&◌, nat_lt, Bool, true, false, IsTrue, Some, None, List, [], ◌∷◌, length, map, slice_index, All, refl, sym, ◌∙◌, ap, ap₂, arith, inl, inr}
 use Rattle.std.proofs.lemmas.Bool.{cases_eq}
 use Rattle.std.proofs.lemmas.Bool.Decides.{eqb_tells, nat_tests}
 use Rattle.std.proofs.lemmas.List.Elements.{All-head, All-tail, All-cons}
-use Rattle.lx_automaton.specs.Automata.{Machine, IsMachine, HasByteClasses, state_after, accepted_at, are_numbered}
+use Rattle.lx_automaton.specs.Automata.{Machine, IsMachine, HasByteClasses, are_numbered}
 use Rattle.lx_automaton.specs.EncodedOptions.{decoded_option}
 use Rattle.lx_merge.specs.Completion.{total, label_of, step_of, after, IsCompletion}
 use Rattle.lx_merge.specs.Simulations.{Simulates}
