@@ -20,8 +20,8 @@ use Rattle.lx_auto.specs.SetTable.{Positions, set_of, IsTarget}
 use Rattle.lx_auto.specs.Simplified.{simplified_pattern}
 use Rattle.lx_auto.proofs.Drafted.{IsAfter, read_after, start_below}
 use Rattle.lx_automaton.proofs.RowMajor.{in_row}
-use Rattle.lx_auto.proofs.Membership.{contains_nil}
-use Rattle.lx_auto.proofs.Merged.{same_answers}
+use Rattle.lx_automaton.proofs.Members.{contains_nil}
+use Rattle.lx_automaton.proofs.SameAnswers.{same_answers}
 use Rattle.lx_auto.proofs.Reached.{numbered_rules}
 use Rattle.lx_auto.proofs.RuleAnswers.{HasSoundPatterns, earliest_answer}
 

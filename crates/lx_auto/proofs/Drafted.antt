@@ -17,7 +17,7 @@ use Rattle.lx_auto.specs.Exploring.{positions_with_byte, IsSource, IsExplored, s
 use Rattle.lx_automaton.specs.Automata.{Machine, start_of, class_target, target_of, state_after}
 use Rattle.lx_auto.specs.Drafting.{IsDrafted}
 use Rattle.lx_automaton.proofs.RowMajor.{in_row}
-use Rattle.lx_auto.proofs.Membership.{contains_nil}
+use Rattle.lx_automaton.proofs.Members.{contains_nil}
 use Rattle.lx_auto.proofs.Reached.{positions_with_byte_means}
 use Rattle.lx_auto.proofs.SetStepped.{first_set, next_set}
 

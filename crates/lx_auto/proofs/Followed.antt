@@ -8,7 +8,7 @@ use Rattle.lx_auto.specs.Positions.{CanEnd}
 use Rattle.lx_auto.specs.Counts.{newline_count}
 use Rattle.lx_auto.specs.PositionSets.{NumberedRule, newline_of, size_of}
 use Rattle.lx_auto.specs.RuleReach.{FinalWithEnd, IsFinal}
-use Rattle.lx_auto.specs.Starts.{IsActiveAt}
+use Rattle.lx_rules.specs.Starts.{IsActiveAt}
 use Rattle.lx_auto.specs.Marking.{flag}
 use Rattle.lx_auto.specs.RuleParts.{AreReadsOf}
 use Rattle.lx_auto.specs.Following.{InRange, AreNumbered, FollowsMarked, EndsMarked, BeginsWith, IsReadBelow, AreReadBelow, ReadsRule, ReadsOrStays, IsFirstMatchedBelow, first_or}

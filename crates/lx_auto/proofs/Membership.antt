@@ -1,28 +1,13 @@
 -- Lists of numbers as sets.
-use Rattle.std.proofs.Common.{◌≡◌, ℕ, zero, suc, ◌+◌, ◌≤◌, ◌<◌, ◌⊎◌, ◌↔◌, inl, inr, Bool, true, false, List, [], ◌∷◌, length, get_or, refl, sym, ◌∙◌, subst, arith, drop, ap}
+use Rattle.std.proofs.Common.{◌≡◌, ℕ, zero, suc, ◌+◌, ◌≤◌, ◌<◌, ◌↔◌, inl, inr, Bool, true, false, List, [], ◌∷◌, length, get_or, refl, sym, ◌∙◌, subst, arith, drop, ap}
 use Rattle.std.proofs.Math.Seq.{drop-cons}
 use Rattle.std.specs.Prelude.{Contains, nat_eq}
 use Rattle.std.proofs.lemmas.Bool.Decides.{eqb_tells}
+use Rattle.lx_automaton.proofs.Members.{contains_nil, contains_head, contains_tail, contains_cases, contains_at}
 use Rattle.lx_auto.specs.Members.{has_member, places_from}
 use Rattle.lx_auto.specs.Marking.{flag}
 use Rattle.lx_auto.specs.SetSteps.{IsRising}
 use Rattle.lx_auto.proofs.Words.{or_true, or_left, or_right}
-
-pub contains_head : (x : ℕ) (xs : List ℕ) → Contains (x ∷ xs) x
-contains_head x xs = (0, (omega arith), refl)
-
-pub contains_tail : (x q : ℕ) (xs : List ℕ) → Contains xs q → Contains (x ∷ xs) q
-contains_tail x q xs h = (suc h.0, (let l = h.1 in omega arith), h.2)
-
-pub contains_cases : (x q : ℕ) (xs : List ℕ) → Contains (x ∷ xs) q → (x ≡ q) ⊎ Contains xs q
-contains_cases x q xs h = go h.0 h.1 h.2
-  where
-    go : (k : ℕ) → k < length (x ∷ xs) → get_or (x ∷ xs) k q ≡ q → (x ≡ q) ⊎ Contains xs q
-    go zero l e = inl e
-    go (suc k) l e = inr (k, (omega arith), e)
-
-pub contains_nil : (q : ℕ) → Contains [] q → ⊥
-contains_nil q h = let l = h.1 in absurd (omega arith)
 
 pub member_means : (set : List ℕ) (q : ℕ) → (has_member set q ≡ true) ↔ Contains set q
 member_means [] q = ((λ t. absurd (cc)), (λ h. absurd (contains_nil q h)))
@@ -72,12 +57,6 @@ place_means flags q =
     let e : 0 + q ≡ q = omega arith in
     let m = places_mean 0 q flags in
     ((λ h. m.0 (subst (λ z. Contains (places_from 0 flags) z) (sym e) h)), (λ t. subst (λ z. Contains (places_from 0 flags) z) e (m.1 t)))
-
--- every element is a member
-pub contains_at : (xs : List ℕ) (i : ℕ) → i < length xs → Contains xs (get_or xs i 0)
-contains_at [] i h = absurd (omega arith)
-contains_at (x ∷ xs) zero h = contains_head x xs
-contains_at (x ∷ xs) (suc i) h = contains_tail x (get_or xs i 0) xs (contains_at xs i (omega arith))
 
 rising_cons : (x : ℕ) (xs : List ℕ) → ((q : ℕ) → Contains xs q → x < q) → IsRising xs → IsRising (x ∷ xs)
 rising_cons x xs below rising zero zero h l = absurd (omega arith)

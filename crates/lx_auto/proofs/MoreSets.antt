@@ -12,7 +12,8 @@ use Rattle.lx_auto.specs.PositionSets.{NumberedRule, newline_of, numbered, WordW
 use Rattle.lx_auto.specs.SetSteps.{IsSetOf}
 use Rattle.lx_auto.specs.Exploring.{IsReachedSet, HasMoreSets}
 use Rattle.lx_auto.proofs.KeptWords.{pattern-same_words}
-use Rattle.lx_auto.proofs.Membership.{contains_head, same_rising}
+use Rattle.lx_automaton.proofs.Members.{contains_head}
+use Rattle.lx_auto.proofs.Membership.{same_rising}
 use Rattle.lx_auto.proofs.SameLeaves.{pattern-bytes}
 
 same_rule : (r s : NumberedRule) → Some r ≡ Some s → r ≡ s

@@ -17,7 +17,7 @@ use Rattle.lx_auto.proofs.Drafted.{IsAfter, read_after}
 use Rattle.lx_auto.proofs.MoreSets.{same_position_sets}
 use Rattle.lx_automaton.proofs.EncodedLists.{different}
 use Rattle.lx_auto.proofs.SetStepped.{nothing_read}
-use Rattle.lx_auto.proofs.Splits.{below_from_any}
+use Rattle.lx_automaton.proofs.Members.{below_from_any}
 
 at_map : (f : StartAndWord → ℕ) (pairs : List StartAndWord) (i : ℕ) (x : StartAndWord) → slice_get pairs i ≡ Some x → get_or (map f pairs) i 0 ≡ f x
 at_map f [] zero x h = absurd (cc)

@@ -17,7 +17,7 @@ use Rattle.lx_auto.specs.Sets.{AreFollowing, AreFirst}
 use Rattle.lx_auto.specs.Leaves.{PlainLeaf, has_byte, AreLeavesOf}
 use Rattle.lx_auto.specs.SetTable.{Positions, set_of, IsTarget, IsExtendedBy}
 use Rattle.lx_auto.specs.Exploring.{positions_with_byte, IsReachedSet, AreReachedSets, HasMoreSets, IsSource, HaveSteps, IsExplored, IsRowOf}
-use Rattle.lx_auto.proofs.Membership.{contains_nil, contains_head, contains_tail, contains_cases, contains_at}
+use Rattle.lx_automaton.proofs.Members.{contains_nil, contains_head, contains_tail, contains_cases, contains_at}
 use Rattle.lx_auto.proofs.SetLists.{target_kept, same_row}
 use Rattle.lx_auto.proofs.SetStepped.{nothing_read, first_set, next_set}
 

@@ -14,7 +14,7 @@ use Rattle.lx_rules.specs.Nesting.{is_within, are_nested, expressions_of}
 use Rattle.lx_auto.specs.Unfolded.{Unfolded, position_count, ByteWord, byte_of_set}
 use Rattle.lx_auto.specs.Counts.{newline_count}
 use Rattle.lx_auto.specs.Simplified.{simplified_pattern}
-use Rattle.lx_auto.specs.Starts.{IsActiveAt}
+use Rattle.lx_rules.specs.Starts.{IsActiveAt}
 use Rattle.lx_automaton.specs.Meaning.{ReachesWhole, IsAnswer}
 use Rattle.lx_auto.specs.PositionSets.{NumberedRule, numbered}
 use Rattle.lx_auto.specs.RuleReach.{WholeWithEnd, MatchesWhole}

@@ -4,7 +4,7 @@ use Rattle.std.specs.Prelude.{slice_get}
 use Rattle.lx_ere.specs.Regex.{Regex}
 use Rattle.lx_rules.specs.Plain.{PlainRule, PlainSpec}
 use Rattle.lx_auto.specs.Unfolded.{Unfolded}
-use Rattle.lx_auto.specs.Starts.{IsActiveAt}
+use Rattle.lx_rules.specs.Starts.{IsActiveAt}
 use Rattle.lx_auto.specs.PositionSets.{NumberedRule, numbered, HasRuleByte, CanHaveReadLast}
 use Rattle.lx_auto.specs.RuleReach.{RuleFollow, IsFinal, IsReachedInRule, MatchesWhole}
 use Rattle.lx_auto.specs.SetSteps.{HasSomeByte, IsFirstAt, FollowsSet, IsMatchedBy, IsSetOf}

@@ -1,8 +1,8 @@
 -- From the positions that are marked to those that can be read next, rule by rule.
 use Rattle.std.specs.Prelude.{◌≡◌, ℕ, ◌+◌, ◌<◌, ◌≤◌, ◌↔◌, ◌⊎◌, Bool, true, List, length, slice_get, Option, Some, None, MatchOption}
-use Rattle.lx_rules.specs.Plain.{PlainRule, PlainSpec}
+use Rattle.lx_rules.specs.Plain.{PlainSpec}
 use Rattle.lx_auto.specs.Positions.{First}
-use Rattle.lx_auto.specs.Starts.{IsActiveAt}
+use Rattle.lx_rules.specs.Starts.{IsActiveAt}
 use Rattle.lx_auto.specs.PositionSets.{NumberedRule, size_of}
 use Rattle.lx_auto.specs.RuleReach.{RuleFollow, IsFinal}
 use Rattle.lx_auto.specs.Marking.{flag}
@@ -65,12 +65,3 @@ IsFirstMatchedBelow rules marks n found =
 abbrev pub first_or : Option ℕ → ℕ → Option ℕ
 first_or None n = Some n
 first_or (Some i) n = Some i
-
--- the flags say which rules are active at the start
-pub record AreActive (spec : PlainSpec) (condition : ℕ) (begin : Bool) (active : List Bool) : Type 0 where
-  pub each : (i : ℕ) (rule : PlainRule) → slice_get spec.rules i ≡ Some rule → (flag active i ≡ true) ↔ IsActiveAt spec rule condition begin
-
--- the flags of the first n rules
-pub record AreActiveBelow (spec : PlainSpec) (condition : ℕ) (begin : Bool) (active : List Bool) (n : ℕ) : Type 0 where
-  pub long : length active ≡ n
-  pub each : (i : ℕ) (rule : PlainRule) → i < n → slice_get spec.rules i ≡ Some rule → (flag active i ≡ true) ↔ IsActiveAt spec rule condition begin

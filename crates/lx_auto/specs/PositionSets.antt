@@ -6,7 +6,7 @@ use Rattle.lx_auto.specs.Unfolded.{Unfolded, position_count, PositionWord}
 use Rattle.lx_auto.specs.WrittenOut.{pattern_written_out}
 use Rattle.lx_auto.specs.Counts.{newline_count}
 use Rattle.lx_auto.specs.Positions.{HasByte, Spells}
-use Rattle.lx_auto.specs.Starts.{IsActiveAt}
+use Rattle.lx_rules.specs.Starts.{IsActiveAt}
 
 -- a rule whose positions are numbered from the base on
 pub record NumberedRule : Type 0 where

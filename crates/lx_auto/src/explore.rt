@@ -13,7 +13,6 @@ ghost use Rattle.lx_auto.specs.SetTable.{IsExtendedBy, IsNumbering, IsTarget, se
 ghost use Rattle.lx_auto.specs.Exploring as plain;
 ghost use Rattle.lx_auto.specs.Exploring.{AddsTarget, AreReachedSets, HasMoreSets, HaveSteps, IsExplored, IsRowOf, start_count, start_number};
 
-use crate::active::active_rules;
 use crate::explored::Explored;
 use crate::fault::BuildFault;
 use crate::follow::{begin, follow};
@@ -21,6 +20,7 @@ use crate::leaf::{Leaf, has};
 use crate::position_table::PositionTable;
 use crate::set_numbering::{empty_table, number_of};
 use crate::set_table::{PositionSet, SetTable};
+use lx_rules::active::active_rules;
 use lx_rules::spec::Spec;
 use smallvec::SmallVec;
 use std::alloc::{AllocError, Global};

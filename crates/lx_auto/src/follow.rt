@@ -4,7 +4,8 @@ ghost use Rattle.lx_rules.specs.Plain.{PlainSpec};
 ghost use Rattle.lx_auto.specs.Blocks.{IsClear};
 ghost use Rattle.lx_auto.specs.PositionSets.{NumberedRule};
 ghost use Rattle.lx_auto.specs.RuleParts.{IsPartOf, ArePartsOf, AreReadsOf};
-ghost use Rattle.lx_auto.specs.Following.{AreNumbered, AreActive};
+ghost use Rattle.lx_rules.specs.Starts.{AreActive};
+ghost use Rattle.lx_auto.specs.Following.{AreNumbered};
 ghost use Rattle.lx_auto.specs.Sets.{AreFollowing, AreFirst, IsEarliestMatched};
 
 use crate::marking::flag;

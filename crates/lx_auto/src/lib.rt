@@ -1,16 +1,13 @@
-//! Automata of specifications: positions, subset construction, and states merged to the fewest
-//! (McNaughton and Yamada 1960, Glushkov 1961, Rabin and Scott 1959; Moore 1956, Hopcroft 1971).
+//! Automata of specifications: positions, and the subset construction (McNaughton and Yamada 1960, Glushkov 1961, Rabin and Scott
+//! 1959). Their states are merged to the fewest below, and `merge` is handed on.
 #![tactic(auto)]
 
-mod active;
 mod block;
 mod block_steps;
 mod blocks;
 pub mod building;
-mod candidates;
 mod chunk;
 mod chunking;
-mod complete;
 mod count;
 mod definition_order;
 mod drafting;
@@ -23,14 +20,10 @@ mod fragment;
 mod groups;
 mod leaf;
 mod marking;
-pub mod merging;
 mod names;
 mod node;
 mod part;
-mod partition;
 mod position_table;
-mod predecessors;
-mod quotient;
 mod repeat;
 mod rule_part;
 mod rule_steps;
@@ -39,12 +32,10 @@ mod set_numbering;
 mod set_steps;
 mod set_table;
 mod spec_positions;
-mod split;
 mod unfold;
 mod unfolded_rules;
-mod worklist;
 
 pub use crate::building::build;
 pub use crate::fault::BuildFault;
-pub use crate::merging::merge;
 pub use lx_automaton::{Automaton, State};
+pub use lx_merge::merge;

@@ -2,3 +2,5 @@ pub mod RowMajor
 pub mod EncodedLists
 pub mod ClassSteps
 pub mod ClassRows
+pub mod Members
+pub mod SameAnswers

@@ -5,4 +5,5 @@ pub mod Limits
 pub mod Names
 pub mod Nesting
 pub mod Plain
+pub mod Starts
 pub mod views

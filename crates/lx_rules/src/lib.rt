@@ -2,6 +2,7 @@
 //! every one keeps, and which rule a scanner chooses. How one is read stands above, and so does what is made of one.
 #![tactic(auto)]
 
+pub mod active;
 pub mod condition;
 pub mod definition;
 pub mod identifier;

@@ -4,7 +4,7 @@ use Rattle.lx_rules.specs.views.Specs.{spec_view}
 use Rattle.lx_auto.specs.LeafViews.{leaves_view}
 use Rattle.lx_auto.specs.PositionSets.{numbered}
 use Rattle.lx_auto.specs.RuleParts.{ArePartsOf}
-use Rattle.lx_auto.specs.Following.{AreActive}
+use Rattle.lx_rules.specs.Starts.{AreActive}
 use Rattle.lx_auto.specs.Exploring.{start_number}
 use Rattle.lx_auto.proofs.Reached.{row_of, explored_of, numbered_rules}
 use Rattle.lx_auto.proofs.explore.add_start.Goals as goal

@@ -2,7 +2,8 @@ use Rattle.std.proofs.Common.{◌≡◌, ℕ, Bool, List, length}
 use Rattle.lx_rules.specs.Plain.{PlainSpec}
 use Rattle.lx_auto.specs.PositionSets.{NumberedRule}
 use Rattle.lx_auto.specs.RuleParts.{ArePartsOf}
-use Rattle.lx_auto.specs.Following.{AreNumbered, AreActive, BeginsWith, AreReadBelow}
+use Rattle.lx_rules.specs.Starts.{AreActive}
+use Rattle.lx_auto.specs.Following.{AreNumbered, BeginsWith, AreReadBelow}
 use Rattle.lx_auto.proofs.follow.begin.Given as goal
 
 abbrev pub invariant-loop-i : goal.invariant-loop-i

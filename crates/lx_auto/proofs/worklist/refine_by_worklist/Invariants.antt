@@ -1,9 +1,0 @@
-use Rattle.lx_auto.specs.SplitMeasure.{splits_left}
-use Rattle.lx_auto.specs.Partitions.{IsSound}
-use Rattle.lx_auto.proofs.worklist.refine_by_worklist.Given as goal
-
-abbrev pub invariant-loop-block : goal.invariant-loop-block
-invariant-loop-block l = IsSound l.m l.p
-
-abbrev pub decreases-loop-block : goal.decreases-loop-block
-decreases-loop-block l = splits_left l.m l.p l.worklist

@@ -1,0 +1,9 @@
+pub mod PartitionSteps
+pub mod Splits
+pub mod Completing
+pub mod QuotientSteps
+pub mod Simulating
+pub mod Quotients
+pub mod Merged
+pub mod Containing
+pub mod MovedStates

@@ -1,0 +1,6 @@
+pub mod Completion
+pub mod Partitions
+pub mod Sources
+pub mod Quotients
+pub mod Simulations
+pub mod SplitMeasure
