@@ -49,7 +49,7 @@ fn shown_piece(plan: &Plan, piece: Piece) -> Piece<Shown>
 #[derive(Drop)]
 pub struct Listing<'a, W: Write> {
     plan: &'a Plan,
-    order: InOrder<LineMaker<Alone>, Printer<'a, Alone, Owned<W>>>,
+    order: InOrder<'a, LineMaker<Alone>, Printer<Alone, Owned<W>>>,
 }
 
 impl<'a, W: Write> Model for Listing<'a, W> {
@@ -60,7 +60,7 @@ impl<'a, W: Write> Model for Listing<'a, W> {
 
     ghost view = { λ s. printed (record { plan = s.plan.now; counts = s.order.counts; faults = s.order.faults; failed = s.order.failed }) (W.contents s.order.taker.sink.out) };
 
-    ghost invariant = { λ s. IsInStep s.plan.now s.order.taker.plan.now (turn_of s.order.taker.file s.order.taker.number) s.order.counts s.order.failed };
+    ghost invariant = { λ s. IsInStep s.plan.now s.order.taker.plan.value (turn_of s.order.taker.file s.order.taker.number) s.order.counts s.order.failed };
 }
 
 impl<'a, W: Write> Listing<'a, W> {

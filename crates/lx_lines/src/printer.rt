@@ -13,13 +13,14 @@ use crate::sink::LineSink;
 use crate::spares::Spares;
 use lx_piece::{Piece, Plan, ReaderFault, Taker};
 use std::alloc::{AllocError, Global};
+use std::snapshot::Snapshot;
 
 /// Writes the lines of a plan's pieces, which it is handed in the plan's order, with the cut line behind those of a file whose
 /// reading failed. The lines of a piece are one block. Where memory is refused for it, nothing of the piece is written.
 #[derive(Drop)]
-pub struct Printer<'p, Y: Spares, S: LineSink> {
+pub struct Printer<Y: Spares, S: LineSink> {
     pub(crate) alloc: Global,
-    pub(crate) plan: &'p Plan,
+    pub(crate) plan: Snapshot<Plan>,
     pub(crate) spares: Y,
     pub(crate) sink: S,
     // The piece that comes next.
@@ -48,17 +49,17 @@ fn block_of<Y: Spares>(
     Ok(block)
 }
 
-impl<'p, Y: Spares, S: LineSink> Printer<'p, Y, S> {
+impl<Y: Spares, S: LineSink> Printer<Y, S> {
     /// A printer that has written nothing.
-    pub fn new(alloc: Global, plan: &'p Plan, spares: Y, sink: S) -> Printer<'p, Y, S>
-        ensures plan { result.plan.now ≡ plan.now }
+    pub fn new(alloc: Global, plan: &Plan, spares: Y, sink: S) -> Printer<Y, S>
+        ensures plan { result.plan.value ≡ plan.now }
         ensures file { result.file ≡ 0 }
         ensures number { result.number ≡ 0 }
         ensures sink { result.sink ≡ sink }
     {
         Printer {
             alloc,
-            plan,
+            plan: Snapshot::of(plan),
             spares,
             sink,
             file: 0,
@@ -84,29 +85,30 @@ impl<'p, Y: Spares, S: LineSink> Printer<'p, Y, S> {
     }
 }
 
-impl<'p, Y: Spares, S: LineSink> Taker<LineMaker<Y>> for Printer<'p, Y, S> {
+impl<Y: Spares, S: LineSink> Taker<LineMaker<Y>> for Printer<Y, S> {
     ghost use Rattle.lx_lines.specs.PrintingLaws.{prints_itself, prints_then, prints_no_more, part_behind};
 
-    ghost plan = { λ s. s.plan.now };
+    ghost plan = { λ s. s.plan.value };
 
     ghost turn = { λ s. turn_of s.file s.number };
 
-    ghost follows = { λ s t. PrintsTo S.wrote (printing s.plan.now s.file s.number s.sink) (printing t.plan.now t.file t.number t.sink) };
+    ghost follows = { λ s t. PrintsTo S.wrote (printing s.plan.value s.file s.number s.sink) (printing t.plan.value t.file t.number t.sink) };
 
-    ghost fails = { λ s fault t. PrintsPart S.wrote (printing s.plan.now s.file s.number s.sink) fault (printing t.plan.now t.file t.number t.sink) };
+    ghost fails = { λ s fault t. PrintsPart S.wrote (printing s.plan.value s.file s.number s.sink) fault (printing t.plan.value t.file t.number t.sink) };
 
-    fn take(&mut self, piece: Piece<Shown>) -> Result<(), ReaderFault>
-        requires turn { HasTurn shown self.old.plan.now (turn_of self.old.file self.old.number) piece }
-        ensures plan { self.new.plan.now ≡ self.old.plan.now }
-        ensures turn { OnOk result (turn_of self.new.file self.new.number ≡ turn_after self.old.plan.now (turn_of self.old.file self.old.number)) }
-        ensures follows { OnOk result (PrintsTo S.wrote (printing self.old.plan.now self.old.file self.old.number self.old.sink) (printing self.new.plan.now self.new.file self.new.number self.new.sink)) }
-        ensures fails { IfErr result (λ fault. PrintsPart S.wrote (printing self.old.plan.now self.old.file self.old.number self.old.sink) fault (printing self.new.plan.now self.new.file self.new.number self.new.sink)) }
+    fn take(&mut self, whole: &Plan, piece: Piece<Shown>) -> Result<(), ReaderFault>
+        requires same { whole.now ≡ self.old.plan.value }
+        requires turn { HasTurn shown self.old.plan.value (turn_of self.old.file self.old.number) piece }
+        ensures plan { self.new.plan.value ≡ self.old.plan.value }
+        ensures turn { OnOk result (turn_of self.new.file self.new.number ≡ turn_after self.old.plan.value (turn_of self.old.file self.old.number)) }
+        ensures follows { OnOk result (PrintsTo S.wrote (printing self.old.plan.value self.old.file self.old.number self.old.sink) (printing self.new.plan.value self.new.file self.new.number self.new.sink)) }
+        ensures fails { IfErr result (λ fault. PrintsPart S.wrote (printing self.old.plan.value self.old.file self.old.number self.old.sink) fault (printing self.new.plan.value self.new.file self.new.number self.new.sink)) }
     {
         self.spares.receive();
         // what holds of every plan
-        let _files = self.plan.files();
+        let _files = whole.files();
         let closes = piece.is_closing();
-        let Ok(block) = block_of(self.alloc, &self.spares, self.plan, piece) else {
+        let Ok(block) = block_of(self.alloc, &self.spares, whole, piece) else {
             return Err(ReaderFault::Memory);
         };
         self.sink.write_lines(block.as_slice())?;
@@ -120,11 +122,11 @@ impl<'p, Y: Spares, S: LineSink> Taker<LineMaker<Y>> for Printer<'p, Y, S> {
         Ok(())
     }
 
-    ghost follows_itself = { λ s. prints_itself S.wrote S.wrote_nothing (printing s.plan.now s.file s.number s.sink) };
+    ghost follows_itself = { λ s. prints_itself S.wrote S.wrote_nothing (printing s.plan.value s.file s.number s.sink) };
 
-    ghost follows_on = { λ s t u f h. prints_then S.wrote S.wrote_on (printing s.plan.now s.file s.number s.sink) (printing t.plan.now t.file t.number t.sink) (printing u.plan.now u.file u.number u.sink) f h };
+    ghost follows_on = { λ s t u f h. prints_then S.wrote S.wrote_on (printing s.plan.value s.file s.number s.sink) (printing t.plan.value t.file t.number t.sink) (printing u.plan.value u.file u.number u.sink) f h };
 
-    ghost fails_behind = { λ s t u fault f h. part_behind S.wrote S.wrote_on (printing s.plan.now s.file s.number s.sink) (printing t.plan.now t.file t.number t.sink) (printing u.plan.now u.file u.number u.sink) fault f h };
+    ghost fails_behind = { λ s t u fault f h. part_behind S.wrote S.wrote_on (printing s.plan.value s.file s.number s.sink) (printing t.plan.value t.file t.number t.sink) (printing u.plan.value u.file u.number u.sink) fault f h };
 
-    ghost fails_at_once = { λ s. prints_no_more S.wrote S.wrote_nothing (printing s.plan.now s.file s.number s.sink) };
+    ghost fails_at_once = { λ s. prints_no_more S.wrote S.wrote_nothing (printing s.plan.value s.file s.number s.sink) };
 }

@@ -23,20 +23,20 @@ use std::thread::Threads;
 const SPARES: usize = 128;
 
 // Hands a new printer all pieces of the plan. It comes back, so that what a lent writer holds in the end is known.
-fn print_all<'p, Y: Spares + Drop, S: LineSink + Drop>(
+fn print_all<Y: Spares + Drop, S: LineSink + Drop>(
     alloc: Global,
     plan: &Plan,
     maker: LineMaker<Y>,
-    printer: Printer<'p, Y, S>,
-) -> (Printer<'p, Y, S>, Result<(), RelayFault>)
+    printer: Printer<Y, S>,
+) -> (Printer<Y, S>, Result<(), RelayFault>)
     requires valid { IsPlan plan.now }
-    requires plan { printer.plan.now ≡ plan.now }
+    requires plan { printer.plan.value ≡ plan.now }
     requires file { printer.file ≡ 0 }
     requires number { printer.number ≡ 0 }
     ensures ok { OnOk result.1 (S.wrote printer.entry.sink (listing_of plan.now) result.0.sink) }
     ensures part { WrotePrefix S.wrote printer.entry.sink (listing_of plan.now) result.0.sink }
 {
-    match InOrder::<LineMaker<Y>, Printer<'p, Y, S>>::new(alloc, plan, printer) {
+    match InOrder::<LineMaker<Y>, Printer<Y, S>>::new(alloc, plan, printer) {
         Ok(mut order) => {
             let answer = relay_plan(alloc, plan, maker, &mut order);
             (order.into_taker(), answer)
@@ -68,24 +68,24 @@ fn print_to<'w, W: Write>(
 }
 
 // Hands a new printer all pieces of the plan, as workers cut them. It comes back, so that what a lent writer holds in the end is known.
-fn scan_all_to<'p, T: Threads + Wait + Sync, Y: Spares + Copy + Drop + Sync, S: LineSink + Drop>(
+fn scan_all_to<T: Threads + Wait + Sync, Y: Spares + Copy + Drop + Sync, S: LineSink + Drop>(
     rt: &T,
     alloc: Global,
     plan: &Plan,
     workers: u8,
     maker: LineMaker<Y>,
-    printer: Printer<'p, Y, S>,
-) -> (Printer<'p, Y, S>, Result<(), RunFault>)
+    printer: Printer<Y, S>,
+) -> (Printer<Y, S>, Result<(), RunFault>)
     requires some_workers { 0 < workers }
     requires few_workers { workers ≤ max_workers }
     requires valid { IsPlan plan.now }
-    requires plan { printer.plan.now ≡ plan.now }
+    requires plan { printer.plan.value ≡ plan.now }
     requires file { printer.file ≡ 0 }
     requires number { printer.number ≡ 0 }
     ensures ok { OnOk result.1 (S.wrote printer.entry.sink (listing_of plan.now) result.0.sink) }
     ensures part { WrotePrefix S.wrote printer.entry.sink (listing_of plan.now) result.0.sink }
 {
-    match InOrder::<LineMaker<Y>, Printer<'p, Y, S>>::new(alloc, plan, printer) {
+    match InOrder::<LineMaker<Y>, Printer<Y, S>>::new(alloc, plan, printer) {
         Ok(order) => {
             let (order, answer) = scan_made(rt, alloc, plan, workers, &OpenGate, maker, order);
             (order.into_taker(), answer)
