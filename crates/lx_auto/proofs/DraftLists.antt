@@ -1,5 +1,7 @@
 -- The lists of the draft, put together.
-use Rattle.std.proofs.Common.{◌≡◌, ℕ, zero, suc, ◌+◌, ◌*◌, ◌<◌, ◌++◌, ◌∷◌, refl, Bool, true, false, List, Option, None, length, map, replicate, ap}
+use Rattle.std.proofs.Common.{◌≡◌, ◌∙◌, ℕ, zero, suc, ◌+◌, ◌*◌, ◌<◌, ◌++◌, ◌∷◌, [], inl, inr, refl, Bool, true, false, List, Option, None, length, map, replicate, ap, arith}
+use Rattle.std.proofs.lemmas.Bool.{cases_lt}
+use Rattle.std.proofs.lemmas.List.{get_or_append_left, get_or_push, length_push}
 use Rattle.std.specs.Option.{option_map}
 use Rattle.lx_automaton.specs.Automata.{start_of}
 use Rattle.lx_auto.specs.Drafting.{AreStartStates, IsDrafted}
@@ -10,6 +12,16 @@ use Rattle.lx_automaton.specs.EncodedOptions.{decoded_option, machine_of}
 pub none_encoded : (n : ℕ) → map decoded_option (replicate n 0) ≡ replicate n None
 none_encoded zero = refl
 none_encoded (suc n) = ap (λ (xs : List (Option ℕ)). None ∷ xs) (none_encoded n)
+
+-- the states of one condition more
+pub starts_more : (starts : List (ℕ × ℕ)) (n : ℕ) → AreStartStates starts n → AreStartStates (starts ++ (2 * n, 2 * n + 1) ∷ []) (n + 1)
+starts_more starts n are = record {
+  long = length_push starts (2 * n, 2 * n + 1) ∙ (let l = are.long in omega arith);
+  each = λ c h. elim (cases_lt c n) [
+    | inl k ↦ get_or_append_left starts ((2 * n, 2 * n + 1) ∷ []) (0, 0) c (let l = are.long in omega arith) ∙ are.each c k
+    | inr k ↦ let i : c ≡ n = omega arith in rw i (get_or_push starts (2 * n, 2 * n + 1) (0, 0) n are.long)
+  ];
+}
 
 pub drafted : (starts : List (ℕ × ℕ)) (classes representatives accepted encoded : List ℕ) (matched targets : List (Option ℕ)) (conditions width : ℕ) (own : List ℕ) →
     AreStartStates starts conditions → own ≡ classes → width ≡ length representatives → map decoded_option accepted ≡ replicate (2 * conditions) None ++ matched →

@@ -1,11 +1,23 @@
 -- Leaves that don't tell a byte from the one that stands for it.
-use Rattle.std.proofs.Common.{◌≡◌, ℕ, ◌+◌, ◌≤◌, ◌<◌, inl, inr, List, Some, length, sym, ◌∙◌, ap, subst, arith}
+use Rattle.std.proofs.Common.{◌≡◌, ℕ, ◌+◌, ◌≤◌, ◌<◌, inl, inr, List, [], ◌∷◌, ◌++◌, Some, length, sym, ◌∙◌, ap, subst, arith}
 use Rattle.std.proofs.lemmas.Bool.{cases_lt}
+use Rattle.std.proofs.lemmas.List.{get_or_append_left, get_or_push}
 use Rattle.std.proofs.lemmas.Option.{slice_get_past}
-use Rattle.std.specs.Prelude.{slice_get}
+use Rattle.std.specs.Prelude.{slice_get, slice_index}
 use Rattle.lx_auto.specs.Leaves.{PlainLeaf, leaf_has_at, has_byte}
-use Rattle.lx_auto.specs.Grouping.{representative_of, RespectsGroups, RespectGroupsBelow}
+use Rattle.lx_auto.specs.Grouping.{representative_of, AreTogether, IsSplitBelow, RespectsGroups, RespectGroupsBelow}
 use Rattle.lx_auto.proofs.StepAll.{some_at}
+
+-- one byte more is put into a group
+pub split_more : (leaf : PlainLeaf) (old classes representatives new : List ℕ) (n class : ℕ) → length classes ≡ n →
+    ((b : ℕ) → b < n → slice_index classes b < length representatives) → ((k : ℕ) → k < length representatives → slice_index new k ≡ slice_index representatives k) →
+    AreTogether leaf old (slice_index new class) n → IsSplitBelow leaf old classes representatives n → IsSplitBelow leaf old (classes ++ class ∷ []) new (n + 1)
+split_more leaf old classes representatives new n class long within kept here split = record {
+  each = λ b h. elim (cases_lt b n) [
+    | inl k ↦ rw (get_or_append_left classes (class ∷ []) 0 b (omega arith), kept (slice_index classes b) (within b k)) (split.each b k)
+    | inr k ↦ let i : b ≡ n = omega arith in rw (i, get_or_push classes class 0 n long) here
+  ];
+}
 
 pub respected_more : (leaves : List PlainLeaf) (n : ℕ) (leaf : PlainLeaf) (classes representatives new_classes new_representatives : List ℕ) →
     slice_get leaves n ≡ Some leaf → RespectGroupsBelow leaves classes representatives n → RespectsGroups leaf new_classes new_representatives →
