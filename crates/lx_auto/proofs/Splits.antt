@@ -7,6 +7,7 @@ use Rattle.std.proofs.lemmas.List.Folds.{Any-from_list_any}
 use Rattle.std.proofs.lemmas.Map.Steps.{length-le_from_distinct_below}
 use Rattle.std.proofs.lemmas.Map.Keys.{IsDistinct-from_apart}
 use Rattle.std.specs.List.{list_any}
+use Rattle.std.specs.Prelude.{if◌then◌else◌}
 use Rattle.std.proofs.Common.{eqb}
 use Rattle.lx_automaton.proofs.EncodedLists.{different}
 use Rattle.lx_auto.specs.Completion.{total, step_of, IsComplete, AreDistinguishableByClasses}
@@ -149,6 +150,25 @@ splitter_from_flags m p number inside sound flags = record {
         | inr f ↦ ne (flags.outside s ls f ∙ sym (flags.outside t lt (λ g. f (e ∙ g))))
       ]);
 }
+
+-- where a state of the block and its representative step to different blocks, one of which is the set, the block is split
+pub more_blocks : (m : Complete) (p : Partition) (inside : List Bool) (s class into from n : ℕ) (b : Bool) → IsComplete m → IsSound m p → s < total m → class < m.width →
+    into ≡ block p (step_of m s class) → from ≡ block p s → AreFlags p.block_of.items into (length p.block_of.items) inside →
+    block p (step_of m s class) ≢ block p (step_of m (member_of p (block p s)) class) → (b ≡ false → IsStableBlock m p.block_of.items inside from class) →
+    n ≡ block_count p + (if b then 1 else 0) → n ≡ block_count p + 1
+more_blocks m p inside s class into from n true complete sound hs hc is here flags apart stable count = count
+more_blocks m p inside s class into from n false complete sound hs hc is here flags apart stable count =
+    let t = member_of p (block p s) in
+    let below = sound.below s hs in
+    let ht = sound.member (block p s) below in
+    let long = sound.long in
+    let us = complete.closed s class hs hc in
+    let ut = complete.closed t class ht hc in
+    let same = (stable refl).stable s t hs ht (sym here) (sound.within (block p s) below ∙ sym here) in
+    let first = flags.inside (step_of m s class) (omega arith) (sym is) in
+    let other = flags.outside (step_of m t class) (omega arith) (λ e. apart (sym is ∙ sym e)) in
+    let e : true ≡ false = sym first ∙ same ∙ other in
+    absurd (cc)
 
 -- where no state is moved, or none remains, all states of the block step into the set, or all out of it
 pub stable_without_moved_states : (m : Complete) (bs : List ℕ) (inside : List Bool) (from class : ℕ) (wanted : Bool) (ms : List ℕ) →
