@@ -4,7 +4,7 @@
 mod files;
 
 use crate::files::FileSources;
-use lx_tool::run;
+use lx_tool::{LineWrites, run_with};
 use std::io::{BufWriter, ErrorKind, Print, Write};
 use std::process::ExitCode;
 use std::rt::{Env, Files};
@@ -43,6 +43,7 @@ fn start<R: AllocGlobal + Env + Files + Print + Threads + Wait + Sync, E: Write>
     let words: Vec<String> = env::args(rt)?.collect(alloc)?;
     let mut out = BufWriter::with_capacity(alloc, BUFFER, io::writer(rt))?;
     let mut sources = FileSources::new(rt);
-    let status = run(rt, alloc, &words, &mut sources, &mut out, err);
+    let writes = LineWrites::Whole;
+    let status = run_with(rt, alloc, &words, &mut sources, writes, &mut out, err);
     Ok(status)
 }

@@ -19,4 +19,6 @@ mod thread_listings;
 #[cfg(test)]
 mod thread_memory;
 #[cfg(test)]
+mod thread_pace;
+#[cfg(test)]
 mod writers;

@@ -22,7 +22,8 @@ use std::marker::Model;
 /// and those of later files once the files before are closed. After a fault of either kind nothing more is handed on, and Device is answered
 /// and counted.
 #[derive(Drop)]
-pub struct InOrder<M: Maker, T: Taker<M>> {
+pub struct InOrder<'a, M: Maker, T: Taker<M>> {
+    plan: &'a Plan,
     taker: T,
     // The first file that isn't closed, or the number of files.
     first: u32,
@@ -36,23 +37,25 @@ pub struct InOrder<M: Maker, T: Taker<M>> {
     failed: bool,
 }
 
-impl<M: Maker, T: Taker<M>> Model for InOrder<M, T> {
+impl<'a, M: Maker, T: Taker<M>> Model for InOrder<'a, M, T> {
     ghost use Rattle.lx_piece.specs.Passing.{IsInOrder, Passing, queued};
 
     ghost Value = { Passing T };
 
     ghost view = { λ s. record { taker = s.taker; counts = s.counts.items; faults = s.faults; failed = s.failed } };
 
-    ghost invariant = { λ s. IsInOrder M.made (T.plan s.taker) (T.turn s.taker) s.counts.items s.first (queued s.waiting.items) s.failed };
+    ghost invariant = { λ s. IsInOrder M.made s.plan.now (T.plan s.taker) (T.turn s.taker) s.counts.items s.first (queued s.waiting.items) s.failed };
 }
 
 // Hands on what waits of a file, and tells whether its closing piece was among it.
 fn take_queue<M: Maker, T: Taker<M>>(
     taker: &mut T,
+    plan: &Plan,
     file: u32,
     queue: &mut VecDeque<Piece<M::Made>>,
     bytes: &mut u64,
 ) -> Result<bool, ReaderFault>
+    requires same { plan.now ≡ T.plan taker.old }
     requires file { file < files_of (T.plan taker.old) }
     requires queue { AreFirstPieces M.made (T.plan taker.old) file queue.old.items }
     requires turn { T.turn taker.old ≡ record { file = file; number = 0 } }
@@ -66,7 +69,7 @@ fn take_queue<M: Maker, T: Taker<M>>(
     while let Some(piece) = queue.pop_front() {
         *bytes = bytes.saturating_sub(M::weight(&piece.items));
         closed = piece.is_closing();
-        taker.take(piece)?;
+        taker.take(plan, piece)?;
     }
     Ok(closed)
 }
@@ -75,10 +78,12 @@ fn take_queue<M: Maker, T: Taker<M>>(
 // files.
 fn take_waiting<M: Maker, T: Taker<M>>(
     taker: &mut T,
+    plan: &Plan,
     from: u32,
     waiting: &mut Vec<VecDeque<Piece<M::Made>>>,
     bytes: &mut u64,
 ) -> Result<u32, ReaderFault>
+    requires same { plan.now ≡ T.plan taker.old }
     requires from { from ≤ files_of (T.plan taker.old) }
     requires few { files_of (T.plan taker.old) < 4294967296 }
     requires waits { Waits M.made (T.plan taker.old) from (queued waiting.old.items) }
@@ -90,7 +95,7 @@ fn take_waiting<M: Maker, T: Taker<M>>(
 {
     let mut file = from;
     while (file as usize) < waiting.len() {
-        if !take_queue::<M, T>(taker, file, &mut waiting[file as usize], bytes)? {
+        if !take_queue::<M, T>(taker, plan, file, &mut waiting[file as usize], bytes)? {
             return Ok(file);
         }
         file += 1;
@@ -125,11 +130,13 @@ fn hold<M: Maker>(
 // piece all that waits of the files behind it, up to and with the first that isn't closed. That file is given.
 fn place<M: Maker, T: Taker<M>>(
     taker: &mut T,
+    plan: &Plan,
     first: u32,
     waiting: &mut Vec<VecDeque<Piece<M::Made>>>,
     bytes: &mut u64,
     piece: Piece<M::Made>,
 ) -> Result<u32, ReaderFault>
+    requires same { plan.now ≡ T.plan taker.old }
     requires plan { IsPlan (T.plan taker.old) }
     requires next { (counts : List ℕ) × KeepsUp M.made (T.plan taker.old) (T.turn taker.old) counts first (queued waiting.old.items) × IsNextPieceBy M.made (T.plan taker.old) counts piece }
     ensures plan { T.plan taker.new ≡ T.plan taker.old }
@@ -143,11 +150,11 @@ fn place<M: Maker, T: Taker<M>>(
         return Ok(first);
     }
     let closes = piece.is_closing();
-    taker.take(piece)?;
+    taker.take(plan, piece)?;
     if !closes {
         return Ok(first);
     }
-    take_waiting::<M, T>(taker, first + 1, waiting, bytes)
+    take_waiting::<M, T>(taker, plan, first + 1, waiting, bytes)
 }
 
 // As many empty queues.
@@ -161,9 +168,13 @@ fn empty_queues<C: Drop>(alloc: Global, files: u32) -> Result<Vec<VecDeque<Piece
     Ok(queues)
 }
 
-impl<M: Maker, T: Taker<M>> InOrder<M, T> {
+impl<'a, M: Maker, T: Taker<M>> InOrder<'a, M, T> {
     /// A reader to which nothing came, and a taker that took nothing. Where memory is refused the taker comes back as it was.
-    pub fn new(alloc: Global, plan: &Plan, taker: T) -> Result<InOrder<M, T>, AllocFailed<T>>
+    pub fn new(
+        alloc: Global,
+        plan: &'a Plan,
+        taker: T,
+    ) -> Result<InOrder<'a, M, T>, AllocFailed<T>>
         requires plan { T.plan taker ≡ plan.now }
         requires turn { T.turn taker ≡ first_turn }
         ensures ok { IfOk result (λ order. order ≡ record { taker = taker; counts = replicate (files_of plan.now) 0; faults = 0; failed = false }) }
@@ -177,6 +188,7 @@ impl<M: Maker, T: Taker<M>> InOrder<M, T> {
             return Err(AllocFailed { value: taker });
         };
         Ok(InOrder {
+            plan,
             taker,
             first: 0,
             waiting,
@@ -189,13 +201,13 @@ impl<M: Maker, T: Taker<M>> InOrder<M, T> {
 
     /// The taker, as far as it has come.
     pub fn into_taker(self) -> T
-        ensures { result ≡ self.taker }
+        ensures { result ≡ self.entry.taker }
     {
         self.taker
     }
 }
 
-impl<M: Maker, T: Taker<M>> ReaderOf<M> for InOrder<M, T> {
+impl<'a, M: Maker, T: Taker<M>> ReaderOf<M> for InOrder<'a, M, T> {
     ghost plan = { λ s. T.plan s.taker };
 
     ghost counts = { λ s. s.counts };
@@ -228,6 +240,7 @@ impl<M: Maker, T: Taker<M>> ReaderOf<M> for InOrder<M, T> {
         let file = piece.file;
         match place::<M, T>(
             &mut self.taker,
+            self.plan,
             self.first,
             &mut self.waiting,
             &mut self.bytes,

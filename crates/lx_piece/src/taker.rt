@@ -7,6 +7,7 @@ ghost use Rattle.lx_piece.specs.Turns.{HasTurn, Turn, turn_after};
 
 use crate::maker::Maker;
 use crate::piece::Piece;
+use crate::plan::Plan;
 use crate::reader::ReaderFault;
 
 /// What takes the pieces of a plan in the plan's order, with what a maker made of their items. It holds none back.
@@ -23,8 +24,9 @@ pub trait Taker<M: Maker> {
     /// What it did where it took all but the last one.
     ghost fails: { Self → ReaderFault → Self → Type 0 };
 
-    /// Takes the piece whose turn it is. After an error it is handed nothing more.
-    fn take(&mut self, piece: Piece<M::Made>) -> Result<(), ReaderFault>
+    /// Takes the piece whose turn it is, of this plan. After an error it is handed nothing more.
+    fn take(&mut self, whole: &Plan, piece: Piece<M::Made>) -> Result<(), ReaderFault>
+        requires same { whole.now ≡ plan self.old }
         requires turn { HasTurn M.made (plan self.old) (turn self.old) piece }
         ensures plan { plan self.new ≡ plan self.old }
         ensures turn { OnOk result (turn self.new ≡ turn_after (plan self.old) (turn self.old)) }

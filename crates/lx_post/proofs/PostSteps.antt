@@ -7,6 +7,7 @@ use Rattle.std.proofs.lemmas.List.{append-nil}
 use lib.ListN.{get_elem?}
 use Rattle.crossbeam_queue.specs.Fifo.{Pushes, Pops, Forks, Merges, Learns}
 use Rattle.crossbeam_queue.proofs.Lists.{at_set}
+use Rattle.lx_piece.specs.Pieces.{Making}
 use Rattle.lx_piece.specs.Plans.{Planned}
 use Rattle.lx_post.specs.declared.note.Note.{Note}
 use Rattle.lx_post.specs.declared.post_rule.PassView.{PassView}
@@ -15,21 +16,21 @@ use Rattle.lx_post.specs.Notes.{worker_of, IsHonestNote, AreHonestNotes, notes_o
 use Rattle.lx_post.specs.Posting.{blank, spent_pass, sender, taker, opened, no_worker, with_next_worker, next_worker, joined, Sending, Taking, IsWhole, Shared, Fits, IsRunning, IsPosting}
 use Rattle.lx_post.proofs.NoteLists.{notes_of-append, of_push_same, of_push_other, of_here, honest_push, honest_at, ends_push, ends_here}
 
-only : (u : PassView) (k : ℕ) (v : PassView) → get_elem? (u ∷ []) k ≡ some v → u ≡ v
+only : {C : Type 0} (u : PassView C) (k : ℕ) (v : PassView C) → get_elem? (u ∷ []) k ≡ some v → u ≡ v
 only u zero v e = some-injective u v e
 only u (suc k) v e = absurd (some-ne-none v (sym e))
 
-only_zero : (u : PassView) (k : ℕ) (v : PassView) → get_elem? (u ∷ []) k ≡ some v → k ≡ 0
+only_zero : {C : Type 0} (u : PassView C) (k : ℕ) (v : PassView C) → get_elem? (u ∷ []) k ≡ some v → k ≡ 0
 only_zero u zero v e = refl
 only_zero u (suc k) v e = absurd (some-ne-none v (sym e))
 
-at_snoc_end : (l : List PassView) (a b : PassView) (j : ℕ) → get_elem? (l ++ a ∷ []) j ≡ some b → (get_elem? l j ≡ some b) ⊎ ((j ≡ length l) × (a ≡ b))
+at_snoc_end : {C : Type 0} (l : List (PassView C)) (a b : PassView C) (j : ℕ) → get_elem? (l ++ a ∷ []) j ≡ some b → (get_elem? l j ≡ some b) ⊎ ((j ≡ length l) × (a ≡ b))
 at_snoc_end [] a b zero e = inr (refl, some-injective a b e)
 at_snoc_end [] a b (suc j) e = absurd (some-ne-none b (sym e))
 at_snoc_end (x ∷ xs) a b zero e = inl e
 at_snoc_end (x ∷ xs) a b (suc j) e = ⊎_elim (λ h. inl h) (λ (h : (j ≡ length xs) × (a ≡ b)). inr (ap suc h.0, h.1)) (at_snoc_end xs a b j e)
 
-not_nil : (xs : List Note) (y : Note) (ys : List Note) → xs ++ y ∷ ys ≡ [] → ⊥
+not_nil : {C : Type 0} (xs : List (Note C)) (y : Note C) (ys : List (Note C)) → xs ++ y ∷ ys ≡ [] → ⊥
 not_nil [] y ys e = cc
 not_nil (x ∷ xs) y ys e = cc
 
@@ -38,28 +39,28 @@ not_true true h = absurd (h refl)
 not_true false h = refl
 
 -- once a pass isn't blank, the plan is named
-running : (items : List Note) (views : List PassView) (id : ℕ) (v : PassView) → IsPosting items views → get_elem? views id ≡ some v → v.role ≢ Blank → IsRunning items views
-running items views id v (inl b) at not = absurd (not (sym (ap (λ (u : PassView). u.role) (only blank id v (subst (λ (l : List PassView). get_elem? l id ≡ some v) b.1 at)))))
-running items views id v (inr r) at not = r
+running : {C : Type 0} (made : Making C) (items : List (Note C)) (views : List (PassView C)) (id : ℕ) (v : PassView C) → IsPosting made items views → get_elem? views id ≡ some v → v.role ≢ Blank → IsRunning made items views
+running made items views id v (inl b) at not = absurd (not (sym (ap (λ (u : PassView _). u.role) (only blank id v (subst (λ (l : List (PassView _)). get_elem? l id ≡ some v) b.1 at)))))
+running made items views id v (inr r) at not = r
 
-pub begins : IsPosting [] (blank ∷ [])
-begins = inl (refl, refl)
+pub begins : {C : Type 0} (made : Making C) → IsPosting made [] (blank ∷ [])
+begins made = inl (refl, refl)
 
-spent_fits : (shared : Shared) (all : List Note) (id : ℕ) → Fits shared all id spent_pass
+spent_fits : {C : Type 0} (shared : Shared C) (all : List (Note C)) (id : ℕ) → Fits shared all id spent_pass
 spent_fits shared all id = record { not_blank = λ e. cc; sends = λ e. absurd (cc); takes = λ e. absurd (cc) }
 
 -- what fits holds as well of an equal number and an equal view
-fits_as : (shared : Shared) (all : List Note) (id j : ℕ) (v u : PassView) → j ≡ id → v ≡ u → Fits shared all id v → Fits shared all j u
-fits_as shared all id j v u same is fits = let P : ℕ × PassView → Type 0 = λ z. Fits shared all z.0 z.1 in subst P (λ i. (sym same i, is i)) fits
+fits_as : {C : Type 0} (shared : Shared C) (all : List (Note C)) (id j : ℕ) (v u : PassView C) → j ≡ id → v ≡ u → Fits shared all id v → Fits shared all j u
+fits_as shared all id j v u same is fits = let P : ℕ × PassView _ → Type 0 = λ z. Fits shared all z.0 z.1 in subst P (λ i. (sym same i, is i)) fits
 
-abbrev first_shared : Planned → Shared
-first_shared plan = record { plan = plan; taker = 0; pass_of = λ _. 0; made = 0; received = [] }
+abbrev first_shared : {C : Type 0} → Planned → Shared C
+first_shared plan = record { plan = plan; taker = 0; pass_of = λ _. 0; given = 0; received = [] }
 
-opened_fits : (plan : Planned) → Fits (first_shared plan) [] 0 (opened plan)
-opened_fits plan = record { not_blank = λ e. cc; sends = λ e. absurd (cc); takes = λ e. record { plan = refl; alone = refl; made = refl; received = refl; joined = refl; sent = refl } }
+opened_fits : {C : Type 0} (plan : Planned) → Fits (first_shared {C = C} plan) [] 0 (opened plan)
+opened_fits plan = record { not_blank = λ e. cc; sends = λ e. absurd (cc); takes = λ e. record { plan = refl; alone = refl; given = refl; received = refl; joined = refl; sent = refl } }
 
-open_first : (plan : Planned) (v : PassView) (id : ℕ) → get_elem? (blank ∷ []) id ≡ some v → IsPosting [] (set (blank ∷ []) id (opened plan) ++ spent_pass ∷ [])
-open_first plan v zero e =
+open_first : {C : Type 0} (made : Making C) (plan : Planned) (v : PassView C) (id : ℕ) → get_elem? (blank ∷ []) id ≡ some v → IsPosting made [] (set (blank ∷ []) id (opened plan) ++ spent_pass ∷ [])
+open_first made plan v zero e =
     let shared = first_shared plan in
     inr record {
       shared = shared;
@@ -71,26 +72,26 @@ open_first plan v zero e =
           (λ (h : (j ≡ 1) × (spent_pass ≡ u)). fits_as shared [] j j spent_pass u refl h.1 (spent_fits shared [] j))
           (at_snoc_end (opened plan ∷ []) spent_pass u j at');
     }
-open_first plan v (suc k) e = absurd (some-ne-none v (sym e))
+open_first made plan v (suc k) e = absurd (some-ne-none v (sym e))
 
-pub opens : (id : ℕ) (v : PassView) (plan : Planned) → v ≡ blank → Forks IsPosting id v (opened plan) spent_pass
-opens id v plan is items views (inl b) at =
-    let first : get_elem? (blank ∷ []) id ≡ some v = subst (λ (l : List PassView). get_elem? l id ≡ some v) b.1 at in
-    let P : List Note × List PassView → Type 0 = λ z. IsPosting z.0 (set z.1 id (opened plan) ++ spent_pass ∷ []) in
-    subst P (λ i. (sym b.0 i, sym b.1 i)) (open_first plan v id first)
-opens id v plan is items views (inr r) at = absurd ((r.fits id v at).not_blank (ap (λ (u : PassView). u.role) is))
+pub opens : {C : Type 0} (made : Making C) (id : ℕ) (v : PassView C) (plan : Planned) → v ≡ blank → Forks (IsPosting made) id v (opened plan) spent_pass
+opens made id v plan is items views (inl b) at =
+    let first : get_elem? (blank ∷ []) id ≡ some v = subst (λ (l : List (PassView _)). get_elem? l id ≡ some v) b.1 at in
+    let P : List (Note _) × List (PassView _) → Type 0 = λ z. IsPosting made z.0 (set z.1 id (opened plan) ++ spent_pass ∷ []) in
+    subst P (λ i. (sym b.0 i, sym b.1 i)) (open_first made plan v id first)
+opens made id v plan is items views (inr r) at = absurd ((r.fits id v at).not_blank (ap (λ (u : PassView _). u.role) is))
 
-pub adds_worker : (id : ℕ) (v : PassView) → v.role ≡ Takes → v.worker ≡ no_worker → v.made < no_worker → Forks IsPosting id v (with_next_worker v) (next_worker v)
-adds_worker id v role none room items views rule at =
-    let r = running items views id v rule at (λ e. cc) in
+pub adds_worker : {C : Type 0} (made : Making C) (id : ℕ) (v : PassView C) → v.role ≡ Takes → v.worker ≡ no_worker → v.given < no_worker → Forks (IsPosting made) id v (with_next_worker v) (next_worker v)
+adds_worker made id v role none room items views rule at =
+    let r = running made items views id v rule at (λ e. cc) in
     let mine = (r.fits id v at).takes role in
     let all = r.shared.received ++ items in
     let views' = set views id (with_next_worker v) in
     let new = length views' in
-    let pass_of : ℕ → ℕ = λ k. cond (eqb k v.made) new (r.shared.pass_of k) in
-    let apart : (k : ℕ) → k ≢ v.made → pass_of k ≡ r.shared.pass_of k = λ k not. ap (λ (b : Bool). cond b new (r.shared.pass_of k)) (ne_eqb k v.made not) in
-    let shared : Shared = record r.shared { pass_of = pass_of; made = r.shared.made + 1 } in
-    let made = mine.made in
+    let pass_of : ℕ → ℕ = λ k. cond (eqb k v.given) new (r.shared.pass_of k) in
+    let apart : (k : ℕ) → k ≢ v.given → pass_of k ≡ r.shared.pass_of k = λ k not. ap (λ (b : Bool). cond b new (r.shared.pass_of k)) (ne_eqb k v.given not) in
+    let shared : Shared _ = record r.shared { pass_of = pass_of; given = r.shared.given + 1 } in
+    let given = mine.given in
     inr record {
       shared = shared;
       honest = r.honest;
@@ -101,7 +102,7 @@ adds_worker id v role none room items views rule at =
           (λ (h : (j ≡ id) × (with_next_worker v ≡ u)). fits_as shared all id j (with_next_worker v) u h.0 h.1 record {
             not_blank = λ e. cc;
             sends = λ e. absurd (cc);
-            takes = λ e. record { plan = mine.plan; alone = mine.alone; made = ap (λ (n : ℕ). n + 1) made; received = mine.received; joined = apart v.worker (λ is. omega arith) ∙ mine.joined; sent = mine.sent };
+            takes = λ e. record { plan = mine.plan; alone = mine.alone; given = ap (λ (n : ℕ). n + 1) given; received = mine.received; joined = apart v.worker (λ is. omega arith) ∙ mine.joined; sent = mine.sent };
           })
           (λ (h : (j ≢ id) × (get_elem? views j ≡ some u)). let f = r.fits j u h.1 in record {
             not_blank = f.not_blank;
@@ -111,15 +112,15 @@ adds_worker id v role none room items views rule at =
           (at_set views id j (with_next_worker v) u old))
           (λ (h : (j ≡ new) × (next_worker v ≡ u)). fits_as shared all new j (next_worker v) u h.0 h.1 record {
             not_blank = λ e. cc;
-            sends = λ e. record { plan = mine.plan; alone = ap (λ (b : Bool). cond b new (r.shared.pass_of v.made)) (eq-eqb v.made v.made refl); has_pass = omega arith; sent = sym (r.unmade v.made (omega arith)) };
+            sends = λ e. record { plan = mine.plan; alone = ap (λ (b : Bool). cond b new (r.shared.pass_of v.given)) (eq-eqb v.given v.given refl); has_pass = omega arith; sent = sym (r.unmade v.given (omega arith)) };
             takes = λ e. absurd (cc);
           })
           (at_snoc_end views' (next_worker v) u j at');
     }
 
-pub sends_one : (n id : ℕ) (v : PassView) (x : Note) → v.role ≡ Sends → worker_of x ≡ v.worker → IsHonestNote v.plan x → has_end v.sent ≡ false → Pushes IsPosting n id v x (Sending v x)
-sends_one n id v x role own honest going items views _ rule at =
-    let r = running items views id v rule at (λ e. cc) in
+pub sends_one : {C : Type 0} (made : Making C) (n id : ℕ) (v : PassView C) (x : Note C) → v.role ≡ Sends → worker_of x ≡ v.worker → IsHonestNote made v.plan x → has_end v.sent ≡ false → Pushes (IsPosting made) n id v x (Sending v x)
+sends_one made n id v x role own honest going items views _ rule at =
+    let r = running made items views id v rule at (λ e. cc) in
     let mine = (r.fits id v at).sends role in
     let all = r.shared.received ++ items in
     let same : all ++ x ∷ [] ≡ r.shared.received ++ (items ++ x ∷ []) = append_assoc r.shared.received items (x ∷ []) in
@@ -128,50 +129,50 @@ sends_one n id v x role own honest going items views _ rule at =
       w,
       inr record {
         shared = r.shared;
-        honest = subst (AreHonestNotes r.shared.plan) same (honest_push r.shared.plan all x r.honest (subst (λ (p : Planned). IsHonestNote p x) mine.plan honest));
-        ended = λ k. subst (λ (l : List Note). NothingFollowsEnd (notes_of k l)) same (dite (ℕ_discrete k v.worker)
+        honest = subst (AreHonestNotes made r.shared.plan) same (honest_push made r.shared.plan all x r.honest (subst (λ (p : Planned). IsHonestNote made p x) mine.plan honest));
+        ended = λ k. subst (λ (l : List (Note _)). NothingFollowsEnd (notes_of k l)) same (dite (ℕ_discrete k v.worker)
             (λ is. subst NothingFollowsEnd (sym (of_push_same k all x (own ∙ sym is))) (ends_push (notes_of k all) x (r.ended k) (ap has_end (ap (λ (q : ℕ). notes_of q all) is ∙ sym mine.sent) ∙ going)))
             (λ not. subst NothingFollowsEnd (sym (not_others k not)) (r.ended k)));
-        unmade = λ k le. subst (λ (l : List Note). notes_of k l ≡ []) same (not_others k (λ is. let lower = mine.has_pass in omega arith) ∙ r.unmade k le);
-        fits = λ j u at'. subst (λ (l : List Note). Fits r.shared l j u) same (⊎_elim
+        unmade = λ k le. subst (λ (l : List (Note _)). notes_of k l ≡ []) same (not_others k (λ is. let lower = mine.has_pass in omega arith) ∙ r.unmade k le);
+        fits = λ j u at'. subst (λ (l : List (Note _)). Fits r.shared l j u) same (⊎_elim
             (λ (h : (j ≡ id) × (w ≡ u)). fits_as r.shared (all ++ x ∷ []) id j w u h.0 h.1 record {
               not_blank = λ e. cc;
-              sends = λ e. record { plan = mine.plan; alone = mine.alone; has_pass = mine.has_pass; sent = ap (λ (l : List Note). l ++ x ∷ []) mine.sent ∙ sym (of_push_same v.worker all x own) };
+              sends = λ e. record { plan = mine.plan; alone = mine.alone; has_pass = mine.has_pass; sent = ap (λ (l : List (Note _)). l ++ x ∷ []) mine.sent ∙ sym (of_push_same v.worker all x own) };
               takes = λ e. absurd (cc);
             })
             (λ (h : (j ≢ id) × (get_elem? views j ≡ some u)). let f = r.fits j u h.1 in record {
               not_blank = f.not_blank;
               sends = λ s. let g = f.sends s in record { plan = g.plan; alone = g.alone; has_pass = g.has_pass; sent = g.sent ∙ sym (not_others u.worker (λ is. h.0 (sym g.alone ∙ ap r.shared.pass_of is ∙ mine.alone))) };
-              takes = λ t. let g = f.takes t in record { plan = g.plan; alone = g.alone; made = g.made; received = g.received; joined = g.joined; sent = g.sent ∙ sym (not_others u.worker (λ is. h.0 (sym g.joined ∙ ap r.shared.pass_of is ∙ mine.alone))) };
+              takes = λ t. let g = f.takes t in record { plan = g.plan; alone = g.alone; given = g.given; received = g.received; joined = g.joined; sent = g.sent ∙ sym (not_others u.worker (λ is. h.0 (sym g.joined ∙ ap r.shared.pass_of is ∙ mine.alone))) };
             })
             (at_set views id j w u at'));
       },
       refl,
     )
 
-pub takes_one : (id : ℕ) (v : PassView) → v.role ≡ Takes → Pops IsPosting id v (Taking v)
-takes_one id v role x items views rule at =
-    let r = running (x ∷ items) views id v rule at (λ e. cc) in
+pub takes_one : {C : Type 0} (made : Making C) (id : ℕ) (v : PassView C) → v.role ≡ Takes → Pops (IsPosting made) id v (Taking made v)
+takes_one made id v role x items views rule at =
+    let r = running made (x ∷ items) views id v rule at (λ e. cc) in
     let mine = (r.fits id v at).takes role in
     let received = r.shared.received in
     let all = received ++ x ∷ items in
     let same : all ≡ (received ++ x ∷ []) ++ items = sym (append_assoc received (x ∷ []) items) in
     let k = worker_of x in
     let here = of_here k received x items refl in
-    let w = taker v.plan v.made (v.received ++ x ∷ []) v.worker v.sent in
-    let shared : Shared = record r.shared { received = received ++ x ∷ [] } in
-    let made = mine.made in (
+    let w = taker v.plan v.given (v.received ++ x ∷ []) v.worker v.sent in
+    let shared : Shared _ = record r.shared { received = received ++ x ∷ [] } in
+    let given = mine.given in (
       w,
       inr record {
         shared = shared;
-        honest = subst (AreHonestNotes r.shared.plan) same r.honest;
-        ended = λ q. subst (λ (l : List Note). NothingFollowsEnd (notes_of q l)) same (r.ended q);
-        unmade = λ q le. subst (λ (l : List Note). notes_of q l ≡ []) same (r.unmade q le);
-        fits = λ j u at'. subst (λ (l : List Note). Fits shared l j u) same (⊎_elim
+        honest = subst (AreHonestNotes made r.shared.plan) same r.honest;
+        ended = λ q. subst (λ (l : List (Note _)). NothingFollowsEnd (notes_of q l)) same (r.ended q);
+        unmade = λ q le. subst (λ (l : List (Note _)). notes_of q l ≡ []) same (r.unmade q le);
+        fits = λ j u at'. subst (λ (l : List (Note _)). Fits shared l j u) same (⊎_elim
             (λ (h : (j ≡ id) × (w ≡ u)). fits_as shared all id j w u h.0 h.1 record {
               not_blank = λ e. cc;
               sends = λ e. absurd (cc);
-              takes = λ e. record { plan = mine.plan; alone = mine.alone; made = made; received = ap (λ (l : List Note). l ++ x ∷ []) mine.received; joined = mine.joined; sent = mine.sent };
+              takes = λ e. record { plan = mine.plan; alone = mine.alone; given = given; received = ap (λ (l : List (Note _)). l ++ x ∷ []) mine.received; joined = mine.joined; sent = mine.sent };
             })
             (λ (h : (j ≢ id) × (get_elem? views j ≡ some u)). let f = r.fits j u h.1 in record {
               not_blank = f.not_blank;
@@ -182,15 +183,15 @@ takes_one id v role x items views rule at =
       },
       record {
         view = refl;
-        honest = subst (λ (p : Planned). IsHonestNote p x) (sym mine.plan) (honest_at r.shared.plan received x items r.honest);
-        has_pass = dite (dec_lt k v.made) (λ lt. lt) (λ not. absurd (not_nil (notes_of k received) x (notes_of k items) (sym here ∙ r.unmade k (omega arith))));
-        going = not_true (has_end (notes_of k v.received)) (λ some_end. not_nil [] x (notes_of k items) (ends_here (notes_of k received) (x ∷ notes_of k items) (subst NothingFollowsEnd here (r.ended k)) (ap (λ (l : List Note). has_end (notes_of k l)) (sym mine.received) ∙ some_end)));
+        honest = subst (λ (p : Planned). IsHonestNote made p x) (sym mine.plan) (honest_at made r.shared.plan received x items r.honest);
+        has_pass = dite (dec_lt k v.given) (λ lt. lt) (λ not. absurd (not_nil (notes_of k received) x (notes_of k items) (sym here ∙ r.unmade k (omega arith))));
+        going = not_true (has_end (notes_of k v.received)) (λ some_end. not_nil [] x (notes_of k items) (ends_here (notes_of k received) (x ∷ notes_of k items) (subst NothingFollowsEnd here (r.ended k)) (ap (λ (l : List (Note _)). has_end (notes_of k l)) (sym mine.received) ∙ some_end)));
       },
     )
 
-pub joins : (id : ℕ) (v : PassView) (other : ℕ) (w : PassView) → v.role ≡ Takes → w.role ≡ Sends → Merges IsPosting id v other w (joined v w) spent_pass
-joins id v other w role role' items views rule at apart at' =
-    let r = running items views id v rule at (λ e. cc) in
+pub joins : {C : Type 0} (made : Making C) (id : ℕ) (v : PassView C) (other : ℕ) (w : PassView C) → v.role ≡ Takes → w.role ≡ Sends → Merges (IsPosting made) id v other w (joined v w) spent_pass
+joins made id v other w role role' items views rule at apart at' =
+    let r = running made items views id v rule at (λ e. cc) in
     let mine = (r.fits id v at).takes role in
     let all = r.shared.received ++ items in
     let both = joined v w in
@@ -199,7 +200,7 @@ joins id v other w role role' items views rule at apart at' =
     let pass_of : ℕ → ℕ = λ k. cond (eqb k w.worker) id (r.shared.pass_of k) in
     let here : pass_of w.worker ≡ id = ap (λ (b : Bool). cond b id (r.shared.pass_of w.worker)) (eq-eqb w.worker w.worker refl) in
     let else_where : (k : ℕ) → k ≢ w.worker → pass_of k ≡ r.shared.pass_of k = λ k not. ap (λ (b : Bool). cond b id (r.shared.pass_of k)) (ne_eqb k w.worker not) in
-    let shared : Shared = record r.shared { pass_of = pass_of } in
+    let shared : Shared _ = record r.shared { pass_of = pass_of } in
     inr record {
       shared = shared;
       honest = r.honest;
@@ -211,7 +212,7 @@ joins id v other w role role' items views rule at apart at' =
           (λ (g : (j ≡ id) × (both ≡ u)). fits_as shared all id j both u g.0 g.1 record {
             not_blank = λ e. cc;
             sends = λ e. absurd (cc);
-            takes = λ e. record { plan = mine.plan; alone = mine.alone; made = mine.made; received = mine.received; joined = here; sent = theirs.sent };
+            takes = λ e. record { plan = mine.plan; alone = mine.alone; given = mine.given; received = mine.received; joined = here; sent = theirs.sent };
           })
           (λ (g : (j ≢ id) × (get_elem? views j ≡ some u)). let f = r.fits j u g.1 in record {
             not_blank = f.not_blank;
@@ -222,13 +223,13 @@ joins id v other w role role' items views rule at apart at' =
           (at_set (set views id both) other j spent_pass u at'');
     }
 
-pub whole : (id : ℕ) (v : PassView) → v.role ≡ Takes → Learns IsPosting id v (λ items. IsWhole v)
-whole id v role items views rule at some_end =
-    let r = running items views id v rule at (λ e. cc) in
+pub whole : {C : Type 0} (made : Making C) (id : ℕ) (v : PassView C) → v.role ≡ Takes → Learns (IsPosting made) id v (λ items. IsWhole v)
+whole made id v role items views rule at some_end =
+    let r = running made items views id v rule at (λ e. cc) in
     let mine = (r.fits id v at).takes role in
     let received = r.shared.received in
     let k = v.worker in
     let split = notes_of-append k received items in
-    let same = ap (λ (l : List Note). notes_of k l) mine.received in
+    let same = ap (λ (l : List (Note _)). notes_of k l) mine.received in
     let rest : notes_of k items ≡ [] = ends_here (notes_of k received) (notes_of k items) (subst NothingFollowsEnd split (r.ended k)) (ap has_end (sym same) ∙ some_end) in
-    sym (mine.sent ∙ split ∙ ap (λ (l : List Note). notes_of k received ++ l) rest ∙ append-nil (notes_of k received) ∙ sym same)
+    sym (mine.sent ∙ split ∙ ap (λ (l : List (Note _)). notes_of k received ++ l) rest ∙ append-nil (notes_of k received) ∙ sym same)

@@ -3,8 +3,8 @@ use Rattle.std.proofs.Common.{◌≡◌, ℕ, ◌<◌, false, List, [], ◌++◌
 use Rattle.std.proofs.lemmas.List.{get_or-replicate}
 use Rattle.lx_piece.specs.declared.reply.Reply.{Reply}
 use Rattle.lx_piece.specs.Plans.{Planned, files_of, items_of}
-use Rattle.lx_piece.specs.Pieces.{pieces_of, TakesInOrder}
-use Rattle.lx_piece.specs.Relayed.{AreAllAmong, Relayed, TakesAllInOrder}
+use Rattle.lx_piece.specs.Pieces.{Making, pieces_of, TakesInOrder}
+use Rattle.lx_piece.specs.Relayed.{AreAllAmongBy, RelayedBy, TakesAllInOrder}
 use Rattle.lx_post.specs.declared.note.WorkerFault.{WorkerFault}
 use Rattle.lx_post.specs.Collected.{AreAllReceived, IsCollected, IsWhole}
 use Rattle.lx_post.specs.Notes.{first_fault, pieces_among}
@@ -31,19 +31,19 @@ none_taken plan counts e =
     }
 
 -- the pieces that came by new arrivals are those among all that was received
-pub collected : (post : Posted) (plan : Planned) (old new : Arriving) (take : Taken) (fault : Option WorkerFault) (replies : List Reply) (counts : List ℕ)
+pub collected : {C : Type 0} (made : Making C) (post : Posted) (plan : Planned) (old new : Arriving C) (take : Taken C) (fault : Option WorkerFault) (replies : List Reply) (counts : List ℕ)
     → old.pass ≡ fresh_take post plan → old.since ≡ [] → take ≡ new.pass → fault ≡ first_fault new.since → is_some fault ≡ false
-    → Relayed plan (λ came. CameBetween old came new) replies counts → IsCollected plan take counts
-collected post plan old new take fault replies counts first nothing is named none relayed =
+    → RelayedBy made plan (λ came. CameBetween old came new) replies counts → IsCollected made plan take counts
+collected made post plan old new take fault replies counts first nothing is named none relayed =
     let between = relayed.led in
     let received : take.received ≡ between.notes =
-    ap (λ (t : Taken). t.received) is ∙ ap (λ (t : Taken). t.received) between.received ∙ ap (λ (t : Taken). t.received ++ between.notes) first in
+    ap (λ (t : Taken _). t.received) is ∙ ap (λ (t : Taken _). t.received) between.received ∙ ap (λ (t : Taken _). t.received ++ between.notes) first in
     let since : new.since ≡ between.notes = between.since ∙ ap (λ ns. ns ++ between.notes) nothing in
     record {
       faultless = ap first_fault (received ∙ sym since) ∙ sym named ∙ none_of fault none;
-      whole = λ file below all. relayed.whole file below (subst (AreAllAmong plan file) (ap pieces_among received ∙ sym between.pieces) all);
+      whole = λ file below all. relayed.whole file below (subst (AreAllAmongBy made plan file) (ap pieces_among received ∙ sym between.pieces) all);
     }
 
 -- where every piece of every file was received, and the reader took those files whole, it took all
-pub all_whole : (plan : Planned) (take : Taken) (counts : List ℕ) → IsCollected plan take counts → AreAllReceived plan take → IsWhole plan counts
-all_whole plan take counts collected received = record { each = λ file below. collected.whole file below (received.each file below) }
+pub all_whole : {C : Type 0} (made : Making C) (plan : Planned) (take : Taken C) (counts : List ℕ) → IsCollected made plan take counts → AreAllReceived made plan take → IsWhole plan counts
+all_whole made plan take counts collected received = record { each = λ file below. collected.whole file below (received.each file below) }

@@ -1,18 +1,33 @@
 use crate::claim_seat::ClaimSeat;
-use crate::passes::SendPass;
+use crate::passes::{SendPass, TakePass};
+use crate::run_fault::RunFault;
 
 /// With what a worker draws and sends.
 #[derive(Drop)]
-pub struct Job {
+pub struct Job<C> {
     pub seat: ClaimSeat,
-    pub pass: SendPass,
+    pub pass: SendPass<C>,
 }
 
 /// What became of a job.
 #[derive(Drop)]
-pub enum Outcome {
+pub enum Outcome<C> {
     /// The worker ended.
-    Done(Job),
+    Done(Job<C>),
     /// The worker never began.
-    Back(Job),
+    Back(Job<C>),
+}
+
+/// What the threads of a run came to.
+#[derive(Drop)]
+pub enum Ran<C> {
+    /// The reader took every file whole.
+    Whole,
+    /// No fault was met. The jobs tell whether all was received: those of the workers that ended, and of those that never began.
+    Received {
+        take: TakePass<C>,
+        ended: Vec<Job<C>>,
+        idle: Vec<Job<C>>,
+    },
+    Failed(RunFault),
 }

@@ -1,4 +1,4 @@
-use lx_piece::Piece;
+use lx_piece::{Items, Piece};
 use thiserror::Error;
 
 /// Why a worker ended before its files did.
@@ -10,11 +10,11 @@ pub enum WorkerFault {
 
 /// What a worker sends.
 #[derive(Debug, Drop)]
-pub enum Note {
+pub enum Note<C = Items> {
     /// A piece, as it was cut.
     Piece {
         worker: u8,
-        piece: Piece,
+        piece: Piece<C>,
     },
     /// The worker's last note, with the number of files that it finished.
     End {

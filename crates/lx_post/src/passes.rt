@@ -5,6 +5,7 @@ ghost use Rattle.lx_post.specs.Posted.{AllEnded};
 use crate::note::Note;
 use crate::post_rule::PassView;
 use crossbeam_queue::Pass;
+use lx_piece::Items;
 use std::marker::Model;
 
 /// The most workers that a run has.
@@ -15,18 +16,18 @@ pub(crate) const WORKER_SLOTS: usize = MAX_WORKERS as usize;
 
 /// The right of one worker to send notes. Contracts see what it sent.
 #[derive(Drop)]
-pub struct SendPass {
-    pub(crate) pass: Pass<Note, PassView>,
+pub struct SendPass<C = Items> {
+    pub(crate) pass: Pass<Note<C>, PassView<C>>,
     pub(crate) worker: u8,
 }
 
-impl Model for SendPass {
+impl<C> Model for SendPass<C> {
     ghost use Rattle.std.specs.Prelude.{◌≡◌, []};
     ghost use Rattle.crossbeam_queue.specs.Passes.{view as known};
     ghost use Rattle.lx_post.specs.Posting.{sender};
     ghost use Rattle.lx_post.specs.Posted.{Sent};
 
-    ghost Value = { Sent };
+    ghost Value = { Sent C };
 
     ghost view = { λ p. record { queue = p.pass.table_id; plan = (known p.pass).plan; worker = p.worker; sent = (known p.pass).sent } };
 
@@ -35,14 +36,14 @@ impl Model for SendPass {
 
 /// The right to receive notes. Contracts see what was received.
 #[derive(Drop)]
-pub struct TakePass {
-    pub(crate) pass: Pass<Note, PassView>,
+pub struct TakePass<C = Items> {
+    pub(crate) pass: Pass<Note<C>, PassView<C>>,
     pub(crate) workers: u8,
     // Of each worker: its end was received.
     pub(crate) ended: [bool; WORKER_SLOTS],
 }
 
-impl Model for TakePass {
+impl<C> Model for TakePass<C> {
     ghost use Rattle.std.specs.Prelude.{◌≡◌, ◌≤◌, ◌<◌, ℕ, [], false, slice_index_or};
     ghost use Rattle.crossbeam_queue.specs.Passes.{view as known};
     ghost use Rattle.lx_post.specs.Claimed.{max_workers};
@@ -50,7 +51,7 @@ impl Model for TakePass {
     ghost use Rattle.lx_post.specs.Posting.{taker};
     ghost use Rattle.lx_post.specs.Posted.{Taken};
 
-    ghost Value = { Taken };
+    ghost Value = { Taken C };
 
     ghost view = { λ p. record { queue = p.pass.table_id; plan = (known p.pass).plan; workers = p.workers; received = (known p.pass).received } };
 
@@ -61,7 +62,7 @@ impl Model for TakePass {
         × ((w : ℕ) → w < max_workers → slice_index_or p.ended w false ≡ has_end (notes_of w (known p.pass).received)) };
 }
 
-impl SendPass {
+impl<C> SendPass<C> {
     // Whose notes it sends.
     pub(crate) fn worker(&self) -> u8
         ensures { result ≡ self.now.worker }
@@ -70,7 +71,7 @@ impl SendPass {
     }
 }
 
-impl TakePass {
+impl<C> TakePass<C> {
     // Whether every worker's end was received.
     pub(crate) fn all_ended(&self) -> bool
         ensures { IsTrue result ↔ AllEnded self.now }

@@ -10,21 +10,19 @@ use crate::note::Note;
 use crate::passes::{SendPass, TakePass, WORKER_SLOTS};
 use crate::post_rule::{Naming, NextWorker, Opening, PassView, PostRule, Sending, Taking};
 use crossbeam_queue::{Pass, RuledArrayQueue};
-use lx_piece::Plan;
+use lx_piece::{KeepItems, Maker, Plan};
 use std::alloc::{AllocError, Global};
 use std::marker::{Brand, Model};
 use std::sync::Wait;
 
-type Queue = RuledArrayQueue<Note, PassView, PostRule>;
-
 /// A bounded queue of the notes of workers.
 #[derive(Drop)]
-pub struct Post {
-    pub(crate) queue: Queue,
+pub struct Post<M: Maker = KeepItems> {
+    pub(crate) queue: RuledArrayQueue<Note<M::Made>, PassView<M::Made>, PostRule<M>>,
     workers: u8,
 }
 
-impl Model for Post {
+impl<M: Maker> Model for Post<M> {
     ghost use Rattle.lx_post.specs.Posted.{Posted};
 
     ghost Value = { Posted };
@@ -33,7 +31,11 @@ impl Model for Post {
 }
 
 // Lets the first pass name the plan.
-fn name_plan<J: Naming>(queue: &Queue, pass: &mut Pass<Note, PassView>, plan: &Plan)
+fn name_plan<J: Naming, M: Maker>(
+    queue: &RuledArrayQueue<Note<M::Made>, PassView<M::Made>, PostRule<M>>,
+    pass: &mut Pass<Note<M::Made>, PassView<M::Made>>,
+    plan: &Plan,
+)
     requires plan { plan.now ≡ J.plan }
     requires blank { IsPassOf queue.now pass.old × (view pass.old ≡ blank) }
     ensures queue { IsPassOf queue.now pass.new }
@@ -45,12 +47,33 @@ fn name_plan<J: Naming>(queue: &Queue, pass: &mut Pass<Note, PassView>, plan: &P
 impl Post {
     /// A post with room for so many notes, a pass for each of 1 to 8 workers, in their order, and one to receive with.
     pub fn new<R: Wait>(
-        _rt: &R,
+        rt: &R,
         alloc: Global,
         plan: &Plan,
         workers: u8,
         room: usize,
     ) -> Result<(Post, Vec<SendPass>, TakePass), AllocError>
+        requires some_workers { 0 < workers }
+        requires few_workers { workers ≤ max_workers }
+        requires room { 0 < room }
+        ensures post { IfOk result (λ r. r.0.workers ≡ workers) }
+        ensures count { IfOk result (λ r. vec_len r.1 ≡ workers) }
+        ensures passes { IfOk result (λ r. (w : ℕ) → w < workers → slice_get r.1.items w ≡ Some (fresh_send r.0 plan.now w)) }
+        ensures pass { IfOk result (λ r. r.2 ≡ fresh_take r.0 plan.now) }
+    {
+        Post::of(rt, alloc, plan, workers, room)
+    }
+}
+
+impl<M: Maker> Post<M> {
+    /// The same, where the pieces carry what a maker makes of their items.
+    pub fn of<R: Wait>(
+        _rt: &R,
+        alloc: Global,
+        plan: &Plan,
+        workers: u8,
+        room: usize,
+    ) -> Result<(Post<M>, Vec<SendPass<M::Made>>, TakePass<M::Made>), AllocError>
         requires some_workers { 0 < workers }
         requires few_workers { workers ≤ max_workers }
         requires room { 0 < room }
@@ -79,18 +102,22 @@ impl Post {
         plan: &Plan,
         workers: u8,
         room: usize,
-    ) -> Result<(Post, Pass<Note, PassView>), AllocError>
+    ) -> Result<(Post<M>, Pass<Note<M::Made>, PassView<M::Made>>), AllocError>
         requires { 0 < room }
         ensures post { IfOk result (λ r. r.0.workers ≡ workers) }
         ensures pass { IfOk result (λ r. (r.1.table_id ≡ r.0.queue) × (r.1.me.1 ≡ []) × (view r.1 ≡ opened plan.now)) }
     {
-        let (queue, mut pass) = Queue::ruled(alloc, room)?;
-        name_plan::<Brand>(&queue, &mut pass, plan);
+        let (queue, mut pass) = RuledArrayQueue::ruled(alloc, room)?;
+        name_plan::<Brand, M>(&queue, &mut pass, plan);
         Ok((Post { queue, workers }, pass))
     }
 
     // A pass for the next worker.
-    fn add_worker(&self, pass: &mut Pass<Note, PassView>, worker: u8) -> SendPass
+    fn add_worker(
+        &self,
+        pass: &mut Pass<Note<M::Made>, PassView<M::Made>>,
+        worker: u8,
+    ) -> SendPass<M::Made>
         requires post { (pass.old.table_id ≡ self.now.queue) × (pass.old.me.1 ≡ []) }
         requires next { (view pass.old ≡ taker (view pass.old).plan worker [] no_worker []) × (worker < max_workers) }
         ensures post { (pass.new.table_id ≡ self.now.queue) × (pass.new.me.1 ≡ []) }
@@ -105,11 +132,11 @@ impl Post {
     pub(crate) fn try_send<R: Wait>(
         &self,
         rt: &R,
-        pass: &mut SendPass,
-        note: Note,
-    ) -> Result<(), Note>
+        pass: &mut SendPass<M::Made>,
+        note: Note<M::Made>,
+    ) -> Result<(), Note<M::Made>>
         requires post { pass.old.queue ≡ self.now.queue }
-        requires note { MaySend pass.old note }
+        requires note { MaySend M.made pass.old note }
         ensures sent { IfOk result (λ _. pass.new ≡ with_sent pass.old note) }
         ensures full { IfErr result (λ back. (back ≡ note) × (pass.new ≡ pass.old)) }
     {
@@ -118,9 +145,9 @@ impl Post {
 
     /// Sends a note, and waits for room where there is none. The note is of the pass's worker, which hasn't ended, and a piece is the
     /// plan's where it has the plan's run and one of its files. It takes no memory.
-    pub fn send<R: Wait>(&self, rt: &R, pass: &mut SendPass, note: Note)
+    pub fn send<R: Wait>(&self, rt: &R, pass: &mut SendPass<M::Made>, note: Note<M::Made>)
         requires post { pass.old.queue ≡ self.now.queue }
-        requires note { MaySend pass.old note }
+        requires note { MaySend M.made pass.old note }
         ensures { pass.new ≡ with_sent pass.old note }
     {
         let mut left = note;
@@ -138,12 +165,12 @@ impl Post {
     }
 
     // Receives a note where there is one.
-    fn try_receive<R: Wait>(&self, rt: &R, pass: &mut TakePass) -> Option<Note>
+    fn try_receive<R: Wait>(&self, rt: &R, pass: &mut TakePass<M::Made>) -> Option<Note<M::Made>>
         requires { IsTakePassOf self.now pass.old }
-        ensures some { IfSome result (λ note. MayCome pass.old note × (pass.new ≡ with_received pass.old note)) }
+        ensures some { IfSome result (λ note. MayCome M.made pass.old note × (pass.new ≡ with_received pass.old note)) }
         ensures none { IfNone result (pass.new ≡ pass.old) }
     {
-        let note = self.queue.pop_as::<Taking, R>(rt, &mut pass.pass)?;
+        let note = self.queue.pop_as::<Taking<M>, R>(rt, &mut pass.pass)?;
         if let Note::End { worker, .. } = &note {
             pass.ended[usize::from(*worker)] = true;
         }
@@ -151,9 +178,9 @@ impl Post {
     }
 
     /// Receives a note, and waits for one where there is none. `None` once every worker's end was received. It takes no memory.
-    pub fn receive<R: Wait>(&self, rt: &R, pass: &mut TakePass) -> Option<Note>
+    pub fn receive<R: Wait>(&self, rt: &R, pass: &mut TakePass<M::Made>) -> Option<Note<M::Made>>
         requires { IsTakePassOf self.now pass.old }
-        ensures some { IfSome result (λ note. MayCome pass.old note × (pass.new ≡ with_received pass.old note)) }
+        ensures some { IfSome result (λ note. MayCome M.made pass.old note × (pass.new ≡ with_received pass.old note)) }
         ensures none { IfNone result ((pass.new ≡ pass.old) × AllEnded pass.old) }
     {
         if pass.all_ended() {

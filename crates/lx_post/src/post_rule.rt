@@ -2,7 +2,7 @@
 
 use crate::note::Note;
 use crossbeam_queue::protocol::{Join, Lesson, Outcome, Protocol, Split};
-use lx_piece::Plan;
+use lx_piece::{Maker, Plan};
 use std::collections::LinkedList;
 use std::marker::{Brand, PhantomData};
 
@@ -19,26 +19,28 @@ pub enum Role {
 }
 
 /// What a pass knows. No value of it is made.
-pub struct PassView {
+pub struct PassView<C> {
     pub role: Role,
     pub plan: Plan,
     /// Whose notes it sends. Of the pass that takes: whose pass was joined to it last.
     pub worker: u16,
     /// What that worker sent.
-    pub sent: LinkedList<Note>,
+    pub sent: LinkedList<Note<C>>,
     /// How many workers have a pass.
-    pub made: u8,
+    pub given: u8,
     /// What was received.
-    pub received: LinkedList<Note>,
+    pub received: LinkedList<Note<C>>,
 }
 
 /// What was received of a worker, and behind it what stands in the queue of it, is what it sent.
-pub struct PostRule;
+pub struct PostRule<M: Maker> {
+    of: PhantomData<M>,
+}
 
-impl Protocol<Note, PassView> for PostRule {
+impl<M: Maker> Protocol<Note<M::Made>, PassView<M::Made>> for PostRule<M> {
     ghost use Rattle.lx_post.specs.Posting.{IsPosting, blank};
 
-    ghost holds = { IsPosting };
+    ghost holds = { IsPosting M.made };
 
     ghost first = { blank };
 }
@@ -61,7 +63,7 @@ pub struct Opening<J: Naming> {
     of: PhantomData<J>,
 }
 
-impl<J: Naming> Split<PassView> for Opening<J> {
+impl<J: Naming, C> Split<PassView<C>> for Opening<J> {
     ghost use Rattle.lx_post.specs.Posting.{opened, spent_pass};
 
     ghost left = { λ _. opened J.plan };
@@ -72,7 +74,7 @@ impl<J: Naming> Split<PassView> for Opening<J> {
 /// The pass that takes gives the next worker one.
 pub struct NextWorker;
 
-impl Split<PassView> for NextWorker {
+impl<C> Split<PassView<C>> for NextWorker {
     ghost use Rattle.lx_post.specs.Posting.{with_next_worker, next_worker};
 
     ghost left = { with_next_worker };
@@ -83,7 +85,7 @@ impl Split<PassView> for NextWorker {
 /// A worker's pass goes into the one that takes.
 pub struct Joining;
 
-impl Join<PassView> for Joining {
+impl<C> Join<PassView<C>> for Joining {
     ghost use Rattle.lx_post.specs.Posting.{joined, spent_pass};
 
     ghost both = { joined };
@@ -94,33 +96,35 @@ impl Join<PassView> for Joining {
 /// A note is sent.
 pub struct Sending;
 
-impl Outcome<Note, PassView> for Sending {
+impl<C> Outcome<Note<C>, PassView<C>> for Sending {
     ghost use Rattle.lx_post.specs.Posting.{Sending};
 
     ghost then = { Sending };
 }
 
-impl Lesson<Note, PassView> for Sending {
+impl<C> Lesson<Note<C>, PassView<C>> for Sending {
     ghost fact = { λ v items. Unit {0} };
 }
 
 /// A note is taken.
-pub struct Taking;
-
-impl Outcome<Note, PassView> for Taking {
-    ghost use Rattle.lx_post.specs.Posting.{Taking};
-
-    ghost then = { Taking };
+pub struct Taking<M: Maker> {
+    of: PhantomData<M>,
 }
 
-impl Lesson<Note, PassView> for Taking {
+impl<M: Maker> Outcome<Note<M::Made>, PassView<M::Made>> for Taking<M> {
+    ghost use Rattle.lx_post.specs.Posting.{Taking};
+
+    ghost then = { Taking M.made };
+}
+
+impl<M: Maker> Lesson<Note<M::Made>, PassView<M::Made>> for Taking<M> {
     ghost fact = { λ v items. Unit {0} };
 }
 
 /// What was received of the worker that joined last.
 pub struct Whole;
 
-impl Lesson<Note, PassView> for Whole {
+impl<C> Lesson<Note<C>, PassView<C>> for Whole {
     ghost use Rattle.lx_post.specs.Posting.{IsWhole};
 
     ghost fact = { λ v items. IsWhole v };

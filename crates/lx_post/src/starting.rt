@@ -1,232 +1,152 @@
 //! How workers are started.
-ghost use Rattle.std.specs.Prelude.{◌≡◌, ◌<◌, ◌≤◌, ◌+◌, [], All, IfErr, IfOk, Some, vec_len, vec_capacity};
+ghost use Rattle.std.specs.Prelude.{◌≡◌, ◌<◌, ◌≤◌, All, IfErr, IfOk, [], None};
 ghost use Rattle.lx_post.specs.Claimed.{AreClaimsOf, max_workers};
-ghost use Rattle.lx_post.specs.declared.note.Note.TheVariants.{End as note_end};
-ghost use Rattle.lx_post.specs.declared.note.WorkerFault.{WorkerFault};
-ghost use Rattle.lx_post.specs.Posted.{IsTakePassOf, with_sent};
-ghost use Rattle.lx_post.specs.Working.{IsDone, IsOutcome, IsReady};
+ghost use Rattle.lx_post.specs.Working.{IsDone, IsIdle, IsOutcome, IsReady};
 
-use crate::claims::Claims;
 use crate::gate::Gate;
 use crate::job::{Job, Outcome};
-use crate::note::{Note, WorkerFault};
-use crate::pace::Pace;
-use crate::passes::{SendPass, TakePass};
-use crate::post::Post;
-use crate::signals::Signals;
-use crate::working::work;
-use lx_piece::Plan;
-use std::alloc::Global;
+use crate::note::Note;
+use crate::run_context::RunContext;
+use lx_piece::Maker;
 use std::snapshot::Snapshot;
 use std::sync::Wait;
-use std::sync::atomic::{AtomicBool, Ordering};
 use std::thread::{Promise, PromisedHandle, Scope};
 
 /// What a worker's outcome keeps: it is of the job that was handed to it.
 #[derive(Drop)]
-pub struct OutcomeOf {
-    pub job: Snapshot<Job>,
+pub struct OutcomeOf<M: Maker> {
+    pub job: Snapshot<Job<M::Made>>,
 }
 
-impl Promise<Outcome> for OutcomeOf {
+impl<M: Maker> Promise<Outcome<M::Made>> for OutcomeOf<M> {
     ghost use Rattle.lx_post.specs.Working.{IsOutcome};
 
-    ghost kept_by = { λ p r. IsOutcome p.job.value r };
+    ghost kept_by = { λ p r. IsOutcome M.made p.job.value r };
 }
 
 /// The handle of a worker's thread.
-pub type Worker = PromisedHandle<Outcome, OutcomeOf>;
+pub type Worker<M> = PromisedHandle<Outcome<<M as Maker>::Made>, OutcomeOf<M>>;
 
-// Does the job, unless it is to come back.
-fn begin<W: Wait, G: Gate>(
-    rt: &W,
-    alloc: Global,
-    plan: &Plan,
-    claims: &Claims,
-    post: &Post,
-    gate: &G,
-    pace: &Pace,
-    refused: &AtomicBool,
-    job: Job,
-) -> Outcome
-    requires ready { IsReady claims.now post.now plan.now job }
-    requires files { AreClaimsOf plan.now claims.now }
-    ensures { IsOutcome job result }
-{
-    if refused.load(Ordering::SeqCst) {
-        return Outcome::Back(job);
+/// Where workers and their jobs go.
+#[derive(Drop)]
+pub struct Workers<M: Maker> {
+    /// Those that were started.
+    pub handles: Vec<Worker<M>>,
+    /// The jobs of those that ended.
+    pub ended: Vec<Job<M::Made>>,
+    /// The jobs of those that never began, whose ends were sent.
+    pub idle: Vec<Job<M::Made>>,
+}
+
+impl<'a, W: Wait, G: Gate, M: Maker + Copy> RunContext<'a, W, G, M> {
+    // Does the job, unless it is to come back.
+    fn begin(&self, job: Job<M::Made>) -> Outcome<M::Made>
+        requires ready { IsReady self.now.claims self.now.post self.now.plan.now job }
+        requires few_workers { self.now.post.workers ≤ max_workers }
+        requires files { AreClaimsOf self.now.plan.now self.now.claims }
+        ensures { IsOutcome M.made job result }
+    {
+        if self.signals.is_refused(job.pass.worker()) {
+            return Outcome::Back(job);
+        }
+        Outcome::Done(self.work(job))
     }
-    Outcome::Done(work(rt, alloc, plan, claims, post, gate, pace, job))
+
+    // Sends the end of a worker that never began.
+    fn send_end(&self, job: Job<M::Made>) -> Job<M::Made>
+        requires { IsReady self.now.claims self.now.post self.now.plan.now job }
+        ensures { IsIdle self.now.claims self.now.post self.now.plan.now result }
+    {
+        let Job { seat, mut pass } = job;
+        let worker = pass.worker();
+        self.post.send(
+            self.rt,
+            &mut pass,
+            Note::End {
+                worker,
+                files: 0,
+                fault: None,
+            },
+        );
+        Job { seat, pass }
+    }
 }
 
 // Starts a worker. Where no thread can be made, its job comes back.
-fn start<'s, E, W: Wait + Sync, G: Gate + Sync>(
-    rt: &'s W,
-    alloc: Global,
+fn start<'s, 'a, E, W: Wait + Sync, G: Gate + Sync, M: Maker<Made: Send> + Copy + Sync>(
+    context: &'s RunContext<'a, W, G, M>,
     scope: &Scope<'s, E>,
-    plan: &'s Plan,
-    claims: &'s Claims,
-    post: &'s Post,
-    gate: &'s G,
-    pace: &'s Pace,
-    refused: &'s AtomicBool,
-    job: Job,
-) -> Result<Worker, Outcome>
-    requires ready { IsReady claims.now post.now plan.now job }
-    requires files { AreClaimsOf plan.now claims.now }
+    job: Job<M::Made>,
+) -> Result<Worker<M>, Outcome<M::Made>>
+    requires ready { IsReady context.now.claims context.now.post context.now.plan.now job }
+    requires few_workers { context.now.post.workers ≤ max_workers }
+    requires files { AreClaimsOf context.now.plan.now context.now.claims }
     ensures ok { IfOk result (λ handle. handle.promise.job.value ≡ job) }
-    ensures err { IfErr result (λ outcome. IsOutcome job outcome) }
+    ensures err { IfErr result (λ outcome. IsOutcome M.made job outcome) }
 {
     let promise = OutcomeOf {
         job: Snapshot::of(&job),
     };
-    let run = move || -> Outcome
-        requires { IsReady claims.now post.now plan.now job × AreClaimsOf plan.now claims.now }
-        ensures { IsOutcome job result }
-    { begin(rt, alloc, plan, claims, post, gate, pace, refused, job) };
+    let worker = job.pass.worker();
+    let run = move || -> Outcome<M::Made>
+        requires { IsReady context.now.claims context.now.post context.now.plan.now job
+            × (context.now.post.workers ≤ max_workers)
+            × AreClaimsOf context.now.plan.now context.now.claims }
+        ensures { IsOutcome M.made job result }
+    { context.begin(job) };
     match scope.spawn_with(promise, run) {
         Ok(handle) => Ok(handle),
         Err(back) => {
             // the closure has the job, and gives it back at once
-            refused.store(true, Ordering::SeqCst);
+            context.signals.refuse(worker);
             Err((back.value)())
         }
     }
 }
 
-// Sends the end of a worker that never began. Where there is no room, a note is received, which goes nowhere: this run has failed.
-fn send_end<W: Wait>(rt: &W, post: &Post, take: &mut TakePass, pass: &mut SendPass)
-    requires take { IsTakePassOf post.now take.old }
-    requires pass { (pass.old.queue ≡ post.now.queue) × (pass.old.sent ≡ []) }
-    ensures take { IsTakePassOf post.now take.new }
-    ensures pass { pass.new ≡ with_sent pass.old (note_end pass.old.worker 0 (Some WorkerFault.Memory)) }
-{
-    let worker = pass.worker();
-    let mut left = Note::End {
-        worker,
-        files: 0,
-        fault: Some(WorkerFault::Memory),
-    };
-    for _ in rt.forever() {
-        match post.try_send(rt, pass, left) {
-            Ok(()) => return,
-            Err(back) => left = back,
-        }
-        let _note = post.receive(rt, take);
-    }
-    unreachable!()
-}
-
-// The job of a worker that couldn't be started, once its end was sent.
-fn end_of<W: Wait>(
-    rt: &W,
-    claims: &Claims,
-    post: &Post,
-    plan: &Plan,
-    take: &mut TakePass,
-    before: &Snapshot<Job>,
-    outcome: Outcome,
-) -> Job
-    requires take { IsTakePassOf post.now take.old }
-    requires ready { IsReady claims.now post.now plan.now before.now.value }
-    requires outcome { IsOutcome before.now.value outcome }
-    ensures take { IsTakePassOf post.now take.new }
-    ensures done { IsDone claims.now post.now plan.now result }
-{
-    match outcome {
-        Outcome::Done(job) => job,
-        Outcome::Back(Job { seat, mut pass }) => {
-            send_end(rt, post, take, &mut pass);
-            Job { seat, pass }
-        }
-    }
-}
-
-// Starts a worker. Where it can't be started, its end is sent for it, and its job goes to those that ended.
-fn start_or_end<'s, E, W: Wait + Sync, G: Gate + Sync>(
-    rt: &'s W,
-    alloc: Global,
+// Starts a worker. Where it can't be started, its end is sent for it, and its job goes to those that are idle.
+#[tactic(auto, using(crate::proofs::NothingLost::all_pushed))]
+fn start_or_idle<'s, 'a, E, W: Wait + Sync, G: Gate + Sync, M: Maker<Made: Send> + Copy + Sync>(
+    context: &'s RunContext<'a, W, G, M>,
     scope: &Scope<'s, E>,
-    plan: &'s Plan,
-    claims: &'s Claims,
-    post: &'s Post,
-    gate: &'s G,
-    signals: &'s Signals,
-    job: Job,
-    take: &mut TakePass,
-    handles: &mut Vec<Worker>,
-    ended: &mut Vec<Job>,
+    job: Job<M::Made>,
+    workers: &mut Workers<M>,
 )
-    requires ready { IsReady claims.now post.now plan.now job }
-    requires files { AreClaimsOf plan.now claims.now }
-    requires few_workers { post.now.workers ≤ max_workers }
-    requires take { IsTakePassOf post.now take.old }
-    requires room { (vec_len handles.old < vec_capacity handles.old) × (vec_len ended.old < vec_capacity ended.old) }
-    ensures take { IsTakePassOf post.now take.new }
-    ensures nothing_received { vec_len ended.new ≡ 0 → take.new ≡ take.old }
-    ensures count { vec_len handles.new + vec_len ended.new ≡ vec_len handles.old + vec_len ended.old + 1 }
-    ensures not_less { vec_len ended.old ≤ vec_len ended.new }
-    ensures room { (vec_capacity handles.new ≡ vec_capacity handles.old) × (vec_capacity ended.new ≡ vec_capacity ended.old) }
-    ensures handles { All (λ handle. IsReady claims.now post.now plan.now handle.promise.job.value) handles.old.items
-        → All (λ handle. IsReady claims.now post.now plan.now handle.promise.job.value) handles.new.items }
-    ensures ended { All (λ job. IsDone claims.now post.now plan.now job) ended.old.items
-        → All (λ job. IsDone claims.now post.now plan.now job) ended.new.items }
+    requires ready { IsReady context.now.claims context.now.post context.now.plan.now job }
+    requires few_workers { context.now.post.workers ≤ max_workers }
+    requires files { AreClaimsOf context.now.plan.now context.now.claims }
+    ensures handles { All (λ handle. IsReady context.now.claims context.now.post context.now.plan.now handle.promise.job.value) workers.old.handles.items
+        → All (λ handle. IsReady context.now.claims context.now.post context.now.plan.now handle.promise.job.value) workers.new.handles.items }
+    ensures ended { All (λ job. IsDone M.made context.now.claims context.now.post context.now.plan.now job) workers.old.ended.items
+        → All (λ job. IsDone M.made context.now.claims context.now.post context.now.plan.now job) workers.new.ended.items }
+    ensures idle { All (λ job. IsIdle context.now.claims context.now.post context.now.plan.now job) workers.old.idle.items
+        → All (λ job. IsIdle context.now.claims context.now.post context.now.plan.now job) workers.new.idle.items }
 {
-    let before = Snapshot::of(&job);
-    let refused = &signals.refused[usize::from(job.pass.worker())];
-    let outcome = match start(
-        rt,
-        alloc,
-        scope,
-        plan,
-        claims,
-        post,
-        gate,
-        &signals.pace,
-        refused,
-        job,
-    ) {
-        Ok(handle) => {
-            handles.push_reserved(handle);
-            return;
-        }
-        Err(outcome) => outcome,
+    // room was reserved, so that no push is refused
+    let _pushed = match start(context, scope, job) {
+        Ok(handle) => workers.handles.push(handle).is_ok(),
+        Err(Outcome::Done(job)) => workers.ended.push(job).is_ok(),
+        Err(Outcome::Back(job)) => workers.idle.push(context.send_end(job)).is_ok(),
     };
-    let job = end_of(rt, claims, post, plan, take, &before, outcome);
-    ended.push_reserved(job);
 }
 
-/// Starts a worker for each job. The end of a worker that can't be started is sent for it, and its job goes to those that ended.
-pub fn start_all<'s, E, W: Wait + Sync, G: Gate + Sync>(
-    rt: &'s W,
-    alloc: Global,
+/// Starts a worker for each job. The end of a worker that can't be started is sent for it, and its job goes to those that are idle.
+pub fn start_all<'s, 'a, E, W: Wait + Sync, G: Gate + Sync, M: Maker<Made: Send> + Copy + Sync>(
+    context: &'s RunContext<'a, W, G, M>,
     scope: &Scope<'s, E>,
-    plan: &'s Plan,
-    claims: &'s Claims,
-    post: &'s Post,
-    gate: &'s G,
-    signals: &'s Signals,
-    jobs: Vec<Job>,
-    take: &mut TakePass,
-    handles: &mut Vec<Worker>,
-    ended: &mut Vec<Job>,
+    jobs: Vec<Job<M::Made>>,
+    workers: &mut Workers<M>,
 )
-    requires ready { All (λ job. IsReady claims.now post.now plan.now job) jobs.items }
-    requires files { AreClaimsOf plan.now claims.now }
-    requires few_workers { post.now.workers ≤ max_workers }
-    requires take { IsTakePassOf post.now take.old }
-    requires none { (vec_len handles.old ≡ 0) × (vec_len ended.old ≡ 0) }
-    requires room { (vec_len jobs ≤ vec_capacity handles.old) × (vec_len jobs ≤ vec_capacity ended.old) }
-    ensures take { IsTakePassOf post.now take.new }
-    ensures nothing_received { vec_len ended.new ≡ 0 → take.new ≡ take.old }
-    ensures count { vec_len handles.new + vec_len ended.new ≡ vec_len jobs }
-    ensures room { vec_capacity ended.new ≡ vec_capacity ended.old }
-    ensures handles { All (λ handle. IsReady claims.now post.now plan.now handle.promise.job.value) handles.new.items }
-    ensures ended { All (λ job. IsDone claims.now post.now plan.now job) ended.new.items }
+    requires ready { All (λ job. IsReady context.now.claims context.now.post context.now.plan.now job) jobs.items }
+    requires few_workers { context.now.post.workers ≤ max_workers }
+    requires files { AreClaimsOf context.now.plan.now context.now.claims }
+    requires none { (workers.old.handles.items ≡ []) × (workers.old.ended.items ≡ []) × (workers.old.idle.items ≡ []) }
+    ensures handles { All (λ handle. IsReady context.now.claims context.now.post context.now.plan.now handle.promise.job.value) workers.new.handles.items }
+    ensures ended { All (λ job. IsDone M.made context.now.claims context.now.post context.now.plan.now job) workers.new.ended.items }
+    ensures idle { All (λ job. IsIdle context.now.claims context.now.post context.now.plan.now job) workers.new.idle.items }
 {
     for job in jobs {
-        start_or_end(
-            rt, alloc, scope, plan, claims, post, gate, signals, job, take, handles, ended,
-        );
+        start_or_idle(context, scope, job, workers);
     }
+    context.signals.tell_start();
 }

@@ -6,7 +6,7 @@ use Rattle.std.proofs.lemmas.List.Elements.{All-drop}
 use Rattle.clap.proofs.OnLiterals.{clap_on_literals}
 use Rattle.clap.proofs.ValueTestLemmas.{accepts-Accepts}
 use Rattle.std.specs.Char.{digit_value}
-use Rattle.std.specs.Prelude.{fold, ⊤, ℕ}
+use Rattle.std.specs.Prelude.{fold, ℕ}
 use Rattle.std.specs.Str.Parse.{IsNumeral, digits_value, without_leading_plus}
 use Rattle.clap.proofs.WalkLemmas.{both}
 use Rattle.clap.specs.Faults.{check_fault, defaults_fault, positional_fault, settle_fault, turn_fault}

@@ -7,7 +7,7 @@ use Rattle.lx_tables.specs.Model.{Table, IsTable}
 use Rattle.lx_tables.specs.Reading.{IsTextOf}
 use Rattle.lx_scan.specs.ByRules.{AreItemsBy}
 use Rattle.lx_piece.specs.Plans.{PlainInput, Planned, bytes_of, items_of, kinds_of}
-use Rattle.lx_tool.specs.Listings.{AppendsPrefix, listing_of}
+use Rattle.lx_lines.specs.Listings.{AppendsPrefix, listing_of}
 
 -- what was read of files are bytes
 abbrev pub AreBytes : List PlainInput → Type 0

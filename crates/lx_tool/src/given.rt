@@ -12,6 +12,7 @@ use crate::failure::Failure;
 use crate::planning::list_files;
 use crate::source::{SourceFault, Sources};
 use crate::tabling::tables_of_text;
+use lx_lines::LineWrites;
 use lx_piece::Input;
 use lx_scan::ruling::items_are_by_rules;
 use lx_tables::Tables;
@@ -130,6 +131,7 @@ fn list_given<'a, T: Threads + Wait + Sync, S: Sources, W: Write>(
     workers: u8,
     per_piece: u32,
     sources: &mut S,
+    writes: LineWrites,
     out: &mut W,
 ) -> Result<Vec<&'a str>, Failure<'a>>
     requires few_files { length names.now ≤ max_files }
@@ -143,7 +145,16 @@ fn list_given<'a, T: Threads + Wait + Sync, S: Sources, W: Write>(
     if given.files.is_empty() {
         return Ok(given.cut);
     }
-    list_files(rt, alloc, tables, given.files, per_piece, workers, out)?;
+    list_files(
+        rt,
+        alloc,
+        tables,
+        given.files,
+        per_piece,
+        workers,
+        writes,
+        out,
+    )?;
     Ok(given.cut)
 }
 
@@ -158,6 +169,7 @@ pub fn list_by_specification<'a, T: Threads + Wait + Sync, S: Sources, W: Write>
     workers: u8,
     per_piece: u32,
     sources: &mut S,
+    writes: LineWrites,
     out: &mut W,
 ) -> Result<Vec<&'a str>, Failure<'a>>
     requires few_files { length names.now ≤ max_files }
@@ -171,7 +183,9 @@ pub fn list_by_specification<'a, T: Threads + Wait + Sync, S: Sources, W: Write>
     let tables = tables_of_text(alloc, text)?;
     // its contract says what holds of all tables
     let _conditions = tables.conditions();
-    list_given(rt, alloc, tables, names, workers, per_piece, sources, out)
+    list_given(
+        rt, alloc, tables, names, workers, per_piece, sources, writes, out,
+    )
 }
 
 /// Lists the files with these names by the tables whose text it is, in either version, and else as `list_by_specification` does.
@@ -183,6 +197,7 @@ pub fn list_by_tables<'a, T: Threads + Wait + Sync, S: Sources, W: Write>(
     workers: u8,
     per_piece: u32,
     sources: &mut S,
+    writes: LineWrites,
     out: &mut W,
 ) -> Result<Vec<&'a str>, Failure<'a>>
     requires few_files { length names.now ≤ max_files }
@@ -195,5 +210,7 @@ pub fn list_by_tables<'a, T: Threads + Wait + Sync, S: Sources, W: Write>(
     let tables = Tables::read(alloc, text)?;
     // its contract says what holds of all tables
     let _conditions = tables.conditions();
-    list_given(rt, alloc, tables, names, workers, per_piece, sources, out)
+    list_given(
+        rt, alloc, tables, names, workers, per_piece, sources, writes, out,
+    )
 }

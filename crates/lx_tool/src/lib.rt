@@ -2,27 +2,20 @@
 #![tactic(auto)]
 
 mod command_line;
-mod cuts;
 mod failure;
 mod given;
-mod line;
-mod listing;
 mod merged;
 mod planning;
-mod printing;
 mod program;
 mod reading;
 mod source;
 mod tabling;
-mod waiting;
-mod writing;
 
 pub use failure::Failure;
 pub use given::{list_by_specification, list_by_tables};
-pub use listing::Listing;
+pub use lx_lines::{LineWrites, Listing, list_plan, print_listing};
 pub use planning::{list_files, listings_are_by_rules, printed_tables_list_by_rules};
-pub use printing::{list_plan, print_listing};
-pub use program::run;
+pub use program::{run, run_with};
 pub use reading::read_to_end;
 pub use source::{ListSources, SourceFault, Sources};
 pub use tabling::{generate, tables_of_text, upgrade};

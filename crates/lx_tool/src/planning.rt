@@ -8,7 +8,7 @@ ghost use Rattle.lx_tables.specs.Reading.{IsTextOf};
 ghost use Rattle.lx_tool.specs.Planning.{AreBytes, ListsBy, ListsPrefixBy, ListsByRules};
 ghost use Rattle.lx_tool.specs.Tabling.{AreTablesOfText};
 
-use crate::printing::list_plan;
+use lx_lines::{LineWrites, list_plan};
 use lx_piece::{Input, Plan};
 use lx_post::RunFault;
 use lx_scan::ruling::items_are_by_rules;
@@ -31,6 +31,7 @@ pub fn list_files<T: Threads + Wait + Sync, W: Write>(
     files: Vec<Input>,
     per_piece: u32,
     workers: u8,
+    writes: LineWrites,
     out: &mut W,
 ) -> Result<(), RunFault>
     requires some_files { 0 < vec_len files }
@@ -42,7 +43,7 @@ pub fn list_files<T: Threads + Wait + Sync, W: Write>(
     ensures err { OnErr result (ListsPrefixBy tables (map input_view files.items) (W.contents out.old) (W.contents out.new)) }
 {
     let plan = Plan::new(tables, files, per_piece, RUN);
-    list_plan(rt, alloc, &plan, workers, out)
+    list_plan(rt, alloc, &plan, workers, writes, out)
 }
 
 /// A law: what is listed by tables of the specification that a text says are the items by its rules.

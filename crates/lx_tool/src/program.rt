@@ -15,6 +15,7 @@ use crate::given::{list_by_specification, list_by_tables, read_whole};
 use crate::planning::{list_files, listings_are_by_rules};
 use crate::source::{Sources, make_input};
 use crate::tabling::{generate, tables_of_text, upgrade};
+use lx_lines::LineWrites;
 use lx_piece::MAX_FILES;
 use std::alloc::Global;
 use std::io::Write;
@@ -33,7 +34,8 @@ static STORED_TEXT: &[u8] = b"ab 12\n";
 /// the tables or the help go to `out`, which is flushed, and what went wrong to `err`, whose own faults change nothing.
 /// The result is the exit status: 0, all was done; 1, the specification was refused, or is too large for an automaton, or the tables
 /// were refused; 2, the command line was refused; 3, a file can't be read, or all was listed and a file was cut short; 4, the output
-/// failed; 5, memory was refused, or a thread.
+/// failed; 5, memory was refused.
+/// Each line of a listing goes out in a write of its own.
 pub fn run<R: Threads + Wait + Sync, S: Sources, O: Write, E: Write>(
     rt: &R,
     alloc: Global,
@@ -49,7 +51,27 @@ pub fn run<R: Threads + Wait + Sync, S: Sources, O: Write, E: Write>(
     ensures ended { 0 < result → result < 4 →
         HasEnded S.gives (asked_by (words_of words.now)) sources.old sources.new (O.contents out.old) (O.contents out.new) result }
 {
-    match execute(rt, alloc, words, sources, out) {
+    run_with(rt, alloc, words, sources, LineWrites::EachLine, out, err)
+}
+
+/// The same, where the lines of a listing are written as is said: each by itself, or a block of them at once.
+pub fn run_with<R: Threads + Wait + Sync, S: Sources, O: Write, E: Write>(
+    rt: &R,
+    alloc: Global,
+    words: &[String],
+    sources: &mut S,
+    writes: LineWrites,
+    out: &mut O,
+    err: &mut E,
+) -> u8
+    ensures known { result ≤ 5 }
+    ensures done { result ≡ 0 →
+        IfSome (asked_by (words_of words.now)) (HasDone S.gives sources.old sources.new (O.contents out.old) (O.contents out.new) []) }
+    // All was listed and a file was cut short; or the words, the specification, the tables or a file were refused, and nothing was written.
+    ensures ended { 0 < result → result < 4 →
+        HasEnded S.gives (asked_by (words_of words.now)) sources.old sources.new (O.contents out.old) (O.contents out.new) result }
+{
+    match execute(rt, alloc, words, sources, writes, out) {
         Ok(cut) => tell_cut(&cut, err),
         Err(failure) => {
             let _ = match &failure {
@@ -79,13 +101,14 @@ fn execute<'a, R: Threads + Wait + Sync, S: Sources, O: Write>(
     alloc: Global,
     words: &'a [String],
     sources: &mut S,
+    writes: LineWrites,
     out: &mut O,
 ) -> Result<Vec<&'a str>, Failure<'a>>
     ensures ok { IfOk result (λ cut. HasObeyed S.gives sources.old sources.new (O.contents out.old) (O.contents out.new) (texts_of cut.items) (asked_by (words_of words.now))) }
     ensures err { IfErr result (HasFailed S.gives (asked_by (words_of words.now)) sources.old (O.contents out.old) (O.contents out.new)) }
 {
     let cut = match read_words(alloc, words) {
-        Ok(order) => carry_out(rt, alloc, order, sources, out)?,
+        Ok(order) => carry_out(rt, alloc, order, sources, writes, out)?,
         Err(Refusal::Words(error)) => return Err(Failure::Words(error)),
         Err(Refusal::Memory) => return Err(Failure::Memory),
     };
@@ -99,6 +122,7 @@ fn carry_out<'a, R: Threads + Wait + Sync, S: Sources, O: Write>(
     alloc: Global,
     order: Request<'a>,
     sources: &mut S,
+    writes: LineWrites,
     out: &mut O,
 ) -> Result<Vec<&'a str>, Failure<'a>>
     ensures ok { IfOk result (λ cut. HasObeyed S.gives sources.old sources.new (O.contents out.old) (O.contents out.new) (texts_of cut.items) (asked_as order.entry)) }
@@ -106,15 +130,15 @@ fn carry_out<'a, R: Threads + Wait + Sync, S: Sources, O: Write>(
 {
     match order {
         Request::Stored => {
-            list_stored(rt, alloc, out)?;
+            list_stored(rt, alloc, writes, out)?;
             Ok(Vec::new(alloc))
         }
         Request::Help(text) => {
             write!(out, "{text}").map_err(|_| Failure::Output)?;
             Ok(Vec::new(alloc))
         }
-        Request::Run(order) => list_by_rules_of(rt, alloc, &order, sources, out),
-        Request::Scan(order) => list_by_tables_of(rt, alloc, &order, sources, out),
+        Request::Run(order) => list_by_rules_of(rt, alloc, &order, sources, writes, out),
+        Request::Scan(order) => list_by_tables_of(rt, alloc, &order, sources, writes, out),
         Request::Gen(name) => {
             generate_named(alloc, name, sources, out)?;
             Ok(Vec::new(alloc))
@@ -130,6 +154,7 @@ fn carry_out<'a, R: Threads + Wait + Sync, S: Sources, O: Write>(
 fn list_stored<'a, R: Threads + Wait + Sync, O: Write>(
     rt: &R,
     alloc: Global,
+    writes: LineWrites,
     out: &mut O,
 ) -> Result<(), Failure<'a>>
     ensures ok { OnOk result (ListsByRules stored_specification (whole stored_text ∷ []) (O.contents out.old) (O.contents out.new)) }
@@ -140,7 +165,16 @@ fn list_stored<'a, R: Threads + Wait + Sync, O: Write>(
     // its contract says what holds of all tables
     let _conditions = tables.conditions();
     let file = make_input(alloc, STORED_TEXT, false)?;
-    list_files(rt, alloc, tables, vec![in alloc; file]?, ITEMS, ALONE, out)?;
+    list_files(
+        rt,
+        alloc,
+        tables,
+        vec![in alloc; file]?,
+        ITEMS,
+        ALONE,
+        writes,
+        out,
+    )?;
     Ok(())
 }
 
@@ -150,6 +184,7 @@ fn list_by_rules_of<'a, R: Threads + Wait + Sync, S: Sources, O: Write>(
     alloc: Global,
     order: &ListRequest<'a>,
     sources: &mut S,
+    writes: LineWrites,
     out: &mut O,
 ) -> Result<Vec<&'a str>, Failure<'a>>
     ensures ok { IfOk result (λ cut. HasDone S.gives sources.old sources.new (O.contents out.old) (O.contents out.new) (texts_of cut.items) (run-asked (plain_order order.now))) }
@@ -167,6 +202,7 @@ fn list_by_rules_of<'a, R: Threads + Wait + Sync, S: Sources, O: Write>(
         order.workers,
         order.per_piece,
         sources,
+        writes,
         out,
     )
 }
@@ -177,6 +213,7 @@ fn list_by_tables_of<'a, R: Threads + Wait + Sync, S: Sources, O: Write>(
     alloc: Global,
     order: &ListRequest<'a>,
     sources: &mut S,
+    writes: LineWrites,
     out: &mut O,
 ) -> Result<Vec<&'a str>, Failure<'a>>
     ensures ok { IfOk result (λ cut. HasDone S.gives sources.old sources.new (O.contents out.old) (O.contents out.new) (texts_of cut.items) (scan-asked (plain_order order.now))) }
@@ -194,6 +231,7 @@ fn list_by_tables_of<'a, R: Threads + Wait + Sync, S: Sources, O: Write>(
         order.workers,
         order.per_piece,
         sources,
+        writes,
         out,
     )
 }

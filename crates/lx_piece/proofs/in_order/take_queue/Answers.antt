@@ -4,15 +4,16 @@ use Rattle.lx_piece.specs.Turns.{HasTurn, turn_after}
 use Rattle.lx_piece.proofs.Handing.{TookSome, next_turn, some_next, some_all}
 use Rattle.lx_piece.proofs.in_order.take_queue.Goals as goal
 
-pub take-requires : goal.take-requires
-take-requires g c =
+pub take-requires-clause-same : goal.take-requires-clause-same
+take-requires-clause-same g c = c.requires.same ∙ sym c.loop-piece.invariant.plan
+
+pub take-requires-clause-turn : goal.take-requires-clause-turn
+take-requires-clause-turn g c =
     let i = c.loop-piece.invariant in
     let made = g.M.Maker.made in
     let turn = g.T.Taker.turn c.loop-piece.taker in
-    record {
-      turn = subst (λ (plan : Planned). HasTurn made plan turn c.in-Some.piece) (sym i.plan)
-          (next_turn made (g.T.Taker.plan c.args.taker.now) c.args.file c.args.queue.now.items _ _ _ turn c.in-Some.piece c.requires.queue i.took c.in-Some.ensures.items c.requires.file);
-    }
+    subst (λ (plan : Planned). HasTurn made plan turn c.in-Some.piece) (sym i.plan)
+    (next_turn made (g.T.Taker.plan c.args.taker.now) c.args.file c.args.queue.now.items _ _ _ turn c.in-Some.piece c.requires.queue i.took c.in-Some.ensures.items c.requires.file)
 
 pub loop-piece-preserved : goal.loop-piece-preserved
 loop-piece-preserved g c =

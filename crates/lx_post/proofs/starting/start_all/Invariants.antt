@@ -1,15 +1,11 @@
-use Rattle.std.proofs.Common.{◌≡◌, ◌≤◌, ◌+◌, All, length, vec_len, vec_capacity}
+use Rattle.std.proofs.Common.{All}
 use Rattle.lx_post.specs.declared.job.Job.{Job}
-use Rattle.lx_post.specs.Posted.{IsTakePassOf}
-use Rattle.lx_post.specs.Working.{IsReady, IsDone}
+use Rattle.lx_post.specs.Working.{IsDone, IsIdle, IsReady}
 use Rattle.lx_post.proofs.starting.start_all.Given as goal
 
 abbrev pub invariant-loop-job : goal.invariant-loop-job
 invariant-loop-job g l = record {
-  take : IsTakePassOf l.post l.take;
-  nothing_received : vec_len l.ended ≡ 0 → l.take ≡ l.fn.take;
-  count : vec_len l.handles + vec_len l.ended ≡ length l.yielded;
-  room : (vec_len l.fn.jobs ≤ vec_capacity l.handles) × (vec_len l.fn.jobs ≤ vec_capacity l.ended) × (vec_capacity l.ended ≡ vec_capacity l.fn.ended);
-  handles : All (λ handle. IsReady l.claims l.post l.plan handle.promise.job.value) l.handles.items;
-  ended : All (λ (job : Job). IsDone l.claims l.post l.plan job) l.ended.items;
+  handles : All (λ handle. IsReady l.context.claims l.context.post l.context.plan.now handle.promise.job.value) l.workers.handles.items;
+  ended : All (λ (job : Job _). IsDone g.M.Maker.made l.context.claims l.context.post l.context.plan.now job) l.workers.ended.items;
+  idle : All (λ (job : Job _). IsIdle l.context.claims l.context.post l.context.plan.now job) l.workers.idle.items;
 }

@@ -1,4 +1,4 @@
-use Rattle.std.proofs.Common.{◌<◌, ◌+◌, sym, subst, arith, length, List, ℕ}
+use Rattle.std.proofs.Common.{◌<◌, ◌+◌, sym, ◌∙◌, subst, arith, length, List, ℕ}
 use Rattle.std.specs.Prelude.{slice_set}
 use Rattle.lx_piece.specs.Plans.{Planned, IsPlan}
 use Rattle.lx_piece.specs.Relayed.{IsNextPieceBy}
@@ -19,6 +19,7 @@ invariant_of-self-in-Ok g c =
     let there : c.args.piece.file < length s.counts.items = (let files = keeps.first_open.files in let l = next.planned.file in omega arith) in
     let same = sym c.in-Ok.ensures.plan in
     record {
+      same = c.self.invariant.same ∙ same;
       plan_is = subst IsPlan same c.self.invariant.plan_is;
       keeps = λ _.
           subst (λ (plan : Planned). KeepsUp made plan turn (slice_set s.counts.items c.args.piece.file (c.index_mut.result.now + 1)) c.in-Ok.first waiting) same

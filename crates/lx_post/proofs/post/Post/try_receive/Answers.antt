@@ -7,7 +7,7 @@ use Rattle.lx_post.proofs.NoteLists.{flags_kept, flags_set, not_end, took}
 use Rattle.lx_post.proofs.post.Post.try_receive.Goals as goal
 
 pub pop_as-requires-clause-rule : goal.pop_as-requires-clause-rule
-pop_as-requires-clause-rule g c = (takes_one c.pass.inside.pass.id (view c.pass.inside.pass) (ap (λ (u : PassView). u.role) c.pass.invariant.1), λ items views _ _. tt)
+pop_as-requires-clause-rule g c = (takes_one g.M.Maker.made c.pass.inside.pass.id (view c.pass.inside.pass) (ap (λ (u : PassView _). u.role) c.pass.invariant.1), λ items views _ _. tt)
 
 pub invariant_of-pass-in-End : goal.invariant_of-pass-in-End
 invariant_of-pass-in-End g c =

@@ -12,10 +12,10 @@ push_as-requires-clause-rule g c =
     let is = c.pass.invariant.1 in
     let seen = c.pass.view_is in
     let may = c.requires.note in (
-      sends_one (ruled_capacity c.self.inside.queue) c.pass.inside.pass.id v c.args.note
-          (ap (λ (u : PassView). u.role) is)
-          (may.worker ∙ sym (ap (λ (s : Sent). s.worker) seen) ∙ sym (ap (λ (u : PassView). u.worker) is))
-          (rw (ap (λ (s : Sent). s.plan) seen) may.honest)
-          (ap (λ (s : Sent). has_end s.sent) seen ∙ may.going),
+      sends_one g.M.Maker.made (ruled_capacity c.self.inside.queue) c.pass.inside.pass.id v c.args.note
+          (ap (λ (u : PassView _). u.role) is)
+          (may.worker ∙ sym (ap (λ (s : Sent _). s.worker) seen) ∙ sym (ap (λ (u : PassView _). u.worker) is))
+          (rw (ap (λ (s : Sent _). s.plan) seen) may.honest)
+          (ap (λ (s : Sent _). has_end s.sent) seen ∙ may.going),
       λ items views _ _. tt,
     )

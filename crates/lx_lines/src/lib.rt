@@ -1,0 +1,16 @@
+//! What a listing is: lines, what pieces carry of them, and the printer that writes them in the plan's order.
+#![tactic(auto)]
+
+mod line;
+mod listing;
+mod maker;
+mod printer;
+mod printing;
+mod shown;
+mod sink;
+mod spares;
+mod writing;
+
+pub use listing::Listing;
+pub use printing::{list_plan, print_listing};
+pub use writing::LineWrites;

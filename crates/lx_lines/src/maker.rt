@@ -1,0 +1,58 @@
+//! What makes the lines of a piece where many pieces are on their way.
+
+ghost use Rattle.std.specs.Prelude.{◌≡◌};
+
+use crate::line::push_lines;
+use crate::shown::Shown;
+use crate::spares::{Spares, emptied};
+use lx_piece::{Maker, Plan};
+use lx_scan::Item;
+use std::alloc::{AllocError, Global};
+
+/// Makes the lines of a piece where many pieces are on their way, and else leaves its items.
+#[derive(Clone, Copy, Drop)]
+pub struct LineMaker<Y: Spares> {
+    alloc: Global,
+    spares: Y,
+}
+
+impl<Y: Spares> LineMaker<Y> {
+    pub fn new(alloc: Global, spares: Y) -> LineMaker<Y> {
+        LineMaker { alloc, spares }
+    }
+}
+
+impl<Y: Spares> Maker for LineMaker<Y> {
+    ghost use Rattle.lx_lines.specs.Shown.{shown};
+
+    type Made = Shown;
+
+    ghost made = { shown };
+
+    fn room(&mut self, alloc: Global, items: usize) -> Result<Vec<Item>, AllocError> {
+        let mut list = emptied(alloc, self.spares.take_list());
+        list.reserve(items)?;
+        Ok(list)
+    }
+
+    fn make(&mut self, plan: &Plan, file: u32, items: Vec<Item>) -> Shown {
+        self.spares.send();
+        if !self.spares.are_many() {
+            return Shown::of_items(plan, file, items);
+        }
+        let mut block = emptied(self.alloc, self.spares.take_block());
+        match push_lines(&mut block, plan, file, items.as_slice()) {
+            Ok(()) => {
+                let made = Shown::of_lines(plan, file, &items, block);
+                self.spares.give_list(items);
+                made
+            }
+            // where memory is refused the items will do
+            Err(_) => Shown::of_items(plan, file, items),
+        }
+    }
+
+    fn weight(made: &Shown) -> u64 {
+        made.weight()
+    }
+}

@@ -1,0 +1,132 @@
+//! The printer of a listing.
+
+ghost use Rattle.std.specs.Prelude.{◌≡◌, ◌<◌, IfOk, IfErr, OnOk};
+ghost use Rattle.lx_piece.specs.Plans.{files_of};
+ghost use Rattle.lx_piece.specs.Turns.{HasTurn, turn_after};
+ghost use Rattle.lx_lines.specs.Printing.{PrintsTo, PrintsPart, printing, shown_lines, turn_of};
+ghost use Rattle.lx_lines.specs.Shown.{shown};
+
+use crate::line::push_cut_line;
+use crate::maker::LineMaker;
+use crate::shown::Shown;
+use crate::sink::LineSink;
+use crate::spares::Spares;
+use lx_piece::{Piece, Plan, ReaderFault, Taker};
+use std::alloc::{AllocError, Global};
+use std::snapshot::Snapshot;
+
+/// Writes the lines of a plan's pieces, which it is handed in the plan's order, with the cut line behind those of a file whose
+/// reading failed. The lines of a piece are one block. Where memory is refused for it, nothing of the piece is written.
+#[derive(Drop)]
+pub struct Printer<Y: Spares, S: LineSink> {
+    pub(crate) alloc: Global,
+    pub(crate) plan: Snapshot<Plan>,
+    pub(crate) spares: Y,
+    pub(crate) sink: S,
+    // The piece that comes next.
+    pub(crate) file: u32,
+    pub(crate) number: u64,
+}
+
+// The lines of a piece in a block.
+fn block_of<Y: Spares>(
+    alloc: Global,
+    spares: &Y,
+    plan: &Plan,
+    piece: Piece<Shown>,
+) -> Result<Vec<u8>, AllocError>
+    requires plan { piece.items.plan ≡ plan.now }
+    requires same_file { piece.items.file ≡ piece.file }
+    requires file { piece.file < files_of plan.now }
+    ensures { IfOk result (λ block. block.items ≡ shown_lines piece) }
+{
+    let cut = piece.is_cut_short();
+    let Piece { file, items, .. } = piece;
+    let mut block = items.into_block(alloc, spares, plan, file)?;
+    if cut {
+        push_cut_line(&mut block, file)?;
+    }
+    Ok(block)
+}
+
+impl<Y: Spares, S: LineSink> Printer<Y, S> {
+    /// A printer that has written nothing.
+    pub fn new(alloc: Global, plan: &Plan, spares: Y, sink: S) -> Printer<Y, S>
+        ensures plan { result.plan.value ≡ plan.now }
+        ensures file { result.file ≡ 0 }
+        ensures number { result.number ≡ 0 }
+        ensures sink { result.sink ≡ sink }
+    {
+        Printer {
+            alloc,
+            plan: Snapshot::of(plan),
+            spares,
+            sink,
+            file: 0,
+            number: 0,
+        }
+    }
+
+    /// Where its lines went.
+    pub fn into_sink(self) -> S
+    where
+        Y: Drop,
+        ensures { result ≡ self.entry.sink }
+    {
+        let Printer {
+            alloc: _alloc,
+            plan: _plan,
+            spares: _spares,
+            sink,
+            file: _file,
+            number: _number,
+        } = self;
+        sink
+    }
+}
+
+impl<Y: Spares, S: LineSink> Taker<LineMaker<Y>> for Printer<Y, S> {
+    ghost use Rattle.lx_lines.specs.PrintingLaws.{prints_itself, prints_then, prints_no_more, part_behind};
+
+    ghost plan = { λ s. s.plan.value };
+
+    ghost turn = { λ s. turn_of s.file s.number };
+
+    ghost follows = { λ s t. PrintsTo S.wrote (printing s.plan.value s.file s.number s.sink) (printing t.plan.value t.file t.number t.sink) };
+
+    ghost fails = { λ s fault t. PrintsPart S.wrote (printing s.plan.value s.file s.number s.sink) fault (printing t.plan.value t.file t.number t.sink) };
+
+    fn take(&mut self, whole: &Plan, piece: Piece<Shown>) -> Result<(), ReaderFault>
+        requires same { whole.now ≡ self.old.plan.value }
+        requires turn { HasTurn shown self.old.plan.value (turn_of self.old.file self.old.number) piece }
+        ensures plan { self.new.plan.value ≡ self.old.plan.value }
+        ensures turn { OnOk result (turn_of self.new.file self.new.number ≡ turn_after self.old.plan.value (turn_of self.old.file self.old.number)) }
+        ensures follows { OnOk result (PrintsTo S.wrote (printing self.old.plan.value self.old.file self.old.number self.old.sink) (printing self.new.plan.value self.new.file self.new.number self.new.sink)) }
+        ensures fails { IfErr result (λ fault. PrintsPart S.wrote (printing self.old.plan.value self.old.file self.old.number self.old.sink) fault (printing self.new.plan.value self.new.file self.new.number self.new.sink)) }
+    {
+        self.spares.receive();
+        // what holds of every plan
+        let _files = whole.files();
+        let closes = piece.is_closing();
+        let Ok(block) = block_of(self.alloc, &self.spares, whole, piece) else {
+            return Err(ReaderFault::Memory);
+        };
+        self.sink.write_lines(block.as_slice())?;
+        self.spares.give_block(block);
+        if closes {
+            self.file += 1;
+            self.number = 0;
+        } else {
+            self.number += 1;
+        }
+        Ok(())
+    }
+
+    ghost follows_itself = { λ s. prints_itself S.wrote S.wrote_nothing (printing s.plan.value s.file s.number s.sink) };
+
+    ghost follows_on = { λ s t u f h. prints_then S.wrote S.wrote_on (printing s.plan.value s.file s.number s.sink) (printing t.plan.value t.file t.number t.sink) (printing u.plan.value u.file u.number u.sink) f h };
+
+    ghost fails_behind = { λ s t u fault f h. part_behind S.wrote S.wrote_on (printing s.plan.value s.file s.number s.sink) (printing t.plan.value t.file t.number t.sink) (printing u.plan.value u.file u.number u.sink) fault f h };
+
+    ghost fails_at_once = { λ s. prints_no_more S.wrote S.wrote_nothing (printing s.plan.value s.file s.number s.sink) };
+}

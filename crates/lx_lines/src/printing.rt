@@ -1,0 +1,168 @@
+//! The listing of a plan's files, by workers or on the calling thread.
+
+ghost use Rattle.std.specs.Prelude.{◌≡◌, ◌<◌, ◌≤◌, OnOk, OnErr};
+ghost use Rattle.std.specs.Io.KnownBytes.{Appends};
+ghost use Rattle.lx_piece.specs.Plans.{IsPlan};
+ghost use Rattle.lx_post.specs.Claimed.{max_workers};
+ghost use Rattle.lx_lines.specs.Listings.{AppendsPrefix, listing_of};
+ghost use Rattle.lx_lines.specs.Printing.{WrotePrefix};
+
+use crate::maker::LineMaker;
+use crate::printer::Printer;
+use crate::sink::{Lent, LineSink};
+use crate::spares::{Alone, Shared, Spares};
+use crate::writing::LineWrites;
+use lx_piece::{InOrder, Plan, RelayFault, relay_plan};
+use lx_post::{OpenGate, RunFault, scan_made};
+use std::alloc::Global;
+use std::io::Write;
+use std::sync::Wait;
+use std::thread::Threads;
+
+// So many lists of items and blocks of lines are kept to be used again: about as many as are on their way at once.
+const SPARES: usize = 128;
+
+// Hands a new printer all pieces of the plan. It comes back, so that what a lent writer holds in the end is known.
+fn print_all<Y: Spares + Drop, S: LineSink + Drop>(
+    alloc: Global,
+    plan: &Plan,
+    maker: LineMaker<Y>,
+    printer: Printer<Y, S>,
+) -> (Printer<Y, S>, Result<(), RelayFault>)
+    requires valid { IsPlan plan.now }
+    requires plan { printer.plan.value ≡ plan.now }
+    requires file { printer.file ≡ 0 }
+    requires number { printer.number ≡ 0 }
+    ensures ok { OnOk result.1 (S.wrote printer.entry.sink (listing_of plan.now) result.0.sink) }
+    ensures part { WrotePrefix S.wrote printer.entry.sink (listing_of plan.now) result.0.sink }
+{
+    match InOrder::<LineMaker<Y>, Printer<Y, S>>::new(alloc, plan, printer) {
+        Ok(mut order) => {
+            let answer = relay_plan(alloc, plan, maker, &mut order);
+            (order.into_taker(), answer)
+        }
+        Err(refused) => (refused.value, Err(RelayFault::Memory)),
+    }
+}
+
+// Hands all pieces of the plan to a new printer over a lent writer.
+fn print_to<'w, W: Write>(
+    alloc: Global,
+    plan: &Plan,
+    sink: Lent<'w, W>,
+) -> (Lent<'w, W>, Result<(), RunFault>)
+    ensures same_reference { result.0.out.ghost_name ≡ sink.entry.out.ghost_name }
+    ensures ok { OnOk result.1 (Appends (W.contents sink.entry.out.now) (W.contents result.0.out.now) (listing_of plan.now)) }
+    ensures err { OnErr result.1 (AppendsPrefix (W.contents sink.entry.out.now) (W.contents result.0.out.now) (listing_of plan.now)) }
+{
+    // what holds of every plan
+    let _files = plan.files();
+    let spares = Alone::new();
+    let printer = Printer::new(alloc, plan, &spares, sink);
+    let (printer, answer) = print_all(alloc, plan, LineMaker::new(alloc, &spares), printer);
+    let answer = match answer {
+        Ok(()) => Ok(()),
+        Err(fault) => Err(RunFault::from(fault)),
+    };
+    (printer.into_sink(), answer)
+}
+
+// Hands a new printer all pieces of the plan, as workers cut them. It comes back, so that what a lent writer holds in the end is known.
+fn scan_all_to<T: Threads + Wait + Sync, Y: Spares + Copy + Drop + Sync, S: LineSink + Drop>(
+    rt: &T,
+    alloc: Global,
+    plan: &Plan,
+    workers: u8,
+    maker: LineMaker<Y>,
+    printer: Printer<Y, S>,
+) -> (Printer<Y, S>, Result<(), RunFault>)
+    requires some_workers { 0 < workers }
+    requires few_workers { workers ≤ max_workers }
+    requires valid { IsPlan plan.now }
+    requires plan { printer.plan.value ≡ plan.now }
+    requires file { printer.file ≡ 0 }
+    requires number { printer.number ≡ 0 }
+    ensures ok { OnOk result.1 (S.wrote printer.entry.sink (listing_of plan.now) result.0.sink) }
+    ensures part { WrotePrefix S.wrote printer.entry.sink (listing_of plan.now) result.0.sink }
+{
+    match InOrder::<LineMaker<Y>, Printer<Y, S>>::new(alloc, plan, printer) {
+        Ok(order) => {
+            let (order, answer) = scan_made(rt, alloc, plan, workers, &OpenGate, maker, order);
+            (order.into_taker(), answer)
+        }
+        Err(refused) => (refused.value, Err(RunFault::Memory)),
+    }
+}
+
+// Has workers hand all pieces of the plan to a new printer over a lent writer.
+fn scan_to<'w, T: Threads + Wait + Sync, W: Write>(
+    rt: &T,
+    alloc: Global,
+    plan: &Plan,
+    workers: u8,
+    sink: Lent<'w, W>,
+) -> (Lent<'w, W>, Result<(), RunFault>)
+    requires some_workers { 0 < workers }
+    requires few_workers { workers ≤ max_workers }
+    ensures same_reference { result.0.out.ghost_name ≡ sink.entry.out.ghost_name }
+    ensures ok { OnOk result.1 (Appends (W.contents sink.entry.out.now) (W.contents result.0.out.now) (listing_of plan.now)) }
+    ensures err { OnErr result.1 (AppendsPrefix (W.contents sink.entry.out.now) (W.contents result.0.out.now) (listing_of plan.now)) }
+{
+    // what holds of every plan
+    let _files = plan.files();
+    let Ok(spares) = Shared::new(rt, alloc, SPARES) else {
+        return (sink, Err(RunFault::Memory));
+    };
+    let printer = Printer::new(alloc, plan, &spares, sink);
+    let maker = LineMaker::new(alloc, &spares);
+    let (printer, answer) = scan_all_to(rt, alloc, plan, workers, maker, printer);
+    (printer.into_sink(), answer)
+}
+
+/// Writes the listing of a plan's files, the lines of each file in order and the files in order: 1 to 8 workers scan them, or with none the
+/// calling thread does. The lines of each piece are a block, of which each line is written by itself, or all at once. After a fault a prefix
+/// of the listing was written.
+pub fn list_plan<T: Threads + Wait + Sync, W: Write>(
+    rt: &T,
+    alloc: Global,
+    plan: &Plan,
+    workers: u8,
+    writes: LineWrites,
+    out: &mut W,
+) -> Result<(), RunFault>
+    requires { workers ≤ max_workers }
+    ensures ok { OnOk result (Appends (W.contents out.old) (W.contents out.new) (listing_of plan.now)) }
+    ensures err { OnErr result (AppendsPrefix (W.contents out.old) (W.contents out.new) (listing_of plan.now)) }
+{
+    let sink = Lent { writes, out };
+    let (sink, answer) = if workers == 0 {
+        print_to(alloc, plan, sink)
+    } else {
+        scan_to(rt, alloc, plan, workers, sink)
+    };
+    // taken apart, so that what the writer holds in the end is known
+    let Lent {
+        writes: _writes,
+        out: _out,
+    } = sink;
+    answer
+}
+
+/// Writes the listing of a plan's files on one thread, the lines of each file in order and the files in order, each line in a write of its
+/// own. After a fault a prefix of it was written.
+pub fn print_listing<W: Write>(alloc: Global, plan: &Plan, out: &mut W) -> Result<(), RunFault>
+    ensures ok { OnOk result (Appends (W.contents out.old) (W.contents out.new) (listing_of plan.now)) }
+    ensures err { OnErr result (AppendsPrefix (W.contents out.old) (W.contents out.new) (listing_of plan.now)) }
+{
+    let sink = Lent {
+        writes: LineWrites::EachLine,
+        out,
+    };
+    let (sink, answer) = print_to(alloc, plan, sink);
+    // taken apart, so that what the writer holds in the end is known
+    let Lent {
+        writes: _writes,
+        out: _out,
+    } = sink;
+    answer
+}
