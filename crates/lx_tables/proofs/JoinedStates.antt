@@ -10,7 +10,7 @@ use Rattle.lx_rules.specs.declared.rule.Step.TheVariants.{Echo, Begin, Return}
 use Rattle.lx_rules.specs.Invariant.{are_steps}
 use Rattle.lx_automaton.specs.Automata.{Machine, state_count, accepted_at, class_target}
 use Rattle.lx_automaton.specs.EncodedOptions.{decoded_option}
-use Rattle.lx_tables.specs.Joined.{AreEntries, IsJoined, IsJoinedState, begun, class_of_column, column_of, condition_behind, condition_behind_rule, encoded, ended, joined_entry, joined_len, joined_number, joined_state_at, joined_states, joined_step, joined_width, stepped, target_from}
+use Rattle.lx_tables.specs.Joined.{AreEntries, AreGiven, IsJoined, IsJoinedState, begun, class_of_column, column_of, condition_behind, condition_behind_rule, encoded, ended, joined_entry, joined_len, joined_number, joined_state_at, joined_states, joined_step, joined_width, stepped, target_from}
 use Rattle.lx_tables.specs.Model.{Table, IsTable, rule_at}
 use Rattle.lx_tables.specs.declared.joined.JoinedState.{JoinedState}
 use Rattle.lx_tables.proofs.EncodedOptions.{in_row}
@@ -25,9 +25,12 @@ target_known table is (Some s) class t known below e = is.machine.closed s class
 
 steps_lead : (steps : List Step) (condition conditions kinds : ℕ) → condition < conditions → are_steps conditions kinds steps ≡ true → condition_behind steps condition < conditions
 steps_lead [] condition conditions kinds h is = h
-steps_lead (Echo ∷ steps) condition conditions kinds h is = h
-steps_lead (Begin next ∷ steps) condition conditions kinds h is = ltb-true next conditions ((and_parts (nat_lt next conditions) (are_steps conditions kinds steps) is).0)
-steps_lead (Return kind ∷ steps) condition conditions kinds h is = h
+steps_lead (Echo ∷ steps) condition conditions kinds h is = steps_lead steps condition conditions kinds h is
+steps_lead (Begin next ∷ steps) condition conditions kinds h is =
+    let both = and_parts (nat_lt next conditions) (are_steps conditions kinds steps) is in
+    steps_lead steps next conditions kinds (ltb-true next conditions both.0) both.1
+steps_lead (Return kind ∷ []) condition conditions kinds h is = h
+steps_lead (Return kind ∷ step ∷ steps) condition conditions kinds h is = absurd (true≢false (sym is))
 
 all_or : {X : Type 0} (test : X → Bool) (xs : List X) (i : ℕ) (d : X) → list_all test xs ≡ true → test d ≡ true → test (slice_index_or xs i d) ≡ true
 all_or test [] i d all default = default
@@ -179,9 +182,10 @@ column_below table b below = on (nat_eq b 10)
     on true = omega arith
     on false = omega arith
 
-pub is_joined : (table : Table) (columns entries : List ℕ) → IsTable table → length columns ≡ 256 → ((b : ℕ) → b < 256 → slice_index columns b ≡ column_of table b) →
-    AreEntries table entries (joined_len table) → IsJoined table columns entries
-is_joined table columns entries is bytes are_columns are = record {
+pub is_joined : (table : Table) (columns entries : List ℕ) (given : List (Option Step)) → IsTable table → AreGiven table given → length columns ≡ 256 → ((b : ℕ) → b < 256 → slice_index columns b ≡ column_of table b) →
+    AreEntries table entries (joined_len table) → IsJoined table columns entries given
+is_joined table columns entries given is are_given bytes are_columns are = record {
+  are_given = are_given;
   bytes = bytes;
   byte_columns = are_columns;
   below = λ k. elim (cases_lt k 256) [

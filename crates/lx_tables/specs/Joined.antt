@@ -1,6 +1,6 @@
 -- The joined table: an automaton joined with its own restart. Where a state has no step on a byte, its entry says what has ended, and leads to where the next match
 -- stands behind that byte; so matches are cut by one look-up a byte. The form is this project's own.
-use Rattle.std.specs.Prelude.{◌≡◌, ℕ, ◌+◌, ◌*◌, ◌/◌, ◌%◌, ◌<◌, ◌≤◌, ◌&&◌, nat_eq, nat_le, if◌then◌else◌, not, Bool, List, [], ◌∷◌, Option, Some, None, length, slice_index}
+use Rattle.std.specs.Prelude.{◌≡◌, ℕ, suc, ◌+◌, ◌*◌, ◌/◌, ◌%◌, ◌<◌, ◌≤◌, ◌&&◌, nat_eq, nat_le, if◌then◌else◌, not, Bool, List, [], ◌∷◌, Option, Some, None, length, slice_index, slice_index_or}
 use Rattle.lx_rules.specs.declared.rule.Step.{Step}
 use Rattle.lx_rules.specs.declared.rule.Step.TheVariants.{Echo, Begin, Return}
 use Rattle.lx_automaton.specs.Automata.{Machine, state_count, start_of, accepted_by, accepted_at, class_target}
@@ -15,16 +15,30 @@ pub record IsJoinedState (table : Table) (q : JoinedState) : Type 0 where
 
 -- ---- what has ended, as a code: 0 for nothing
 -- a byte that no rule matches
-abbrev pub echoed : ℕ
-echoed = 4097
+abbrev pub echoed : Table → ℕ
+echoed table = length table.rules + 1
 
 -- what the state alone doesn't tell
 abbrev pub untold : ℕ
 untold = 8191
 
--- a rule's match is told by the state in which it ends: all its bytes are the token, and its action has one step at most
+-- how many items an action gives
+abbrev pub item_count : List Step → ℕ
+item_count [] = 0
+item_count (Echo ∷ steps) = suc (item_count steps)
+item_count (Begin next ∷ steps) = item_count steps
+item_count (Return kind ∷ steps) = suc (item_count steps)
+
+-- the first step of an action that gives an item, if there is one
+abbrev pub giving : List Step → Option Step
+giving [] = None
+giving (Echo ∷ steps) = Some Echo
+giving (Begin next ∷ steps) = giving steps
+giving (Return kind ∷ steps) = Some (Return kind)
+
+-- a rule's match is told by the state in which it ends: all its bytes are the token, and its action gives one item at most
 abbrev pub is_told : TableRule → Bool
-is_told rule = not rule.line_end && nat_le (length rule.steps) 1
+is_told rule = not rule.line_end && nat_le (item_count rule.steps) 1
 
 -- a rule with this number has ended, or none
 abbrev pub rule_ended : Table → Option ℕ → ℕ
@@ -33,16 +47,16 @@ rule_ended table (Some rule) = if is_told (rule_at table rule) then rule + 1 els
 
 -- what has ended in a state without a step further, or behind a byte on which the start has none
 abbrev pub ended : Table → Option ℕ → ℕ
-ended table None = echoed
+ended table None = echoed table
 ended table (Some s) = rule_ended table (accepted_by table.machine s)
 
 -- ---- the condition behind it
--- behind an action of one step at most
+-- behind an action
 abbrev pub condition_behind : List Step → ℕ → ℕ
 condition_behind [] condition = condition
-condition_behind (Echo ∷ steps) condition = condition
-condition_behind (Begin next ∷ steps) condition = next
-condition_behind (Return kind ∷ steps) condition = condition
+condition_behind (Echo ∷ steps) condition = condition_behind steps condition
+condition_behind (Begin next ∷ steps) condition = condition_behind steps next
+condition_behind (Return kind ∷ steps) condition = condition_behind steps condition
 
 -- behind a rule, if there is one
 abbrev pub condition_behind_rule : Table → Option ℕ → ℕ → ℕ
@@ -96,8 +110,15 @@ joined_len table = joined_states table * joined_width table
 abbrev pub joined_entry : Table → ℕ × JoinedState → ℕ
 joined_entry table found = joined_number table found.1 * joined_width table * 8192 + found.0
 
+-- Of each code the step that gives an item: of a rule that of its action, and of a byte that no rule matches the echo.
+pub record AreGiven (table : Table) (given : List (Option Step)) : Type 0 where
+  pub long : length given ≡ length table.rules + 2
+  pub rules : (rule : ℕ) → rule < length table.rules → slice_index_or given (rule + 1) None ≡ giving (rule_at table rule).steps
+  pub echo : slice_index_or given (echoed table) None ≡ Some Echo
+
 -- Of each byte its column, and of each state row by row what has ended and the state behind, which is one of the joined table again.
-pub record IsJoined (table : Table) (columns entries : List ℕ) : Type 0 where
+pub record IsJoined (table : Table) (columns entries : List ℕ) (given : List (Option Step)) : Type 0 where
+  pub are_given : AreGiven table given
   pub bytes : length columns ≡ 256
   pub byte_columns : (b : ℕ) → b < 256 → slice_index columns b ≡ column_of table b
   pub below : (k : ℕ) → slice_index columns k < joined_width table

@@ -3,10 +3,10 @@
 ghost use Rattle.std.specs.Prelude.{if◌then◌else◌, ◌≡◌, ◌<◌, ◌≤◌, ◌+◌, ◌*◌, ◌/◌, ℕ, IfOk, OnOk, length, nat_eq, slice_index, Some};
 ghost use Rattle.std.specs.Option.{ForSome};
 ghost use Rattle.lx_automaton.specs.Automata.{state_count, accepted_at, class_target};
-ghost use Rattle.lx_tables.specs.Joined.{AreEntries, IsJoined, IsJoinedState, begun, class_of_column, column_of, condition_behind, condition_behind_rule, encoded, ended, joined_entry, joined_len, joined_number, joined_state_at, joined_states, joined_step, joined_width, rule_ended, target_from};
+ghost use Rattle.lx_tables.specs.Joined.{AreEntries, AreGiven, IsJoined, IsJoinedState, begun, class_of_column, column_of, condition_behind, condition_behind_rule, encoded, ended, giving, item_count, joined_entry, joined_len, joined_number, joined_state_at, joined_states, joined_step, joined_width, rule_ended, target_from};
 ghost use Rattle.lx_tables.specs.Model.{IsTable};
 
-use crate::joined::{ECHOED, Joined, JoinedState, UNTOLD};
+use crate::joined::{Joined, JoinedState, UNTOLD};
 use crate::tables::Tables;
 use lx_automaton::State;
 use lx_rules::rule::Step;
@@ -37,14 +37,45 @@ struct Ending {
     condition: u16,
 }
 
-// The condition behind an action of one step at most.
+// The condition behind an action.
 fn condition_behind_steps(steps: &[Step], condition: u16) -> u16
     ensures { result ≡ condition_behind steps.now condition }
 {
-    match steps.first() {
-        Some(Step::Begin(next)) => *next,
-        _ => condition,
+    let mut now = condition;
+    for step in steps {
+        if let Step::Begin(next) = step {
+            now = *next;
+        }
     }
+    now
+}
+
+// How many items an action gives.
+fn item_count(steps: &[Step]) -> usize
+    ensures count { result ≡ item_count steps.now }
+    ensures few { result ≤ length steps.now }
+{
+    let mut count = 0;
+    for step in steps {
+        match step {
+            Step::Begin(_) => {}
+            Step::Echo | Step::Return(_) => count += 1,
+        }
+    }
+    count
+}
+
+// The first step of an action that gives an item, if there is one.
+fn giving(steps: &[Step]) -> Option<Step>
+    ensures { result ≡ giving steps.now }
+{
+    for step in steps {
+        match step {
+            Step::Begin(_) => {}
+            Step::Echo | Step::Return(_) => return Some(*step),
+        }
+    }
+    None
 }
 
 // The code of a rule that has ended.
@@ -54,7 +85,7 @@ fn code_of_rule(tables: &Tables, rule: u16) -> u32
     ensures code { result ≡ rule_ended tables.now (Some rule) }
     ensures small { result < 8192 }
 {
-    if !tables.cut(rule) && tables.steps(rule).len() <= 1 {
+    if !tables.cut(rule) && item_count(tables.steps(rule)) <= 1 {
         u32::from(rule) + 1
     } else {
         UNTOLD
@@ -71,7 +102,7 @@ fn ending_in(tables: &Tables, q: JoinedState) -> Ending
     let condition = q.condition;
     let Some(state) = q.state else {
         return Ending {
-            code: ECHOED,
+            code: u32::from(tables.rules()) + 1,
             condition,
         };
     };
@@ -222,9 +253,22 @@ fn columns_of(alloc: Global, tables: &Tables) -> Result<Vec<u8>, AllocError>
     Ok(columns)
 }
 
+// Of each code the step that gives an item.
+fn given_of(alloc: Global, tables: &Tables) -> Result<Vec<Option<Step>>, AllocError>
+    ensures { IfOk result (λ given. AreGiven tables.now given.items) }
+{
+    let mut given = Vec::new(alloc);
+    given.push(None)?;
+    for rule in 0..tables.rules() {
+        given.push(giving(tables.steps(rule)))?;
+    }
+    given.push(Some(Step::Echo))?;
+    Ok(given)
+}
+
 // The joined table, unless it is too large.
 fn joined_of(alloc: Global, tables: &Tables) -> Result<Option<Joined>, AllocError>
-    ensures { IfOk result (λ joined. ForSome joined (λ j. IsJoined tables.now j.columns.items j.entries.items)) }
+    ensures { IfOk result (λ joined. ForSome joined (λ j. IsJoined tables.now j.columns.items j.entries.items j.given.items)) }
 {
     let width = usize::from(tables.classes());
     let states = usize::from(tables.conditions()) * 2 * (tables.states() as usize + 1);
@@ -233,7 +277,12 @@ fn joined_of(alloc: Global, tables: &Tables) -> Result<Option<Joined>, AllocErro
     }
     let columns = columns_of(alloc, tables)?;
     let entries = entries_of(alloc, tables, states)?;
-    Ok(Some(Joined { columns, entries }))
+    let given = given_of(alloc, tables)?;
+    Ok(Some(Joined {
+        columns,
+        entries,
+        given,
+    }))
 }
 
 impl Tables {

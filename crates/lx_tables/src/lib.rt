@@ -24,6 +24,6 @@ mod version;
 mod writing;
 
 pub use crate::fault::TableFault;
-pub use crate::joined::{ECHOED, Joined, JoinedState, UNTOLD};
+pub use crate::joined::{Joined, JoinedState, UNTOLD};
 pub use crate::tables::Tables;
 pub use lx_automaton::State;
