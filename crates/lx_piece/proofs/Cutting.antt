@@ -1,5 +1,5 @@
 -- Lists cut in two, and how many pieces a list makes.
-use Rattle.std.proofs.Common.{◌≡◌, ℕ, suc, ◌+◌, ◌-◌, ◌*◌, ◌<◌, ◌≤◌, Bool, true, false, inl, inr, List, [], ◌∷◌, ◌++◌, Option, Some, None, length, take, drop, nat_eq, if◌then◌else◌, is_some, not, refl, sym, ◌∙◌, ap, subst, arith, add-one, append-nil}
+use Rattle.std.proofs.Common.{◌≡◌, ℕ, suc, ◌+◌, ◌-◌, ◌*◌, ◌<◌, ◌≤◌, Bool, true, false, inl, inr, List, [], ◌∷◌, ◌++◌, Option, Some, None, length, take, drop, nat_eq, if◌then◌else◌, is_some, not, refl, sym, ◌∙◌, ap, subst, arith, add-one, append-nil, append_assoc}
 use Rattle.std.specs.Prelude.{All, IfNone}
 use Rattle.std.proofs.lemmas.List.Elements.{All-drop, All-take}
 use Rattle.lx_scan.specs.ItemParts.{IsItemOf}
@@ -11,6 +11,7 @@ use Rattle.std.proofs.Math.Seq.{drop-append_seam, take-append_seam}
 use Rattle.std.proofs.Math.Nat.{suc-mul, mul-le-mul_right}
 use Rattle.lx_tables.specs.Model.{Table}
 use Rattle.lx_scan.specs.Cursors.{IsInText, items_left, listed}
+use Rattle.lx_scan.specs.Ends.{Appends}
 use Rattle.lx_scan.specs.declared.cursor.Cursor.{Cursor}
 use Rattle.lx_scan.specs.declared.item.Item.{Item}
 use Rattle.lx_piece.specs.declared.piece.Mark.{Mark}
@@ -36,6 +37,16 @@ pub left_none : {X : Type 0} (xs ys all : List X) (most : ℕ) → xs ++ ys ≡ 
 left_none xs ys all most e none few =
     let whole : xs ≡ all = sym (append-nil xs) ∙ ap (λ l. xs ++ l) (sym none) ∙ e in
     ap (λ l. drop most l) (sym whole) ∙ drop_all most xs few
+
+-- items that were appended to a first one, until there were enough or none was left
+pub enough_rest : (first items ahead left : List Item) (most : ℕ) → Appends first items ahead left → length items ≤ most → (length items < most → left ≡ []) → left ≡ drop most (first ++ ahead)
+enough_rest first items ahead left most appends few end =
+    let whole : items ++ left ≡ first ++ ahead =
+        ap (λ xs. xs ++ left) appends.new_is ∙ append_assoc first appends.added left ∙ ap (λ xs. first ++ xs) (sym appends.left_is) in
+    elim (cases_lt (length items) most) [
+      | inl fewer ↦ end fewer ∙ sym (left_none items left (first ++ ahead) most whole (end fewer) few)
+      | inr enough ↦ sym (left_most items left (first ++ ahead) most whole (omega arith))
+    ]
 
 -- ---- how many pieces there are
 -- no more than so many where nothing is behind them

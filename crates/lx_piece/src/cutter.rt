@@ -1,6 +1,6 @@
 //! The pieces of a file, cut as they are asked for.
 
-ghost use Rattle.std.specs.Prelude.{if◌then◌else◌, ◌≡◌, ◌+◌, ◌<◌, ◌++◌, [], ℕ, List, drop, take, IfNone, IfOk, OnErr, MatchOption, None};
+ghost use Rattle.std.specs.Prelude.{if◌then◌else◌, ◌≡◌, ◌+◌, ◌<◌, ◌++◌, [], ℕ, List, drop, take, IfNone, IfOk, OnErr, OnOk, MatchOption, None};
 ghost use Rattle.lx_scan.specs.Cursors.{IsInText, items_left, listed};
 ghost use Rattle.lx_scan.specs.declared.item.Item.{Item};
 ghost use Rattle.lx_piece.specs.Cutting.{IsCutterOf, items_ahead};
@@ -14,6 +14,16 @@ use lx_scan::{Cursor, Item};
 use lx_tables::Tables;
 use std::alloc::{AllocError, Global};
 use std::marker::Model;
+
+// Appends an item, if there is one.
+fn push_some(item: Option<Item>, items: &mut Vec<Item>) -> Result<(), AllocError>
+    ensures { OnOk result (items.new.items ≡ items.old.items ++ listed item) }
+{
+    if let Some(item) = item {
+        items.push(item)?;
+    }
+    Ok(())
+}
 
 // Takes the items that are ahead, `most` at most, and gives the one behind them.
 fn take_items(
@@ -32,18 +42,9 @@ fn take_items(
     ensures rest { IfOk result (λ next. items_ahead tables.now text.now next cursor.new ≡ drop most (items_ahead tables.now text.now first cursor.old)) }
     ensures end { IfOk result (λ next. IfNone next (drop most (items_ahead tables.now text.now first cursor.old) ≡ [])) }
 {
-    let mut next = match first {
-        Some(item) => Some(item),
-        None => cursor.next_item(tables, text),
-    };
-    while items.len() < most {
-        let Some(item) = next else {
-            return Ok(None);
-        };
-        items.push(item)?;
-        next = cursor.next_item(tables, text);
-    }
-    Ok(next)
+    push_some(first, items)?;
+    cursor.next_items(tables, text, most, items)?;
+    Ok(cursor.next_item(tables, text))
 }
 
 // The mark of a piece: of the last one it is Cut where its file's reading failed, and else Whole.

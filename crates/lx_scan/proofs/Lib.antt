@@ -3,7 +3,9 @@ pub mod ByFits
 pub mod ByRuns
 pub mod Choosing
 pub mod Cursors
+pub mod Entries
 pub mod OneList
 pub mod Placing
+pub mod Runs
 pub mod Stepping
 pub mod Turns

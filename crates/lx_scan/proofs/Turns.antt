@@ -35,7 +35,7 @@ rest_none text p e =
     omega (arith, none, length-drop p text)
 
 -- ---- lines
-newlines_both : (xs ys : List ℕ) → newlines (xs ++ ys) ≡ newlines xs + newlines ys
+pub newlines_both : (xs ys : List ℕ) → newlines (xs ++ ys) ≡ newlines xs + newlines ys
 newlines_both [] ys = omega arith
 newlines_both (x ∷ xs) ys = let more = newlines_both xs ys in omega (arith, more)
 

@@ -1,18 +1,21 @@
 //! The items of a text one after the other.
 
-ghost use Rattle.std.specs.Prelude.{◌≡◌, ◌<◌, ◌++◌, ℕ, List, [], length, IfNone};
+ghost use Rattle.std.specs.Prelude.{◌≡◌, ◌<◌, ◌≤◌, ◌++◌, ℕ, List, [], length, IfNone, OnErr, OnOk};
 ghost use Rattle.std.specs.Option.{ForSome};
 ghost use Rattle.lx_tables.specs.Model.{IsTable, Table};
 ghost use Rattle.lx_scan.specs.Cursors.{IsInText, items_left, item_of_step, listed, steps_left};
-ghost use Rattle.lx_scan.specs.Items.{items_of, steps_at};
+ghost use Rattle.lx_scan.specs.Ends.{Appends, IsPlace};
+ghost use Rattle.lx_scan.specs.Items.{items_after, items_of, steps_at};
 ghost use Rattle.lx_scan.specs.Matching.{choice_in};
 ghost use Rattle.lx_scan.specs.Steps.{items_of_steps};
 
+use crate::appending::append_runs;
 use crate::item::Item;
 use crate::place::{Match, Place};
 use crate::scanner::next_match;
 use lx_rules::rule::Step;
 use lx_tables::Tables;
+use std::alloc::AllocError;
 
 /// Between two items of a text: at a match, with so many steps of its rule's action done, and before the place behind it.
 #[derive(Clone, Copy, Debug, PartialEq, Eq)]
@@ -39,7 +42,7 @@ pub(crate) fn steps_of_match(tables: &Tables, found: Match) -> &[Step]
 }
 
 // The item that a step gives of `len` bytes from `start`, which stands on this line.
-fn item_of(step: Step, line: u64, start: usize, len: usize) -> Option<Item>
+pub(crate) fn item_of(step: Step, line: u64, start: usize, len: usize) -> Option<Item>
     ensures { result ≡ item_of_step step line start len }
 {
     match step {
@@ -69,6 +72,23 @@ impl Cursor {
             line: 1,
             done: 1,
             place: Place::begin(),
+        }
+    }
+
+    // Before the first item from a place on.
+    fn at(place: Place) -> Cursor
+        ensures items { (table : Table) (text : List ℕ) → items_left table text result ≡ items_after table text place }
+        ensures in_text { (table : Table) (text : List ℕ) → IsPlace table text place → IsInText table text result }
+    {
+        Cursor {
+            found: Match {
+                rule: None,
+                start: 0,
+                len: 0,
+            },
+            line: 1,
+            done: 1,
+            place,
         }
     }
 
@@ -111,5 +131,59 @@ impl Cursor {
             item = self.next_at_match(tables);
         }
         item
+    }
+
+    // Goes on by the joined table as far as that tells the matches, unless steps are left at its match.
+    fn run_on(
+        &mut self,
+        tables: &Tables,
+        text: &[u8],
+        most: usize,
+        items: &mut Vec<Item>,
+    ) -> Result<(), AllocError>
+        requires in_text { IsInText tables.now text.now self.old }
+        requires few { length items.old.items ≤ most }
+        ensures in_text { IsInText tables.now text.now self.new }
+        ensures items { OnOk result (Appends items.old.items items.new.items (items_left tables.now text.now self.old) (items_left tables.now text.now self.new)) }
+        ensures most { OnOk result (length items.new.items ≤ most) }
+    {
+        // its contract says what holds of all tables
+        let _conditions = tables.conditions();
+        if self.done < steps_of_match(tables, self.found).len() {
+            return Ok(());
+        }
+        let place = append_runs(tables, text, self.place, most, items)?;
+        *self = Cursor::at(place);
+        Ok(())
+    }
+
+    /// Appends the next items to a list until it has `most`, or all of them where fewer are left. Most of them are found by the joined table,
+    /// without a jump for each match. AllocError where memory is refused: then the cursor is where it was, and the list may have some of the items.
+    pub fn next_items(
+        &mut self,
+        tables: &Tables,
+        text: &[u8],
+        most: usize,
+        items: &mut Vec<Item>,
+    ) -> Result<(), AllocError>
+        requires in_text { IsInText tables.now text.now self.old }
+        requires few { length items.old.items ≤ most }
+        ensures in_text { IsInText tables.now text.now self.new }
+        ensures items { OnOk result (Appends items.old.items items.new.items (items_left tables.now text.now self.old) (items_left tables.now text.now self.new)) }
+        ensures most { OnOk result (length items.new.items ≤ most) }
+        ensures end { OnOk result (length items.new.items < most → items_left tables.now text.now self.new ≡ []) }
+        ensures err { OnErr result (self.new ≡ self.old) }
+    {
+        let mut cursor = *self;
+        while items.len() < most {
+            let Some(item) = cursor.next_item(tables, text) else {
+                *self = cursor;
+                return Ok(());
+            };
+            items.push(item)?;
+            cursor.run_on(tables, text, most, items)?;
+        }
+        *self = cursor;
+        Ok(())
     }
 }

@@ -2,8 +2,10 @@
 #![tactic(auto)]
 
 pub mod answering;
+mod appending;
 mod choice;
 pub mod cursor;
+mod ends;
 pub mod item;
 pub mod lines;
 pub mod place;

@@ -114,9 +114,6 @@ pub fn scan(alloc: Global, tables: &Tables, text: &[u8]) -> Result<Vec<Item>, Al
     // its contract says that there is a condition
     let _conditions = tables.conditions();
     let mut items = Vec::new(alloc);
-    let mut cursor = Cursor::begin();
-    while let Some(item) = cursor.next_item(tables, text) {
-        items.push(item)?;
-    }
+    Cursor::begin().next_items(tables, text, usize::MAX, &mut items)?;
     Ok(items)
 }

@@ -7,7 +7,7 @@ use Rattle.lx_automaton.specs.Automata.{Machine, accepted_by, class_target}
 use Rattle.lx_automaton.specs.EncodedOptions.{decoded_option}
 use Rattle.lx_tables.specs.Numbered.{AreStarts, AreAccepted, AreRows, encoded_option_of, rule_below}
 
-same_row : (i j c d w : ℕ) → c < w → d < w → i * w + c ≡ j * w + d → (i ≡ j) × (c ≡ d)
+pub same_row : (i j c d w : ℕ) → c < w → d < w → i * w + c ≡ j * w + d → (i ≡ j) × (c ≡ d)
 same_row i j c d w hc hd e = elim (cases_lt i j) [
   | inl l ↦ let r = row_fits i w j w l (omega arith) in absurd (omega arith)
   | inr l ↦ elim (cases_lt j i) [

@@ -1,4 +1,5 @@
 pub mod Examples
+pub mod Joined
 pub mod Limits
 pub mod Lines
 pub mod Model

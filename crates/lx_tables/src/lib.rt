@@ -6,6 +6,8 @@ mod copying;
 pub mod examples;
 mod fault;
 mod fields;
+pub mod joined;
+pub mod joining;
 mod lenient;
 mod limits;
 mod lines;
@@ -22,5 +24,6 @@ mod version;
 mod writing;
 
 pub use crate::fault::TableFault;
+pub use crate::joined::{Joined, JoinedState, UNTOLD};
 pub use crate::tables::Tables;
 pub use lx_automaton::State;

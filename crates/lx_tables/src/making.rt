@@ -34,6 +34,7 @@ impl Tables {
         let rules = rules_of(alloc, spec)?;
         let width = usize::from(automaton.classes());
         let reordered = Automaton::of(starts, classes, width, accepted, targets);
-        Ok(Tables::of_parts(reordered, kinds, rules))
+        let tables = Tables::of_parts(reordered, kinds, rules).with_joined(alloc)?;
+        Ok(tables)
     }
 }

@@ -78,6 +78,7 @@ impl Tables {
         if !is_text_of(alloc, &tables, text)? {
             return Err(TableFault::NoTables);
         }
+        let tables = tables.with_joined(alloc)?;
         Ok(tables)
     }
 }

@@ -1,12 +1,15 @@
 //! Tables of a scanner in memory: an automaton over byte classes, kinds, and what rules do.
 
 ghost use Rattle.std.specs.Prelude.{◌≡◌, ◌<◌, ◌≤◌, length, IfSome, option_map, slice_index};
+ghost use Rattle.std.specs.Option.{ForSome};
 ghost use Rattle.lx_rules.specs.views.Rules.{names_view};
 ghost use Rattle.lx_automaton.specs.Automata.{state_count, start_of, accepted_by, class_target, target_of};
 ghost use Rattle.lx_automaton.specs.EncodedOptions.{decoded_option};
+ghost use Rattle.lx_tables.specs.Joined.{IsJoined};
 ghost use Rattle.lx_tables.specs.Model.{Table, IsTable, AreByteClasses, rule_at, kind_at};
 ghost use Rattle.lx_tables.specs.Views.{rules_view};
 
+use crate::joined::Joined;
 use crate::table_rule::TableRule;
 use lx_automaton::{Automaton, State};
 use lx_rules::rule::Step;
@@ -20,6 +23,8 @@ pub struct Tables {
     /// The names of the kinds.
     pub(crate) kinds: Vec<Vec<u8>>,
     pub(crate) rules: Vec<TableRule>,
+    // What the others say once more, for speed: no contract tells whether it is there.
+    pub(crate) joined: Option<Joined>,
 }
 
 impl Model for Tables {
@@ -27,7 +32,7 @@ impl Model for Tables {
 
     ghost view = { λ t. record { machine = t.automaton; kinds = names_view t.kinds.items; rules = rules_view t.rules.items } };
 
-    ghost invariant = { λ t. IsTable (record { machine = t.automaton; kinds = names_view t.kinds.items; rules = rules_view t.rules.items }) };
+    ghost invariant = { λ t. IsTable (record { machine = t.automaton; kinds = names_view t.kinds.items; rules = rules_view t.rules.items }) × ForSome t.joined (λ j. IsJoined (record { machine = t.automaton; kinds = names_view t.kinds.items; rules = rules_view t.rules.items }) j.columns.items j.entries.items j.given.items) };
 }
 
 impl Tables {
@@ -44,6 +49,7 @@ impl Tables {
             automaton,
             kinds,
             rules,
+            joined: None,
         }
     }
 
@@ -155,5 +161,12 @@ impl Tables {
         ensures below { result < self.now.machine.width }
     {
         self.automaton.class(byte)
+    }
+
+    /// The joined table of the same automaton and rules, if it is kept.
+    pub fn joined(&self) -> Option<&Joined>
+        ensures { IfSome result (λ j. IsJoined self.now j.now.columns.items j.now.entries.items j.now.given.items) }
+    {
+        self.joined.as_ref()
     }
 }

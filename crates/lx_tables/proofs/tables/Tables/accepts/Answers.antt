@@ -4,4 +4,4 @@ use Rattle.lx_tables.proofs.tables.Tables.accepts.Goals as goal
 
 pub returns-clause-below : goal.returns-clause-below
 returns-clause-below c =
-    rw (← c.self.view_is) (if_some c.accepts.result _ (λ r e. c.self.invariant.accepted c.args.state.0 r (sym c.accepts.ensures ∙ e)))
+    rw (← c.self.view_is) (if_some c.accepts.result _ (λ r e. c.self.invariant.0.accepted c.args.state.0 r (sym c.accepts.ensures ∙ e)))

@@ -1,0 +1,68 @@
+use Rattle.std.proofs.Common.{◌≡◌, ◌+◌, ◌*◌, ◌/◌, ◌%◌, ◌≤◌, ◌<◌, ℕ, List, length, take, nat_eq, if◌then◌else◌, refl, sym, ap, subst, ◌∙◌, arith}
+use Rattle.std.specs.Prelude.{slice_index, slice_set}
+use Rattle.std.proofs.lemmas.List.{length-set}
+use Rattle.lx_tables.specs.Joined.{IsJoinedState, begun, joined_number, joined_width}
+use Rattle.lx_tables.specs.declared.joined.JoinedState.{JoinedState}
+use Rattle.lx_scan.specs.declared.ends.End.{End}
+use Rattle.lx_scan.proofs.Runs.{Runs, runs_begun, runs_behind, runs_turn}
+use Rattle.lx_scan.proofs.ends.find_ends.Goals as goal
+
+pub loop-offset-init : goal.loop-offset-init
+loop-offset-init c =
+    let table = c.args.tables.now in
+    let text = c.args.text.now in
+    let place = c.args.place in
+    let byte = slice_index text place.offset in
+    let is_begun : c.begun-begun.result ≡ begun table place.condition place.at_line_begin (slice_index table.machine.classes byte) (nat_eq byte 10)
+    = c.begun-begun.ensures.state ∙ ap (λ (n : ℕ). begun table place.condition place.at_line_begin n (nat_eq byte 10)) c.class-class.ensures.class in
+    let within = c.row-row.ensures.within in
+    let long = c.requires.joined.long in
+    let entries = c.as_slice-entries.ensures.value in
+    let same : length c.as_slice-entries.result.now ≡ length c.args.joined.now.entries.items = ap length entries in
+    let few = c.newline.ensures.few in
+    let line_few = c.requires.place.line_few in
+    record {
+      runs = runs_begun table text place byte (place.line + c.newline.result) c.row-row.result c.requires.place c.requires.more refl
+          (subst (λ (q : JoinedState). IsJoinedState table q) is_begun c.begun-begun.ensures.known)
+          (c.row-row.ensures.row ∙ ap (λ (q : JoinedState). joined_number table q * joined_width table) is_begun)
+          (ap (λ n. place.line + n) c.newline.ensures.value);
+      count = omega arith;
+      row = omega arith;
+      line = omega arith;
+    }
+
+pub loop-offset-preserved : goal.loop-offset-preserved
+loop-offset-preserved c =
+    let table = c.args.tables.now in
+    let text = c.args.text.now in
+    let loop = c.loop-offset in
+    let byte = slice_index text loop.offset in
+    let small = c.type_inv.text loop.offset in
+    let entry = c.entry_at-entry.result in
+    let columns_are = c.as_slice-columns.ensures.value in
+    let entries_are = c.as_slice-entries.ensures.value in
+    let entry_is : entry ≡ slice_index c.args.joined.now.entries.items (loop.row + slice_index c.args.joined.now.columns.items byte)
+    = c.entry_at-entry.ensures ∙ ap (λ (xs : List ℕ). slice_index xs (loop.row + slice_index c.as_slice-columns.result.now byte)) entries_are
+    ∙ ap (λ (xs : List ℕ). slice_index c.args.joined.now.entries.items (loop.row + slice_index xs byte)) columns_are in
+    let runs = runs_turn table c.requires.table c.args.joined.now.columns.items c.args.joined.now.entries.items c.requires.joined text c.args.place loop.ends loop.count loop.offset loop.line loop.row byte entry c.ending-count.result
+    loop.invariant.runs c.loop-offset-test.true refl (omega arith) entry_is c.if-count-ends.true c.if-code-eq-UNTOLD.false c.ending-count.ensures.value in
+    let row : slice_index c.args.joined.now.entries.items (loop.row + slice_index c.args.joined.now.columns.items byte) / 8192 + joined_width table ≤ length c.args.joined.now.entries.items
+    = c.requires.joined.rows (loop.row + slice_index c.args.joined.now.columns.items byte) in
+    let same : length c.as_slice-entries.result.now ≡ length c.args.joined.now.entries.items = ap length entries_are in
+    let div : entry / 8192 ≡ slice_index c.args.joined.now.entries.items (loop.row + slice_index c.args.joined.now.columns.items byte) / 8192 = ap (λ n. n / 8192) entry_is in
+    let kept = length-set loop.ends loop.count (let e : End = record { code = entry % 8192; offset = loop.offset; line = loop.line } in e) in
+    let one = c.ending-count.ensures.few in
+    let line_one = c.newline-line.ensures.few in
+    let line_few = loop.invariant.line in
+    let room = c.if-count-ends.true in
+    record {
+      runs = subst (λ (n : ℕ). Runs table text c.args.place (take (loop.count + c.ending-count.result) (slice_set loop.ends loop.count (record { code = entry % 8192; offset = loop.offset; line = loop.line }))) (loop.offset + 1) (loop.line + n) (entry / 8192)) (sym c.newline-line.ensures.value) runs;
+      count = omega arith;
+      row = omega arith;
+      line = omega arith;
+    }
+
+pub returns-clause-ends : goal.returns-clause-ends
+returns-clause-ends c = λ some.
+    runs_behind c.args.tables.now c.args.text.now c.args.place c.loop-offset.ends c.loop-offset.count c.loop-offset.offset c.loop-offset.line c.loop-offset.row c.condition_of_row.result
+    c.loop-offset.invariant.runs c.loop-offset.invariant.count c.condition_of_row.ensures some

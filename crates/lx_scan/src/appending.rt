@@ -1,0 +1,143 @@
+//! The items of a text by the joined table, appended to a list.
+
+ghost use Rattle.std.specs.Prelude.{◌≡◌, ◌<◌, ◌≤◌, ◌+◌, ◌-◌, ◌++◌, IfOk, OnOk, MatchOption, length};
+ghost use Rattle.std.specs.Option.{ForSome};
+ghost use Rattle.lx_tables.specs.Joined.{IsJoined};
+ghost use Rattle.lx_tables.specs.Model.{IsTable};
+ghost use Rattle.lx_scan.specs.Cursors.{listed};
+ghost use Rattle.lx_scan.specs.Ends.{AreEnds, Appends, IsEnd, IsPlace, end_of, items_of_ends, line_of, rule_of_code, steps_of_code};
+ghost use Rattle.lx_scan.specs.Items.{items_after};
+ghost use Rattle.lx_scan.specs.Steps.{items_of_steps};
+
+use crate::cursor::item_of;
+use crate::ends::{End, find_ends};
+use crate::item::Item;
+use crate::place::Place;
+use lx_rules::rule::Step;
+use lx_tables::{ECHOED, Joined, Tables};
+use std::alloc::AllocError;
+
+// So many ends are found at once.
+const ENDS: usize = 128;
+
+// What is done where a match has ended.
+#[inline(always)]
+fn steps_of_end(tables: &Tables, code: u32) -> &[Step]
+    requires table { IsTable tables.now }
+    requires some { 0 < code }
+    requires rule { ForSome (rule_of_code code) (λ i. i < length tables.now.rules) }
+    ensures { result.now ≡ steps_of_code tables.now code }
+{
+    if code == ECHOED {
+        &[Step::Echo]
+    } else {
+        tables.steps((code - 1) as u16)
+    }
+}
+
+// The item of a match that has ended, if its rule gives one.
+#[inline(always)]
+fn item_of_end(tables: &Tables, end: End, start: usize, line: u64) -> Option<Item>
+    requires table { IsTable tables.now }
+    requires end { IsEnd tables.now start end }
+    ensures { listed result ≡ items_of_steps (steps_of_code tables.now end.code) line start (end.offset - start) }
+{
+    match steps_of_end(tables, end.code).first() {
+        Some(step) => item_of(*step, line, start, end.offset - start),
+        None => None,
+    }
+}
+
+// Appends the items of matches one behind the other, and gives where the last one ended, and the line there.
+fn push_items(
+    tables: &Tables,
+    ends: &[End],
+    from: Place,
+    items: &mut Vec<Item>,
+) -> Result<(usize, u64), AllocError>
+    requires table { IsTable tables.now }
+    requires ends { AreEnds tables.now from.offset ends.now }
+    ensures items { OnOk result (items.new.items ≡ items.old.items ++ items_of_ends tables.now from.offset from.line ends.now) }
+    ensures few { OnOk result (length items.new.items ≤ length items.old.items + length ends.now) }
+    ensures offset { IfOk result (λ end. end.0 ≡ end_of from.offset ends.now) }
+    ensures line { IfOk result (λ end. end.1 ≡ line_of from.line ends.now) }
+{
+    let mut rest = ends;
+    let mut start = from.offset;
+    let mut line = from.line;
+    while let Some((end, more)) = rest.split_first() {
+        if let Some(item) = item_of_end(tables, *end, start, line) {
+            items.push(item)?;
+        }
+        start = end.offset;
+        line = end.line;
+        rest = more;
+    }
+    Ok((start, line))
+}
+
+// Appends the items of the matches that the joined table tells from a place on, and gives the place behind them; None where it tells none. For
+// as many matches as there is room for ends.
+fn append_run(
+    tables: &Tables,
+    joined: &Joined,
+    text: &[u8],
+    from: Place,
+    ends: &mut [End],
+    items: &mut Vec<Item>,
+) -> Result<Option<Place>, AllocError>
+    requires table { IsTable tables.now }
+    requires joined { IsJoined tables.now joined.now.columns.items joined.now.entries.items }
+    requires place { IsPlace tables.now text.now from }
+    requires more { from.offset < length text.now }
+    ensures items { IfOk result (λ next. MatchOption next (items.new.items ≡ items.old.items)
+        (λ place. (from.offset < place.offset) × IsPlace tables.now text.now place × Appends items.old.items items.new.items (items_after tables.now text.now from) (items_after tables.now text.now place))) }
+    ensures few { OnOk result (length items.new.items ≤ length items.old.items + length ends.old) }
+{
+    let run = find_ends(tables, joined, text, from, ends);
+    if run.count == 0 {
+        return Ok(None);
+    }
+    let (offset, line) = push_items(tables, &ends[..run.count], from, items)?;
+    Ok(Some(Place {
+        offset,
+        condition: run.condition,
+        at_line_begin: text[offset - 1] == b'\n',
+        line,
+    }))
+}
+
+/// Appends the items of the matches from a place on, until the list has `most` items or the joined table tells no further match, and gives the
+/// place behind them.
+pub(crate) fn append_runs(
+    tables: &Tables,
+    text: &[u8],
+    from: Place,
+    most: usize,
+    items: &mut Vec<Item>,
+) -> Result<Place, AllocError>
+    requires table { IsTable tables.now }
+    requires place { IsPlace tables.now text.now from }
+    requires few { length items.old.items ≤ most }
+    ensures place { IfOk result (λ next. IsPlace tables.now text.now next) }
+    ensures items { IfOk result (λ next. Appends items.old.items items.new.items (items_after tables.now text.now from) (items_after tables.now text.now next)) }
+    ensures most { OnOk result (length items.new.items ≤ most) }
+{
+    let Some(joined) = tables.joined() else {
+        return Ok(from);
+    };
+    let mut ends = [End {
+        code: 0,
+        offset: 0,
+        line: 0,
+    }; ENDS];
+    let mut place = from;
+    while place.offset < text.len() && items.len() < most {
+        let room = ENDS.min(most - items.len());
+        let Some(next) = append_run(tables, joined, text, place, &mut ends[..room], items)? else {
+            return Ok(place);
+        };
+        place = next;
+    }
+    Ok(place)
+}
