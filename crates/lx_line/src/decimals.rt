@@ -1,0 +1,125 @@
+//! Decimal numbers, with the digits kept that numbers near one another share.
+
+ghost use Rattle.std.specs.Prelude.{◌≡◌, ◌+◌, ◌-◌, ◌*◌, ◌/◌, ◌%◌, ◌^◌, ◌<◌, ◌≤◌, ◌++◌, codes, decimal, length, take, drop};
+ghost use Rattle.lx_line.specs.Decimals.{leading, pair};
+ghost use Rattle.lx_line.specs.Placed.{Placed};
+
+use crate::place::{place_4, place_16};
+use itoa::write_digits;
+
+// The two digits of each number below 100, and two spaces. Four bytes more can be read behind the last.
+static PAIRS: [u8; 404] =
+    *b"00  01  02  03  04  05  06  07  08  09  10  11  12  13  14  15  16  17  18  19  20  21  22  23  24  25  26  27  28  29  30  31  32  33  34  35  36  37  38  39  40  41  42  43  44  45  46  47  48  49  50  51  52  53  54  55  56  57  58  59  60  61  62  63  64  65  66  67  68  69  70  71  72  73  74  75  76  77  78  79  80  81  82  83  84  85  86  87  88  89  90  91  92  93  94  95  96  97  98  99      ";
+
+// The digits of a number below 100 without the first `skip`, and a space.
+#[inline(always)]
+fn place_pair(buf: &mut [u8], at: usize, number: usize, skip: usize) -> usize
+    requires room { at + 4 ≤ length buf.old }
+    requires number { number < 100 }
+    requires skip { skip ≤ 1 }
+    ensures { Placed buf.old buf.new at (drop skip (pair number) ++ codes " ") result }
+{
+    place_4(buf, at, &PAIRS, number * 4 + skip, 3 - skip)
+}
+
+/// A number below 100, and a space.
+#[inline(always)]
+pub fn place_short(buf: &mut [u8], at: usize, number: usize) -> usize
+    requires room { at + 4 ≤ length buf.old }
+    requires number { number < 100 }
+    ensures { Placed buf.old buf.new at (decimal number ++ codes " ") result }
+{
+    let skip = skipped(0, number as u64);
+    place_pair(buf, at, number, skip)
+}
+
+// How many of the last two digits aren't of the number.
+#[inline(always)]
+fn skipped(base: u64, low: u64) -> usize
+    ensures one { base ≡ 0 → low < 10 → result ≡ 1 }
+    ensures two { base ≡ 0 → 10 ≤ low → result ≡ 0 }
+    ensures more { 0 < base → result ≡ 0 }
+{
+    if base == 0 && low < 10 { 1 } else { 0 }
+}
+
+// Where the digits end that are kept: so many a number of 64 bits has at most.
+const END: usize = 20;
+
+/// The most that a number may be.
+pub const MOST: u64 = 999_999_999_999_999_999;
+
+/// The digits of a number above its last two. A number near it has the same, so that it needs but two new ones.
+#[derive(Clone, Copy, Drop)]
+pub struct KeptDigits {
+    // The number, with zeros for its last two digits.
+    base: u64,
+    // They end at END. Sixteen bytes can be read wherever they begin.
+    digits: [u8; 36],
+    from: usize,
+    ghost small: { base < 10 ^ 18 },
+    ghost hundreds: { base % 100 ≡ 0 },
+    ghost within: { from ≤ 20 },
+    ghost few: { 20 ≤ from + 16 },
+    ghost kept: { take (20 - from) (drop from digits) ≡ leading (base / 100) },
+}
+
+impl KeptDigits {
+    /// Those of 0.
+    pub fn new() -> KeptDigits
+        ensures { result.base ≡ 0 }
+    {
+        KeptDigits {
+            base: 0,
+            digits: [0; 36],
+            from: END,
+        }
+    }
+
+    #[cold]
+    #[inline(never)]
+    fn near(number: u64) -> KeptDigits
+        requires { number < 10 ^ 18 }
+        ensures { result.base + number % 100 ≡ number }
+    {
+        let high = number / 100;
+        if high == 0 {
+            return KeptDigits::new();
+        }
+        let mut digits = [0; 36];
+        let from = write_digits(high, &mut digits, END);
+        KeptDigits {
+            base: high * 100,
+            digits,
+            from,
+        }
+    }
+
+    // What a number has beyond the one whose digits are kept; they are those of a number near it, or become them.
+    #[inline(always)]
+    fn follow(&mut self, number: u64) -> u64
+        requires { number < 10 ^ 18 }
+        ensures sum { self.new.base + result ≡ number }
+        ensures near { result < 100 }
+    {
+        let low = number.wrapping_sub(self.base);
+        if low < 100 {
+            return low;
+        }
+        *self = KeptDigits::near(number);
+        number % 100
+    }
+
+    /// A number and a space.
+    #[inline(always)]
+    pub fn place(&mut self, buf: &mut [u8], at: usize, number: u64) -> usize
+        requires room { at + 20 ≤ length buf.old }
+        requires number { number ≤ MOST }
+        ensures { Placed buf.old buf.new at (decimal number ++ codes " ") result }
+    {
+        let low = self.follow(number);
+        let skip = skipped(self.base, low);
+        let end = place_16(buf, at, &self.digits, self.from, END - self.from);
+        place_pair(buf, end, low as usize, skip)
+    }
+}
