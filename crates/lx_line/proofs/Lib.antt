@@ -1,3 +1,6 @@
+pub mod Behind
 pub mod Digits
+pub mod Fronted
+pub mod Lined
 pub mod Places
-pub mod Plain
+pub mod Unescaped

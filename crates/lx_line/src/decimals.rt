@@ -17,7 +17,8 @@ fn place_pair(buf: &mut [u8], at: usize, number: usize, skip: usize) -> usize
     requires room { at + 4 ≤ length buf.old }
     requires number { number < 100 }
     requires skip { skip ≤ 1 }
-    ensures { Placed buf.old buf.new at (drop skip (pair number) ++ codes " ") result }
+    ensures placed { Placed buf.old buf.new at (drop skip (pair number) ++ codes " ") result }
+    ensures short { result ≤ at + 3 }
 {
     place_4(buf, at, &PAIRS, number * 4 + skip, 3 - skip)
 }
@@ -27,7 +28,8 @@ fn place_pair(buf: &mut [u8], at: usize, number: usize, skip: usize) -> usize
 pub fn place_short(buf: &mut [u8], at: usize, number: usize) -> usize
     requires room { at + 4 ≤ length buf.old }
     requires number { number < 100 }
-    ensures { Placed buf.old buf.new at (decimal number ++ codes " ") result }
+    ensures placed { Placed buf.old buf.new at (decimal number ++ codes " ") result }
+    ensures short { result ≤ at + 3 }
 {
     let skip = skipped(0, number as u64);
     place_pair(buf, at, number, skip)
@@ -115,7 +117,8 @@ impl KeptDigits {
     pub fn place(&mut self, buf: &mut [u8], at: usize, number: u64) -> usize
         requires room { at + 20 ≤ length buf.old }
         requires number { number ≤ MOST }
-        ensures { Placed buf.old buf.new at (decimal number ++ codes " ") result }
+        ensures placed { Placed buf.old buf.new at (decimal number ++ codes " ") result }
+        ensures short { result ≤ at + 19 }
     {
         let low = self.follow(number);
         let skip = skipped(self.base, low);

@@ -1,6 +1,14 @@
-//! The parts of a listing's lines, placed behind one another in a buffer.
+//! The lines of a listing.
 #![tactic(auto)]
 
-pub mod decimals;
-pub mod place;
-pub mod texts;
+mod decimals;
+mod draft;
+mod fields;
+mod fronts;
+mod lines;
+mod place;
+mod plain;
+mod texts;
+
+pub use lines::push_lines;
+pub use plain::push_cut_line;

@@ -14,6 +14,16 @@ pub fn place_byte(buf: &mut [u8], at: usize, byte: u8) -> usize
     at + 1
 }
 
+/// A whole text.
+pub fn place_all(buf: &mut [u8], at: usize, text: &[u8]) -> usize
+    requires { at + length text.now ≤ length buf.old }
+    ensures { Placed buf.old buf.new at text.now result }
+{
+    let end = at + text.len();
+    buf[at..end].copy_from_slice(text);
+    end
+}
+
 /// The first `len` of 4 bytes from a place of the source.
 #[inline(always)]
 pub fn place_4(buf: &mut [u8], at: usize, src: &[u8], from: usize, len: usize) -> usize

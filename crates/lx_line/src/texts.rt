@@ -21,7 +21,8 @@ pub fn plain_16(src: &[u8], from: usize) -> usize
     is_escaped.to_bitmask().trailing_zeros() as usize
 }
 
-fn hex_digit(n: u8) -> u8
+/// An upper-case hexadecimal digit.
+pub fn hex_digit(n: u8) -> u8
     requires { n < 16 }
     ensures { result ≡ hex_digit n }
 {
@@ -31,7 +32,8 @@ fn hex_digit(n: u8) -> u8
 // A byte as it is escaped.
 fn place_escaped(buf: &mut [u8], at: usize, byte: u8) -> usize
     requires { at + 4 ≤ length buf.old }
-    ensures { Placed buf.old buf.new at (escaped byte) result }
+    ensures placed { Placed buf.old buf.new at (escaped byte) result }
+    ensures short { result ≤ at + 4 }
 {
     if byte != b'\\' && matches!(byte, b' '..=b'~') {
         return place_byte(buf, at, byte);
@@ -48,7 +50,8 @@ fn place_escaped(buf: &mut [u8], at: usize, byte: u8) -> usize
 // A text byte by byte.
 fn place_escapes(buf: &mut [u8], at: usize, text: &[u8]) -> usize
     requires { at + 4 * length text.now ≤ length buf.old }
-    ensures { Placed buf.old buf.new at (flat_map escaped text.now) result }
+    ensures placed { Placed buf.old buf.new at (flat_map escaped text.now) result }
+    ensures short { result ≤ at + 4 * length text.now }
 {
     let mut end = at;
     for byte in text {
@@ -62,7 +65,8 @@ fn place_escapes(buf: &mut [u8], at: usize, text: &[u8]) -> usize
 fn place_long(buf: &mut [u8], at: usize, bytes: &[u8], start: usize, len: usize) -> usize
     requires text { start + len + 16 ≤ length bytes.now }
     requires room { at + 4 * len + 16 ≤ length buf.old }
-    ensures { Placed buf.old buf.new at (flat_map escaped (take len (drop start bytes.now))) result }
+    ensures placed { Placed buf.old buf.new at (flat_map escaped (take len (drop start bytes.now))) result }
+    ensures short { result ≤ at + 4 * len }
 {
     let mut done = 0;
     while done < len {
@@ -81,7 +85,8 @@ fn place_long(buf: &mut [u8], at: usize, bytes: &[u8], start: usize, len: usize)
 pub fn place_text(buf: &mut [u8], at: usize, bytes: &[u8], start: usize, len: usize) -> usize
     requires text { start + len + 16 ≤ length bytes.now }
     requires room { at + 4 * len + 16 ≤ length buf.old }
-    ensures { Placed buf.old buf.new at (flat_map escaped (take len (drop start bytes.now))) result }
+    ensures placed { Placed buf.old buf.new at (flat_map escaped (take len (drop start bytes.now))) result }
+    ensures short { result ≤ at + 4 * len }
 {
     if len <= 16 && len <= plain_16(bytes, start) {
         return place_16(buf, at, bytes, start, len);

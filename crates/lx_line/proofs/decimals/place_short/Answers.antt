@@ -2,7 +2,7 @@ use Rattle.lx_line.proofs.Digits.{short_text}
 use Rattle.lx_line.proofs.Places.{Placed-is}
 use Rattle.lx_line.proofs.decimals.place_short.Goals as goal
 
-pub returns : goal.returns
-returns c =
+pub returns-clause-placed : goal.returns-clause-placed
+returns-clause-placed c =
     let s = c.skipped-skip.ensures in
-    Placed-is c.place_pair.ensures (short_text c.args.number c.skipped-skip.result c.requires.number (record { one = s.one; two = s.two; more = s.more }))
+    Placed-is c.place_pair.ensures.placed (short_text c.args.number c.skipped-skip.result c.requires.number (record { one = s.one; two = s.two; more = s.more }))

@@ -1,5 +1,5 @@
 use Rattle.std.proofs.Common.{drop, length-drop, arith}
-use Rattle.lx_line.proofs.Plain.{plain_lanes}
+use Rattle.lx_line.proofs.Unescaped.{plain_lanes}
 use Rattle.lx_line.proofs.texts.plain_16.Goals as goal
 
 pub returns : goal.returns

@@ -1,22 +1,19 @@
+//! Lines made field by field: the plain way, for every line.
+
 ghost use Rattle.std.specs.Prelude.{◌≡◌, ◌<◌, ◌≤◌, ◌++◌, All, OnOk, codes, decimal, length, take};
 ghost use Rattle.std.specs.List.{flat_map};
 ghost use Rattle.lx_scan.specs.ItemParts as parts;
 ghost use Rattle.lx_scan.specs.ItemParts.{start_of, len_of, IsItemOf, IsKindAmong, NamesKindAmong};
 ghost use Rattle.lx_piece.specs.Plans.{files_of, bytes_of, kinds_of};
-ghost use Rattle.lx_lines.specs.Lines.{hex_digit, escaped, class_text, name_text, kind_text, line_of, lines_of, cut_line};
+ghost use Rattle.lx_line.specs.Escapes.{escaped};
+ghost use Rattle.lx_line.specs.Lines.{class_text, name_text, kind_text, line_of, cut_line};
 
+use crate::texts::hex_digit;
 use itoa::Buffer;
 use lx_piece::Plan;
 use lx_rules::rule::Kind;
 use lx_scan::Item;
 use std::alloc::AllocError;
-
-fn hex_digit(n: u8) -> u8
-    requires { n < 16 }
-    ensures { result ≡ hex_digit n }
-{
-    if n < 10 { b'0' + n } else { b'A' + (n - 10) }
-}
 
 fn push_escaped(line: &mut Vec<u8>, byte: u8) -> Result<(), AllocError>
     ensures { OnOk result (line.new.items ≡ line.old.items ++ escaped byte) }
@@ -118,7 +115,12 @@ fn line_number(item: &Item) -> u64
 }
 
 /// Puts the line of an item of a file behind what the block holds. Where memory is refused a part of it stands there.
-fn push_line(block: &mut Vec<u8>, plan: &Plan, file: u32, item: &Item) -> Result<(), AllocError>
+pub(crate) fn push_line(
+    block: &mut Vec<u8>,
+    plan: &Plan,
+    file: u32,
+    item: &Item,
+) -> Result<(), AllocError>
     requires file { file < files_of plan.now }
     requires item { IsItemOf (kinds_of plan.now) (bytes_of plan.now file) item.now }
     ensures { OnOk result (block.new.items ≡ block.old.items ++ line_of plan.now file item.now) }
@@ -133,25 +135,8 @@ fn push_line(block: &mut Vec<u8>, plan: &Plan, file: u32, item: &Item) -> Result
     block.extend_from_slice(b"\n")
 }
 
-/// Puts the lines of items of a file behind what the block holds.
-pub(crate) fn push_lines(
-    block: &mut Vec<u8>,
-    plan: &Plan,
-    file: u32,
-    items: &[Item],
-) -> Result<(), AllocError>
-    requires file { file < files_of plan.now }
-    requires items { All (IsItemOf (kinds_of plan.now) (bytes_of plan.now file)) items.now }
-    ensures { OnOk result (block.new.items ≡ block.old.items ++ lines_of plan.now file items.now) }
-{
-    for item in items {
-        push_line(block, plan, file, item)?;
-    }
-    Ok(())
-}
-
 /// Puts the line of a file whose reading failed behind what the block holds.
-pub(crate) fn push_cut_line(block: &mut Vec<u8>, file: u32) -> Result<(), AllocError>
+pub fn push_cut_line(block: &mut Vec<u8>, file: u32) -> Result<(), AllocError>
     ensures { OnOk result (block.new.items ≡ block.old.items ++ cut_line file) }
 {
     push_number(block, u64::from(file))?;

@@ -1,7 +1,7 @@
 use Rattle.std.proofs.Common.{◌∙◌, ◌++◌, decimal, ap}
 use Rattle.std.specs.Prelude.{codes}
-use Rattle.lx_lines.proofs.Behind.{behind_ok}
-use Rattle.lx_lines.proofs.line.push_cut_line.Goals as goal
+use Rattle.lx_line.proofs.Behind.{behind_ok}
+use Rattle.lx_line.proofs.plain.push_cut_line.Goals as goal
 
 pub returns : goal.returns
 returns c =

@@ -3,9 +3,10 @@ use Rattle.std.specs.Prelude.{codes}
 use Rattle.std.specs.List.{flat_map}
 use Rattle.lx_scan.specs.ItemParts.{line_of as line_number, start_of, len_of, text_of}
 use Rattle.lx_piece.specs.Plans.{bytes_of}
-use Rattle.lx_lines.specs.Lines.{class_text, escaped, kind_text}
-use Rattle.lx_lines.proofs.Behind.{behind, behind_ok, behind_two, number_behind}
-use Rattle.lx_lines.proofs.line.push_line.Goals as goal
+use Rattle.lx_line.specs.Escapes.{escaped}
+use Rattle.lx_line.specs.Lines.{class_text, kind_text}
+use Rattle.lx_line.proofs.Behind.{behind, behind_ok, behind_two, number_behind}
+use Rattle.lx_line.proofs.plain.push_line.Goals as goal
 
 -- field by field
 pub returns : goal.returns
