@@ -9,7 +9,10 @@ import translation
 from measuring import TOP, ending, run_once
 
 TOOLS = ["flex", "re2c", "gcc"]
-PEERS = {"flex -CF": translation.flex_text, "flex -Cem": translation.flex_text, "re2c": translation.re2c_text, "re2c -b": translation.re2c_text}
+PEERS = {"flex -CF": translation.flex_text, "flex -Cf": translation.flex_text, "re2c": translation.re2c_text, "re2c -b": translation.re2c_text}
+# Without line directives; and for the processors for which lx is built.
+PLAIN_SOURCE = {"flex": ["-L"], "re2c": ["-i", "--no-debug-info"]}
+COMPILER = ["gcc", "-O3", "-march=x86-64-v2"]
 
 
 class Failed(Exception):
@@ -29,8 +32,8 @@ def build_peer(peer, specification, folder):
     program = folder / peer.replace(" ", "")
     rules, source = program.with_suffix(f".{tool}"), program.with_suffix(".c")
     rules.write_text(PEERS[peer](specification))
-    subprocess.run([tool, *tables, "-o", source, rules], check=True)
-    subprocess.run(["gcc", "-O2", "-I", TOP / "bench", "-o", program, source], check=True)
+    subprocess.run([tool, *tables, *PLAIN_SOURCE[tool], "-o", source, rules], check=True)
+    subprocess.run([*COMPILER, "-I", TOP / "bench", "-o", program, source], check=True)
     return program
 
 
