@@ -1,7 +1,7 @@
 //! Decimal numbers, with the digits kept that numbers near one another share.
 
-ghost use Rattle.std.specs.Prelude.{◌≡◌, ◌+◌, ◌-◌, ◌*◌, ◌/◌, ◌%◌, ◌^◌, ◌<◌, ◌≤◌, ◌++◌, codes, decimal, length, take, drop};
-ghost use Rattle.lx_line.specs.Decimals.{leading, pair};
+ghost use Rattle.std.specs.Prelude.{◌≡◌, IsTrue, ◌+◌, ◌-◌, ◌*◌, ◌/◌, ◌%◌, ◌^◌, ◌<◌, ◌≤◌, ◌++◌, codes, decimal, length, take, drop};
+ghost use Rattle.lx_line.specs.Decimals.{IsNear, leading, pair};
 ghost use Rattle.lx_line.specs.Placed.{Placed};
 
 use crate::place::{place_4, place_16};
@@ -48,8 +48,8 @@ fn skipped(base: u64, low: u64) -> usize
 // Where the digits end that are kept: so many a number of 64 bits has at most.
 const END: usize = 20;
 
-/// The most that a number may be.
-pub const MOST: u64 = 999_999_999_999_999_999;
+// The most that a number may be, of which sixteen digits are kept.
+const MOST: u64 = 999_999_999_999_999_999;
 
 /// The digits of a number above its last two. A number near it has the same, so that it needs but two new ones.
 #[derive(Clone, Copy, Drop)]
@@ -82,7 +82,7 @@ impl KeptDigits {
     #[inline(never)]
     fn near(number: u64) -> KeptDigits
         requires { number < 10 ^ 18 }
-        ensures { result.base + number % 100 ≡ number }
+        ensures { IsNear result.base number }
     {
         let high = number / 100;
         if high == 0 {
@@ -97,32 +97,50 @@ impl KeptDigits {
         }
     }
 
-    // What a number has beyond the one whose digits are kept; they are those of a number near it, or become them.
-    #[inline(always)]
-    fn follow(&mut self, number: u64) -> u64
-        requires { number < 10 ^ 18 }
-        ensures sum { self.new.base + result ≡ number }
-        ensures near { result < 100 }
+    #[cold]
+    #[inline(never)]
+    fn move_near(&mut self, number: u64) -> bool
+        ensures { IsTrue result → IsNear self.new.base number }
     {
-        let low = number.wrapping_sub(self.base);
-        if low < 100 {
-            return low;
+        if number > MOST {
+            return false;
         }
         *self = KeptDigits::near(number);
-        number % 100
+        true
     }
 
-    /// A number and a space.
+    /// Keeps the digits that a number shares with those near it, unless they are too many.
     #[inline(always)]
-    pub fn place(&mut self, buf: &mut [u8], at: usize, number: u64) -> usize
+    pub fn follow(&mut self, number: u64) -> bool
+        ensures { IsTrue result → IsNear self.new.base number }
+    {
+        if number.wrapping_sub(self.base) < 100 {
+            return true;
+        }
+        self.move_near(number)
+    }
+
+    /// A number whose digits are kept, and a space.
+    #[inline(always)]
+    pub fn place(&self, buf: &mut [u8], at: usize, number: u64) -> usize
         requires room { at + 20 ≤ length buf.old }
-        requires number { number ≤ MOST }
+        requires near { IsNear self.now.base number }
         ensures placed { Placed buf.old buf.new at (decimal number ++ codes " ") result }
         ensures short { result ≤ at + 19 }
     {
-        let low = self.follow(number);
+        let low = number - self.base;
         let skip = skipped(self.base, low);
         let end = place_16(buf, at, &self.digits, self.from, END - self.from);
         place_pair(buf, end, low as usize, skip)
     }
+}
+
+/// A number and a space.
+pub fn place_number(buf: &mut [u8], at: usize, number: u64) -> usize
+    requires room { at + 20 ≤ length buf.old }
+    requires number { number ≤ MOST }
+    ensures placed { Placed buf.old buf.new at (decimal number ++ codes " ") result }
+    ensures short { result ≤ at + 19 }
+{
+    KeptDigits::near(number).place(buf, at, number)
 }

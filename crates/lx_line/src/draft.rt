@@ -1,9 +1,9 @@
 //! Lines made behind one another in memory of fixed length.
 
-ghost use Rattle.std.specs.Prelude.{◌≡◌, ◌+◌, ◌<◌, ◌≤◌, ◌++◌, All, OnOk, false, take, true};
+ghost use Rattle.std.specs.Prelude.{◌≡◌, ◌+◌, ◌<◌, ◌≤◌, ◌++◌, OnOk, false, take, true};
 ghost use Rattle.lx_scan.specs.ItemParts.{IsItemOf};
 ghost use Rattle.lx_piece.specs.Plans.{files_of, bytes_of, kinds_of};
-ghost use Rattle.lx_line.specs.Fronts.{IsFrontOf};
+ghost use Rattle.lx_line.specs.Fronts.{AreFrontsOf};
 ghost use Rattle.lx_line.specs.Lines.{line_of};
 
 use crate::fields::{Digits, fits, kind_of, numbers_of, place_rest};
@@ -35,7 +35,7 @@ impl Draft {
     #[inline(always)]
     pub fn new(plan: &Plan, file: u32) -> Draft
         ensures empty { result.len ≡ 0 }
-        ensures fronts { All (IsFrontOf plan.now file) result.fronts.slots }
+        ensures fronts { AreFrontsOf plan.now file result.fronts }
     {
         Draft {
             lines: [0; DRAFT],
@@ -52,13 +52,13 @@ impl Draft {
         requires room { self.old.len + 480 ≤ 4096 }
         requires bytes { bytes.now ≡ bytes_of plan.now file }
         requires item { IsItemOf (kinds_of plan.now) (bytes_of plan.now file) item.now }
-        requires fronts { All (IsFrontOf plan.now file) self.old.fronts.slots }
+        requires fronts { AreFrontsOf plan.now file self.old.fronts }
         ensures added { result ≡ true → take self.new.len self.new.lines ≡ take self.old.len self.old.lines ++ line_of plan.now file item.now }
         ensures not { result ≡ false → take self.new.len self.new.lines ≡ take self.old.len self.old.lines }
-        ensures fronts { All (IsFrontOf plan.now file) self.new.fronts.slots }
+        ensures fronts { AreFrontsOf plan.now file self.new.fronts }
     {
         let numbers = numbers_of(item);
-        if !fits(numbers, bytes) {
+        if !fits(numbers, bytes) || !self.digits.follow(numbers) {
             return false;
         }
         let Some(at) = self
@@ -67,7 +67,7 @@ impl Draft {
         else {
             return false;
         };
-        self.len = place_rest(&mut self.lines, at, &mut self.digits, numbers, bytes);
+        self.len = place_rest(&mut self.lines, at, &self.digits, numbers, bytes);
         true
     }
 
@@ -109,9 +109,9 @@ impl Draft {
         requires file { file < files_of plan.now }
         requires bytes { bytes.now ≡ bytes_of plan.now file }
         requires item { IsItemOf (kinds_of plan.now) (bytes_of plan.now file) item.now }
-        requires fronts { All (IsFrontOf plan.now file) self.old.fronts.slots }
+        requires fronts { AreFrontsOf plan.now file self.old.fronts }
         ensures pushed { OnOk result (block.new.items ++ take self.new.len self.new.lines ≡ (block.old.items ++ take self.old.len self.old.lines) ++ line_of plan.now file item.now) }
-        ensures fronts { All (IsFrontOf plan.now file) self.new.fronts.slots }
+        ensures fronts { AreFrontsOf plan.now file self.new.fronts }
     {
         self.make_room(block)?;
         if self.add(plan, file, bytes, item) {

@@ -2,11 +2,11 @@
 
 ghost use Rattle.std.specs.Prelude.{◌≡◌, ◌+◌, ◌≤◌, IsTrue, length};
 ghost use Rattle.lx_scan.specs.ItemParts.{line_of, start_of, len_of};
-ghost use Rattle.lx_line.specs.Fields.{rest_text};
+ghost use Rattle.lx_line.specs.Fields.{AreKept, rest_text};
 ghost use Rattle.lx_line.specs.Fronts.{kind_of_item};
 ghost use Rattle.lx_line.specs.Placed.{Placed};
 
-use crate::decimals::{KeptDigits, MOST, place_short};
+use crate::decimals::{KeptDigits, place_short};
 use crate::place::place_byte;
 use crate::texts::place_text;
 use lx_rules::rule::Kind;
@@ -59,11 +59,20 @@ pub struct Digits {
 }
 
 impl Digits {
+    /// Those of 0.
     pub fn new() -> Digits {
         Digits {
             line: KeptDigits::new(),
             start: KeptDigits::new(),
         }
+    }
+
+    /// Keeps those of an item, unless they are too many.
+    #[inline(always)]
+    pub fn follow(&mut self, numbers: Numbers) -> bool
+        ensures { IsTrue result → AreKept self.new numbers }
+    {
+        self.line.follow(numbers.line) && self.start.follow(numbers.start as u64)
     }
 }
 
@@ -72,12 +81,11 @@ impl Digits {
 pub fn place_rest(
     buf: &mut [u8],
     at: usize,
-    digits: &mut Digits,
+    digits: &Digits,
     numbers: Numbers,
     bytes: &[u8],
 ) -> usize
-    requires line { numbers.line ≤ MOST }
-    requires start { numbers.start ≤ MOST }
+    requires digits { AreKept digits.now numbers }
     requires len { numbers.len ≤ 96 }
     requires text { numbers.start + numbers.len + 16 ≤ length bytes.now }
     requires room { at + 448 ≤ length buf.old }
@@ -92,17 +100,12 @@ pub fn place_rest(
     place_byte(buf, at, b'\n')
 }
 
-/// Whether a line is short enough, and so far before the end of the file that 16 bytes can be read behind its text.
+/// Whether a text is short enough, and so far before the end of the file that 16 bytes can be read behind it.
 #[inline(always)]
 pub fn fits(numbers: Numbers, bytes: &[u8]) -> bool
     requires { numbers.start + numbers.len ≤ length bytes.now }
-    ensures line { IsTrue result → numbers.line ≤ MOST }
-    ensures start { IsTrue result → numbers.start ≤ MOST }
     ensures len { IsTrue result → numbers.len ≤ 96 }
     ensures text { IsTrue result → numbers.start + numbers.len + 16 ≤ length bytes.now }
 {
-    numbers.line <= MOST
-        && numbers.start as u64 <= MOST
-        && numbers.len <= TEXT
-        && numbers.len + 16 <= bytes.len() - numbers.start
+    numbers.len <= TEXT && numbers.len + 16 <= bytes.len() - numbers.start
 }

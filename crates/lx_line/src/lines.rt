@@ -11,6 +11,7 @@ use lx_scan::Item;
 use std::alloc::AllocError;
 
 /// Puts the lines of items of a file behind what the block holds. Where memory is refused a part of them stands there.
+#[inline(never)]
 pub fn push_lines(
     block: &mut Vec<u8>,
     plan: &Plan,

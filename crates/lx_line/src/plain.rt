@@ -115,12 +115,9 @@ fn line_number(item: &Item) -> u64
 }
 
 /// Puts the line of an item of a file behind what the block holds. Where memory is refused a part of it stands there.
-pub(crate) fn push_line(
-    block: &mut Vec<u8>,
-    plan: &Plan,
-    file: u32,
-    item: &Item,
-) -> Result<(), AllocError>
+#[cold]
+#[inline(never)]
+pub fn push_line(block: &mut Vec<u8>, plan: &Plan, file: u32, item: &Item) -> Result<(), AllocError>
     requires file { file < files_of plan.now }
     requires item { IsItemOf (kinds_of plan.now) (bytes_of plan.now file) item.now }
     ensures { OnOk result (block.new.items ≡ block.old.items ++ line_of plan.now file item.now) }
