@@ -1,10 +1,10 @@
 -- Which bytes of a text stand in a line as they are.
-use Rattle.std.proofs.Common.{◌≡◌, ℕ, zero, suc, ◌+◌, ◌-◌, ◌%◌, ◌^◌, ◌≤◌, Bool, true, false, not, cond, ◌||◌, eqb, ltb, List, [], ◌∷◌, ◌++◌, length, take, drop, map, replicate, refl, sym, ap, ◌∙◌, subst, arith, take-take, length-drop, length-take-le, lit≤}
+use Rattle.std.proofs.Common.{◌≡◌, ℕ, zero, suc, ◌+◌, ◌-◌, ◌%◌, ◌^◌, ◌<◌, ◌≤◌, Bool, true, false, not, cond, ◌||◌, eqb, ltb, List, [], ◌∷◌, ◌++◌, length, take, drop, map, replicate, refl, sym, append_assoc, ap, ◌∙◌, subst, arith, take-take, append-nil, get_or, length-take-le, lit≤}
 use Rattle.std.specs.List.{flat_map, prefix_len}
 use Rattle.std.specs.Int.Bits.{bit_or}
 use Rattle.std.proofs.Math.Seq.{take-add}
 use Rattle.std.proofs.lemmas.Grind.{flat_map-append}
-use Rattle.std.proofs.lemmas.List.{drop-drop, length-map}
+use Rattle.std.proofs.lemmas.List.{drop-drop, drop_more, length-map}
 use Rattle.std.proofs.lemmas.Simd.{first_set_mask_l, mask_l-mod}
 use lib.Count.{count_trailing_zeros}
 use lib.Lanes.{mask_l, top, zip2}
@@ -80,22 +80,23 @@ text_parts bytes start done part =
     ∙ sym (flat_map-append escaped (take done (drop start bytes)) (take part (drop done (drop start bytes))))
     ∙ ap (flat_map escaped) (sym (take-add done part (drop start bytes)))
 
--- a text of which the front is placed already, and then further bytes that stand as they are
-pub text_more : {a b c : List ℕ} {at end : ℕ} (bytes : List ℕ) (start done part : ℕ) → start + done + part ≤ length bytes → Placed a b at (flat_map escaped (take done (drop start bytes))) (at + done) → Placed b c (at + done) (take part (drop (start + done) bytes)) end → flat_map escaped (take part (drop (start + done) bytes)) ≡ take part (drop (start + done) bytes) → Placed a c at (flat_map escaped (take (done + part) (drop start bytes))) (at + (done + part))
-text_more {a} {b} {c} {at} {end} bytes start done part within p q plain =
-    let rest = length-drop (start + done) bytes in
-    let long = length-take-le part (drop (start + done) bytes) (omega arith) in
-    let moved = q.moved in
-    let there : end ≡ at + (done + part) = omega arith in
-    let P : ℕ → Type 0 = λ k. Placed a c at (flat_map escaped (take (done + part) (drop start bytes))) k in
-    subst P there (Placed-is (Placed-then p (Placed-is q (sym plain))) (text_parts bytes start done part))
+-- A text of which the first bytes are placed, and then further ones.
+pub text_more : {a b c : List ℕ} {at mid end : ℕ} (bytes : List ℕ) (start done part : ℕ) → Placed a b at (flat_map escaped (take done (drop start bytes))) mid → Placed b c mid (flat_map escaped (take part (drop (start + done) bytes))) end → Placed a c at (flat_map escaped (take (done + part) (drop start bytes))) end
+text_more bytes start done part p q = Placed-is (Placed-then p q) (text_parts bytes start done part)
 
--- and then the rest
-pub text_rest : {a b c : List ℕ} {at end : ℕ} (bytes : List ℕ) (start done len : ℕ) → done ≤ len → Placed a b at (flat_map escaped (take done (drop start bytes))) (at + done) → Placed b c (at + done) (flat_map escaped (take (start + len - (start + done)) (drop (start + done) bytes))) end → Placed a c at (flat_map escaped (take len (drop start bytes))) end
-text_rest bytes start done len within p q =
-    let rest : start + len - (start + done) ≡ len - done = omega arith in
-    let all : done + (len - done) ≡ len = omega arith in
-    Placed-is (Placed-then p q)
-    (ap (λ (k : ℕ). flat_map escaped (take done (drop start bytes)) ++ flat_map escaped (take k (drop (start + done) bytes))) rest
-    ∙ text_parts bytes start done (len - done)
-    ∙ ap (λ (k : ℕ). flat_map escaped (take k (drop start bytes))) all)
+-- some bytes as they are, and one more
+pub plain_and_one : {a b c : List ℕ} {at mid end : ℕ} (bytes : List ℕ) (from count : ℕ) → from + count < length bytes → Placed a b at (take count (drop from bytes)) mid → flat_map escaped (take count (drop from bytes)) ≡ take count (drop from bytes) → Placed b c mid (escaped (get_or bytes (from + count) 0)) end → Placed a c at (flat_map escaped (take (count + 1) (drop from bytes))) end
+plain_and_one bytes from count within p plain q =
+    let one : flat_map escaped (take 1 (drop (from + count) bytes)) ≡ escaped (get_or bytes (from + count) 0) =
+    ap (λ (xs : List ℕ). flat_map escaped (take 1 xs)) (drop_more bytes (from + count) 0 within) ∙ append-nil (escaped (get_or bytes (from + count) 0)) in
+    text_more bytes from count 1 (Placed-is p (sym plain)) (Placed-is q (sym one))
+
+-- the same behind other bytes
+pub pushed_more : (before mid new text : List ℕ) (done part : ℕ) → mid ≡ before ++ flat_map escaped (take done text) → new ≡ mid ++ flat_map escaped (take (done + part - done) (drop done text)) → new ≡ before ++ flat_map escaped (take (done + part) text)
+pushed_more before mid new text done part p q =
+    let count : done + part - done ≡ part = omega arith in
+    q
+    ∙ ap (λ (bs : List ℕ). bs ++ flat_map escaped (take (done + part - done) (drop done text))) p
+    ∙ ap (λ (k : ℕ). (before ++ flat_map escaped (take done text)) ++ flat_map escaped (take k (drop done text))) count
+    ∙ append_assoc before (flat_map escaped (take done text)) (flat_map escaped (take part (drop done text)))
+    ∙ ap (λ (bs : List ℕ). before ++ bs) (sym (flat_map-append escaped (take done text) (take part (drop done text))) ∙ ap (flat_map escaped) (sym (take-add done part text)))

@@ -31,18 +31,17 @@ pub fn place_short(buf: &mut [u8], at: usize, number: usize) -> usize
     ensures placed { Placed buf.old buf.new at (decimal number ++ codes " ") result }
     ensures short { result ≤ at + 3 }
 {
-    let skip = skipped(0, number as u64);
+    let skip = skipped(number as u64, 10);
     place_pair(buf, at, number, skip)
 }
 
-// How many of the last two digits aren't of the number.
+// How many of the last two digits aren't of the number: one where they make a number below this.
 #[inline(always)]
-fn skipped(base: u64, low: u64) -> usize
-    ensures one { base ≡ 0 → low < 10 → result ≡ 1 }
-    ensures two { base ≡ 0 → 10 ≤ low → result ≡ 0 }
-    ensures more { 0 < base → result ≡ 0 }
+fn skipped(low: u64, ones: u64) -> usize
+    ensures one { low < ones → result ≡ 1 }
+    ensures two { ones ≤ low → result ≡ 0 }
 {
-    if base == 0 && low < 10 { 1 } else { 0 }
+    if low < ones { 1 } else { 0 }
 }
 
 // Where the digits end that are kept: so many a number of 64 bits has at most.
@@ -56,11 +55,15 @@ const MOST: u64 = 999_999_999_999_999_999;
 pub struct KeptDigits {
     // The number, with zeros for its last two digits.
     base: u64,
+    // 10 where the number may have one digit, else 0.
+    ones: u64,
     // They end at END. Sixteen bytes can be read wherever they begin.
     digits: [u8; 36],
     from: usize,
     ghost small: { base < 10 ^ 18 },
     ghost hundreds: { base % 100 ≡ 0 },
+    ghost one: { base ≡ 0 → ones ≡ 10 },
+    ghost more: { 0 < base → ones ≡ 0 },
     ghost within: { from ≤ 20 },
     ghost few: { 20 ≤ from + 16 },
     ghost kept: { take (20 - from) (drop from digits) ≡ leading (base / 100) },
@@ -73,6 +76,7 @@ impl KeptDigits {
     {
         KeptDigits {
             base: 0,
+            ones: 10,
             digits: [0; 36],
             from: END,
         }
@@ -92,6 +96,7 @@ impl KeptDigits {
         let from = write_digits(high, &mut digits, END);
         KeptDigits {
             base: high * 100,
+            ones: 0,
             digits,
             from,
         }
@@ -129,7 +134,7 @@ impl KeptDigits {
         ensures short { result ≤ at + 19 }
     {
         let low = number - self.base;
-        let skip = skipped(self.base, low);
+        let skip = skipped(low, self.ones);
         let end = place_16(buf, at, &self.digits, self.from, END - self.from);
         place_pair(buf, end, low as usize, skip)
     }

@@ -18,16 +18,16 @@ use std::alloc::AllocError;
 const LINE: usize = 480;
 
 // So many bytes of lines are made before they go to the block.
-const DRAFT: usize = 4096;
+const DRAFT: usize = 2048;
 
 /// Lines of a file that are being made, and what those that follow can use again.
 #[derive(Drop)]
 pub struct Draft {
-    lines: [u8; 4096],
+    lines: [u8; 2048],
     len: usize,
     fronts: Fronts,
     digits: Digits,
-    ghost within: { len ≤ 4096 },
+    ghost within: { len ≤ 2048 },
 }
 
 impl Draft {
@@ -49,7 +49,7 @@ impl Draft {
     // end of the file, behind which no 16 bytes can be read.
     #[inline(always)]
     fn add(&mut self, plan: &Plan, file: u32, bytes: &[u8], item: &Item) -> bool
-        requires room { self.old.len + 480 ≤ 4096 }
+        requires room { self.old.len + 480 ≤ 2048 }
         requires bytes { bytes.now ≡ bytes_of plan.now file }
         requires item { IsItemOf (kinds_of plan.now) (bytes_of plan.now file) item.now }
         requires fronts { AreFrontsOf plan.now file self.old.fronts }
@@ -87,7 +87,7 @@ impl Draft {
     #[inline(always)]
     fn make_room(&mut self, block: &mut Vec<u8>) -> Result<(), AllocError>
         ensures same { OnOk result (block.new.items ++ take self.new.len self.new.lines ≡ block.old.items ++ take self.old.len self.old.lines) }
-        ensures room { OnOk result (self.new.len + 480 ≤ 4096) }
+        ensures room { OnOk result (self.new.len + 480 ≤ 2048) }
         ensures fronts { self.new.fronts ≡ self.old.fronts }
     {
         if self.len <= DRAFT - LINE {

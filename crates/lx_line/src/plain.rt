@@ -8,43 +8,36 @@ ghost use Rattle.lx_piece.specs.Plans.{files_of, bytes_of, kinds_of};
 ghost use Rattle.lx_line.specs.Escapes.{escaped};
 ghost use Rattle.lx_line.specs.Lines.{class_text, name_text, kind_text, line_of, cut_line};
 
-use crate::texts::hex_digit;
+use crate::texts::place_text;
 use itoa::Buffer;
 use lx_piece::Plan;
 use lx_rules::rule::Kind;
 use lx_scan::Item;
 use std::alloc::AllocError;
 
-fn push_escaped(line: &mut Vec<u8>, byte: u8) -> Result<(), AllocError>
-    ensures { OnOk result (line.new.items ≡ line.old.items ++ escaped byte) }
+// The text of a line is placed so many bytes at a time.
+const PART: usize = 96;
+
+// At most 96 bytes of a text. A copy of them has 16 bytes more, which can be read too.
+fn push_part(line: &mut Vec<u8>, text: &[u8]) -> Result<(), AllocError>
+    requires { length text.now ≤ 96 }
+    ensures { OnOk result (line.new.items ≡ line.old.items ++ flat_map escaped text.now) }
 {
-    match byte {
-        b'\\' => line.extend_from_slice(b"\\\\"),
-        b' '..=b'~' => line.extend_from_slice(&[byte]),
-        _ => { line.extend_from_slice(&[b'\\', b'x', hex_digit(byte / 16), hex_digit(byte % 16)]) }
-    }
+    let mut bytes = [0; 112];
+    bytes[..text.len()].copy_from_slice(text);
+    let mut placed = [0; 400];
+    let end = place_text(&mut placed, 0, &bytes, 0, text.len());
+    line.extend_from_slice(&placed[..end])
 }
 
-/// How many bytes at the front of a text stand in a line as they are.
-fn plain_front(text: &[u8]) -> usize
-    ensures within { result ≤ length text.now }
-    ensures plain { flat_map escaped (take result text.now) ≡ take result text.now }
-{
-    let mut plain = 0;
-    while plain < text.len() && matches!(text[plain], b' '..=b'[' | b']'..=b'~') {
-        plain += 1;
-    }
-    plain
-}
-
-/// Most texts are plain, and are copied at once.
 fn push_text(line: &mut Vec<u8>, text: &[u8]) -> Result<(), AllocError>
     ensures { OnOk result (line.new.items ≡ line.old.items ++ flat_map escaped text.now) }
 {
-    let plain = plain_front(text);
-    line.extend_from_slice(&text[..plain])?;
-    for byte in &text[plain..] {
-        push_escaped(line, *byte)?;
+    let mut done = 0;
+    while done < text.len() {
+        let end = done + PART.min(text.len() - done);
+        push_part(line, &text[done..end])?;
+        done = end;
     }
     Ok(())
 }

@@ -8,9 +8,9 @@ ghost use Rattle.lx_line.specs.Placed.{Placed};
 use crate::place::{place_16, place_byte};
 use std::simd::prelude::*;
 
-/// How many of 16 bytes, up to the first that is escaped, stand in a line as they are.
+// How many of 16 bytes, up to the first that is escaped, stand in a line as they are.
 #[inline(always)]
-pub fn plain_16(src: &[u8], from: usize) -> usize
+fn plain_16(src: &[u8], from: usize) -> usize
     requires { from + 16 ≤ length src.now }
     ensures { (n : ℕ) → n ≤ 16 → n ≤ result → flat_map escaped (take n (drop from src.now)) ≡ take n (drop from src.now) }
 {
@@ -21,8 +21,7 @@ pub fn plain_16(src: &[u8], from: usize) -> usize
     is_escaped.to_bitmask().trailing_zeros() as usize
 }
 
-/// An upper-case hexadecimal digit.
-pub fn hex_digit(n: u8) -> u8
+fn hex_digit(n: u8) -> u8
     requires { n < 16 }
     ensures { result ≡ hex_digit n }
 {
@@ -47,17 +46,34 @@ fn place_escaped(buf: &mut [u8], at: usize, byte: u8) -> usize
     place_byte(buf, at, hex_digit(byte % 16))
 }
 
-// A text byte by byte.
-fn place_escapes(buf: &mut [u8], at: usize, text: &[u8]) -> usize
-    requires { at + 4 * length text.now ≤ length buf.old }
-    ensures placed { Placed buf.old buf.new at (flat_map escaped text.now) result }
-    ensures short { result ≤ at + 4 * length text.now }
+// Bytes of a text that were placed: where they end, and how many of the text they are.
+#[derive(Clone, Copy, Drop)]
+struct Part {
+    end: usize,
+    count: usize,
+}
+
+// Up to 16 bytes as they are, and the first that is escaped.
+#[inline(always)]
+fn place_part(buf: &mut [u8], at: usize, bytes: &[u8], from: usize, most: usize) -> Part
+    requires some { 0 < most }
+    requires text { from + most + 16 ≤ length bytes.now }
+    requires room { at + 20 ≤ length buf.old }
+    ensures placed { Placed buf.old buf.new at (flat_map escaped (take result.count (drop from bytes.now))) result.end }
+    ensures some { 0 < result.count }
+    ensures few { result.count ≤ most }
+    ensures short { result.end ≤ at + 4 * result.count }
 {
-    let mut end = at;
-    for byte in text {
-        end = place_escaped(buf, end, *byte);
+    let count = plain_16(bytes, from).min(16).min(most);
+    let end = place_16(buf, at, bytes, from, count);
+    if count == 16 || count == most {
+        return Part { end, count };
     }
-    end
+    let end = place_escaped(buf, end, bytes[from + count]);
+    Part {
+        end,
+        count: count + 1,
+    }
 }
 
 // A text of more than 16 bytes, or with a byte that is escaped.
@@ -69,15 +85,13 @@ fn place_long(buf: &mut [u8], at: usize, bytes: &[u8], start: usize, len: usize)
     ensures short { result ≤ at + 4 * len }
 {
     let mut done = 0;
+    let mut end = at;
     while done < len {
-        let part = (len - done).min(16);
-        if plain_16(bytes, start + done) < part {
-            break;
-        }
-        place_16(buf, at + done, bytes, start + done, part);
-        done += part;
+        let part = place_part(buf, end, bytes, start + done, len - done);
+        end = part.end;
+        done += part.count;
     }
-    place_escapes(buf, at + done, &bytes[start + done..start + len])
+    end
 }
 
 /// A text, which lies in bytes so far before their end that 16 can be read at once.

@@ -16,4 +16,4 @@ returns-clause-placed c =
     let few : low < 100 = omega arith in
     Placed-is (Placed-then c.place_16-end.ensures c.place_pair.ensures.placed)
     (ap (λ (ds : List ℕ). ds ++ (drop skip (pair low) ++ 32 ∷ [])) kept.kept
-    ∙ near_text c.args.number kept.base low skip (omega arith) sum kept.hundreds few (record { one = s.one; two = s.two; more = s.more }))
+    ∙ near_text c.args.number kept.base low skip (omega arith) sum kept.hundreds few (record { one = λ e l. s.one (let ones = kept.one e in omega arith); two = λ e l. s.two (let ones = kept.one e in omega arith); more = λ some. s.two (let ones = kept.more some in omega arith) }))
