@@ -4,9 +4,9 @@ use Rattle.std.specs.Prelude.{Some, codes, decimal, replicate}
 use Rattle.std.proofs.lemmas.Fmt.{decimal_digit, length-decimal-le}
 use Rattle.std.proofs.lemmas.List.Elements.{All-replicate}
 use Rattle.lx_rules.specs.declared.rule.Kind.{Kind}
-use Rattle.lx_rules.specs.declared.rule.Kind.TheVariants.{Name, Number}
+use Rattle.lx_rules.specs.declared.rule.Kind.TheVariants.{Number}
 use Rattle.lx_piece.specs.Plans.{Planned}
-use Rattle.lx_line.specs.Fronts.{AreFrontsOf, IsFrontOf, is_name, number_in}
+use Rattle.lx_line.specs.Fronts.{AreFrontsOf, IsFrontOf}
 use Rattle.lx_line.specs.Lines.{name_text}
 use Rattle.lx_line.specs.declared.fronts.Front.{Front}
 use Rattle.lx_line.specs.declared.fronts.Slot.{Slot}
@@ -31,12 +31,6 @@ front_is {a} {b} {c} {d} {at} {mid} {end} plan file kind short p q r =
           ∙ (Placed-then p (Placed-then q r)).bytes
           ∙ ap (λ (sort : List ℕ). (decimal file ++ codes " ") ++ sort) (sym (append_assoc (codes "T ") (name_text plan kind) (codes " ")));
     }
-
-pub same_kind : (a b : Kind) → number_in a ≡ number_in b → is_name a ≡ is_name b → a ≡ b
-same_kind (Name m) (Name n) e f = ap (λ (k : ℕ). Name k) e
-same_kind (Name m) (Number n) e f = (cc)
-same_kind (Number m) (Name n) e f = (cc)
-same_kind (Number m) (Number n) e f = ap (λ (k : ℕ). Number k) e
 
 -- the fronts at first
 pub first_fronts : (plan : Planned) (file : ℕ) (echo zero : Front) → echo.len ≤ 32 → take echo.len echo.text ≡ (decimal file ++ codes " ") ++ codes "E - " → zero.len ≤ 32 → take zero.len zero.text ≡ (decimal file ++ codes " ") ++ codes "T 0 " → AreFrontsOf plan file (record { echo = echo; slots = replicate 32 (record { kind = Number 0; front = zero }) })
