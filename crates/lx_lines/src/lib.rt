@@ -1,7 +1,6 @@
 //! What a listing is: lines, what pieces carry of them, and the printer that writes them in the plan's order.
 #![tactic(auto)]
 
-mod line;
 mod listing;
 mod maker;
 mod printer;

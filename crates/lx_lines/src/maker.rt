@@ -2,9 +2,9 @@
 
 ghost use Rattle.std.specs.Prelude.{◌≡◌};
 
-use crate::line::push_lines;
 use crate::shown::Shown;
 use crate::spares::{Spares, emptied};
+use lx_line::push_lines;
 use lx_piece::{Maker, Plan};
 use lx_scan::Item;
 use std::alloc::{AllocError, Global};

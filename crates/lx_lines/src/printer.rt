@@ -6,11 +6,11 @@ ghost use Rattle.lx_piece.specs.Turns.{HasTurn, turn_after};
 ghost use Rattle.lx_lines.specs.Printing.{PrintsTo, PrintsPart, printing, shown_lines, turn_of};
 ghost use Rattle.lx_lines.specs.Shown.{shown};
 
-use crate::line::push_cut_line;
 use crate::maker::LineMaker;
 use crate::shown::Shown;
 use crate::sink::LineSink;
 use crate::spares::Spares;
+use lx_line::push_cut_line;
 use lx_piece::{Piece, Plan, ReaderFault, Taker};
 use std::alloc::{AllocError, Global};
 use std::snapshot::Snapshot;

@@ -4,8 +4,8 @@ ghost use Rattle.lx_piece.specs.Plans.{bytes_of, files_of, kinds_of};
 ghost use Rattle.lx_lines.specs.Lines.{lines_of};
 ghost use Rattle.lx_lines.specs.Shown.{shown};
 
-use crate::line::push_lines;
 use crate::spares::{Spares, emptied};
+use lx_line::push_lines;
 use lx_piece::Plan;
 use lx_scan::Item;
 use std::alloc::{AllocError, Global};

@@ -1,0 +1,130 @@
+-- The digits of numbers by the table of pairs.
+use Rattle.std.proofs.Common.{◌≡◌, ℕ, zero, suc, ◌+◌, ◌-◌, ◌*◌, ◌/◌, ◌%◌, ◌^◌, ◌<◌, ◌≤◌, Bool, true, ◌&&◌, T, eqb, List, [], ◌∷◌, ◌++◌, length, take, drop, get_or, refl, sym, ap, ◌∙◌, inl, inr, subst, arith, eq-zero-or-pos, eqb→eq, append_assoc}
+use Rattle.std.proofs.lemmas.Bool.{cases_lt, ne_eqb}
+use Rattle.std.proofs.lemmas.Fmt.{decimal_digit, decimal_step}
+use Rattle.std.proofs.lemmas.List.{drop_more, take_at}
+use Rattle.std.specs.Fmt.{decimal}
+use lib.Ieee.Fits.{and_l, and_r}
+use Rattle.lx_line.specs.Decimals.{leading, pair}
+use Rattle.lx_line.specs.declared.decimals.TheConstants.{PAIRS}
+
+-- three bytes of a list at a place
+record Three (xs : List ℕ) (i a b c : ℕ) : Type 0 where
+  pub first : get_or xs i 0 ≡ a
+  pub second : get_or xs (i + 1) 0 ≡ b
+  pub third : get_or xs (i + 2) 0 ≡ c
+  pub within : i + 3 ≤ length xs
+
+unfoldable is_pair : ℕ → Bool
+is_pair p = eqb (get_or PAIRS (p * 4) 0) (48 + p / 10) && (eqb (get_or PAIRS (p * 4 + 1) 0) (48 + p % 10) && eqb (get_or PAIRS (p * 4 + 2) 0) 32)
+
+abbrev are_pairs : ℕ → Bool
+are_pairs zero = true
+are_pairs (suc p) = is_pair p && are_pairs p
+
+below : (n p : ℕ) → T (are_pairs n) → p < n → T (is_pair p)
+below zero p t h = absurd (omega arith)
+below (suc n) p t h =
+    elim (eq-zero-or-pos (n - p)) [
+      | inl z ↦ let e : p ≡ n = omega arith in subst (λ (k : ℕ). T (is_pair k)) (sym e) (and_l (is_pair n) (are_pairs n) t)
+      | inr g ↦ below n p (and_r (is_pair n) (are_pairs n) t) (omega arith)
+    ]
+
+pair_at : (p : ℕ) → p < 100 → Three PAIRS (p * 4) (48 + p / 10) (48 + p % 10) 32
+unfolding is_pair
+pair_at p h =
+    let t = below 100 p tt h in
+    let rest = and_r (eqb (get_or PAIRS (p * 4) 0) (48 + p / 10)) _ t in
+    record {
+      first = eqb→eq _ _ (and_l _ _ t);
+      second = eqb→eq _ _ (and_l _ _ rest);
+      third = eqb→eq _ _ (and_r _ _ rest);
+      within = omega arith;
+    }
+
+take_one : (n i : ℕ) (xs : List ℕ) → i < length xs → take (suc n) (drop i xs) ≡ get_or xs i 0 ∷ take n (drop (i + 1) xs)
+take_one n i xs l = ap (take (suc n)) (drop_more xs i 0 l)
+
+last_two : (xs : List ℕ) (i a b c : ℕ) → Three xs i a b c → take 2 (drop (i + 1) xs) ≡ b ∷ c ∷ []
+last_two xs i a b c t =
+    let within = t.within in
+    let next : i + 1 + 1 ≡ i + 2 = omega arith in
+    take_one 1 (i + 1) xs (omega arith)
+    ∙ ap (λ (k : ℕ). get_or xs (i + 1) 0 ∷ take 1 (drop k xs)) next
+    ∙ ap (λ (zs : List ℕ). get_or xs (i + 1) 0 ∷ zs) (take_one 0 (i + 2) xs (omega arith))
+    ∙ ap (λ (x : ℕ). x ∷ get_or xs (i + 2) 0 ∷ []) t.second
+    ∙ ap (λ (x : ℕ). b ∷ x ∷ []) t.third
+
+all_three : (xs : List ℕ) (i a b c : ℕ) → Three xs i a b c → take 3 (drop i xs) ≡ a ∷ b ∷ c ∷ []
+all_three xs i a b c t =
+    let within = t.within in
+    take_one 2 i xs (omega arith)
+    ∙ ap (λ (zs : List ℕ). get_or xs i 0 ∷ zs) (last_two xs i a b c t)
+    ∙ ap (λ (x : ℕ). x ∷ b ∷ c ∷ []) t.first
+
+-- the digits of a number below 100 behind the first `skip`, and a space
+from_skip : (xs : List ℕ) (i a b skip : ℕ) → Three xs i a b 32 → skip ≤ 1 → take (3 - skip) (drop (i + skip) xs) ≡ drop skip (a ∷ b ∷ []) ++ 32 ∷ []
+from_skip xs i a b zero t l = ap (λ (k : ℕ). take 3 (drop k xs)) (let e : i + 0 ≡ i = omega arith in e) ∙ all_three xs i a b 32 t
+from_skip xs i a b (suc zero) t l = last_two xs i a b 32 t
+from_skip xs i a b (suc (suc n)) t l = absurd (omega arith)
+
+pub pair_from : (p skip : ℕ) → p < 100 → skip ≤ 1 → take (3 - skip) (drop (p * 4 + skip) PAIRS) ≡ drop skip (pair p) ++ 32 ∷ []
+pair_from p skip h l = from_skip PAIRS (p * 4) (48 + p / 10) (48 + p % 10) skip (pair_at p h) l
+
+-- the last two digits of a number
+decimal_two : (n : ℕ) → 10 ≤ n → n < 100 → decimal n ≡ pair n
+decimal_two n lo hi = rw (decimal_step n lo (omega arith), decimal_digit (n / 10) (omega arith))
+
+decimal_pair : (n : ℕ) → 100 ≤ n → n < 2 ^ 64 → decimal n ≡ decimal (n / 100) ++ pair (n % 100)
+decimal_pair n lo hi =
+    let a : n / 10 / 10 ≡ n / 100 = omega arith in
+    let b : n / 10 % 10 ≡ n % 100 / 10 = omega arith in
+    let c : n % 10 ≡ n % 100 % 10 = omega arith in
+    rw (decimal_step n (omega arith) hi, decimal_step (n / 10) (omega arith) (omega arith), append_assoc, a, b, ← c)
+
+-- how many of the last two digits of a number aren't its own
+pub record Skips (base low skip : ℕ) : Type 0 where
+  pub one : base ≡ 0 → low < 10 → skip ≡ 1
+  pub two : base ≡ 0 → 10 ≤ low → skip ≡ 0
+  pub more : 0 < base → skip ≡ 0
+
+-- a number below 100
+pub short_text : (n skip : ℕ) → n < 100 → Skips 0 n skip → drop skip (pair n) ++ 32 ∷ [] ≡ decimal n ++ 32 ∷ []
+short_text n skip h s = elim (cases_lt n 10) [
+  | inl one ↦
+      let same : n % 10 ≡ n = omega arith in
+      ap (λ (k : ℕ). drop k (pair n) ++ 32 ∷ []) (s.one refl one)
+      ∙ ap (λ (k : ℕ). (48 + k) ∷ 32 ∷ []) same
+      ∙ ap (λ (ds : List ℕ). ds ++ 32 ∷ []) (sym (decimal_digit n one))
+  | inr two ↦
+      ap (λ (k : ℕ). drop k (pair n) ++ 32 ∷ []) (s.two refl two)
+      ∙ ap (λ (ds : List ℕ). ds ++ 32 ∷ []) (sym (decimal_two n two h))
+]
+
+pub leading_some : (high : ℕ) → 0 < high → leading high ≡ decimal high
+leading_some high h = rw (ne_eqb high 0 (λ e. absurd (omega arith)))
+
+-- a number near another one
+pub near_text : (n base low skip : ℕ) → n < 2 ^ 64 → base + low ≡ n → base % 100 ≡ 0 → low < 100 → Skips base low skip → leading (base / 100) ++ (drop skip (pair low) ++ 32 ∷ []) ≡ decimal n ++ 32 ∷ []
+near_text n zero low skip small sum hundreds h s =
+    let same : low ≡ n = omega arith in
+    short_text low skip h s ∙ ap (λ (k : ℕ). decimal k ++ 32 ∷ []) same
+near_text n (suc b) low skip small sum hundreds h s =
+    let high : suc b / 100 ≡ n / 100 = omega arith in
+    let rest : low ≡ n % 100 = omega arith in
+    let some : 0 < suc b / 100 = omega arith in
+    ap (λ (ds : List ℕ). ds ++ (drop skip (pair low) ++ 32 ∷ [])) (leading_some (suc b / 100) some)
+    ∙ ap (λ (k : ℕ). decimal (suc b / 100) ++ (drop k (pair low) ++ 32 ∷ [])) (s.more (omega arith))
+    ∙ ap (λ (k : ℕ). decimal k ++ (pair low ++ 32 ∷ [])) high
+    ∙ ap (λ (k : ℕ). decimal (n / 100) ++ (pair k ++ 32 ∷ [])) rest
+    ∙ sym (append_assoc (decimal (n / 100)) (pair (n % 100)) (32 ∷ []))
+    ∙ ap (λ (ds : List ℕ). ds ++ 32 ∷ []) (sym (decimal_pair n (omega arith) small))
+
+-- digits that end at a place
+pub kept_text : (high end from : ℕ) (digits rest : List ℕ) → from + length (decimal high) ≡ end → drop from digits ≡ decimal high ++ rest → 0 < high → take (end - from) (drop from digits) ≡ leading (high * 100 / 100)
+kept_text high end from digits rest start written some =
+    let same : high * 100 / 100 ≡ high = omega arith in
+    ap (λ (ds : List ℕ). take (end - from) ds) written
+    ∙ take_at (decimal high) rest (end - from) (omega arith)
+    ∙ sym (leading_some high some)
+    ∙ ap (λ (k : ℕ). leading k) (sym same)

@@ -1,0 +1,49 @@
+-- A line of its parts, and lines of items.
+use Rattle.std.proofs.Common.{◌≡◌, ℕ, ◌+◌, ◌-◌, List, [], ◌∷◌, ◌++◌, take, drop, ◌∙◌, ap, arith, append_assoc}
+use Rattle.std.specs.Prelude.{Option, codes, decimal}
+use Rattle.std.specs.List.{flat_map}
+use Rattle.lx_rules.specs.declared.rule.Kind.{Kind}
+use Rattle.lx_scan.specs.declared.item.Item.{Item}
+use Rattle.lx_scan.specs.declared.item.Item.TheVariants.{Token, Echo}
+use Rattle.lx_scan.specs.ItemParts.{line_of as line_number, start_of, len_of}
+use Rattle.lx_piece.specs.Plans.{Planned, bytes_of}
+use Rattle.lx_line.specs.Escapes.{escaped}
+use Rattle.lx_line.specs.Fields.{rest_text}
+use Rattle.lx_line.specs.Fronts.{front_text, kind_of_item}
+use Rattle.lx_line.specs.Lines.{line_of, name_text}
+use Rattle.lx_line.specs.Placed.{Placed}
+use Rattle.lx_line.proofs.Places.{Placed-then}
+
+-- the rest of the line of an item
+abbrev rest_of : Planned → ℕ → Item → List ℕ
+rest_of plan file item = rest_text (line_number item) (start_of item) (len_of item) (bytes_of plan file)
+
+text_same : (bytes : List ℕ) (start len : ℕ) → take len (drop start bytes) ≡ take (start + len - start) (drop start bytes)
+text_same bytes start len = ap (λ (n : ℕ). take n (drop start bytes)) (let e : len ≡ start + len - start = omega arith in e)
+
+joined : (f l s n t u : List ℕ) → t ≡ u → f ++ ((l ++ 32 ∷ []) ++ ((s ++ 32 ∷ []) ++ ((n ++ 32 ∷ []) ++ (flat_map escaped t ++ 10 ∷ [])))) ≡ (((((((f ++ l) ++ 32 ∷ []) ++ s) ++ 32 ∷ []) ++ n) ++ 32 ∷ []) ++ flat_map escaped u) ++ 10 ∷ []
+joined f l s n t u e = rw e (simp append_assoc)
+
+-- class and kind in one, and field by field
+fields_of : (f c k : List ℕ) → (f ++ 32 ∷ []) ++ (((c ++ 32 ∷ []) ++ k) ++ 32 ∷ []) ≡ ((((f ++ 32 ∷ []) ++ c) ++ 32 ∷ []) ++ k) ++ 32 ∷ []
+fields_of f c k = simp append_assoc
+
+front_and_rest : (plan : Planned) (file : ℕ) (item : Item) → front_text plan file (kind_of_item item) ++ rest_of plan file item ≡ line_of plan file item
+front_and_rest plan file (Token kind line start len) =
+    let bytes = bytes_of plan file in
+    ap (λ (front : List ℕ). front ++ rest_of plan file (Token kind line start len)) (fields_of (decimal file) (codes "T") (name_text plan kind))
+    ∙ joined (((((decimal file ++ 32 ∷ []) ++ codes "T") ++ 32 ∷ []) ++ name_text plan kind) ++ 32 ∷ []) (decimal line) (decimal start) (decimal len) (take len (drop start bytes)) (take (start + len - start) (drop start bytes)) (text_same bytes start len)
+front_and_rest plan file (Echo line start len) =
+    let bytes = bytes_of plan file in
+    ap (λ (front : List ℕ). front ++ rest_of plan file (Echo line start len)) (fields_of (decimal file) (codes "E") (codes "-"))
+    ∙ joined (((((decimal file ++ 32 ∷ []) ++ codes "E") ++ 32 ∷ []) ++ codes "-") ++ 32 ∷ []) (decimal line) (decimal start) (decimal len) (take len (drop start bytes)) (take (start + len - start) (drop start bytes)) (text_same bytes start len)
+
+pub line_placed : {a b c : List ℕ} {at mid end : ℕ} (plan : Planned) (file : ℕ) (item : Item) (kind : Option Kind) (line start len : ℕ) (bytes : List ℕ) → Placed a b at (front_text plan file kind) mid → Placed b c mid (rest_text line start len bytes) end → kind ≡ kind_of_item item → line ≡ line_number item → start ≡ start_of item → len ≡ len_of item → bytes ≡ bytes_of plan file → take end c ≡ take at a ++ line_of plan file item
+line_placed {a} {b} {c} {at} {mid} {end} plan file item kind line start len bytes p q k l s n t =
+    (Placed-then p q).bytes
+    ∙ ap (λ (k : Option Kind). take at a ++ (front_text plan file k ++ rest_text line start len bytes)) k
+    ∙ ap (λ (k : ℕ). take at a ++ (front_text plan file (kind_of_item item) ++ rest_text k start len bytes)) l
+    ∙ ap (λ (k : ℕ). take at a ++ (front_text plan file (kind_of_item item) ++ rest_text (line_number item) k len bytes)) s
+    ∙ ap (λ (k : ℕ). take at a ++ (front_text plan file (kind_of_item item) ++ rest_text (line_number item) (start_of item) k bytes)) n
+    ∙ ap (λ (bs : List ℕ). take at a ++ (front_text plan file (kind_of_item item) ++ rest_text (line_number item) (start_of item) (len_of item) bs)) t
+    ∙ ap (λ (bs : List ℕ). take at a ++ bs) (front_and_rest plan file item)

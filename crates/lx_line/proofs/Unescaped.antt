@@ -1,0 +1,102 @@
+-- Which bytes of a text stand in a line as they are.
+use Rattle.std.proofs.Common.{◌≡◌, ℕ, zero, suc, ◌+◌, ◌-◌, ◌%◌, ◌^◌, ◌<◌, ◌≤◌, Bool, true, false, not, cond, ◌||◌, eqb, ltb, List, [], ◌∷◌, ◌++◌, length, take, drop, map, replicate, refl, sym, append_assoc, ap, ◌∙◌, subst, arith, take-take, append-nil, get_or, length-take-le, lit≤}
+use Rattle.std.specs.List.{flat_map, prefix_len}
+use Rattle.std.specs.Int.Bits.{bit_or}
+use Rattle.std.proofs.Math.Seq.{take-add}
+use Rattle.std.proofs.lemmas.Grind.{flat_map-append}
+use Rattle.std.proofs.lemmas.List.{drop-drop, drop_more, length-map}
+use Rattle.std.proofs.lemmas.Simd.{first_set_mask_l, mask_l-mod}
+use lib.Count.{count_trailing_zeros}
+use lib.Lanes.{mask_l, top, zip2}
+use Rattle.lx_line.specs.Escapes.{escaped}
+use Rattle.lx_line.specs.Placed.{Placed}
+use Rattle.lx_line.proofs.Places.{Placed-is, Placed-then}
+
+abbrev is_escaped : ℕ → Bool
+is_escaped x = (ltb x 32 || ltb 126 x) || eqb x 92
+
+-- what three comparisons of a lane say, in its top bit
+one_lane : (a b c : Bool) → top 7 (bit_or (bit_or (cond a 255 0) (cond b 255 0)) (cond c 255 0)) ≡ ((a || b) || c)
+one_lane true true true = refl
+one_lane true true false = refl
+one_lane true false true = refl
+one_lane true false false = refl
+one_lane false true true = refl
+one_lane false true false = refl
+one_lane false false true = refl
+one_lane false false false = refl
+
+-- the vector of three comparisons
+abbrev compared : ℕ → List ℕ → List ℕ
+compared n xs =
+    zip2 (λ a b. bit_or a b)
+    (zip2 (λ a b. bit_or a b) (zip2 (λ a b. cond (ltb a b) 255 0) xs (replicate n 32)) (zip2 (λ a b. cond (ltb a b) 255 0) (replicate n 126) xs))
+    (zip2 (λ a b. cond (eqb a b) 255 0) xs (replicate n 92))
+
+lanes : (n : ℕ) (xs : List ℕ) → length xs ≡ n → map (top 7) (compared n xs) ≡ map is_escaped xs
+lanes n [] e = refl
+lanes zero (x ∷ xs) e = absurd (omega arith)
+lanes (suc n) (x ∷ xs) e = ap (λ (b : Bool). b ∷ map (top 7) (compared n xs)) (one_lane (ltb x 32) (ltb 126 x) (eqb x 92)) ∙ ap (λ (bs : List Bool). is_escaped x ∷ bs) (lanes n xs (omega arith))
+
+mask_of : (xs : List ℕ) → length xs ≡ 16 → mask_l (map (top 7) (compared 16 xs)) % 2 ^ 64 ≡ mask_l (map is_escaped xs)
+mask_of xs e =
+    ap (λ (ms : List Bool). mask_l ms % 2 ^ 64) (lanes 16 xs e)
+    ∙ mask_l-mod (map is_escaped xs) 64 (omega (arith, length-map xs is_escaped))
+
+as_it_is : (x : ℕ) → is_escaped x ≡ false → escaped x ≡ x ∷ []
+as_it_is x e = grind arith
+
+plain_by : (b : Bool) (n r : ℕ) → suc n ≤ cond (not b) (1 + r) 0 → (b ≡ false) × (n ≤ r)
+plain_by true n r h = absurd (omega arith)
+plain_by false n r h = (refl, omega arith)
+
+plain_step : (p : ℕ → Bool) (x : ℕ) (xs : List ℕ) (n : ℕ) → suc n ≤ prefix_len (λ y. not (p y)) (x ∷ xs) → (p x ≡ false) × (n ≤ prefix_len (λ y. not (p y)) xs)
+plain_step p x xs n h = plain_by (p x) n (prefix_len (λ y. not (p y)) xs) h
+
+-- the first bytes, none of which is escaped
+first_plain : (n : ℕ) (xs : List ℕ) → n ≤ prefix_len (λ y. not (is_escaped y)) xs → flat_map escaped (take n xs) ≡ take n xs
+first_plain zero xs h = refl
+first_plain (suc n) [] h = refl
+first_plain (suc n) (x ∷ xs) h =
+    let s = plain_step is_escaped x xs n h in
+    ap (λ (bs : List ℕ). bs ++ flat_map escaped (take n xs)) (as_it_is x s.0) ∙ ap (λ (bs : List ℕ). x ∷ bs) (first_plain n xs s.1)
+
+below_first : (none : Bool) (n r t : ℕ) → n ≤ 16 → cond none 16 t ≡ r → n ≤ t → n ≤ r
+below_first true n r t few e h = omega arith
+below_first false n r t few e h = omega arith
+
+pub plain_lanes : (xs : List ℕ) (n : ℕ) → 16 ≤ length xs → n ≤ 16 → n ≤ count_trailing_zeros 64 (mask_l (map (top 7) (compared 16 (take 16 xs))) % 2 ^ 64) → flat_map escaped (take n xs) ≡ take n xs
+plain_lanes xs n long few h =
+    let whole : length (take 16 xs) ≡ 16 = length-take-le 16 xs long in
+    let m = mask_l (map is_escaped (take 16 xs)) in
+    let h2 : n ≤ count_trailing_zeros 64 m = subst (λ (k : ℕ). n ≤ count_trailing_zeros 64 k) (mask_of (take 16 xs) whole) h in
+    let first = below_first (eqb m 0) n (prefix_len (λ y. not (is_escaped y)) (take 16 xs)) (count_trailing_zeros 64 m) few (first_set_mask_l is_escaped (take 16 xs) 16 whole (lit≤ tt)) h2 in
+    let same = take-take n 16 xs few in
+    ap (flat_map escaped) (sym same) ∙ first_plain n (take 16 xs) first ∙ same
+
+text_parts : (bytes : List ℕ) (start done part : ℕ) → flat_map escaped (take done (drop start bytes)) ++ flat_map escaped (take part (drop (start + done) bytes)) ≡ flat_map escaped (take (done + part) (drop start bytes))
+text_parts bytes start done part =
+    ap (λ (xs : List ℕ). flat_map escaped (take done (drop start bytes)) ++ flat_map escaped (take part xs)) (sym (drop-drop done start bytes))
+    ∙ sym (flat_map-append escaped (take done (drop start bytes)) (take part (drop done (drop start bytes))))
+    ∙ ap (flat_map escaped) (sym (take-add done part (drop start bytes)))
+
+-- A text of which the first bytes are placed, and then further ones.
+pub text_more : {a b c : List ℕ} {at mid end : ℕ} (bytes : List ℕ) (start done part : ℕ) → Placed a b at (flat_map escaped (take done (drop start bytes))) mid → Placed b c mid (flat_map escaped (take part (drop (start + done) bytes))) end → Placed a c at (flat_map escaped (take (done + part) (drop start bytes))) end
+text_more bytes start done part p q = Placed-is (Placed-then p q) (text_parts bytes start done part)
+
+-- some bytes as they are, and one more
+pub plain_and_one : {a b c : List ℕ} {at mid end : ℕ} (bytes : List ℕ) (from count : ℕ) → from + count < length bytes → Placed a b at (take count (drop from bytes)) mid → flat_map escaped (take count (drop from bytes)) ≡ take count (drop from bytes) → Placed b c mid (escaped (get_or bytes (from + count) 0)) end → Placed a c at (flat_map escaped (take (count + 1) (drop from bytes))) end
+plain_and_one bytes from count within p plain q =
+    let one : flat_map escaped (take 1 (drop (from + count) bytes)) ≡ escaped (get_or bytes (from + count) 0) =
+    ap (λ (xs : List ℕ). flat_map escaped (take 1 xs)) (drop_more bytes (from + count) 0 within) ∙ append-nil (escaped (get_or bytes (from + count) 0)) in
+    text_more bytes from count 1 (Placed-is p (sym plain)) (Placed-is q (sym one))
+
+-- the same behind other bytes
+pub pushed_more : (before mid new text : List ℕ) (done part : ℕ) → mid ≡ before ++ flat_map escaped (take done text) → new ≡ mid ++ flat_map escaped (take (done + part - done) (drop done text)) → new ≡ before ++ flat_map escaped (take (done + part) text)
+pushed_more before mid new text done part p q =
+    let count : done + part - done ≡ part = omega arith in
+    q
+    ∙ ap (λ (bs : List ℕ). bs ++ flat_map escaped (take (done + part - done) (drop done text))) p
+    ∙ ap (λ (k : ℕ). (before ++ flat_map escaped (take done text)) ++ flat_map escaped (take k (drop done text))) count
+    ∙ append_assoc before (flat_map escaped (take done text)) (flat_map escaped (take part (drop done text)))
+    ∙ ap (λ (bs : List ℕ). before ++ bs) (sym (flat_map-append escaped (take done text) (take part (drop done text))) ∙ ap (flat_map escaped) (sym (take-add done part text)))

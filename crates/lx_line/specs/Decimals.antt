@@ -1,0 +1,13 @@
+use Rattle.std.specs.Prelude.{ℕ, ◌+◌, ◌/◌, ◌%◌, ◌==◌, ◌<◌, ◌≤◌, if◌then◌else◌, List, [], ◌∷◌, decimal}
+
+-- the two digits of a number below 100
+abbrev pub pair : ℕ → List ℕ
+pair n = (48 + n / 10) ∷ (48 + n % 10) ∷ []
+
+-- the digits of a number above its last two, of which this is the number: none where it is 0
+abbrev pub leading : ℕ → List ℕ
+leading high = if high == 0 then [] else decimal high
+
+-- a number is the same as another one, which has zeros for its last two digits, but for these two
+abbrev pub IsNear : ℕ → ℕ → Type 0
+IsNear base number = (base ≤ number) × (number < base + 100)

@@ -1,0 +1,16 @@
+use Rattle.std.specs.Prelude.{ℕ, List, ◌++◌, codes, decimal, drop, take}
+use Rattle.std.specs.List.{flat_map}
+use Rattle.lx_line.specs.Decimals.{IsNear}
+use Rattle.lx_line.specs.Escapes.{escaped}
+use Rattle.lx_line.specs.declared.fields.Digits.{Digits}
+use Rattle.lx_line.specs.declared.fields.Numbers.{Numbers}
+
+-- what stands in a line behind its front: line, start and length with a space behind each, and the text
+abbrev pub rest_text : ℕ → ℕ → ℕ → List ℕ → List ℕ
+rest_text line start len bytes =
+    (decimal line ++ codes " ") ++ ((decimal start ++ codes " ") ++ ((decimal len ++ codes " ") ++ (flat_map escaped (take len (drop start bytes)) ++ codes "\n")))
+
+-- the digits that are kept are those of these numbers
+pub record AreKept (digits : Digits) (numbers : Numbers) : Type 0 where
+  pub line : IsNear digits.line.base numbers.line
+  pub start : IsNear digits.start.base numbers.start

@@ -1,0 +1,151 @@
+//! Decimal numbers, with the digits kept that numbers near one another share.
+
+ghost use Rattle.std.specs.Prelude.{◌≡◌, IsTrue, ◌+◌, ◌-◌, ◌*◌, ◌/◌, ◌%◌, ◌^◌, ◌<◌, ◌≤◌, ◌++◌, codes, decimal, length, take, drop};
+ghost use Rattle.lx_line.specs.Decimals.{IsNear, leading, pair};
+ghost use Rattle.lx_line.specs.Placed.{Placed};
+
+use crate::place::{place_4, place_16};
+use itoa::write_digits;
+
+// The two digits of each number below 100, and two spaces. Four bytes more can be read behind the last.
+static PAIRS: [u8; 404] =
+    *b"00  01  02  03  04  05  06  07  08  09  10  11  12  13  14  15  16  17  18  19  20  21  22  23  24  25  26  27  28  29  30  31  32  33  34  35  36  37  38  39  40  41  42  43  44  45  46  47  48  49  50  51  52  53  54  55  56  57  58  59  60  61  62  63  64  65  66  67  68  69  70  71  72  73  74  75  76  77  78  79  80  81  82  83  84  85  86  87  88  89  90  91  92  93  94  95  96  97  98  99      ";
+
+// The digits of a number below 100 without the first `skip`, and a space.
+#[inline(always)]
+fn place_pair(buf: &mut [u8], at: usize, number: usize, skip: usize) -> usize
+    requires room { at + 4 ≤ length buf.old }
+    requires number { number < 100 }
+    requires skip { skip ≤ 1 }
+    ensures placed { Placed buf.old buf.new at (drop skip (pair number) ++ codes " ") result }
+    ensures short { result ≤ at + 3 }
+{
+    place_4(buf, at, &PAIRS, number * 4 + skip, 3 - skip)
+}
+
+/// A number below 100, and a space.
+#[inline(always)]
+pub fn place_short(buf: &mut [u8], at: usize, number: usize) -> usize
+    requires room { at + 4 ≤ length buf.old }
+    requires number { number < 100 }
+    ensures placed { Placed buf.old buf.new at (decimal number ++ codes " ") result }
+    ensures short { result ≤ at + 3 }
+{
+    let skip = skipped(number as u64, 10);
+    place_pair(buf, at, number, skip)
+}
+
+// How many of the last two digits aren't of the number: one where they make a number below this.
+#[inline(always)]
+fn skipped(low: u64, ones: u64) -> usize
+    ensures one { low < ones → result ≡ 1 }
+    ensures two { ones ≤ low → result ≡ 0 }
+{
+    if low < ones { 1 } else { 0 }
+}
+
+// Where the digits end that are kept: so many a number of 64 bits has at most.
+const END: usize = 20;
+
+// The most that a number may be, of which sixteen digits are kept.
+const MOST: u64 = 999_999_999_999_999_999;
+
+/// The digits of a number above its last two. A number near it has the same, so that it needs but two new ones.
+#[derive(Clone, Copy, Drop)]
+pub struct KeptDigits {
+    // The number, with zeros for its last two digits.
+    base: u64,
+    // 10 where the number may have one digit, else 0.
+    ones: u64,
+    // They end at END. Sixteen bytes can be read wherever they begin.
+    digits: [u8; 36],
+    from: usize,
+    ghost small: { base < 10 ^ 18 },
+    ghost hundreds: { base % 100 ≡ 0 },
+    ghost one: { base ≡ 0 → ones ≡ 10 },
+    ghost more: { 0 < base → ones ≡ 0 },
+    ghost within: { from ≤ 20 },
+    ghost few: { 20 ≤ from + 16 },
+    ghost kept: { take (20 - from) (drop from digits) ≡ leading (base / 100) },
+}
+
+impl KeptDigits {
+    /// Those of 0.
+    pub fn new() -> KeptDigits
+        ensures { result.base ≡ 0 }
+    {
+        KeptDigits {
+            base: 0,
+            ones: 10,
+            digits: [0; 36],
+            from: END,
+        }
+    }
+
+    #[cold]
+    #[inline(never)]
+    fn near(number: u64) -> KeptDigits
+        requires { number < 10 ^ 18 }
+        ensures { IsNear result.base number }
+    {
+        let high = number / 100;
+        if high == 0 {
+            return KeptDigits::new();
+        }
+        let mut digits = [0; 36];
+        let from = write_digits(high, &mut digits, END);
+        KeptDigits {
+            base: high * 100,
+            ones: 0,
+            digits,
+            from,
+        }
+    }
+
+    #[cold]
+    #[inline(never)]
+    fn move_near(&mut self, number: u64) -> bool
+        ensures { IsTrue result → IsNear self.new.base number }
+    {
+        if number > MOST {
+            return false;
+        }
+        *self = KeptDigits::near(number);
+        true
+    }
+
+    /// Keeps the digits that a number shares with those near it, unless they are too many.
+    #[inline(always)]
+    pub fn follow(&mut self, number: u64) -> bool
+        ensures { IsTrue result → IsNear self.new.base number }
+    {
+        if number.wrapping_sub(self.base) < 100 {
+            return true;
+        }
+        self.move_near(number)
+    }
+
+    /// A number whose digits are kept, and a space.
+    #[inline(always)]
+    pub fn place(&self, buf: &mut [u8], at: usize, number: u64) -> usize
+        requires room { at + 20 ≤ length buf.old }
+        requires near { IsNear self.now.base number }
+        ensures placed { Placed buf.old buf.new at (decimal number ++ codes " ") result }
+        ensures short { result ≤ at + 19 }
+    {
+        let low = number - self.base;
+        let skip = skipped(low, self.ones);
+        let end = place_16(buf, at, &self.digits, self.from, END - self.from);
+        place_pair(buf, end, low as usize, skip)
+    }
+}
+
+/// A number and a space.
+pub fn place_number(buf: &mut [u8], at: usize, number: u64) -> usize
+    requires room { at + 20 ≤ length buf.old }
+    requires number { number ≤ MOST }
+    ensures placed { Placed buf.old buf.new at (decimal number ++ codes " ") result }
+    ensures short { result ≤ at + 19 }
+{
+    KeptDigits::near(number).place(buf, at, number)
+}

@@ -1,0 +1,111 @@
+//! The fields of a line, placed from parts that are ready.
+
+ghost use Rattle.std.specs.Prelude.{◌≡◌, ◌+◌, ◌≤◌, IsTrue, length};
+ghost use Rattle.lx_scan.specs.ItemParts.{line_of, start_of, len_of};
+ghost use Rattle.lx_line.specs.Fields.{AreKept, rest_text};
+ghost use Rattle.lx_line.specs.Fronts.{kind_of_item};
+ghost use Rattle.lx_line.specs.Placed.{Placed};
+
+use crate::decimals::{KeptDigits, place_short};
+use crate::place::place_byte;
+use crate::texts::place_text;
+use lx_rules::rule::Kind;
+use lx_scan::Item;
+
+// The longest text that is placed. Its length has two digits.
+const TEXT: usize = 96;
+
+/// The numbers of an item.
+#[derive(Clone, Copy, Drop)]
+pub struct Numbers {
+    pub line: u64,
+    pub start: usize,
+    pub len: usize,
+}
+
+/// The kind of a token; an Echo has none.
+#[inline(always)]
+pub fn kind_of(item: &Item) -> Option<Kind>
+    ensures { result ≡ kind_of_item item.now }
+{
+    match *item {
+        Item::Token { kind, .. } => Some(kind),
+        Item::Echo { .. } => None,
+    }
+}
+
+#[inline(always)]
+pub fn numbers_of(item: &Item) -> Numbers
+    ensures line { result.line ≡ line_of item.now }
+    ensures start { result.start ≡ start_of item.now }
+    ensures len { result.len ≡ len_of item.now }
+{
+    match *item {
+        Item::Token {
+            line,
+            start,
+            len,
+            ..
+        }
+        | Item::Echo { line, start, len } => { Numbers { line, start, len } }
+    }
+}
+
+/// The digits of line and start that items near one another share.
+#[derive(Clone, Copy, Drop)]
+pub struct Digits {
+    line: KeptDigits,
+    start: KeptDigits,
+}
+
+impl Digits {
+    /// Those of 0.
+    pub fn new() -> Digits {
+        Digits {
+            line: KeptDigits::new(),
+            start: KeptDigits::new(),
+        }
+    }
+
+    /// Keeps those of an item, unless they are too many.
+    #[inline(always)]
+    pub fn follow(&mut self, numbers: Numbers) -> bool
+        ensures { IsTrue result → AreKept self.new numbers }
+    {
+        self.line.follow(numbers.line) && self.start.follow(numbers.start as u64)
+    }
+}
+
+/// What stands in a line behind its front.
+#[inline(always)]
+pub fn place_rest(
+    buf: &mut [u8],
+    at: usize,
+    digits: &Digits,
+    numbers: Numbers,
+    bytes: &[u8],
+) -> usize
+    requires digits { AreKept digits.now numbers }
+    requires len { numbers.len ≤ 96 }
+    requires text { numbers.start + numbers.len + 16 ≤ length bytes.now }
+    requires room { at + 448 ≤ length buf.old }
+    ensures placed { Placed buf.old buf.new at (rest_text numbers.line numbers.start numbers.len bytes.now) result }
+    ensures short { result ≤ at + 448 }
+{
+    let Numbers { line, start, len } = numbers;
+    let at = digits.line.place(buf, at, line);
+    let at = digits.start.place(buf, at, start as u64);
+    let at = place_short(buf, at, len);
+    let at = place_text(buf, at, bytes, start, len);
+    place_byte(buf, at, b'\n')
+}
+
+/// Whether a text is short enough, and so far before the end of the file that 16 bytes can be read behind it.
+#[inline(always)]
+pub fn fits(numbers: Numbers, bytes: &[u8]) -> bool
+    requires { numbers.start + numbers.len ≤ length bytes.now }
+    ensures len { IsTrue result → numbers.len ≤ 96 }
+    ensures text { IsTrue result → numbers.start + numbers.len + 16 ≤ length bytes.now }
+{
+    numbers.len <= TEXT && numbers.len + 16 <= bytes.len() - numbers.start
+}

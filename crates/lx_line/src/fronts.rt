@@ -1,0 +1,207 @@
+//! The fronts of lines, each made once and kept for the lines that follow.
+
+ghost use Rattle.std.specs.Prelude.{◌≡◌, ◌+◌, ◌<◌, ◌≤◌, ◌++◌, IsTrue, Some, MatchOption, codes, decimal, length, take};
+ghost use Rattle.lx_scan.specs.ItemParts.{IsKindAmong};
+ghost use Rattle.lx_piece.specs.Plans.{kinds_of};
+ghost use Rattle.lx_line.specs.Fronts.{AreFrontsOf, IsFrontOf, IsKindOf, front_text, is_name, number_in};
+ghost use Rattle.lx_line.specs.Lines.{name_text};
+ghost use Rattle.lx_line.specs.Placed.{Placed};
+
+use crate::decimals::place_number;
+use crate::place::{place_32, place_all, place_byte};
+use lx_piece::Plan;
+use lx_rules::rule::Kind;
+use std::simd::prelude::*;
+
+// The longest front that is kept.
+const FRONT: usize = 32;
+
+// So many fronts of tokens are kept.
+const SLOTS: usize = 32;
+
+/// The front of a line.
+#[derive(Clone, Copy, Drop)]
+pub struct Front {
+    text: [u8; 32],
+    len: usize,
+}
+
+/// The front of the lines of tokens of a kind.
+#[derive(Clone, Copy, Drop)]
+pub struct Slot {
+    kind: Kind,
+    front: Front,
+}
+
+impl Front {
+    // One that is known to be short.
+    fn of(file: u32, sort: &[u8]) -> Front
+        requires { length sort.now ≤ 20 }
+        ensures short { result.len ≤ 32 }
+        ensures text { take result.len result.text ≡ decimal file ++ codes " " ++ sort.now }
+    {
+        let mut text = [0; 32];
+        let at = place_file(&mut text, file);
+        let len = place_all(&mut text, at, sort);
+        Front { text, len }
+    }
+
+    #[inline(always)]
+    fn place(&self, buf: &mut [u8], at: usize) -> usize
+        requires room { at + 32 ≤ length buf.old }
+        requires short { self.now.len ≤ 32 }
+        ensures placed { Placed buf.old buf.new at (take self.now.len self.now.text) result }
+        ensures short { result ≤ at + 32 }
+    {
+        place_32(buf, at, &self.text, 0, self.len)
+    }
+}
+
+// The number of a file and a space.
+fn place_file(buf: &mut [u8], file: u32) -> usize
+    requires { 20 ≤ length buf.old }
+    ensures placed { Placed buf.old buf.new 0 (decimal file ++ codes " ") result }
+    ensures short { result ≤ 11 }
+{
+    place_number(buf, 0, u64::from(file))
+}
+
+// A kind and a space, unless its name is too long.
+fn place_name(buf: &mut [u8], at: usize, plan: &Plan, kind: Kind) -> Option<usize>
+    requires room { at + 33 ≤ length buf.old }
+    requires kind { IsKindAmong (kinds_of plan.now) kind }
+    ensures { MatchOption result (Unit {0}) (λ end. Placed buf.old buf.new at (name_text plan.now kind ++ codes " ") end) }
+{
+    match kind {
+        Kind::Number(number) => Some(place_number(buf, at, u64::from(number))),
+        Kind::Name(place) => {
+            let name = plan.kind(place);
+            if name.len() > FRONT {
+                return None;
+            }
+            let at = place_all(buf, at, name);
+            Some(place_byte(buf, at, b' '))
+        }
+    }
+}
+
+// The front of the lines of tokens of a kind, where it is short enough to be kept.
+fn front_of(plan: &Plan, file: u32, kind: Kind) -> Option<Front>
+    requires { IsKindAmong (kinds_of plan.now) kind }
+    ensures { MatchOption result (Unit {0}) (λ front. IsFrontOf plan.now file (Some kind) front) }
+{
+    let mut text = [0; 64];
+    let at = place_file(&mut text, file);
+    let at = place_all(&mut text, at, b"T ");
+    let len = place_name(&mut text, at, plan, kind)?;
+    if len > FRONT {
+        return None;
+    }
+    let text = u8x32::from_slice(&text).to_array();
+    Some(Front { text, len })
+}
+
+fn number_of(kind: Kind) -> u32
+    ensures { result ≡ number_in kind }
+{
+    match kind {
+        Kind::Name(number) | Kind::Number(number) => number,
+    }
+}
+
+fn is_name(kind: Kind) -> bool
+    ensures { result ≡ is_name kind }
+{
+    matches!(kind, Kind::Name(_))
+}
+
+// Whether two kinds are the same. It takes fewer jumps than a test form by form.
+#[inline(always)]
+fn are_same(a: Kind, b: Kind) -> bool
+    ensures { IsTrue result → a ≡ b }
+{
+    number_of(a) == number_of(b) && is_name(a) == is_name(b)
+}
+
+// Where the front of a kind is kept. Several kinds share the place, and the last has it.
+#[inline(always)]
+fn slot_of(kind: Kind) -> usize
+    ensures { result < 32 }
+{
+    number_of(kind) as usize % SLOTS
+}
+
+/// Fronts of the lines of one file.
+#[derive(Clone, Copy, Drop)]
+pub struct Fronts {
+    echo: Front,
+    slots: [Slot; 32],
+}
+
+impl Fronts {
+    /// That of an Echo, and as yet of one kind alone.
+    #[inline(always)]
+    pub fn new(plan: &Plan, file: u32) -> Fronts
+        ensures { AreFrontsOf plan.now file result }
+    {
+        let slot = Slot {
+            kind: Kind::Number(0),
+            front: Front::of(file, b"T 0 "),
+        };
+        Fronts {
+            echo: Front::of(file, b"E - "),
+            slots: [slot; SLOTS],
+        }
+    }
+
+    // A front that is made now, and kept.
+    #[cold]
+    #[inline(never)]
+    fn place_new(
+        &mut self,
+        buf: &mut [u8],
+        at: usize,
+        plan: &Plan,
+        file: u32,
+        kind: Kind,
+    ) -> Option<usize>
+        requires room { at + 32 ≤ length buf.old }
+        requires kind { IsKindAmong (kinds_of plan.now) kind }
+        requires fronts { AreFrontsOf plan.now file self.old }
+        ensures placed { MatchOption result (buf.new ≡ buf.old) (λ end. Placed buf.old buf.new at (front_text plan.now file (Some kind)) end) }
+        ensures short { MatchOption result (Unit {0}) (λ end. end ≤ at + 32) }
+        ensures fronts { AreFrontsOf plan.now file self.new }
+    {
+        let front = front_of(plan, file, kind)?;
+        let end = front.place(buf, at);
+        self.slots[slot_of(kind)] = Slot { kind, front };
+        Some(end)
+    }
+
+    /// The front of the line of a token of a kind, or of an Echo. One that is too long isn't placed.
+    #[inline(always)]
+    pub fn place(
+        &mut self,
+        buf: &mut [u8],
+        at: usize,
+        plan: &Plan,
+        file: u32,
+        kind: Option<Kind>,
+    ) -> Option<usize>
+        requires room { at + 32 ≤ length buf.old }
+        requires kind { IsKindOf plan.now kind }
+        requires fronts { AreFrontsOf plan.now file self.old }
+        ensures placed { MatchOption result (buf.new ≡ buf.old) (λ end. Placed buf.old buf.new at (front_text plan.now file kind) end) }
+        ensures short { MatchOption result (Unit {0}) (λ end. end ≤ at + 32) }
+        ensures fronts { AreFrontsOf plan.now file self.new }
+    {
+        let Some(kind) = kind else {
+            return Some(self.echo.place(buf, at));
+        };
+        let slot = &self.slots[slot_of(kind)];
+        if are_same(slot.kind, kind) {
+            return Some(slot.front.place(buf, at));
+        }
+        self.place_new(buf, at, plan, file, kind)
+    }
+}

@@ -1,0 +1,61 @@
+//! Bytes put at a place in a buffer that has room. More than is counted may be written behind them, so that a copy has one length.
+
+ghost use Rattle.std.specs.Prelude.{◌≡◌, ◌+◌, ◌<◌, ◌≤◌, [], ◌∷◌, length, take, drop};
+ghost use Rattle.lx_line.specs.Placed.{Placed};
+
+use std::simd::prelude::*;
+
+#[inline(always)]
+pub fn place_byte(buf: &mut [u8], at: usize, byte: u8) -> usize
+    requires { at < length buf.old }
+    ensures { Placed buf.old buf.new at (byte ∷ []) result }
+{
+    buf[at] = byte;
+    at + 1
+}
+
+/// A whole text.
+pub fn place_all(buf: &mut [u8], at: usize, text: &[u8]) -> usize
+    requires { at + length text.now ≤ length buf.old }
+    ensures { Placed buf.old buf.new at text.now result }
+{
+    let end = at + text.len();
+    buf[at..end].copy_from_slice(text);
+    end
+}
+
+/// The first `len` of 4 bytes from a place of the source.
+#[inline(always)]
+pub fn place_4(buf: &mut [u8], at: usize, src: &[u8], from: usize, len: usize) -> usize
+    requires room { at + 4 ≤ length buf.old }
+    requires source { from + 4 ≤ length src.now }
+    requires part { len ≤ 4 }
+    ensures { Placed buf.old buf.new at (take len (drop from src.now)) result }
+{
+    u8x4::from_slice(&src[from..]).copy_to_slice(&mut buf[at..]);
+    at + len
+}
+
+/// The first `len` of 16 bytes from a place of the source.
+#[inline(always)]
+pub fn place_16(buf: &mut [u8], at: usize, src: &[u8], from: usize, len: usize) -> usize
+    requires room { at + 16 ≤ length buf.old }
+    requires source { from + 16 ≤ length src.now }
+    requires part { len ≤ 16 }
+    ensures { Placed buf.old buf.new at (take len (drop from src.now)) result }
+{
+    u8x16::from_slice(&src[from..]).copy_to_slice(&mut buf[at..]);
+    at + len
+}
+
+/// The first `len` of 32 bytes from a place of the source.
+#[inline(always)]
+pub fn place_32(buf: &mut [u8], at: usize, src: &[u8], from: usize, len: usize) -> usize
+    requires room { at + 32 ≤ length buf.old }
+    requires source { from + 32 ≤ length src.now }
+    requires part { len ≤ 32 }
+    ensures { Placed buf.old buf.new at (take len (drop from src.now)) result }
+{
+    u8x32::from_slice(&src[from..]).copy_to_slice(&mut buf[at..]);
+    at + len
+}

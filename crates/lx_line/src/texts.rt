@@ -1,0 +1,109 @@
+//! Texts, with what is escaped in them.
+
+ghost use Rattle.std.specs.Prelude.{◌≡◌, ◌+◌, ◌*◌, ◌<◌, ◌≤◌, ℕ, length, take, drop};
+ghost use Rattle.std.specs.List.{flat_map};
+ghost use Rattle.lx_line.specs.Escapes.{escaped, hex_digit};
+ghost use Rattle.lx_line.specs.Placed.{Placed};
+
+use crate::place::{place_16, place_byte};
+use std::simd::prelude::*;
+
+// How many of 16 bytes, up to the first that is escaped, stand in a line as they are.
+#[inline(always)]
+fn plain_16(src: &[u8], from: usize) -> usize
+    requires { from + 16 ≤ length src.now }
+    ensures { (n : ℕ) → n ≤ 16 → n ≤ result → flat_map escaped (take n (drop from src.now)) ≡ take n (drop from src.now) }
+{
+    let bytes = u8x16::from_slice(&src[from..]);
+    let is_escaped = bytes.simd_lt(u8x16::splat(b' '))
+        | bytes.simd_gt(u8x16::splat(b'~'))
+        | bytes.simd_eq(u8x16::splat(b'\\'));
+    is_escaped.to_bitmask().trailing_zeros() as usize
+}
+
+fn hex_digit(n: u8) -> u8
+    requires { n < 16 }
+    ensures { result ≡ hex_digit n }
+{
+    if n < 10 { b'0' + n } else { b'A' + (n - 10) }
+}
+
+// A byte as it is escaped.
+fn place_escaped(buf: &mut [u8], at: usize, byte: u8) -> usize
+    requires { at + 4 ≤ length buf.old }
+    ensures placed { Placed buf.old buf.new at (escaped byte) result }
+    ensures short { result ≤ at + 4 }
+{
+    if byte != b'\\' && matches!(byte, b' '..=b'~') {
+        return place_byte(buf, at, byte);
+    }
+    let at = place_byte(buf, at, b'\\');
+    if byte == b'\\' {
+        return place_byte(buf, at, b'\\');
+    }
+    let at = place_byte(buf, at, b'x');
+    let at = place_byte(buf, at, hex_digit(byte / 16));
+    place_byte(buf, at, hex_digit(byte % 16))
+}
+
+// Bytes of a text that were placed: where they end, and how many of the text they are.
+#[derive(Clone, Copy, Drop)]
+struct Part {
+    end: usize,
+    count: usize,
+}
+
+// Up to 16 bytes as they are, and the first that is escaped.
+#[inline(always)]
+fn place_part(buf: &mut [u8], at: usize, bytes: &[u8], from: usize, most: usize) -> Part
+    requires some { 0 < most }
+    requires text { from + most + 16 ≤ length bytes.now }
+    requires room { at + 20 ≤ length buf.old }
+    ensures placed { Placed buf.old buf.new at (flat_map escaped (take result.count (drop from bytes.now))) result.end }
+    ensures some { 0 < result.count }
+    ensures few { result.count ≤ most }
+    ensures short { result.end ≤ at + 4 * result.count }
+{
+    let count = plain_16(bytes, from).min(16).min(most);
+    let end = place_16(buf, at, bytes, from, count);
+    if count == 16 || count == most {
+        return Part { end, count };
+    }
+    let end = place_escaped(buf, end, bytes[from + count]);
+    Part {
+        end,
+        count: count + 1,
+    }
+}
+
+// A text of more than 16 bytes, or with a byte that is escaped.
+#[inline(never)]
+fn place_long(buf: &mut [u8], at: usize, bytes: &[u8], start: usize, len: usize) -> usize
+    requires text { start + len + 16 ≤ length bytes.now }
+    requires room { at + 4 * len + 16 ≤ length buf.old }
+    ensures placed { Placed buf.old buf.new at (flat_map escaped (take len (drop start bytes.now))) result }
+    ensures short { result ≤ at + 4 * len }
+{
+    let mut done = 0;
+    let mut end = at;
+    while done < len {
+        let part = place_part(buf, end, bytes, start + done, len - done);
+        end = part.end;
+        done += part.count;
+    }
+    end
+}
+
+/// A text, which lies in bytes so far before their end that 16 can be read at once.
+#[inline(always)]
+pub fn place_text(buf: &mut [u8], at: usize, bytes: &[u8], start: usize, len: usize) -> usize
+    requires text { start + len + 16 ≤ length bytes.now }
+    requires room { at + 4 * len + 16 ≤ length buf.old }
+    ensures placed { Placed buf.old buf.new at (flat_map escaped (take len (drop start bytes.now))) result }
+    ensures short { result ≤ at + 4 * len }
+{
+    if len <= 16 && len <= plain_16(bytes, start) {
+        return place_16(buf, at, bytes, start, len);
+    }
+    place_long(buf, at, bytes, start, len)
+}
