@@ -11,9 +11,18 @@ use lx_tables::{Joined, Tables, UNTOLD};
 /// The end of a match: the code of what has ended, the place behind its last byte, and the line there.
 #[derive(Clone, Copy, Debug, PartialEq, Eq)]
 pub struct End {
-    pub code: u32,
+    pub code: usize,
     pub offset: usize,
     pub line: u64,
+}
+
+impl End {
+    /// What stands where no end was found yet.
+    pub(crate) const NONE: End = End {
+        code: 0,
+        offset: 0,
+        line: 0,
+    };
 }
 
 /// What a run finds: how many matches end, and the condition behind the last one.
@@ -45,27 +54,31 @@ fn newline(byte: u8) -> u64
 
 // One for a code of what has ended.
 #[inline(always)]
-fn ending(code: u32) -> usize
+fn ending(code: usize) -> usize
     ensures value { result ≡ (if nat_eq code 0 then 0 else 1) }
     ensures few { result ≤ 1 }
 {
     if code == 0 { 0 } else { 1 }
 }
 
-/// The ends of the matches from a place on, as many as there is room for, up to the first one that the joined table doesn't tell. Each byte
-/// writes one over the last, which counts only where a match has ended.
+/// The ends of the matches from a place on, `most` at most, up to the first one that the joined table doesn't tell. Each byte writes one over
+/// the last, which counts only where a match has ended.
+#[inline(never)]
 pub(crate) fn find_ends(
     tables: &Tables,
     joined: &Joined,
     text: &[u8],
     place: Place,
+    most: usize,
     ends: &mut [End],
 ) -> Run
     requires table { IsTable tables.now }
-    requires joined { IsJoined tables.now joined.now.columns.items joined.now.entries.items }
+    requires joined { IsJoined tables.now joined.now.columns.items joined.now.entries.items joined.now.given.items }
     requires place { IsPlace tables.now text.now place }
     requires more { place.offset < length text.now }
-    ensures count { result.count ≤ length ends.new }
+    requires room { most ≤ length ends.old }
+    ensures count { result.count ≤ most }
+    ensures within { result.count ≤ length ends.new }
     ensures ends { 0 < result.count → LeadTo tables.now text.now place (take result.count ends.new) (place_behind text.now place (take result.count ends.new) result.condition) }
 {
     let columns = joined.columns.as_slice();
@@ -77,10 +90,10 @@ pub(crate) fn find_ends(
     let mut line = place.line + newline(first);
     let mut count = 0;
     let mut offset = place.offset + 1;
-    while offset < text.len() && count < ends.len() {
+    while offset < text.len() && count < most {
         let byte = text[offset];
         let entry = entry_at(columns, entries, row, byte);
-        let code = entry % 8192;
+        let code = (entry % 8192) as usize;
         if code == UNTOLD {
             break;
         }

@@ -27,6 +27,7 @@ loop-offset-init c =
           (c.row-row.ensures.row ∙ ap (λ (q : JoinedState). joined_number table q * joined_width table) is_begun)
           (ap (λ n. place.line + n) c.newline.ensures.value);
       count = omega arith;
+      room = omega arith;
       row = omega arith;
       line = omega arith;
     }
@@ -38,14 +39,16 @@ loop-offset-preserved c =
     let loop = c.loop-offset in
     let byte = slice_index text loop.offset in
     let small = c.type_inv.text loop.offset in
+    let room = c.if-count-most.true in
+    let most = loop.invariant.room in
     let entry = c.entry_at-entry.result in
     let columns_are = c.as_slice-columns.ensures.value in
     let entries_are = c.as_slice-entries.ensures.value in
     let entry_is : entry ≡ slice_index c.args.joined.now.entries.items (loop.row + slice_index c.args.joined.now.columns.items byte)
     = c.entry_at-entry.ensures ∙ ap (λ (xs : List ℕ). slice_index xs (loop.row + slice_index c.as_slice-columns.result.now byte)) entries_are
     ∙ ap (λ (xs : List ℕ). slice_index c.args.joined.now.entries.items (loop.row + slice_index xs byte)) columns_are in
-    let runs = runs_turn table c.requires.table c.args.joined.now.columns.items c.args.joined.now.entries.items c.requires.joined text c.args.place loop.ends loop.count loop.offset loop.line loop.row byte entry c.ending-count.result
-    loop.invariant.runs c.loop-offset-test.true refl (omega arith) entry_is c.if-count-ends.true c.if-code-eq-UNTOLD.false c.ending-count.ensures.value in
+    let runs = runs_turn table c.requires.table c.args.joined.now.columns.items c.args.joined.now.entries.items c.args.joined.now.given.items c.requires.joined text c.args.place loop.ends loop.count loop.offset loop.line loop.row byte entry c.ending-count.result
+    loop.invariant.runs c.loop-offset-test.true refl (omega arith) entry_is (omega arith) c.if-code-eq-UNTOLD.false c.ending-count.ensures.value in
     let row : slice_index c.args.joined.now.entries.items (loop.row + slice_index c.args.joined.now.columns.items byte) / 8192 + joined_width table ≤ length c.args.joined.now.entries.items
     = c.requires.joined.rows (loop.row + slice_index c.args.joined.now.columns.items byte) in
     let same : length c.as_slice-entries.result.now ≡ length c.args.joined.now.entries.items = ap length entries_are in
@@ -54,15 +57,17 @@ loop-offset-preserved c =
     let one = c.ending-count.ensures.few in
     let line_one = c.newline-line.ensures.few in
     let line_few = loop.invariant.line in
-    let room = c.if-count-ends.true in
     record {
       runs = subst (λ (n : ℕ). Runs table text c.args.place (take (loop.count + c.ending-count.result) (slice_set loop.ends loop.count (record { code = entry % 8192; offset = loop.offset; line = loop.line }))) (loop.offset + 1) (loop.line + n) (entry / 8192)) (sym c.newline-line.ensures.value) runs;
       count = omega arith;
+      room = omega arith;
       row = omega arith;
       line = omega arith;
     }
 
 pub returns-clause-ends : goal.returns-clause-ends
 returns-clause-ends c = λ some.
+    let count = c.loop-offset.invariant.count in
+    let room = c.loop-offset.invariant.room in
     runs_behind c.args.tables.now c.args.text.now c.args.place c.loop-offset.ends c.loop-offset.count c.loop-offset.offset c.loop-offset.line c.loop-offset.row c.condition_of_row.result
-    c.loop-offset.invariant.runs c.loop-offset.invariant.count c.condition_of_row.ensures some
+    c.loop-offset.invariant.runs (omega arith) c.condition_of_row.ensures some
