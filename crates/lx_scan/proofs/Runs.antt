@@ -1,8 +1,8 @@
 -- A run over the joined table: the ends that it has found, and where it stands.
-use Rattle.std.proofs.Common.{◌≡◌, ◌≢◌, ℕ, zero, suc, ◌+◌, ◌-◌, ◌*◌, ◌/◌, ◌%◌, ◌<◌, ◌≤◌, Bool, true, false, nat_eq, not, if◌then◌else◌, List, [], ◌∷◌, ◌++◌, Option, Some, None, length, take, drop, inl, inr, refl, sym, ap, ap₂, subst, ◌∙◌, arith, append_assoc, append-nil, add-zero}
+use Rattle.std.proofs.Common.{◌≡◌, ◌≢◌, ℕ, zero, suc, ◌+◌, ◌-◌, ◌*◌, ◌/◌, ◌%◌, ◌<◌, ◌≤◌, Bool, true, false, nat_eq, nat_le, not, if◌then◌else◌, List, [], ◌∷◌, ◌++◌, Option, Some, None, length, take, drop, inl, inr, refl, sym, ap, ap₂, subst, ◌∙◌, arith, append_assoc, append-nil, add-zero}
 use Rattle.std.specs.Prelude.{MatchOption, slice_index, slice_set}
 use Rattle.std.specs.Option.{option_map}
-use Rattle.std.proofs.lemmas.Bool.{eq-eqb, eqb-true}
+use Rattle.std.proofs.lemmas.Bool.{eq-eqb, eqb-true, le-leb, lt-leb}
 use Rattle.std.proofs.lemmas.List.{length-take-le, take-set, take_more_set}
 use Rattle.std.proofs.lemmas.Nat.{div-mul-add, mod-mul-add}
 use Rattle.lx_rules.specs.declared.rule.Step.{Step}
@@ -89,6 +89,16 @@ is_entry table is columns entries given joined q row byte entry known small row_
       code = ap (λ n. n % 8192) whole ∙ mod-mul-add (joined_number table found.1 * joined_width table) 8192 found.0 few;
       row = ap (λ n. n / 8192) whole ∙ div-mul-add (joined_number table found.1 * joined_width table) 8192 found.0 few;
     }
+
+-- a newline has the last column alone
+pub last_column : (table : Table) → IsTable table → (columns entries : List ℕ) (given : List (Option Step)) → IsJoined table columns entries given → (byte : ℕ) → byte < 256 →
+    ◌≡◌ {A = ℕ} (if nat_le (slice_index columns 10) (slice_index columns byte) then 1 else 0) (if nat_eq byte 10 then 1 else 0)
+last_column table is columns entries given joined byte small =
+    ap₂ (λ (l c : ℕ). if nat_le l c then 1 else 0) (joined.byte_columns 10 (omega arith)) (joined.byte_columns byte small) ∙ on (nat_eq byte 10)
+  where
+    on : (b : Bool) → ◌≡◌ {A = ℕ} (if nat_le table.machine.width (if b then table.machine.width else slice_index table.machine.classes byte) then 1 else 0) (if b then 1 else 0)
+    on true = ap (λ (t : Bool). if t then 1 else 0) (le-leb table.machine.width table.machine.width (omega arith))
+    on false = ap (λ (t : Bool). if t then 1 else 0) (lt-leb table.machine.width (slice_index table.machine.classes byte) (is.machine.below byte small))
 
 -- ---- a run
 -- From a place these ends were found, and it stands behind so many bytes of the text, on this line and in this row.
