@@ -2,12 +2,12 @@
 use Rattle.std.proofs.Common.{◌≡◌, ◌≢◌, ℕ, zero, suc, ◌+◌, ◌-◌, ◌*◌, ◌<◌, ◌≤◌, Bool, true, false, nat_eq, nat_le, nat_lt, not, if◌then◌else◌, List, [], ◌∷◌, ◌++◌, Option, Some, None, length, take, drop, refl, sym, ap, subst, ◌∙◌, arith, add-zero, length-drop}
 use Rattle.std.specs.Prelude.{slice_index}
 use Rattle.std.specs.Option.{ForSome, option_map, option_or}
-use Rattle.std.proofs.lemmas.Bool.{and_parts, leb-true, lt-ltb, ne_eqb, not-true}
+use Rattle.std.proofs.lemmas.Bool.{and_parts, eq-eqb, leb-true, lt-ltb, ne_eqb, not-true}
 use Rattle.std.proofs.lemmas.List.{get_or-drop, length-take-le, take_more, take_rest}
 use Rattle.lx_rules.specs.declared.rule.Step.{Step}
 use Rattle.lx_rules.specs.declared.rule.Step.TheVariants.{Echo, Begin, Return}
 use Rattle.lx_automaton.specs.Automata.{state_count, start_of, accepted_at, accepted_by, answer, state_after, target_of}
-use Rattle.lx_tables.specs.Joined.{IsJoinedState, begun, condition_behind, condition_behind_rule, ended, is_told, joined_step, rule_ended, stepped, target_from, untold}
+use Rattle.lx_tables.specs.Joined.{IsJoinedState, begun, condition_behind, condition_behind_rule, echoed, ended, is_told, item_count, joined_step, rule_ended, stepped, target_from, untold}
 use Rattle.lx_tables.specs.Model.{Table, IsTable, rule_at}
 use Rattle.lx_tables.specs.declared.joined.JoinedState.{JoinedState}
 use Rattle.lx_scan.specs.declared.place.Match.{Match}
@@ -44,13 +44,12 @@ newlines_more text offset place byte h more is =
     ∙ ap (λ b. newlines (take (place - offset) (drop offset text)) + newlines (b ∷ [])) here
     ∙ ap (λ k. newlines (take (place - offset) (drop offset text)) + k) last
 
--- ---- actions of one step at most
-lead_alike : (steps : List Step) (condition : ℕ) → length steps ≤ 1 → condition_behind steps condition ≡ condition_after steps condition
-lead_alike [] condition h = refl
-lead_alike (Echo ∷ []) condition h = refl
-lead_alike (Begin next ∷ []) condition h = refl
-lead_alike (Return kind ∷ []) condition h = refl
-lead_alike (step ∷ other ∷ steps) condition h = absurd (omega arith)
+-- ---- actions
+lead_alike : (steps : List Step) (condition : ℕ) → condition_behind steps condition ≡ condition_after steps condition
+lead_alike [] condition = refl
+lead_alike (Echo ∷ steps) condition = lead_alike steps condition
+lead_alike (Begin next ∷ steps) condition = lead_alike steps next
+lead_alike (Return kind ∷ steps) condition = lead_alike steps condition
 
 pub steps_alike : (table : Table) (rule : Option ℕ) (n : ℕ) → steps_at table (option_map (λ r. (r, n)) rule) ≡ steps_of_rule table rule
 steps_alike table None n = refl
@@ -145,11 +144,11 @@ module _ (table : Table) (text : List ℕ) where
 
   -- what a code tells of the match that has ended
   pub record Tells (place : Place) (read : ℕ) (q : JoinedState) (code : ℕ) : Type 0 where
-    pub choice : choice_at table (drop place.offset text) place ≡ option_map (λ r. (r, read - place.offset)) (rule_of_code code)
+    pub choice : choice_at table (drop place.offset text) place ≡ option_map (λ r. (r, read - place.offset)) (rule_of_code table code)
     pub condition : condition_behind_rule table (accepted_at table.machine q.state) q.condition ≡ condition_after (steps_of_code table code) place.condition
-    pub rule : ForSome (rule_of_code code) (λ i. i < length table.rules)
-    pub few : length (steps_of_code table code) ≤ 1
-    pub alone : rule_of_code code ≡ None → read - place.offset ≡ 1
+    pub known : code ≤ echoed table
+    pub few : item_count (steps_of_code table code) ≤ 1
+    pub alone : rule_of_code table code ≡ None → read - place.offset ≡ 1
 
   module _ (is : IsTable table) (place : Place) (known : place.condition < length table.machine.starts) (read byte : ℕ) (q : JoinedState) (s : Stands place read q) (there : IsJoinedState table q)
       (more : read < length text) (is_byte : slice_index text read ≡ byte) (code : ℕ) where
@@ -160,20 +159,20 @@ module _ (table : Table) (text : List ℕ) where
     begins = Some (start_of table.machine place.condition place.at_line_begin)
 
     -- a byte that no rule matches
-    tells_echo : q.state ≡ None → code ≡ 4097 → Tells place read q code
+    tells_echo : q.state ≡ None → code ≡ echoed table → Tells place read q code
     tells_echo none is_code =
         let long = length-drop place.offset text in
         let further = s.further in
         let one = s.alone none in
         let len : read - place.offset ≡ 1 = omega arith in
-        let rule : rule_of_code code ≡ None = ap rule_of_code is_code in
+        let rule : rule_of_code table code ≡ None = ap (λ (b : Bool). if b then None else Some (code - 1)) (eq-eqb code (echoed table) is_code) in
         let steps : steps_of_code table code ≡ Echo ∷ [] = ap (λ o. steps_of_rule table o) rule in
         record {
           choice = none_chosen table place.condition place.at_line_begin rest (is.machine.starts place.condition place.at_line_begin known) (omega (arith, long))
               (ap (λ n. state_after table.machine begins (take n rest)) (sym len) ∙ s.state ∙ none) ∙ sym (ap (λ (o : Option ℕ). option_map (λ r. (r, read - place.offset)) o) rule);
           condition = ap (λ o. condition_behind_rule table (accepted_at table.machine o) q.condition) none ∙ s.condition ∙ sym (ap (λ xs. condition_after xs place.condition) steps);
-          rule = λ i e. absurd (let f : None ≡ Some i = sym rule ∙ e in cc);
-          few = subst (λ (xs : List Step). length xs ≤ 1) (sym steps) (let l : length (Echo ∷ []) ≤ 1 = omega arith in l);
+          known = omega arith;
+          few = subst (λ (xs : List Step). item_count xs ≤ 1) (sym steps) (let l : item_count (Echo ∷ []) ≤ 1 = omega arith in l);
           alone = λ e. len;
         }
 
@@ -184,22 +183,22 @@ module _ (table : Table) (text : List ℕ) where
         let further = s.further in
         let below : rule < length table.rules = is.accepted p rule accepted in
         let few_rules = is.few_rules in
-        let parts = and_parts (not (rule_at table rule).line_end) (nat_le (length (rule_at table rule).steps) 1) told in
+        let parts = and_parts (not (rule_at table rule).line_end) (nat_le (item_count (rule_at table rule).steps) 1) told in
         let whole : token_len table rule (read - place.offset) ≡ read - place.offset = ap (λ (b : Bool). if b then read - place.offset - 1 else read - place.offset) (not-true (rule_at table rule).line_end parts.0) in
-        let few : length (rule_at table rule).steps ≤ 1 = leb-true (length (rule_at table rule).steps) 1 parts.1 in
+        let few : item_count (rule_at table rule).steps ≤ 1 = leb-true (item_count (rule_at table rule).steps) 1 parts.1 in
         let less : rule + 1 - 1 ≡ rule = omega arith in
-        let is_rule : rule_of_code code ≡ Some rule =
-        ap rule_of_code is_code ∙ ap (λ (b : Bool). if b then None else Some (rule + 1 - 1)) (ne_eqb (rule + 1) 4097 (λ e. absurd (omega arith))) ∙ ap (λ n. Some n) less in
+        let is_rule : rule_of_code table code ≡ Some rule =
+        ap (λ n. rule_of_code table n) is_code ∙ ap (λ (b : Bool). if b then None else Some (rule + 1 - 1)) (ne_eqb (rule + 1) (echoed table) (λ e. absurd (omega arith))) ∙ ap (λ n. Some n) less in
         let steps : steps_of_code table code ≡ (rule_at table rule).steps = ap (λ o. steps_of_rule table o) is_rule in
         record {
           choice = rule_chosen table place.condition place.at_line_begin rest (read - place.offset) p rule byte (omega arith) (omega (arith, long)) (byte_there place.offset (read - place.offset) read byte (omega arith) is_byte)
               (there.state p state) (s.state ∙ state) accepted whole missing ∙ sym (ap (λ (o : Option ℕ). option_map (λ r. (r, read - place.offset)) o) is_rule);
           condition = ap (λ o. condition_behind_rule table o q.condition) (ap (λ o. accepted_at table.machine o) state ∙ accepted)
-              ∙ lead_alike (rule_at table rule).steps q.condition few
+              ∙ lead_alike (rule_at table rule).steps q.condition
               ∙ ap (λ n. condition_after (rule_at table rule).steps n) s.condition
               ∙ sym (ap (λ xs. condition_after xs place.condition) steps);
-          rule = λ i e. let f : Some rule ≡ Some i = sym is_rule ∙ e in let same : rule ≡ i = cc in subst (λ (n : ℕ). n < length table.rules) same below;
-          few = subst (λ (xs : List Step). length xs ≤ 1) (sym steps) few;
+          known = omega arith;
+          few = subst (λ (xs : List Step). item_count xs ≤ 1) (sym steps) few;
           alone = λ e. absurd (let f : Some rule ≡ None = sym is_rule ∙ e in cc);
         }
 
@@ -219,7 +218,7 @@ module _ (table : Table) (text : List ℕ) where
         on (Some p) state missing is_code = tells_accepted p (accepted_by table.machine p) state refl missing is_code told
 
     abbrev pub ended_match : Match
-    ended_match = record { rule = rule_of_code code; start = place.offset; len = read - place.offset }
+    ended_match = record { rule = rule_of_code table code; start = place.offset; len = read - place.offset }
 
     -- where the next match begins
     abbrev pub next_place : Place
@@ -238,6 +237,6 @@ module _ (table : Table) (text : List ℕ) where
         let few = newlines_few (take (read - place.offset) rest) in
         let taken : length (take (read - place.offset) rest) ≡ read - place.offset = length-take-le (read - place.offset) rest (omega (arith, long)) in
         goes_on table text rest place ended_match next_place is (sym (take_rest text place.offset)) (omega arith) p.known p.line_few p.line_some found (omega (arith, few, taken)) (omega arith)
-        (t.condition ∙ sym (ap (λ xs. condition_after xs place.condition) (steps_alike table (rule_of_code code) (read - place.offset))))
+        (t.condition ∙ sym (ap (λ xs. condition_after xs place.condition) (steps_alike table (rule_of_code table code) (read - place.offset))))
         (s.newline ∙ ap (λ b. nat_eq b 10) (sym (byte_there place.offset (read - place.offset - 1) (read - 1) (slice_index text (read - 1)) (omega arith) refl)))
         refl

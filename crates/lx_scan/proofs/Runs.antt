@@ -1,10 +1,11 @@
 -- A run over the joined table: the ends that it has found, and where it stands.
-use Rattle.std.proofs.Common.{◌≡◌, ◌≢◌, ℕ, zero, suc, ◌+◌, ◌-◌, ◌*◌, ◌/◌, ◌%◌, ◌<◌, ◌≤◌, Bool, true, false, nat_eq, not, if◌then◌else◌, List, [], ◌∷◌, ◌++◌, Option, Some, None, length, take, drop, inl, inr, refl, sym, ap, ap₂, subst, ◌∙◌, arith, append_assoc, append-nil, add-zero}
-use Rattle.std.specs.Prelude.{slice_index, slice_set}
+use Rattle.std.proofs.Common.{◌≡◌, ◌≢◌, ℕ, zero, suc, ◌+◌, ◌-◌, ◌*◌, ◌/◌, ◌%◌, ◌<◌, ◌≤◌, Bool, true, false, nat_eq, nat_le, not, if◌then◌else◌, List, [], ◌∷◌, ◌++◌, Option, Some, None, length, take, drop, inl, inr, refl, sym, ap, ap₂, subst, ◌∙◌, arith, append_assoc, append-nil, add-zero}
+use Rattle.std.specs.Prelude.{MatchOption, slice_index, slice_set}
 use Rattle.std.specs.Option.{option_map}
-use Rattle.std.proofs.lemmas.Bool.{eq-eqb, eqb-true}
+use Rattle.std.proofs.lemmas.Bool.{eq-eqb, eqb-true, le-leb, lt-leb}
 use Rattle.std.proofs.lemmas.List.{length-take-le, take-set, take_more_set}
 use Rattle.std.proofs.lemmas.Nat.{div-mul-add, mod-mul-add}
+use Rattle.lx_rules.specs.declared.rule.Step.{Step}
 use Rattle.lx_automaton.specs.Automata.{accepted_by}
 use Rattle.lx_tables.specs.Joined.{IsJoined, IsJoinedState, begun, column_of, ended, is_told, joined_entry, joined_number, joined_step, joined_width, rule_ended, stepped, target_from}
 use Rattle.lx_tables.specs.Model.{Table, IsTable, rule_at}
@@ -52,7 +53,7 @@ code_small table is q class newline = on (target_from table.machine q.state clas
     accepted p (Some rule) e = told rule (is_told (rule_at table rule)) (let below = is.accepted p rule e in let few = is.few_rules in omega arith)
 
     in_state : (o : Option ℕ) → ended table o < 8192
-    in_state None = omega arith
+    in_state None = let few = is.few_rules in omega arith
     in_state (Some p) = accepted p (accepted_by table.machine p) refl
 
     on : (o : Option ℕ) → (stepped table q class newline o).0 < 8192
@@ -77,9 +78,9 @@ pub record IsEntry (table : Table) (q : JoinedState) (byte entry : ℕ) : Type 0
   pub code : entry % 8192 ≡ (joined_step table q (slice_index table.machine.classes byte) (nat_eq byte 10)).0
   pub row : entry / 8192 ≡ joined_number table (joined_step table q (slice_index table.machine.classes byte) (nat_eq byte 10)).1 * joined_width table
 
-pub is_entry : (table : Table) → IsTable table → (columns entries : List ℕ) → IsJoined table columns entries → (q : JoinedState) (row byte entry : ℕ) → IsJoinedState table q → byte < 256 →
+pub is_entry : (table : Table) → IsTable table → (columns entries : List ℕ) (given : List (Option Step)) → IsJoined table columns entries given → (q : JoinedState) (row byte entry : ℕ) → IsJoinedState table q → byte < 256 →
     row ≡ joined_number table q * joined_width table → entry ≡ slice_index entries (row + slice_index columns byte) → IsEntry table q byte entry
-is_entry table is columns entries joined q row byte entry known small row_is entry_is =
+is_entry table is columns entries given joined q row byte entry known small row_is entry_is =
     let found = joined_step table q (slice_index table.machine.classes byte) (nat_eq byte 10) in
     let whole : entry ≡ joined_number table found.1 * joined_width table * 8192 + found.0 =
     entry_is ∙ ap₂ (λ (r c : ℕ). slice_index entries (r + c)) row_is (joined.byte_columns byte small) ∙ joined.each q byte known small in
@@ -88,6 +89,16 @@ is_entry table is columns entries joined q row byte entry known small row_is ent
       code = ap (λ n. n % 8192) whole ∙ mod-mul-add (joined_number table found.1 * joined_width table) 8192 found.0 few;
       row = ap (λ n. n / 8192) whole ∙ div-mul-add (joined_number table found.1 * joined_width table) 8192 found.0 few;
     }
+
+-- a newline has the last column alone
+pub last_column : (table : Table) → IsTable table → (columns entries : List ℕ) (given : List (Option Step)) → IsJoined table columns entries given → (byte : ℕ) → byte < 256 →
+    ◌≡◌ {A = ℕ} (if nat_le (slice_index columns 10) (slice_index columns byte) then 1 else 0) (if nat_eq byte 10 then 1 else 0)
+last_column table is columns entries given joined byte small =
+    ap₂ (λ (l c : ℕ). if nat_le l c then 1 else 0) (joined.byte_columns 10 (omega arith)) (joined.byte_columns byte small) ∙ on (nat_eq byte 10)
+  where
+    on : (b : Bool) → ◌≡◌ {A = ℕ} (if nat_le table.machine.width (if b then table.machine.width else slice_index table.machine.classes byte) then 1 else 0) (if b then 1 else 0)
+    on true = ap (λ (t : Bool). if t then 1 else 0) (le-leb table.machine.width table.machine.width (omega arith))
+    on false = ap (λ (t : Bool). if t then 1 else 0) (lt-leb table.machine.width (slice_index table.machine.classes byte) (is.machine.below byte small))
 
 -- ---- a run
 -- From a place these ends were found, and it stands behind so many bytes of the text, on this line and in this row.
@@ -130,7 +141,7 @@ runs_begun table text from byte line row p more is known row_is line_is = record
   begin = λ h. absurd (omega arith);
 }
 
-module _ (table : Table) (is : IsTable table) (columns entries : List ℕ) (joined : IsJoined table columns entries) (text : List ℕ) (from : Place) (ends : List End) (read line row byte entry : ℕ)
+module _ (table : Table) (is : IsTable table) (columns entries : List ℕ) (given : List (Option Step)) (joined : IsJoined table columns entries given) (text : List ℕ) (from : Place) (ends : List End) (read line row byte entry : ℕ)
     (r : Runs table text from ends read line row) (more : read < length text) (is_byte : slice_index text read ≡ byte) (small : byte < 256) (entry_is : entry ≡ slice_index entries (row + slice_index columns byte)) where
   abbrev class : ℕ
   class = slice_index table.machine.classes byte
@@ -139,7 +150,7 @@ module _ (table : Table) (is : IsTable table) (columns entries : List ℕ) (join
   found = joined_step table r.q class (nat_eq byte 10)
 
   parts : IsEntry table r.q byte entry
-  parts = is_entry table is columns entries joined r.q row byte entry r.known small r.row_is entry_is
+  parts = is_entry table is columns entries given joined r.q row byte entry r.known small r.row_is entry_is
 
   -- nothing has ended
   pub runs_on : entry % 8192 ≡ 0 → Runs table text from ends (read + 1) (line + (if nat_eq byte 10 then 1 else 0)) (entry / 8192)
@@ -189,9 +200,9 @@ module _ (table : Table) (is : IsTable table) (columns entries : List ℕ) (join
           let is_found : found ≡ (ended table r.q.state, begun table next.condition next.at_line_begin class (nat_eq byte 10)) = ap (λ o. stepped table r.q class (nat_eq byte 10) o) missing in
           let line_is : line ≡ next.line = r.line_is in
           let further = r.stands.further in
-          let items : items_of_steps (steps_at table (option_map (λ rule. (rule, read - r.place.offset)) (rule_of_code (entry % 8192)))) r.place.line r.place.offset (read - r.place.offset)
+          let items : items_of_steps (steps_at table (option_map (λ rule. (rule, read - r.place.offset)) (rule_of_code table (entry % 8192)))) r.place.line r.place.offset (read - r.place.offset)
           ≡ items_of_steps (steps_of_code table e.code) (line_of from.line ends) (end_of from.offset ends) (e.offset - end_of from.offset ends) =
-          ap (λ xs. items_of_steps xs r.place.line r.place.offset (read - r.place.offset)) (steps_alike table (rule_of_code (entry % 8192)) (read - r.place.offset))
+          ap (λ xs. items_of_steps xs r.place.line r.place.offset (read - r.place.offset)) (steps_alike table (rule_of_code table (entry % 8192)) (read - r.place.offset))
           ∙ ap₂ (λ (l o : ℕ). items_of_steps (steps_of_code table e.code) l o (read - o)) r.line_was r.offset_is in
           record {
             place = next;
@@ -201,7 +212,7 @@ module _ (table : Table) (is : IsTable table) (columns entries : List ℕ) (join
             row_is = parts.row ∙ ap (λ (f : ℕ × JoinedState). joined_number table f.1 * joined_width table) is_found;
             line_is = ap (λ l. l + (if nat_eq byte 10 then 1 else 0)) line_is ∙ first_line text read next.line byte more is_byte;
             leads = record {
-              are_ends = are_more table from.offset ends e r.leads.are_ends (record { some = positive (entry % 8192) some; further = subst (λ (n : ℕ). n < read) r.offset_is further; rule = t.rule; few = t.few });
+              are_ends = are_more table from.offset ends e r.leads.are_ends (record { further = subst (λ (n : ℕ). n < read) r.offset_is further; some = positive (entry % 8192) some; known = t.known; few = t.few });
               is_place = record { within = g.within; known = g.known; line_some = g.line_some; line_few = g.line_few };
               items = r.leads.items
                   ∙ ap (λ (xs : List Item). items_of_ends table from.offset from.line ends ++ xs) (g.items ∙ ap (λ (xs : List Item). xs ++ items_after table text next) items)
@@ -214,11 +225,11 @@ module _ (table : Table) (is : IsTable table) (columns entries : List ℕ) (join
           }
 
 -- the same, as a run writes its ends over one another
-pub runs_turn : (table : Table) → IsTable table → (columns entries : List ℕ) → IsJoined table columns entries → (text : List ℕ) (from : Place) (ends : List End) (count read line row byte entry one : ℕ) →
+pub runs_turn : (table : Table) → IsTable table → (columns entries : List ℕ) (given : List (Option Step)) → IsJoined table columns entries given → (text : List ℕ) (from : Place) (ends : List End) (count read line row byte entry one : ℕ) →
     Runs table text from (take count ends) read line row → read < length text → slice_index text read ≡ byte → byte < 256 → entry ≡ slice_index entries (row + slice_index columns byte) →
     count < length ends → entry % 8192 ≢ 8191 → one ≡ (if nat_eq (entry % 8192) 0 then 0 else 1) →
     Runs table text from (take (count + one) (slice_set ends count (record { code = entry % 8192; offset = read; line = line }))) (read + 1) (line + (if nat_eq byte 10 then 1 else 0)) (entry / 8192)
-runs_turn table is columns entries joined text from ends count read line row byte entry one r more is_byte small entry_is room told one_is = on (nat_eq (entry % 8192) 0) refl
+runs_turn table is columns entries given joined text from ends count read line row byte entry one r more is_byte small entry_is room told one_is = on (nat_eq (entry % 8192) 0) refl
   where
     on : (b : Bool) → nat_eq (entry % 8192) 0 ≡ b → Runs table text from (take (count + one) (slice_set ends count (record { code = entry % 8192; offset = read; line = line }))) (read + 1) (line + (if nat_eq byte 10 then 1 else 0)) (entry / 8192)
     on true none =
@@ -227,13 +238,13 @@ runs_turn table is columns entries joined text from ends count read line row byt
         ∙ ap (λ (n : ℕ). take n (slice_set ends count (record { code = entry % 8192; offset = read; line = line }))) (add-zero count)
         ∙ take-set ends count _ in
         subst (λ (es : List End). Runs table text from es (read + 1) (line + (if nat_eq byte 10 then 1 else 0)) (entry / 8192)) (sym same)
-        (runs_on table is columns entries joined text from (take count ends) read line row byte entry r more is_byte small entry_is (eqb-true (entry % 8192) 0 none))
+        (runs_on table is columns entries given joined text from (take count ends) read line row byte entry r more is_byte small entry_is (eqb-true (entry % 8192) 0 none))
     on false some =
         let same : take (count + one) (slice_set ends count (record { code = entry % 8192; offset = read; line = line })) ≡ take count ends ++ record { code = entry % 8192; offset = read; line = line } ∷ [] =
         ap (λ (n : ℕ). take (count + n) (slice_set ends count (record { code = entry % 8192; offset = read; line = line }))) (one_is ∙ ap (λ (b : Bool). if b then 0 else 1) some)
         ∙ take_more_set ends count _ room in
         subst (λ (es : List End). Runs table text from es (read + 1) (line + (if nat_eq byte 10 then 1 else 0)) (entry / 8192)) (sym same)
-        (runs_further table is columns entries joined text from (take count ends) read line row byte entry r more is_byte small entry_is
+        (runs_further table is columns entries given joined text from (take count ends) read line row byte entry r more is_byte small entry_is
         (λ zero_is. let yes = eq-eqb (entry % 8192) 0 zero_is in let no : true ≡ false = sym yes ∙ some in cc) told)
 
 -- where matches have ended the place behind them is known by the last end and the condition
@@ -277,3 +288,20 @@ run_appends table text from ends condition offset line old new leads some offset
         left_is = subst (λ (p : Place). items_after table text from ≡ items_of_ends table from.offset from.line ends ++ items_after table text p) same leads.items;
       },
     )
+
+-- and behind those of runs before it
+pub appends_both : (a b d x y z : List Item) → Appends a b x y → Appends b d y z → Appends a d x z
+appends_both a b d x y z first second = record {
+  added = first.added ++ second.added;
+  new_is = second.new_is ∙ ap (λ xs. xs ++ second.added) first.new_is ∙ append_assoc a first.added second.added;
+  left_is = first.left_is ∙ ap (λ xs. first.added ++ xs) second.left_is ∙ sym (append_assoc first.added second.added z);
+}
+
+pub appends_on : (table : Table) (text : List ℕ) (from place : Place) (a b d : List Item) (next : Option Place) (p : Place) → next ≡ Some p →
+    MatchOption next (d ≡ b) (λ q. (place.offset < q.offset) × IsPlace table text q × Appends b d (items_after table text place) (items_after table text q)) →
+    Appends a b (items_after table text from) (items_after table text place) → IsPlace table text p × Appends a d (items_after table text from) (items_after table text p)
+appends_on table text from place a b d None p is found before = absurd (let f : None ≡ Some p = is in cc)
+appends_on table text from place a b d (Some q) p is found before =
+    let same : q ≡ p = cc in
+    subst (λ (r : Place). IsPlace table text r × Appends a d (items_after table text from) (items_after table text r)) same
+    (found.1, appends_both a b d (items_after table text from) (items_after table text place) (items_after table text q) before found.2)

@@ -1,9 +1,8 @@
 -- The ends of matches one behind the other, as a run over the joined table finds them, and the items that are made of them.
 use Rattle.std.specs.Prelude.{◌≡◌, ℕ, ◌+◌, ◌-◌, ◌<◌, ◌≤◌, nat_eq, if◌then◌else◌, List, [], ◌∷◌, ◌++◌, Option, Some, None, length, slice_index}
-use Rattle.std.specs.Option.{ForSome}
 use Rattle.lx_rules.specs.declared.rule.Step.{Step}
 use Rattle.lx_rules.specs.declared.rule.Step.TheVariants.{Echo}
-use Rattle.lx_tables.specs.Joined.{echoed}
+use Rattle.lx_tables.specs.Joined.{echoed, item_count}
 use Rattle.lx_tables.specs.Model.{Table, rule_at}
 use Rattle.lx_scan.specs.declared.ends.End.{End}
 use Rattle.lx_scan.specs.declared.item.Item.{Item}
@@ -11,9 +10,9 @@ use Rattle.lx_scan.specs.declared.place.Place.{Place}
 use Rattle.lx_scan.specs.Items.{items_after}
 use Rattle.lx_scan.specs.Steps.{items_of_steps}
 
--- the rule whose match a code says to have ended; none where a byte is echoed
-abbrev pub rule_of_code : ℕ → Option ℕ
-rule_of_code code = if nat_eq code echoed then None else Some (code - 1)
+-- the rule whose match a code says to have ended; none where a byte is echoed that no rule matches
+abbrev pub rule_of_code : Table → ℕ → Option ℕ
+rule_of_code table code = if nat_eq code (echoed table) then None else Some (code - 1)
 
 -- what is done at it
 abbrev pub steps_of_rule : Table → Option ℕ → List Step
@@ -21,14 +20,14 @@ steps_of_rule table None = Echo ∷ []
 steps_of_rule table (Some rule) = (rule_at table rule).steps
 
 abbrev pub steps_of_code : Table → ℕ → List Step
-steps_of_code table code = steps_of_rule table (rule_of_code code)
+steps_of_code table code = steps_of_rule table (rule_of_code table code)
 
--- a match from this place on ended there: its rule is there, and does one step at most
+-- A match from this place on ended there: of a rule that is there, or a byte that no rule matches; and it gives one item at most.
 pub record IsEnd (table : Table) (start : ℕ) (e : End) : Type 0 where
-  pub some : 0 < e.code
   pub further : start < e.offset
-  pub rule : ForSome (rule_of_code e.code) (λ i. i < length table.rules)
-  pub few : length (steps_of_code table e.code) ≤ 1
+  pub some : 0 < e.code
+  pub known : e.code ≤ echoed table
+  pub few : item_count (steps_of_code table e.code) ≤ 1
 
 -- each of the matches begins where the one before it ended
 abbrev pub AreEnds : Table → ℕ → List End → Type 0

@@ -1,11 +1,10 @@
 //! The items of a text by the joined table, appended to a list.
 
 ghost use Rattle.std.specs.Prelude.{◌≡◌, ◌<◌, ◌≤◌, ◌+◌, ◌-◌, ◌++◌, IfOk, OnOk, MatchOption, length};
-ghost use Rattle.std.specs.Option.{ForSome};
-ghost use Rattle.lx_tables.specs.Joined.{IsJoined};
+ghost use Rattle.lx_tables.specs.Joined.{AreGiven, IsJoined};
 ghost use Rattle.lx_tables.specs.Model.{IsTable};
 ghost use Rattle.lx_scan.specs.Cursors.{listed};
-ghost use Rattle.lx_scan.specs.Ends.{AreEnds, Appends, IsEnd, IsPlace, end_of, items_of_ends, line_of, rule_of_code, steps_of_code};
+ghost use Rattle.lx_scan.specs.Ends.{AreEnds, Appends, IsEnd, IsPlace, end_of, items_of_ends, line_of, steps_of_code};
 ghost use Rattle.lx_scan.specs.Items.{items_after};
 ghost use Rattle.lx_scan.specs.Steps.{items_of_steps};
 
@@ -14,36 +13,24 @@ use crate::ends::{End, find_ends};
 use crate::item::Item;
 use crate::place::Place;
 use lx_rules::rule::Step;
-use lx_tables::{ECHOED, Joined, Tables};
+use lx_tables::{Joined, Tables};
 use std::alloc::AllocError;
 
-// So many ends are found at once.
-const ENDS: usize = 128;
-
-// What is done where a match has ended.
+// The item of a match that has ended, if it gives one.
 #[inline(always)]
-fn steps_of_end(tables: &Tables, code: u32) -> &[Step]
-    requires table { IsTable tables.now }
-    requires some { 0 < code }
-    requires rule { ForSome (rule_of_code code) (λ i. i < length tables.now.rules) }
-    ensures { result.now ≡ steps_of_code tables.now code }
-{
-    if code == ECHOED {
-        &[Step::Echo]
-    } else {
-        tables.steps((code - 1) as u16)
-    }
-}
-
-// The item of a match that has ended, if its rule gives one.
-#[inline(always)]
-fn item_of_end(tables: &Tables, end: End, start: usize, line: u64) -> Option<Item>
-    requires table { IsTable tables.now }
+fn item_of_end(
+    tables: &Tables,
+    given: &[Option<Step>],
+    end: End,
+    start: usize,
+    line: u64,
+) -> Option<Item>
+    requires given { AreGiven tables.now given.now }
     requires end { IsEnd tables.now start end }
     ensures { listed result ≡ items_of_steps (steps_of_code tables.now end.code) line start (end.offset - start) }
 {
-    match steps_of_end(tables, end.code).first() {
-        Some(step) => item_of(*step, line, start, end.offset - start),
+    match given[end.code] {
+        Some(step) => item_of(step, line, start, end.offset - start),
         None => None,
     }
 }
@@ -51,11 +38,12 @@ fn item_of_end(tables: &Tables, end: End, start: usize, line: u64) -> Option<Ite
 // Appends the items of matches one behind the other, and gives where the last one ended, and the line there.
 fn push_items(
     tables: &Tables,
+    given: &[Option<Step>],
     ends: &[End],
     from: Place,
     items: &mut Vec<Item>,
 ) -> Result<(usize, u64), AllocError>
-    requires table { IsTable tables.now }
+    requires given { AreGiven tables.now given.now }
     requires ends { AreEnds tables.now from.offset ends.now }
     ensures items { OnOk result (items.new.items ≡ items.old.items ++ items_of_ends tables.now from.offset from.line ends.now) }
     ensures few { OnOk result (length items.new.items ≤ length items.old.items + length ends.now) }
@@ -66,7 +54,7 @@ fn push_items(
     let mut start = from.offset;
     let mut line = from.line;
     while let Some((end, more)) = rest.split_first() {
-        if let Some(item) = item_of_end(tables, *end, start, line) {
+        if let Some(item) = item_of_end(tables, given, *end, start, line) {
             items.push(item)?;
         }
         start = end.offset;
@@ -76,29 +64,31 @@ fn push_items(
     Ok((start, line))
 }
 
-// Appends the items of the matches that the joined table tells from a place on, and gives the place behind them; None where it tells none. For
-// as many matches as there is room for ends.
+// Appends the items of the matches that the joined table tells from a place on, of `most` matches at most, and gives the place behind them; None
+// where it tells none.
 fn append_run(
     tables: &Tables,
     joined: &Joined,
     text: &[u8],
     from: Place,
+    most: usize,
     ends: &mut [End],
     items: &mut Vec<Item>,
 ) -> Result<Option<Place>, AllocError>
     requires table { IsTable tables.now }
-    requires joined { IsJoined tables.now joined.now.columns.items joined.now.entries.items }
+    requires joined { IsJoined tables.now joined.now.columns.items joined.now.entries.items joined.now.given.items }
     requires place { IsPlace tables.now text.now from }
     requires more { from.offset < length text.now }
+    requires room { most ≤ length ends.old }
     ensures items { IfOk result (λ next. MatchOption next (items.new.items ≡ items.old.items)
         (λ place. (from.offset < place.offset) × IsPlace tables.now text.now place × Appends items.old.items items.new.items (items_after tables.now text.now from) (items_after tables.now text.now place))) }
-    ensures few { OnOk result (length items.new.items ≤ length items.old.items + length ends.old) }
+    ensures few { OnOk result (length items.new.items ≤ length items.old.items + most) }
 {
-    let run = find_ends(tables, joined, text, from, ends);
+    let run = find_ends(tables, joined, text, from, most, ends);
     if run.count == 0 {
         return Ok(None);
     }
-    let (offset, line) = push_items(tables, &ends[..run.count], from, items)?;
+    let (offset, line) = push_items(tables, &joined.given, &ends[..run.count], from, items)?;
     Ok(Some(Place {
         offset,
         condition: run.condition,
@@ -108,12 +98,13 @@ fn append_run(
 }
 
 /// Appends the items of the matches from a place on, until the list has `most` items or the joined table tells no further match, and gives the
-/// place behind them.
+/// place behind them. The ends are found where there is room for them.
 pub(crate) fn append_runs(
     tables: &Tables,
     text: &[u8],
     from: Place,
     most: usize,
+    ends: &mut [End],
     items: &mut Vec<Item>,
 ) -> Result<Place, AllocError>
     requires table { IsTable tables.now }
@@ -126,15 +117,10 @@ pub(crate) fn append_runs(
     let Some(joined) = tables.joined() else {
         return Ok(from);
     };
-    let mut ends = [End {
-        code: 0,
-        offset: 0,
-        line: 0,
-    }; ENDS];
     let mut place = from;
     while place.offset < text.len() && items.len() < most {
-        let room = ENDS.min(most - items.len());
-        let Some(next) = append_run(tables, joined, text, place, &mut ends[..room], items)? else {
+        let room = ends.len().min(most - items.len());
+        let Some(next) = append_run(tables, joined, text, place, room, ends, items)? else {
             return Ok(place);
         };
         place = next;

@@ -10,12 +10,16 @@ ghost use Rattle.lx_scan.specs.Matching.{choice_in};
 ghost use Rattle.lx_scan.specs.Steps.{items_of_steps};
 
 use crate::appending::append_runs;
+use crate::ends::End;
 use crate::item::Item;
 use crate::place::{Match, Place};
 use crate::scanner::next_match;
 use lx_rules::rule::Step;
 use lx_tables::Tables;
 use std::alloc::AllocError;
+
+// So many ends of matches are found at once.
+const ENDS: usize = 128;
 
 /// Between two items of a text: at a match, with so many steps of its rule's action done, and before the place behind it.
 #[derive(Clone, Copy, Debug, PartialEq, Eq)]
@@ -139,6 +143,7 @@ impl Cursor {
         tables: &Tables,
         text: &[u8],
         most: usize,
+        ends: &mut [End],
         items: &mut Vec<Item>,
     ) -> Result<(), AllocError>
         requires in_text { IsInText tables.now text.now self.old }
@@ -152,7 +157,7 @@ impl Cursor {
         if self.done < steps_of_match(tables, self.found).len() {
             return Ok(());
         }
-        let place = append_runs(tables, text, self.place, most, items)?;
+        let place = append_runs(tables, text, self.place, most, ends, items)?;
         *self = Cursor::at(place);
         Ok(())
     }
@@ -174,14 +179,15 @@ impl Cursor {
         ensures end { OnOk result (length items.new.items < most → items_left tables.now text.now self.new ≡ []) }
         ensures err { OnErr result (self.new ≡ self.old) }
     {
+        let mut ends = [End::NONE; ENDS];
         let mut cursor = *self;
-        while items.len() < most {
+        'further: while items.len() < most {
             let Some(item) = cursor.next_item(tables, text) else {
                 *self = cursor;
                 return Ok(());
             };
             items.push(item)?;
-            cursor.run_on(tables, text, most, items)?;
+            cursor.run_on(tables, text, most, &mut ends, items)?;
         }
         *self = cursor;
         Ok(())

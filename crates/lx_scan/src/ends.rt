@@ -1,6 +1,6 @@
 //! The ends of matches, found by the joined table: one look-up a byte, and no jump that depends on the text but where a run stops.
 
-ghost use Rattle.std.specs.Prelude.{if◌then◌else◌, ◌≡◌, ◌<◌, ◌≤◌, ◌+◌, ℕ, length, nat_eq, slice_index, take};
+ghost use Rattle.std.specs.Prelude.{if◌then◌else◌, ◌≡◌, ◌<◌, ◌≤◌, ◌+◌, ℕ, length, nat_eq, nat_le, slice_index, take};
 ghost use Rattle.lx_tables.specs.Joined.{IsJoined};
 ghost use Rattle.lx_tables.specs.Model.{IsTable};
 ghost use Rattle.lx_scan.specs.Ends.{IsPlace, LeadTo, place_behind};
@@ -11,9 +11,18 @@ use lx_tables::{Joined, Tables, UNTOLD};
 /// The end of a match: the code of what has ended, the place behind its last byte, and the line there.
 #[derive(Clone, Copy, Debug, PartialEq, Eq)]
 pub struct End {
-    pub code: u32,
+    pub code: usize,
     pub offset: usize,
     pub line: u64,
+}
+
+impl End {
+    /// What stands where no end was found yet.
+    pub(crate) const NONE: End = End {
+        code: 0,
+        offset: 0,
+        line: 0,
+    };
 }
 
 /// What a run finds: how many matches end, and the condition behind the last one.
@@ -23,49 +32,52 @@ pub(crate) struct Run {
     pub(crate) condition: u16,
 }
 
-// The entry of a row in the column of a byte. The column is added first, since the row is known last.
+// The entry of a row in a column. The column is added first, since the row is known last.
 #[inline(always)]
-fn entry_at(columns: &[u8], entries: &[u32], row: usize, byte: u8) -> u32
-    requires bytes { length columns.now ≡ 256 }
-    requires within { row + slice_index columns.now byte < length entries.now }
-    ensures { result ≡ slice_index entries.now (row + slice_index columns.now byte) }
+fn entry_at(entries: &[u32], row: usize, column: u8) -> u32
+    requires { row + column < length entries.now }
+    ensures { result ≡ slice_index entries.now (row + column) }
 {
-    let column = &entries[columns[byte as usize] as usize..];
-    column[row]
+    let entries = &entries[column as usize..];
+    entries[row]
 }
 
-// One for a newline.
+// One for a newline, which has the last column alone. To ask whether it is below takes three instructions less than whether it is the same.
 #[inline(always)]
-fn newline(byte: u8) -> u64
-    ensures value { result ≡ (if nat_eq byte 10 then 1 else 0) }
+fn newline(column: u8, last: u8) -> u64
+    ensures value { result ≡ (if nat_le last column then 1 else 0) }
     ensures few { result ≤ 1 }
 {
-    if byte == b'\n' { 1 } else { 0 }
+    if column < last { 0 } else { 1 }
 }
 
 // One for a code of what has ended.
 #[inline(always)]
-fn ending(code: u32) -> usize
+fn ending(code: usize) -> usize
     ensures value { result ≡ (if nat_eq code 0 then 0 else 1) }
     ensures few { result ≤ 1 }
 {
     if code == 0 { 0 } else { 1 }
 }
 
-/// The ends of the matches from a place on, as many as there is room for, up to the first one that the joined table doesn't tell. Each byte
-/// writes one over the last, which counts only where a match has ended.
+/// The ends of the matches from a place on, `most` at most, up to the first one that the joined table doesn't tell. Each byte writes one over
+/// the last, which counts only where a match has ended.
+#[inline(never)]
 pub(crate) fn find_ends(
     tables: &Tables,
     joined: &Joined,
     text: &[u8],
     place: Place,
+    most: usize,
     ends: &mut [End],
 ) -> Run
     requires table { IsTable tables.now }
-    requires joined { IsJoined tables.now joined.now.columns.items joined.now.entries.items }
+    requires joined { IsJoined tables.now joined.now.columns.items joined.now.entries.items joined.now.given.items }
     requires place { IsPlace tables.now text.now place }
     requires more { place.offset < length text.now }
-    ensures count { result.count ≤ length ends.new }
+    requires room { most ≤ length ends.old }
+    ensures count { result.count ≤ most }
+    ensures within { result.count ≤ length ends.new }
     ensures ends { 0 < result.count → LeadTo tables.now text.now place (take result.count ends.new) (place_behind text.now place (take result.count ends.new) result.condition) }
 {
     let columns = joined.columns.as_slice();
@@ -74,19 +86,20 @@ pub(crate) fn find_ends(
     let class = tables.class(first);
     let begun = tables.begun(place.condition, place.at_line_begin, class, first == b'\n');
     let mut row = tables.row(begun);
-    let mut line = place.line + newline(first);
+    let last = columns[b'\n' as usize];
+    let mut line = place.line + newline(columns[first as usize], last);
     let mut count = 0;
     let mut offset = place.offset + 1;
-    while offset < text.len() && count < ends.len() {
-        let byte = text[offset];
-        let entry = entry_at(columns, entries, row, byte);
-        let code = entry % 8192;
+    while offset < text.len() && count < most {
+        let column = columns[text[offset] as usize];
+        let entry = entry_at(entries, row, column);
+        let code = (entry % 8192) as usize;
         if code == UNTOLD {
             break;
         }
         ends[count] = End { code, offset, line };
         count += ending(code);
-        line += newline(byte);
+        line += newline(column, last);
         row = (entry / 8192) as usize;
         offset += 1;
     }

@@ -24,4 +24,4 @@ pub struct Joined {
 }
 
 /// The code of what the state alone doesn't tell: a match that ended further back, or one of a rule with `$` or with several items.
-pub const UNTOLD: u32 = 8191;
+pub const UNTOLD: usize = 8191;

@@ -88,7 +88,7 @@ fn code_of_rule(tables: &Tables, rule: u16) -> u32
     if !tables.cut(rule) && item_count(tables.steps(rule)) <= 1 {
         u32::from(rule) + 1
     } else {
-        UNTOLD
+        UNTOLD as u32
     }
 }
 
@@ -108,7 +108,7 @@ fn ending_in(tables: &Tables, q: JoinedState) -> Ending
     };
     let Some(rule) = tables.accepts(State(state)) else {
         return Ending {
-            code: UNTOLD,
+            code: UNTOLD as u32,
             condition,
         };
     };

@@ -6,7 +6,7 @@ use Rattle.lx_scan.proofs.appending.append_run.Goals as goal
 pub overflow_sub-result : goal.overflow_sub-result
 overflow_sub-result c =
     let some : 0 < c.find_ends-run.result.count = omega (arith, c.if-run-eq0.false) in
-    let long = length-take-le c.find_ends-run.result.count c.find_ends-run.new.ends c.find_ends-run.ensures.count in
+    let long = length-take-le c.find_ends-run.result.count c.find_ends-run.new.ends c.find_ends-run.ensures.within in
     let leads = c.find_ends-run.ensures.ends some in
     let rise = ends_rise c.args.tables.now c.args.from.offset (take c.find_ends-run.result.count c.find_ends-run.new.ends) leads.are_ends (omega arith) in
     let offset = c.in_ok-offset.ensures.offset in
@@ -15,6 +15,6 @@ overflow_sub-result c =
 pub returns-clause-items : goal.returns-clause-items
 returns-clause-items c =
     let some : 0 < c.find_ends-run.result.count = omega (arith, c.if-run-eq0.false) in
-    let long = length-take-le c.find_ends-run.result.count c.find_ends-run.new.ends c.find_ends-run.ensures.count in
+    let long = length-take-le c.find_ends-run.result.count c.find_ends-run.new.ends c.find_ends-run.ensures.within in
     run_appends c.args.tables.now c.args.text.now c.args.from (take c.find_ends-run.result.count c.find_ends-run.new.ends) c.find_ends-run.result.condition c.in_ok-offset.offset c.in_ok-offset.line
     c.args.items.now.items c.push_items.new.items.items (c.find_ends-run.ensures.ends some) (omega arith) c.in_ok-offset.ensures.offset c.in_ok-offset.ensures.line c.in_ok-offset.ensures.items

@@ -1,10 +1,10 @@
-use Rattle.std.proofs.Common.{◌≡◌, ◌+◌, ◌*◌, ◌/◌, ◌%◌, ◌≤◌, ◌<◌, ℕ, List, length, take, nat_eq, if◌then◌else◌, refl, sym, ap, subst, ◌∙◌, arith}
+use Rattle.std.proofs.Common.{◌≡◌, ◌+◌, ◌*◌, ◌/◌, ◌%◌, ◌≤◌, ◌<◌, ℕ, List, length, take, nat_eq, nat_le, if◌then◌else◌, refl, sym, ap, subst, ◌∙◌, arith}
 use Rattle.std.specs.Prelude.{slice_index, slice_set}
 use Rattle.std.proofs.lemmas.List.{length-set}
 use Rattle.lx_tables.specs.Joined.{IsJoinedState, begun, joined_number, joined_width}
 use Rattle.lx_tables.specs.declared.joined.JoinedState.{JoinedState}
 use Rattle.lx_scan.specs.declared.ends.End.{End}
-use Rattle.lx_scan.proofs.Runs.{Runs, runs_begun, runs_behind, runs_turn}
+use Rattle.lx_scan.proofs.Runs.{Runs, last_column, runs_begun, runs_behind, runs_turn}
 use Rattle.lx_scan.proofs.ends.find_ends.Goals as goal
 
 pub loop-offset-init : goal.loop-offset-init
@@ -20,13 +20,18 @@ loop-offset-init c =
     let entries = c.as_slice-entries.ensures.value in
     let same : length c.as_slice-entries.result.now ≡ length c.args.joined.now.entries.items = ap length entries in
     let few = c.newline.ensures.few in
+    let small = c.type_inv.text place.offset in
+    let newline_is : c.newline.result ≡ (if nat_eq byte 10 then 1 else 0)
+    = c.newline.ensures.value ∙ ap (λ (xs : List ℕ). if nat_le (slice_index xs 10) (slice_index xs byte) then 1 else 0) c.as_slice-columns.ensures.value
+    ∙ last_column table c.requires.table c.args.joined.now.columns.items c.args.joined.now.entries.items c.args.joined.now.given.items c.requires.joined byte (omega arith) in
     let line_few = c.requires.place.line_few in
     record {
       runs = runs_begun table text place byte (place.line + c.newline.result) c.row-row.result c.requires.place c.requires.more refl
           (subst (λ (q : JoinedState). IsJoinedState table q) is_begun c.begun-begun.ensures.known)
           (c.row-row.ensures.row ∙ ap (λ (q : JoinedState). joined_number table q * joined_width table) is_begun)
-          (ap (λ n. place.line + n) c.newline.ensures.value);
+          (ap (λ n. place.line + n) newline_is);
       count = omega arith;
+      room = omega arith;
       row = omega arith;
       line = omega arith;
     }
@@ -38,14 +43,16 @@ loop-offset-preserved c =
     let loop = c.loop-offset in
     let byte = slice_index text loop.offset in
     let small = c.type_inv.text loop.offset in
+    let room = c.if-count-most.true in
+    let most = loop.invariant.room in
     let entry = c.entry_at-entry.result in
     let columns_are = c.as_slice-columns.ensures.value in
     let entries_are = c.as_slice-entries.ensures.value in
     let entry_is : entry ≡ slice_index c.args.joined.now.entries.items (loop.row + slice_index c.args.joined.now.columns.items byte)
     = c.entry_at-entry.ensures ∙ ap (λ (xs : List ℕ). slice_index xs (loop.row + slice_index c.as_slice-columns.result.now byte)) entries_are
     ∙ ap (λ (xs : List ℕ). slice_index c.args.joined.now.entries.items (loop.row + slice_index xs byte)) columns_are in
-    let runs = runs_turn table c.requires.table c.args.joined.now.columns.items c.args.joined.now.entries.items c.requires.joined text c.args.place loop.ends loop.count loop.offset loop.line loop.row byte entry c.ending-count.result
-    loop.invariant.runs c.loop-offset-test.true refl (omega arith) entry_is c.if-count-ends.true c.if-code-eq-UNTOLD.false c.ending-count.ensures.value in
+    let runs = runs_turn table c.requires.table c.args.joined.now.columns.items c.args.joined.now.entries.items c.args.joined.now.given.items c.requires.joined text c.args.place loop.ends loop.count loop.offset loop.line loop.row byte entry c.ending-count.result
+    loop.invariant.runs c.loop-offset-test.true refl (omega arith) entry_is (omega arith) c.if-code-eq-UNTOLD.false c.ending-count.ensures.value in
     let row : slice_index c.args.joined.now.entries.items (loop.row + slice_index c.args.joined.now.columns.items byte) / 8192 + joined_width table ≤ length c.args.joined.now.entries.items
     = c.requires.joined.rows (loop.row + slice_index c.args.joined.now.columns.items byte) in
     let same : length c.as_slice-entries.result.now ≡ length c.args.joined.now.entries.items = ap length entries_are in
@@ -53,16 +60,21 @@ loop-offset-preserved c =
     let kept = length-set loop.ends loop.count (let e : End = record { code = entry % 8192; offset = loop.offset; line = loop.line } in e) in
     let one = c.ending-count.ensures.few in
     let line_one = c.newline-line.ensures.few in
+    let newline_is : c.newline-line.result ≡ (if nat_eq byte 10 then 1 else 0)
+    = c.newline-line.ensures.value ∙ ap (λ (xs : List ℕ). if nat_le (slice_index xs 10) (slice_index xs byte) then 1 else 0) columns_are
+    ∙ last_column table c.requires.table c.args.joined.now.columns.items c.args.joined.now.entries.items c.args.joined.now.given.items c.requires.joined byte (omega arith) in
     let line_few = loop.invariant.line in
-    let room = c.if-count-ends.true in
     record {
-      runs = subst (λ (n : ℕ). Runs table text c.args.place (take (loop.count + c.ending-count.result) (slice_set loop.ends loop.count (record { code = entry % 8192; offset = loop.offset; line = loop.line }))) (loop.offset + 1) (loop.line + n) (entry / 8192)) (sym c.newline-line.ensures.value) runs;
+      runs = subst (λ (n : ℕ). Runs table text c.args.place (take (loop.count + c.ending-count.result) (slice_set loop.ends loop.count (record { code = entry % 8192; offset = loop.offset; line = loop.line }))) (loop.offset + 1) (loop.line + n) (entry / 8192)) (sym newline_is) runs;
       count = omega arith;
+      room = omega arith;
       row = omega arith;
       line = omega arith;
     }
 
 pub returns-clause-ends : goal.returns-clause-ends
 returns-clause-ends c = λ some.
+    let count = c.loop-offset.invariant.count in
+    let room = c.loop-offset.invariant.room in
     runs_behind c.args.tables.now c.args.text.now c.args.place c.loop-offset.ends c.loop-offset.count c.loop-offset.offset c.loop-offset.line c.loop-offset.row c.condition_of_row.result
-    c.loop-offset.invariant.runs c.loop-offset.invariant.count c.condition_of_row.ensures some
+    c.loop-offset.invariant.runs (omega arith) c.condition_of_row.ensures some

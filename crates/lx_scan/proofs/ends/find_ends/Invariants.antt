@@ -6,7 +6,8 @@ use Rattle.lx_scan.proofs.ends.find_ends.Given as goal
 abbrev pub invariant-loop-offset : goal.invariant-loop-offset
 invariant-loop-offset l = record {
   runs : Runs l.tables l.text l.fn.place (take l.count l.ends) l.offset l.line l.row;
-  count : l.count ≤ length l.ends;
+  count : l.count ≤ l.most;
+  room : l.most ≤ length l.ends;
   row : l.row + joined_width l.tables ≤ length l.entries;
   line : l.line ≤ l.offset + 1;
 }

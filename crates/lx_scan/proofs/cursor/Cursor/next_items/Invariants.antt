@@ -3,13 +3,13 @@ use Rattle.lx_scan.specs.Cursors.{IsInText, items_left}
 use Rattle.lx_scan.specs.Ends.{Appends}
 use Rattle.lx_scan.proofs.cursor.Cursor.next_items.Given as goal
 
-abbrev pub invariant-loop-cursor : goal.invariant-loop-cursor
-invariant-loop-cursor l = record {
+abbrev pub invariant-further : goal.invariant-further
+invariant-further l = record {
   same : l.self ≡ l.fn.self;
   in_text : IsInText l.tables l.text l.cursor;
   items : Appends l.fn.items.items l.items.items (items_left l.tables l.text l.fn.self) (items_left l.tables l.text l.cursor);
   few : length l.items.items ≤ l.most;
 }
 
-abbrev pub decreases-loop-cursor : goal.decreases-loop-cursor
-decreases-loop-cursor l = l.most - length l.items.items
+abbrev pub decreases-further : goal.decreases-further
+decreases-further l = l.most - length l.items.items
