@@ -46,10 +46,15 @@ pub(crate) fn prints_listing(rt: &impl Print, alloc: Global) -> Result<(), Stop>
     }
 }
 
+// The writer's type is a parameter here and below, since a listing that is made over a lent local isn't covered by the prover.
+fn faults_over<W: Write + Drop>(alloc: Global, plan: &Plan, out: W) -> Result<u64, AllocError> {
+    let listing = Listing::new(alloc, plan, out)?;
+    Ok(listing.faults())
+}
+
 /// Makes a listing over the output: how many faults it has.
 fn faults_of_new(rt: &impl Print, alloc: Global, plan: &Plan) -> Result<u64, AllocError> {
-    let listing = Listing::new(alloc, plan, io::writer(rt))?;
-    Ok(listing.faults())
+    faults_over(alloc, plan, io::writer(rt))
 }
 
 /// `Listing::new` over the output.
@@ -69,10 +74,10 @@ pub(crate) fn makes_listing(rt: &impl Print, alloc: Global) -> Result<(), Stop> 
 }
 
 /// A new listing takes the only piece, and writes its lines.
-fn take_once(
+fn take_once<W: Write + Drop>(
     alloc: Global,
     plan: &Plan,
-    written: &mut Vec<u8>,
+    written: W,
 ) -> Result<Result<(), ReaderFault>, Stop> {
     let Ok(mut listing) = Listing::new(alloc, plan, written) else {
         return Err(Stop::NotBegun);
@@ -102,13 +107,17 @@ pub(crate) fn takes(rt: &impl Print, alloc: Global) -> Result<(), Stop> {
     }
 }
 
-/// `faults` of a listing.
-pub(crate) fn counts_faults(rt: &impl Print, alloc: Global) -> Result<(), Stop> {
-    let plan = plan_of(alloc, THREE_RULES, FILE_OF_TWO_WORDS, 1)?;
-    let Ok(listing) = Listing::new(alloc, &plan, io::writer(rt)) else {
+fn faults_unfed<W: Write + Drop>(alloc: Global, plan: &Plan, out: W) -> Result<u64, Stop> {
+    let Ok(listing) = Listing::new(alloc, plan, out) else {
         return Err(Stop::NotBegun);
     };
     refuse_from_here(alloc);
-    let faults = listing.faults();
+    Ok(listing.faults())
+}
+
+/// `faults` of a listing.
+pub(crate) fn counts_faults(rt: &impl Print, alloc: Global) -> Result<(), Stop> {
+    let plan = plan_of(alloc, THREE_RULES, FILE_OF_TWO_WORDS, 1)?;
+    let faults = faults_unfed(alloc, &plan, io::writer(rt))?;
     Ok(println!(rt; "{faults} faults")?)
 }

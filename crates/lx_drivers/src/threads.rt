@@ -16,12 +16,12 @@ use std::thread::Threads;
 use std::{io, thread};
 
 /// Lists the files of a plan by so many workers.
-fn list_once<R: Threads + Wait + Sync>(
+fn list_once<R: Threads + Wait + Sync, W: Write + Drop>(
     rt: &R,
     alloc: Global,
     plan: &Plan,
     workers: u8,
-    written: &mut Vec<u8>,
+    written: W,
 ) -> Result<Result<(), RunFault>, Stop>
     requires some_workers { 0 < workers }
     requires few_workers { workers ≤ 8 }

@@ -1,14 +1,34 @@
 //! Listings of files that several threads scan: the same bytes as by one thread.
 
+ghost use Rattle.std.specs.Prelude.{◌<◌, ◌≤◌};
+
 use lx_fixtures::{MIXED_FILES, MIXED_LISTING, MIXED_RULES, THREE_RULES, plan_of};
 use lx_piece::{Plan, Reader};
-use lx_post::{OpenGate, scan_all};
+use lx_post::{Gate, OpenGate, RunFault, scan_all};
 use lx_tool::{Listing, print_listing};
-use std::alloc::Global;
+use std::alloc::{AllocError, Global};
+use std::io::Write;
 use std::process::Abort;
 use std::sync::Wait;
 use std::test::Fail;
 use std::thread::Threads;
+
+/// Lists a plan's files by workers. The writer's type is a parameter, since a listing that is made over a lent local isn't covered by the prover.
+pub(crate) fn scan_over<R: Threads + Wait + Sync, G: Gate + Sync, W: Write + Drop>(
+    rt: &R,
+    alloc: Global,
+    plan: &Plan,
+    workers: u8,
+    gate: &G,
+    out: W,
+) -> Result<(Result<(), RunFault>, u64), AllocError>
+    requires some_workers { 0 < workers }
+    requires few_workers { workers ≤ 8 }
+{
+    let listing = Listing::new(alloc, plan, out)?;
+    let (listing, ended) = scan_all(rt, alloc, plan, workers, gate, listing);
+    Ok((ended, listing.faults()))
+}
 
 /// Asserts that a plan's files are listed so by one thread, and by 1, 2 and 8 workers.
 fn lists<R: Threads + Wait + Abort + Sync>(
@@ -22,11 +42,8 @@ fn lists<R: Threads + Wait + Abort + Sync>(
     assert_eq!(rt; alone.as_slice(), wanted.as_bytes());
     for workers in [1, 2, 8] {
         let mut out = Vec::new(alloc);
-        {
-            let listing = Listing::new(alloc, plan, &mut out)?;
-            let (listing, ended) = scan_all(rt, alloc, plan, workers, &OpenGate, listing);
-            assert_eq!(rt; (ended, listing.faults()), (Ok(()), 0), "{workers} workers");
-        }
+        let ended = scan_over(rt, alloc, plan, workers, &OpenGate, &mut out)?;
+        assert_eq!(rt; ended, (Ok(()), 0), "{workers} workers");
         assert_eq!(rt; out.as_slice(), alone.as_slice(), "{workers} workers");
     }
     Ok(())

@@ -4,10 +4,10 @@
 
 ghost use Rattle.std.specs.Prelude.{◌<◌, ◌≤◌};
 
+use crate::thread_listings::scan_over;
 use lx_fixtures::{THREE_FILES, THREE_FILES_LISTING, THREE_RULES, plan_of};
-use lx_piece::{Plan, Reader};
-use lx_post::{OpenGate, RunFault, scan_all};
-use lx_tool::Listing;
+use lx_piece::Plan;
+use lx_post::{OpenGate, RunFault};
 use std::alloc::Global;
 use std::process::Abort;
 use std::sync::Wait;
@@ -37,14 +37,10 @@ fn list_three<R: Threads + Wait + Abort + Sync>(
     let Ok(mut out) = Vec::with_capacity(alloc, THREE_FILES_LISTING.len()) else {
         return Outcome::Untried;
     };
-    let ended = {
-        let Ok(listing) = Listing::new(alloc, plan, &mut out) else {
-            return Outcome::Untried;
-        };
-        let (listing, ended) = scan_all(rt, alloc, plan, workers, &OpenGate, listing);
-        assert_eq!(rt; listing.faults(), 0);
-        ended
+    let Ok((ended, faults)) = scan_over(rt, alloc, plan, workers, &OpenGate, &mut out) else {
+        return Outcome::Untried;
     };
+    assert_eq!(rt; faults, 0);
     if ended.is_ok() {
         assert_eq!(rt; out.as_slice(), THREE_FILES_LISTING);
         return Outcome::Whole;

@@ -1,9 +1,9 @@
 //! How much of later files a run holds while an earlier one stands still.
 
+use crate::thread_listings::scan_over;
 use lx_fixtures::{NO_RULES, tables_of};
 use lx_piece::{Input, Plan};
-use lx_post::{Gate, scan_all};
-use lx_tool::Listing;
+use lx_post::Gate;
 use std::alloc::{AllocError, Global};
 use std::sync::atomic::{AtomicU64, Ordering};
 use std::test::Fail;
@@ -14,6 +14,7 @@ const ITEMS: u32 = 256;
 
 // There are so many files of so many bytes, of which each is an item of 40 bytes.
 const FILES: usize = 41;
+
 const BYTES: usize = 50_000;
 
 // 32 MB are held of later files, and a piece by each of two workers; 64 pieces are between the threads.
@@ -21,6 +22,7 @@ const MOST_PIECES: u64 = (1 << 25) / (40 * 256) + 2 + 64;
 
 // So many turns without a pass of another worker: it stands still.
 const TURNS: u32 = 200_000;
+
 const ROUNDS: u32 = 10_000;
 
 /// A gate that holds the first file until the worker of the others stands still.
@@ -75,11 +77,8 @@ fn few_pieces_of_later_files_are_held(rt: HostRuntime) -> Result<(), Fail> {
         by_then: AtomicU64::new(0),
     };
     let mut out = Vec::new(alloc);
-    {
-        let listing = Listing::new(alloc, &plan, &mut out)?;
-        let (_listing, ended) = scan_all(&rt, alloc, &plan, 2, &gate, listing);
-        assert_eq!(rt; ended, Ok(()));
-    }
+    let ended = scan_over(&rt, alloc, &plan, 2, &gate, &mut out)?;
+    assert_eq!(rt; ended, (Ok(()), 0));
     let passed = gate.by_then.load(Ordering::SeqCst);
     assert!(rt; passed <= MOST_PIECES, "{passed} pieces of later files");
     Ok(())
