@@ -96,6 +96,25 @@ impl Draft {
         self.move_to(block)
     }
 
+    // Puts the line of an item, made field by field, behind those in the block and here.
+    #[cold]
+    #[inline(never)]
+    fn push_plain(
+        &mut self,
+        block: &mut Vec<u8>,
+        plan: &Plan,
+        file: u32,
+        item: &Item,
+    ) -> Result<(), AllocError>
+        requires file { file < files_of plan.now }
+        requires item { IsItemOf (kinds_of plan.now) (bytes_of plan.now file) item.now }
+        ensures pushed { OnOk result (block.new.items ++ take self.new.len self.new.lines ≡ (block.old.items ++ take self.old.len self.old.lines) ++ line_of plan.now file item.now) }
+        ensures fronts { self.new.fronts ≡ self.old.fronts }
+    {
+        self.move_to(block)?;
+        push_line(block, plan, file, item)
+    }
+
     /// Puts the line of an item behind those in the block and here.
     #[inline(always)]
     pub fn push(
@@ -117,7 +136,6 @@ impl Draft {
         if self.add(plan, file, bytes, item) {
             return Ok(());
         }
-        self.move_to(block)?;
-        push_line(block, plan, file, item)
+        self.push_plain(block, plan, file, item)
     }
 }

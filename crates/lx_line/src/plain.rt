@@ -16,16 +16,16 @@ use lx_scan::Item;
 use std::alloc::AllocError;
 
 // The text of a line is placed so many bytes at a time.
-const PART: usize = 96;
+const PART: usize = 32;
 
-// At most 96 bytes of a text. A copy of them has 16 bytes more, which can be read too.
+// At most 32 bytes of a text. A copy of them has 16 bytes more, which can be read too.
 fn push_part(line: &mut Vec<u8>, text: &[u8]) -> Result<(), AllocError>
-    requires { length text.now ≤ 96 }
+    requires { length text.now ≤ 32 }
     ensures { OnOk result (line.new.items ≡ line.old.items ++ flat_map escaped text.now) }
 {
-    let mut bytes = [0; 112];
+    let mut bytes = [0; 48];
     bytes[..text.len()].copy_from_slice(text);
-    let mut placed = [0; 400];
+    let mut placed = [0; 144];
     let end = place_text(&mut placed, 0, &bytes, 0, text.len());
     line.extend_from_slice(&placed[..end])
 }
@@ -108,7 +108,6 @@ fn line_number(item: &Item) -> u64
 }
 
 /// Puts the line of an item of a file behind what the block holds. Where memory is refused a part of it stands there.
-#[cold]
 #[inline(never)]
 pub fn push_line(block: &mut Vec<u8>, plan: &Plan, file: u32, item: &Item) -> Result<(), AllocError>
     requires file { file < files_of plan.now }

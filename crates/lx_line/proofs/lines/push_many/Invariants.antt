@@ -2,7 +2,7 @@ use Rattle.std.proofs.Common.{◌≡◌, ◌++◌, take}
 use Rattle.lx_piece.specs.Plans.{bytes_of}
 use Rattle.lx_line.specs.Fronts.{AreFrontsOf}
 use Rattle.lx_line.specs.Lines.{lines_of}
-use Rattle.lx_line.proofs.lines.push_lines.Given as goal
+use Rattle.lx_line.proofs.lines.push_many.Given as goal
 
 abbrev pub invariant-loop-item : goal.invariant-loop-item
 invariant-loop-item l = record {
