@@ -1,6 +1,6 @@
 pub mod Behind
 pub mod Digits
-pub mod Fronted
+pub mod Prefixed
 pub mod Lined
 pub mod Places
 pub mod Unescaped

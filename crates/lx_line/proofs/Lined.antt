@@ -9,7 +9,7 @@ use Rattle.lx_scan.specs.ItemParts.{line_of as line_number, start_of, len_of}
 use Rattle.lx_piece.specs.Plans.{Planned, bytes_of}
 use Rattle.lx_line.specs.Escapes.{escaped}
 use Rattle.lx_line.specs.Fields.{rest_text}
-use Rattle.lx_line.specs.Fronts.{front_text, kind_of_item}
+use Rattle.lx_line.specs.Prefixes.{prefix_text, kind_of_item}
 use Rattle.lx_line.specs.Lines.{line_of, name_text}
 use Rattle.lx_line.specs.Placed.{Placed}
 use Rattle.lx_line.proofs.Places.{Placed-then}
@@ -28,22 +28,22 @@ joined f l s n t u e = rw e (simp append_assoc)
 fields_of : (f c k : List ℕ) → (f ++ 32 ∷ []) ++ (((c ++ 32 ∷ []) ++ k) ++ 32 ∷ []) ≡ ((((f ++ 32 ∷ []) ++ c) ++ 32 ∷ []) ++ k) ++ 32 ∷ []
 fields_of f c k = simp append_assoc
 
-front_and_rest : (plan : Planned) (file : ℕ) (item : Item) → front_text plan file (kind_of_item item) ++ rest_of plan file item ≡ line_of plan file item
-front_and_rest plan file (Token kind line start len) =
+prefix_and_rest : (plan : Planned) (file : ℕ) (item : Item) → prefix_text plan file (kind_of_item item) ++ rest_of plan file item ≡ line_of plan file item
+prefix_and_rest plan file (Token kind line start len) =
     let bytes = bytes_of plan file in
-    ap (λ (front : List ℕ). front ++ rest_of plan file (Token kind line start len)) (fields_of (decimal file) (codes "T") (name_text plan kind))
+    ap (λ (prefix : List ℕ). prefix ++ rest_of plan file (Token kind line start len)) (fields_of (decimal file) (codes "T") (name_text plan kind))
     ∙ joined (((((decimal file ++ 32 ∷ []) ++ codes "T") ++ 32 ∷ []) ++ name_text plan kind) ++ 32 ∷ []) (decimal line) (decimal start) (decimal len) (take len (drop start bytes)) (take (start + len - start) (drop start bytes)) (text_same bytes start len)
-front_and_rest plan file (Echo line start len) =
+prefix_and_rest plan file (Echo line start len) =
     let bytes = bytes_of plan file in
-    ap (λ (front : List ℕ). front ++ rest_of plan file (Echo line start len)) (fields_of (decimal file) (codes "E") (codes "-"))
+    ap (λ (prefix : List ℕ). prefix ++ rest_of plan file (Echo line start len)) (fields_of (decimal file) (codes "E") (codes "-"))
     ∙ joined (((((decimal file ++ 32 ∷ []) ++ codes "E") ++ 32 ∷ []) ++ codes "-") ++ 32 ∷ []) (decimal line) (decimal start) (decimal len) (take len (drop start bytes)) (take (start + len - start) (drop start bytes)) (text_same bytes start len)
 
-pub line_placed : {a b c : List ℕ} {at mid end : ℕ} (plan : Planned) (file : ℕ) (item : Item) (kind : Option Kind) (line start len : ℕ) (bytes : List ℕ) → Placed a b at (front_text plan file kind) mid → Placed b c mid (rest_text line start len bytes) end → kind ≡ kind_of_item item → line ≡ line_number item → start ≡ start_of item → len ≡ len_of item → bytes ≡ bytes_of plan file → take end c ≡ take at a ++ line_of plan file item
+pub line_placed : {a b c : List ℕ} {at mid end : ℕ} (plan : Planned) (file : ℕ) (item : Item) (kind : Option Kind) (line start len : ℕ) (bytes : List ℕ) → Placed a b at (prefix_text plan file kind) mid → Placed b c mid (rest_text line start len bytes) end → kind ≡ kind_of_item item → line ≡ line_number item → start ≡ start_of item → len ≡ len_of item → bytes ≡ bytes_of plan file → take end c ≡ take at a ++ line_of plan file item
 line_placed {a} {b} {c} {at} {mid} {end} plan file item kind line start len bytes p q k l s n t =
     (Placed-then p q).bytes
-    ∙ ap (λ (k : Option Kind). take at a ++ (front_text plan file k ++ rest_text line start len bytes)) k
-    ∙ ap (λ (k : ℕ). take at a ++ (front_text plan file (kind_of_item item) ++ rest_text k start len bytes)) l
-    ∙ ap (λ (k : ℕ). take at a ++ (front_text plan file (kind_of_item item) ++ rest_text (line_number item) k len bytes)) s
-    ∙ ap (λ (k : ℕ). take at a ++ (front_text plan file (kind_of_item item) ++ rest_text (line_number item) (start_of item) k bytes)) n
-    ∙ ap (λ (bs : List ℕ). take at a ++ (front_text plan file (kind_of_item item) ++ rest_text (line_number item) (start_of item) (len_of item) bs)) t
-    ∙ ap (λ (bs : List ℕ). take at a ++ bs) (front_and_rest plan file item)
+    ∙ ap (λ (k : Option Kind). take at a ++ (prefix_text plan file k ++ rest_text line start len bytes)) k
+    ∙ ap (λ (k : ℕ). take at a ++ (prefix_text plan file (kind_of_item item) ++ rest_text k start len bytes)) l
+    ∙ ap (λ (k : ℕ). take at a ++ (prefix_text plan file (kind_of_item item) ++ rest_text (line_number item) k len bytes)) s
+    ∙ ap (λ (k : ℕ). take at a ++ (prefix_text plan file (kind_of_item item) ++ rest_text (line_number item) (start_of item) k bytes)) n
+    ∙ ap (λ (bs : List ℕ). take at a ++ (prefix_text plan file (kind_of_item item) ++ rest_text (line_number item) (start_of item) (len_of item) bs)) t
+    ∙ ap (λ (bs : List ℕ). take at a ++ bs) (prefix_and_rest plan file item)

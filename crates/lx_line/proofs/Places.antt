@@ -15,10 +15,10 @@ Placed-then {a} {b} {c} {xs} {ys} {i} p q = record {
 -- only the first n bytes of a write are kept
 pub Placed-less : {a b xs : List ℕ} {i j : ℕ} (n : ℕ) → i ≤ length a → n ≤ length xs → Placed a b i xs j → Placed a b i (take n xs) (i + n)
 Placed-less {a} {b} {xs} {i} {j} n within few p =
-    let front = length-take-le i a within in
+    let prefix = length-take-le i a within in
     record {
       bytes = sym (take-take (i + n) j b (omega (arith, p.moved))) ∙ ap (take (i + n)) p.bytes ∙ take-add i n (take i a ++ xs)
-          ∙ (λ k. take_at (take i a) xs i front k ++ take n (drop_at (take i a) xs i front k));
+          ∙ (λ k. take_at (take i a) xs i prefix k ++ take n (drop_at (take i a) xs i prefix k));
       moved = omega (arith, length-take-le n xs few);
       len = p.len;
     }

@@ -5,7 +5,7 @@ use Rattle.lx_line.specs.Escapes.{escaped}
 use Rattle.lx_line.specs.declared.fields.Digits.{Digits}
 use Rattle.lx_line.specs.declared.fields.Numbers.{Numbers}
 
--- what stands in a line behind its front: line, start and length with a space behind each, and the text
+-- what stands in a line behind its prefix: line, start and length with a space behind each, and the text
 abbrev pub rest_text : ℕ → ℕ → ℕ → List ℕ → List ℕ
 rest_text line start len bytes =
     (decimal line ++ codes " ") ++ ((decimal start ++ codes " ") ++ ((decimal len ++ codes " ") ++ (flat_map escaped (take len (drop start bytes)) ++ codes "\n")))

@@ -1,6 +1,6 @@
 pub mod Decimals
 pub mod Escapes
 pub mod Fields
-pub mod Fronts
+pub mod Prefixes
 pub mod Lines
 pub mod Placed

@@ -3,7 +3,7 @@
 ghost use Rattle.std.specs.Prelude.{◌≡◌, ◌+◌, ◌≤◌, IsTrue, length};
 ghost use Rattle.lx_scan.specs.ItemParts.{line_of, start_of, len_of};
 ghost use Rattle.lx_line.specs.Fields.{AreKept, rest_text};
-ghost use Rattle.lx_line.specs.Fronts.{kind_of_item};
+ghost use Rattle.lx_line.specs.Prefixes.{kind_of_item};
 ghost use Rattle.lx_line.specs.Placed.{Placed};
 
 use crate::decimals::{KeptDigits, place_short};
@@ -76,7 +76,7 @@ impl Digits {
     }
 }
 
-/// What stands in a line behind its front.
+/// What stands in a line behind its prefix.
 #[inline(always)]
 pub fn place_rest(
     buf: &mut [u8],

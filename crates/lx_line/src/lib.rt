@@ -4,10 +4,10 @@
 mod decimals;
 mod draft;
 mod fields;
-mod fronts;
 mod lines;
 mod place;
 mod plain;
+mod prefixes;
 mod texts;
 
 pub use lines::push_lines;

@@ -1,13 +1,13 @@
 //! Lines made field by field: the plain way, for every line.
 
-ghost use Rattle.std.specs.Prelude.{◌≡◌, ◌<◌, ◌≤◌, ◌++◌, All, OnOk, codes, decimal, length, take};
+ghost use Rattle.std.specs.Prelude.{◌≡◌, ◌<◌, ◌≤◌, ◌++◌, OnOk, codes, decimal, length};
 ghost use Rattle.std.specs.List.{flat_map};
-ghost use Rattle.lx_scan.specs.ItemParts as parts;
-ghost use Rattle.lx_scan.specs.ItemParts.{start_of, len_of, IsItemOf, IsKindAmong, NamesKindAmong};
+ghost use Rattle.lx_scan.specs.ItemParts.{IsItemOf, IsKindAmong, NamesKindAmong};
 ghost use Rattle.lx_piece.specs.Plans.{files_of, bytes_of, kinds_of};
 ghost use Rattle.lx_line.specs.Escapes.{escaped};
 ghost use Rattle.lx_line.specs.Lines.{class_text, name_text, kind_text, line_of, cut_line};
 
+use crate::fields::numbers_of;
 use crate::texts::place_text;
 use itoa::Buffer;
 use lx_piece::Plan;
@@ -16,16 +16,16 @@ use lx_scan::Item;
 use std::alloc::AllocError;
 
 // The text of a line is placed so many bytes at a time.
-const PART: usize = 96;
+const PART: usize = 32;
 
-// At most 96 bytes of a text. A copy of them has 16 bytes more, which can be read too.
+// At most 32 bytes of a text. A copy of them has 16 bytes more, which can be read too.
 fn push_part(line: &mut Vec<u8>, text: &[u8]) -> Result<(), AllocError>
-    requires { length text.now ≤ 96 }
+    requires { length text.now ≤ 32 }
     ensures { OnOk result (line.new.items ≡ line.old.items ++ flat_map escaped text.now) }
 {
-    let mut bytes = [0; 112];
+    let mut bytes = [0; 48];
     bytes[..text.len()].copy_from_slice(text);
-    let mut placed = [0; 400];
+    let mut placed = [0; 144];
     let end = place_text(&mut placed, 0, &bytes, 0, text.len());
     line.extend_from_slice(&placed[..end])
 }
@@ -88,39 +88,19 @@ fn push_kind(line: &mut Vec<u8>, plan: &Plan, item: &Item) -> Result<(), AllocEr
     }
 }
 
-/// Where an item starts, and how many bytes it has.
-fn extent(item: &Item) -> (usize, usize)
-    ensures start { result.0 ≡ start_of item.now }
-    ensures len { result.1 ≡ len_of item.now }
-{
-    match *item {
-        Item::Token { start, len, .. } | Item::Echo { start, len, .. } => (start, len),
-    }
-}
-
-/// The line of the text on which an item begins.
-fn line_number(item: &Item) -> u64
-    ensures { result ≡ parts.line_of item.now }
-{
-    match *item {
-        Item::Token { line, .. } | Item::Echo { line, .. } => line,
-    }
-}
-
 /// Puts the line of an item of a file behind what the block holds. Where memory is refused a part of it stands there.
-#[cold]
 #[inline(never)]
 pub fn push_line(block: &mut Vec<u8>, plan: &Plan, file: u32, item: &Item) -> Result<(), AllocError>
     requires file { file < files_of plan.now }
     requires item { IsItemOf (kinds_of plan.now) (bytes_of plan.now file) item.now }
     ensures { OnOk result (block.new.items ≡ block.old.items ++ line_of plan.now file item.now) }
 {
-    let (start, len) = extent(item);
+    let numbers = numbers_of(item);
     push_field(block, u64::from(file))?;
     push_kind(block, plan, item)?;
-    push_field(block, line_number(item))?;
-    push_field(block, start as u64)?;
-    push_field(block, len as u64)?;
+    push_field(block, numbers.line)?;
+    push_field(block, numbers.start as u64)?;
+    push_field(block, numbers.len as u64)?;
     push_text(block, item.text(plan.bytes(file)))?;
     block.extend_from_slice(b"\n")
 }

@@ -23,9 +23,9 @@ returns c =
     let a = number_behind old [] old c.push_field.new.line.items c.from.result file c.from.ensures (sym (append-nil old)) c.in_ok-push_field.ensures in
     let mid = c.push_field.new.line.items ++ class_text item ++ codes " " in
     let b = behind_two old (one ++ class_text item ++ codes " ") (kind_text plan item) (codes " ") mid c.push_kind.new.line.items (behind_two old one (class_text item) (codes " ") c.push_field.new.line.items mid a refl) c.in_ok-push_kind.ensures in
-    let d = number_behind old two c.push_kind.new.line.items c.push_field-2.new.line.items c.line_number.result (line_number item) c.line_number.ensures b c.in_ok-push_field-2.ensures in
-    let e = number_behind old three c.push_field-2.new.line.items c.push_field-3.new.line.items c.extent-start.result.0 (start_of item) c.extent-start.ensures.start d c.in_ok-push_field-3.ensures in
-    let f = number_behind old four c.push_field-3.new.line.items c.push_field-4.new.line.items c.extent-start.result.1 (len_of item) c.extent-start.ensures.len e c.in_ok-push_field-4.ensures in
+    let d = number_behind old two c.push_kind.new.line.items c.push_field-2.new.line.items c.numbers_of-numbers.result.line (line_number item) c.numbers_of-numbers.ensures.line b c.in_ok-push_field-2.ensures in
+    let e = number_behind old three c.push_field-2.new.line.items c.push_field-3.new.line.items c.numbers_of-numbers.result.start (start_of item) c.numbers_of-numbers.ensures.start d c.in_ok-push_field-3.ensures in
+    let f = number_behind old four c.push_field-3.new.line.items c.push_field-4.new.line.items c.numbers_of-numbers.result.len (len_of item) c.numbers_of-numbers.ensures.len e c.in_ok-push_field-4.ensures in
     let text = c.text.ensures ∙ ap (λ bytes. text_of bytes item) c.bytes.ensures in
     let g = behind old five (flat_map escaped (text_of (bytes_of plan file) item)) c.push_field-4.new.line.items c.push_text.new.line.items f (c.in_ok-push_text.ensures ∙ ap (λ bytes. c.push_field-4.new.line.items ++ flat_map escaped bytes) text) in
     behind_ok c.extend_from_slice.result old (five ++ flat_map escaped (text_of (bytes_of plan file) item)) (codes "\n") c.push_text.new.line.items c.extend_from_slice.new.self.items g c.extend_from_slice.ensures.items

@@ -1,9 +1,9 @@
-//! The fronts of lines, each made once and kept for the lines that follow.
+//! The prefixes of lines, which are file, class and kind: each is made once and kept for the lines that follow.
 
 ghost use Rattle.std.specs.Prelude.{◌≡◌, ◌+◌, ◌<◌, ◌≤◌, ◌++◌, IsTrue, Some, MatchOption, codes, decimal, length, take};
 ghost use Rattle.lx_scan.specs.ItemParts.{IsKindAmong};
 ghost use Rattle.lx_piece.specs.Plans.{kinds_of};
-ghost use Rattle.lx_line.specs.Fronts.{AreFrontsOf, IsFrontOf, IsKindOf, front_text, is_name, number_in};
+ghost use Rattle.lx_line.specs.Prefixes.{ArePrefixesOf, IsPrefixOf, IsKindOf, prefix_text, is_name, number_in};
 ghost use Rattle.lx_line.specs.Lines.{name_text};
 ghost use Rattle.lx_line.specs.Placed.{Placed};
 
@@ -13,37 +13,37 @@ use lx_piece::Plan;
 use lx_rules::rule::Kind;
 use std::simd::prelude::*;
 
-// The longest front that is kept.
-const FRONT: usize = 32;
+// The longest prefix that is kept.
+const PREFIX: usize = 32;
 
-// So many fronts of tokens are kept.
+// So many prefixes of tokens are kept.
 const SLOTS: usize = 32;
 
-/// The front of a line.
+/// The prefix of a line.
 #[derive(Clone, Copy, Drop)]
-pub struct Front {
+pub struct Prefix {
     text: [u8; 32],
     len: usize,
 }
 
-/// The front of the lines of tokens of a kind.
+/// The prefix of the lines of tokens of a kind.
 #[derive(Clone, Copy, Drop)]
 pub struct Slot {
     kind: Kind,
-    front: Front,
+    prefix: Prefix,
 }
 
-impl Front {
+impl Prefix {
     // One that is known to be short.
-    fn of(file: u32, sort: &[u8]) -> Front
-        requires { length sort.now ≤ 20 }
+    fn of(file: u32, class_and_kind: &[u8]) -> Prefix
+        requires { length class_and_kind.now ≤ 20 }
         ensures short { result.len ≤ 32 }
-        ensures text { take result.len result.text ≡ decimal file ++ codes " " ++ sort.now }
+        ensures text { take result.len result.text ≡ decimal file ++ codes " " ++ class_and_kind.now }
     {
         let mut text = [0; 32];
         let at = place_file(&mut text, file);
-        let len = place_all(&mut text, at, sort);
-        Front { text, len }
+        let len = place_all(&mut text, at, class_and_kind);
+        Prefix { text, len }
     }
 
     #[inline(always)]
@@ -76,7 +76,7 @@ fn place_name(buf: &mut [u8], at: usize, plan: &Plan, kind: Kind) -> Option<usiz
         Kind::Number(number) => Some(place_number(buf, at, u64::from(number))),
         Kind::Name(place) => {
             let name = plan.kind(place);
-            if name.len() > FRONT {
+            if name.len() > PREFIX {
                 return None;
             }
             let at = place_all(buf, at, name);
@@ -85,20 +85,20 @@ fn place_name(buf: &mut [u8], at: usize, plan: &Plan, kind: Kind) -> Option<usiz
     }
 }
 
-// The front of the lines of tokens of a kind, where it is short enough to be kept.
-fn front_of(plan: &Plan, file: u32, kind: Kind) -> Option<Front>
+// The prefix of the lines of tokens of a kind, where it is short enough to be kept.
+fn prefix_of(plan: &Plan, file: u32, kind: Kind) -> Option<Prefix>
     requires { IsKindAmong (kinds_of plan.now) kind }
-    ensures { MatchOption result (Unit {0}) (λ front. IsFrontOf plan.now file (Some kind) front) }
+    ensures { MatchOption result (Unit {0}) (λ prefix. IsPrefixOf plan.now file (Some kind) prefix) }
 {
     let mut text = [0; 64];
     let at = place_file(&mut text, file);
     let at = place_all(&mut text, at, b"T ");
     let len = place_name(&mut text, at, plan, kind)?;
-    if len > FRONT {
+    if len > PREFIX {
         return None;
     }
     let text = u8x32::from_slice(&text).to_array();
-    Some(Front { text, len })
+    Some(Prefix { text, len })
 }
 
 fn number_of(kind: Kind) -> u32
@@ -123,7 +123,7 @@ fn are_same(a: Kind, b: Kind) -> bool
     number_of(a) == number_of(b) && is_name(a) == is_name(b)
 }
 
-// Where the front of a kind is kept. Several kinds share the place, and the last has it.
+// Where the prefix of a kind is kept. Several kinds share the place, and the last has it.
 #[inline(always)]
 fn slot_of(kind: Kind) -> usize
     ensures { result < 32 }
@@ -131,30 +131,30 @@ fn slot_of(kind: Kind) -> usize
     number_of(kind) as usize % SLOTS
 }
 
-/// Fronts of the lines of one file.
+/// Prefixes of the lines of one file.
 #[derive(Clone, Copy, Drop)]
-pub struct Fronts {
-    echo: Front,
+pub struct Prefixes {
+    echo: Prefix,
     slots: [Slot; 32],
 }
 
-impl Fronts {
+impl Prefixes {
     /// That of an Echo, and as yet of one kind alone.
     #[inline(always)]
-    pub fn new(plan: &Plan, file: u32) -> Fronts
-        ensures { AreFrontsOf plan.now file result }
+    pub fn new(plan: &Plan, file: u32) -> Prefixes
+        ensures { ArePrefixesOf plan.now file result }
     {
         let slot = Slot {
             kind: Kind::Number(0),
-            front: Front::of(file, b"T 0 "),
+            prefix: Prefix::of(file, b"T 0 "),
         };
-        Fronts {
-            echo: Front::of(file, b"E - "),
+        Prefixes {
+            echo: Prefix::of(file, b"E - "),
             slots: [slot; SLOTS],
         }
     }
 
-    // A front that is made now, and kept.
+    // A prefix that is made now, and kept.
     #[cold]
     #[inline(never)]
     fn place_new(
@@ -167,18 +167,18 @@ impl Fronts {
     ) -> Option<usize>
         requires room { at + 32 ≤ length buf.old }
         requires kind { IsKindAmong (kinds_of plan.now) kind }
-        requires fronts { AreFrontsOf plan.now file self.old }
-        ensures placed { MatchOption result (buf.new ≡ buf.old) (λ end. Placed buf.old buf.new at (front_text plan.now file (Some kind)) end) }
+        requires prefixes { ArePrefixesOf plan.now file self.old }
+        ensures placed { MatchOption result (buf.new ≡ buf.old) (λ end. Placed buf.old buf.new at (prefix_text plan.now file (Some kind)) end) }
         ensures short { MatchOption result (Unit {0}) (λ end. end ≤ at + 32) }
-        ensures fronts { AreFrontsOf plan.now file self.new }
+        ensures prefixes { ArePrefixesOf plan.now file self.new }
     {
-        let front = front_of(plan, file, kind)?;
-        let end = front.place(buf, at);
-        self.slots[slot_of(kind)] = Slot { kind, front };
+        let prefix = prefix_of(plan, file, kind)?;
+        let end = prefix.place(buf, at);
+        self.slots[slot_of(kind)] = Slot { kind, prefix };
         Some(end)
     }
 
-    /// The front of the line of a token of a kind, or of an Echo. One that is too long isn't placed.
+    /// The prefix of the line of a token of a kind, or of an Echo. One that is too long isn't placed.
     #[inline(always)]
     pub fn place(
         &mut self,
@@ -190,17 +190,17 @@ impl Fronts {
     ) -> Option<usize>
         requires room { at + 32 ≤ length buf.old }
         requires kind { IsKindOf plan.now kind }
-        requires fronts { AreFrontsOf plan.now file self.old }
-        ensures placed { MatchOption result (buf.new ≡ buf.old) (λ end. Placed buf.old buf.new at (front_text plan.now file kind) end) }
+        requires prefixes { ArePrefixesOf plan.now file self.old }
+        ensures placed { MatchOption result (buf.new ≡ buf.old) (λ end. Placed buf.old buf.new at (prefix_text plan.now file kind) end) }
         ensures short { MatchOption result (Unit {0}) (λ end. end ≤ at + 32) }
-        ensures fronts { AreFrontsOf plan.now file self.new }
+        ensures prefixes { ArePrefixesOf plan.now file self.new }
     {
         let Some(kind) = kind else {
             return Some(self.echo.place(buf, at));
         };
         let slot = &self.slots[slot_of(kind)];
         if are_same(slot.kind, kind) {
-            return Some(slot.front.place(buf, at));
+            return Some(slot.prefix.place(buf, at));
         }
         self.place_new(buf, at, plan, file, kind)
     }

@@ -1,4 +1,4 @@
--- Fronts that are made in a buffer.
+-- Prefixes that are made in a buffer.
 use Rattle.std.proofs.Common.{◌≡◌, ℕ, ◌<◌, ◌≤◌, ◌^◌, List, ◌++◌, take, ◌∙◌, arith, length-append, take-take, ap, append_assoc, sym}
 use Rattle.std.specs.Prelude.{Some, codes, decimal, replicate}
 use Rattle.std.proofs.lemmas.Fmt.{decimal_digit, length-decimal-le}
@@ -6,10 +6,10 @@ use Rattle.std.proofs.lemmas.List.Elements.{All-replicate}
 use Rattle.lx_rules.specs.declared.rule.Kind.{Kind}
 use Rattle.lx_rules.specs.declared.rule.Kind.TheVariants.{Number}
 use Rattle.lx_piece.specs.Plans.{Planned}
-use Rattle.lx_line.specs.Fronts.{AreFrontsOf, IsFrontOf}
+use Rattle.lx_line.specs.Prefixes.{ArePrefixesOf, IsPrefixOf}
 use Rattle.lx_line.specs.Lines.{name_text}
-use Rattle.lx_line.specs.declared.fronts.Front.{Front}
-use Rattle.lx_line.specs.declared.fronts.Slot.{Slot}
+use Rattle.lx_line.specs.declared.prefixes.Prefix.{Prefix}
+use Rattle.lx_line.specs.declared.prefixes.Slot.{Slot}
 use Rattle.lx_line.specs.Placed.{Placed}
 use Rattle.lx_line.proofs.Places.{Placed-then}
 
@@ -22,22 +22,22 @@ file_short file n end a b small e p =
     omega arith
 
 -- file, class and kind, of which a copy is kept
-pub front_is : {a b c d : List ℕ} {at mid end : ℕ} (plan : Planned) (file : ℕ) (kind : Kind) → end ≤ 32 → Placed a b 0 (decimal file ++ codes " ") at → Placed b c at (codes "T ") mid → Placed c d mid (name_text plan kind ++ codes " ") end → IsFrontOf plan file (Some kind) (record { text = take 32 d; len = end })
-front_is {a} {b} {c} {d} {at} {mid} {end} plan file kind short p q r =
+pub prefix_is : {a b c d : List ℕ} {at mid end : ℕ} (plan : Planned) (file : ℕ) (kind : Kind) → end ≤ 32 → Placed a b 0 (decimal file ++ codes " ") at → Placed b c at (codes "T ") mid → Placed c d mid (name_text plan kind ++ codes " ") end → IsPrefixOf plan file (Some kind) (record { text = take 32 d; len = end })
+prefix_is {a} {b} {c} {d} {at} {mid} {end} plan file kind short p q r =
     record {
       short = short;
       text =
           take-take end 32 d short
           ∙ (Placed-then p (Placed-then q r)).bytes
-          ∙ ap (λ (sort : List ℕ). (decimal file ++ codes " ") ++ sort) (sym (append_assoc (codes "T ") (name_text plan kind) (codes " ")));
+          ∙ ap (λ (text : List ℕ). (decimal file ++ codes " ") ++ text) (sym (append_assoc (codes "T ") (name_text plan kind) (codes " ")));
     }
 
--- the fronts at first
-pub first_fronts : (plan : Planned) (file : ℕ) (echo zero : Front) → echo.len ≤ 32 → take echo.len echo.text ≡ (decimal file ++ codes " ") ++ codes "E - " → zero.len ≤ 32 → take zero.len zero.text ≡ (decimal file ++ codes " ") ++ codes "T 0 " → AreFrontsOf plan file (record { echo = echo; slots = replicate 32 (record { kind = Number 0; front = zero }) })
-first_fronts plan file echo zero short text few digits =
+-- the prefixes at first
+pub first_prefixes : (plan : Planned) (file : ℕ) (echo zero : Prefix) → echo.len ≤ 32 → take echo.len echo.text ≡ (decimal file ++ codes " ") ++ codes "E - " → zero.len ≤ 32 → take zero.len zero.text ≡ (decimal file ++ codes " ") ++ codes "T 0 " → ArePrefixesOf plan file (record { echo = echo; slots = replicate 32 (record { kind = Number 0; prefix = zero }) })
+first_prefixes plan file echo zero short text few digits =
     record {
       echo = record { short = short; text = text };
-      slots = All-replicate (λ (slot : Slot). IsFrontOf plan file (Some slot.kind) slot.front) 32 (record { kind = Number 0; front = zero })
+      slots = All-replicate (λ (slot : Slot). IsPrefixOf plan file (Some slot.kind) slot.prefix) 32 (record { kind = Number 0; prefix = zero })
           (record {
             short = few;
             text = digits ∙ ap (λ (zero : List ℕ). (decimal file ++ codes " ") ++ ((codes "T " ++ zero) ++ codes " ")) (sym (decimal_digit 0 (omega arith)));
