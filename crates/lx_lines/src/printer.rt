@@ -71,7 +71,7 @@ impl<Y: Spares, S: LineSink> Printer<Y, S> {
     pub fn into_sink(self) -> S
     where
         Y: Drop,
-        ensures { result ≡ self.entry.sink }
+        ensures { result ≡ self.sink }
     {
         let Printer {
             alloc: _alloc,

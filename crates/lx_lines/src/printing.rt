@@ -33,8 +33,8 @@ fn print_all<Y: Spares + Drop, S: LineSink + Drop>(
     requires plan { printer.plan.value ≡ plan.now }
     requires file { printer.file ≡ 0 }
     requires number { printer.number ≡ 0 }
-    ensures ok { OnOk result.1 (S.wrote printer.entry.sink (listing_of plan.now) result.0.sink) }
-    ensures part { WrotePrefix S.wrote printer.entry.sink (listing_of plan.now) result.0.sink }
+    ensures ok { OnOk result.1 (S.wrote printer.sink (listing_of plan.now) result.0.sink) }
+    ensures part { WrotePrefix S.wrote printer.sink (listing_of plan.now) result.0.sink }
 {
     match InOrder::<LineMaker<Y>, Printer<Y, S>>::new(alloc, plan, printer) {
         Ok(mut order) => {
@@ -82,8 +82,8 @@ fn scan_all_to<T: Threads + Wait + Sync, Y: Spares + Copy + Drop + Sync, S: Line
     requires plan { printer.plan.value ≡ plan.now }
     requires file { printer.file ≡ 0 }
     requires number { printer.number ≡ 0 }
-    ensures ok { OnOk result.1 (S.wrote printer.entry.sink (listing_of plan.now) result.0.sink) }
-    ensures part { WrotePrefix S.wrote printer.entry.sink (listing_of plan.now) result.0.sink }
+    ensures ok { OnOk result.1 (S.wrote printer.sink (listing_of plan.now) result.0.sink) }
+    ensures part { WrotePrefix S.wrote printer.sink (listing_of plan.now) result.0.sink }
 {
     match InOrder::<LineMaker<Y>, Printer<Y, S>>::new(alloc, plan, printer) {
         Ok(order) => {

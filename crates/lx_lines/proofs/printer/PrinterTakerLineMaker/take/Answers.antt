@@ -1,5 +1,6 @@
-use Rattle.std.proofs.Common.{◌∙◌, ◌+◌, sym}
+use Rattle.std.proofs.Common.{◌∙◌, ◌+◌, subst, sym}
 use Rattle.std.proofs.lemmas.Result.{err_from_is_err_and}
+use Rattle.lx_piece.specs.Plans.{IsPlan}
 use Rattle.lx_lines.specs.Printing.{printing, turn_of}
 use Rattle.lx_lines.specs.PrintingLaws.{prints_no_more}
 use Rattle.lx_lines.proofs.Turning.{prints_in_part, prints_piece, turn_closed, turn_open}
@@ -14,18 +15,18 @@ pub returns-in_err-write_lines-clause-fails : goal.returns-in_err-write_lines-cl
 returns-in_err-write_lines-clause-fails g c =
     let s = c.args.self.now in
     let p = err_from_is_err_and c.from_residual.result c.from_residual.ensures.1 in
-    rw p.1 (prints_in_part g.S.LineSink.wrote s.plan.value (turn_of s.file s.number) s.sink c.write_lines.new.self c.args.piece c.as_slice.result.now _ c.files-files.ensures.plan c.requires.turn (c.as_slice.ensures.value ∙ c.in-Ok.ensures) (p.2 ∙ c.in_err-write_lines.ensures.device) c.in_err-write_lines.ensures.err)
+    rw p.1 (prints_in_part g.S.LineSink.wrote s.plan.value (turn_of s.file s.number) s.sink c.write_lines.new.self c.args.piece c.as_slice.result.now _ (subst IsPlan c.requires.same c.files-files.ensures.plan) c.requires.turn (c.as_slice.ensures.value ∙ c.in-Ok.ensures) (p.2 ∙ c.in_err-write_lines.ensures.device) c.in_err-write_lines.ensures.err)
 
 pub returns-then-closes-clause-follows : goal.returns-then-closes-clause-follows
 returns-then-closes-clause-follows g c =
     let s = c.args.self.now in
     let turn = turn_of s.file s.number in
-    prints_piece g.S.LineSink.wrote s.plan.value turn (turn_of (s.file + 1) 0) s.sink c.write_lines.new.self c.args.piece c.as_slice.result.now c.files-files.ensures.plan c.requires.turn (c.as_slice.ensures.value ∙ c.in-Ok.ensures)
+    prints_piece g.S.LineSink.wrote s.plan.value turn (turn_of (s.file + 1) 0) s.sink c.write_lines.new.self c.args.piece c.as_slice.result.now (subst IsPlan c.requires.same c.files-files.ensures.plan) c.requires.turn (c.as_slice.ensures.value ∙ c.in-Ok.ensures)
     (turn_closed s.plan.value turn c.args.piece c.requires.turn (sym c.is_closing-closes.ensures ∙ c.if-closes.true)) c.in_ok-write_lines.ensures.ok
 
 pub returns-else-closes-clause-follows : goal.returns-else-closes-clause-follows
 returns-else-closes-clause-follows g c =
     let s = c.args.self.now in
     let turn = turn_of s.file s.number in
-    prints_piece g.S.LineSink.wrote s.plan.value turn (turn_of s.file (s.number + 1)) s.sink c.write_lines.new.self c.args.piece c.as_slice.result.now c.files-files.ensures.plan c.requires.turn (c.as_slice.ensures.value ∙ c.in-Ok.ensures)
+    prints_piece g.S.LineSink.wrote s.plan.value turn (turn_of s.file (s.number + 1)) s.sink c.write_lines.new.self c.args.piece c.as_slice.result.now (subst IsPlan c.requires.same c.files-files.ensures.plan) c.requires.turn (c.as_slice.ensures.value ∙ c.in-Ok.ensures)
     (turn_open s.plan.value turn c.args.piece c.requires.turn (sym c.is_closing-closes.ensures ∙ c.if-closes.false)) c.in_ok-write_lines.ensures.ok
