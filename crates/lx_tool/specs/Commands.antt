@@ -60,10 +60,14 @@ names_asked (scan order) = order.rules ∷ order.files
 names_asked (gen name) = name ∷ []
 names_asked (up name) = name ∷ []
 
+-- one for the name of standard input
+abbrev pub input_count : List ℕ → ℕ
+input_count name = if bytes_eq name (codes "-") then 1 else 0
+
 -- how many of the names are that of standard input
 abbrev pub inputs_among : List (List ℕ) → ℕ
 inputs_among [] = 0
-inputs_among (name ∷ names) = (if bytes_eq name (codes "-") then 1 else 0) + inputs_among names
+inputs_among (name ∷ names) = input_count name + inputs_among names
 
 -- The sources gave the text with this name, whole, which is refused.
 pub record IsTextRefused {S : Type 0} (gives : S → List ℕ → PlainInput → S → Type 0) (Refuses : List ℕ → Type 0) (name : List ℕ) (before : S) : Type 0 where

@@ -3,7 +3,7 @@
 ghost use Rattle.std.specs.Prelude.{◌≡◌, ◌<◌, ◌≤◌, [], ◌∷◌, Some, IfOk, IfErr, OnOk, IfSome, length};
 ghost use Rattle.std.specs.Io.KnownBytes.{Keeps};
 ghost use Rattle.lx_tool.specs.CommandLine.{asked_as, asked_by, plain_order, run as run-asked, scan as scan-asked, gen as gen-asked, up as up-asked, words_of};
-ghost use Rattle.lx_tool.specs.Commands.{AreNamesRefused, HasDone, HasEnded, HasFailed, HasObeyed, inputs_among, stored_specification, stored_text};
+ghost use Rattle.lx_tool.specs.Commands.{AreNamesRefused, HasDone, HasEnded, HasFailed, HasObeyed, input_count, inputs_among, stored_specification, stored_text};
 ghost use Rattle.lx_piece.specs.Plans.{max_files};
 ghost use Rattle.lx_tool.specs.Planning.{ListsByRules};
 ghost use Rattle.lx_tool.specs.Sources.{texts_of, whole};
@@ -205,6 +205,14 @@ fn list_stored<'a, R: Threads + Wait + Sync, O: Write>(
     Ok(())
 }
 
+// One for the name of standard input.
+fn input(name: &str) -> usize
+    ensures value { result ≡ input_count name.now }
+    ensures few { result ≤ 1 }
+{
+    if name == STANDARD_INPUT { 1 } else { 0 }
+}
+
 // How many of the names are that of standard input.
 fn inputs_among(names: &[&str]) -> usize
     ensures count { result ≡ inputs_among (texts_of names.now) }
@@ -212,9 +220,7 @@ fn inputs_among(names: &[&str]) -> usize
 {
     let mut count = 0;
     for name in names {
-        if *name == STANDARD_INPUT {
-            count += 1;
-        }
+        count += input(name);
     }
     count
 }
@@ -227,8 +233,7 @@ fn judge_names<'a>(order: &ListRequest<'a>) -> Result<(), Failure<'a>>
     if order.files.len() > MAX_FILES {
         return Err(Failure::TooManyFiles);
     }
-    let rules = usize::from(order.rules == STANDARD_INPUT);
-    if inputs_among(&order.files) + rules > 1 {
+    if input(order.rules) + inputs_among(&order.files) > 1 {
         return Err(Failure::InputTwice);
     }
     Ok(())
