@@ -2,10 +2,14 @@
 #![tactic(auto)]
 
 mod files;
+mod output;
+mod words;
 
 use crate::files::FileSources;
-use lx_tool::{LineWrites, run_with};
-use std::io::{BufWriter, ErrorKind, Print, Write};
+use crate::output::PipeOutput;
+use crate::words::tell_refused_word;
+use lx_tool::run_with;
+use std::io::{BufWriter, ErrorKind, Input, Print, Write};
 use std::process::ExitCode;
 use std::rt::{Env, Files};
 use std::sync::Wait;
@@ -28,22 +32,23 @@ fn main(rt: HostRuntime) -> ExitCode {
             ExitCode::from(NO_MEMORY)
         }
         Err(_) => {
-            let _ = eprintln!(rt; "lx: a word of the command line isn't UTF-8");
+            let mut err = rt.stderr();
+            let _ = writeln!(err, "lx: a word of the command line isn't UTF-8");
+            let _ = tell_refused_word(&rt, &mut err);
             ExitCode::from(NO_WORDS)
         }
     }
 }
 
 // Two faults there are here: a word isn't UTF-8, or memory is refused for the words or the buffer.
-fn start<R: AllocGlobal + Env + Files + Print + Threads + Wait + Sync, E: Write>(
+fn start<R: AllocGlobal + Env + Files + Input + Print + Threads + Wait + Sync, E: Write>(
     rt: &R,
     err: &mut E,
 ) -> io::Result<u8> {
     let alloc = rt.alloc();
     let words: Vec<String> = env::args(rt)?.collect(alloc)?;
-    let mut out = BufWriter::with_capacity(alloc, BUFFER, io::writer(rt))?;
+    let mut out = PipeOutput::new(BufWriter::with_capacity(alloc, BUFFER, io::writer(rt))?);
     let mut sources = FileSources::new(rt);
-    let writes = LineWrites::Whole;
-    let status = run_with(rt, alloc, &words, &mut sources, writes, &mut out, err);
+    let status = run_with(rt, alloc, &words, &mut sources, &mut out, err);
     Ok(status)
 }

@@ -16,7 +16,7 @@ use Rattle.clap.specs.Words.{App, HasMatchesOf, Row, Shape, Text, built, fault_o
 use Rattle.clap.specs.declared.parser.ArgMatches.{ArgMatches}
 use Rattle.lx_tool.specs.CommandLine.{IsFault, asked_as, asked_by, asked_of, lx_app, stored}
 use Rattle.lx_tool.specs.declared.command_line.Request.{Request}
-use Rattle.lx_tool.specs.declared.command_line.Request.TheVariants.{Help}
+use Rattle.lx_tool.specs.declared.command_line.Request.TheVariants.{Told}
 
 pub lx_is_simple : is_simple_and_free lx_app ≡ true
 unfolding lx_app
@@ -87,8 +87,8 @@ asks_something words none =
 
 -- ---- what is asked
 
-pub no_help : (order : Request) (text : Error) → order ≡ Help text → is_some (asked_as order) ≡ true → ⊥
-no_help order text is some = true≢false (sym some ∙ ap (λ (o : Request). is_some (asked_as o)) is)
+pub not_told : (order : Request) (text : Error) → order ≡ Told text → is_some (asked_as order) ≡ true → ⊥
+not_told order text is some = true≢false (sym some ∙ ap (λ (o : Request). is_some (asked_as o)) is)
 
 pub asked_where_stored : (words : List Text) → length words ≤ 1 → asked_by words ≡ Some stored
 unfolding asked_by

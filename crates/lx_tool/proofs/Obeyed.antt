@@ -1,19 +1,20 @@
 -- What was done by what the words ask for, or why it wasn't.
-use Rattle.std.proofs.Common.{ℕ, suc, ◌≢◌, ◌<◌, List, [], ◌∷◌, Option, Some, None, All, arith, refl, ◌∙◌}
+use Rattle.std.proofs.Common.{ℕ, suc, ◌≡◌, ◌≢◌, ◌<◌, List, [], ◌∷◌, Option, Some, None, All, Bor, Ok, Err, Result, IfOk, IfErr, inl, inr, length, arith, refl, ◌∙◌, ap}
 use Rattle.std.specs.Prelude.{Contains}
+use Rattle.std.proofs.lemmas.List.{length-map}
 use Rattle.std.specs.Io.KnownBytes.{Keeps, Appends}
 use Rattle.std.proofs.lemmas.List.Elements.{All-cons, All-nil, All-from_recursion}
 use Rattle.lx_piece.specs.Plans.{PlainInput}
 use Rattle.lx_tables.specs.Output.{Wrote}
 use Rattle.lx_tool.specs.CommandLine.{Asked, PlainOrder, stored, run, scan, gen, up}
-use Rattle.lx_tool.specs.Commands.{AreRulesRefused, HasFailed, HasObeyed, IsCutShort, names_asked, stored_specification, stored_text}
+use Rattle.lx_tool.specs.Commands.{AreRulesRefused, HasEnded, HasFailed, HasObeyed, IsCutShort, names_asked, stored_specification, stored_text}
 use Rattle.lx_tool.specs.Given.{AreListed, FailsListing, IsNoTable}
 use Rattle.lx_tool.specs.Planning.{AreBytes, ListsByRules, ListsByText}
-use Rattle.lx_tool.specs.Sources.{whole}
-use Rattle.lx_tool.specs.Statuses.{HidesNoMemory, status_of}
+use Rattle.lx_tool.specs.Sources.{texts_of, whole}
+use Rattle.lx_tool.specs.Statuses.{HasStatusOfCut, HidesNoMemory, status_of}
 use Rattle.lx_tool.specs.Tabling.{FailsGenerating, Generates, HasNoTables, Upgrades}
 use Rattle.lx_tool.specs.declared.failure.Failure.{Failure}
-use Rattle.lx_tool.specs.declared.failure.Failure.TheVariants.{Specification, Automaton, Tables, Words, TooManyFiles, NotRead, Output, Memory}
+use Rattle.lx_tool.specs.declared.failure.Failure.TheVariants.{Specification, Automaton, Tables, Words, TooManyFiles, InputTwice, NotRead, Output, Memory}
 
 -- ---- what a writer holds
 
@@ -79,6 +80,7 @@ no_tables_tells text (Automaton fault) h = h.known
 no_tables_tells text (Tables fault) h = absurd h
 no_tables_tells text (Words error) h = absurd h
 no_tables_tells text TooManyFiles h = tt
+no_tables_tells text InputTwice h = tt
 no_tables_tells text (NotRead name) h = tt
 no_tables_tells text Output h = tt
 no_tables_tells text Memory h = tt
@@ -89,6 +91,7 @@ no_table_tells text (Automaton fault) h = absurd h
 no_table_tells text (Tables fault) h = λ e. let f = h.0 in cc
 no_table_tells text (Words error) h = absurd h
 no_table_tells text TooManyFiles h = tt
+no_table_tells text InputTwice h = tt
 no_table_tells text (NotRead name) h = tt
 no_table_tells text Output h = tt
 no_table_tells text Memory h = tt
@@ -100,16 +103,17 @@ module _ {S : Type 0} (gives : S → List ℕ → PlainInput → S → Type 0) (
   -- a specification or tables were refused
   pub rules_refused : (asked : Asked) (Refuses : Failure → Type 0) → ((failure : Failure) → Refuses failure → AreRulesRefused gives before asked failure) →
       ((failure : Failure) → Refuses failure → HidesNoMemory failure) → Keeps old new →
-      (Refuses TooManyFiles → ⊥) → ((name : _) → Refuses (NotRead name) → ⊥) → ((error : _) → Refuses (Words error) → ⊥) →
+      (Refuses TooManyFiles → ⊥) → (Refuses InputTwice → ⊥) → ((name : _) → Refuses (NotRead name) → ⊥) → ((error : _) → Refuses (Words error) → ⊥) →
       (failure : Failure) → Refuses failure → HasFailed gives (Some asked) before old new failure
-  rules_refused asked Refuses refused tells kept few known words (Specification fault) h = λ low. record { cause = refused (Specification fault) h; tells = tells (Specification fault) h; kept = kept }
-  rules_refused asked Refuses refused tells kept few known words (Automaton fault) h = λ low. record { cause = refused (Automaton fault) h; tells = tells (Automaton fault) h; kept = kept }
-  rules_refused asked Refuses refused tells kept few known words (Tables fault) h = λ low. record { cause = refused (Tables fault) h; tells = tells (Tables fault) h; kept = kept }
-  rules_refused asked Refuses refused tells kept few known words (Words error) h = absurd (words error h)
-  rules_refused asked Refuses refused tells kept few known words TooManyFiles h = absurd (few h)
-  rules_refused asked Refuses refused tells kept few known words (NotRead name) h = absurd (known name h)
-  rules_refused asked Refuses refused tells kept few known words Output h = λ low. absurd (omega (arith, low))
-  rules_refused asked Refuses refused tells kept few known words Memory h = λ low. absurd (omega (arith, low))
+  rules_refused asked Refuses refused tells kept few once known words (Specification fault) h = λ low. record { cause = refused (Specification fault) h; tells = tells (Specification fault) h; kept = kept }
+  rules_refused asked Refuses refused tells kept few once known words (Automaton fault) h = λ low. record { cause = refused (Automaton fault) h; tells = tells (Automaton fault) h; kept = kept }
+  rules_refused asked Refuses refused tells kept few once known words (Tables fault) h = λ low. record { cause = refused (Tables fault) h; tells = tells (Tables fault) h; kept = kept }
+  rules_refused asked Refuses refused tells kept few once known words (Words error) h = absurd (words error h)
+  rules_refused asked Refuses refused tells kept few once known words TooManyFiles h = absurd (few h)
+  rules_refused asked Refuses refused tells kept few once known words InputTwice h = absurd (once h)
+  rules_refused asked Refuses refused tells kept few once known words (NotRead name) h = absurd (known name h)
+  rules_refused asked Refuses refused tells kept few once known words Output h = λ low. absurd (omega (arith, low))
+  rules_refused asked Refuses refused tells kept few once known words Memory h = λ low. absurd (omega (arith, low))
 
   -- a listing was refused whose rules stand in a text that the sources gave
   pub listing_refused : (asked : Asked) (files : List (List ℕ)) (between after : S) (Refuses : Failure → Type 0) (Part : Type 0) → ((failure : Failure) → Refuses failure → AreRulesRefused gives before asked failure) →
@@ -120,6 +124,7 @@ module _ {S : Type 0} (gives : S → List ℕ → PlainInput → S → Type 0) (
   listing_refused asked files between after Refuses Part refused tells within (Tables fault) h = λ low. record { cause = refused (Tables fault) h.0; tells = tells (Tables fault) h.0; kept = h.1.output }
   listing_refused asked files between after Refuses Part refused tells within (Words error) h = absurd h
   listing_refused asked files between after Refuses Part refused tells within TooManyFiles h = absurd h
+  listing_refused asked files between after Refuses Part refused tells within InputTwice h = absurd h
   listing_refused asked files between after Refuses Part refused tells within (NotRead name) h = λ low. record { cause = within name.now h.0; tells = tt; kept = h.1 }
   listing_refused asked files between after Refuses Part refused tells within Output h = λ low. absurd (omega (arith, low))
   listing_refused asked files between after Refuses Part refused tells within Memory h = λ low. absurd (omega (arith, low))
@@ -148,13 +153,14 @@ module _ {S : Type 0} (gives : S → List ℕ → PlainInput → S → Type 0) (
     gen_refused name given (Tables fault) h = absurd h
     gen_refused name given (Words error) h = absurd h
     gen_refused name given TooManyFiles h = absurd h
+    gen_refused name given InputTwice h = absurd h
     gen_refused name given (NotRead other) h = absurd h
     gen_refused name given Output h = λ low. absurd (omega (arith, low))
     gen_refused name given Memory h = λ low. absurd (omega (arith, low))
 
   -- the stored specification was refused
   pub stored_refused : (failure : Failure) → (status_of failure < 4 → HasNoTables stored_specification failure × Keeps old new) → HasFailed gives (Some stored) before old new failure
-  stored_refused failure h = λ low. rules_refused stored (HasNoTables stored_specification) (λ f r. r) (no_tables_tells stored_specification) (h low).1 (λ r. absurd r) (λ name r. absurd r) (λ error r. absurd r) failure (h low).0 low
+  stored_refused failure h = λ low. rules_refused stored (HasNoTables stored_specification) (λ f r. r) (no_tables_tells stored_specification) (h low).1 (λ r. absurd r) (λ r. absurd r) (λ name r. absurd r) (λ error r. absurd r) failure (h low).0 low
 
 -- ---- ends
 
@@ -163,6 +169,19 @@ pub ended_cut : {S : Type 0} (gives : S → List ℕ → PlainInput → S → Ty
     HasObeyed gives before after old new cut asked → IsCutShort gives asked before after old new
 ended_cut gives before after old new cut None some h = absurd (some h)
 ended_cut gives before after old new cut (Some asked) some h = record { cut = cut; some = some; done = h }
+
+-- what is known at an exit status from 1 to 3
+pub has_ended : {S V : Type 0} (gives : S → List ℕ → PlainInput → S → Type 0) (asked : Option Asked) (before after : S) (old new : Option (List ℕ)) (items : V → List (Bor (List ℕ))) (ended : Result V Failure) (status : ℕ) →
+    IfOk ended (λ cut. HasObeyed gives before after old new (texts_of (items cut)) asked) → IfErr ended (HasFailed gives asked before old new) →
+    IfOk ended (λ cut. HasStatusOfCut status (items cut)) → IfErr ended (λ failure. status ≡ status_of failure) → 0 < status → status < 4 → HasEnded gives asked before after old new status
+has_ended gives asked before after old new items (Ok cut) status obeyed failed told other some few =
+    let names : List (List ℕ) = texts_of (items cut) in
+    let same = length-map (items cut) (λ (name : Bor (List ℕ)). name.now) in
+    let none = told.none in
+    let more = told.some in
+    let is : status ≡ 3 = grind arith in
+    inl (is, ended_cut gives before after old new names asked (λ e. let nobody = ap length e in absurd (grind arith)) obeyed)
+has_ended gives asked before after old new items (Err failure) status obeyed failed told other some few = inr (failure, other, failed (omega (arith, few, other)))
 
 -- the stored text is one of bytes
 pub stored_bytes : AreBytes (whole stored_text ∷ [])

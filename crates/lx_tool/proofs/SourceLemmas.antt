@@ -6,6 +6,7 @@ use Rattle.std.proofs.lemmas.List.{length-take-le, take_all, take_more, map-appe
 use Rattle.std.proofs.lemmas.List.Elements.{All-more, All-push}
 use Rattle.lx_piece.specs.declared.input.Input.{Input}
 use Rattle.lx_piece.specs.Plans.{PlainInput, input_view}
+use Rattle.lx_tool.specs.Commands.{input_count, inputs_among}
 use Rattle.lx_tool.specs.Planning.{AreBytes}
 use Rattle.lx_tool.specs.Sources.{AreGiven, none, first, IsFirstNamed, NoneIsNamed, cut_names, inputs_of, is_among, named_input}
 
@@ -59,6 +60,19 @@ module _ (cut : List (List ℕ)) (files : List NamedBytes) (name : List ℕ) (i 
 
 pub none_at_all : (cut : List (List ℕ)) (files : List NamedBytes) (name : List ℕ) (i : ℕ) → length files ≤ i → NoneIsNamed (take i (inputs_of cut files)) name → NoneIsNamed (inputs_of cut files) name
 none_at_all cut files name i l none_before = subst (λ fs. NoneIsNamed fs name) (take_all i (inputs_of cut files) (omega (arith, length-map files (named_input cut)))) none_before
+
+-- ---- the names of standard input
+
+-- one name more is counted
+pub counts_one : (names : List (Bor (List ℕ))) (i : ℕ) (d : Bor (List ℕ)) (count one all : ℕ) → i < length names → one ≡ input_count (slice_index_or names i d).now →
+    count + inputs_among (drop i (map (λ name. name.now) names)) ≡ all → count + one + inputs_among (drop (i + 1) (map (λ name. name.now) names)) ≡ all
+counts_one names i d count one all l is before =
+    let texts : List (List ℕ) = map (λ name. name.now) names in
+    let within : i < length texts = omega (arith, length-map names (λ (name : Bor (List ℕ)). name.now)) in
+    let here : slice_index_or texts i d.now ≡ (slice_index_or names i d).now = get_or-map (λ (name : Bor (List ℕ)). name.now) names i d d.now l in
+    let cut : inputs_among (drop i texts) ≡ input_count (slice_index_or names i d).now + inputs_among (drop (i + 1) texts) =
+    ap inputs_among (drop_more texts i d.now within) ∙ ap (λ (name : List ℕ). input_count name + inputs_among (drop (i + 1) texts)) here in
+    omega (arith, is, before, cut)
 
 -- ---- one more name
 

@@ -11,7 +11,7 @@ use Rattle.lx_auto.specs.declared.fault.BuildFault.TheVariants as build
 use Rattle.lx_tool.specs.Statuses.{status_of, failure_of_build, HidesNoMemory}
 use Rattle.lx_tool.specs.Tabling.{HasNoTables, FailsGenerating, FailsUpgrading}
 use Rattle.lx_tool.specs.declared.failure.Failure.{Failure}
-use Rattle.lx_tool.specs.declared.failure.Failure.TheVariants.{Specification, Automaton, Tables, Words, TooManyFiles, NotRead, Output, Memory}
+use Rattle.lx_tool.specs.declared.failure.Failure.TheVariants.{Specification, Automaton, Tables, Words, TooManyFiles, InputTwice, NotRead, Output, Memory}
 
 pub too_large : (text : List ℕ) (spec : PlainSpec) → IsRead text spec → (fault : BuildFault) → (fault ≡ build.TooManyPositions → 16384 < count_of_spec spec) →
     (fault ≡ build.TooManySets → (count_of_spec spec ≤ 16384) × HasMoreReachedSets spec 16384) → HasNoTables text (failure_of_build fault)
@@ -26,6 +26,7 @@ fails_before text old new (Automaton fault) none keeps = (none, keeps)
 fails_before text old new (Tables fault) none keeps = none
 fails_before text old new (Words error) none keeps = none
 fails_before text old new TooManyFiles none keeps = none
+fails_before text old new InputTwice none keeps = none
 fails_before text old new (NotRead name) none keeps = none
 fails_before text old new Output none keeps = absurd none
 fails_before text old new Memory none keeps = keeps
@@ -36,6 +37,7 @@ generating_kept text old new (Automaton fault) fails low = fails.1
 generating_kept text old new (Tables fault) fails low = absurd fails
 generating_kept text old new (Words error) fails low = absurd fails
 generating_kept text old new TooManyFiles fails low = absurd fails
+generating_kept text old new InputTwice fails low = absurd fails
 generating_kept text old new (NotRead name) fails low = absurd fails
 generating_kept text old new Output fails low = absurd (omega arith)
 generating_kept text old new Memory fails low = fails
@@ -46,6 +48,7 @@ generating_tells text old new (Automaton fault) fails = fails.0.known
 generating_tells text old new (Tables fault) fails = absurd fails
 generating_tells text old new (Words error) fails = absurd fails
 generating_tells text old new TooManyFiles fails = tt
+generating_tells text old new InputTwice fails = tt
 generating_tells text old new (NotRead name) fails = tt
 generating_tells text old new Output fails = tt
 generating_tells text old new Memory fails = tt
@@ -56,6 +59,7 @@ upgrading_kept text old new (Automaton fault) fails low = absurd fails
 upgrading_kept text old new (Tables fault) fails low = fails.2
 upgrading_kept text old new (Words error) fails low = absurd fails
 upgrading_kept text old new TooManyFiles fails low = absurd fails
+upgrading_kept text old new InputTwice fails low = absurd fails
 upgrading_kept text old new (NotRead name) fails low = absurd fails
 upgrading_kept text old new Output fails low = absurd (omega arith)
 upgrading_kept text old new Memory fails low = fails
@@ -66,6 +70,7 @@ upgrading_tells text old new (Automaton fault) fails = absurd fails
 upgrading_tells text old new (Tables fault) fails = λ e. let h = fails.0 in cc
 upgrading_tells text old new (Words error) fails = absurd fails
 upgrading_tells text old new TooManyFiles fails = tt
+upgrading_tells text old new InputTwice fails = tt
 upgrading_tells text old new (NotRead name) fails = tt
 upgrading_tells text old new Output fails = tt
 upgrading_tells text old new Memory fails = tt

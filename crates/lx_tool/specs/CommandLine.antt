@@ -1,5 +1,5 @@
 -- The command line of `lx`, and what its words ask for.
-use Rattle.std.specs.Prelude.{ℕ, Bool, true, List, [], ◌∷◌, map, length, nat_le, Option, Some, None, pos, codes, unwrap_or, if◌then◌else◌, option_and_then, slice_index, ◌≡◌, ◌≢◌, IfSome, All, ◌<◌, ◌++◌}
+use Rattle.std.specs.Prelude.{ℕ, Bool, true, List, [], ◌∷◌, map, length, nat_le, Option, Some, None, pos, codes, unwrap_or, if◌then◌else◌, option_and_then, slice_index, ◌≡◌, ◌≢◌, IfSome, All, ◌<◌, ◌++◌, ◌⊎◌}
 use Rattle.std.specs.Option.{option_map_or}
 use Rattle.std.specs.Str.{bytes_eq}
 use Rattle.std.specs.Str.Parse.{digits_value, without_leading_plus}
@@ -63,9 +63,9 @@ one_file_app name id = with_rule (new_app name) (rules_rule id)
 abbrev pub list_app : Text → List Text → Text → App
 list_app name workers id = with_rule (with_rule (with_rule (with_rule (new_app name) (workers_rule workers)) items_rule) (rules_rule id)) files_rule
 
--- a subcommand has to be given, and none is `help`
+-- a subcommand has to be given, and none is `help`; there is a version
 abbrev pub bare_app : App
-bare_app = on_top (λ s. record s { disable_help_subcommand = true; subcommand_required = true }) (new_app (codes "lx"))
+bare_app = on_top (λ s. record s { disable_help_subcommand = true; subcommand_required = true; has_version = true }) (new_app (codes "lx"))
 
 unfoldable pub lx_app : App
 lx_app = with_subcommand (with_subcommand (with_subcommand (with_subcommand bare_app
@@ -119,15 +119,19 @@ asked_of p =
     else (if bytes_eq p.0 (codes "scan") then Some (scan (request_in (codes "TABLES") 4 p.1))
     else (if bytes_eq p.0 (codes "run") then Some (run (request_in (codes "SPEC") 0 p.1)) else None)))
 
--- `clap` may answer the words by an error of this kind, of which the help is one
+-- `clap` may answer the words by an error of this kind, of which the help and the version are two
 abbrev pub IsFault : List Text → ErrorKind → Type 0
 IsFault words k = IsAmong k (fault_of lx_app words)
+
+-- the kinds that aren't refusals: the help or the version was asked for
+abbrev pub IsTold : ErrorKind → Type 0
+IsTold k = (k ≡ ErrorKind.DisplayHelp) ⊎ (k ≡ ErrorKind.DisplayVersion)
 
 -- it takes them
 abbrev pub is_taken : List Text → Bool
 is_taken words = is_empty (fault_of lx_app words)
 
--- what the words ask for, of which the first is the program's name; nothing, where they are refused or ask for help
+-- what the words ask for, of which the first is the program's name; nothing, where they are refused or ask for the help or the version
 unfoldable pub asked_by : List Text → Option Asked
 asked_by words = if nat_le (length words) 1 then Some stored
     else (if is_taken words then option_and_then asked_of (subcommand_of lx_app words) else None)
@@ -137,10 +141,10 @@ asked_by words = if nat_le (length words) 1 then Some stored
 abbrev pub plain_order : ListRequest → PlainOrder
 plain_order o = record { workers = o.workers; per_piece = o.per_piece; rules = o.rules.now; files = map (λ name. name.now) o.files.items }
 
--- what a request was asked by; the help is none
+-- what a request was asked by; the help and the version are none
 abbrev pub asked_as : Request → Option Asked
 asked_as request.Stored = Some stored
-asked_as (request.Help text) = None
+asked_as (request.Told text) = None
 asked_as (request.Run o) = Some (run (plain_order o))
 asked_as (request.Scan o) = Some (scan (plain_order o))
 asked_as (request.Gen name) = Some (gen name.now)

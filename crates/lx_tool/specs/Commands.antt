@@ -1,5 +1,6 @@
 -- What the program does, by what its words ask for.
-use Rattle.std.specs.Prelude.{◌≡◌, ◌≢◌, ℕ, ◌<◌, ◌⊎◌, List, [], ◌∷◌, Option, Some, None, Contains, IsSomeAnd, MatchOption, codes, length}
+use Rattle.std.specs.Prelude.{◌≡◌, ◌≢◌, ℕ, ◌<◌, ◌⊎◌, List, [], ◌∷◌, Option, Some, None, Contains, IsSomeAnd, MatchOption, codes, length, ◌+◌, if◌then◌else◌}
+use Rattle.std.specs.Str.{bytes_eq}
 use Rattle.std.specs.Io.KnownBytes.{Keeps}
 use Rattle.lx_piece.specs.Plans.{PlainInput, max_files}
 use Rattle.lx_tool.specs.CommandLine.{Asked, PlainOrder, stored, run, scan, gen, up}
@@ -9,7 +10,7 @@ use Rattle.lx_tool.specs.Sources.{whole}
 use Rattle.lx_tool.specs.Statuses.{HidesNoMemory, status_of}
 use Rattle.lx_tool.specs.Tabling.{Generates, HasNoTables, Upgrades}
 use Rattle.lx_tool.specs.declared.failure.Failure.{Failure}
-use Rattle.lx_tool.specs.declared.failure.Failure.TheVariants.{Specification, Automaton, Tables, Words, TooManyFiles, NotRead, Output, Memory}
+use Rattle.lx_tool.specs.declared.failure.Failure.TheVariants.{Specification, Automaton, Tables, Words, TooManyFiles, InputTwice, NotRead, Output, Memory}
 
 -- the specification and the file of the stored run
 abbrev pub stored_specification : List ℕ
@@ -59,6 +60,15 @@ names_asked (scan order) = order.rules ∷ order.files
 names_asked (gen name) = name ∷ []
 names_asked (up name) = name ∷ []
 
+-- one for the name of standard input
+abbrev pub input_count : List ℕ → ℕ
+input_count name = if bytes_eq name (codes "-") then 1 else 0
+
+-- how many of the names are that of standard input
+abbrev pub inputs_among : List (List ℕ) → ℕ
+inputs_among [] = 0
+inputs_among (name ∷ names) = input_count name + inputs_among names
+
 -- The sources gave the text with this name, whole, which is refused.
 pub record IsTextRefused {S : Type 0} (gives : S → List ℕ → PlainInput → S → Type 0) (Refuses : List ℕ → Type 0) (name : List ℕ) (before : S) : Type 0 where
   pub text : List ℕ
@@ -74,6 +84,12 @@ AreRulesRefused gives before (scan order) failure = IsTextRefused gives (λ text
 AreRulesRefused gives before (gen name) failure = IsTextRefused gives (λ text. HasNoTables text failure) name before
 AreRulesRefused gives before (up name) failure = IsTextRefused gives (λ text. IsNoTable text failure) name before
 
+-- the names of a listing's files are refused
+abbrev pub AreNamesRefused : PlainOrder → Failure → Type 0
+AreNamesRefused order failure =
+    ((failure ≡ TooManyFiles) × (max_files < length order.files))
+    ⊎ ((failure ≡ InputTwice) × (1 < inputs_among (order.rules ∷ order.files)))
+
 -- why what the words ask for was not done
 abbrev pub HasCause : {S : Type 0} → (S → List ℕ → PlainInput → S → Type 0) → S → Asked → Failure → Type 0
 HasCause gives before asked (Specification fault) = AreRulesRefused gives before asked (Specification fault)
@@ -81,6 +97,7 @@ HasCause gives before asked (Automaton fault) = AreRulesRefused gives before ask
 HasCause gives before asked (Tables fault) = AreRulesRefused gives before asked (Tables fault)
 HasCause gives before asked (Words error) = ⊥
 HasCause gives before asked TooManyFiles = max_files < length (files_asked asked)
+HasCause gives before asked InputTwice = 1 < inputs_among (names_asked asked)
 HasCause gives before asked (NotRead name) = Contains (names_asked asked) name.now
 HasCause gives before asked Output = ⊥
 HasCause gives before asked Memory = ⊥

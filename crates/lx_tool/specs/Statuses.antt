@@ -1,5 +1,5 @@
 -- Why a command is not done, and the exit statuses of the program.
-use Rattle.std.specs.Prelude.{ℕ, ◌≡◌, ◌≢◌, ◌⊎◌, ⊤}
+use Rattle.std.specs.Prelude.{ℕ, List, length, ◌<◌, ◌≡◌, ◌≢◌, ◌⊎◌, ⊤}
 use Rattle.clap.specs.declared.error.kind.ErrorKind.TheVariants as kind
 use Rattle.clap.specs.Words.{kind_of}
 use Rattle.lx_auto.specs.declared.fault.BuildFault.{BuildFault}
@@ -11,7 +11,7 @@ use Rattle.lx_tables.specs.declared.fault.TableFault.TheVariants as table
 use Rattle.lx_post.specs.declared.run_fault.RunFault.{RunFault}
 use Rattle.lx_post.specs.declared.run_fault.RunFault.TheVariants as run
 use Rattle.lx_tool.specs.declared.failure.Failure.{Failure}
-use Rattle.lx_tool.specs.declared.failure.Failure.TheVariants.{Specification, Automaton, Tables, Words, TooManyFiles, NotRead, Output, Memory}
+use Rattle.lx_tool.specs.declared.failure.Failure.TheVariants.{Specification, Automaton, Tables, Words, TooManyFiles, InputTwice, NotRead, Output, Memory}
 
 -- the exit status of a command that is not done
 abbrev pub status_of : Failure → ℕ
@@ -20,9 +20,15 @@ status_of (Automaton fault) = 1
 status_of (Tables fault) = 1
 status_of (Words error) = 2
 status_of TooManyFiles = 2
+status_of InputTwice = 2
 status_of (NotRead name) = 3
 status_of Output = 4
 status_of Memory = 5
+
+-- the exit status where all was done, but that these files were cut short
+pub record HasStatusOfCut {X : Type 0} (status : ℕ) (cut : List X) : Type 0 where
+  pub none : length cut ≡ 0 → status ≡ 0
+  pub some : 0 < length cut → status ≡ 3
 
 -- why a command is not done whose listing is not written whole
 abbrev pub failure_of_run : RunFault → Failure
@@ -51,6 +57,7 @@ HidesNoMemory (Automaton fault) = fault ≢ build.Memory
 HidesNoMemory (Tables fault) = fault ≢ table.Memory
 HidesNoMemory (Words error) = kind_of error ≢ kind.OutOfMemory
 HidesNoMemory TooManyFiles = ⊤
+HidesNoMemory InputTwice = ⊤
 HidesNoMemory (NotRead name) = ⊤
 HidesNoMemory Output = ⊤
 HidesNoMemory Memory = ⊤

@@ -14,7 +14,7 @@ use Rattle.lx_tables.specs.Reading.{IsTextOf, IsNoText}
 use Rattle.lx_tables.specs.Texts.{text_2}
 use Rattle.lx_tables.specs.declared.fault.TableFault.TheVariants as table
 use Rattle.lx_tool.specs.declared.failure.Failure.{Failure}
-use Rattle.lx_tool.specs.declared.failure.Failure.TheVariants.{Specification, Automaton, Tables, Words, TooManyFiles, NotRead, Output, Memory}
+use Rattle.lx_tool.specs.declared.failure.Failure.TheVariants.{Specification, Automaton, Tables, Words, TooManyFiles, InputTwice, NotRead, Output, Memory}
 
 -- Tables of the specification that a text says.
 pub record AreTablesOfText (text : List ℕ) (tables : Table) : Type 0 where
@@ -37,6 +37,7 @@ HasNoTables text (Automaton fault) = IsTooLarge text fault
 HasNoTables text (Tables fault) = ⊥
 HasNoTables text (Words error) = ⊥
 HasNoTables text TooManyFiles = ⊥
+HasNoTables text InputTwice = ⊥
 HasNoTables text (NotRead name) = ⊥
 HasNoTables text Output = ⊥
 HasNoTables text Memory = ⊤
@@ -60,6 +61,7 @@ FailsGenerating text old new (Automaton fault) = HasNoTables text (Automaton fau
 FailsGenerating text old new (Tables fault) = ⊥
 FailsGenerating text old new (Words error) = ⊥
 FailsGenerating text old new TooManyFiles = ⊥
+FailsGenerating text old new InputTwice = ⊥
 FailsGenerating text old new (NotRead name) = ⊥
 FailsGenerating text old new Output = GeneratesPrefix text old new
 FailsGenerating text old new Memory = Keeps old new
@@ -85,6 +87,7 @@ FailsUpgrading text old new (Automaton fault) = ⊥
 FailsUpgrading text old new (Tables fault) = (fault ≡ table.NoTables) × IsNoText text × Keeps old new
 FailsUpgrading text old new (Words error) = ⊥
 FailsUpgrading text old new TooManyFiles = ⊥
+FailsUpgrading text old new InputTwice = ⊥
 FailsUpgrading text old new (NotRead name) = ⊥
 FailsUpgrading text old new Output = UpgradesPrefix text old new
 FailsUpgrading text old new Memory = Keeps old new

@@ -25,8 +25,8 @@ pub(crate) const ALONE: u8 = 0;
 pub(crate) enum Request<'a> {
     /// No words: the run that the program holds itself.
     Stored,
-    /// The help text.
-    Help(Error),
+    /// The text of the help, or of the version.
+    Told(Error),
     /// `run`: the listing of files by a specification.
     Run(ListRequest<'a>),
     /// `scan`: the listing of files by tables.

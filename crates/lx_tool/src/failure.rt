@@ -29,6 +29,9 @@ pub enum Failure<'a> {
     /// There are more than 65,536 files.
     #[error("lx: too many files")]
     TooManyFiles,
+    /// Standard input is named twice.
+    #[error("lx: - stands twice, and standard input can be read once")]
+    InputTwice,
     /// The file with this name can't be read.
     #[error("lx: cannot read {0}")]
     NotRead(&'a str),
@@ -47,7 +50,7 @@ impl Failure<'_> {
     {
         match self {
             Failure::Specification(_) | Failure::Automaton(_) | Failure::Tables(_) => 1,
-            Failure::Words(_) | Failure::TooManyFiles => 2,
+            Failure::Words(_) | Failure::TooManyFiles | Failure::InputTwice => 2,
             Failure::NotRead(_) => 3,
             Failure::Output => 4,
             Failure::Memory => 5,

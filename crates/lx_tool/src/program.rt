@@ -3,17 +3,19 @@
 ghost use Rattle.std.specs.Prelude.{◌≡◌, ◌<◌, ◌≤◌, [], ◌∷◌, Some, IfOk, IfErr, OnOk, IfSome, length};
 ghost use Rattle.std.specs.Io.KnownBytes.{Keeps};
 ghost use Rattle.lx_tool.specs.CommandLine.{asked_as, asked_by, plain_order, run as run-asked, scan as scan-asked, gen as gen-asked, up as up-asked, words_of};
-ghost use Rattle.lx_tool.specs.Commands.{HasDone, HasEnded, HasFailed, HasObeyed, stored_specification, stored_text};
+ghost use Rattle.lx_tool.specs.Commands.{AreNamesRefused, HasDone, HasEnded, HasFailed, HasObeyed, input_count, inputs_among, stored_specification, stored_text};
+ghost use Rattle.lx_piece.specs.Plans.{max_files};
 ghost use Rattle.lx_tool.specs.Planning.{ListsByRules};
 ghost use Rattle.lx_tool.specs.Sources.{texts_of, whole};
-ghost use Rattle.lx_tool.specs.Statuses.{status_of};
+ghost use Rattle.lx_tool.specs.Statuses.{HasStatusOfCut, status_of};
 ghost use Rattle.lx_tool.specs.Tabling.{HasNoTables};
 
 use crate::command_line::{ALONE, ITEMS, ListRequest, Refusal, Request, read_words};
 use crate::failure::Failure;
 use crate::given::{list_by_specification, list_by_tables, read_whole};
+use crate::output::Output;
 use crate::planning::{list_files, listings_are_by_rules};
-use crate::source::{Sources, make_input};
+use crate::source::{STANDARD_INPUT, Sources, make_input};
 use crate::tabling::{generate, tables_of_text, upgrade};
 use lx_lines::LineWrites;
 use lx_piece::MAX_FILES;
@@ -51,16 +53,16 @@ pub fn run<R: Threads + Wait + Sync, S: Sources, O: Write, E: Write>(
     ensures ended { 0 < result → result < 4 →
         HasEnded S.gives (asked_by (words_of words.now)) sources.old sources.new (O.contents out.old) (O.contents out.new) result }
 {
-    run_with(rt, alloc, words, sources, LineWrites::EachLine, out, err)
+    let ended = execute(rt, alloc, words, sources, LineWrites::EachLine, out);
+    tell(ended, sources, false, err)
 }
 
-/// The same, where the lines of a listing are written as is said: each by itself, or a block of them at once.
-pub fn run_with<R: Threads + Wait + Sync, S: Sources, O: Write, E: Write>(
+/// The same, where the lines of a listing are written a block of them at once, and no line tells of an output whose other end was closed.
+pub fn run_with<R: Threads + Wait + Sync, S: Sources, O: Write + Output, E: Write>(
     rt: &R,
     alloc: Global,
     words: &[String],
     sources: &mut S,
-    writes: LineWrites,
     out: &mut O,
     err: &mut E,
 ) -> u8
@@ -71,23 +73,48 @@ pub fn run_with<R: Threads + Wait + Sync, S: Sources, O: Write, E: Write>(
     ensures ended { 0 < result → result < 4 →
         HasEnded S.gives (asked_by (words_of words.now)) sources.old sources.new (O.contents out.old) (O.contents out.new) result }
 {
-    match execute(rt, alloc, words, sources, writes, out) {
+    let ended = execute(rt, alloc, words, sources, LineWrites::Whole, out);
+    tell(ended, sources, out.is_closed(), err)
+}
+
+// Says how it ended; the result is the exit status.
+fn tell<S: Sources, E: Write>(
+    ended: Result<Vec<&str>, Failure<'_>>,
+    sources: &S,
+    is_closed: bool,
+    err: &mut E,
+) -> u8
+    ensures ok { IfOk ended.entry (λ cut. HasStatusOfCut result cut.items) }
+    ensures err { IfErr ended.entry (λ failure. result ≡ status_of failure) }
+{
+    match ended {
         Ok(cut) => tell_cut(&cut, err),
         Err(failure) => {
-            let _ = match &failure {
-                // Its text ends with a newline.
-                Failure::Words(error) => write!(err, "{error}"),
-                _ => writeln!(err, "{failure}"),
-            };
+            if !(is_closed && matches!(failure, Failure::Output)) {
+                tell_failure(&failure, sources, err);
+            }
             failure.status()
         }
     }
 }
 
+// Says why a command is not done. Where memory is refused for a line, it is left out.
+fn tell_failure<S: Sources, E: Write>(failure: &Failure<'_>, sources: &S, err: &mut E) {
+    let _ = match failure {
+        // Its text ends with a newline.
+        Failure::Words(error) => write!(err, "{error}"),
+        _ => writeln!(err, "{failure}"),
+    };
+    if let Failure::NotRead(_) = failure
+        && let Some(reason) = sources.reason()
+    {
+        let _ = writeln!(err, "lx: {reason}");
+    }
+}
+
 // Names the files that were cut short; the result is the exit status.
 fn tell_cut<E: Write>(cut: &[&str], err: &mut E) -> u8
-    ensures none { length cut.now ≡ 0 → result ≡ 0 }
-    ensures some { 0 < length cut.now → result ≡ 3 }
+    ensures { HasStatusOfCut result cut.now }
 {
     for name in cut {
         let _ = writeln!(err, "lx: cut short {name}");
@@ -133,7 +160,7 @@ fn carry_out<'a, R: Threads + Wait + Sync, S: Sources, O: Write>(
             list_stored(rt, alloc, writes, out)?;
             Ok(Vec::new(alloc))
         }
-        Request::Help(text) => {
+        Request::Told(text) => {
             write!(out, "{text}").map_err(|_| Failure::Output)?;
             Ok(Vec::new(alloc))
         }
@@ -178,6 +205,40 @@ fn list_stored<'a, R: Threads + Wait + Sync, O: Write>(
     Ok(())
 }
 
+// One for the name of standard input.
+fn input(name: &str) -> usize
+    ensures value { result ≡ input_count name.now }
+    ensures few { result ≤ 1 }
+{
+    if name == STANDARD_INPUT { 1 } else { 0 }
+}
+
+// How many of the names are that of standard input.
+fn inputs_among(names: &[&str]) -> usize
+    ensures count { result ≡ inputs_among (texts_of names.now) }
+    ensures few { result ≤ length names.now }
+{
+    let mut count = 0;
+    for name in names {
+        count += input(name);
+    }
+    count
+}
+
+// Refuses the names of more files than can be listed, and standard input where it is named twice.
+fn judge_names<'a>(order: &ListRequest<'a>) -> Result<(), Failure<'a>>
+    ensures ok { OnOk result (length order.now.files.items ≤ max_files) }
+    ensures err { IfErr result (λ failure. AreNamesRefused (plain_order order.now) failure) }
+{
+    if order.files.len() > MAX_FILES {
+        return Err(Failure::TooManyFiles);
+    }
+    if input(order.rules) + inputs_among(&order.files) > 1 {
+        return Err(Failure::InputTwice);
+    }
+    Ok(())
+}
+
 // Lists the request's files by its specification.
 fn list_by_rules_of<'a, R: Threads + Wait + Sync, S: Sources, O: Write>(
     rt: &R,
@@ -190,9 +251,7 @@ fn list_by_rules_of<'a, R: Threads + Wait + Sync, S: Sources, O: Write>(
     ensures ok { IfOk result (λ cut. HasDone S.gives sources.old sources.new (O.contents out.old) (O.contents out.new) (texts_of cut.items) (run-asked (plain_order order.now))) }
     ensures err { IfErr result (HasFailed S.gives (Some (run-asked (plain_order order.now))) sources.old (O.contents out.old) (O.contents out.new)) }
 {
-    if order.files.len() > MAX_FILES {
-        return Err(Failure::TooManyFiles);
-    }
+    judge_names(order)?;
     let text = read_whole(alloc, sources, order.rules)?;
     list_by_specification(
         rt,
@@ -219,9 +278,7 @@ fn list_by_tables_of<'a, R: Threads + Wait + Sync, S: Sources, O: Write>(
     ensures ok { IfOk result (λ cut. HasDone S.gives sources.old sources.new (O.contents out.old) (O.contents out.new) (texts_of cut.items) (scan-asked (plain_order order.now))) }
     ensures err { IfErr result (HasFailed S.gives (Some (scan-asked (plain_order order.now))) sources.old (O.contents out.old) (O.contents out.new)) }
 {
-    if order.files.len() > MAX_FILES {
-        return Err(Failure::TooManyFiles);
-    }
+    judge_names(order)?;
     let text = read_whole(alloc, sources, order.rules)?;
     list_by_tables(
         rt,

@@ -6,6 +6,7 @@ ghost use Rattle.lx_tool.specs.Sources.{inputs_of, is_among};
 
 use lx_piece::Input;
 use std::alloc::{AllocError, Global};
+use std::io;
 use std::marker::Model;
 use thiserror::Error;
 
@@ -31,6 +32,9 @@ impl From<AllocError> for SourceFault {
     }
 }
 
+/// The name of standard input.
+pub const STANDARD_INPUT: &str = "-";
+
 /// Files by name.
 pub trait Sources {
     /// Between one state and a later one this input was given for this name.
@@ -39,6 +43,11 @@ pub trait Sources {
     /// The file with this name, as far as it can be read. NotRead is for what can't be opened.
     fn read(&mut self, alloc: Global, name: &str) -> Result<Input, SourceFault>
         ensures { IfOk result (λ input. gives self.old name.now (input_view input) self.new) };
+
+    /// Why the system couldn't read the last file that was not read, or read to its end, if that is known.
+    fn reason(&self) -> Option<io::Error> {
+        None
+    }
 }
 
 /// Files that are given as a list of names and bytes; of two with one name the first is read.

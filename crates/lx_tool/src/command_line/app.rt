@@ -5,6 +5,7 @@ ghost use Rattle.clap.specs.Words.{app_of, rule_of};
 ghost use Rattle.clap.specs.declared.builder.Command.TheViews.{out-Command as fields_of};
 ghost use Rattle.lx_tool.specs.CommandLine.{files_rule, items_rule, list_app, lx_app, one_file_app, rules_rule, workers_rule};
 
+use crate::version::VERSION;
 use clap::{Arg, ArgAction, Command, value_parser};
 use lx_piece::MAX_ITEMS;
 use lx_post::MAX_WORKERS;
@@ -15,6 +16,7 @@ pub(super) fn command<'a>(alloc: Global) -> Result<Command<'a>, AllocError>
 {
     Command::new(alloc, "lx")
         .about("Scans files by the rules of a lex specification.")
+        .version(VERSION)
         .after_help("Without words, lists a text that the program holds by rules that it holds.")
         .disable_help_subcommand(true)
         .subcommand_required(true)

@@ -4,7 +4,7 @@ ghost use Rattle.std.specs.Prelude.{◌≡◌, ◌≢◌, ◌≤◌, ◌<◌, If
 ghost use Rattle.clap.specs.Words.{found_of, kind_of, rows_of, subcommand_rows_of};
 ghost use Rattle.lx_piece.specs.Plans.{max_items};
 ghost use Rattle.lx_post.specs.Claimed.{max_workers};
-ghost use Rattle.lx_tool.specs.CommandLine.{IsFault, PlainWordsAsk, asked_as, asked_by, asked_of, files_in, items_in, request_in, plain_order, rules_in, workers_in, words_of};
+ghost use Rattle.lx_tool.specs.CommandLine.{IsFault, IsTold, PlainWordsAsk, asked_as, asked_by, asked_of, files_in, items_in, request_in, plain_order, rules_in, workers_in, words_of};
 
 use super::app::command;
 use super::{ALONE, ITEMS, ListRequest, Refusal, Request, WORKERS};
@@ -18,11 +18,10 @@ use std::alloc::{AllocError, Global};
 pub(crate) fn read_words(alloc: Global, words: &[String]) -> Result<Request<'_>, Refusal>
     ensures asked { IfOk result (λ request. asked_by (words_of words.now) ≡ asked_as request) }
     ensures refused { (text : Error) → result ≡ Err (Refusal.Words text) → asked_by (words_of words.now) ≡ None }
-    // The help is one answer of `clap`, and the others refuse the words.
-    ensures help_asked { (text : Error) → result ≡ Ok (Request.Help text) → IsFault (words_of words.now) ErrorKind.DisplayHelp }
-    ensures faulty { (text : Error) → result ≡ Err (Refusal.Words text) → (kind_of text ≢ ErrorKind.DisplayHelp) × IsFault (words_of words.now) (kind_of text) }
+    // The help and the version are answers of `clap`, and the others refuse the words.
+    ensures told { (text : Error) → result ≡ Ok (Request.Told text) → IsTold (kind_of text) × IsFault (words_of words.now) (kind_of text) }
+    ensures faulty { (text : Error) → result ≡ Err (Refusal.Words text) → (kind_of text ≢ ErrorKind.DisplayHelp) × (kind_of text ≢ ErrorKind.DisplayVersion) × IsFault (words_of words.now) (kind_of text) }
     ensures stored { length words.now ≤ 1 → result ≡ Ok Request.Stored }
-    ensures help { (text : Error) → result ≡ Ok (Request.Help text) → kind_of text ≡ ErrorKind.DisplayHelp }
     // That memory was refused is no fault of the words.
     ensures words { (text : Error) → result ≡ Err (Refusal.Words text) → kind_of text ≢ ErrorKind.OutOfMemory }
 {
@@ -33,7 +32,7 @@ pub(crate) fn read_words(alloc: Global, words: &[String]) -> Result<Request<'_>,
     match command.try_get_matches_from(words) {
         Ok(matches) => Ok(request_of(alloc, &matches)?),
         Err(error) => match error.kind() {
-            ErrorKind::DisplayHelp => Ok(Request::Help(error)),
+            ErrorKind::DisplayHelp | ErrorKind::DisplayVersion => Ok(Request::Told(error)),
             ErrorKind::OutOfMemory => Err(Refusal::Memory),
             _ => Err(Refusal::Words(error)),
         },
