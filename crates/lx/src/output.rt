@@ -18,25 +18,27 @@ impl<W: Write> PipeOutput<W> {
             is_closed: false,
         }
     }
+}
 
-    // What a call of the writer answered.
-    fn noted<T>(&mut self, answer: io::Result<T>) -> io::Result<T> {
-        if let Err(error) = &answer {
-            self.is_closed = error.kind() == ErrorKind::BrokenPipe;
-        }
-        answer
+// Whether the other end of a pipe was closed, as a call answered.
+fn is_broken<T>(answer: &io::Result<T>) -> bool {
+    match answer {
+        Ok(_) => false,
+        Err(error) => error.kind() == ErrorKind::BrokenPipe,
     }
 }
 
 impl<W: Write> Write for PipeOutput<W> {
     fn write(&mut self, bytes: &[u8]) -> io::Result<usize> {
         let answer = self.out.write(bytes);
-        self.noted(answer)
+        self.is_closed |= is_broken(&answer);
+        answer
     }
 
     fn flush(&mut self) -> io::Result<()> {
         let answer = self.out.flush();
-        self.noted(answer)
+        self.is_closed |= is_broken(&answer);
+        answer
     }
 }
 
