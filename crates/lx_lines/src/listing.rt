@@ -15,7 +15,7 @@ use crate::shown::Shown;
 use crate::sink::Owned;
 use crate::spares::Alone;
 use crate::writing::LineWrites;
-use lx_piece::{Held, InOrder, Piece, Plan, Reader, ReaderFault, ReaderOf};
+use lx_piece::{Held, Piece, Plan, Reader, ReaderFault, TurnQueue};
 use std::alloc::{AllocError, Global};
 use std::io::Write;
 use std::marker::Model;
@@ -49,7 +49,7 @@ fn shown_piece(plan: &Plan, piece: Piece) -> Piece<Shown>
 #[derive(Drop)]
 pub struct Listing<'a, W: Write> {
     plan: &'a Plan,
-    order: InOrder<'a, LineMaker<Alone>, Printer<Alone, Owned<W>>>,
+    queue: TurnQueue<LineMaker<Alone>, Printer<Alone, Owned<W>>>,
 }
 
 impl<'a, W: Write> Model for Listing<'a, W> {
@@ -58,9 +58,9 @@ impl<'a, W: Write> Model for Listing<'a, W> {
 
     ghost Value = { Printed };
 
-    ghost view = { λ s. printed (record { plan = s.plan.now; counts = s.order.counts; faults = s.order.faults; failed = s.order.failed }) (W.contents s.order.taker.sink.out) };
+    ghost view = { λ s. printed (record { plan = s.plan.now; counts = s.queue.counts; faults = s.queue.faults; failed = s.queue.failed }) (W.contents s.queue.taker.sink.out) };
 
-    ghost invariant = { λ s. IsInStep s.plan.now s.order.taker.plan.value (turn_of s.order.taker.file s.order.taker.number) s.order.counts s.order.failed };
+    ghost invariant = { λ s. IsInStep s.plan.now s.queue.taker.plan.value (turn_of s.queue.taker.file s.queue.taker.number) s.queue.counts s.queue.failed };
 }
 
 impl<'a, W: Write> Listing<'a, W> {
@@ -83,10 +83,10 @@ impl<'a, W: Write> Listing<'a, W> {
             writes: LineWrites::EachLine,
         };
         let printer = Printer::new(alloc, plan, Alone::new(), sink);
-        let Ok(order) = InOrder::new(alloc, plan, printer) else {
+        let Ok(queue) = TurnQueue::new(alloc, plan, printer) else {
             return Err(AllocError);
         };
-        Ok(Listing { plan, order })
+        Ok(Listing { plan, queue })
     }
 }
 
@@ -122,15 +122,15 @@ impl<'a, W: Write> Reader for Listing<'a, W> {
         ensures working { OnOk result (self.new.progress.failed ≡ false) }
         ensures stopped { self.old.progress.failed ≡ true → result ≡ Err ReaderFault.Device }
     {
-        self.order.take(shown_piece(self.plan, piece))
+        self.queue.take(self.plan, shown_piece(self.plan, piece))
     }
 
     fn faults(&self) -> u64 {
-        self.order.faults()
+        self.queue.faults()
     }
 
     fn held(&self) -> Held {
-        self.order.held()
+        self.queue.held()
     }
 
     ghost follows_itself = { prints_nothing };

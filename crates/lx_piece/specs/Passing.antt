@@ -63,8 +63,7 @@ pub record KeepsUp {C : Type 0} (made : Making C) (plan : Planned) (turn : Turn)
   pub came : (file : ℕ) → first < file → file < files_of plan → length (waiting_of waiting file) ≡ slice_index counts file
 
 -- what holds between two calls
-pub record IsInOrder {C : Type 0} (made : Making C) (given plan : Planned) (turn : Turn) (counts : List ℕ) (first : ℕ) (waiting : List (List (Piece C))) (failed : Bool) : Type 0 where
-  pub same : given ≡ plan
+pub record IsInOrder {C : Type 0} (made : Making C) (plan : Planned) (turn : Turn) (counts : List ℕ) (first : ℕ) (waiting : List (List (Piece C))) (failed : Bool) : Type 0 where
   pub plan_is : IsPlan plan
   pub keeps : failed ≡ false → KeepsUp made plan turn counts first waiting
 

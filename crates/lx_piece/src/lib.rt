@@ -21,6 +21,7 @@ mod relaying;
 mod reorder_buffer;
 mod reply;
 mod taker;
+mod turn_queue;
 
 pub use arrivals::Arrivals;
 pub use arrivals_of::ArrivalsOf;
@@ -39,3 +40,4 @@ pub use reader_of::ReaderOf;
 pub use relaying::{RelayFault, relay, relay_of};
 pub use reply::{Refused, Reply, Why};
 pub use taker::Taker;
+pub use turn_queue::TurnQueue;

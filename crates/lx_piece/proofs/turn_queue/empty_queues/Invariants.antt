@@ -1,6 +1,6 @@
 use Rattle.std.proofs.Common.{◌≡◌, ◌≤◌, replicate, vec_capacity, []}
 use Rattle.lx_piece.specs.Passing.{queued}
-use Rattle.lx_piece.proofs.in_order.empty_queues.Given as goal
+use Rattle.lx_piece.proofs.turn_queue.empty_queues.Given as goal
 
 abbrev pub invariant-loop-file : goal.invariant-loop-file
 invariant-loop-file g l =

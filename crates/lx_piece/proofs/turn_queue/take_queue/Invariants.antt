@@ -1,6 +1,6 @@
 use Rattle.std.proofs.Common.{◌≡◌, length}
 use Rattle.lx_piece.proofs.Handing.{TookSome}
-use Rattle.lx_piece.proofs.in_order.take_queue.Given as goal
+use Rattle.lx_piece.proofs.turn_queue.take_queue.Given as goal
 
 abbrev pub invariant-loop-piece : goal.invariant-loop-piece
 invariant-loop-piece g l =

@@ -3,7 +3,7 @@ use Rattle.std.proofs.lemmas.Result.{IfOk-weaker}
 use Rattle.lx_piece.specs.Plans.{Planned}
 use Rattle.lx_piece.specs.Passing.{KeepsUp, TookWaiting, counted, queued}
 use Rattle.lx_piece.proofs.Handing.{held_later, taken_open, taken_closed}
-use Rattle.lx_piece.proofs.in_order.place.Goals as goal
+use Rattle.lx_piece.proofs.turn_queue.place.Goals as goal
 
 pub returns-then-piece-first-clause-placed : goal.returns-then-piece-first-clause-placed
 returns-then-piece-first-clause-placed g c = λ counts k next.

@@ -2,8 +2,8 @@ use Rattle.std.proofs.Common.{◌∙◌, sym, ap, [], ◌∷◌, ◌++◌}
 use Rattle.std.specs.Prelude.{slice_set}
 use Rattle.lx_piece.specs.Passing.{queued}
 use Rattle.lx_piece.proofs.Handing.{queue_read, queue_set}
-use Rattle.lx_piece.proofs.in_order.hold.Goals as goal
-use Rattle.lx_piece.proofs.in_order.hold.Goals.{in-Ok, in-Err}
+use Rattle.lx_piece.proofs.turn_queue.hold.Goals as goal
+use Rattle.lx_piece.proofs.turn_queue.hold.Goals.{in-Ok, in-Err}
 
 pub returns-clause-held : goal.returns-clause-held
 returns-clause-held g c =

@@ -2,7 +2,7 @@ use Rattle.std.proofs.Common.{◌≡◌, List, length, drop, length-drop, sym, �
 use Rattle.lx_piece.specs.Plans.{Planned}
 use Rattle.lx_piece.specs.Turns.{HasTurn, turn_after}
 use Rattle.lx_piece.proofs.Handing.{TookSome, next_turn, some_next, some_all}
-use Rattle.lx_piece.proofs.in_order.take_queue.Goals as goal
+use Rattle.lx_piece.proofs.turn_queue.take_queue.Goals as goal
 
 pub take-requires-clause-same : goal.take-requires-clause-same
 take-requires-clause-same g c = c.requires.same ∙ sym c.loop-piece.invariant.plan

@@ -5,7 +5,7 @@ use Rattle.lx_piece.specs.Relayed.{IsNextPieceBy}
 use Rattle.lx_piece.specs.Turns.{IsTurnBy}
 use Rattle.lx_piece.specs.Passing.{Passing, KeepsUp, PassesOn, queued}
 use Rattle.lx_piece.proofs.Handing.{count_raised, passes_taken, turn_by}
-use Rattle.lx_piece.proofs.in_order.InOrderReaderOf.take.Goals as goal
+use Rattle.lx_piece.proofs.turn_queue.TurnQueue.take.Goals as goal
 
 pub invariant_of-self-in-Ok : goal.invariant_of-self-in-Ok
 invariant_of-self-in-Ok g c =
@@ -19,7 +19,6 @@ invariant_of-self-in-Ok g c =
     let there : c.args.piece.file < length s.counts.items = (let files = keeps.first_open.files in let l = next.planned.file in omega arith) in
     let same = sym c.in-Ok.ensures.plan in
     record {
-      same = c.self.invariant.same ∙ same;
       plan_is = subst IsPlan same c.self.invariant.plan_is;
       keeps = λ _.
           subst (λ (plan : Planned). KeepsUp made plan turn (slice_set s.counts.items c.args.piece.file (c.index_mut.result.now + 1)) c.in-Ok.first waiting) same

@@ -2,7 +2,7 @@ use Rattle.std.proofs.Common.{◌≡◌, ◌-◌}
 use Rattle.lx_piece.specs.Passing.{queued}
 use Rattle.lx_piece.specs.Plans.{files_of}
 use Rattle.lx_piece.proofs.Handing.{TookFiles}
-use Rattle.lx_piece.proofs.in_order.take_waiting.Given as goal
+use Rattle.lx_piece.proofs.turn_queue.take_waiting.Given as goal
 
 abbrev pub invariant-loop-file : goal.invariant-loop-file
 invariant-loop-file g l =

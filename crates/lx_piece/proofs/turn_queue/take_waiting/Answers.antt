@@ -4,7 +4,7 @@ use Rattle.lx_piece.specs.Pieces.{pieces_of}
 use Rattle.lx_piece.specs.Turns.{turn_at}
 use Rattle.lx_piece.specs.Passing.{AreFirstPieces, TookWaiting, queued, waiting_of}
 use Rattle.lx_piece.proofs.Handing.{TookFiles, queue_read, queue_set, queue_count, next_pieces, files_more, files_open}
-use Rattle.lx_piece.proofs.in_order.take_waiting.Goals as goal
+use Rattle.lx_piece.proofs.turn_queue.take_waiting.Goals as goal
 
 pub take_queue-requires-clause-queue : goal.take_queue-requires-clause-queue
 take_queue-requires-clause-queue g c =
