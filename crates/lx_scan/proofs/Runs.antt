@@ -1,6 +1,6 @@
 -- A run over the joined table: the ends that it has found, and where it stands.
 use Rattle.std.proofs.Common.{◌≡◌, ◌≢◌, ℕ, zero, suc, ◌+◌, ◌-◌, ◌*◌, ◌/◌, ◌%◌, ◌<◌, ◌≤◌, Bool, true, false, nat_eq, nat_le, not, if◌then◌else◌, List, [], ◌∷◌, ◌++◌, Option, Some, None, length, take, drop, inl, inr, refl, sym, ap, ap₂, subst, ◌∙◌, arith, append_assoc, append-nil, add-zero}
-use Rattle.std.specs.Prelude.{MatchOption, slice_index, slice_set}
+use Rattle.std.specs.Prelude.{slice_index, slice_set}
 use Rattle.std.specs.Option.{option_map}
 use Rattle.std.proofs.lemmas.Bool.{eq-eqb, eqb-true, le-leb, lt-leb}
 use Rattle.std.proofs.lemmas.List.{length-take-le, take-set, take_more_set}
@@ -296,12 +296,3 @@ appends_both a b d x y z first second = record {
   new_is = second.new_is ∙ ap (λ xs. xs ++ second.added) first.new_is ∙ append_assoc a first.added second.added;
   left_is = first.left_is ∙ ap (λ xs. first.added ++ xs) second.left_is ∙ sym (append_assoc first.added second.added z);
 }
-
-pub appends_on : (table : Table) (text : List ℕ) (from place : Place) (a b d : List Item) (next : Option Place) (p : Place) → next ≡ Some p →
-    MatchOption next (d ≡ b) (λ q. (place.offset < q.offset) × IsPlace table text q × Appends b d (items_after table text place) (items_after table text q)) →
-    Appends a b (items_after table text from) (items_after table text place) → IsPlace table text p × Appends a d (items_after table text from) (items_after table text p)
-appends_on table text from place a b d None p is found before = absurd (let f : None ≡ Some p = is in cc)
-appends_on table text from place a b d (Some q) p is found before =
-    let same : q ≡ p = cc in
-    subst (λ (r : Place). IsPlace table text r × Appends a d (items_after table text from) (items_after table text r)) same
-    (found.1, appends_both a b d (items_after table text from) (items_after table text place) (items_after table text q) before found.2)
