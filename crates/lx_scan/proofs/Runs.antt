@@ -1,5 +1,5 @@
 -- A run over the joined table: the ends that it has found, and where it stands.
-use Rattle.std.proofs.Common.{◌≡◌, ◌≢◌, ℕ, zero, suc, ◌+◌, ◌-◌, ◌*◌, ◌/◌, ◌%◌, ◌<◌, ◌≤◌, Bool, true, false, nat_eq, nat_le, not, if◌then◌else◌, List, [], ◌∷◌, ◌++◌, Option, Some, None, length, take, drop, inl, inr, refl, sym, ap, ap₂, subst, ◌∙◌, arith, append_assoc, append-nil, add-zero}
+use Rattle.std.proofs.Common.{◌≡◌, ◌≢◌, ℕ, zero, suc, ◌+◌, ◌-◌, ◌*◌, ◌/◌, ◌%◌, ◌<◌, ◌≤◌, Bool, true, false, nat_eq, nat_le, if◌then◌else◌, List, [], ◌∷◌, ◌++◌, Option, Some, None, length, take, drop, refl, sym, ap, ap₂, subst, ◌∙◌, arith, append_assoc, append-nil, add-zero}
 use Rattle.std.specs.Prelude.{slice_index, slice_set}
 use Rattle.std.specs.Option.{option_map}
 use Rattle.std.proofs.lemmas.Bool.{eq-eqb, eqb-true, le-leb, lt-leb}
@@ -7,7 +7,7 @@ use Rattle.std.proofs.lemmas.List.{length-take-le, take-set, take_more_set}
 use Rattle.std.proofs.lemmas.Nat.{div-mul-add, mod-mul-add}
 use Rattle.lx_rules.specs.declared.rule.Step.{Step}
 use Rattle.lx_automaton.specs.Automata.{accepted_by}
-use Rattle.lx_tables.specs.Joined.{IsJoined, IsJoinedState, begun, column_of, ended, is_told, joined_entry, joined_number, joined_step, joined_width, rule_ended, stepped, target_from}
+use Rattle.lx_tables.specs.Joined.{IsJoined, IsJoinedState, begun, ended, is_told, joined_number, joined_step, joined_width, rule_ended, stepped, target_from}
 use Rattle.lx_tables.specs.Model.{Table, IsTable, rule_at}
 use Rattle.lx_tables.specs.declared.joined.JoinedState.{JoinedState}
 use Rattle.lx_scan.specs.declared.ends.End.{End}
@@ -15,7 +15,6 @@ use Rattle.lx_scan.specs.declared.item.Item.{Item}
 use Rattle.lx_scan.specs.declared.place.Place.{Place}
 use Rattle.lx_scan.specs.Ends.{AreEnds, IsEnd, IsPlace, LeadTo, Appends, end_of, items_of_ends, line_of, place_behind, rule_of_code, steps_of_code}
 use Rattle.lx_scan.specs.Items.{items_after, steps_at}
-use Rattle.lx_scan.specs.Matching.{GoesOn}
 use Rattle.lx_scan.specs.Steps.{items_of_steps, newlines}
 use Rattle.lx_scan.proofs.Entries.{Stands, Tells, goes, newlines_more, next_place, stands_begun, stands_stepped, steps_alike, tells}
 

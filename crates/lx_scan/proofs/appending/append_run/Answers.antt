@@ -1,4 +1,4 @@
-use Rattle.std.proofs.Common.{◌<◌, ℕ, zero, suc, ◌≡◌, ◌∙◌, length, take, refl, sym, arith}
+use Rattle.std.proofs.Common.{◌<◌, take, arith}
 use Rattle.std.proofs.lemmas.List.{length-take-le}
 use Rattle.lx_scan.proofs.Runs.{ends_rise, run_appends}
 use Rattle.lx_scan.proofs.appending.append_run.Goals as goal
