@@ -42,7 +42,7 @@ left_none xs ys all most e none few =
 pub enough_rest : (first items ahead left : List Item) (most : ℕ) → Appends first items ahead left → length items ≤ most → (length items < most → left ≡ []) → left ≡ drop most (first ++ ahead)
 enough_rest first items ahead left most appends few end =
     let whole : items ++ left ≡ first ++ ahead =
-        ap (λ xs. xs ++ left) appends.new_is ∙ append_assoc first appends.added left ∙ ap (λ xs. first ++ xs) (sym appends.left_is) in
+    ap (λ xs. xs ++ left) appends.new_is ∙ append_assoc first appends.added left ∙ ap (λ xs. first ++ xs) (sym appends.left_is) in
     elim (cases_lt (length items) most) [
       | inl fewer ↦ end fewer ∙ sym (left_none items left (first ++ ahead) most whole (end fewer) few)
       | inr enough ↦ sym (left_most items left (first ++ ahead) most whole (omega arith))

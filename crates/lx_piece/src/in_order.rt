@@ -170,11 +170,7 @@ fn empty_queues<C: Drop>(alloc: Global, files: u32) -> Result<Vec<VecDeque<Piece
 
 impl<'a, M: Maker, T: Taker<M>> InOrder<'a, M, T> {
     /// A reader to which nothing came, and a taker that took nothing. Where memory is refused the taker comes back as it was.
-    pub fn new(
-        alloc: Global,
-        plan: &'a Plan,
-        taker: T,
-    ) -> Result<InOrder<'a, M, T>, AllocFailed<T>>
+    pub fn new(alloc: Global, plan: &'a Plan, taker: T) -> Result<InOrder<'a, M, T>, AllocFailed<T>>
         requires plan { T.plan taker ≡ plan.now }
         requires turn { T.turn taker ≡ first_turn }
         ensures ok { IfOk result (λ order. order ≡ record { taker = taker; counts = replicate (files_of plan.now) 0; faults = 0; failed = false }) }
