@@ -1,13 +1,13 @@
 -- The law of an entry of the joined table: what ends where a step is missing is what the scanner chooses, and the next match begins as the entry says.
-use Rattle.std.proofs.Common.{◌≡◌, ◌≢◌, ℕ, zero, suc, ◌+◌, ◌-◌, ◌*◌, ◌<◌, ◌≤◌, Bool, true, false, nat_eq, nat_le, nat_lt, not, if◌then◌else◌, List, [], ◌∷◌, ◌++◌, Option, Some, None, length, take, drop, refl, sym, ap, subst, ◌∙◌, arith, add-zero, length-drop}
+use Rattle.std.proofs.Common.{◌≡◌, ◌≢◌, ℕ, zero, suc, ◌+◌, ◌-◌, ◌<◌, ◌≤◌, Bool, true, false, nat_eq, nat_le, nat_lt, not, if◌then◌else◌, List, [], ◌∷◌, Option, Some, None, length, take, drop, refl, sym, ap, subst, ◌∙◌, arith, add-zero, length-drop}
 use Rattle.std.specs.Prelude.{slice_index}
-use Rattle.std.specs.Option.{ForSome, option_map, option_or}
+use Rattle.std.specs.Option.{option_map, option_or}
 use Rattle.std.proofs.lemmas.Bool.{and_parts, eq-eqb, leb-true, lt-ltb, ne_eqb, not-true}
 use Rattle.std.proofs.lemmas.List.{get_or-drop, length-take-le, take_more, take_rest}
 use Rattle.lx_rules.specs.declared.rule.Step.{Step}
 use Rattle.lx_rules.specs.declared.rule.Step.TheVariants.{Echo, Begin, Return}
 use Rattle.lx_automaton.specs.Automata.{state_count, start_of, accepted_at, accepted_by, answer, state_after, target_of}
-use Rattle.lx_tables.specs.Joined.{IsJoinedState, begun, condition_behind, condition_behind_rule, echoed, ended, is_told, item_count, joined_step, rule_ended, stepped, target_from, untold}
+use Rattle.lx_tables.specs.Joined.{IsJoinedState, begun, condition_behind, condition_behind_rule, echoed, ended, is_told, item_count, rule_ended, target_from}
 use Rattle.lx_tables.specs.Model.{Table, IsTable, rule_at}
 use Rattle.lx_tables.specs.declared.joined.JoinedState.{JoinedState}
 use Rattle.lx_scan.specs.declared.place.Match.{Match}

@@ -1,13 +1,13 @@
 -- A run over the joined table: the ends that it has found, and where it stands.
-use Rattle.std.proofs.Common.{◌≡◌, ◌≢◌, ℕ, zero, suc, ◌+◌, ◌-◌, ◌*◌, ◌/◌, ◌%◌, ◌<◌, ◌≤◌, Bool, true, false, nat_eq, nat_le, not, if◌then◌else◌, List, [], ◌∷◌, ◌++◌, Option, Some, None, length, take, drop, inl, inr, refl, sym, ap, ap₂, subst, ◌∙◌, arith, append_assoc, append-nil, add-zero}
-use Rattle.std.specs.Prelude.{MatchOption, slice_index, slice_set}
+use Rattle.std.proofs.Common.{◌≡◌, ◌≢◌, ℕ, zero, suc, ◌+◌, ◌-◌, ◌*◌, ◌/◌, ◌%◌, ◌<◌, ◌≤◌, Bool, true, false, nat_eq, nat_le, if◌then◌else◌, List, [], ◌∷◌, ◌++◌, Option, Some, None, length, take, drop, refl, sym, ap, ap₂, subst, ◌∙◌, arith, append_assoc, append-nil, add-zero}
+use Rattle.std.specs.Prelude.{slice_index, slice_set}
 use Rattle.std.specs.Option.{option_map}
 use Rattle.std.proofs.lemmas.Bool.{eq-eqb, eqb-true, le-leb, lt-leb}
 use Rattle.std.proofs.lemmas.List.{length-take-le, take-set, take_more_set}
 use Rattle.std.proofs.lemmas.Nat.{div-mul-add, mod-mul-add}
 use Rattle.lx_rules.specs.declared.rule.Step.{Step}
 use Rattle.lx_automaton.specs.Automata.{accepted_by}
-use Rattle.lx_tables.specs.Joined.{IsJoined, IsJoinedState, begun, column_of, ended, is_told, joined_entry, joined_number, joined_step, joined_width, rule_ended, stepped, target_from}
+use Rattle.lx_tables.specs.Joined.{IsJoined, IsJoinedState, begun, ended, is_told, joined_number, joined_step, joined_width, rule_ended, stepped, target_from}
 use Rattle.lx_tables.specs.Model.{Table, IsTable, rule_at}
 use Rattle.lx_tables.specs.declared.joined.JoinedState.{JoinedState}
 use Rattle.lx_scan.specs.declared.ends.End.{End}
@@ -15,7 +15,6 @@ use Rattle.lx_scan.specs.declared.item.Item.{Item}
 use Rattle.lx_scan.specs.declared.place.Place.{Place}
 use Rattle.lx_scan.specs.Ends.{AreEnds, IsEnd, IsPlace, LeadTo, Appends, end_of, items_of_ends, line_of, place_behind, rule_of_code, steps_of_code}
 use Rattle.lx_scan.specs.Items.{items_after, steps_at}
-use Rattle.lx_scan.specs.Matching.{GoesOn}
 use Rattle.lx_scan.specs.Steps.{items_of_steps, newlines}
 use Rattle.lx_scan.proofs.Entries.{Stands, Tells, goes, newlines_more, next_place, stands_begun, stands_stepped, steps_alike, tells}
 
@@ -296,12 +295,3 @@ appends_both a b d x y z first second = record {
   new_is = second.new_is ∙ ap (λ xs. xs ++ second.added) first.new_is ∙ append_assoc a first.added second.added;
   left_is = first.left_is ∙ ap (λ xs. first.added ++ xs) second.left_is ∙ sym (append_assoc first.added second.added z);
 }
-
-pub appends_on : (table : Table) (text : List ℕ) (from place : Place) (a b d : List Item) (next : Option Place) (p : Place) → next ≡ Some p →
-    MatchOption next (d ≡ b) (λ q. (place.offset < q.offset) × IsPlace table text q × Appends b d (items_after table text place) (items_after table text q)) →
-    Appends a b (items_after table text from) (items_after table text place) → IsPlace table text p × Appends a d (items_after table text from) (items_after table text p)
-appends_on table text from place a b d None p is found before = absurd (let f : None ≡ Some p = is in cc)
-appends_on table text from place a b d (Some q) p is found before =
-    let same : q ≡ p = cc in
-    subst (λ (r : Place). IsPlace table text r × Appends a d (items_after table text from) (items_after table text r)) same
-    (found.1, appends_both a b d (items_after table text from) (items_after table text place) (items_after table text q) before found.2)

@@ -1,6 +1,6 @@
 //! The items of a text by the joined table, appended to a list.
 
-ghost use Rattle.std.specs.Prelude.{◌≡◌, ◌<◌, ◌≤◌, ◌+◌, ◌-◌, ◌++◌, IfOk, OnOk, MatchOption, length};
+ghost use Rattle.std.specs.Prelude.{◌≡◌, ◌<◌, ◌≤◌, ◌+◌, ◌-◌, ◌++◌, IfOk, IsTrue, OnOk, length};
 ghost use Rattle.lx_tables.specs.Joined.{AreGiven, IsJoined};
 ghost use Rattle.lx_tables.specs.Model.{IsTable};
 ghost use Rattle.lx_scan.specs.Cursors.{listed};
@@ -15,6 +15,27 @@ use crate::place::Place;
 use lx_rules::rule::Step;
 use lx_tables::{Joined, Tables};
 use std::alloc::AllocError;
+
+/// How far runs came: to a place, and before which byte the last one stopped; and whether that was for want of room alone.
+#[derive(Clone, Copy, Debug)]
+pub(crate) struct Reached {
+    pub(crate) place: Place,
+    pub(crate) stop: usize,
+    is_full: bool,
+}
+
+impl Reached {
+    // At a place, with nothing looked at behind it.
+    fn at(place: Place) -> Reached
+        ensures { result.place ≡ place }
+    {
+        Reached {
+            place,
+            stop: place.offset,
+            is_full: true,
+        }
+    }
+}
 
 // The item of a match that has ended, if it gives one.
 #[inline(always)]
@@ -64,8 +85,7 @@ fn push_items(
     Ok((start, line))
 }
 
-// Appends the items of the matches that the joined table tells from a place on, of `most` matches at most, and gives the place behind them; None
-// where it tells none.
+// Appends the items of the matches that the joined table tells from a place on, of `most` matches at most.
 fn append_run(
     tables: &Tables,
     joined: &Joined,
@@ -74,31 +94,41 @@ fn append_run(
     most: usize,
     ends: &mut [End],
     items: &mut Vec<Item>,
-) -> Result<Option<Place>, AllocError>
+) -> Result<Reached, AllocError>
     requires table { IsTable tables.now }
     requires joined { IsJoined tables.now joined.now.columns.items joined.now.entries.items joined.now.given.items }
     requires place { IsPlace tables.now text.now from }
     requires more { from.offset < length text.now }
     requires room { most ≤ length ends.old }
-    ensures items { IfOk result (λ next. MatchOption next (items.new.items ≡ items.old.items)
-        (λ place. (from.offset < place.offset) × IsPlace tables.now text.now place × Appends items.old.items items.new.items (items_after tables.now text.now from) (items_after tables.now text.now place))) }
+    ensures place { IfOk result (λ reached. IsPlace tables.now text.now reached.place) }
+    ensures items { IfOk result (λ reached. Appends items.old.items items.new.items (items_after tables.now text.now from) (items_after tables.now text.now reached.place)) }
+    ensures further { IfOk result (λ reached. IsTrue reached.is_full → from.offset < reached.place.offset) }
     ensures few { OnOk result (length items.new.items ≤ length items.old.items + most) }
 {
     let run = find_ends(tables, joined, text, from, most, ends);
     if run.count == 0 {
-        return Ok(None);
+        return Ok(Reached {
+            place: from,
+            stop: run.stop,
+            is_full: false,
+        });
     }
     let (offset, line) = push_items(tables, &joined.given, &ends[..run.count], from, items)?;
-    Ok(Some(Place {
+    let place = Place {
         offset,
         condition: run.condition,
         at_line_begin: text[offset - 1] == b'\n',
         line,
-    }))
+    };
+    Ok(Reached {
+        place,
+        stop: run.stop,
+        is_full: run.count == most,
+    })
 }
 
-/// Appends the items of the matches from a place on, until the list has `most` items or the joined table tells no further match, and gives the
-/// place behind them. The ends are found where there is room for them.
+/// Appends the items of the matches from a place on, until the list has `most` items or the joined table tells no further match. The ends are
+/// found where there is room for them.
 pub(crate) fn append_runs(
     tables: &Tables,
     text: &[u8],
@@ -106,24 +136,25 @@ pub(crate) fn append_runs(
     most: usize,
     ends: &mut [End],
     items: &mut Vec<Item>,
-) -> Result<Place, AllocError>
+) -> Result<Reached, AllocError>
     requires table { IsTable tables.now }
     requires place { IsPlace tables.now text.now from }
     requires few { length items.old.items ≤ most }
-    ensures place { IfOk result (λ next. IsPlace tables.now text.now next) }
-    ensures items { IfOk result (λ next. Appends items.old.items items.new.items (items_after tables.now text.now from) (items_after tables.now text.now next)) }
+    ensures place { IfOk result (λ reached. IsPlace tables.now text.now reached.place) }
+    ensures items { IfOk result (λ reached. Appends items.old.items items.new.items (items_after tables.now text.now from) (items_after tables.now text.now reached.place)) }
     ensures most { OnOk result (length items.new.items ≤ most) }
 {
-    let Some(joined) = tables.joined() else {
-        return Ok(from);
-    };
     let mut place = from;
+    let Some(joined) = tables.joined() else {
+        return Ok(Reached::at(place));
+    };
     while place.offset < text.len() && items.len() < most {
         let room = ends.len().min(most - items.len());
-        let Some(next) = append_run(tables, joined, text, place, room, ends, items)? else {
-            return Ok(place);
-        };
-        place = next;
+        let reached = append_run(tables, joined, text, place, room, ends, items)?;
+        if !reached.is_full {
+            return Ok(reached);
+        }
+        place = reached.place;
     }
-    Ok(place)
+    Ok(Reached::at(place))
 }

@@ -67,16 +67,7 @@ impl Cursor {
         ensures items { (table : Table) (text : List ℕ) → items_left table text result ≡ items_of table text }
         ensures in_text { (table : Table) (text : List ℕ) → IsTable table → IsInText table text result }
     {
-        Cursor {
-            found: Match {
-                rule: None,
-                start: 0,
-                len: 0,
-            },
-            line: 1,
-            done: 1,
-            place: Place::begin(),
-        }
+        Cursor::at(Place::begin())
     }
 
     // Before the first item from a place on.
@@ -137,15 +128,17 @@ impl Cursor {
         item
     }
 
-    // Goes on by the joined table as far as that tells the matches, unless steps are left at its match.
+    // Goes on by the joined table as far as that tells the matches, and gives before which byte it stopped; unless steps are left at its match, or
+    // it went that far before. So what the joined table doesn't tell is looked at once.
     fn run_on(
         &mut self,
         tables: &Tables,
         text: &[u8],
         most: usize,
+        stop: usize,
         ends: &mut [End],
         items: &mut Vec<Item>,
-    ) -> Result<(), AllocError>
+    ) -> Result<usize, AllocError>
         requires in_text { IsInText tables.now text.now self.old }
         requires few { length items.old.items ≤ most }
         ensures in_text { IsInText tables.now text.now self.new }
@@ -154,12 +147,12 @@ impl Cursor {
     {
         // its contract says what holds of all tables
         let _conditions = tables.conditions();
-        if self.done < steps_of_match(tables, self.found).len() {
-            return Ok(());
+        if self.place.offset < stop || self.done < steps_of_match(tables, self.found).len() {
+            return Ok(stop);
         }
-        let place = append_runs(tables, text, self.place, most, ends, items)?;
-        *self = Cursor::at(place);
-        Ok(())
+        let reached = append_runs(tables, text, self.place, most, ends, items)?;
+        *self = Cursor::at(reached.place);
+        Ok(reached.stop)
     }
 
     /// Appends the next items to a list until it has `most`, or all of them where fewer are left. Most of them are found by the joined table,
@@ -180,6 +173,7 @@ impl Cursor {
         ensures err { OnErr result (self.new ≡ self.old) }
     {
         let mut ends = [End::NONE; ENDS];
+        let mut stop = 0;
         let mut cursor = *self;
         'further: while items.len() < most {
             let Some(item) = cursor.next_item(tables, text) else {
@@ -187,7 +181,7 @@ impl Cursor {
                 return Ok(());
             };
             items.push(item)?;
-            cursor.run_on(tables, text, most, &mut ends, items)?;
+            stop = cursor.run_on(tables, text, most, stop, &mut ends, items)?;
         }
         *self = cursor;
         Ok(())

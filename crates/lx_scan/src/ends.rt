@@ -25,11 +25,12 @@ impl End {
     };
 }
 
-/// What a run finds: how many matches end, and the condition behind the last one.
+/// What a run finds: how many matches end, the condition behind the last one, and before which byte it stopped.
 #[derive(Clone, Copy, Debug)]
 pub(crate) struct Run {
     pub(crate) count: usize,
     pub(crate) condition: u16,
+    pub(crate) stop: usize,
 }
 
 // The entry of a row in a column. The column is added first, since the row is known last.
@@ -106,5 +107,6 @@ pub(crate) fn find_ends(
     Run {
         count,
         condition: tables.condition_of_row(row),
+        stop: offset,
     }
 }

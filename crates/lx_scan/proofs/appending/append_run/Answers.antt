@@ -1,10 +1,10 @@
-use Rattle.std.proofs.Common.{◌<◌, ℕ, zero, suc, ◌≡◌, ◌∙◌, length, take, refl, sym, arith}
+use Rattle.std.proofs.Common.{◌<◌, take, arith}
 use Rattle.std.proofs.lemmas.List.{length-take-le}
 use Rattle.lx_scan.proofs.Runs.{ends_rise, run_appends}
 use Rattle.lx_scan.proofs.appending.append_run.Goals as goal
 
-pub overflow_sub-result : goal.overflow_sub-result
-overflow_sub-result c =
+pub overflow_sub-place : goal.overflow_sub-place
+overflow_sub-place c =
     let some : 0 < c.find_ends-run.result.count = omega (arith, c.if-run-eq0.false) in
     let long = length-take-le c.find_ends-run.result.count c.find_ends-run.new.ends c.find_ends-run.ensures.within in
     let leads = c.find_ends-run.ensures.ends some in
@@ -12,9 +12,26 @@ overflow_sub-result c =
     let offset = c.in_ok-offset.ensures.offset in
     omega arith
 
+pub returns-clause-place : goal.returns-clause-place
+returns-clause-place c =
+    let some : 0 < c.find_ends-run.result.count = omega (arith, c.if-run-eq0.false) in
+    let long = length-take-le c.find_ends-run.result.count c.find_ends-run.new.ends c.find_ends-run.ensures.within in
+    let appends = run_appends c.args.tables.now c.args.text.now c.args.from (take c.find_ends-run.result.count c.find_ends-run.new.ends) c.find_ends-run.result.condition c.in_ok-offset.offset c.in_ok-offset.line
+    c.args.items.now.items c.push_items.new.items.items (c.find_ends-run.ensures.ends some) (omega arith) c.in_ok-offset.ensures.offset c.in_ok-offset.ensures.line c.in_ok-offset.ensures.items in
+    appends.1
+
 pub returns-clause-items : goal.returns-clause-items
 returns-clause-items c =
     let some : 0 < c.find_ends-run.result.count = omega (arith, c.if-run-eq0.false) in
     let long = length-take-le c.find_ends-run.result.count c.find_ends-run.new.ends c.find_ends-run.ensures.within in
-    run_appends c.args.tables.now c.args.text.now c.args.from (take c.find_ends-run.result.count c.find_ends-run.new.ends) c.find_ends-run.result.condition c.in_ok-offset.offset c.in_ok-offset.line
-    c.args.items.now.items c.push_items.new.items.items (c.find_ends-run.ensures.ends some) (omega arith) c.in_ok-offset.ensures.offset c.in_ok-offset.ensures.line c.in_ok-offset.ensures.items
+    let appends = run_appends c.args.tables.now c.args.text.now c.args.from (take c.find_ends-run.result.count c.find_ends-run.new.ends) c.find_ends-run.result.condition c.in_ok-offset.offset c.in_ok-offset.line
+    c.args.items.now.items c.push_items.new.items.items (c.find_ends-run.ensures.ends some) (omega arith) c.in_ok-offset.ensures.offset c.in_ok-offset.ensures.line c.in_ok-offset.ensures.items in
+    appends.2
+
+pub returns-clause-further : goal.returns-clause-further
+returns-clause-further c =
+    let some : 0 < c.find_ends-run.result.count = omega (arith, c.if-run-eq0.false) in
+    let long = length-take-le c.find_ends-run.result.count c.find_ends-run.new.ends c.find_ends-run.ensures.within in
+    let appends = run_appends c.args.tables.now c.args.text.now c.args.from (take c.find_ends-run.result.count c.find_ends-run.new.ends) c.find_ends-run.result.condition c.in_ok-offset.offset c.in_ok-offset.line
+    c.args.items.now.items c.push_items.new.items.items (c.find_ends-run.ensures.ends some) (omega arith) c.in_ok-offset.ensures.offset c.in_ok-offset.ensures.line c.in_ok-offset.ensures.items in
+    λ full. appends.0

@@ -1,12 +1,22 @@
 use Rattle.std.proofs.Common.{arith}
-use Rattle.lx_scan.proofs.Runs.{appends_on}
+use Rattle.lx_scan.specs.Items.{items_after}
+use Rattle.lx_scan.proofs.Runs.{appends_both}
 use Rattle.lx_scan.proofs.appending.append_runs.Goals as goal
+
+pub returns-then-not-reached-clause-items : goal.returns-then-not-reached-clause-items
+returns-then-not-reached-clause-items c =
+    appends_both c.args.items.now.items c.loop-place.items.items c.append_run.new.items.items (items_after c.args.tables.now c.args.text.now c.args.from) (items_after c.args.tables.now c.args.text.now c.loop-place.place)
+    (items_after c.args.tables.now c.args.text.now c.in_ok-reached.reached.place) c.loop-place.invariant.items c.in_ok-reached.ensures.items
 
 pub loop-place-preserved : goal.loop-place-preserved
 loop-place-preserved c =
-    let on = appends_on c.args.tables.now c.args.text.now c.args.from c.loop-place.place c.args.items.now.items c.loop-place.items.items c.append_run.new.items.items c.in_ok-next.field-0 c.in-Some-2.next c.in-Some-2.is c.in_ok-next.ensures.items c.loop-place.invariant.items in
-    let few = c.in_ok-next.ensures.few in
+    let few = c.in_ok-reached.ensures.few in
     let room = c.min-room.ensures in
     let len = c.len-in-loop-place.ensures in
     let there = c.if-len-most.true in
-    record { is_place = on.0; items = on.1; few = omega arith }
+    record {
+      is_place = c.in_ok-reached.ensures.place;
+      items = appends_both c.args.items.now.items c.loop-place.items.items c.append_run.new.items.items (items_after c.args.tables.now c.args.text.now c.args.from) (items_after c.args.tables.now c.args.text.now c.loop-place.place)
+          (items_after c.args.tables.now c.args.text.now c.in_ok-reached.reached.place) c.loop-place.invariant.items c.in_ok-reached.ensures.items;
+      few = omega arith;
+    }

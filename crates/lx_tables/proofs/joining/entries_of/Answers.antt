@@ -1,6 +1,5 @@
 use Rattle.std.proofs.Common.{◌≡◌, ◌*◌, ℕ, subst, arith}
 use Rattle.lx_tables.specs.Joined.{AreEntries, joined_states, joined_width}
-use Rattle.lx_tables.proofs.JoinedStates.{entries_none}
 use Rattle.lx_tables.proofs.joining.entries_of.Goals as goal
 
 pub returns : goal.returns

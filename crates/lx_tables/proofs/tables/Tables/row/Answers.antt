@@ -1,4 +1,4 @@
-use Rattle.std.proofs.Common.{arith, lit≤}
+use Rattle.std.proofs.Common.{arith}
 use Rattle.lx_tables.proofs.JoinedStates.{row_within, rows_few}
 use Rattle.lx_tables.proofs.tables.Tables.row.Goals as goal
 
