@@ -11,6 +11,8 @@ mod sink;
 mod spares;
 mod writing;
 
+pub use line::{extent, line_number, push_escaped, push_field, push_kind, push_number, push_text};
 pub use listing::Listing;
 pub use printing::{list_plan, print_listing};
+pub use sink::{Lent, LineSink};
 pub use writing::LineWrites;

@@ -18,7 +18,8 @@ fn hex_digit(n: u8) -> u8
     if n < 10 { b'0' + n } else { b'A' + (n - 10) }
 }
 
-fn push_escaped(line: &mut Vec<u8>, byte: u8) -> Result<(), AllocError>
+/// Puts a byte of a text behind what a line holds, escaped.
+pub fn push_escaped(line: &mut Vec<u8>, byte: u8) -> Result<(), AllocError>
     ensures { OnOk result (line.new.items ≡ line.old.items ++ escaped byte) }
 {
     match byte {
@@ -40,8 +41,8 @@ fn plain_front(text: &[u8]) -> usize
     plain
 }
 
-/// Most texts are plain, and are copied at once.
-fn push_text(line: &mut Vec<u8>, text: &[u8]) -> Result<(), AllocError>
+/// Puts a text behind what a line holds, escaped. Most texts are plain, and are copied at once.
+pub fn push_text(line: &mut Vec<u8>, text: &[u8]) -> Result<(), AllocError>
     ensures { OnOk result (line.new.items ≡ line.old.items ++ flat_map escaped text.now) }
 {
     let plain = plain_front(text);
@@ -52,7 +53,8 @@ fn push_text(line: &mut Vec<u8>, text: &[u8]) -> Result<(), AllocError>
     Ok(())
 }
 
-fn push_number(line: &mut Vec<u8>, number: u64) -> Result<(), AllocError>
+/// A number in decimal digits.
+pub fn push_number(line: &mut Vec<u8>, number: u64) -> Result<(), AllocError>
     ensures { OnOk result (line.new.items ≡ line.old.items ++ decimal number) }
 {
     let mut buffer = Buffer::new();
@@ -60,7 +62,7 @@ fn push_number(line: &mut Vec<u8>, number: u64) -> Result<(), AllocError>
 }
 
 /// A number and a space. Most numbers of files and most lengths have one digit.
-fn push_field(line: &mut Vec<u8>, number: u64) -> Result<(), AllocError>
+pub fn push_field(line: &mut Vec<u8>, number: u64) -> Result<(), AllocError>
     ensures { OnOk result (line.new.items ≡ line.old.items ++ decimal number ++ codes " ") }
 {
     if number < 10 {
@@ -84,8 +86,8 @@ fn push_name(line: &mut Vec<u8>, plan: &Plan, kind: Kind) -> Result<(), AllocErr
     }
 }
 
-/// Whether it is a token or an Echo, and the kind.
-fn push_kind(line: &mut Vec<u8>, plan: &Plan, item: &Item) -> Result<(), AllocError>
+/// Whether it is a token or an Echo, and the kind, with a space behind each.
+pub fn push_kind(line: &mut Vec<u8>, plan: &Plan, item: &Item) -> Result<(), AllocError>
     requires { NamesKindAmong (kinds_of plan.now) item.now }
     ensures { OnOk result (line.new.items ≡ line.old.items ++ class_text item.now ++ codes " " ++ kind_text plan.now item.now ++ codes " ") }
 {
@@ -99,7 +101,7 @@ fn push_kind(line: &mut Vec<u8>, plan: &Plan, item: &Item) -> Result<(), AllocEr
 }
 
 /// Where an item starts, and how many bytes it has.
-fn extent(item: &Item) -> (usize, usize)
+pub fn extent(item: &Item) -> (usize, usize)
     ensures start { result.0 ≡ start_of item.now }
     ensures len { result.1 ≡ len_of item.now }
 {
@@ -109,7 +111,7 @@ fn extent(item: &Item) -> (usize, usize)
 }
 
 /// The line of the text on which an item begins.
-fn line_number(item: &Item) -> u64
+pub fn line_number(item: &Item) -> u64
     ensures { result ≡ parts.line_of item.now }
 {
     match *item {

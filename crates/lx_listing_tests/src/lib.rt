@@ -7,6 +7,8 @@ mod commands;
 #[cfg(test)]
 mod cut_files;
 #[cfg(test)]
+mod forms;
+#[cfg(test)]
 mod listing;
 #[cfg(test)]
 mod outputs;

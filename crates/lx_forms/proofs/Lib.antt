@@ -1,0 +1,5 @@
+pub mod Alike
+pub mod Bare
+pub mod FormTurning
+pub mod Joining
+pub mod Parts

@@ -1,0 +1,9 @@
+pub mod Forms
+pub mod FormLaws
+pub mod FormListed
+pub mod FormListings
+pub mod FormPrinting
+pub mod FormPrintingLaws
+pub mod JsonLines
+pub mod TextLines
+pub mod Views

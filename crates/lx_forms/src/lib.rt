@@ -1,0 +1,18 @@
+//! Forms of a listing, for other programs: names of files, some kinds alone, no texts, JSON.
+#![tactic(auto)]
+
+mod form;
+mod format;
+mod json_lines;
+mod laws;
+mod lines;
+mod printer;
+mod printing;
+mod selection;
+mod text_lines;
+
+pub use form::Form;
+pub use format::Format;
+pub use laws::{bare_listings_are_listings, listings_join, strings_are_utf8};
+pub use printing::list_plan_in;
+pub use selection::Selection;
