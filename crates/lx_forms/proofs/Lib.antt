@@ -2,4 +2,8 @@ pub mod Alike
 pub mod Bare
 pub mod FormTurning
 pub mod Joining
+pub mod JsonDocuments
+pub mod JsonNumbers
+pub mod JsonRead
+pub mod JsonStrings
 pub mod Parts

@@ -5,5 +5,6 @@ pub mod FormListings
 pub mod FormPrinting
 pub mod FormPrintingLaws
 pub mod JsonLines
+pub mod JsonValues
 pub mod TextLines
 pub mod Views

@@ -1,7 +1,6 @@
 //! Laws of listings in forms.
 
-ghost use Rattle.std.specs.Prelude.{◌≡◌, ◌++◌, ◌↔◌, ℕ, List, IsUtf8, true};
-ghost use Rattle.std.specs.Str.{is_utf8};
+ghost use Rattle.std.specs.Prelude.{◌≡◌, ◌++◌};
 ghost use Rattle.lx_piece.specs.Plans.{Planned, files_of};
 ghost use Rattle.lx_lines.specs.Listings.{listing_of};
 ghost use Rattle.lx_forms.specs.Forms.{PlainForm, bare_form};
@@ -18,9 +17,4 @@ pub fn bare_listings_are_listings()
 pub fn listings_join()
     ensures { (form : PlainForm) (front rest whole : Planned) → IsJoined front rest whole →
         listing_in form whole ≡ listing_in (form_of_front form (files_of front)) front ++ listing_in (form_behind form (files_of front)) rest }
-{}
-
-/// A law: a text stands as a string exactly where it is UTF-8 (RFC 3629), the bytes of some characters.
-pub fn strings_are_utf8()
-    ensures { (bytes : List ℕ) → (is_utf8 bytes ≡ true) ↔ IsUtf8 bytes }
 {}

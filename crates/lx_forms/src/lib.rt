@@ -3,6 +3,7 @@
 
 mod form;
 mod format;
+mod json_laws;
 mod json_lines;
 mod laws;
 mod lines;
@@ -13,6 +14,7 @@ mod text_lines;
 
 pub use form::Form;
 pub use format::Format;
-pub use laws::{bare_listings_are_listings, listings_join, strings_are_utf8};
+pub use json_laws::{json_lines_are_objects, strings_are_utf8};
+pub use laws::{bare_listings_are_listings, listings_join};
 pub use printing::list_plan_in;
 pub use selection::Selection;
