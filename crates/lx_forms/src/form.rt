@@ -35,16 +35,23 @@ impl<'a> Form<'a> {
             format: Format::Lines,
         }
     }
-}
 
-/// Whether an item is printed.
-#[tactic(auto, unfolding(crate::specs::Forms::passes))]
-pub(crate) fn passes(form: &Form<'_>, item: &Item) -> bool
-    ensures { result ≡ passes (form_view form.now) item.now }
-{
-    match &form.only {
-        Some(selection) => selection.has(item),
-        None => true,
+    /// Whether an item is printed.
+    #[tactic(auto, unfolding(crate::specs::Forms::passes))]
+    pub(crate) fn passes(&self, item: &Item) -> bool
+        ensures { result ≡ passes (form_view self.now) item.now }
+    {
+        match &self.only {
+            Some(selection) => selection.has(item),
+            None => true,
+        }
+    }
+
+    /// The number of a file.
+    pub(crate) fn number_of(&self, file: u32) -> u64
+        ensures { result ≡ number_in (form_view self.now) file }
+    {
+        u64::from(self.first) + u64::from(file)
     }
 }
 
@@ -58,11 +65,4 @@ pub(crate) fn name_of<'a>(names: &'a [&'a str], file: u32) -> &'a [u8]
     } else {
         b""
     }
-}
-
-/// The number of a file.
-pub(crate) fn number_of(form: &Form<'_>, file: u32) -> u64
-    ensures { result ≡ number_in (form_view form.now) file }
-{
-    u64::from(form.first) + u64::from(file)
 }

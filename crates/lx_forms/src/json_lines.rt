@@ -8,7 +8,7 @@ ghost use Rattle.lx_piece.specs.Plans.{bytes_of, files_of, kinds_of};
 ghost use Rattle.lx_forms.specs.JsonLines.{bytes_member, file_members, hex_pair, json_cut_line, json_line, kind_value, name_member, place_members, small_digit, sort_member, string_escaped, string_of, text_member};
 ghost use Rattle.lx_forms.specs.Views.{form_view};
 
-use crate::form::{Form, name_of, number_of};
+use crate::form::{Form, name_of};
 use crate::text_lines::text_in;
 use lx_lines::{extent, line_number, push_number};
 use lx_piece::Plan;
@@ -137,7 +137,7 @@ fn push_file(block: &mut Vec<u8>, form: &Form<'_>, file: u32) -> Result<(), Allo
     ensures { OnOk result (block.new.items ≡ block.old.items ++ file_members (form_view form.now) file) }
 {
     block.extend_from_slice(b"{\"file\":")?;
-    push_number(block, number_of(form, file))?;
+    push_number(block, form.number_of(file))?;
     push_name(block, form, file)?;
     Ok(())
 }

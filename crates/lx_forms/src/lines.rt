@@ -7,7 +7,7 @@ ghost use Rattle.lx_forms.specs.FormListings.{cut_line_in, line_in, lines_in};
 ghost use Rattle.lx_forms.specs.FormPrinting.{piece_lines_in};
 ghost use Rattle.lx_forms.specs.Views.{form_view};
 
-use crate::form::{Form, passes};
+use crate::form::Form;
 use crate::format::Format;
 use crate::json_lines::{push_json_cut_line, push_json_line};
 use crate::text_lines::{push_text_cut_line, push_text_line};
@@ -54,7 +54,7 @@ fn push_item(
     requires item { IsItemOf (kinds_of plan.now) (bytes_of plan.now file) item.now }
     ensures { OnOk result (block.new.items ≡ block.old.items ++ lines_in (form_view form.now) plan.now file (item.now ∷ [])) }
 {
-    if !passes(form, item) {
+    if !form.passes(item) {
         return Ok(());
     }
     push_line(block, form, plan, file, item)?;

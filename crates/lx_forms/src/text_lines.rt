@@ -7,7 +7,7 @@ ghost use Rattle.lx_piece.specs.Plans.{bytes_of, files_of, kinds_of};
 ghost use Rattle.lx_forms.specs.TextLines.{fields_of, file_text, name_escaped, text_cut_line, text_line, text_part};
 ghost use Rattle.lx_forms.specs.Views.{form_view};
 
-use crate::form::{Form, name_of, number_of};
+use crate::form::{Form, name_of};
 use lx_lines::{extent, line_number, push_escaped, push_field, push_kind, push_number, push_text};
 use lx_piece::Plan;
 use lx_scan::Item;
@@ -38,7 +38,7 @@ fn push_file(block: &mut Vec<u8>, form: &Form<'_>, file: u32) -> Result<(), Allo
 {
     match form.names {
         Some(names) => push_name(block, name_of(names, file)),
-        None => push_number(block, number_of(form, file)),
+        None => push_number(block, form.number_of(file)),
     }
 }
 
