@@ -1,7 +1,7 @@
 //! The scanner over tables: items with their lines, matches and places, and tables that are of no specification.
 
 use lx_fixtures::{echo, tables_of, token};
-use lx_scan::{Item, Match, Place, next_match, scan};
+use lx_scan::{Cursor, Item, Match, Place, next_match, scan};
 use lx_spec::Kind;
 use lx_tables::Tables;
 use std::test::Fail;
@@ -34,6 +34,39 @@ fn items_have_the_lines_on_which_they_begin(rt: HostRuntime) -> Result<(), Fail>
         let items = scan(rt.alloc(), &tables_of(rt.alloc(), spec)?, text)?;
         assert_eq!(rt; items.as_slice(), wanted, "{spec}");
     }
+    Ok(())
+}
+
+/// Conditions, a line's begin, an action with two statements, and bytes that no rule matches.
+const SWITCHING: &str =
+    "%x C\n%%\n\"(\" { BEGIN C; return O; }\n<C>\")\" BEGIN INITIAL;\n<C>[^)]+ ECHO;\n^a return L;\na return A;\n";
+
+#[test]
+fn items_are_appended_until_there_are_enough(rt: HostRuntime) -> Result<(), Fail> {
+    let tables = tables_of(rt.alloc(), SWITCHING)?;
+    let _conditions = tables.conditions();
+    let text = b"a(b)a\na?";
+    let second_line = Item::Token {
+        kind: Kind::Name(1),
+        line: 2,
+        start: 6,
+        len: 1,
+    };
+    let wanted = [
+        token(1, 0, 1),
+        token(0, 1, 1),
+        echo(1, 2),
+        token(2, 4, 1),
+        echo(1, 5),
+        second_line,
+        echo(2, 7),
+    ];
+    let mut cursor = Cursor::begin();
+    let mut items = Vec::new(rt.alloc());
+    cursor.next_items(&tables, text, 3, &mut items)?;
+    assert_eq!(rt; items.as_slice(), &wanted[..3]);
+    cursor.next_items(&tables, text, 9, &mut items)?;
+    assert_eq!(rt; items.as_slice(), wanted.as_slice());
     Ok(())
 }
 
