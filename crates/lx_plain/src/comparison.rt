@@ -81,6 +81,46 @@ fn compare_texts(alloc: Global, printed: &[u8], first: &[u8], second: &[u8]) -> 
     )
 }
 
+/// Compares the items that a scan gives of a text.
+fn compare_scanned(
+    alloc: Global,
+    tables: &Tables,
+    text: &[u8],
+    items: &[Item],
+    what: &'static str,
+) -> Result<(), Fault> {
+    let found = scan(alloc, tables, text)?;
+    holds(found.as_slice() == items, what)
+}
+
+/// Compares the items by tables of an automaton that isn't merged.
+fn compare_unmerged(alloc: Global, spec: &Spec, text: &[u8], items: &[Item]) -> Result<(), Fault> {
+    let automaton = build(alloc, spec)?;
+    let tables = Tables::of(alloc, spec, &automaton)?;
+    let what = "the items by tables that aren't merged";
+    compare_scanned(alloc, &tables, text, items, what)
+}
+
+/// The tables of a specification, merged.
+fn merged_tables(alloc: Global, spec: &Spec) -> Result<Tables, Fault> {
+    let automaton = build(alloc, spec)?;
+    Ok(Tables::of(alloc, spec, &merge(alloc, &automaton)?)?)
+}
+
+/// The first text of tables.
+fn first_text_of(alloc: Global, tables: &Tables) -> Result<Vec<u8>, Fault> {
+    let mut text = Vec::new(alloc);
+    tables.print_first(&mut text)?;
+    Ok(text)
+}
+
+/// The second text of tables.
+fn second_text_of(alloc: Global, tables: &Tables) -> Result<Vec<u8>, Fault> {
+    let mut text = Vec::new(alloc);
+    tables.print(&mut text)?;
+    Ok(text)
+}
+
 /// Compares the items of a text by a specification with those that all ways by tables lead to.
 pub(crate) fn compare(
     alloc: Global,
@@ -88,20 +128,11 @@ pub(crate) fn compare(
     text: &[u8],
     items: &[Item],
 ) -> Result<(), Fault> {
-    let automaton = build(alloc, spec)?;
-    let unmerged = Tables::of(alloc, spec, &automaton)?;
-    let found = scan(alloc, &unmerged, text)?;
-    holds(
-        found.as_slice() == items,
-        "the items by tables that aren't merged",
-    )?;
-    let tables = Tables::of(alloc, spec, &merge(alloc, &automaton)?)?;
-    let found = scan(alloc, &tables, text)?;
-    holds(found.as_slice() == items, "the items by tables")?;
-    let mut first = Vec::new(alloc);
-    tables.print_first(&mut first)?;
-    let mut second = Vec::new(alloc);
-    tables.print(&mut second)?;
+    compare_unmerged(alloc, spec, text, items)?;
+    let tables = merged_tables(alloc, spec)?;
+    compare_scanned(alloc, &tables, text, items, "the items by tables")?;
+    let first = first_text_of(alloc, &tables)?;
+    let second = second_text_of(alloc, &tables)?;
     for printed in [&first, &second] {
         compare_texts(alloc, printed, &first, &second)?;
         compare_printed(alloc, printed, text, items)?;
