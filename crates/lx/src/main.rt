@@ -3,14 +3,17 @@
 
 mod files;
 mod output;
+mod targets;
 mod words;
 
 use crate::files::FileSources;
 use crate::output::PipeOutput;
+use crate::targets::FileTargets;
 use crate::words::tell_refused_word;
 use lx_tool::run_with;
 use std::io::{BufWriter, ErrorKind, Input, Print, Write};
 use std::process::ExitCode;
+use std::random::RandomSource;
 use std::rt::{Env, Files};
 use std::sync::Wait;
 use std::thread::Threads;
@@ -41,7 +44,10 @@ fn main(rt: HostRuntime) -> ExitCode {
 }
 
 // Two faults there are here: a word isn't UTF-8, or memory is refused for the words or the buffer.
-fn start<R: AllocGlobal + Env + Files + Input + Print + Threads + Wait + Sync, E: Write>(
+fn start<
+    R: AllocGlobal + Env + Files + Input + Print + RandomSource + Threads + Wait + Sync,
+    E: Write,
+>(
     rt: &R,
     err: &mut E,
 ) -> io::Result<u8> {
@@ -49,6 +55,7 @@ fn start<R: AllocGlobal + Env + Files + Input + Print + Threads + Wait + Sync, E
     let words: Vec<String> = env::args(rt)?.collect(alloc)?;
     let mut out = PipeOutput::new(BufWriter::with_capacity(alloc, BUFFER, io::writer(rt))?);
     let mut sources = FileSources::new(rt);
-    let status = run_with(rt, alloc, &words, &mut sources, &mut out, err);
+    let mut targets = FileTargets::new(rt);
+    let status = run_with(rt, alloc, &words, &mut sources, &mut targets, &mut out, err);
     Ok(status)
 }

@@ -15,7 +15,7 @@ use lx_scan::Item;
 // The longest text that is placed. Its length has two digits.
 const TEXT: usize = 96;
 
-/// The numbers of an item.
+/// Where an item stands.
 #[derive(Clone, Copy, Drop)]
 pub struct Numbers {
     pub line: u64,
@@ -34,6 +34,7 @@ pub fn kind_of(item: &Item) -> Option<Kind>
     }
 }
 
+/// The numbers of an item.
 #[inline(always)]
 pub fn numbers_of(item: &Item) -> Numbers
     ensures line { result.line ≡ line_of item.now }

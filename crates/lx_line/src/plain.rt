@@ -30,7 +30,8 @@ fn push_part(line: &mut Vec<u8>, text: &[u8]) -> Result<(), AllocError>
     line.extend_from_slice(&placed[..end])
 }
 
-fn push_text(line: &mut Vec<u8>, text: &[u8]) -> Result<(), AllocError>
+/// A text, with what is escaped in it. Where memory is refused a part of it stands there.
+pub fn push_text(line: &mut Vec<u8>, text: &[u8]) -> Result<(), AllocError>
     ensures { OnOk result (line.new.items ≡ line.old.items ++ flat_map escaped text.now) }
 {
     let mut done = 0;
@@ -42,7 +43,8 @@ fn push_text(line: &mut Vec<u8>, text: &[u8]) -> Result<(), AllocError>
     Ok(())
 }
 
-fn push_number(line: &mut Vec<u8>, number: u64) -> Result<(), AllocError>
+/// A number in decimal.
+pub fn push_number(line: &mut Vec<u8>, number: u64) -> Result<(), AllocError>
     ensures { OnOk result (line.new.items ≡ line.old.items ++ decimal number) }
 {
     let mut buffer = Buffer::new();
@@ -50,7 +52,7 @@ fn push_number(line: &mut Vec<u8>, number: u64) -> Result<(), AllocError>
 }
 
 /// A number and a space. Most numbers of files and most lengths have one digit.
-fn push_field(line: &mut Vec<u8>, number: u64) -> Result<(), AllocError>
+pub fn push_field(line: &mut Vec<u8>, number: u64) -> Result<(), AllocError>
     ensures { OnOk result (line.new.items ≡ line.old.items ++ decimal number ++ codes " ") }
 {
     if number < 10 {
@@ -60,7 +62,7 @@ fn push_field(line: &mut Vec<u8>, number: u64) -> Result<(), AllocError>
     line.extend_from_slice(b" ")
 }
 
-/// The kind of a token.
+// The kind of a token, and a space.
 fn push_name(line: &mut Vec<u8>, plan: &Plan, kind: Kind) -> Result<(), AllocError>
     requires { IsKindAmong (kinds_of plan.now) kind }
     ensures { OnOk result (line.new.items ≡ line.old.items ++ name_text plan.now kind ++ codes " ") }
@@ -74,8 +76,8 @@ fn push_name(line: &mut Vec<u8>, plan: &Plan, kind: Kind) -> Result<(), AllocErr
     }
 }
 
-/// Whether it is a token or an Echo, and the kind.
-fn push_kind(line: &mut Vec<u8>, plan: &Plan, item: &Item) -> Result<(), AllocError>
+/// Whether it is a token or an Echo, and the kind, with a space behind each.
+pub fn push_kind(line: &mut Vec<u8>, plan: &Plan, item: &Item) -> Result<(), AllocError>
     requires { NamesKindAmong (kinds_of plan.now) item.now }
     ensures { OnOk result (line.new.items ≡ line.old.items ++ class_text item.now ++ codes " " ++ kind_text plan.now item.now ++ codes " ") }
 {

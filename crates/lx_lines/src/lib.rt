@@ -12,4 +12,5 @@ mod writing;
 
 pub use listing::Listing;
 pub use printing::{list_plan, print_listing};
+pub use sink::{Lent, LineSink};
 pub use writing::LineWrites;

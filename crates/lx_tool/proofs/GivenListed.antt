@@ -8,7 +8,7 @@ use Rattle.lx_tool.specs.Given.{AreListed, ArePartlyListed, AreRead, FailsListin
 use Rattle.lx_tool.specs.Planning.{AreBytes, ListsBy, ListsPrefixBy}
 use Rattle.lx_tool.specs.Statuses.{failure_of_run}
 use Rattle.lx_tool.specs.declared.failure.Failure.{Failure}
-use Rattle.lx_tool.specs.declared.failure.Failure.TheVariants.{Specification, Automaton, Tables, Words, TooManyFiles, InputTwice, NotRead, Output, Memory}
+use Rattle.lx_tool.specs.declared.failure.Failure.TheVariants.{Specification, Automaton, Tables, Words, TooManyFiles, InputTwice, Refused, NotRead, Output, Memory}
 use Rattle.lx_post.specs.declared.run_fault.RunFault.{RunFault}
 use Rattle.lx_post.specs.declared.run_fault.RunFault.TheVariants as run
 
@@ -54,6 +54,7 @@ fails_as_well P Q Part OtherPart names before after old new refused part (Tables
 fails_as_well P Q Part OtherPart names before after old new refused part (Words error) h = h
 fails_as_well P Q Part OtherPart names before after old new refused part TooManyFiles h = h
 fails_as_well P Q Part OtherPart names before after old new refused part InputTwice h = h
+fails_as_well P Q Part OtherPart names before after old new refused part (Refused fault) h = h
 fails_as_well P Q Part OtherPart names before after old new refused part (NotRead name) h = h
 fails_as_well P Q Part OtherPart names before after old new refused part Output h = part h
 fails_as_well P Q Part OtherPart names before after old new refused part Memory (inl h) = inl h

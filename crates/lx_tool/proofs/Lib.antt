@@ -1,10 +1,5 @@
-pub mod Asked
 pub mod GivenListed
-pub mod NumbersRead
 pub mod Obeyed
-pub mod PlainNames
-pub mod PlainOrders
-pub mod PlainWords
 pub mod Planned
 pub mod ReadOn
 pub mod SourceLemmas

@@ -1,20 +1,24 @@
 -- What was done by what the words ask for, or why it wasn't.
-use Rattle.std.proofs.Common.{ℕ, suc, ◌≡◌, ◌≢◌, ◌<◌, List, [], ◌∷◌, Option, Some, None, All, Bor, Ok, Err, Result, IfOk, IfErr, inl, inr, length, arith, refl, ◌∙◌, ap}
-use Rattle.std.specs.Prelude.{Contains}
+use Rattle.std.proofs.Common.{ℕ, zero, suc, ◌≡◌, ◌≢◌, ◌<◌, List, [], ◌∷◌, Option, Some, None, All, Bor, Ok, Err, Result, IfOk, IfErr, inl, inr, length, arith, refl, ◌∙◌, ap, subst}
+use Rattle.std.specs.Prelude.{Contains, MatchOption}
 use Rattle.std.proofs.lemmas.List.{length-map}
 use Rattle.std.specs.Io.KnownBytes.{Keeps, Appends}
 use Rattle.std.proofs.lemmas.List.Elements.{All-cons, All-nil, All-from_recursion}
-use Rattle.lx_piece.specs.Plans.{PlainInput}
+use Rattle.lx_tables.specs.Model.{Table}
+use Rattle.lx_piece.specs.Plans.{PlainInput, max_files}
 use Rattle.lx_tables.specs.Output.{Wrote}
-use Rattle.lx_tool.specs.CommandLine.{Asked, PlainOrder, stored, run, scan, gen, up}
-use Rattle.lx_tool.specs.Commands.{AreRulesRefused, HasEnded, HasFailed, HasObeyed, IsCutShort, names_asked, stored_specification, stored_text}
-use Rattle.lx_tool.specs.Given.{AreListed, FailsListing, IsNoTable}
-use Rattle.lx_tool.specs.Planning.{AreBytes, ListsByRules, ListsByText}
+use Rattle.lx_words.specs.CommandLine.{Asked, PlainFormWords, PlainOrder, PlainPrint, stored, run, scan, gen, up}
+use Rattle.lx_tool.specs.Commands.{AreRulesRefused, AreWordsRefused, HasEnded, HasFailed, HasObeyed, IsCutShort, IsFormRefused, IsPlacingFault, IsPrinted, IsRefusedLater, files_asked, inputs_asked, names_asked, stored_specification, stored_text}
+use Rattle.lx_tool.specs.Given.{AreListed, IsNoTable, IsUnread}
+use Rattle.lx_tool.specs.Naming.{IsListingRefused, IsWordsFault, input_uses}
+use Rattle.lx_tool.specs.Planning.{AreBytes, ListsByRules, ListsByRulesIn, ListsByTextIn}
 use Rattle.lx_tool.specs.Sources.{texts_of, whole}
 use Rattle.lx_tool.specs.Statuses.{HasStatusOfCut, HidesNoMemory, status_of}
 use Rattle.lx_tool.specs.Tabling.{FailsGenerating, Generates, HasNoTables, Upgrades}
 use Rattle.lx_tool.specs.declared.failure.Failure.{Failure}
-use Rattle.lx_tool.specs.declared.failure.Failure.TheVariants.{Specification, Automaton, Tables, Words, TooManyFiles, InputTwice, NotRead, Output, Memory}
+use Rattle.lx_tool.specs.declared.failure.RequestFault.{RequestFault}
+use Rattle.lx_tool.specs.declared.failure.RequestFault.TheVariants.{NoTargets}
+use Rattle.lx_tool.specs.declared.failure.Failure.TheVariants.{Specification, Automaton, Tables, Words, TooManyFiles, InputTwice, Refused, NotRead, Output, Memory}
 
 -- ---- what a writer holds
 
@@ -28,6 +32,12 @@ appends_kept (Some xs) None new bytes h k = absurd h
 appends_kept (Some xs) (Some ys) None bytes h k = absurd k
 appends_kept (Some xs) (Some ys) (Some zs) bytes h k = k ∙ h
 
+keeps_both : (old mid new : Option (List ℕ)) → Keeps old mid → Keeps mid new → Keeps old new
+keeps_both None mid new h k = tt
+keeps_both (Some xs) None new h k = absurd h
+keeps_both (Some xs) (Some ys) None h k = absurd k
+keeps_both (Some xs) (Some ys) (Some zs) h k = k ∙ h
+
 wrote_kept : (old mid new : Option (List ℕ)) (text : List ℕ) → Wrote old mid text → Keeps mid new → Wrote old new text
 wrote_kept old mid new text h k = record { appends = appends_kept old mid new text h.appends k }
 
@@ -35,12 +45,20 @@ module _ (old mid new : Option (List ℕ)) (kept : Keeps mid new) where
   rules_kept : (text : List ℕ) (inputs : List PlainInput) → ListsByRules text inputs old mid → ListsByRules text inputs old new
   rules_kept text inputs l = record { spec = l.spec; read = l.read; plan = l.plan; by_rules = l.by_rules; wrote = appends_kept old mid new _ l.wrote kept }
 
-  text_kept : (text : List ℕ) (inputs : List PlainInput) → ListsByText text inputs old mid → ListsByText text inputs old new
-  text_kept text inputs l = record {
+  rules_in_kept : (words : PlainFormWords) (text : List ℕ) (names : List (List ℕ)) (inputs : List PlainInput) → ListsByRulesIn words text names inputs old mid → ListsByRulesIn words text names inputs old new
+  rules_in_kept words text names inputs l =
+      record { spec = l.spec; read = l.read; plan = l.plan; by_rules = l.by_rules; of_spec = l.of_spec; form = l.form; asked = l.asked; wrote = appends_kept old mid new _ l.wrote kept }
+
+  text_in_kept : (words : PlainFormWords) (text : List ℕ) (names : List (List ℕ)) (inputs : List PlainInput) → ListsByTextIn words text names inputs old mid → ListsByTextIn words text names inputs old new
+  text_in_kept words text names inputs l = record {
     table = l.table;
     is_table = l.is_table;
     of_text = l.of_text;
-    listed = record { plan = l.listed.plan; by_tables = l.listed.by_tables; wrote = appends_kept old mid new _ l.listed.wrote kept };
+    listed = record {
+      form = l.listed.form;
+      asked = l.listed.asked;
+      listed = record { plan = l.listed.listed.plan; by_tables = l.listed.listed.by_tables; wrote = appends_kept old mid new _ l.listed.listed.wrote kept };
+    };
   }
 
   generates_kept : (text : List ℕ) → Generates text old mid → Generates text old new
@@ -53,6 +71,11 @@ module _ (old mid new : Option (List ℕ)) (kept : Keeps mid new) where
     listed_kept : (P Q : List PlainInput → Type 0) → ((inputs : List PlainInput) → P inputs → Q inputs) → (names : List (List ℕ)) (between : S) → AreListed gives P names between after cut → AreListed gives Q names between after cut
     listed_kept P Q as_well names between l = record { inputs = l.inputs; read = l.read; listed = as_well l.inputs l.listed }
 
+    printed_kept : (P Q : List ℕ → Type 0) → ((text : List ℕ) → P text → Q text) → (rules : List ℕ) (target : Option (List ℕ)) → MatchOption target (IsPrinted gives P rules before after) (λ _. Keeps old mid) →
+        MatchOption target (IsPrinted gives Q rules before after) (λ _. Keeps old new)
+    printed_kept P Q as_well rules None h = record { text = h.text; given = h.given; printed = as_well h.text h.printed }
+    printed_kept P Q as_well rules (Some target) h = keeps_both old mid new h kept
+
     -- what was done stands after the last flush
     pub obeyed_kept : (asked : Option Asked) → HasObeyed gives before after old mid cut asked → HasObeyed gives before after old new cut asked
     obeyed_kept None h = h
@@ -61,16 +84,22 @@ module _ (old mid new : Option (List ℕ)) (kept : Keeps mid new) where
       text = h.text;
       between = h.between;
       given = h.given;
-      listed = listed_kept (λ inputs. ListsByRules h.text inputs old mid) (λ inputs. ListsByRules h.text inputs old new) (rules_kept h.text) order.files h.between h.listed;
+      names = h.names;
+      behind = h.behind;
+      named = h.named;
+      listed = listed_kept (λ inputs. ListsByRulesIn order.form h.text h.names inputs old mid) (λ inputs. ListsByRulesIn order.form h.text h.names inputs old new) (rules_in_kept order.form h.text h.names) h.names h.behind h.listed;
     }
     obeyed_kept (Some (scan order)) h = record {
       text = h.text;
       between = h.between;
       given = h.given;
-      listed = listed_kept (λ inputs. ListsByText h.text inputs old mid) (λ inputs. ListsByText h.text inputs old new) (text_kept h.text) order.files h.between h.listed;
+      names = h.names;
+      behind = h.behind;
+      named = h.named;
+      listed = listed_kept (λ inputs. ListsByTextIn order.form h.text h.names inputs old mid) (λ inputs. ListsByTextIn order.form h.text h.names inputs old new) (text_in_kept order.form h.text h.names) h.names h.behind h.listed;
     }
-    obeyed_kept (Some (gen name)) h = (record { text = h.0.text; given = h.0.given; printed = generates_kept h.0.text h.0.printed }, h.1)
-    obeyed_kept (Some (up name)) h = (record { text = h.0.text; given = h.0.given; printed = upgrades_kept h.0.text h.0.printed }, h.1)
+    obeyed_kept (Some (gen print)) h = (printed_kept (λ text. Generates text old mid) (λ text. Generates text old new) generates_kept print.rules print.target h.0, h.1)
+    obeyed_kept (Some (up print)) h = (printed_kept (λ text. Upgrades text old mid) (λ text. Upgrades text old new) upgrades_kept print.rules print.target h.0, h.1)
 
 -- ---- refusals
 
@@ -81,6 +110,7 @@ no_tables_tells text (Tables fault) h = absurd h
 no_tables_tells text (Words error) h = absurd h
 no_tables_tells text TooManyFiles h = tt
 no_tables_tells text InputTwice h = tt
+no_tables_tells text (Refused fault) h = tt
 no_tables_tells text (NotRead name) h = tt
 no_tables_tells text Output h = tt
 no_tables_tells text Memory h = tt
@@ -92,75 +122,102 @@ no_table_tells text (Tables fault) h = λ e. let f = h.0 in cc
 no_table_tells text (Words error) h = absurd h
 no_table_tells text TooManyFiles h = tt
 no_table_tells text InputTwice h = tt
+no_table_tells text (Refused fault) h = tt
 no_table_tells text (NotRead name) h = tt
 no_table_tells text Output h = tt
 no_table_tells text Memory h = tt
 
-contains_behind : (names : List (List ℕ)) (first name : List ℕ) → Contains names name → Contains (first ∷ names) name
-contains_behind names first name h = let within = h.1 in (suc (h.0), omega (arith, within), h.2)
+-- a list of one name contains no other
+only_one : (name other : List ℕ) → Contains (name ∷ []) other → name ≡ other
+only_one name other (zero, within, is) = is
+only_one name other (suc n, within, is) = absurd (omega (arith, within))
 
 module _ {S : Type 0} (gives : S → List ℕ → PlainInput → S → Type 0) (before : S) (old new : Option (List ℕ)) where
   -- a specification or tables were refused
   pub rules_refused : (asked : Asked) (Refuses : Failure → Type 0) → ((failure : Failure) → Refuses failure → AreRulesRefused gives before asked failure) →
       ((failure : Failure) → Refuses failure → HidesNoMemory failure) → Keeps old new →
-      (Refuses TooManyFiles → ⊥) → (Refuses InputTwice → ⊥) → ((name : _) → Refuses (NotRead name) → ⊥) → ((error : _) → Refuses (Words error) → ⊥) →
+      (Refuses TooManyFiles → ⊥) → (Refuses InputTwice → ⊥) → ((fault : _) → Refuses (Refused fault) → ⊥) → ((name : _) → Refuses (NotRead name) → ⊥) → ((error : _) → Refuses (Words error) → ⊥) →
       (failure : Failure) → Refuses failure → HasFailed gives (Some asked) before old new failure
-  rules_refused asked Refuses refused tells kept few once known words (Specification fault) h = λ low. record { cause = refused (Specification fault) h; tells = tells (Specification fault) h; kept = kept }
-  rules_refused asked Refuses refused tells kept few once known words (Automaton fault) h = λ low. record { cause = refused (Automaton fault) h; tells = tells (Automaton fault) h; kept = kept }
-  rules_refused asked Refuses refused tells kept few once known words (Tables fault) h = λ low. record { cause = refused (Tables fault) h; tells = tells (Tables fault) h; kept = kept }
-  rules_refused asked Refuses refused tells kept few once known words (Words error) h = absurd (words error h)
-  rules_refused asked Refuses refused tells kept few once known words TooManyFiles h = absurd (few h)
-  rules_refused asked Refuses refused tells kept few once known words InputTwice h = absurd (once h)
-  rules_refused asked Refuses refused tells kept few once known words (NotRead name) h = absurd (known name h)
-  rules_refused asked Refuses refused tells kept few once known words Output h = λ low. absurd (omega (arith, low))
-  rules_refused asked Refuses refused tells kept few once known words Memory h = λ low. absurd (omega (arith, low))
+  rules_refused asked Refuses refused tells kept few once listing known words (Specification fault) h = λ low. record { cause = refused (Specification fault) h; tells = tells (Specification fault) h; kept = kept }
+  rules_refused asked Refuses refused tells kept few once listing known words (Automaton fault) h = λ low. record { cause = refused (Automaton fault) h; tells = tells (Automaton fault) h; kept = kept }
+  rules_refused asked Refuses refused tells kept few once listing known words (Tables fault) h = λ low. record { cause = refused (Tables fault) h; tells = tells (Tables fault) h; kept = kept }
+  rules_refused asked Refuses refused tells kept few once listing known words (Words error) h = absurd (words error h)
+  rules_refused asked Refuses refused tells kept few once listing known words TooManyFiles h = absurd (few h)
+  rules_refused asked Refuses refused tells kept few once listing known words InputTwice h = absurd (once h)
+  rules_refused asked Refuses refused tells kept few once listing known words (Refused fault) h = absurd (listing fault h)
+  rules_refused asked Refuses refused tells kept few once listing known words (NotRead name) h = absurd (known name h)
+  rules_refused asked Refuses refused tells kept few once listing known words Output h = λ low. absurd (omega (arith, low))
+  rules_refused asked Refuses refused tells kept few once listing known words Memory h = λ low. absurd (omega (arith, low))
 
-  -- a listing was refused whose rules stand in a text that the sources gave
-  pub listing_refused : (asked : Asked) (files : List (List ℕ)) (between after : S) (Refuses : Failure → Type 0) (Part : Type 0) → ((failure : Failure) → Refuses failure → AreRulesRefused gives before asked failure) →
-      ((failure : Failure) → Refuses failure → HidesNoMemory failure) → ((name : List ℕ) → Contains files name → Contains (names_asked asked) name) →
-      (failure : Failure) → FailsListing Refuses Part files between after old new failure → HasFailed gives (Some asked) before old new failure
-  listing_refused asked files between after Refuses Part refused tells within (Specification fault) h = λ low. record { cause = refused (Specification fault) h.0; tells = tells (Specification fault) h.0; kept = h.1.output }
-  listing_refused asked files between after Refuses Part refused tells within (Automaton fault) h = λ low. record { cause = refused (Automaton fault) h.0; tells = tells (Automaton fault) h.0; kept = h.1.output }
-  listing_refused asked files between after Refuses Part refused tells within (Tables fault) h = λ low. record { cause = refused (Tables fault) h.0; tells = tells (Tables fault) h.0; kept = h.1.output }
-  listing_refused asked files between after Refuses Part refused tells within (Words error) h = absurd h
-  listing_refused asked files between after Refuses Part refused tells within TooManyFiles h = absurd h
-  listing_refused asked files between after Refuses Part refused tells within InputTwice h = absurd h
-  listing_refused asked files between after Refuses Part refused tells within (NotRead name) h = λ low. record { cause = within name.now h.0; tells = tt; kept = h.1 }
-  listing_refused asked files between after Refuses Part refused tells within Output h = λ low. absurd (omega (arith, low))
-  listing_refused asked files between after Refuses Part refused tells within Memory h = λ low. absurd (omega (arith, low))
+  -- the words of a listing were refused
+  pub words_refused : (asked : Asked) (order : PlainOrder) → (max_files < length order.files → max_files < length (files_asked asked)) → (1 < input_uses order order.files → 1 < inputs_asked asked) →
+      ((fault : RequestFault) → IsWordsFault order fault → IsFormRefused asked fault) → Keeps old new → (failure : Failure) → AreWordsRefused order failure → HasFailed gives (Some asked) before old new failure
+  words_refused asked order many twice form kept failure (inl h) = rw h.0 (λ low. record { cause = inl (many h.1); tells = tt; kept = kept })
+  words_refused asked order many twice form kept failure (inr (inl h)) = rw h.0 (λ low. record { cause = inl (twice h.1); tells = tt; kept = kept })
+  words_refused asked order many twice form kept failure (inr (inr h)) = rw h.1 (λ low. record { cause = inl (form h.0 h.2); tells = tt; kept = kept })
+
+  -- a listing was refused once its tables were made
+  pub later_refused : (asked : Asked) (order : PlainOrder) (table : Table) (between : S) → ((failure : Failure) → IsListingRefused gives order table between failure → IsRefusedLater gives before asked failure) →
+      (failure : Failure) → (status_of failure < 4 → IsListingRefused gives order table between failure × HidesNoMemory failure × Keeps old new) → HasFailed gives (Some asked) before old new failure
+  later_refused asked order table between later (Specification fault) h = λ low. absurd (h low).0
+  later_refused asked order table between later (Automaton fault) h = λ low. absurd (h low).0
+  later_refused asked order table between later (Tables fault) h = λ low. absurd (h low).0
+  later_refused asked order table between later (Words error) h = λ low. absurd (h low).0
+  later_refused asked order table between later TooManyFiles h = λ low. record { cause = inr (later TooManyFiles (h low).0); tells = tt; kept = (h low).2 }
+  later_refused asked order table between later InputTwice h = λ low. record { cause = inr (later InputTwice (h low).0); tells = tt; kept = (h low).2 }
+  later_refused asked order table between later (Refused fault) h = λ low. record { cause = inr (later (Refused fault) (h low).0); tells = tt; kept = (h low).2 }
+  later_refused asked order table between later (NotRead name) h = λ low. record { cause = inr (later (NotRead name) (h low).0); tells = tt; kept = (h low).2 }
+  later_refused asked order table between later Output h = λ low. absurd (omega (arith, low))
+  later_refused asked order table between later Memory h = λ low. absurd (omega (arith, low))
+
+  -- a name in its words can't be read
+  pub rules_unread : (asked : Asked) (name : List ℕ) → Contains (names_asked asked) name → Keeps old new → (failure : Failure) → IsUnread (name ∷ []) failure → HasFailed gives (Some asked) before old new failure
+  rules_unread asked name among kept (Specification fault) h = absurd h
+  rules_unread asked name among kept (Automaton fault) h = absurd h
+  rules_unread asked name among kept (Tables fault) h = absurd h
+  rules_unread asked name among kept (Words error) h = absurd h
+  rules_unread asked name among kept TooManyFiles h = absurd h
+  rules_unread asked name among kept InputTwice h = absurd h
+  rules_unread asked name among kept (Refused fault) h = absurd h
+  rules_unread asked name among kept (NotRead other) h = λ low. record { cause = inl (subst (Contains (names_asked asked)) (only_one name other.now h) among); tells = tt; kept = kept }
+  rules_unread asked name among kept Output h = absurd h
+  rules_unread asked name among kept Memory h = λ low. absurd (omega (arith, low))
 
   module _ (text : List ℕ) (between : S) where
-    pub run_refused : (order : PlainOrder) (after : S) (Part : Type 0) → gives before order.rules (whole text) between →
-        (failure : Failure) → FailsListing (HasNoTables text) Part order.files between after old new failure → HasFailed gives (Some (run order)) before old new failure
-    run_refused order after Part given =
-        listing_refused (run order) order.files between after (HasNoTables text) Part refused (no_tables_tells text) (contains_behind order.files order.rules)
-      where
-        refused : (failure : Failure) → HasNoTables text failure → AreRulesRefused gives before (run order) failure
-        refused failure h = record { text = text; after = between; given = given; refused = h }
+    pub gen_refused : (print : PlainPrint) → gives before print.rules (whole text) between →
+        (failure : Failure) → FailsGenerating text old new failure → HasFailed gives (Some (gen print)) before old new failure
+    gen_refused print given (Specification fault) h = λ low. record { cause = record { text = text; after = between; given = given; refused = h.0 }; tells = h.0.0; kept = h.1 }
+    gen_refused print given (Automaton fault) h = λ low. record { cause = record { text = text; after = between; given = given; refused = h.0 }; tells = h.0.known; kept = h.1 }
+    gen_refused print given (Tables fault) h = absurd h
+    gen_refused print given (Words error) h = absurd h
+    gen_refused print given TooManyFiles h = absurd h
+    gen_refused print given InputTwice h = absurd h
+    gen_refused print given (Refused fault) h = absurd h
+    gen_refused print given (NotRead other) h = absurd h
+    gen_refused print given Output h = λ low. absurd (omega (arith, low))
+    gen_refused print given Memory h = λ low. absurd (omega (arith, low))
 
-    pub scan_refused : (order : PlainOrder) (after : S) (Part : Type 0) → gives before order.rules (whole text) between →
-        (failure : Failure) → FailsListing (IsNoTable text) Part order.files between after old new failure → HasFailed gives (Some (scan order)) before old new failure
-    scan_refused order after Part given =
-        listing_refused (scan order) order.files between after (IsNoTable text) Part refused (no_table_tells text) (contains_behind order.files order.rules)
-      where
-        refused : (failure : Failure) → IsNoTable text failure → AreRulesRefused gives before (scan order) failure
-        refused failure h = record { text = text; after = between; given = given; refused = h }
+    -- the text has no tables
+    pub rules_no_tables : (asked : Asked) → ((failure : Failure) → HasNoTables text failure → AreRulesRefused gives before asked failure) → Keeps old new →
+        (failure : Failure) → HasNoTables text failure → HasFailed gives (Some asked) before old new failure
+    rules_no_tables asked refused kept =
+        rules_refused asked (HasNoTables text) refused (no_tables_tells text) kept (λ r. absurd r) (λ r. absurd r) (λ fault r. absurd r) (λ name r. absurd r) (λ error r. absurd r)
 
-    pub gen_refused : (name : List ℕ) → gives before name (whole text) between →
-        (failure : Failure) → FailsGenerating text old new failure → HasFailed gives (Some (gen name)) before old new failure
-    gen_refused name given (Specification fault) h = λ low. record { cause = record { text = text; after = between; given = given; refused = h.0 }; tells = h.0.0; kept = h.1 }
-    gen_refused name given (Automaton fault) h = λ low. record { cause = record { text = text; after = between; given = given; refused = h.0 }; tells = h.0.known; kept = h.1 }
-    gen_refused name given (Tables fault) h = absurd h
-    gen_refused name given (Words error) h = absurd h
-    gen_refused name given TooManyFiles h = absurd h
-    gen_refused name given InputTwice h = absurd h
-    gen_refused name given (NotRead other) h = absurd h
-    gen_refused name given Output h = λ low. absurd (omega (arith, low))
-    gen_refused name given Memory h = λ low. absurd (omega (arith, low))
+    -- or it is no table's
+    pub rules_no_table : (asked : Asked) → ((failure : Failure) → IsNoTable text failure → AreRulesRefused gives before asked failure) → Keeps old new →
+        (failure : Failure) → IsNoTable text failure → HasFailed gives (Some asked) before old new failure
+    rules_no_table asked refused kept =
+        rules_refused asked (IsNoTable text) refused (no_table_tells text) kept (λ r. absurd r) (λ r. absurd r) (λ fault r. absurd r) (λ name r. absurd r) (λ error r. absurd r)
+
+  -- no file was made
+  pub placing_refused : (asked : Asked) → IsFormRefused asked NoTargets → Keeps old new → (failure : Failure) → IsPlacingFault failure → HasFailed gives (Some asked) before old new failure
+  placing_refused asked form kept failure (inl h) = rw h (λ low. record { cause = inl form; tells = tt; kept = kept })
+  placing_refused asked form kept failure (inr (inl h)) = rw h (λ low. absurd (omega (arith, low)))
+  placing_refused asked form kept failure (inr (inr h)) = rw h (λ low. absurd (omega (arith, low)))
 
   -- the stored specification was refused
   pub stored_refused : (failure : Failure) → (status_of failure < 4 → HasNoTables stored_specification failure × Keeps old new) → HasFailed gives (Some stored) before old new failure
-  stored_refused failure h = λ low. rules_refused stored (HasNoTables stored_specification) (λ f r. r) (no_tables_tells stored_specification) (h low).1 (λ r. absurd r) (λ r. absurd r) (λ name r. absurd r) (λ error r. absurd r) failure (h low).0 low
+  stored_refused failure h = λ low. rules_refused stored (HasNoTables stored_specification) (λ f r. r) (no_tables_tells stored_specification) (h low).1 (λ r. absurd r) (λ r. absurd r) (λ fault r. absurd r) (λ name r. absurd r) (λ error r. absurd r) failure (h low).0 low
 
 -- ---- ends
 

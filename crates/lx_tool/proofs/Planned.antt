@@ -9,7 +9,8 @@ use Rattle.lx_tables.specs.Uniqueness.{IsOneToOne}
 use Rattle.lx_scan.specs.ByRules.{AreItemsBy}
 use Rattle.lx_scan.specs.Items as scan
 use Rattle.lx_piece.specs.Plans.{PlainInput, Planned, bytes_of}
-use Rattle.lx_tool.specs.Planning.{AreBytes, IsPlanBy, IsPlanByRules, ListsBy, ListsPrefixBy, ListsByRules, ListsPrefixByRules}
+use Rattle.lx_words.specs.CommandLine.{PlainFormWords}
+use Rattle.lx_tool.specs.Planning.{AreBytes, IsPlanBy, IsPlanByRules, ListsAsked, ListsBy, ListsByRules, ListsByRulesIn, ListsPrefixBy, ListsPrefixByRules}
 use Rattle.lx_tool.specs.Tabling.{AreTablesOfText}
 
 -- tables of a specification give of bytes its items by the rules
@@ -44,6 +45,23 @@ prefix_by_rules text table inputs old new law is of bytes lists = record {
   by_rules = plan_by_rules of.spec table inputs lists.plan law is of.of_spec bytes lists.by_tables;
   wrote = lists.wrote;
 }
+
+-- a listing by tables of a specification, in the form that words ask for, is one by its rules
+pub asked_by_rules : (words : PlainFormWords) (text : List ℕ) (table : Table) (names : List (List ℕ)) (inputs : List PlainInput) (old new : Option (List ℕ)) → GiveItems →
+    IsTable table → AreTablesOfText text table → AreBytes inputs → ListsAsked words table names inputs old new → ListsByRulesIn words text names inputs old new
+asked_by_rules words text table names inputs old new law is of bytes lists =
+    let plan = lists.listed.plan in
+    let by = lists.listed.by_tables in
+    record {
+      spec = of.spec;
+      read = of.read;
+      plan = plan;
+      by_rules = plan_by_rules of.spec table inputs plan law is of.of_spec bytes by;
+      of_spec = rw by.table_is of.of_spec;
+      form = lists.form;
+      asked = rw by.table_is lists.asked;
+      wrote = lists.listed.wrote;
+    }
 
 other_digit : (a b : ℕ) → a ≡ 49 → b ≡ 50 → a ≡ b → ⊥
 other_digit a b one two same = absurd (omega arith)

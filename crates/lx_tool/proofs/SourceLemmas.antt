@@ -6,7 +6,7 @@ use Rattle.std.proofs.lemmas.List.{length-take-le, take_all, take_more, map-appe
 use Rattle.std.proofs.lemmas.List.Elements.{All-more, All-push}
 use Rattle.lx_piece.specs.declared.input.Input.{Input}
 use Rattle.lx_piece.specs.Plans.{PlainInput, input_view}
-use Rattle.lx_tool.specs.Commands.{input_count, inputs_among}
+use Rattle.lx_tool.specs.Naming.{input_count, inputs_among}
 use Rattle.lx_tool.specs.Planning.{AreBytes}
 use Rattle.lx_tool.specs.Sources.{AreGiven, none, first, IsFirstNamed, NoneIsNamed, cut_names, inputs_of, is_among, named_input}
 

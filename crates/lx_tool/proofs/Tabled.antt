@@ -11,7 +11,7 @@ use Rattle.lx_auto.specs.declared.fault.BuildFault.TheVariants as build
 use Rattle.lx_tool.specs.Statuses.{status_of, failure_of_build, HidesNoMemory}
 use Rattle.lx_tool.specs.Tabling.{HasNoTables, FailsGenerating, FailsUpgrading}
 use Rattle.lx_tool.specs.declared.failure.Failure.{Failure}
-use Rattle.lx_tool.specs.declared.failure.Failure.TheVariants.{Specification, Automaton, Tables, Words, TooManyFiles, InputTwice, NotRead, Output, Memory}
+use Rattle.lx_tool.specs.declared.failure.Failure.TheVariants.{Specification, Automaton, Tables, Words, TooManyFiles, InputTwice, Refused, NotRead, Output, Memory}
 
 pub too_large : (text : List ℕ) (spec : PlainSpec) → IsRead text spec → (fault : BuildFault) → (fault ≡ build.TooManyPositions → 16384 < count_of_spec spec) →
     (fault ≡ build.TooManySets → (count_of_spec spec ≤ 16384) × HasMoreReachedSets spec 16384) → HasNoTables text (failure_of_build fault)
@@ -27,6 +27,7 @@ fails_before text old new (Tables fault) none keeps = none
 fails_before text old new (Words error) none keeps = none
 fails_before text old new TooManyFiles none keeps = none
 fails_before text old new InputTwice none keeps = none
+fails_before text old new (Refused fault) none keeps = none
 fails_before text old new (NotRead name) none keeps = none
 fails_before text old new Output none keeps = absurd none
 fails_before text old new Memory none keeps = keeps
@@ -38,6 +39,7 @@ generating_kept text old new (Tables fault) fails low = absurd fails
 generating_kept text old new (Words error) fails low = absurd fails
 generating_kept text old new TooManyFiles fails low = absurd fails
 generating_kept text old new InputTwice fails low = absurd fails
+generating_kept text old new (Refused fault) fails low = absurd fails
 generating_kept text old new (NotRead name) fails low = absurd fails
 generating_kept text old new Output fails low = absurd (omega arith)
 generating_kept text old new Memory fails low = fails
@@ -49,6 +51,7 @@ generating_tells text old new (Tables fault) fails = absurd fails
 generating_tells text old new (Words error) fails = absurd fails
 generating_tells text old new TooManyFiles fails = tt
 generating_tells text old new InputTwice fails = tt
+generating_tells text old new (Refused fault) fails = tt
 generating_tells text old new (NotRead name) fails = tt
 generating_tells text old new Output fails = tt
 generating_tells text old new Memory fails = tt
@@ -60,6 +63,7 @@ upgrading_kept text old new (Tables fault) fails low = fails.2
 upgrading_kept text old new (Words error) fails low = absurd fails
 upgrading_kept text old new TooManyFiles fails low = absurd fails
 upgrading_kept text old new InputTwice fails low = absurd fails
+upgrading_kept text old new (Refused fault) fails low = absurd fails
 upgrading_kept text old new (NotRead name) fails low = absurd fails
 upgrading_kept text old new Output fails low = absurd (omega arith)
 upgrading_kept text old new Memory fails low = fails
@@ -71,6 +75,7 @@ upgrading_tells text old new (Tables fault) fails = λ e. let h = fails.0 in cc
 upgrading_tells text old new (Words error) fails = absurd fails
 upgrading_tells text old new TooManyFiles fails = tt
 upgrading_tells text old new InputTwice fails = tt
+upgrading_tells text old new (Refused fault) fails = tt
 upgrading_tells text old new (NotRead name) fails = tt
 upgrading_tells text old new Output fails = tt
 upgrading_tells text old new Memory fails = tt

@@ -1,16 +1,21 @@
 -- What the program does, by what its words ask for.
-use Rattle.std.specs.Prelude.{◌≡◌, ◌≢◌, ℕ, ◌<◌, ◌⊎◌, List, [], ◌∷◌, Option, Some, None, Contains, IsSomeAnd, MatchOption, codes, length, ◌+◌, if◌then◌else◌}
-use Rattle.std.specs.Str.{bytes_eq}
+use Rattle.std.specs.Prelude.{◌≡◌, ◌≢◌, ℕ, ◌<◌, ◌⊎◌, List, [], ◌∷◌, ◌++◌, Option, Some, None, Contains, IsSomeAnd, MatchOption, codes, length}
+use Rattle.std.specs.Option.{option_map_or}
 use Rattle.std.specs.Io.KnownBytes.{Keeps}
+use Rattle.lx_tables.specs.Model.{Table}
+use Rattle.lx_tables.specs.Texts.{text_2}
 use Rattle.lx_piece.specs.Plans.{PlainInput, max_files}
-use Rattle.lx_tool.specs.CommandLine.{Asked, PlainOrder, stored, run, scan, gen, up}
+use Rattle.lx_words.specs.CommandLine.{Asked, PlainOrder, PlainPrint, stored, run, scan, gen, up}
 use Rattle.lx_tool.specs.Given.{AreListed, IsNoTable}
-use Rattle.lx_tool.specs.Planning.{ListsByRules, ListsByText}
+use Rattle.lx_tool.specs.Naming.{AreFileNames, IsListingRefused, IsWordsFault, input_count, input_uses}
+use Rattle.lx_tool.specs.Planning.{ListsAsked, ListsByRules, ListsByRulesIn, ListsByTextIn}
 use Rattle.lx_tool.specs.Sources.{whole}
 use Rattle.lx_tool.specs.Statuses.{HidesNoMemory, status_of}
-use Rattle.lx_tool.specs.Tabling.{Generates, HasNoTables, Upgrades}
+use Rattle.lx_tool.specs.Tabling.{AreTablesIn, AreTablesOfText, Generates, HasNoTables, Upgrades}
 use Rattle.lx_tool.specs.declared.failure.Failure.{Failure}
-use Rattle.lx_tool.specs.declared.failure.Failure.TheVariants.{Specification, Automaton, Tables, Words, TooManyFiles, InputTwice, NotRead, Output, Memory}
+use Rattle.lx_tool.specs.declared.failure.RequestFault.{RequestFault}
+use Rattle.lx_tool.specs.declared.failure.RequestFault.TheVariants.{NoTargets}
+use Rattle.lx_tool.specs.declared.failure.Failure.TheVariants.{Specification, Automaton, Tables, Words, TooManyFiles, InputTwice, Refused, NotRead, Output, Memory}
 
 -- the specification and the file of the stored run
 abbrev pub stored_specification : List ℕ
@@ -21,12 +26,22 @@ stored_text = codes "ab 12\n"
 
 -- ---- what is done
 
--- The sources gave the text with the order's first name, whole, and behind it the files, in order, which were listed as the text says.
-pub record AreListedBy {S : Type 0} (gives : S → List ℕ → PlainInput → S → Type 0) (Lists : List ℕ → List PlainInput → Type 0) (order : PlainOrder) (before after : S) (cut : List (List ℕ)) : Type 0 where
+-- The sources gave the text with the order's first name, whole, and behind it the files, in order, which were listed as the text says and the words ask.
+pub record AreListedBy {S : Type 0} (gives : S → List ℕ → PlainInput → S → Type 0) (Lists : List ℕ → List (List ℕ) → List PlainInput → Type 0) (order : PlainOrder) (before after : S) (cut : List (List ℕ)) : Type 0 where
   pub text : List ℕ
   pub between : S
   pub given : gives before order.rules (whole text) between
-  pub listed : AreListed gives (Lists text) order.files between after cut
+  pub names : List (List ℕ)
+  pub behind : S
+  pub named : AreFileNames gives order between behind names
+  pub listed : AreListed gives (Lists text names) names behind after cut
+
+-- The names were read, and the files listed in the form that the words ask for, by these tables.
+pub record AreListedAs {S : Type 0} (gives : S → List ℕ → PlainInput → S → Type 0) (order : PlainOrder) (table : Table) (before after : S) (old new : Option (List ℕ)) (cut : List (List ℕ)) : Type 0 where
+  pub names : List (List ℕ)
+  pub behind : S
+  pub named : AreFileNames gives order before behind names
+  pub listed : AreListed gives (λ inputs. ListsAsked order.form table names inputs old new) names behind after cut
 
 -- They gave the text with this name, whole, of which something was printed.
 pub record IsPrinted {S : Type 0} (gives : S → List ℕ → PlainInput → S → Type 0) (Prints : List ℕ → Type 0) (name : List ℕ) (before after : S) : Type 0 where
@@ -34,40 +49,73 @@ pub record IsPrinted {S : Type 0} (gives : S → List ℕ → PlainInput → S �
   pub given : gives before name (whole text) after
   pub printed : Prints text
 
+-- That was printed to the output; or, where `-o` is given, nothing was.
+abbrev pub HasPrinted : {S : Type 0} → (S → List ℕ → PlainInput → S → Type 0) → (List ℕ → Type 0) → PlainPrint → S → S → Option (List ℕ) → Option (List ℕ) → Type 0
+HasPrinted gives Prints print before after old new =
+    MatchOption print.target (IsPrinted gives Prints print.rules before after) (λ target. Keeps old new)
+
 -- What the words ask for was done; `cut` names the files that were cut short.
 abbrev pub HasDone : {S : Type 0} → (S → List ℕ → PlainInput → S → Type 0) → S → S → Option (List ℕ) → Option (List ℕ) → List (List ℕ) → Asked → Type 0
 HasDone gives before after old new cut stored = ListsByRules stored_specification (whole stored_text ∷ []) old new × (cut ≡ [])
-HasDone gives before after old new cut (run order) = AreListedBy gives (λ text inputs. ListsByRules text inputs old new) order before after cut
-HasDone gives before after old new cut (scan order) = AreListedBy gives (λ text inputs. ListsByText text inputs old new) order before after cut
-HasDone gives before after old new cut (gen name) = IsPrinted gives (λ text. Generates text old new) name before after × (cut ≡ [])
-HasDone gives before after old new cut (up name) = IsPrinted gives (λ text. Upgrades text old new) name before after × (cut ≡ [])
+HasDone gives before after old new cut (run order) = AreListedBy gives (λ text names inputs. ListsByRulesIn order.form text names inputs old new) order before after cut
+HasDone gives before after old new cut (scan order) = AreListedBy gives (λ text names inputs. ListsByTextIn order.form text names inputs old new) order before after cut
+HasDone gives before after old new cut (gen print) = HasPrinted gives (λ text. Generates text old new) print before after old new × (cut ≡ [])
+HasDone gives before after old new cut (up print) = HasPrinted gives (λ text. Upgrades text old new) print before after old new × (cut ≡ [])
+
+-- ---- what is put into files
+
+-- A file got the text of tables of what the sources gave.
+pub record IsPlaced {S T : Type 0} (gives : S → List ℕ → PlainInput → S → Type 0) (places : T → List ℕ → List ℕ → T → Type 0) (AreTables : List ℕ → Table → Type 0) (rules target : List ℕ) (before : S) (old new : T) : Type 0 where
+  pub text : List ℕ
+  pub after : S
+  pub given : gives before rules (whole text) after
+  pub table : Table
+  pub tables : AreTables text table
+  pub placed : places old target (text_2 table) new
+
+-- the file of `-o` got it, where it is given; and else none was made
+abbrev pub HasPlacedText : {S T : Type 0} → (S → List ℕ → PlainInput → S → Type 0) → (T → List ℕ → List ℕ → T → Type 0) → (List ℕ → Table → Type 0) → PlainPrint → S → T → T → Type 0
+HasPlacedText gives places AreTables print before old new =
+    MatchOption print.target (new ≡ old) (λ target. IsPlaced gives places AreTables print.rules target before old new)
+
+-- What files were made for what the words ask for.
+abbrev pub HasPlaced : {S T : Type 0} → (S → List ℕ → PlainInput → S → Type 0) → (T → List ℕ → List ℕ → T → Type 0) → S → T → T → Option Asked → Type 0
+HasPlaced gives places before old new (Some (gen print)) = HasPlacedText gives places AreTablesOfText print before old new
+HasPlaced gives places before old new (Some (up print)) = HasPlacedText gives places AreTablesIn print before old new
+HasPlaced gives places before old new (Some (run order)) = new ≡ old
+HasPlaced gives places before old new (Some (scan order)) = new ≡ old
+HasPlaced gives places before old new (Some stored) = new ≡ old
+HasPlaced gives places before old new None = new ≡ old
 
 -- ---- why it is not
 
--- the names of the files that are listed
+-- the names of the files that the words list
 abbrev pub files_asked : Asked → List (List ℕ)
 files_asked stored = []
 files_asked (run order) = order.files
 files_asked (scan order) = order.files
-files_asked (gen name) = []
-files_asked (up name) = []
+files_asked (gen print) = []
+files_asked (up print) = []
 
--- the names of all files that are read: that of the specification or the tables first
+-- the names in the words of a listing: that of the specification or the tables, that of LIST, and those of the files
+abbrev pub names_of_order : PlainOrder → List (List ℕ)
+names_of_order order = order.rules ∷ (option_map_or (λ list. list.name ∷ []) order.list [] ++ order.files)
+
+-- the names of all files that the words name
 abbrev pub names_asked : Asked → List (List ℕ)
 names_asked stored = []
-names_asked (run order) = order.rules ∷ order.files
-names_asked (scan order) = order.rules ∷ order.files
-names_asked (gen name) = name ∷ []
-names_asked (up name) = name ∷ []
+names_asked (run order) = names_of_order order
+names_asked (scan order) = names_of_order order
+names_asked (gen print) = print.rules ∷ []
+names_asked (up print) = print.rules ∷ []
 
--- one for the name of standard input
-abbrev pub input_count : List ℕ → ℕ
-input_count name = if bytes_eq name (codes "-") then 1 else 0
-
--- how many of the names are that of standard input
-abbrev pub inputs_among : List (List ℕ) → ℕ
-inputs_among [] = 0
-inputs_among (name ∷ names) = input_count name + inputs_among names
+-- how many of them are standard input
+abbrev pub inputs_asked : Asked → ℕ
+inputs_asked stored = 0
+inputs_asked (run order) = input_uses order order.files
+inputs_asked (scan order) = input_uses order order.files
+inputs_asked (gen print) = input_count print.rules
+inputs_asked (up print) = input_count print.rules
 
 -- The sources gave the text with this name, whole, which is refused.
 pub record IsTextRefused {S : Type 0} (gives : S → List ℕ → PlainInput → S → Type 0) (Refuses : List ℕ → Type 0) (name : List ℕ) (before : S) : Type 0 where
@@ -81,14 +129,48 @@ abbrev pub AreRulesRefused : {S : Type 0} → (S → List ℕ → PlainInput →
 AreRulesRefused gives before stored failure = HasNoTables stored_specification failure
 AreRulesRefused gives before (run order) failure = IsTextRefused gives (λ text. HasNoTables text failure) order.rules before
 AreRulesRefused gives before (scan order) failure = IsTextRefused gives (λ text. IsNoTable text failure) order.rules before
-AreRulesRefused gives before (gen name) failure = IsTextRefused gives (λ text. HasNoTables text failure) name before
-AreRulesRefused gives before (up name) failure = IsTextRefused gives (λ text. IsNoTable text failure) name before
+AreRulesRefused gives before (gen print) failure = IsTextRefused gives (λ text. HasNoTables text failure) print.rules before
+AreRulesRefused gives before (up print) failure = IsTextRefused gives (λ text. IsNoTable text failure) print.rules before
 
--- the names of a listing's files are refused
-abbrev pub AreNamesRefused : PlainOrder → Failure → Type 0
-AreNamesRefused order failure =
+-- the words of a listing are refused
+abbrev pub AreWordsRefused : PlainOrder → Failure → Type 0
+AreWordsRefused order failure =
     ((failure ≡ TooManyFiles) × (max_files < length order.files))
-    ⊎ ((failure ≡ InputTwice) × (1 < inputs_among (order.rules ∷ order.files)))
+    ⊎ (((failure ≡ InputTwice) × (1 < input_uses order order.files))
+    ⊎ ((fault : RequestFault) × (failure ≡ Refused fault) × IsWordsFault order fault))
+
+-- The sources gave the text with the order's first name, whole, which has these tables; and this holds of them then.
+pub record RulesGiven {S : Type 0} (gives : S → List ℕ → PlainInput → S → Type 0) (AreTables : List ℕ → Table → Type 0) (order : PlainOrder) (before : S) (Holds : Table → S → Type 0) : Type 0 where
+  pub text : List ℕ
+  pub between : S
+  pub given : gives before order.rules (whole text) between
+  pub table : Table
+  pub tables : AreTables text table
+  pub holds : Holds table between
+
+-- a listing was refused once its specification or its tables were taken
+abbrev pub IsRefusedLater : {S : Type 0} → (S → List ℕ → PlainInput → S → Type 0) → S → Asked → Failure → Type 0
+IsRefusedLater gives before stored failure = ⊥
+IsRefusedLater gives before (run order) failure = RulesGiven gives AreTablesOfText order before (λ table between. IsListingRefused gives order table between failure)
+IsRefusedLater gives before (scan order) failure = RulesGiven gives AreTablesIn order before (λ table between. IsListingRefused gives order table between failure)
+IsRefusedLater gives before (gen print) failure = ⊥
+IsRefusedLater gives before (up print) failure = ⊥
+
+-- `-o` is given, and no files can be made
+abbrev pub IsTargetRefused : PlainPrint → RequestFault → Type 0
+IsTargetRefused print fault = (fault ≡ NoTargets) × (print.target ≢ None)
+
+-- why the text of tables isn't put into a file
+abbrev pub IsPlacingFault : Failure → Type 0
+IsPlacingFault failure = (failure ≡ Refused NoTargets) ⊎ ((failure ≡ Output) ⊎ (failure ≡ Memory))
+
+-- the words on the form of a listing, on its files, or on the file of `-o` are refused
+abbrev pub IsFormRefused : Asked → RequestFault → Type 0
+IsFormRefused stored fault = ⊥
+IsFormRefused (run order) fault = IsWordsFault order fault
+IsFormRefused (scan order) fault = IsWordsFault order fault
+IsFormRefused (gen print) fault = IsTargetRefused print fault
+IsFormRefused (up print) fault = IsTargetRefused print fault
 
 -- why what the words ask for was not done
 abbrev pub HasCause : {S : Type 0} → (S → List ℕ → PlainInput → S → Type 0) → S → Asked → Failure → Type 0
@@ -96,9 +178,10 @@ HasCause gives before asked (Specification fault) = AreRulesRefused gives before
 HasCause gives before asked (Automaton fault) = AreRulesRefused gives before asked (Automaton fault)
 HasCause gives before asked (Tables fault) = AreRulesRefused gives before asked (Tables fault)
 HasCause gives before asked (Words error) = ⊥
-HasCause gives before asked TooManyFiles = max_files < length (files_asked asked)
-HasCause gives before asked InputTwice = 1 < inputs_among (names_asked asked)
-HasCause gives before asked (NotRead name) = Contains (names_asked asked) name.now
+HasCause gives before asked TooManyFiles = (max_files < length (files_asked asked)) ⊎ IsRefusedLater gives before asked TooManyFiles
+HasCause gives before asked InputTwice = (1 < inputs_asked asked) ⊎ IsRefusedLater gives before asked InputTwice
+HasCause gives before asked (Refused fault) = IsFormRefused asked fault ⊎ IsRefusedLater gives before asked (Refused fault)
+HasCause gives before asked (NotRead name) = Contains (names_asked asked) name.now ⊎ IsRefusedLater gives before asked (NotRead name)
 HasCause gives before asked Output = ⊥
 HasCause gives before asked Memory = ⊥
 

@@ -7,7 +7,7 @@ use Rattle.lx_tables.specs.declared.fault.TableFault.TheVariants as table
 use Rattle.lx_tool.specs.Planning.{AreBytes}
 use Rattle.lx_tool.specs.Sources.{AreGiven, cut_names}
 use Rattle.lx_tool.specs.declared.failure.Failure.{Failure}
-use Rattle.lx_tool.specs.declared.failure.Failure.TheVariants.{Specification, Automaton, Tables, Words, TooManyFiles, InputTwice, NotRead, Output, Memory}
+use Rattle.lx_tool.specs.declared.failure.Failure.TheVariants.{Specification, Automaton, Tables, Words, TooManyFiles, InputTwice, Refused, NotRead, Output, Memory}
 
 -- The sources gave these inputs for these names, in this order; `cut` names those that were cut short.
 pub record AreRead {S : Type 0} (gives : S → List ℕ → PlainInput → S → Type 0) (names : List (List ℕ)) (before after : S) (inputs : List PlainInput) (cut : List (List ℕ)) : Type 0 where
@@ -41,6 +41,7 @@ IsUnread names (Tables fault) = ⊥
 IsUnread names (Words error) = ⊥
 IsUnread names TooManyFiles = ⊥
 IsUnread names InputTwice = ⊥
+IsUnread names (Refused fault) = ⊥
 IsUnread names (NotRead name) = Contains names name.now
 IsUnread names Output = ⊥
 IsUnread names Memory = ⊤
@@ -53,6 +54,7 @@ IsNoTable text (Tables fault) = (fault ≡ table.NoTables) × IsNoText text
 IsNoTable text (Words error) = ⊥
 IsNoTable text TooManyFiles = ⊥
 IsNoTable text InputTwice = ⊥
+IsNoTable text (Refused fault) = ⊥
 IsNoTable text (NotRead name) = ⊥
 IsNoTable text Output = ⊥
 IsNoTable text Memory = ⊤
@@ -71,6 +73,7 @@ FailsListing Refused Part names before after old new (Tables fault) = Refused (T
 FailsListing Refused Part names before after old new (Words error) = ⊥
 FailsListing Refused Part names before after old new TooManyFiles = ⊥
 FailsListing Refused Part names before after old new InputTwice = ⊥
+FailsListing Refused Part names before after old new (Refused fault) = ⊥
 FailsListing Refused Part names before after old new (NotRead name) = Contains names name.now × Keeps old new
 FailsListing Refused Part names before after old new Output = Part
 FailsListing Refused Part names before after old new Memory = Keeps old new ⊎ Part

@@ -3,11 +3,15 @@ use Rattle.std.specs.Prelude.{◌≡◌, ℕ, ◌<◌, List, Option, All, length
 use Rattle.std.specs.Io.KnownBytes.{Appends}
 use Rattle.lx_rules.specs.Plain.{PlainSpec}
 use Rattle.lx_spec.specs.Whole.{IsRead}
-use Rattle.lx_tables.specs.Model.{Table, IsTable}
+use Rattle.lx_tables.specs.Model.{Table, IsTable, AreTablesOf}
 use Rattle.lx_tables.specs.Reading.{IsTextOf}
 use Rattle.lx_scan.specs.ByRules.{AreItemsBy}
 use Rattle.lx_piece.specs.Plans.{PlainInput, Planned, bytes_of, items_of, kinds_of}
 use Rattle.lx_lines.specs.Listings.{AppendsPrefix, listing_of}
+use Rattle.lx_forms.specs.Forms.{PlainForm}
+use Rattle.lx_forms.specs.FormListings.{listing_in}
+use Rattle.lx_words.specs.CommandLine.{PlainFormWords}
+use Rattle.lx_tool.specs.Naming.{IsFormOf}
 
 -- what was read of files are bytes
 abbrev pub AreBytes : List PlainInput → Type 0
@@ -71,3 +75,41 @@ pub record ListsPrefixByText (text : List ℕ) (inputs : List PlainInput) (old n
   pub is_table : IsTable table
   pub of_text : IsTextOf table text
   pub listed : ListsPrefixBy table inputs old new
+
+-- ---- in the form that words ask for
+
+-- What was written is this form of the items of these files by the tables.
+pub record ListsIn (form : PlainForm) (table : Table) (inputs : List PlainInput) (old new : Option (List ℕ)) : Type 0 where
+  pub plan : Planned
+  pub by_tables : IsPlanBy table inputs plan
+  pub wrote : Appends old new (listing_in form plan)
+
+-- A prefix of that was written.
+pub record ListsPrefixIn (form : PlainForm) (table : Table) (inputs : List PlainInput) (old new : Option (List ℕ)) : Type 0 where
+  pub plan : Planned
+  pub by_tables : IsPlanBy table inputs plan
+  pub wrote : AppendsPrefix old new (listing_in form plan)
+
+-- What was written is the form that the words ask for, of the items of these files with these names, by the tables.
+pub record ListsAsked (words : PlainFormWords) (table : Table) (names : List (List ℕ)) (inputs : List PlainInput) (old new : Option (List ℕ)) : Type 0 where
+  pub form : PlainForm
+  pub asked : IsFormOf words table names form
+  pub listed : ListsIn form table inputs old new
+
+-- The same of the items by the rules of the specification that the text says; what `--only` lists is judged by tables of it.
+pub record ListsByRulesIn (words : PlainFormWords) (text : List ℕ) (names : List (List ℕ)) (inputs : List PlainInput) (old new : Option (List ℕ)) : Type 0 where
+  pub spec : PlainSpec
+  pub read : IsRead text spec
+  pub plan : Planned
+  pub by_rules : IsPlanByRules spec inputs plan
+  pub of_spec : AreTablesOf spec plan.table
+  pub form : PlainForm
+  pub asked : IsFormOf words plan.table names form
+  pub wrote : Appends old new (listing_in form plan)
+
+-- And by the tables whose text it is.
+pub record ListsByTextIn (words : PlainFormWords) (text : List ℕ) (names : List (List ℕ)) (inputs : List PlainInput) (old new : Option (List ℕ)) : Type 0 where
+  pub table : Table
+  pub is_table : IsTable table
+  pub of_text : IsTextOf table text
+  pub listed : ListsAsked words table names inputs old new

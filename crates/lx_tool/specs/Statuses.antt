@@ -10,8 +10,13 @@ use Rattle.lx_tables.specs.declared.fault.TableFault.{TableFault}
 use Rattle.lx_tables.specs.declared.fault.TableFault.TheVariants as table
 use Rattle.lx_post.specs.declared.run_fault.RunFault.{RunFault}
 use Rattle.lx_post.specs.declared.run_fault.RunFault.TheVariants as run
+use Rattle.lx_forms.specs.declared.choosing.ChoiceFault.{ChoiceFault}
+use Rattle.lx_forms.specs.declared.choosing.ChoiceFault.TheVariants as choice
 use Rattle.lx_tool.specs.declared.failure.Failure.{Failure}
-use Rattle.lx_tool.specs.declared.failure.Failure.TheVariants.{Specification, Automaton, Tables, Words, TooManyFiles, InputTwice, NotRead, Output, Memory}
+use Rattle.lx_tool.specs.declared.failure.Failure.TheVariants.{Specification, Automaton, Tables, Words, TooManyFiles, InputTwice, Refused, NotRead, Output, Memory}
+use Rattle.lx_tool.specs.declared.target.TargetFault.{TargetFault}
+use Rattle.lx_tool.specs.declared.target.TargetFault.TheVariants as target
+use Rattle.lx_tool.specs.declared.failure.RequestFault.TheVariants.{NoKind, EmptyKind, NoTargets}
 
 -- the exit status of a command that is not done
 abbrev pub status_of : Failure → ℕ
@@ -21,6 +26,7 @@ status_of (Tables fault) = 1
 status_of (Words error) = 2
 status_of TooManyFiles = 2
 status_of InputTwice = 2
+status_of (Refused fault) = 2
 status_of (NotRead name) = 3
 status_of Output = 4
 status_of Memory = 5
@@ -34,6 +40,18 @@ pub record HasStatusOfCut {X : Type 0} (status : ℕ) (cut : List X) : Type 0 wh
 abbrev pub failure_of_run : RunFault → Failure
 failure_of_run run.Memory = Memory
 failure_of_run run.Reader = Output
+
+-- why a listing is not done whose `--only` is refused
+abbrev pub failure_of_choice : ChoiceFault → Failure
+failure_of_choice (choice.NoKind word) = Refused (NoKind word)
+failure_of_choice choice.NoName = Refused EmptyKind
+failure_of_choice choice.Memory = Memory
+
+-- why a text isn't put into a file
+abbrev pub failure_of_target : TargetFault → Failure
+failure_of_target target.NotServed = Refused NoTargets
+failure_of_target target.NotWritten = Output
+failure_of_target target.Memory = Memory
 
 -- A fault of a specification is answered as it is, but where memory was refused.
 abbrev pub AnswersFault : SpecFault → Failure → Type 0
@@ -58,6 +76,7 @@ HidesNoMemory (Tables fault) = fault ≢ table.Memory
 HidesNoMemory (Words error) = kind_of error ≢ kind.OutOfMemory
 HidesNoMemory TooManyFiles = ⊤
 HidesNoMemory InputTwice = ⊤
+HidesNoMemory (Refused fault) = ⊤
 HidesNoMemory (NotRead name) = ⊤
 HidesNoMemory Output = ⊤
 HidesNoMemory Memory = ⊤

@@ -14,13 +14,17 @@ use Rattle.lx_tables.specs.Reading.{IsTextOf, IsNoText}
 use Rattle.lx_tables.specs.Texts.{text_2}
 use Rattle.lx_tables.specs.declared.fault.TableFault.TheVariants as table
 use Rattle.lx_tool.specs.declared.failure.Failure.{Failure}
-use Rattle.lx_tool.specs.declared.failure.Failure.TheVariants.{Specification, Automaton, Tables, Words, TooManyFiles, InputTwice, NotRead, Output, Memory}
+use Rattle.lx_tool.specs.declared.failure.Failure.TheVariants.{Specification, Automaton, Tables, Words, TooManyFiles, InputTwice, Refused, NotRead, Output, Memory}
 
 -- Tables of the specification that a text says.
 pub record AreTablesOfText (text : List ℕ) (tables : Table) : Type 0 where
   pub spec : PlainSpec
   pub read : IsRead text spec
   pub of_spec : AreTablesOf spec tables
+
+-- The text is these tables'.
+abbrev pub AreTablesIn : List ℕ → Table → Type 0
+AreTablesIn text table = IsTable table × IsTextOf table text
 
 -- The text says a specification that is too large: of positions, or of reached sets.
 pub record IsTooLarge (text : List ℕ) (fault : BuildFault) : Type 0 where
@@ -38,6 +42,7 @@ HasNoTables text (Tables fault) = ⊥
 HasNoTables text (Words error) = ⊥
 HasNoTables text TooManyFiles = ⊥
 HasNoTables text InputTwice = ⊥
+HasNoTables text (Refused fault) = ⊥
 HasNoTables text (NotRead name) = ⊥
 HasNoTables text Output = ⊥
 HasNoTables text Memory = ⊤
@@ -62,6 +67,7 @@ FailsGenerating text old new (Tables fault) = ⊥
 FailsGenerating text old new (Words error) = ⊥
 FailsGenerating text old new TooManyFiles = ⊥
 FailsGenerating text old new InputTwice = ⊥
+FailsGenerating text old new (Refused fault) = ⊥
 FailsGenerating text old new (NotRead name) = ⊥
 FailsGenerating text old new Output = GeneratesPrefix text old new
 FailsGenerating text old new Memory = Keeps old new
@@ -88,6 +94,7 @@ FailsUpgrading text old new (Tables fault) = (fault ≡ table.NoTables) × IsNoT
 FailsUpgrading text old new (Words error) = ⊥
 FailsUpgrading text old new TooManyFiles = ⊥
 FailsUpgrading text old new InputTwice = ⊥
+FailsUpgrading text old new (Refused fault) = ⊥
 FailsUpgrading text old new (NotRead name) = ⊥
 FailsUpgrading text old new Output = UpgradesPrefix text old new
 FailsUpgrading text old new Memory = Keeps old new

@@ -4,12 +4,40 @@ ghost use Rattle.std.specs.Prelude.{◌≡◌};
 ghost use Rattle.lx_tool.specs.Statuses.{status_of};
 
 use clap::Error as WordsError;
+use crate::target::TargetFault;
 use lx_auto::BuildFault;
+use lx_forms::ChoiceFault;
 use lx_post::RunFault;
 use lx_spec::fault::{Code, SpecFault};
 use lx_tables::TableFault;
 use std::alloc::{AllocError, AllocFailed};
 use thiserror::Error;
+
+/// Why what the words ask for is refused.
+#[derive(Clone, Copy, Debug, Error)]
+pub enum RequestFault<'a> {
+    /// `--only` lists a kind that no action of the tables returns.
+    #[error("no kind {0}")]
+    NoKind(&'a str),
+    /// `--only` lists nothing, or an empty name.
+    #[error("--only has an empty name")]
+    EmptyKind,
+    /// `--format` has another word than `text` and `json`.
+    #[error("no format {0}")]
+    NoFormat(&'a str),
+    /// There is no file to be listed.
+    #[error("no file is named")]
+    NoFile,
+    /// What stands in this line of the list of files, counted from 1, is empty or isn't UTF-8.
+    #[error("line {line} of {list} is no name")]
+    NoName { line: usize, list: &'a str },
+    /// `-o` is given, and no files can be made.
+    #[error("-o isn't served here")]
+    NoTargets,
+    /// The last file's number would be above 4,294,967,295.
+    #[error("the number of the last file would be above 4294967295")]
+    NumberTooLarge,
+}
 
 /// Why a command is not done. Its text is the line on the error stream.
 #[derive(Debug, Drop, Error)]
@@ -32,6 +60,9 @@ pub enum Failure<'a> {
     /// Standard input is named twice.
     #[error("lx: - stands twice, and standard input can be read once")]
     InputTwice,
+    /// What the words ask for is refused: the form or the files of a listing, or the file of `-o`.
+    #[error("lx: {0}")]
+    Refused(RequestFault<'a>),
     /// The file with this name can't be read.
     #[error("lx: cannot read {0}")]
     NotRead(&'a str),
@@ -50,7 +81,10 @@ impl Failure<'_> {
     {
         match self {
             Failure::Specification(_) | Failure::Automaton(_) | Failure::Tables(_) => 1,
-            Failure::Words(_) | Failure::TooManyFiles | Failure::InputTwice => 2,
+            Failure::Words(_)
+            | Failure::TooManyFiles
+            | Failure::InputTwice
+            | Failure::Refused(_) => 2,
             Failure::NotRead(_) => 3,
             Failure::Output => 4,
             Failure::Memory => 5,
@@ -87,6 +121,34 @@ impl From<RunFault> for Failure<'_> {
         match fault {
             RunFault::Memory => Failure::Memory,
             RunFault::Reader => Failure::Output,
+        }
+    }
+}
+
+impl<'a> From<ChoiceFault<'a>> for Failure<'a> {
+    ghost use Rattle.lx_tool.specs.Statuses.{failure_of_choice};
+
+    ghost from_gives = { λ fault failure. failure ≡ failure_of_choice fault };
+
+    fn from(fault: ChoiceFault<'a>) -> Self {
+        match fault {
+            ChoiceFault::NoKind(word) => Failure::Refused(RequestFault::NoKind(word)),
+            ChoiceFault::NoName => Failure::Refused(RequestFault::EmptyKind),
+            ChoiceFault::Memory => Failure::Memory,
+        }
+    }
+}
+
+impl From<TargetFault> for Failure<'_> {
+    ghost use Rattle.lx_tool.specs.Statuses.{failure_of_target};
+
+    ghost from_gives = { λ fault failure. failure ≡ failure_of_target fault };
+
+    fn from(fault: TargetFault) -> Self {
+        match fault {
+            TargetFault::NotServed => Failure::Refused(RequestFault::NoTargets),
+            TargetFault::NotWritten => Failure::Output,
+            TargetFault::Memory => Failure::Memory,
         }
     }
 }

@@ -11,7 +11,7 @@ ghost use Rattle.lx_tool.specs.Tabling.{HasNoTables};
 use crate::failure::Failure;
 use crate::planning::list_files;
 use crate::source::{SourceFault, Sources};
-use crate::tabling::tables_of_text;
+use crate::tabling::{read_tables, tables_of_text};
 use lx_lines::LineWrites;
 use lx_piece::Input;
 use lx_scan::ruling::items_are_by_rules;
@@ -99,16 +99,16 @@ fn names_of_cut<'a>(
     Ok(cut)
 }
 
-// What sources gave for names.
+/// What sources gave for names.
 #[derive(Drop)]
-struct Given<'a> {
-    files: Vec<Input>,
-    // The names of those that were cut short.
-    cut: Vec<&'a str>,
+pub(crate) struct Given<'a> {
+    pub(crate) files: Vec<Input>,
+    /// The names of those that were cut short.
+    pub(crate) cut: Vec<&'a str>,
 }
 
-// Reads all files with these names.
-fn read_given<'a, S: Sources>(
+/// Reads all files with these names.
+pub(crate) fn read_given<'a, S: Sources>(
     alloc: Global,
     sources: &mut S,
     names: &[&'a str],
@@ -207,9 +207,7 @@ pub fn list_by_tables<'a, T: Threads + Wait + Sync, S: Sources, W: Write>(
     ensures ok { IfOk result (λ cut. ListsGiven S.gives (ListsByText text.now) (texts_of names.now) sources.old sources.new (W.contents out.old) (W.contents out.new) (texts_of cut.items)) }
     ensures err { IfErr result (FailsGiven S.gives (IsNoTable text.now) (ListsPrefixByText text.now) (texts_of names.now) sources.old sources.new (W.contents out.old) (W.contents out.new)) }
 {
-    let tables = Tables::read(alloc, text)?;
-    // its contract says what holds of all tables
-    let _conditions = tables.conditions();
+    let tables = read_tables(alloc, text)?;
     list_given(
         rt, alloc, tables, names, workers, per_piece, sources, writes, out,
     )

@@ -1,7 +1,7 @@
 //! The program `lx`, but for the real files and streams: the listing, the tables and the command line.
 #![tactic(auto)]
 
-mod command_line;
+mod asked;
 mod failure;
 mod given;
 mod merged;
@@ -11,15 +11,16 @@ mod program;
 mod reading;
 mod source;
 mod tabling;
-mod version;
+mod target;
 
-pub use failure::Failure;
+pub use failure::{Failure, RequestFault};
 pub use given::{list_by_specification, list_by_tables};
 pub use lx_lines::{LineWrites, Listing, list_plan, print_listing};
+pub use lx_words::VERSION;
 pub use output::Output;
-pub use planning::{list_files, listings_are_by_rules, printed_tables_list_by_rules};
+pub use planning::{list_files, list_files_in, listings_are_by_rules, printed_tables_list_by_rules};
 pub use program::{run, run_with};
 pub use reading::read_to_end;
 pub use source::{ListSources, STANDARD_INPUT, SourceFault, Sources};
 pub use tabling::{generate, tables_of_text, upgrade};
-pub use version::VERSION;
+pub use target::{NoTargets, TargetFault, Targets};

@@ -5,9 +5,11 @@ ghost use Rattle.lx_piece.specs.Plans.{PlainInput, input_view, max_files, max_it
 ghost use Rattle.lx_post.specs.Claimed.{max_workers};
 ghost use Rattle.lx_tables.specs.Model.{Table, IsTable};
 ghost use Rattle.lx_tables.specs.Reading.{IsTextOf};
-ghost use Rattle.lx_tool.specs.Planning.{AreBytes, ListsBy, ListsPrefixBy, ListsByRules};
+ghost use Rattle.lx_forms.specs.Views.{form_view};
+ghost use Rattle.lx_tool.specs.Planning.{AreBytes, ListsBy, ListsByRules, ListsIn, ListsPrefixBy, ListsPrefixIn};
 ghost use Rattle.lx_tool.specs.Tabling.{AreTablesOfText};
 
+use lx_forms::{Form, list_plan_in};
 use lx_lines::{LineWrites, list_plan};
 use lx_piece::{Input, Plan};
 use lx_post::RunFault;
@@ -44,6 +46,30 @@ pub fn list_files<T: Threads + Wait + Sync, W: Write>(
 {
     let plan = Plan::new(tables, files, per_piece, RUN);
     list_plan(rt, alloc, &plan, workers, writes, out)
+}
+
+/// The same in a form.
+pub fn list_files_in<T: Threads + Wait + Sync, W: Write>(
+    rt: &T,
+    alloc: Global,
+    tables: Tables,
+    files: Vec<Input>,
+    per_piece: u32,
+    workers: u8,
+    form: &Form<'_>,
+    writes: LineWrites,
+    out: &mut W,
+) -> Result<(), RunFault>
+    requires some_files { 0 < vec_len files }
+    requires few_files { vec_len files ≤ max_files }
+    requires some_items { 0 < per_piece }
+    requires few_items { per_piece ≤ max_items }
+    requires few_workers { workers ≤ max_workers }
+    ensures ok { OnOk result (ListsIn (form_view form.now) tables (map input_view files.items) (W.contents out.old) (W.contents out.new)) }
+    ensures err { OnErr result (ListsPrefixIn (form_view form.now) tables (map input_view files.items) (W.contents out.old) (W.contents out.new)) }
+{
+    let plan = Plan::new(tables, files, per_piece, RUN);
+    list_plan_in(rt, alloc, &plan, workers, form, writes, out)
 }
 
 /// A law: what is listed by tables of the specification that a text says are the items by its rules.

@@ -2,24 +2,29 @@
 
 ghost use Rattle.std.specs.Prelude.{◌≡◌, ◌<◌, ◌≤◌, [], ◌∷◌, Some, IfOk, IfErr, OnOk, IfSome, length};
 ghost use Rattle.std.specs.Io.KnownBytes.{Keeps};
-ghost use Rattle.lx_tool.specs.CommandLine.{asked_as, asked_by, plain_order, run as run-asked, scan as scan-asked, gen as gen-asked, up as up-asked, words_of};
-ghost use Rattle.lx_tool.specs.Commands.{AreNamesRefused, HasDone, HasEnded, HasFailed, HasObeyed, input_count, inputs_among, stored_specification, stored_text};
-ghost use Rattle.lx_piece.specs.Plans.{max_files};
+ghost use Rattle.lx_words.specs.CommandLine.{asked_as, asked_by, plain_order, plain_print, run as run-asked, scan as scan-asked, gen as gen-asked, up as up-asked, words_of};
+ghost use Rattle.lx_tool.specs.Commands.{HasDone, HasEnded, HasFailed, HasObeyed, HasPlaced, IsPlacingFault, stored_specification, stored_text};
+ghost use Rattle.lx_tables.specs.Texts.{text_2};
 ghost use Rattle.lx_tool.specs.Planning.{ListsByRules};
 ghost use Rattle.lx_tool.specs.Sources.{texts_of, whole};
 ghost use Rattle.lx_tool.specs.Statuses.{HasStatusOfCut, status_of};
 ghost use Rattle.lx_tool.specs.Tabling.{HasNoTables};
 
-use crate::command_line::{ALONE, ITEMS, ListRequest, Refusal, Request, read_words};
+use crate::asked::{judge_words, list_asked};
 use crate::failure::Failure;
-use crate::given::{list_by_specification, list_by_tables, read_whole};
+use crate::given::read_whole;
 use crate::output::Output;
 use crate::planning::{list_files, listings_are_by_rules};
-use crate::source::{STANDARD_INPUT, Sources, make_input};
-use crate::tabling::{generate, tables_of_text, upgrade};
+use crate::source::{Sources, make_input};
+use crate::tabling::{generate, read_tables, tables_of_text, upgrade};
+use crate::target::{NoTargets, Targets};
 use lx_lines::LineWrites;
 use lx_piece::MAX_FILES;
+use lx_scan::ruling::items_are_by_rules;
+use lx_tables::Tables;
+use lx_words::{ALONE, ITEMS, ListRequest, PrintWords, Refusal, Request, read_words};
 use std::alloc::Global;
+use std::io;
 use std::io::Write;
 use std::sync::Wait;
 use std::thread::Threads;
@@ -37,7 +42,7 @@ static STORED_TEXT: &[u8] = b"ab 12\n";
 /// The result is the exit status: 0, all was done; 1, the specification was refused, or is too large for an automaton, or the tables
 /// were refused; 2, the command line was refused; 3, a file can't be read, or all was listed and a file was cut short; 4, the output
 /// failed; 5, memory was refused.
-/// Each line of a listing goes out in a write of its own.
+/// Each line of a listing goes out in a write of its own, and no file is made: `-o` is refused.
 pub fn run<R: Threads + Wait + Sync, S: Sources, O: Write, E: Write>(
     rt: &R,
     alloc: Global,
@@ -53,34 +58,60 @@ pub fn run<R: Threads + Wait + Sync, S: Sources, O: Write, E: Write>(
     ensures ended { 0 < result → result < 4 →
         HasEnded S.gives (asked_by (words_of words.now)) sources.old sources.new (O.contents out.old) (O.contents out.new) result }
 {
-    let ended = execute(rt, alloc, words, sources, LineWrites::EachLine, out);
-    tell(ended, sources, false, err)
+    let mut list = Vec::new(alloc);
+    let mut targets = NoTargets;
+    let ended = execute(
+        rt,
+        alloc,
+        words,
+        sources,
+        &mut targets,
+        &mut list,
+        LineWrites::EachLine,
+        out,
+    );
+    tell(ended, sources, &targets, false, err)
 }
 
-/// The same, where the lines of a listing are written a block of them at once, and no line tells of an output whose other end was closed.
-pub fn run_with<R: Threads + Wait + Sync, S: Sources, O: Write + Output, E: Write>(
+/// The same, where files are made by `targets`, the lines of a listing are written a block of them at once, and no line tells of an output
+/// whose other end was closed.
+pub fn run_with<R: Threads + Wait + Sync, S: Sources, T: Targets, O: Write + Output, E: Write>(
     rt: &R,
     alloc: Global,
     words: &[String],
     sources: &mut S,
+    targets: &mut T,
     out: &mut O,
     err: &mut E,
 ) -> u8
     ensures known { result ≤ 5 }
     ensures done { result ≡ 0 →
         IfSome (asked_by (words_of words.now)) (HasDone S.gives sources.old sources.new (O.contents out.old) (O.contents out.new) []) }
+    // The file of `-o` was made.
+    ensures placed { result ≡ 0 → HasPlaced S.gives T.places sources.old targets.old targets.new (asked_by (words_of words.now)) }
     // All was listed and a file was cut short; or the words, the specification, the tables or a file were refused, and nothing was written.
     ensures ended { 0 < result → result < 4 →
         HasEnded S.gives (asked_by (words_of words.now)) sources.old sources.new (O.contents out.old) (O.contents out.new) result }
 {
-    let ended = execute(rt, alloc, words, sources, LineWrites::Whole, out);
-    tell(ended, sources, out.is_closed(), err)
+    let mut list = Vec::new(alloc);
+    let ended = execute(
+        rt,
+        alloc,
+        words,
+        sources,
+        targets,
+        &mut list,
+        LineWrites::Whole,
+        out,
+    );
+    tell(ended, sources, targets, out.is_closed(), err)
 }
 
 // Says how it ended; the result is the exit status.
-fn tell<S: Sources, E: Write>(
+fn tell<S: Sources, T: Targets, E: Write>(
     ended: Result<Vec<&str>, Failure<'_>>,
     sources: &S,
+    targets: &T,
     is_closed: bool,
     err: &mut E,
 ) -> u8
@@ -91,7 +122,7 @@ fn tell<S: Sources, E: Write>(
         Ok(cut) => tell_cut(&cut, err),
         Err(failure) => {
             if !(is_closed && matches!(failure, Failure::Output)) {
-                tell_failure(&failure, sources, err);
+                tell_failure(&failure, sources, targets, err);
             }
             failure.status()
         }
@@ -99,15 +130,33 @@ fn tell<S: Sources, E: Write>(
 }
 
 // Says why a command is not done. Where memory is refused for a line, it is left out.
-fn tell_failure<S: Sources, E: Write>(failure: &Failure<'_>, sources: &S, err: &mut E) {
+fn tell_failure<S: Sources, T: Targets, E: Write>(
+    failure: &Failure<'_>,
+    sources: &S,
+    targets: &T,
+    err: &mut E,
+) {
     let _ = match failure {
         // Its text ends with a newline.
         Failure::Words(error) => write!(err, "{error}"),
         _ => writeln!(err, "{failure}"),
     };
-    if let Failure::NotRead(_) = failure
-        && let Some(reason) = sources.reason()
-    {
+    match failure {
+        Failure::NotRead(_) => tell_reason(sources.reason(), err),
+        Failure::Output => tell_reason(targets.reason(), err),
+        Failure::TooManyFiles => {
+            let _ = writeln!(
+                err,
+                "lx: at most {MAX_FILES} at once; the listing of more is that of parts of them, each with --first"
+            );
+        }
+        _ => {}
+    }
+}
+
+// Why the system couldn't do it, where that is known.
+fn tell_reason<E: Write>(reason: Option<io::Error>, err: &mut E) {
+    if let Some(reason) = reason {
         let _ = writeln!(err, "lx: {reason}");
     }
 }
@@ -122,20 +171,24 @@ fn tell_cut<E: Write>(cut: &[&str], err: &mut E) -> u8
     if cut.is_empty() { 0 } else { CUT_SHORT }
 }
 
-// Does what the words ask for. The result are the names of the files that were cut short.
-fn execute<'a, R: Threads + Wait + Sync, S: Sources, O: Write>(
+// Does what the words ask for. The text of a list of files stays in `list`, since names lie in it. The result are the names of the files that
+// were cut short.
+fn execute<'a, R: Threads + Wait + Sync, S: Sources, T: Targets, O: Write>(
     rt: &R,
     alloc: Global,
     words: &'a [String],
     sources: &mut S,
+    targets: &mut T,
+    list: &'a mut Vec<u8>,
     writes: LineWrites,
     out: &mut O,
 ) -> Result<Vec<&'a str>, Failure<'a>>
     ensures ok { IfOk result (λ cut. HasObeyed S.gives sources.old sources.new (O.contents out.old) (O.contents out.new) (texts_of cut.items) (asked_by (words_of words.now))) }
+    ensures placed { IfOk result (λ _. HasPlaced S.gives T.places sources.old targets.old targets.new (asked_by (words_of words.now))) }
     ensures err { IfErr result (HasFailed S.gives (asked_by (words_of words.now)) sources.old (O.contents out.old) (O.contents out.new)) }
 {
     let cut = match read_words(alloc, words) {
-        Ok(order) => carry_out(rt, alloc, order, sources, writes, out)?,
+        Ok(order) => carry_out(rt, alloc, order, sources, targets, list, writes, out)?,
         Err(Refusal::Words(error)) => return Err(Failure::Words(error)),
         Err(Refusal::Memory) => return Err(Failure::Memory),
     };
@@ -144,15 +197,18 @@ fn execute<'a, R: Threads + Wait + Sync, S: Sources, O: Write>(
 }
 
 // Does what a request asks for. Nothing but a listing has files.
-fn carry_out<'a, R: Threads + Wait + Sync, S: Sources, O: Write>(
+fn carry_out<'a, R: Threads + Wait + Sync, S: Sources, T: Targets, O: Write>(
     rt: &R,
     alloc: Global,
     order: Request<'a>,
     sources: &mut S,
+    targets: &mut T,
+    list: &'a mut Vec<u8>,
     writes: LineWrites,
     out: &mut O,
 ) -> Result<Vec<&'a str>, Failure<'a>>
     ensures ok { IfOk result (λ cut. HasObeyed S.gives sources.old sources.new (O.contents out.old) (O.contents out.new) (texts_of cut.items) (asked_as order.entry)) }
+    ensures placed { IfOk result (λ _. HasPlaced S.gives T.places sources.old targets.old targets.new (asked_as order.entry)) }
     ensures err { IfErr result (HasFailed S.gives (asked_as order.entry) sources.old (O.contents out.old) (O.contents out.new)) }
 {
     match order {
@@ -164,14 +220,14 @@ fn carry_out<'a, R: Threads + Wait + Sync, S: Sources, O: Write>(
             write!(out, "{text}").map_err(|_| Failure::Output)?;
             Ok(Vec::new(alloc))
         }
-        Request::Run(order) => list_by_rules_of(rt, alloc, &order, sources, writes, out),
-        Request::Scan(order) => list_by_tables_of(rt, alloc, &order, sources, writes, out),
-        Request::Gen(name) => {
-            generate_named(alloc, name, sources, out)?;
+        Request::Run(order) => list_by_rules_of(rt, alloc, &order, sources, list, writes, out),
+        Request::Scan(order) => list_by_tables_of(rt, alloc, &order, sources, list, writes, out),
+        Request::Gen(words) => {
+            generate_named(alloc, words, sources, targets, out)?;
             Ok(Vec::new(alloc))
         }
-        Request::Up(name) => {
-            upgrade_named(alloc, name, sources, out)?;
+        Request::Up(words) => {
+            upgrade_named(alloc, words, sources, targets, out)?;
             Ok(Vec::new(alloc))
         }
     }
@@ -205,65 +261,26 @@ fn list_stored<'a, R: Threads + Wait + Sync, O: Write>(
     Ok(())
 }
 
-// One for the name of standard input.
-fn input(name: &str) -> usize
-    ensures value { result ≡ input_count name.now }
-    ensures few { result ≤ 1 }
-{
-    if name == STANDARD_INPUT { 1 } else { 0 }
-}
-
-// How many of the names are that of standard input.
-fn inputs_among(names: &[&str]) -> usize
-    ensures count { result ≡ inputs_among (texts_of names.now) }
-    ensures few { result ≤ length names.now }
-{
-    let mut count = 0;
-    for name in names {
-        count += input(name);
-    }
-    count
-}
-
-// Refuses the names of more files than can be listed, and standard input where it is named twice.
-fn judge_names<'a>(order: &ListRequest<'a>) -> Result<(), Failure<'a>>
-    ensures ok { OnOk result (length order.now.files.items ≤ max_files) }
-    ensures err { IfErr result (λ failure. AreNamesRefused (plain_order order.now) failure) }
-{
-    if order.files.len() > MAX_FILES {
-        return Err(Failure::TooManyFiles);
-    }
-    if input(order.rules) + inputs_among(&order.files) > 1 {
-        return Err(Failure::InputTwice);
-    }
-    Ok(())
-}
-
 // Lists the request's files by its specification.
 fn list_by_rules_of<'a, R: Threads + Wait + Sync, S: Sources, O: Write>(
     rt: &R,
     alloc: Global,
     order: &ListRequest<'a>,
     sources: &mut S,
+    list: &'a mut Vec<u8>,
     writes: LineWrites,
     out: &mut O,
 ) -> Result<Vec<&'a str>, Failure<'a>>
     ensures ok { IfOk result (λ cut. HasDone S.gives sources.old sources.new (O.contents out.old) (O.contents out.new) (texts_of cut.items) (run-asked (plain_order order.now))) }
     ensures err { IfErr result (HasFailed S.gives (Some (run-asked (plain_order order.now))) sources.old (O.contents out.old) (O.contents out.new)) }
 {
-    judge_names(order)?;
+    items_are_by_rules();
+    judge_words(order)?;
     let text = read_whole(alloc, sources, order.rules)?;
-    list_by_specification(
-        rt,
-        alloc,
-        &text,
-        &order.files,
-        order.workers,
-        order.per_piece,
-        sources,
-        writes,
-        out,
-    )
+    let tables = tables_of_text(alloc, &text)?;
+    // its contract says what holds of all tables
+    let _conditions = tables.conditions();
+    list_asked(rt, alloc, tables, order, sources, list, writes, out)
 }
 
 // Lists the request's files by its tables.
@@ -272,51 +289,72 @@ fn list_by_tables_of<'a, R: Threads + Wait + Sync, S: Sources, O: Write>(
     alloc: Global,
     order: &ListRequest<'a>,
     sources: &mut S,
+    list: &'a mut Vec<u8>,
     writes: LineWrites,
     out: &mut O,
 ) -> Result<Vec<&'a str>, Failure<'a>>
     ensures ok { IfOk result (λ cut. HasDone S.gives sources.old sources.new (O.contents out.old) (O.contents out.new) (texts_of cut.items) (scan-asked (plain_order order.now))) }
     ensures err { IfErr result (HasFailed S.gives (Some (scan-asked (plain_order order.now))) sources.old (O.contents out.old) (O.contents out.new)) }
 {
-    judge_names(order)?;
+    judge_words(order)?;
     let text = read_whole(alloc, sources, order.rules)?;
-    list_by_tables(
-        rt,
-        alloc,
-        &text,
-        &order.files,
-        order.workers,
-        order.per_piece,
-        sources,
-        writes,
-        out,
-    )
+    let tables = read_tables(alloc, &text)?;
+    list_asked(rt, alloc, tables, order, sources, list, writes, out)
 }
 
-// Prints the tables of the specification with this name.
-fn generate_named<'a, S: Sources, O: Write>(
+// Puts the text of tables into a file, in version 2.
+fn place_tables<'a, T: Targets>(
     alloc: Global,
-    name: &'a str,
-    sources: &mut S,
-    out: &mut O,
+    tables: &Tables,
+    target: &str,
+    targets: &mut T,
 ) -> Result<(), Failure<'a>>
-    ensures ok { OnOk result (HasDone S.gives sources.old sources.new (O.contents out.old) (O.contents out.new) [] (gen-asked name.now)) }
-    ensures err { IfErr result (HasFailed S.gives (Some (gen-asked name.now)) sources.old (O.contents out.old) (O.contents out.new)) }
+    ensures ok { OnOk result (T.places targets.old target.now (text_2 tables.now) targets.new) }
+    ensures err { IfErr result IsPlacingFault }
 {
-    let text = read_whole(alloc, sources, name)?;
-    generate(alloc, &text, out)
+    let mut text = Vec::new(alloc);
+    // a list refuses a write for want of memory alone
+    if tables.print(&mut text).is_err() {
+        return Err(Failure::Memory);
+    }
+    targets.place(target, &text)?;
+    Ok(())
 }
 
-// Prints the tables whose text has this name in version 2.
-fn upgrade_named<'a, S: Sources, O: Write>(
+// Prints the tables of the specification, or puts them into a file.
+fn generate_named<'a, S: Sources, T: Targets, O: Write>(
     alloc: Global,
-    name: &'a str,
+    words: PrintWords<'a>,
     sources: &mut S,
+    targets: &mut T,
     out: &mut O,
 ) -> Result<(), Failure<'a>>
-    ensures ok { OnOk result (HasDone S.gives sources.old sources.new (O.contents out.old) (O.contents out.new) [] (up-asked name.now)) }
-    ensures err { IfErr result (HasFailed S.gives (Some (up-asked name.now)) sources.old (O.contents out.old) (O.contents out.new)) }
+    ensures ok { OnOk result (HasDone S.gives sources.old sources.new (O.contents out.old) (O.contents out.new) [] (gen-asked (plain_print words))) }
+    ensures placed { OnOk result (HasPlaced S.gives T.places sources.old targets.old targets.new (Some (gen-asked (plain_print words)))) }
+    ensures err { IfErr result (HasFailed S.gives (Some (gen-asked (plain_print words))) sources.old (O.contents out.old) (O.contents out.new)) }
 {
-    let text = read_whole(alloc, sources, name)?;
-    upgrade(alloc, &text, out)
+    let text = read_whole(alloc, sources, words.rules)?;
+    match words.target {
+        Some(target) => place_tables(alloc, &tables_of_text(alloc, &text)?, target, targets),
+        None => generate(alloc, &text, out),
+    }
+}
+
+// Prints tables in version 2, or puts them into a file.
+fn upgrade_named<'a, S: Sources, T: Targets, O: Write>(
+    alloc: Global,
+    words: PrintWords<'a>,
+    sources: &mut S,
+    targets: &mut T,
+    out: &mut O,
+) -> Result<(), Failure<'a>>
+    ensures ok { OnOk result (HasDone S.gives sources.old sources.new (O.contents out.old) (O.contents out.new) [] (up-asked (plain_print words))) }
+    ensures placed { OnOk result (HasPlaced S.gives T.places sources.old targets.old targets.new (Some (up-asked (plain_print words)))) }
+    ensures err { IfErr result (HasFailed S.gives (Some (up-asked (plain_print words))) sources.old (O.contents out.old) (O.contents out.new)) }
+{
+    let text = read_whole(alloc, sources, words.rules)?;
+    match words.target {
+        Some(target) => place_tables(alloc, &read_tables(alloc, &text)?, target, targets),
+        None => upgrade(alloc, &text, out),
+    }
 }

@@ -3,7 +3,8 @@
 ghost use Rattle.std.specs.Prelude.{◌≡◌, IfOk, IfErr, OnOk};
 ghost use Rattle.lx_tables.specs.Output.{Wrote, WrotePrefix};
 ghost use Rattle.lx_tables.specs.Texts.{text_2};
-ghost use Rattle.lx_tool.specs.Tabling.{AreTablesOfText, HasNoTables, Generates, FailsGenerating, Upgrades, FailsUpgrading};
+ghost use Rattle.lx_tool.specs.Given.{IsNoTable};
+ghost use Rattle.lx_tool.specs.Tabling.{AreTablesIn, AreTablesOfText, HasNoTables, Generates, FailsGenerating, Upgrades, FailsUpgrading};
 
 use crate::failure::Failure;
 use crate::merged::merged_automaton;
@@ -21,6 +22,17 @@ pub fn tables_of_text<'a>(alloc: Global, text: &[u8]) -> Result<Tables, Failure<
     let spec = read_spec(alloc, text)?;
     let automaton = merged_automaton(alloc, &spec)?;
     Ok(Tables::of(alloc, &spec, &automaton)?)
+}
+
+/// Reads tables from either version of their text; B01 comes where it is no table's.
+pub(crate) fn read_tables<'a>(alloc: Global, text: &[u8]) -> Result<Tables, Failure<'a>>
+    ensures ok { IfOk result (λ tables. AreTablesIn text.now tables) }
+    ensures err { IfErr result (λ failure. IsNoTable text.now failure) }
+{
+    let tables = Tables::read(alloc, text)?;
+    // its contract says what holds of all tables
+    let _conditions = tables.conditions();
+    Ok(tables)
 }
 
 // Writes version 2 of the text of tables.

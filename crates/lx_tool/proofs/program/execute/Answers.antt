@@ -1,5 +1,5 @@
 use Rattle.std.proofs.Common.{map}
-use Rattle.lx_tool.specs.CommandLine.{asked_as}
+use Rattle.lx_words.specs.CommandLine.{asked_as}
 use Rattle.lx_tool.proofs.Obeyed.{obeyed_kept}
 use Rattle.lx_tool.proofs.program.execute.Goals as goal
 

@@ -1,16 +1,42 @@
 use Rattle.std.proofs.lemmas.Result.{IfErr-weaker, IfOk-weaker}
-use Rattle.lx_tool.specs.CommandLine.{plain_order}
-use Rattle.lx_tool.proofs.Obeyed.{run_refused}
+use Rattle.lx_words.specs.CommandLine.{plain_order, run}
+use Rattle.lx_tool.specs.Planning.{ListsAsked, ListsByRulesIn}
+use Rattle.lx_tool.proofs.GivenListed.{listed_as_well}
+use Rattle.lx_tool.proofs.Obeyed.{later_refused}
+use Rattle.lx_tool.proofs.Planned.{GiveItems, asked_by_rules}
 use Rattle.lx_tool.proofs.program.list_by_rules_of.Goals as goal
 
 pub returns-clause-ok : goal.returns-clause-ok
 returns-clause-ok g c =
-    IfOk-weaker c.list_by_specification.result _ _ (λ cut h. record { text = c.in_ok-text.text.items; between = c.read_whole.new.sources; given = c.in_ok-text.ensures.ok; listed = rw (c.deref.ensures.value, c.deref-2.ensures.value) at h })
-    c.list_by_specification.ensures.ok
+    let gives = g.S.Sources.gives in
+    let order = plain_order c.args.order.now in
+    let old = g.O.Write.contents c.args.out.now in
+    let new = g.O.Write.contents c.list_asked.new.out in
+    let text = c.in_ok-text.text.items in
+    let table = c.in_ok-tables.tables in
+    let law : GiveItems = record { by_rules = c.items_are_by_rules.ensures } in
+    IfOk-weaker c.list_asked.result _ _
+    (λ cut h. record {
+      text = text;
+      between = c.read_whole.new.sources;
+      given = c.in_ok-text.ensures.ok;
+      names = h.names;
+      behind = h.behind;
+      named = h.named;
+      listed = listed_as_well gives (λ inputs. ListsAsked order.form table h.names inputs old new) (λ inputs. ListsByRulesIn order.form text h.names inputs old new)
+      (λ inputs. asked_by_rules order.form text table h.names inputs old new law c.conditions-conditions.ensures.table c.in_ok-tables.ensures.ok) h.names h.behind c.list_asked.new.sources _ h.listed;
+    })
+    c.list_asked.ensures.ok
 
 pub returns-clause-err : goal.returns-clause-err
 returns-clause-err g c =
-    IfErr-weaker c.list_by_specification.result _ _
-    (run_refused g.S.Sources.gives c.args.sources.now (g.O.Write.contents c.args.out.now) (g.O.Write.contents c.list_by_specification.new.out) c.in_ok-text.text.items c.read_whole.new.sources
-    (plain_order c.args.order.now) c.list_by_specification.new.sources _ c.in_ok-text.ensures.ok)
-    (rw (c.deref.ensures.value, c.deref-2.ensures.value) at c.list_by_specification.ensures.err)
+    let gives = g.S.Sources.gives in
+    let order = plain_order c.args.order.now in
+    let old = g.O.Write.contents c.args.out.now in
+    let new = g.O.Write.contents c.list_asked.new.out in
+    let between = c.read_whole.new.sources in
+    let table = c.in_ok-tables.tables in
+    IfErr-weaker c.list_asked.result _ _
+    (later_refused gives c.args.sources.now old new (run order) order table between
+    (λ failure h. record { text = c.in_ok-text.text.items; between = between; given = c.in_ok-text.ensures.ok; table = table; tables = c.in_ok-tables.ensures.ok; holds = h }))
+    c.list_asked.ensures.err

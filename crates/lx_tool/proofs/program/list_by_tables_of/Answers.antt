@@ -1,11 +1,40 @@
-use Rattle.std.proofs.lemmas.Result.{IfErr-weaker}
-use Rattle.lx_tool.specs.CommandLine.{plain_order}
-use Rattle.lx_tool.proofs.Obeyed.{scan_refused}
+use Rattle.std.proofs.lemmas.Result.{IfErr-weaker, IfOk-weaker}
+use Rattle.lx_words.specs.CommandLine.{plain_order, scan}
+use Rattle.lx_tool.specs.Planning.{ListsAsked, ListsByTextIn}
+use Rattle.lx_tool.proofs.GivenListed.{listed_as_well}
+use Rattle.lx_tool.proofs.Obeyed.{later_refused}
 use Rattle.lx_tool.proofs.program.list_by_tables_of.Goals as goal
+
+pub returns-clause-ok : goal.returns-clause-ok
+returns-clause-ok g c =
+    let gives = g.S.Sources.gives in
+    let order = plain_order c.args.order.now in
+    let old = g.O.Write.contents c.args.out.now in
+    let new = g.O.Write.contents c.list_asked.new.out in
+    let text = c.in_ok-text.text.items in
+    let table = c.in_ok-tables.tables in
+    IfOk-weaker c.list_asked.result _ _
+    (λ cut h. record {
+      text = text;
+      between = c.read_whole.new.sources;
+      given = c.in_ok-text.ensures.ok;
+      names = h.names;
+      behind = h.behind;
+      named = h.named;
+      listed = listed_as_well gives (λ inputs. ListsAsked order.form table h.names inputs old new) (λ inputs. ListsByTextIn order.form text h.names inputs old new)
+      (λ inputs bytes l. record { table = table; is_table = c.in_ok-tables.ensures.ok.0; of_text = c.in_ok-tables.ensures.ok.1; listed = l }) h.names h.behind c.list_asked.new.sources _ h.listed;
+    })
+    c.list_asked.ensures.ok
 
 pub returns-clause-err : goal.returns-clause-err
 returns-clause-err g c =
-    IfErr-weaker c.list_by_tables.result _ _
-    (scan_refused g.S.Sources.gives c.args.sources.now (g.O.Write.contents c.args.out.now) (g.O.Write.contents c.list_by_tables.new.out) c.in_ok-text.text.items c.read_whole.new.sources
-    (plain_order c.args.order.now) c.list_by_tables.new.sources _ c.in_ok-text.ensures.ok)
-    (rw (c.deref.ensures.value, c.deref-2.ensures.value) at c.list_by_tables.ensures.err)
+    let gives = g.S.Sources.gives in
+    let order = plain_order c.args.order.now in
+    let old = g.O.Write.contents c.args.out.now in
+    let new = g.O.Write.contents c.list_asked.new.out in
+    let between = c.read_whole.new.sources in
+    let table = c.in_ok-tables.tables in
+    IfErr-weaker c.list_asked.result _ _
+    (later_refused gives c.args.sources.now old new (scan order) order table between
+    (λ failure h. record { text = c.in_ok-text.text.items; between = between; given = c.in_ok-text.ensures.ok; table = table; tables = c.in_ok-tables.ensures.ok; holds = h }))
+    c.list_asked.ensures.err

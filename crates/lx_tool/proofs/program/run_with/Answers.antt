@@ -1,5 +1,5 @@
 use Rattle.std.proofs.Common.{map}
-use Rattle.lx_tool.specs.CommandLine.{asked_by}
+use Rattle.lx_words.specs.CommandLine.{asked_by}
 use Rattle.lx_tool.proofs.Obeyed.{has_ended}
 use Rattle.lx_tool.proofs.program.run_with.Goals as goal
 

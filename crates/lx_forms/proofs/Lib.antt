@@ -1,0 +1,11 @@
+pub mod Alike
+pub mod Bare
+pub mod Choices
+pub mod FormTurning
+pub mod Joining
+pub mod JsonDocuments
+pub mod JsonNumbers
+pub mod JsonRead
+pub mod JsonStrings
+pub mod Parts
+pub mod NamesRead

@@ -1,0 +1,12 @@
+pub mod Choosing
+pub mod Forms
+pub mod FormLaws
+pub mod FormListed
+pub mod FormListings
+pub mod FormPrinting
+pub mod FormPrintingLaws
+pub mod JsonLines
+pub mod JsonValues
+pub mod NameLists
+pub mod TextLines
+pub mod Views

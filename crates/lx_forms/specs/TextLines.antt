@@ -1,0 +1,37 @@
+-- The lines of a listing in the form of lines: as without options, but for the file and the text.
+use Rattle.std.specs.Prelude.{ℕ, ◌==◌, if◌then◌else◌, List, [], ◌++◌, codes, decimal}
+use Rattle.std.specs.List.{flat_map}
+use Rattle.std.specs.Option.{option_map_or}
+use Rattle.lx_scan.specs.declared.item.Item.{Item}
+use Rattle.lx_scan.specs.ItemParts.{line_of as line_number, start_of, len_of, text_of}
+use Rattle.lx_piece.specs.Plans.{Planned, bytes_of}
+use Rattle.lx_line.specs.Lines.{class_text, kind_text}
+use Rattle.lx_line.specs.Escapes.{escaped}
+use Rattle.lx_forms.specs.Forms.{PlainForm, name_of, number_in}
+
+-- how a byte of a name stands in a line: as one of a text does, and a blank by two digits
+abbrev pub name_escaped : ℕ → List ℕ
+name_escaped byte = if byte == 32 then codes "\\x20" else escaped byte
+
+-- the file: its name, where names are printed, else its number
+abbrev pub file_text : PlainForm → ℕ → List ℕ
+file_text form file = option_map_or (λ names. flat_map name_escaped (name_of names file)) form.names (decimal (number_in form file))
+
+-- a text and the blank before it, where texts are printed
+abbrev pub text_part : PlainForm → List ℕ → List ℕ
+text_part form text = if form.text then codes " " ++ flat_map escaped text else []
+
+-- class, kind, line, start and length of an item, with a blank between each two
+abbrev pub fields_of : Planned → Item → List ℕ
+fields_of plan item =
+    class_text item ++ codes " " ++ kind_text plan item ++ codes " " ++ decimal (line_number item) ++ codes " " ++ decimal (start_of item) ++ codes " "
+    ++ decimal (len_of item)
+
+-- the line of an item
+unfoldable pub text_line : PlainForm → Planned → ℕ → Item → List ℕ
+text_line form plan file item =
+    file_text form file ++ codes " " ++ fields_of plan item ++ text_part form (text_of (bytes_of plan file) item) ++ codes "\n"
+
+-- the line of a file whose reading failed
+unfoldable pub text_cut_line : PlainForm → ℕ → List ℕ
+text_cut_line form file = file_text form file ++ codes " ! cut\n"

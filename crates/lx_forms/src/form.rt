@@ -1,0 +1,79 @@
+//! How a listing is printed.
+
+ghost use Rattle.std.specs.Prelude.{◌≡◌, IsTrue, map};
+ghost use Rattle.lx_forms.specs.Forms.{bare_form, name_of, number_in, passes};
+ghost use Rattle.lx_forms.specs.Views.{form_view};
+
+use crate::format::Format;
+use crate::selection::Selection;
+use lx_scan::Item;
+
+/// The form of a listing.
+#[derive(Debug, Drop)]
+pub struct Form<'a> {
+    /// The number of the first file; the next one has the next number.
+    pub first: u32,
+    /// The names of the files, in order, where they stand in the place of numbers. A file behind the list has an empty name.
+    pub names: Option<&'a [&'a str]>,
+    /// What alone is printed, where that isn't every item. The lines of files whose reading failed always are.
+    pub only: Option<Selection>,
+    /// Whether the texts of items are printed.
+    pub text: bool,
+    pub format: Format,
+}
+
+impl<'a> Form<'a> {
+    /// The form without options.
+    pub fn bare() -> Form<'a>
+        ensures { form_view result ≡ bare_form }
+    {
+        Form {
+            first: 0,
+            names: None,
+            only: None,
+            text: true,
+            format: Format::Lines,
+        }
+    }
+
+    /// Whether it is the form without options.
+    pub(crate) fn is_bare(&self) -> bool
+        ensures { IsTrue result → form_view self.now ≡ bare_form }
+    {
+        self.first == 0
+            && self.names.is_none()
+            && self.only.is_none()
+            && self.text
+            && self.format == Format::Lines
+    }
+
+    /// Whether an item is printed.
+    #[tactic(auto, unfolding(crate::specs::Forms::passes))]
+    pub(crate) fn passes(&self, item: &Item) -> bool
+        ensures { result ≡ passes (form_view self.now) item.now }
+    {
+        match &self.only {
+            Some(selection) => selection.has(item),
+            None => true,
+        }
+    }
+
+    /// The number of a file.
+    pub(crate) fn number_of(&self, file: u32) -> u64
+        ensures { result ≡ number_in (form_view self.now) file }
+    {
+        u64::from(self.first) + u64::from(file)
+    }
+}
+
+/// The name of a file.
+pub(crate) fn name_of<'a>(names: &'a [&'a str], file: u32) -> &'a [u8]
+    ensures { result.now ≡ name_of (map (λ name. name.now) names.now) file }
+{
+    let file = file as usize;
+    if file < names.len() {
+        names[file].as_bytes()
+    } else {
+        b""
+    }
+}

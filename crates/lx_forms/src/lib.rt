@@ -1,0 +1,24 @@
+//! Forms of a listing, for other programs: names of files, some kinds alone, no texts, JSON.
+#![tactic(auto)]
+
+mod choosing;
+mod form;
+mod format;
+mod json_laws;
+mod json_lines;
+mod laws;
+mod lines;
+mod name_list;
+mod printer;
+mod printing;
+mod selection;
+mod text_lines;
+
+pub use choosing::{ChoiceFault, choose};
+pub use form::Form;
+pub use format::Format;
+pub use json_laws::{json_lines_are_objects, strings_are_utf8};
+pub use laws::{bare_listings_are_listings, listings_join};
+pub use name_list::{NameListFault, push_names};
+pub use printing::list_plan_in;
+pub use selection::Selection;

@@ -1,0 +1,162 @@
+-- The files that a listing's words name, and those that LIST names behind them; and the form that the words ask for.
+use Rattle.std.specs.Prelude.{◌≡◌, ◌≢◌, ℕ, ◌+◌, ◌-◌, ◌<◌, ◌⊎◌, ⊤, Bool, if◌then◌else◌, List, [], ◌∷◌, ◌++◌, Option, Some, None, Contains, IsSomeAnd, MatchOption, codes, length}
+use Rattle.std.specs.Option.{option_map_or}
+use Rattle.std.specs.Str.{bytes_eq}
+use Rattle.lx_tables.specs.Model.{Table}
+use Rattle.lx_piece.specs.Plans.{PlainInput, max_files}
+use Rattle.lx_forms.specs.declared.format.Format.{Format}
+use Rattle.lx_forms.specs.declared.format.Format.TheVariants.{Lines, Json}
+use Rattle.lx_forms.specs.Choosing.{IsChosen, IsNoChoice, IsRefusedChoice, IsUnknown}
+use Rattle.lx_forms.specs.Forms.{PlainForm, Selected}
+use Rattle.lx_forms.specs.NameLists.{AreNamed, HasMoreNames, IsNoName}
+use Rattle.lx_words.specs.CommandLine.{PlainFormWords, PlainList, PlainOrder, max_number}
+use Rattle.lx_forms.specs.declared.choosing.ChoiceFault.{ChoiceFault}
+use Rattle.lx_tool.specs.Sources.{whole}
+use Rattle.lx_tool.specs.Statuses.{failure_of_choice}
+use Rattle.lx_tool.specs.declared.failure.Failure.{Failure}
+use Rattle.lx_tool.specs.declared.failure.Failure.TheVariants.{Specification, Automaton, Tables, Words, TooManyFiles, InputTwice, Refused, NotRead, Output, Memory}
+use Rattle.lx_tool.specs.declared.failure.RequestFault.{RequestFault}
+use Rattle.lx_tool.specs.declared.failure.RequestFault.TheVariants.{NoKind, EmptyKind, NoFormat, NoFile, NoName, NoTargets, NumberTooLarge}
+
+-- ---- the names of files
+
+-- The sources gave the text of LIST, whole, and its names stand behind these.
+pub record AreListNames {S : Type 0} (gives : S → List ℕ → PlainInput → S → Type 0) (list : PlainList) (files : List (List ℕ)) (before after : S) (names : List (List ℕ)) : Type 0 where
+  pub text : List ℕ
+  pub given : gives before list.name (whole text) after
+  pub named : AreNamed list.separator text files names
+
+-- the names of a listing's files: those of the words, and behind them those of LIST, if it is given
+abbrev pub AreFileNames : {S : Type 0} → (S → List ℕ → PlainInput → S → Type 0) → PlainOrder → S → S → List (List ℕ) → Type 0
+AreFileNames gives order before after names =
+    MatchOption order.list ((names ≡ order.files) × (after ≡ before)) (λ list. AreListNames gives list order.files before after names)
+
+-- one for the name of standard input
+abbrev pub input_count : List ℕ → ℕ
+input_count name = if bytes_eq name (codes "-") then 1 else 0
+
+-- how many of the names are that of standard input
+abbrev pub inputs_among : List (List ℕ) → ℕ
+inputs_among [] = 0
+inputs_among (name ∷ names) = input_count name + inputs_among names
+
+-- one for LIST where it is standard input
+abbrev pub list_input : PlainOrder → ℕ
+list_input order = option_map_or (λ list. input_count list.name) order.list 0
+
+-- how many of the specification or tables, of LIST and of these files are standard input
+abbrev pub input_uses : PlainOrder → List (List ℕ) → ℕ
+input_uses order names = input_count order.rules + list_input order + inputs_among names
+
+-- the sources gave the text of LIST, and it has this
+pub record ListSays {S : Type 0} (gives : S → List ℕ → PlainInput → S → Type 0) (list : PlainList) (before : S) (Says : List ℕ → Type 0) : Type 0 where
+  pub text : List ℕ
+  pub after : S
+  pub given : gives before list.name (whole text) after
+  pub says : Says text
+
+-- these names are those of the files, and have this
+pub record FilesHave {S : Type 0} (gives : S → List ℕ → PlainInput → S → Type 0) (order : PlainOrder) (before : S) (Have : List (List ℕ) → Type 0) : Type 0 where
+  pub names : List (List ℕ)
+  pub after : S
+  pub named : AreFileNames gives order before after names
+  pub have : Have names
+
+-- ---- the form
+
+-- what `--format` says: nothing, `text` or `json`
+abbrev pub is_json : List ℕ → Bool
+is_json word = bytes_eq word (codes "json")
+
+abbrev pub format_by : Option (List ℕ) → Format
+format_by None = Lines
+format_by (Some word) = if is_json word then Json else Lines
+
+-- what `--only` lets pass, by the kinds of the tables
+abbrev pub IsOnly : Table → Option (List ℕ) → Option Selected → Type 0
+IsOnly table None only = only ≡ None
+IsOnly table (Some text) only = IsSomeAnd only (IsChosen table text)
+
+-- the form that the words ask for, of files with these names, by these tables
+pub record IsFormOf (words : PlainFormWords) (table : Table) (names : List (List ℕ)) (form : PlainForm) : Type 0 where
+  pub first : form.first ≡ words.first
+  pub names_are : form.names ≡ (if words.names then Some names else None)
+  pub only : IsOnly table words.only form.only
+  pub text : form.text ≡ words.text
+  pub format : form.format ≡ format_by words.format
+
+-- ---- what is refused
+
+-- why a listing's words alone are refused
+abbrev pub IsWordsFault : PlainOrder → RequestFault → Type 0
+IsWordsFault order (NoFormat word) = (order.form.format ≡ Some word.now) × (word.now ≢ codes "json") × (word.now ≢ codes "text")
+IsWordsFault order NoFile = (order.files ≡ []) × (order.list ≡ None)
+IsWordsFault order (NoKind word) = ⊥
+IsWordsFault order EmptyKind = ⊥
+IsWordsFault order (NoName line list) = ⊥
+IsWordsFault order NoTargets = ⊥
+IsWordsFault order NumberTooLarge = ⊥
+
+-- why a listing's files or its form are refused, where its tables are these
+abbrev pub IsListingFault : {S : Type 0} → (S → List ℕ → PlainInput → S → Type 0) → PlainOrder → Table → S → RequestFault → Type 0
+IsListingFault gives order table before (NoFormat word) = ⊥
+IsListingFault gives order table before NoFile = FilesHave gives order before (λ names. names ≡ [])
+IsListingFault gives order table before (NoKind word) = IsSomeAnd order.form.only (λ text. IsUnknown table text word.now)
+IsListingFault gives order table before EmptyKind = IsSomeAnd order.form.only IsNoChoice
+IsListingFault gives order table before (NoName line list) =
+    IsSomeAnd order.list (λ l. (list.now ≡ l.name) × ListSays gives l before (λ text. IsNoName l.separator text line))
+IsListingFault gives order table before NoTargets = ⊥
+IsListingFault gives order table before NumberTooLarge = FilesHave gives order before (λ names. max_number + 1 < order.form.first + length names)
+
+-- LIST names more files than may stand behind those of the words
+abbrev pub IsListTooLong : {S : Type 0} → (S → List ℕ → PlainInput → S → Type 0) → PlainOrder → S → Type 0
+IsListTooLong gives order before = IsSomeAnd order.list (λ l. ListSays gives l before (λ text. HasMoreNames l.separator text (max_files - length order.files)))
+
+-- why a listing is refused before its first line, where its tables are these: its form, its names, or a file that can't be read
+abbrev pub IsListingRefused : {S : Type 0} → (S → List ℕ → PlainInput → S → Type 0) → PlainOrder → Table → S → Failure → Type 0
+IsListingRefused gives order table before (Specification fault) = ⊥
+IsListingRefused gives order table before (Automaton fault) = ⊥
+IsListingRefused gives order table before (Tables fault) = ⊥
+IsListingRefused gives order table before (Words error) = ⊥
+IsListingRefused gives order table before TooManyFiles = IsListTooLong gives order before
+IsListingRefused gives order table before InputTwice = FilesHave gives order before (λ names. 1 < input_uses order names)
+IsListingRefused gives order table before (Refused fault) = IsListingFault gives order table before fault
+IsListingRefused gives order table before (NotRead name) =
+    IsSomeAnd order.list (λ l. name.now ≡ l.name) ⊎ FilesHave gives order before (λ names. Contains names name.now)
+IsListingRefused gives order table before Output = ⊥
+IsListingRefused gives order table before Memory = ⊤
+
+-- ---- each of them, by the step at which it is refused
+
+-- `--format` has a word that isn't known
+abbrev pub IsFormatFault : PlainFormWords → RequestFault → Type 0
+IsFormatFault words (NoFormat word) = (words.format ≡ Some word.now) × (word.now ≢ codes "json") × (word.now ≢ codes "text")
+IsFormatFault words NoFile = ⊥
+IsFormatFault words (NoKind word) = ⊥
+IsFormatFault words EmptyKind = ⊥
+IsFormatFault words (NoName line list) = ⊥
+IsFormatFault words NoTargets = ⊥
+IsFormatFault words NumberTooLarge = ⊥
+
+-- these names of files are refused
+abbrev pub AreNamesRefused : PlainOrder → List (List ℕ) → Failure → Type 0
+AreNamesRefused order names failure =
+    ((failure ≡ Refused NoFile) × (names ≡ []))
+    ⊎ (((failure ≡ InputTwice) × (1 < input_uses order names))
+    ⊎ ((failure ≡ Refused NumberTooLarge) × (max_number + 1 < order.form.first + length names)))
+
+-- LIST can't be read, or what it names is refused, or memory was
+abbrev pub IsListRefused : {S : Type 0} → (S → List ℕ → PlainInput → S → Type 0) → PlainList → List (List ℕ) → S → Failure → Type 0
+IsListRefused gives list files before failure =
+    (failure ≡ Memory)
+    ⊎ (((name : _) × (failure ≡ NotRead name) × (name.now ≡ list.name))
+    ⊎ (((failure ≡ TooManyFiles) × ListSays gives list before (λ text. HasMoreNames list.separator text (max_files - length files)))
+    ⊎ ((line : ℕ) × (name : _) × (failure ≡ Refused (NoName line name)) × (name.now ≡ list.name) × ListSays gives list before (λ text. IsNoName list.separator text line))))
+
+-- so are the names of the files
+abbrev pub AreNamesUnread : {S : Type 0} → (S → List ℕ → PlainInput → S → Type 0) → PlainOrder → S → Failure → Type 0
+AreNamesUnread gives order before failure = (failure ≡ Memory) ⊎ IsSomeAnd order.list (λ list. IsListRefused gives list order.files before failure)
+
+-- `--only` is refused, or memory was
+abbrev pub IsOnlyRefused : Table → Option (List ℕ) → Failure → Type 0
+IsOnlyRefused table only failure = IsSomeAnd only (λ text. (fault : ChoiceFault) × (failure ≡ failure_of_choice fault) × IsRefusedChoice table text fault)

@@ -1,0 +1,231 @@
+//! Listings that the words of the command line ask for.
+
+ghost use Rattle.std.specs.Prelude.{◌≡◌, ◌<◌, ◌≤◌, IfOk, IfErr, None, OnOk, Some, if◌then◌else◌, length, nat_lt, option_map, vec_len};
+ghost use Rattle.std.specs.Io.KnownBytes.{Keeps};
+ghost use Rattle.lx_piece.specs.Plans.{max_files};
+ghost use Rattle.lx_forms.specs.Views.{form_view};
+ghost use Rattle.lx_words.specs.CommandLine.{plain_form, plain_list, plain_order};
+ghost use Rattle.lx_tool.specs.Commands.{AreListedAs, AreWordsRefused};
+ghost use Rattle.lx_tool.specs.Naming.{AreFileNames, AreListNames, AreNamesRefused, AreNamesUnread, IsFormatFault, IsListingRefused, IsListRefused, IsOnly, IsOnlyRefused, format_by, input_count, input_uses, inputs_among, list_input};
+ghost use Rattle.lx_tool.specs.Sources.{texts_of};
+ghost use Rattle.lx_tool.specs.Statuses.{HidesNoMemory, status_of};
+
+use crate::failure::{Failure, RequestFault};
+use crate::given::{read_given, read_whole};
+use crate::planning::list_files_in;
+use crate::source::{STANDARD_INPUT, Sources};
+use lx_forms::{Form, Format, NameListFault, Selection, choose, push_names};
+use lx_lines::LineWrites;
+use lx_piece::MAX_FILES;
+use lx_tables::Tables;
+use lx_words::{FormWords, ListRequest, ListWords};
+use std::alloc::Global;
+use std::io::Write;
+use std::sync::Wait;
+use std::thread::Threads;
+
+// One more than the greatest number that a file can have.
+const NUMBERS: u64 = 4_294_967_296;
+
+// One for the name of standard input.
+fn input(name: &str) -> usize
+    ensures value { result ≡ input_count name.now }
+    ensures few { result ≤ 1 }
+{
+    if name == STANDARD_INPUT { 1 } else { 0 }
+}
+
+// How many of the names are that of standard input.
+fn inputs_among(names: &[&str]) -> usize
+    ensures count { result ≡ inputs_among (texts_of names.now) }
+    ensures few { result ≤ length names.now }
+{
+    let mut count = 0;
+    for name in names {
+        count += input(name);
+    }
+    count
+}
+
+// One where the list of files is standard input.
+fn list_input(order: &ListRequest<'_>) -> usize
+    ensures value { result ≡ list_input (plain_order order.now) }
+    ensures few { result ≤ 1 }
+{
+    match order.list {
+        Some(list) => input(list.name),
+        None => 0,
+    }
+}
+
+// Whether standard input is named twice, by these files, the specification or the tables, and the list of files.
+fn is_input_twice(order: &ListRequest<'_>, names: &[&str]) -> bool
+    requires { length names.now ≤ max_files }
+    ensures twice { result ≡ nat_lt 1 (input_uses (plain_order order.now) (texts_of names.now)) }
+{
+    input(order.rules) + list_input(order) + inputs_among(names) > 1
+}
+
+// Refuses a format that isn't known.
+fn judge_format<'a>(words: &FormWords<'a>) -> Result<(), RequestFault<'a>>
+    ensures err { IfErr result (IsFormatFault (plain_form words.now)) }
+{
+    match words.format {
+        Some(word) if word != "json" && word != "text" => Err(RequestFault::NoFormat(word)),
+        _ => Ok(()),
+    }
+}
+
+/// Refuses words that ask for too many files, for none, for standard input twice, or for a format that isn't known.
+pub(crate) fn judge_words<'a>(order: &ListRequest<'a>) -> Result<(), Failure<'a>>
+    ensures ok { OnOk result (length order.now.files.items ≤ max_files) }
+    ensures err { IfErr result (λ failure. AreWordsRefused (plain_order order.now) failure) }
+{
+    if order.files.len() > MAX_FILES {
+        return Err(Failure::TooManyFiles);
+    }
+    if order.files.is_empty() && order.list.is_none() {
+        return Err(Failure::Refused(RequestFault::NoFile));
+    }
+    if is_input_twice(order, &order.files) {
+        return Err(Failure::InputTwice);
+    }
+    match judge_format(&order.form) {
+        Ok(()) => Ok(()),
+        Err(fault) => Err(Failure::Refused(fault)),
+    }
+}
+
+// Refuses no names at all, standard input named twice, and numbers that are too large.
+fn judge_names<'a>(order: &ListRequest<'a>, names: &[&str]) -> Result<(), Failure<'a>>
+    requires { length names.now ≤ max_files }
+    ensures ok { OnOk result (0 < length names.now) }
+    ensures err { IfErr result (AreNamesRefused (plain_order order.now) (texts_of names.now)) }
+{
+    if names.is_empty() {
+        return Err(Failure::Refused(RequestFault::NoFile));
+    }
+    if is_input_twice(order, names) {
+        return Err(Failure::InputTwice);
+    }
+    if u64::from(order.form.first) + names.len() as u64 > NUMBERS {
+        return Err(Failure::Refused(RequestFault::NumberTooLarge));
+    }
+    Ok(())
+}
+
+// Puts the names in the list of files behind those of the words. Its text stays in `text`.
+fn push_listed<'a, S: Sources>(
+    alloc: Global,
+    names: &mut Vec<&'a str>,
+    list: ListWords<'a>,
+    sources: &mut S,
+    text: &'a mut Vec<u8>,
+) -> Result<(), Failure<'a>>
+    requires { vec_len names.old ≤ max_files }
+    ensures ok { OnOk result (AreListNames S.gives (plain_list list) (texts_of names.old.items) sources.old sources.new (texts_of names.new.items)) }
+    ensures few { OnOk result (vec_len names.new ≤ max_files) }
+    ensures err { IfErr result (IsListRefused S.gives (plain_list list) (texts_of names.old.items) sources.old) }
+{
+    *text = read_whole(alloc, sources, list.name)?;
+    match push_names(names, text, list.separator, MAX_FILES) {
+        Ok(()) => Ok(()),
+        Err(NameListFault::NoName(line)) => Err(Failure::Refused(RequestFault::NoName {
+            line,
+            list: list.name,
+        })),
+        Err(NameListFault::TooMany) => Err(Failure::TooManyFiles),
+        Err(NameListFault::Memory) => Err(Failure::Memory),
+    }
+}
+
+// The names of the files: those of the words, and behind them those in the list of files.
+fn names_of<'a, S: Sources>(
+    alloc: Global,
+    order: &ListRequest<'a>,
+    sources: &mut S,
+    text: &'a mut Vec<u8>,
+) -> Result<Vec<&'a str>, Failure<'a>>
+    requires { length order.now.files.items ≤ max_files }
+    ensures ok { IfOk result (λ names. AreFileNames S.gives (plain_order order.now) sources.old sources.new (texts_of names.items)) }
+    ensures few { IfOk result (λ names. vec_len names ≤ max_files) }
+    ensures err { IfErr result (AreNamesUnread S.gives (plain_order order.now) sources.old) }
+{
+    let mut names = Vec::from_slice(alloc, &order.files)?;
+    if let Some(list) = order.list {
+        push_listed(alloc, &mut names, list, sources, text)?;
+    }
+    Ok(names)
+}
+
+// What `--only` lets pass.
+fn selection_of<'a>(
+    alloc: Global,
+    tables: &Tables,
+    only: Option<&'a str>,
+) -> Result<Option<Selection>, Failure<'a>>
+    ensures ok { IfOk result (λ selection. IsOnly tables.now (option_map (λ text. text.now) only) selection) }
+    ensures err { IfErr result (IsOnlyRefused tables.now (option_map (λ text. text.now) only)) }
+{
+    match only {
+        Some(text) => Ok(Some(choose(alloc, tables, text)?)),
+        None => Ok(None),
+    }
+}
+
+fn format_of(words: &FormWords<'_>) -> Format
+    ensures { result ≡ format_by (plain_form words.now).format }
+{
+    match words.format {
+        Some(word) if word == "json" => Format::Json,
+        _ => Format::Lines,
+    }
+}
+
+// The form that the words ask for.
+fn form_of<'f>(words: &FormWords<'_>, names: &'f [&'f str], only: Option<Selection>) -> Form<'f>
+    ensures { form_view result ≡ record { first = words.now.first; names = if words.now.names then Some (texts_of names.now) else None; only = only; text = words.now.text; format = format_by (plain_form words.now).format } }
+{
+    Form {
+        first: words.first,
+        names: if words.names { Some(names) } else { None },
+        only,
+        text: words.text,
+        format: format_of(words),
+    }
+}
+
+/// Lists the files that the words and the list of files name, by the tables, in the form that the words ask for. All are read before the
+/// first line is written. The text of the list of files stays in `text`. The result are the names of the files that were cut short.
+pub(crate) fn list_asked<'a, R: Threads + Wait + Sync, S: Sources, O: Write>(
+    rt: &R,
+    alloc: Global,
+    tables: Tables,
+    order: &ListRequest<'a>,
+    sources: &mut S,
+    text: &'a mut Vec<u8>,
+    writes: LineWrites,
+    out: &mut O,
+) -> Result<Vec<&'a str>, Failure<'a>>
+    requires { length order.now.files.items ≤ max_files }
+    ensures ok { IfOk result (λ cut. AreListedAs S.gives (plain_order order.now) tables sources.old sources.new (O.contents out.old) (O.contents out.new) (texts_of cut.items)) }
+    ensures err { IfErr result (λ failure. status_of failure < 4 → IsListingRefused S.gives (plain_order order.now) tables sources.old failure × HidesNoMemory failure × Keeps (O.contents out.old) (O.contents out.new)) }
+{
+    let only = selection_of(alloc, &tables, order.form.only)?;
+    let names = names_of(alloc, order, sources, text)?;
+    judge_names(order, &names)?;
+    let given = read_given(alloc, sources, &names)?;
+    let form = form_of(&order.form, &names, only);
+    list_files_in(
+        rt,
+        alloc,
+        tables,
+        given.files,
+        order.per_piece,
+        order.workers,
+        &form,
+        writes,
+        out,
+    )?;
+    Ok(given.cut)
+}

@@ -1,0 +1,5 @@
+pub mod Asked
+pub mod NumbersRead
+pub mod PlainNames
+pub mod PlainOrders
+pub mod PlainWords

@@ -1,0 +1,254 @@
+//! The command line of `lx`, as `clap` reads it.
+
+ghost use Rattle.std.specs.Prelude.{◌≡◌, [], ◌∷◌, IfOk, codes, false};
+ghost use Rattle.clap.specs.Words.{app_of, rule_of};
+ghost use Rattle.clap.specs.declared.builder.Command.TheViews.{out-Command as fields_of};
+ghost use Rattle.lx_words.specs.CommandLine.{files_rule, first_rule, flag_rule, items_rule, list_app, list_rule, lx_app, one_file_app, option_rule, rules_rule, target_rule, with_form, with_list, workers_rule, zeros_rule};
+
+use crate::version::VERSION;
+use clap::{Arg, ArgAction, Command, value_parser};
+use lx_piece::MAX_ITEMS;
+use lx_post::MAX_WORKERS;
+use std::alloc::{AllocError, Global};
+
+pub(crate) fn command<'a>(alloc: Global) -> Result<Command<'a>, AllocError>
+    ensures { IfOk result (λ command. app_of command ≡ lx_app) }
+{
+    Command::new(alloc, "lx")
+        .about("Scans files by the rules of a lex specification.")
+        .version(VERSION)
+        .after_help("Without words, lists a text that the program holds by rules that it holds.")
+        .disable_help_subcommand(true)
+        .subcommand_required(true)
+        .subcommand(gen_command(alloc)?)?
+        .subcommand(up_command(alloc)?)?
+        .subcommand(scan_command(alloc)?)?
+        .subcommand(run_command(alloc)?)
+}
+
+fn gen_command<'a>(alloc: Global) -> Result<Command<'a>, AllocError>
+    ensures app { IfOk result (λ command. app_of command ≡ one_file_app (codes "gen") (codes "SPEC")) }
+    ensures local { IfOk result (λ command. (fields_of command).has_globals ≡ false) }
+{
+    Command::new(alloc, "gen")
+        .about("Prints the tables of a specification")
+        .arg(target(alloc))?
+        .arg(specification(alloc))
+}
+
+fn up_command<'a>(alloc: Global) -> Result<Command<'a>, AllocError>
+    ensures app { IfOk result (λ command. app_of command ≡ one_file_app (codes "up") (codes "TABLES")) }
+    ensures local { IfOk result (λ command. (fields_of command).has_globals ≡ false) }
+{
+    Command::new(alloc, "up")
+        .about("Prints tables in version 2")
+        .arg(target(alloc))?
+        .arg(tables(alloc))
+}
+
+fn run_command<'a>(alloc: Global) -> Result<Command<'a>, AllocError>
+    ensures app { IfOk result (λ command. app_of command ≡ list_app (codes "run") [] (codes "SPEC")) }
+    ensures local { IfOk result (λ command. (fields_of command).has_globals ≡ false) }
+{
+    let command = Command::new(alloc, "run")
+        .about("Lists the tokens and the echoed bytes of files by a specification")
+        .arg(run_workers(alloc))?
+        .arg(items(alloc))?;
+    with_list(alloc, with_form(alloc, command)?)?
+        .arg(specification(alloc))?
+        .arg(files(alloc))
+}
+
+fn scan_command<'a>(alloc: Global) -> Result<Command<'a>, AllocError>
+    ensures app { IfOk result (λ command. app_of command ≡ list_app (codes "scan") (codes "4" ∷ []) (codes "TABLES")) }
+    ensures local { IfOk result (λ command. (fields_of command).has_globals ≡ false) }
+{
+    let command = Command::new(alloc, "scan")
+        .about("Lists the tokens and the echoed bytes of files by tables")
+        .arg(scan_workers(alloc))?
+        .arg(items(alloc))?;
+    with_list(alloc, with_form(alloc, command)?)?
+        .arg(tables(alloc))?
+        .arg(files(alloc))
+}
+
+// The options on the form of a listing.
+fn with_form<'a>(alloc: Global, command: Command<'a>) -> Result<Command<'a>, AllocError>
+    ensures app { IfOk result (λ new. app_of new ≡ with_form (app_of command.entry)) }
+    ensures local { IfOk result (λ new. (fields_of new).has_globals ≡ (fields_of command.entry).has_globals) }
+{
+    command
+        .arg(names(alloc))?
+        .arg(only(alloc))?
+        .arg(no_text(alloc))?
+        .arg(format(alloc))
+}
+
+// The options on the files of a listing.
+fn with_list<'a>(alloc: Global, command: Command<'a>) -> Result<Command<'a>, AllocError>
+    ensures app { IfOk result (λ new. app_of new ≡ with_list (app_of command.entry)) }
+    ensures local { IfOk result (λ new. (fields_of new).has_globals ≡ (fields_of command.entry).has_globals) }
+{
+    command
+        .arg(first(alloc))?
+        .arg(list(alloc))?
+        .arg(zeros(alloc))
+}
+
+fn specification<'a>(alloc: Global) -> Arg<'a>
+    ensures rule { rule_of result ≡ rules_rule (codes "SPEC") }
+    ensures local { result.global ≡ false }
+{
+    Arg::new(alloc, "SPEC")
+        .help("The specification")
+        .required(true)
+}
+
+fn tables<'a>(alloc: Global) -> Arg<'a>
+    ensures rule { rule_of result ≡ rules_rule (codes "TABLES") }
+    ensures local { result.global ≡ false }
+{
+    Arg::new(alloc, "TABLES")
+        .help("The tables, in either version of their text")
+        .required(true)
+}
+
+fn items<'a>(alloc: Global) -> Arg<'a>
+    ensures rule { rule_of result ≡ items_rule }
+    ensures local { result.global ≡ false }
+{
+    Arg::new(alloc, "items")
+        .short('b')
+        .value_name("K")
+        .help("How many items a piece has, from 1 to 4096")
+        .value_parser(value_parser!(u32).range(1..=i64::from(MAX_ITEMS)))
+        .default_value("256")
+}
+
+fn workers<'a>(alloc: Global, help: &'a str) -> Arg<'a>
+    ensures rule { rule_of result ≡ workers_rule [] }
+    ensures local { result.global ≡ false }
+{
+    Arg::new(alloc, "workers")
+        .short('j')
+        .value_name("N")
+        .help(help)
+        .value_parser(value_parser!(u8).range(1..=i64::from(MAX_WORKERS)))
+}
+
+fn run_workers<'a>(alloc: Global) -> Arg<'a>
+    ensures rule { rule_of result ≡ workers_rule [] }
+    ensures local { result.global ≡ false }
+{
+    let help = "With how many threads the files are scanned, from 1 to 8, and else on one";
+    workers(alloc, help)
+}
+
+fn scan_workers<'a>(alloc: Global) -> Arg<'a>
+    ensures rule { rule_of result ≡ workers_rule (codes "4" ∷ []) }
+    ensures local { result.global ≡ false }
+{
+    let help = "With how many threads the files are scanned, from 1 to 8";
+    workers(alloc, help).default_value("4")
+}
+
+fn flag<'a>(alloc: Global, long: &'a str, help: &'a str) -> Arg<'a>
+    ensures rule { rule_of result ≡ flag_rule long.now }
+    ensures local { result.global ≡ false }
+{
+    Arg::new(alloc, long)
+        .long(long)
+        .help(help)
+        .action(ArgAction::SetTrue)
+}
+
+fn option<'a>(
+    alloc: Global,
+    id: &'a str,
+    long: &'a str,
+    value: &'a str,
+    help: &'a str,
+) -> Arg<'a>
+    ensures rule { rule_of result ≡ option_rule id.now long.now }
+    ensures local { result.global ≡ false }
+{
+    Arg::new(alloc, id).long(long).value_name(value).help(help)
+}
+
+fn target<'a>(alloc: Global) -> Arg<'a>
+    ensures rule { rule_of result ≡ target_rule }
+    ensures local { result.global ≡ false }
+{
+    Arg::new(alloc, "target")
+        .short('o')
+        .value_name("FILE")
+        .help("The file that gets the text, all of it or nothing, in the place of the output")
+}
+
+fn names<'a>(alloc: Global) -> Arg<'a>
+    ensures rule { rule_of result ≡ flag_rule (codes "names") }
+    ensures local { result.global ≡ false }
+{
+    let help = "Prints the names of files in the place of their numbers";
+    flag(alloc, "names", help)
+}
+
+fn only<'a>(alloc: Global) -> Arg<'a>
+    ensures rule { rule_of result ≡ option_rule (codes "only") (codes "only") }
+    ensures local { result.global ≡ false }
+{
+    let help = "Prints tokens of these kinds alone, by name or number, and - for echoes";
+    option(alloc, "only", "only", "KIND,..", help)
+}
+
+fn no_text<'a>(alloc: Global) -> Arg<'a>
+    ensures rule { rule_of result ≡ flag_rule (codes "no-text") }
+    ensures local { result.global ≡ false }
+{
+    flag(alloc, "no-text", "Prints no texts")
+}
+
+fn format<'a>(alloc: Global) -> Arg<'a>
+    ensures rule { rule_of result ≡ option_rule (codes "format") (codes "format") }
+    ensures local { result.global ≡ false }
+{
+    let help = "Prints lines of fields (text), as without it, or a JSON object a line (json)";
+    option(alloc, "format", "format", "FORMAT", help)
+}
+
+fn first<'a>(alloc: Global) -> Arg<'a>
+    ensures rule { rule_of result ≡ first_rule }
+    ensures local { result.global ≡ false }
+{
+    option(alloc, "first", "first", "N", "The number of the first file")
+        .value_parser(value_parser!(u32).range(0..=i64::from(u32::MAX)))
+        .default_value("0")
+}
+
+fn list<'a>(alloc: Global) -> Arg<'a>
+    ensures rule { rule_of result ≡ list_rule }
+    ensures local { result.global ≡ false }
+{
+    let help = "A file that names further files, one a line, behind those that are words";
+    option(alloc, "list", "files-from", "LIST", help)
+}
+
+fn zeros<'a>(alloc: Global) -> Arg<'a>
+    ensures rule { rule_of result ≡ zeros_rule }
+    ensures local { result.global ≡ false }
+{
+    Arg::new(alloc, "zeros")
+        .short('0')
+        .help("The names in LIST are separated by bytes 0")
+        .action(ArgAction::SetTrue)
+}
+
+fn files<'a>(alloc: Global) -> Arg<'a>
+    ensures rule { rule_of result ≡ files_rule }
+    ensures local { result.global ≡ false }
+{
+    Arg::new(alloc, "FILE")
+        .help("The files, in the order of the listing; - is standard input, of which nothing is listed before its end")
+        .num_args(1..)
+        .action(ArgAction::Append)
+}

@@ -1,0 +1,11 @@
+//! The command line of `lx`: its words, and what they ask for.
+#![tactic(auto)]
+
+mod app;
+mod reading;
+mod request;
+mod version;
+
+pub use reading::{plain_words_ask, read_words};
+pub use request::{ALONE, FormWords, ITEMS, ListRequest, ListWords, PrintWords, Refusal, Request};
+pub use version::VERSION;

@@ -1,0 +1,104 @@
+//! What the words of the command line ask for.
+
+ghost use Rattle.std.specs.Prelude.{◌<◌, ◌≤◌};
+ghost use Rattle.lx_piece.specs.Plans.{max_items};
+ghost use Rattle.lx_post.specs.Claimed.{max_workers};
+
+use clap::Error;
+use std::alloc::AllocError;
+
+/// How many items a piece has where `-b` is not given.
+pub const ITEMS: u32 = 256;
+
+/// No workers: the calling thread scans the files itself, as `run` does where `-j` is not given.
+pub const ALONE: u8 = 0;
+
+/// What the words of the command line ask for.
+#[derive(Drop)]
+pub enum Request<'a> {
+    /// No words: the run that the program holds itself.
+    Stored,
+    /// The text of the help, or of the version.
+    Told(Error),
+    /// `run`: the listing of files by a specification.
+    Run(ListRequest<'a>),
+    /// `scan`: the listing of files by tables.
+    Scan(ListRequest<'a>),
+    /// `gen`: the tables of a specification.
+    Gen(PrintWords<'a>),
+    /// `up`: tables, printed in version 2.
+    Up(PrintWords<'a>),
+}
+
+/// The words of `gen` and of `up`.
+#[derive(Clone, Copy, Debug)]
+pub struct PrintWords<'a> {
+    /// The name of the specification, or of the tables.
+    pub rules: &'a str,
+    /// `-o`: the file that gets the text in the place of the output.
+    pub target: Option<&'a str>,
+}
+
+/// The words of `run` and of `scan`.
+#[derive(Drop)]
+pub struct ListRequest<'a> {
+    /// How many workers scan the files; with none the calling thread does.
+    pub workers: u8,
+    /// How many items a piece has.
+    pub per_piece: u32,
+    /// The name of the specification, or of the tables.
+    pub rules: &'a str,
+    /// The names of the files.
+    pub files: Vec<&'a str>,
+    /// The file that names further ones, if there is one.
+    pub list: Option<ListWords<'a>>,
+    /// How the listing is printed.
+    pub form: FormWords<'a>,
+    ghost few_workers: { workers ≤ max_workers },
+    ghost some_items: { 0 < per_piece },
+    ghost few_items: { per_piece ≤ max_items },
+}
+
+/// `--files-from` and `-0`: a file that names files.
+#[derive(Clone, Copy, Debug)]
+pub struct ListWords<'a> {
+    /// Its name.
+    pub name: &'a str,
+    /// The byte that stands behind each name in it.
+    pub separator: u8,
+}
+
+/// The words on the form of a listing.
+#[derive(Clone, Copy, Debug)]
+pub struct FormWords<'a> {
+    /// `--first`: the number of the first file.
+    pub first: u32,
+    /// `--names`: whether files stand by their names.
+    pub names: bool,
+    /// `--only`: the kinds that alone are printed, with commas between them.
+    pub only: Option<&'a str>,
+    /// Whether texts are printed, which they are without `--no-text`.
+    pub text: bool,
+    /// `--format`.
+    pub format: Option<&'a str>,
+}
+
+/// Why the words of the command line ask for nothing.
+#[derive(Drop)]
+pub enum Refusal {
+    /// They have no form, as the text says.
+    Words(Error),
+    /// Memory was refused.
+    Memory,
+}
+
+impl From<AllocError> for Refusal {
+    ghost use Rattle.std.specs.Prelude.{◌≡◌};
+    ghost use Rattle.lx_words.specs.declared.request.Refusal.{Refusal};
+
+    ghost from_gives = { λ _ refusal. refusal ≡ Refusal.Memory };
+
+    fn from(_error: AllocError) -> Refusal {
+        Refusal::Memory
+    }
+}
