@@ -8,7 +8,7 @@ use Rattle.lx_piece.proofs.cutter.take_items.Goals as goal
 pub returns-clause-rest : goal.returns-clause-rest
 returns-clause-rest c =
     let left = items_left c.args.tables.now c.args.text.now c.args.cursor.now in
-    let middle = items_left c.args.tables.now c.args.text.now c.next_items.new.self in
+    let middle = items_left c.args.tables.now c.args.text.now c.next_items_by.new.self in
     let first_is = c.in_ok-push_some.ensures ∙ ap (λ (xs : List Item). xs ++ listed c.args.first) c.requires.none in
-    let appends : Appends (listed c.args.first) c.next_items.new.items.items left middle = subst (λ (xs : List Item). Appends xs c.next_items.new.items.items left middle) first_is c.in_ok-next_items.ensures.items in
-    sym c.next_item.ensures.items ∙ enough_rest (listed c.args.first) c.next_items.new.items.items left middle c.args.most appends c.in_ok-next_items.ensures.most c.in_ok-next_items.ensures.end
+    let appends : Appends (listed c.args.first) c.next_items_by.new.items.items left middle = subst (λ (xs : List Item). Appends xs c.next_items_by.new.items.items left middle) first_is c.in_ok-next_items_by.ensures.items in
+    sym c.next_item_by.ensures.items ∙ enough_rest (listed c.args.first) c.next_items_by.new.items.items left middle c.args.most appends c.in_ok-next_items_by.ensures.most c.in_ok-next_items_by.ensures.end
