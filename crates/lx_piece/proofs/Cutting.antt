@@ -50,6 +50,15 @@ enough_rest first items ahead left most appends few end =
       | inr enough ↦ sym (left_most items left (first ++ ahead) most whole (omega arith))
     ]
 
+pub enough_items : (first items ahead left : List Item) (most : ℕ) → Appends first items ahead left → length items ≤ most → (length items < most → left ≡ []) → items ≡ take most (first ++ ahead)
+enough_items first items ahead left most appends few end =
+    let whole : items ++ left ≡ first ++ ahead =
+    ap (λ xs. xs ++ left) appends.new_is ∙ append_assoc first appends.added left ∙ ap (λ xs. first ++ xs) (sym appends.left_is) in
+    elim (cases_lt (length items) most) [
+      | inl fewer ↦ sym (taken_all items left (first ++ ahead) most whole (end fewer) few)
+      | inr enough ↦ sym (taken_most items left (first ++ ahead) most whole (omega arith))
+    ]
+
 -- ---- how many pieces there are
 -- no more than so many where nothing is behind them
 pub count_reached : (per_piece : ℕ) (items : List Item) (k : ℕ) → 0 < per_piece → 0 < k → drop (k * per_piece) items ≡ [] → piece_count per_piece items ≤ k
