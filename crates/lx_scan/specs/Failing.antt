@@ -10,9 +10,9 @@ use Rattle.lx_scan.specs.declared.memory.ScanMemory.{ScanMemory}
 pub record IsFailed (m : Machine) (rest : List ℕ) (state : ℕ) : Type 0 where
   pub silent : (k : ℕ) → 0 < k → k ≤ length rest → answer_from m state (take k rest) ≡ None
 
--- What is kept of a text: of each 64th place four numbers, each one more than a state that has failed there, or 0; and some failed states with their places.
+-- What is kept of a text: of each 32nd place four numbers, each one more than a state that has failed there, or 0; and some failed states with their places.
 pub record AreFailed (table : Table) (text marks : List ℕ) (others : List (Option FailedState)) : Type 0 where
-  pub kept : (slot : ℕ) → 0 < slice_index marks slot → IsFailed table.machine (drop (slot / 4 * 64) text) (slice_index marks slot - 1)
+  pub kept : (slot : ℕ) → 0 < slice_index marks slot → IsFailed table.machine (drop (slot / 4 * 32) text) (slice_index marks slot - 1)
   pub beside : (i : ℕ) → ForSome (slice_index_or others i None) (λ f. IsFailed table.machine (drop f.place text) f.state)
 
 -- a memory of this text by this table
@@ -22,7 +22,7 @@ IsMemoryOf table text m = AreFailed table text m.marks.items m.others.items
 -- one of the four numbers of a place
 pub record IsMarked (marks : List ℕ) (place number : ℕ) : Type 0 where
   pub slot : ℕ
-  pub here : slot / 4 * 64 ≡ place
+  pub here : slot / 4 * 32 ≡ place
   pub number_is : slice_index marks slot ≡ number
 
 -- what is kept beside the numbers has this state at this place

@@ -9,9 +9,12 @@ ghost use Rattle.lx_scan.specs.Failing.{IsFailed, IsMemoryOf};
 ghost use Rattle.lx_scan.specs.Items.{choice_at};
 
 use crate::choice::{has_token, len_of_token};
-use crate::memory::{SPACING, ScanMemory};
+use crate::memory::ScanMemory;
 use crate::place::Place;
 use lx_tables::{State, Tables};
+
+// A run is remembered that went on in vain for so many bytes. Shorter ones are usual, and cost little.
+const LONG: usize = 64;
 
 /// What a run has found: the last rule with a token that was accepted, and after how many bytes; and the place behind which none was accepted,
 /// with the state there.
@@ -22,30 +25,27 @@ struct Found {
     state: State,
 }
 
-// What is found once a state is reached before byte `at`, so many bytes behind the begin.
+// Takes note of what is accepted once a state is reached before byte `at`, so many bytes behind the begin. Where nothing is, it writes nothing:
+// a value that was given back would be copied at each byte.
 #[inline(always)]
-fn found_at(tables: &Tables, found: Found, state: State, at: usize, read: usize) -> Found
+fn accept_at(tables: &Tables, state: State, at: usize, read: usize, found: &mut Found)
     requires state { state.0 < state_count tables.now.machine }
     requires some { 0 < read }
-    ensures last { result.last ≡ option_or (match_after tables.now (accepted_by tables.now.machine state.0) read) found.last }
-    ensures since { MatchOption (accepted_by tables.now.machine state.0) ((result.since ≡ found.since) × (result.state.0 ≡ found.state.0)) (λ _. (result.since ≡ at) × (result.state.0 ≡ state.0)) }
+    ensures last { found.new.last ≡ option_or (match_after tables.now (accepted_by tables.now.machine state.0) read) found.old.last }
+    ensures since { MatchOption (accepted_by tables.now.machine state.0) ((found.new.since ≡ found.old.since) × (found.new.state.0 ≡ found.old.state.0)) (λ _. (found.new.since ≡ at) × (found.new.state.0 ≡ state.0)) }
 {
-    match tables.accepts(state) {
-        Some(rule) => Found {
-            last: if has_token(tables, rule, read) {
-                Some((rule, read))
-            } else {
-                found.last
-            },
-            since: at,
-            state,
-        },
-        None => found,
+    if let Some(rule) = tables.accepts(state) {
+        if has_token(tables, rule, read) {
+            found.last = Some((rule, read));
+        }
+        found.since = at;
+        found.state = state;
     }
 }
 
 // Goes over the text from a place on, until a step is missing or nothing more is accepted; gives what it found and before which byte it stopped.
 #[tactic(auto, using(crate::proofs::Failing::run_steps))]
+#[inline(never)]
 fn run_from(tables: &Tables, text: &[u8], place: Place, memory: &ScanMemory) -> (Found, usize)
     requires table { IsTable tables.now }
     requires known { place.condition < length tables.now.machine.starts }
@@ -72,7 +72,7 @@ fn run_from(tables: &Tables, text: &[u8], place: Place, memory: &ScanMemory) -> 
             return (found, at);
         };
         at += 1;
-        found = found_at(tables, found, next, at, at - place.offset);
+        accept_at(tables, next, at, at - place.offset, &mut found);
         state = next;
     }
     (found, at)
@@ -121,7 +121,7 @@ fn remember(tables: &Tables, text: &[u8], found: Found, end: usize, memory: &mut
     requires memory { IsMemoryOf tables.now text.now memory.old }
     ensures memory { IsMemoryOf tables.now text.now memory.new }
 {
-    if end - found.since >= SPACING {
+    if end - found.since >= LONG {
         keep_run(tables, text, found.since, end, found.state, memory);
     }
 }

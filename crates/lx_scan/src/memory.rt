@@ -7,8 +7,8 @@ ghost use Rattle.lx_scan.specs.Failing.{IsAmong, IsFailed, IsMarked, IsMemoryOf}
 use lx_tables::State;
 use std::alloc::Global;
 
-/// States are kept of each place that is a multiple of this.
-pub(crate) const SPACING: usize = 64;
+// States are kept of each place that is a multiple of this.
+const SPACING: usize = 32;
 
 // So many are kept of a place.
 const STATES: usize = 4;
@@ -24,7 +24,7 @@ pub struct FailedState {
 }
 
 /// What a scanner remembers of one text by one table, so that it doesn't go over any part of it again and again. It gives the same items
-/// without it, slower. It takes memory once a run went on in vain, 8 bytes for each 64 of the text; where memory is refused it keeps less.
+/// without it, slower. It takes memory once a run went on in vain, 8 bytes for each 32 of the text; where memory is refused it keeps less.
 #[derive(Drop)]
 pub struct ScanMemory {
     // Of each place four numbers: one more than a state, or 0.
@@ -44,7 +44,7 @@ fn mark_at(marks: &[u16], slot: usize) -> u16
 
 // Whether a number is kept of a place.
 fn is_marked(marks: &[u16], place: usize, number: u16) -> bool
-    requires { place % 64 ≡ 0 }
+    requires { place % 32 ≡ 0 }
     ensures { IsTrue result → IsMarked marks.now place number }
 {
     let first = place / SPACING * STATES;
@@ -58,8 +58,8 @@ fn is_marked(marks: &[u16], place: usize, number: u16) -> bool
 
 // Where a number of a place is kept, or may be.
 fn slot_for(marks: &[u16], place: usize, number: u16) -> Option<usize>
-    requires { place % 64 ≡ 0 }
-    ensures { IfSome result (λ slot. (slot < length marks.now) × (slot / 4 * 64 ≡ place)) }
+    requires { place % 32 ≡ 0 }
+    ensures { IfSome result (λ slot. (slot < length marks.now) × (slot / 4 * 32 ≡ place)) }
 {
     let first = place / SPACING * STATES;
     for slot in first..first + STATES {
@@ -123,7 +123,7 @@ impl ScanMemory {
     // Whether a state is kept of a place.
     #[inline(never)]
     fn is_kept(&self, place: usize, state: State) -> bool
-        requires place { place % 64 ≡ 0 }
+        requires place { place % 32 ≡ 0 }
         requires state { state.0 < 65535 }
         ensures { IsTrue result → (table : Table) (text : List ℕ) → IsMemoryOf table text self.now → IsFailed table.machine (drop place text) state.0 }
     {

@@ -6,9 +6,9 @@ pub loop-at-preserved : goal.loop-at-preserved
 loop-at-preserved c =
     let place = c.args.place in
     let loop = c.loop-at in
-    let found = c.found_at-found in
-    runs_on c.args.tables.now place.condition place.at_line_begin c.args.text.now place.offset loop.at loop.state.0 c.in-Some.next.0 loop.found.last found.result.last loop.found.since loop.found.state.0 found.result.since found.result.state.0
-    c.loop-at-test.true (sym c.in-Some.ensures.target) c.in-Some.ensures.state found.ensures.last loop.invariant found.ensures.since
+    let found = c.accept_at.new.found in
+    runs_on c.args.tables.now place.condition place.at_line_begin c.args.text.now place.offset loop.at loop.state.0 c.in-Some.next.0 loop.found.last found.last loop.found.since loop.found.state.0 found.since found.state.0
+    c.loop-at-test.true (sym c.in-Some.ensures.target) c.in-Some.ensures.state c.accept_at.ensures.last loop.invariant c.accept_at.ensures.since
 
 pub returns-then-has_failed-clause-last : goal.returns-then-has_failed-clause-last
 returns-then-has_failed-clause-last c =
