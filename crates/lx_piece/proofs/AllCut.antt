@@ -1,6 +1,6 @@
 -- The pieces of a plan that are cut one file after the other.
 use Rattle.std.proofs.Common.{ℕ, zero, suc, ◌≡◌, ◌+◌, ◌<◌, inl, inr, [], ◌∷◌, ◌++◌, List, Option, Some, None, refl, sym, ◌∙◌, ap, subst, arith, append_assoc, append-nil, add-one}
-use Rattle.std.specs.Prelude.{Contains, IfOk, MatchOption, Result, Ok, Err, false}
+use Rattle.std.specs.Prelude.{Contains, IfOk, MatchOption, OnErr, Result, Ok, Err, false}
 use Rattle.std.proofs.lemmas.Bool.{cases_eq}
 use Rattle.std.proofs.lemmas.List.Elements.{Contains-append_left, Contains-append_right}
 use Rattle.lx_piece.specs.declared.piece.Piece.{Piece}
@@ -34,6 +34,12 @@ cut_first made plan old fresh new (Err e) end file first same h = tt
 cut_first made plan old fresh new (Ok None) end file first same h = absurd (let none = h.0 in omega arith)
 cut_first made plan old fresh new (Ok (Some piece)) end file first same h =
     (h.0, cut_more made plan fresh new piece h.1 same h.2 ∙ ap (λ ps. ps ++ piece ∷ []) (fresh_before made plan old fresh end file first))
+
+-- where it couldn't be cut
+pub cut_none : {C E : Type 0} (made : Making C) (plan : Planned) (old fresh new : Cutting) (result : Result (Option (Piece C)) E) → old.next ≡ pieces_of plan old.file → fresh.file ≡ old.file + 1 → fresh.next ≡ 0 →
+    OnErr result (new ≡ fresh) → OnErr result (pieces_before made plan new ≡ pieces_before made plan old)
+cut_none made plan old fresh new (Ok next) end file first h = tt
+cut_none made plan old fresh new (Err e) end file first h = ap (λ (k : Cutting). pieces_before made plan k) h ∙ fresh_before made plan old fresh end file first
 
 -- each piece of a file is among its first ones
 piece_within : {C : Type 0} (made : Making C) (plan : Planned) (file count number : ℕ) → number < count → Contains (pieces_by made plan file count) (piece_by made plan file number)

@@ -13,7 +13,9 @@ use Rattle.lx_tables.specs.Model.{Table}
 use Rattle.lx_scan.specs.Cursors.{IsInText, items_left, listed}
 use Rattle.lx_scan.specs.Ends.{Appends}
 use Rattle.lx_scan.specs.declared.cursor.Cursor.{Cursor}
+use Rattle.lx_scan.specs.Failing.{IsMemoryOf}
 use Rattle.lx_scan.specs.declared.item.Item.{Item}
+use Rattle.lx_scan.specs.declared.memory.ScanMemory.{ScanMemory}
 use Rattle.lx_piece.specs.declared.piece.Mark.{Mark}
 use Rattle.lx_piece.specs.declared.piece.Mark.TheVariants.{More, Whole, Cut}
 use Rattle.lx_piece.specs.declared.piece.Piece.{Piece}
@@ -46,6 +48,15 @@ enough_rest first items ahead left most appends few end =
     elim (cases_lt (length items) most) [
       | inl fewer ↦ end fewer ∙ sym (left_none items left (first ++ ahead) most whole (end fewer) few)
       | inr enough ↦ sym (left_most items left (first ++ ahead) most whole (omega arith))
+    ]
+
+pub enough_items : (first items ahead left : List Item) (most : ℕ) → Appends first items ahead left → length items ≤ most → (length items < most → left ≡ []) → items ≡ take most (first ++ ahead)
+enough_items first items ahead left most appends few end =
+    let whole : items ++ left ≡ first ++ ahead =
+    ap (λ xs. xs ++ left) appends.new_is ∙ append_assoc first appends.added left ∙ ap (λ xs. first ++ xs) (sym appends.left_is) in
+    elim (cases_lt (length items) most) [
+      | inl fewer ↦ sym (taken_all items left (first ++ ahead) most whole (end fewer) few)
+      | inr enough ↦ sym (taken_most items left (first ++ ahead) most whole (omega arith))
     ]
 
 -- ---- how many pieces there are
@@ -119,6 +130,14 @@ next_there plan cutter some is ahead = at cutter.ahead ahead is.items
     at None h e = absurd (both_ways false refl h)
     at (Some item) h e = count_more plan.per_piece (items_of plan cutter.file) cutter.next item (items_left plan.table (bytes_of plan cutter.file) cutter.cursor) some (sym e)
 
+-- ---- what is remembered
+-- what a cutter remembers is of the tables and the file by which it is asked for a piece
+pub remembers : (plan own : Planned) (file : ℕ) (table : Table) (text : List ℕ) (m : ScanMemory) → own ≡ plan → table ≡ plan.table → text ≡ bytes_of plan file → IsMemoryOf own.table (bytes_of own file) m → IsMemoryOf table text m
+remembers plan own file table text m same e f is = rw (e, f) (subst (λ (p : Planned). IsMemoryOf p.table (bytes_of p file) m) same is)
+
+pub remembers_on : (plan own : Planned) (file : ℕ) (table : Table) (text : List ℕ) (m : ScanMemory) → own ≡ plan → table ≡ plan.table → text ≡ bytes_of plan file → IsMemoryOf table text m → IsMemoryOf own.table (bytes_of own file) m
+remembers_on plan own file table text m same e f is = subst (λ (p : Planned). IsMemoryOf p.table (bytes_of p file) m) (sym same) (rw (e, f) at is)
+
 -- what is taken from a cutter: the items of a piece, the item behind them, and the cursor behind that one
 pub record TakesPiece (plan : Planned) (cutter : Cutting) (items : List Item) (next : Option Item) (cursor : Cursor) : Type 0 where
   pub in_text : IsInText plan.table (bytes_of plan cutter.file) cursor
@@ -152,8 +171,9 @@ module _ (plan : Planned) (cutter : Cutting) (items : List Item) (next : Option 
   none_behind None h e = h
   none_behind (Some item) h e = absurd (cc)
 
-  pub cuts_on : IsCutterOf plan (record { file = cutter.file; next = cutter.next + 1; cursor = cursor; ahead = next })
+  pub cuts_on : IsCutterOf plan (record { plan = cutter.plan; file = cutter.file; next = cutter.next + 1; cursor = cursor; ahead = next })
   cuts_on = record {
+    plan_is = is.plan_is;
     file = is.file;
     next = omega arith;
     in_text = takes.in_text;

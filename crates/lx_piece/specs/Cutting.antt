@@ -6,8 +6,9 @@ use Rattle.lx_scan.specs.declared.item.Item.{Item}
 use Rattle.lx_piece.specs.Plans.{Planned, bytes_of, files_of, items_of}
 use Rattle.lx_piece.specs.Pieces.{pieces_of}
 
--- A cutter as contracts see it: its file, the number of its next piece, and how far the file is scanned: to an item, and from a cursor on.
+-- A cutter as contracts see it: its plan, its file, the number of its next piece, and how far the file is scanned: to an item, and from a cursor on.
 pub record Cutting : Type 0 where
+  pub plan : Planned
   pub file : ℕ
   pub next : ℕ
   pub cursor : Cursor
@@ -19,6 +20,7 @@ items_ahead table text ahead cursor = listed ahead ++ items_left table text curs
 
 -- It cuts a file of this plan: ahead are the items of its next piece and of those behind it, and behind the first piece some are where there is one to look at.
 pub record IsCutterOf (plan : Planned) (cutter : Cutting) : Type 0 where
+  pub plan_is : cutter.plan ≡ plan
   pub file : cutter.file < files_of plan
   pub next : cutter.next ≤ pieces_of plan cutter.file
   pub in_text : IsInText plan.table (bytes_of plan cutter.file) cutter.cursor

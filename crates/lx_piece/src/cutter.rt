@@ -2,6 +2,7 @@
 
 ghost use Rattle.std.specs.Prelude.{if◌then◌else◌, ◌≡◌, ◌+◌, ◌<◌, ◌++◌, [], ℕ, List, drop, take, IfNone, IfOk, OnErr, OnOk, MatchOption, None};
 ghost use Rattle.lx_scan.specs.Cursors.{IsInText, items_left, listed};
+ghost use Rattle.lx_scan.specs.Failing.{IsMemoryOf};
 ghost use Rattle.lx_scan.specs.declared.item.Item.{Item};
 ghost use Rattle.lx_piece.specs.Cutting.{IsCutterOf, items_ahead};
 ghost use Rattle.lx_piece.specs.Pieces.{IsPieceBy, IsPieceOf, mark_of, piece_at, piece_by, pieces_of};
@@ -10,10 +11,11 @@ ghost use Rattle.lx_piece.specs.Plans.{bytes_of, files_of, is_cut};
 use crate::maker::{KeepItems, Maker};
 use crate::piece::{Mark, Piece};
 use crate::plan::Plan;
-use lx_scan::{Cursor, Item};
+use lx_scan::{Cursor, Item, ScanMemory};
 use lx_tables::Tables;
 use std::alloc::{AllocError, Global};
 use std::marker::Model;
+use std::snapshot::Snapshot;
 
 // Appends an item, if there is one.
 fn push_some(item: Option<Item>, items: &mut Vec<Item>) -> Result<(), AllocError>
@@ -30,21 +32,24 @@ fn take_items(
     tables: &Tables,
     text: &[u8],
     cursor: &mut Cursor,
+    memory: &mut ScanMemory,
     first: Option<Item>,
     most: usize,
     items: &mut Vec<Item>,
 ) -> Result<Option<Item>, AllocError>
     requires in_text { IsInText tables.now text.now cursor.old }
+    requires memory { IsMemoryOf tables.now text.now memory.old }
     requires none { items.old.items ≡ [] }
     requires some { 0 < most }
     ensures in_text { IsInText tables.now text.now cursor.new }
+    ensures memory { IsMemoryOf tables.now text.now memory.new }
     ensures items { IfOk result (λ _. items.new.items ≡ take most (items_ahead tables.now text.now first cursor.old)) }
     ensures rest { IfOk result (λ next. items_ahead tables.now text.now next cursor.new ≡ drop most (items_ahead tables.now text.now first cursor.old)) }
     ensures end { IfOk result (λ next. IfNone next (drop most (items_ahead tables.now text.now first cursor.old) ≡ [])) }
 {
     push_some(first, items)?;
-    cursor.next_items(tables, text, most, items)?;
-    Ok(cursor.next_item(tables, text))
+    cursor.next_items_by(tables, text, memory, most, items)?;
+    Ok(cursor.next_item_by(tables, text, memory))
 }
 
 // The mark of a piece: of the last one it is Cut where its file's reading failed, and else Whole.
@@ -62,20 +67,28 @@ fn mark(is_last: bool, is_cut: bool) -> Mark
 #[derive(Drop)]
 pub struct Cutter {
     alloc: Global,
+    // The plan, of which clauses alone speak.
+    plan: Snapshot<Plan>,
     file: u32,
     // The number of the next piece.
     number: u64,
     cursor: Cursor,
     // The item behind the last piece, which was looked at for that piece's mark.
     ahead: Option<Item>,
+    // What is remembered of the file, by the plan's tables.
+    memory: ScanMemory,
 }
 
 impl Model for Cutter {
+    ghost use Rattle.lx_scan.specs.Failing.{IsMemoryOf};
     ghost use Rattle.lx_piece.specs.Cutting.{Cutting};
+    ghost use Rattle.lx_piece.specs.Plans.{bytes_of};
 
     ghost Value = { Cutting };
 
-    ghost view = { λ s. record { file = s.file; next = s.number; cursor = s.cursor; ahead = s.ahead } };
+    ghost view = { λ s. record { plan = s.plan.value; file = s.file; next = s.number; cursor = s.cursor; ahead = s.ahead } };
+
+    ghost invariant = { λ s. IsMemoryOf s.plan.value.table (bytes_of s.plan.value s.file) s.memory };
 }
 
 impl Cutter {
@@ -90,10 +103,12 @@ impl Cutter {
         let _files = plan.files();
         Cutter {
             alloc,
+            plan: Snapshot::of(plan),
             file,
             number: 0,
             cursor: Cursor::begin(),
             ahead: None,
+            memory: ScanMemory::new(alloc),
         }
     }
 
@@ -144,6 +159,7 @@ impl Cutter {
             plan.tables(),
             text,
             &mut cursor,
+            &mut self.memory,
             self.ahead,
             most,
             &mut items,

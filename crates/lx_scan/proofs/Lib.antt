@@ -4,6 +4,7 @@ pub mod ByRuns
 pub mod Choosing
 pub mod Cursors
 pub mod Entries
+pub mod Failing
 pub mod Giving
 pub mod OneList
 pub mod Placing

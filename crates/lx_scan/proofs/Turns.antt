@@ -108,7 +108,7 @@ items_next table (byte ∷ rest) place choice more is some =
         ap (λ (k : ℕ). items ++ items_from table rest k next) less ∙ ap (λ (xs : List Item). items ++ xs) (items_behind table rest n next)
 
 -- ---- from place to place
-drop_further : (text : List ℕ) (p n : ℕ) → drop n (drop p text) ≡ drop (p + n) text
+pub drop_further : (text : List ℕ) (p n : ℕ) → drop n (drop p text) ≡ drop (p + n) text
 drop_further [] p n = ap (λ (xs : List ℕ). drop n xs) (drop-nil p) ∙ drop-nil n ∙ sym (drop-nil (p + n))
 drop_further (x ∷ text) zero n = let same : n ≡ zero + n = omega arith in ap (λ (k : ℕ). drop k (x ∷ text)) same
 drop_further (x ∷ text) (suc p) n = let same : suc (p + n) ≡ suc p + n = omega arith in drop_further text p n ∙ ap (λ (k : ℕ). drop k (x ∷ text)) same

@@ -2,6 +2,7 @@ pub mod Answers
 pub mod ByRules
 pub mod Cursors
 pub mod Ends
+pub mod Failing
 pub mod ItemParts
 pub mod Items
 pub mod Matching

@@ -10,7 +10,7 @@ use lx_tables::{State, Tables};
 
 // Whether a rule that is accepted after so many bytes, one at least, has a token: the newline of a `$` alone is none.
 #[inline(always)]
-fn has_token(tables: &Tables, rule: u16, read: usize) -> bool
+pub(crate) fn has_token(tables: &Tables, rule: u16, read: usize) -> bool
     requires rule { rule < length tables.now.rules }
     requires some { 0 < read }
     ensures { result ≡ nat_lt 0 (token_len tables.now rule read) }
@@ -55,7 +55,7 @@ fn last_accepted(tables: &Tables, condition: u16, begin: bool, text: &[u8]) -> O
 }
 
 // How long the token of a rule is that is accepted after so many bytes: the newline of a `$` isn't part of it.
-fn len_of_token(tables: &Tables, rule: u16, read: usize) -> usize
+pub(crate) fn len_of_token(tables: &Tables, rule: u16, read: usize) -> usize
     requires rule { rule < length tables.now.rules }
     requires some { 0 < read }
     ensures { result ≡ token_len tables.now rule read }

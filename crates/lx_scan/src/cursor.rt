@@ -5,6 +5,7 @@ ghost use Rattle.std.specs.Option.{ForSome};
 ghost use Rattle.lx_tables.specs.Model.{IsTable, Table};
 ghost use Rattle.lx_scan.specs.Cursors.{IsInText, items_left, item_of_step, listed, steps_left};
 ghost use Rattle.lx_scan.specs.Ends.{Appends, IsPlace};
+ghost use Rattle.lx_scan.specs.Failing.{IsMemoryOf};
 ghost use Rattle.lx_scan.specs.Items.{items_after, items_of, steps_at};
 ghost use Rattle.lx_scan.specs.Matching.{choice_in};
 ghost use Rattle.lx_scan.specs.Steps.{items_of_steps};
@@ -12,8 +13,9 @@ ghost use Rattle.lx_scan.specs.Steps.{items_of_steps};
 use crate::appending::append_runs;
 use crate::ends::End;
 use crate::item::Item;
+use crate::memory::ScanMemory;
 use crate::place::{Match, Place};
-use crate::scanner::next_match;
+use crate::scanner::{next_match, next_match_by};
 use lx_rules::rule::Step;
 use lx_tables::Tables;
 use std::alloc::AllocError;
@@ -128,31 +130,62 @@ impl Cursor {
         item
     }
 
-    // Goes on by the joined table as far as that tells the matches, and gives before which byte it stopped; unless steps are left at its match, or
-    // it went that far before. So what the joined table doesn't tell is looked at once.
+    /// The same by what is remembered of the text, so that no part of it is gone over again and again.
+    pub fn next_item_by(
+        &mut self,
+        tables: &Tables,
+        text: &[u8],
+        memory: &mut ScanMemory,
+    ) -> Option<Item>
+        requires in_text { IsInText tables.now text.now self.old }
+        requires memory { IsMemoryOf tables.now text.now memory.old }
+        ensures in_text { IsInText tables.now text.now self.new }
+        ensures memory { IsMemoryOf tables.now text.now memory.new }
+        ensures items { items_left tables.now text.now self.old ≡ listed result ++ items_left tables.now text.now self.new }
+        ensures end { IfNone result (items_left tables.now text.now self.new ≡ []) }
+    {
+        let mut item = self.next_at_match(tables);
+        while item.is_none() {
+            let (found, next) = next_match_by(tables, text, self.place, memory)?;
+            *self = Cursor {
+                found,
+                line: self.place.line,
+                done: 0,
+                place: next,
+            };
+            item = self.next_at_match(tables);
+        }
+        item
+    }
+
+    // Goes on by the joined table as far as that tells the matches, and has it remembered before which byte it stopped; unless steps are left at
+    // its match, or it went that far before. So what the joined table doesn't tell is looked at once.
     fn run_on(
         &mut self,
         tables: &Tables,
         text: &[u8],
+        memory: &mut ScanMemory,
         most: usize,
-        stop: usize,
         ends: &mut [End],
         items: &mut Vec<Item>,
-    ) -> Result<usize, AllocError>
+    ) -> Result<(), AllocError>
         requires in_text { IsInText tables.now text.now self.old }
         requires few { length items.old.items ≤ most }
+        requires memory { IsMemoryOf tables.now text.now memory.old }
         ensures in_text { IsInText tables.now text.now self.new }
+        ensures memory { IsMemoryOf tables.now text.now memory.new }
         ensures items { OnOk result (Appends items.old.items items.new.items (items_left tables.now text.now self.old) (items_left tables.now text.now self.new)) }
         ensures most { OnOk result (length items.new.items ≤ most) }
     {
         // its contract says what holds of all tables
         let _conditions = tables.conditions();
-        if self.place.offset < stop || self.done < steps_of_match(tables, self.found).len() {
-            return Ok(stop);
+        if self.place.offset < memory.stop || self.done < steps_of_match(tables, self.found).len() {
+            return Ok(());
         }
         let reached = append_runs(tables, text, self.place, most, ends, items)?;
         *self = Cursor::at(reached.place);
-        Ok(reached.stop)
+        memory.stop = reached.stop;
+        Ok(())
     }
 
     /// Appends the next items to a list until it has `most`, or all of them where fewer are left. Most of them are found by the joined table,
@@ -172,16 +205,39 @@ impl Cursor {
         ensures end { OnOk result (length items.new.items < most → items_left tables.now text.now self.new ≡ []) }
         ensures err { OnErr result (self.new ≡ self.old) }
     {
+        let mut memory = ScanMemory::new(*items.allocator());
+        self.next_items_by(tables, text, &mut memory, most, items)
+    }
+
+    /// The same by what is remembered of the text, which has to be of these tables and this text, and stays so. Where memory is refused, something
+    /// more may be remembered.
+    pub fn next_items_by(
+        &mut self,
+        tables: &Tables,
+        text: &[u8],
+        memory: &mut ScanMemory,
+        most: usize,
+        items: &mut Vec<Item>,
+    ) -> Result<(), AllocError>
+        requires in_text { IsInText tables.now text.now self.old }
+        requires few { length items.old.items ≤ most }
+        requires memory { IsMemoryOf tables.now text.now memory.old }
+        ensures in_text { IsInText tables.now text.now self.new }
+        ensures memory { IsMemoryOf tables.now text.now memory.new }
+        ensures items { OnOk result (Appends items.old.items items.new.items (items_left tables.now text.now self.old) (items_left tables.now text.now self.new)) }
+        ensures most { OnOk result (length items.new.items ≤ most) }
+        ensures end { OnOk result (length items.new.items < most → items_left tables.now text.now self.new ≡ []) }
+        ensures err { OnErr result (self.new ≡ self.old) }
+    {
         let mut ends = [End::NONE; ENDS];
-        let mut stop = 0;
         let mut cursor = *self;
         'further: while items.len() < most {
-            let Some(item) = cursor.next_item(tables, text) else {
+            let Some(item) = cursor.next_item_by(tables, text, memory) else {
                 *self = cursor;
                 return Ok(());
             };
             items.push(item)?;
-            stop = cursor.run_on(tables, text, most, stop, &mut ends, items)?;
+            cursor.run_on(tables, text, memory, most, &mut ends, items)?;
         }
         *self = cursor;
         Ok(())

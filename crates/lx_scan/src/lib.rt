@@ -8,11 +8,14 @@ pub mod cursor;
 mod ends;
 pub mod item;
 pub mod lines;
+mod longest;
+pub mod memory;
 pub mod place;
 pub mod ruling;
 pub mod scanner;
 
 pub use crate::cursor::Cursor;
 pub use crate::item::Item;
+pub use crate::memory::ScanMemory;
 pub use crate::place::{Match, Place};
 pub use crate::scanner::{next_match, scan};

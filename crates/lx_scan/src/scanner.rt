@@ -1,8 +1,9 @@
 //! The scanner: the items of a text, match by match.
 
-ghost use Rattle.std.specs.Prelude.{◌≡◌, ◌<◌, ◌≤◌, ◌+◌, ◌-◌, ◌^◌, ◌++◌, length, nat_eq, slice_index, take, None, IfOk, OnOk, MatchOption};
+ghost use Rattle.std.specs.Prelude.{◌≡◌, ◌<◌, ◌≤◌, ◌+◌, ◌-◌, ◌^◌, ◌++◌, length, nat_eq, slice_index, take, drop, None, IfOk, OnOk, MatchOption};
 ghost use Rattle.std.specs.Option.{ForSome, option_map};
 ghost use Rattle.lx_tables.specs.Model.{IsTable};
+ghost use Rattle.lx_scan.specs.Failing.{IsMemoryOf};
 ghost use Rattle.lx_scan.specs.Items.{items_of, steps_at};
 ghost use Rattle.lx_scan.specs.Matching.{GoesOn, IsFound, choice_in};
 ghost use Rattle.lx_scan.specs.Steps.{condition_after, items_of_steps, newlines};
@@ -10,6 +11,8 @@ ghost use Rattle.lx_scan.specs.Steps.{condition_after, items_of_steps, newlines}
 use crate::choice::choose;
 use crate::cursor::{Cursor, steps_of_match};
 use crate::item::Item;
+use crate::longest::choose_by;
+use crate::memory::ScanMemory;
 use crate::place::{Match, Place};
 use lx_rules::rule::Step;
 use lx_tables::Tables;
@@ -66,6 +69,19 @@ fn match_at(tables: &Tables, rest: &[u8], place: Place) -> Match
     match_of(place.offset, choice)
 }
 
+// The match at a place of a text, by what is remembered of it.
+fn match_by(tables: &Tables, text: &[u8], place: Place, memory: &mut ScanMemory) -> Match
+    requires table { IsTable tables.now }
+    requires known { place.condition < length tables.now.machine.starts }
+    requires more { place.offset < length text.now }
+    requires memory { IsMemoryOf tables.now text.now memory.old }
+    ensures found { IsFound tables.now (drop place.offset text.now) place result }
+    ensures memory { IsMemoryOf tables.now text.now memory.new }
+{
+    let choice = choose_by(tables, text, place, memory);
+    match_of(place.offset, choice)
+}
+
 // The place behind a match, at line begin exactly where its last byte is a newline.
 fn place_behind(tables: &Tables, rest: &[u8], place: Place, found: Match) -> Place
     requires some { 0 < found.len }
@@ -88,7 +104,8 @@ fn place_behind(tables: &Tables, rest: &[u8], place: Place, found: Match) -> Pla
 }
 
 /// The match at a place and the place behind it; None only at the end of the text. It takes no memory. The place has to be in the text, its
-/// condition one of the tables, and its line at least 1 and at most one more than its offset; the next place is such a place again.
+/// condition one of the tables, and its line at least 1 and at most one more than its offset; the next place is such a place again. Nothing is
+/// kept from call to call: where matches are looked for far ahead in vain, each does it anew.
 pub fn next_match(tables: &Tables, text: &[u8], place: Place) -> Option<(Match, Place)>
     requires within { place.offset ≤ length text.now }
     requires known { place.condition < length tables.now.machine.starts }
@@ -104,6 +121,31 @@ pub fn next_match(tables: &Tables, text: &[u8], place: Place) -> Option<(Match, 
     let rest = &text[place.offset..];
     let found = match_at(tables, rest, place);
     let next = place_behind(tables, rest, place, found);
+    Some((found, next))
+}
+
+/// The same by what is remembered of the text, which grows where a run went on in vain for long.
+pub(crate) fn next_match_by(
+    tables: &Tables,
+    text: &[u8],
+    place: Place,
+    memory: &mut ScanMemory,
+) -> Option<(Match, Place)>
+    requires within { place.offset ≤ length text.now }
+    requires known { place.condition < length tables.now.machine.starts }
+    requires line_some { 1 ≤ place.line }
+    requires line_few { place.line ≤ place.offset + 1 }
+    requires memory { IsMemoryOf tables.now text.now memory.old }
+    ensures found { MatchOption result (place.offset ≡ length text.now) (λ found. GoesOn tables.now text.now place found.0 found.1) }
+    ensures memory { IsMemoryOf tables.now text.now memory.new }
+{
+    // its contract says what holds of all tables
+    let _conditions = tables.conditions();
+    if place.offset == text.len() {
+        return None;
+    }
+    let found = match_by(tables, text, place, memory);
+    let next = place_behind(tables, &text[place.offset..], place, found);
     Some((found, next))
 }
 

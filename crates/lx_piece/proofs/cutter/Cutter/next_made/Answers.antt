@@ -8,14 +8,14 @@ use Rattle.lx_piece.proofs.cutter.Cutter.next_made.Goals.{else-self-gt0-via-then
 
 pub returns-then-is_none-clause-piece : goal.returns-then-is_none-clause-piece
 returns-then-is_none-clause-piece g c =
-    let is : IsCutterOf c.args.plan.now (record { file = c.self.inside.file; next = c.self.inside.number; cursor = c.self.inside.cursor; ahead = c.self.inside.ahead })
+    let is : IsCutterOf c.args.plan.now (record { plan = c.self.inside.plan.value; file = c.self.inside.file; next = c.self.inside.number; cursor = c.self.inside.cursor; ahead = c.self.inside.ahead })
     = subst (λ (k : Cutting). IsCutterOf c.args.plan.now k) (sym c.self.view_is) c.requires in
     let per_piece = c.per_piece-most.ensures in
     (ap (λ (k : Cutting). k.next) (sym c.self.view_is) ∙ none_next c.args.plan.now _ (omega arith) is c.if-self-gt0.true (c.is_none.ensures ∙ ap not c.if-is_none.true) ∙ ap (λ (k : Cutting). pieces_of c.args.plan.now k.file) c.self.view_is, refl)
 
 -- the cutter as it was, where a piece is ahead, and what was taken from it
 abbrev cutter : (g : Over) → goal.After-self-3-1 g → Cutting
-cutter g c = record { file = c.self.inside.file; next = c.self.inside.number; cursor = c.self.inside.cursor; ahead = c.self.inside.ahead }
+cutter g c = record { plan = c.self.inside.plan.value; file = c.self.inside.file; next = c.self.inside.number; cursor = c.self.inside.cursor; ahead = c.self.inside.ahead }
 
 is_cutter : (g : Over) (c : goal.After-self-3-1 g) → IsCutterOf c.args.plan.now (cutter g c)
 is_cutter g c = subst (λ (k : Cutting). IsCutterOf c.args.plan.now k) (sym c.self.view_is) c.requires

@@ -1,4 +1,4 @@
-use Rattle.std.proofs.Common.{◌<◌, ◌+◌, sym, ◌∙◌, subst, arith, length, List, ℕ}
+use Rattle.std.proofs.Common.{◌<◌, ◌+◌, sym, subst, arith, length, List, ℕ}
 use Rattle.std.specs.Prelude.{slice_set}
 use Rattle.lx_piece.specs.Plans.{Planned, IsPlan}
 use Rattle.lx_piece.specs.Relayed.{IsNextPieceBy}

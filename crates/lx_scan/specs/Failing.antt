@@ -1,0 +1,34 @@
+-- States from which nothing more is accepted on the rest of a text, and what a scanner remembers of them (Reps 1998, "Maximal-munch tokenization in linear time").
+use Rattle.std.specs.Prelude.{◌≡◌, ℕ, ◌-◌, ◌*◌, ◌/◌, ◌<◌, ◌≤◌, List, Option, None, Some, length, drop, take, slice_index, slice_index_or}
+use Rattle.std.specs.Option.{ForSome}
+use Rattle.lx_automaton.specs.Automata.{Machine, answer_from}
+use Rattle.lx_tables.specs.Model.{Table}
+use Rattle.lx_scan.specs.declared.memory.FailedState.{FailedState}
+use Rattle.lx_scan.specs.declared.memory.ScanMemory.{ScanMemory}
+
+-- From this state on these bytes accept nothing, however many of them are read, one at least.
+pub record IsFailed (m : Machine) (rest : List ℕ) (state : ℕ) : Type 0 where
+  pub silent : (k : ℕ) → 0 < k → k ≤ length rest → answer_from m state (take k rest) ≡ None
+
+-- What is kept of a text: of each 32nd place four numbers, each one more than a state that has failed there, or 0; and some failed states with their places.
+pub record AreFailed (table : Table) (text marks : List ℕ) (others : List (Option FailedState)) : Type 0 where
+  pub kept : (slot : ℕ) → 0 < slice_index marks slot → IsFailed table.machine (drop (slot / 4 * 32) text) (slice_index marks slot - 1)
+  pub beside : (i : ℕ) → ForSome (slice_index_or others i None) (λ f. IsFailed table.machine (drop f.place text) f.state)
+
+-- a memory of this text by this table
+abbrev pub IsMemoryOf : Table → List ℕ → ScanMemory → Type 0
+IsMemoryOf table text m = AreFailed table text m.marks.items m.others.items
+
+-- one of the four numbers of a place
+pub record IsMarked (marks : List ℕ) (place number : ℕ) : Type 0 where
+  pub slot : ℕ
+  pub here : slot / 4 * 32 ≡ place
+  pub number_is : slice_index marks slot ≡ number
+
+-- what is kept beside the numbers has this state at this place
+pub record IsAmong (others : List (Option FailedState)) (place state : ℕ) : Type 0 where
+  pub index : ℕ
+  pub found : FailedState
+  pub there : slice_index_or others index None ≡ Some found
+  pub place_is : found.place ≡ place
+  pub state_is : found.state ≡ state

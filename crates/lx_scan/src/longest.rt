@@ -1,0 +1,147 @@
+//! The choice among rules by a memory of the text: a run over it stops where nothing more is accepted, as earlier runs have shown.
+
+ghost use Rattle.std.specs.Prelude.{◌≡◌, ◌<◌, ◌≤◌, ◌-◌, IsTrue, MatchOption, drop, length};
+ghost use Rattle.std.specs.Option.{option_or};
+ghost use Rattle.lx_automaton.specs.Automata.{accepted_by, state_count};
+ghost use Rattle.lx_tables.specs.Model.{IsTable};
+ghost use Rattle.lx_scan.specs.Answers.{furthest, match_after};
+ghost use Rattle.lx_scan.specs.Failing.{IsFailed, IsMemoryOf};
+ghost use Rattle.lx_scan.specs.Items.{choice_at};
+
+use crate::choice::{has_token, len_of_token};
+use crate::memory::ScanMemory;
+use crate::place::Place;
+use lx_tables::{State, Tables};
+
+// A run is remembered that went on in vain for so many bytes. Shorter ones are usual, and cost little.
+const LONG: usize = 64;
+
+/// What a run has found: the last rule with a token that was accepted, and after how many bytes; and the place behind which none was accepted,
+/// with the state there.
+#[derive(Clone, Copy)]
+struct Found {
+    last: Option<(u16, usize)>,
+    since: usize,
+    state: State,
+}
+
+// Takes note of what is accepted once a state is reached before byte `at`, so many bytes behind the begin. Where nothing is, it writes nothing:
+// a value that was given back would be copied at each byte.
+#[inline(always)]
+fn accept_at(tables: &Tables, state: State, at: usize, read: usize, found: &mut Found)
+    requires state { state.0 < state_count tables.now.machine }
+    requires some { 0 < read }
+    ensures last { found.new.last ≡ option_or (match_after tables.now (accepted_by tables.now.machine state.0) read) found.old.last }
+    ensures since { MatchOption (accepted_by tables.now.machine state.0) ((found.new.since ≡ found.old.since) × (found.new.state.0 ≡ found.old.state.0)) (λ _. (found.new.since ≡ at) × (found.new.state.0 ≡ state.0)) }
+{
+    if let Some(rule) = tables.accepts(state) {
+        if has_token(tables, rule, read) {
+            found.last = Some((rule, read));
+        }
+        found.since = at;
+        found.state = state;
+    }
+}
+
+// Goes over the text from a place on, until a step is missing or nothing more is accepted; gives what it found and before which byte it stopped.
+#[tactic(auto, using(crate::proofs::Failing::run_steps))]
+#[inline(never)]
+fn run_from(tables: &Tables, text: &[u8], place: Place, memory: &ScanMemory) -> (Found, usize)
+    requires table { IsTable tables.now }
+    requires known { place.condition < length tables.now.machine.starts }
+    requires within { place.offset ≤ length text.now }
+    requires memory { IsMemoryOf tables.now text.now memory.now }
+    ensures last { result.0.last ≡ furthest tables.now place.condition place.at_line_begin (drop place.offset text.now) (length (drop place.offset text.now)) }
+    ensures failed { IsFailed tables.now.machine (drop result.0.since text.now) result.0.state.0 }
+    ensures state { result.0.state.0 < state_count tables.now.machine }
+    ensures order { result.0.since ≤ result.1 }
+    ensures end { result.1 ≤ length text.now }
+{
+    let mut state = tables.start(place.condition, place.at_line_begin);
+    let mut found = Found {
+        last: None,
+        since: place.offset,
+        state,
+    };
+    let mut at = place.offset;
+    while at < text.len() {
+        if memory.has_failed(at, state) {
+            return (found, at);
+        }
+        let Some(next) = tables.step(state, text[at]) else {
+            return (found, at);
+        };
+        at += 1;
+        accept_at(tables, next, at, at - place.offset, &mut found);
+        state = next;
+    }
+    (found, at)
+}
+
+// Keeps the states of a run that went on in vain from a place to before byte `end`.
+#[cold]
+#[inline(never)]
+#[tactic(auto, using(crate::proofs::Failing::keep_steps))]
+fn keep_run(
+    tables: &Tables,
+    text: &[u8],
+    from: usize,
+    end: usize,
+    state: State,
+    memory: &mut ScanMemory,
+)
+    requires table { IsTable tables.now }
+    requires state { state.0 < state_count tables.now.machine }
+    requires end { end ≤ length text.now }
+    requires failed { IsFailed tables.now.machine (drop from text.now) state.0 }
+    requires memory { IsMemoryOf tables.now text.now memory.old }
+    ensures memory { IsMemoryOf tables.now text.now memory.new }
+{
+    memory.make_room(text.len());
+    let mut state = state;
+    let mut at = from;
+    while at < end {
+        memory.keep(at, state, from);
+        let Some(next) = tables.step(state, text[at]) else {
+            return;
+        };
+        at += 1;
+        state = next;
+    }
+}
+
+// Has a run remembered that went on in vain for long.
+#[inline(always)]
+fn remember(tables: &Tables, text: &[u8], found: Found, end: usize, memory: &mut ScanMemory)
+    requires table { IsTable tables.now }
+    requires state { found.state.0 < state_count tables.now.machine }
+    requires order { found.since ≤ end }
+    requires end { end ≤ length text.now }
+    requires failed { IsFailed tables.now.machine (drop found.since text.now) found.state.0 }
+    requires memory { IsMemoryOf tables.now text.now memory.old }
+    ensures memory { IsMemoryOf tables.now text.now memory.new }
+{
+    if end - found.since >= LONG {
+        keep_run(tables, text, found.since, end, found.state, memory);
+    }
+}
+
+/// The rule that is chosen at a place of a text, and the length of its token, by what is remembered of the text.
+pub(crate) fn choose_by(
+    tables: &Tables,
+    text: &[u8],
+    place: Place,
+    memory: &mut ScanMemory,
+) -> Option<(u16, usize)>
+    requires table { IsTable tables.now }
+    requires known { place.condition < length tables.now.machine.starts }
+    requires within { place.offset ≤ length text.now }
+    requires memory { IsMemoryOf tables.now text.now memory.old }
+    ensures choice { result ≡ choice_at tables.now (drop place.offset text.now) place }
+    ensures memory { IsMemoryOf tables.now text.now memory.new }
+{
+    let (found, end) = run_from(tables, text, place, memory);
+    remember(tables, text, found, end, memory);
+    let (rule, read) = found.last?;
+    Some((rule, len_of_token(tables, rule, read)))
+}
