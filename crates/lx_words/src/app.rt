@@ -75,7 +75,7 @@ fn scan_command<'a>(alloc: Global) -> Result<Command<'a>, AllocError>
 // The options on the form of a listing.
 fn with_form<'a>(alloc: Global, command: Command<'a>) -> Result<Command<'a>, AllocError>
     ensures app { IfOk result (λ new. app_of new ≡ with_form (app_of command.entry)) }
-    ensures local { IfOk result (λ new. (fields_of new).has_globals ≡ (fields_of command.entry).has_globals) }
+    ensures local { IfOk result (λ new. (fields_of command.entry).has_globals ≡ false → (fields_of new).has_globals ≡ false) }
 {
     command
         .arg(names(alloc))?
@@ -87,7 +87,7 @@ fn with_form<'a>(alloc: Global, command: Command<'a>) -> Result<Command<'a>, All
 // The options on the files of a listing.
 fn with_list<'a>(alloc: Global, command: Command<'a>) -> Result<Command<'a>, AllocError>
     ensures app { IfOk result (λ new. app_of new ≡ with_list (app_of command.entry)) }
-    ensures local { IfOk result (λ new. (fields_of new).has_globals ≡ (fields_of command.entry).has_globals) }
+    ensures local { IfOk result (λ new. (fields_of command.entry).has_globals ≡ false → (fields_of new).has_globals ≡ false) }
 {
     command
         .arg(first(alloc))?
