@@ -1,0 +1,4 @@
+pub mod NameFaults
+pub mod NoneOf
+pub mod Numbers
+pub mod Written
