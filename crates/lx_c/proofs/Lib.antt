@@ -1,4 +1,5 @@
 pub mod NameFaults
 pub mod NoneOf
 pub mod Numbers
+pub mod Reading
 pub mod Written

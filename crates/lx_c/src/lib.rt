@@ -7,6 +7,7 @@ mod driver;
 mod fault;
 mod filling;
 pub mod judging;
+pub mod laws;
 mod numbering;
 pub mod options;
 pub mod printing;

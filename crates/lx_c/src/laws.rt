@@ -1,0 +1,9 @@
+//! What C reads of the arrays.
+
+ghost use Rattle.lx_automaton.specs.Automata.{Machine, IsMachine};
+ghost use Rattle.lx_c.specs.Reading.{HaveTheWords};
+
+/// A law: the numbers between the braces of the arrays of the automaton are its classes, rows and starts, in their order.
+pub fn arrays_have_the_words()
+    ensures { (m : Machine) → IsMachine m → HaveTheWords m }
+{}
