@@ -74,8 +74,8 @@ classes_read : (m : Machine) → AreSmall m → length m.classes ≡ 256 → rea
 classes_read m h all =
     let word : ℕ → ℕ = λ b. slice_index m.classes b in
     let listed : map word (range_with_len 0 256) ≡ m.classes =
-        ext_get_or 0 (map word (range_with_len 0 256)) m.classes (length-map-range_with_len word 0 256 ∙ sym all)
-        (λ i l. get_or-map-range_with_len word 0 256 i i 0 (subst (λ n. i < n) (length-map-range_with_len word 0 256) l) (omega arith)) in
+    ext_get_or 0 (map word (range_with_len 0 256)) m.classes (length-map-range_with_len word 0 256 ∙ sym all)
+    (λ i l. get_or-map-range_with_len word 0 256 i i 0 (subst (λ n. i < n) (length-map-range_with_len word 0 256) l) (omega arith)) in
     ap (λ bs. read_words 0 bs) (sym (append-nil (class_entries m)))
     ∙ (entries_read word 0 256 [] (λ b l. h.classes b l) ∙ (append-nil (map word (range_with_len 0 256)) ∙ listed))
 

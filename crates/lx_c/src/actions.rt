@@ -43,32 +43,32 @@ fn write_kind_word<W: Write>(
     options: &Options,
     first: u64,
     tables: &Tables,
-    k: u32,
+    place: u32,
 ) -> Result<(), io::Error>
     requires { first ≤ 4294967296 }
-    ensures ok { OnOk result (Wrote (W.contents out.old) (W.contents out.new) (kind_word options.now first tables.now k)) }
-    ensures err { OnErr result (WrotePrefix (W.contents out.old) (W.contents out.new) (kind_word options.now first tables.now k)) }
+    ensures ok { OnOk result (Wrote (W.contents out.old) (W.contents out.new) (kind_word options.now first tables.now place)) }
+    ensures err { OnErr result (WrotePrefix (W.contents out.old) (W.contents out.new) (kind_word options.now first tables.now place)) }
 {
     if options.has_include() {
-        write_bytes(out, kind_name(tables, k))
+        write_bytes(out, kind_name(tables, place))
     } else {
-        write_number_of_kind(out, first, k)
+        write_number_of_kind(out, first, place)
     }
 }
 
-fn write_number_of_kind<W: Write>(out: &mut W, first: u64, k: u32) -> Result<(), io::Error>
+fn write_number_of_kind<W: Write>(out: &mut W, first: u64, place: u32) -> Result<(), io::Error>
     requires { first ≤ 4294967296 }
-    ensures ok { OnOk result (Wrote (W.contents out.old) (W.contents out.new) (number (first + k))) }
-    ensures err { OnErr result (WrotePrefix (W.contents out.old) (W.contents out.new) (number (first + k))) }
+    ensures ok { OnOk result (Wrote (W.contents out.old) (W.contents out.new) (number (first + place))) }
+    ensures err { OnErr result (WrotePrefix (W.contents out.old) (W.contents out.new) (number (first + place))) }
 {
-    write_numbered(out, b"", first + u64::from(k))
+    write_numbered(out, b"", first + u64::from(place))
 }
 
-fn write_condition_number<W: Write>(out: &mut W, c: u16) -> Result<(), io::Error>
-    ensures ok { OnOk result (Wrote (W.contents out.old) (W.contents out.new) (codes "-" ++ number (4 + c))) }
-    ensures err { OnErr result (WrotePrefix (W.contents out.old) (W.contents out.new) (codes "-" ++ number (4 + c))) }
+fn write_condition_number<W: Write>(out: &mut W, condition: u16) -> Result<(), io::Error>
+    ensures ok { OnOk result (Wrote (W.contents out.old) (W.contents out.new) (codes "-" ++ number (4 + condition))) }
+    ensures err { OnErr result (WrotePrefix (W.contents out.old) (W.contents out.new) (codes "-" ++ number (4 + condition))) }
 {
-    write_numbered(out, b"-", 4 + u64::from(c))
+    write_numbered(out, b"-", 4 + u64::from(condition))
 }
 
 fn write_step_word<W: Write>(
@@ -84,8 +84,8 @@ fn write_step_word<W: Write>(
 {
     match step {
         Step::Echo => write_bytes(out, b"-2"),
-        Step::Begin(c) => write_condition_number(out, c),
-        Step::Return(Kind::Name(k)) => write_kind_word(out, options, first, tables, k),
+        Step::Begin(condition) => write_condition_number(out, condition),
+        Step::Return(Kind::Name(kind)) => { write_kind_word(out, options, first, tables, kind) }
         Step::Return(Kind::Number(n)) => write_number(out, u64::from(n)),
     }
 }
@@ -127,15 +127,15 @@ fn write_own_steps<W: Write>(
     options: &Options,
     first: u64,
     tables: &Tables,
-    r: u64,
+    rule: u64,
     steps: &[Step],
 ) -> Result<(), io::Error>
     requires { first ≤ 4294967296 }
-    ensures ok { OnOk result (Wrote (W.contents out.old) (W.contents out.new) (filled options.now.prefix STEP_ARRAY.now ++ number_then r (codes "[] = {") ++ flat_map (step_entry options.now first tables.now) steps.now ++ codes "-1};\n")) }
-    ensures err { OnErr result (WrotePrefix (W.contents out.old) (W.contents out.new) (filled options.now.prefix STEP_ARRAY.now ++ number_then r (codes "[] = {") ++ flat_map (step_entry options.now first tables.now) steps.now ++ codes "-1};\n")) }
+    ensures ok { OnOk result (Wrote (W.contents out.old) (W.contents out.new) (filled options.now.prefix STEP_ARRAY.now ++ number_then rule (codes "[] = {") ++ flat_map (step_entry options.now first tables.now) steps.now ++ codes "-1};\n")) }
+    ensures err { OnErr result (WrotePrefix (W.contents out.old) (W.contents out.new) (filled options.now.prefix STEP_ARRAY.now ++ number_then rule (codes "[] = {") ++ flat_map (step_entry options.now first tables.now) steps.now ++ codes "-1};\n")) }
 {
     write_filled(out, options, STEP_ARRAY)?;
-    write_number_then(out, r, b"[] = {")?;
+    write_number_then(out, rule, b"[] = {")?;
     write_step_entries(out, options, first, tables, steps)?;
     write_bytes(out, b"-1};\n")
 }
@@ -145,17 +145,17 @@ fn write_steps_array<W: Write>(
     options: &Options,
     first: u64,
     tables: &Tables,
-    r: u64,
+    rule: u64,
     steps: &[Step],
 ) -> Result<(), io::Error>
     requires { first ≤ 4294967296 }
-    ensures ok { OnOk result (Wrote (W.contents out.old) (W.contents out.new) (steps_array options.now first tables.now r steps.now)) }
-    ensures err { OnErr result (WrotePrefix (W.contents out.old) (W.contents out.new) (steps_array options.now first tables.now r steps.now)) }
+    ensures ok { OnOk result (Wrote (W.contents out.old) (W.contents out.new) (steps_array options.now first tables.now rule steps.now)) }
+    ensures err { OnErr result (WrotePrefix (W.contents out.old) (W.contents out.new) (steps_array options.now first tables.now rule steps.now)) }
 {
     if is_simple(steps) {
         Ok(())
     } else {
-        write_own_steps(out, options, first, tables, r, steps)
+        write_own_steps(out, options, first, tables, rule, steps)
     }
 }
 
@@ -182,27 +182,31 @@ fn write_steps_arrays<W: Write>(
     Ok(())
 }
 
-fn write_place_of_steps<W: Write>(out: &mut W, options: &Options, r: u64) -> Result<(), io::Error>
-    ensures ok { OnOk result (Wrote (W.contents out.old) (W.contents out.new) (filled options.now.prefix STEPS_OF.now ++ number_then r (codes ",\n"))) }
-    ensures err { OnErr result (WrotePrefix (W.contents out.old) (W.contents out.new) (filled options.now.prefix STEPS_OF.now ++ number_then r (codes ",\n"))) }
+fn write_place_of_steps<W: Write>(
+    out: &mut W,
+    options: &Options,
+    rule: u64,
+) -> Result<(), io::Error>
+    ensures ok { OnOk result (Wrote (W.contents out.old) (W.contents out.new) (filled options.now.prefix STEPS_OF.now ++ number_then rule (codes ",\n"))) }
+    ensures err { OnErr result (WrotePrefix (W.contents out.old) (W.contents out.new) (filled options.now.prefix STEPS_OF.now ++ number_then rule (codes ",\n"))) }
 {
     write_filled(out, options, STEPS_OF)?;
-    write_number_then(out, r, b",\n")
+    write_number_then(out, rule, b",\n")
 }
 
 fn write_steps_entry<W: Write>(
     out: &mut W,
     options: &Options,
-    r: u64,
+    rule: u64,
     steps: &[Step],
 ) -> Result<(), io::Error>
-    ensures ok { OnOk result (Wrote (W.contents out.old) (W.contents out.new) (steps_entry options.now r steps.now)) }
-    ensures err { OnErr result (WrotePrefix (W.contents out.old) (W.contents out.new) (steps_entry options.now r steps.now)) }
+    ensures ok { OnOk result (Wrote (W.contents out.old) (W.contents out.new) (steps_entry options.now rule steps.now)) }
+    ensures err { OnErr result (WrotePrefix (W.contents out.old) (W.contents out.new) (steps_entry options.now rule steps.now)) }
 {
     if is_simple(steps) {
         write_bytes(out, b"0,\n")
     } else {
-        write_place_of_steps(out, options, r)
+        write_place_of_steps(out, options, rule)
     }
 }
 
@@ -310,8 +314,8 @@ fn write_name_entries<W: Write>(out: &mut W, tables: &Tables) -> Result<(), io::
     ensures ok { OnOk result (Wrote (W.contents out.old) (W.contents out.new) (flat_map (λ k. name_entry (kind_at tables.now k)) (range_with_len 0 (length tables.now.kinds)))) }
     ensures err { OnErr result (WrotePrefix (W.contents out.old) (W.contents out.new) (flat_map (λ k. name_entry (kind_at tables.now k)) (range_with_len 0 (length tables.now.kinds)))) }
 {
-    for k in 0..tables.kinds() {
-        write_name_entry(out, tables.kind(k))?;
+    for place in 0..tables.kinds() {
+        write_name_entry(out, tables.kind(place))?;
     }
     Ok(())
 }
@@ -320,8 +324,8 @@ fn write_kind_entries<W: Write>(out: &mut W, tables: &Tables) -> Result<(), io::
     ensures ok { OnOk result (Wrote (W.contents out.old) (W.contents out.new) (flat_map (λ k. kind_entry (kind_at tables.now k)) (range_with_len 0 (length tables.now.kinds)))) }
     ensures err { OnErr result (WrotePrefix (W.contents out.old) (W.contents out.new) (flat_map (λ k. kind_entry (kind_at tables.now k)) (range_with_len 0 (length tables.now.kinds)))) }
 {
-    for k in 0..tables.kinds() {
-        write_kind_entry(out, tables.kind(k))?;
+    for place in 0..tables.kinds() {
+        write_kind_entry(out, tables.kind(place))?;
     }
     Ok(())
 }

@@ -18,10 +18,14 @@ use itoa::Buffer;
 use lx_tables::Tables;
 use std::io::{self, Write};
 
-fn to_capital(c: u8) -> u8
-    ensures { result ≡ capital c }
+fn to_capital(letter: u8) -> u8
+    ensures { result ≡ capital letter }
 {
-    if b'a' <= c && c <= b'z' { c - 32 } else { c }
+    if b'a' <= letter && letter <= b'z' {
+        letter - 32
+    } else {
+        letter
+    }
 }
 
 fn write_include_of<W: Write>(out: &mut W, include: Option<&[u8]>) -> Result<(), io::Error>
@@ -41,19 +45,19 @@ fn write_include<W: Write>(out: &mut W, options: &Options) -> Result<(), io::Err
     write_include_of(out, options.include())
 }
 
-fn write_capital<W: Write>(out: &mut W, c: u8) -> Result<(), io::Error>
-    ensures ok { OnOk result (Wrote (W.contents out.old) (W.contents out.new) (capital c ∷ [])) }
-    ensures err { OnErr result (WrotePrefix (W.contents out.old) (W.contents out.new) (capital c ∷ [])) }
+fn write_capital<W: Write>(out: &mut W, letter: u8) -> Result<(), io::Error>
+    ensures ok { OnOk result (Wrote (W.contents out.old) (W.contents out.new) (capital letter ∷ [])) }
+    ensures err { OnErr result (WrotePrefix (W.contents out.old) (W.contents out.new) (capital letter ∷ [])) }
 {
-    write_bytes(out, &[to_capital(c)])
+    write_bytes(out, &[to_capital(letter)])
 }
 
 fn write_capitals<W: Write>(out: &mut W, text: &[u8]) -> Result<(), io::Error>
     ensures ok { OnOk result (Wrote (W.contents out.old) (W.contents out.new) (capitals text.now)) }
     ensures err { OnErr result (WrotePrefix (W.contents out.old) (W.contents out.new) (capitals text.now)) }
 {
-    for c in text {
-        write_capital(out, *c)?;
+    for letter in text {
+        write_capital(out, *letter)?;
     }
     Ok(())
 }
@@ -83,12 +87,12 @@ pub(crate) fn write_name<W: Write>(
     }
 }
 
-fn write_kind_number<W: Write>(out: &mut W, first: u64, k: u32) -> Result<(), io::Error>
+fn write_kind_number<W: Write>(out: &mut W, first: u64, place: u32) -> Result<(), io::Error>
     requires { first ≤ 4294967296 }
-    ensures ok { OnOk result (Wrote (W.contents out.old) (W.contents out.new) (codes " = " ++ number (first + k))) }
-    ensures err { OnErr result (WrotePrefix (W.contents out.old) (W.contents out.new) (codes " = " ++ number (first + k))) }
+    ensures ok { OnOk result (Wrote (W.contents out.old) (W.contents out.new) (codes " = " ++ number (first + place))) }
+    ensures err { OnErr result (WrotePrefix (W.contents out.old) (W.contents out.new) (codes " = " ++ number (first + place))) }
 {
-    write_numbered(out, b" = ", first + u64::from(k))
+    write_numbered(out, b" = ", first + u64::from(place))
 }
 
 fn write_kind_line<W: Write>(
@@ -96,15 +100,15 @@ fn write_kind_line<W: Write>(
     options: &Options,
     first: u64,
     kind: &[u8],
-    k: u32,
+    place: u32,
 ) -> Result<(), io::Error>
     requires { first ≤ 4294967296 }
-    ensures ok { OnOk result (Wrote (W.contents out.old) (W.contents out.new) (kind_line options.now first kind.now k)) }
-    ensures err { OnErr result (WrotePrefix (W.contents out.old) (W.contents out.new) (kind_line options.now first kind.now k)) }
+    ensures ok { OnOk result (Wrote (W.contents out.old) (W.contents out.new) (kind_line options.now first kind.now place)) }
+    ensures err { OnErr result (WrotePrefix (W.contents out.old) (W.contents out.new) (kind_line options.now first kind.now place)) }
 {
     write_bytes(out, b",\n    ")?;
     write_name(out, options, kind)?;
-    write_kind_number(out, first, k)
+    write_kind_number(out, first, place)
 }
 
 fn write_kind_list<W: Write>(
@@ -117,8 +121,8 @@ fn write_kind_list<W: Write>(
     ensures ok { OnOk result (Wrote (W.contents out.old) (W.contents out.new) (flat_map (λ k. kind_line options.now first (kind_at tables.now k) k) (range_with_len 0 (length tables.now.kinds)))) }
     ensures err { OnErr result (WrotePrefix (W.contents out.old) (W.contents out.new) (flat_map (λ k. kind_line options.now first (kind_at tables.now k) k) (range_with_len 0 (length tables.now.kinds)))) }
 {
-    for k in 0..tables.kinds() {
-        write_kind_line(out, options, first, tables.kind(k), k)?;
+    for place in 0..tables.kinds() {
+        write_kind_line(out, options, first, tables.kind(place), place)?;
     }
     Ok(())
 }
@@ -194,10 +198,14 @@ fn write_conditions<W: Write>(
     write_condition_count(out, tables)
 }
 
-fn write_condition_line<W: Write>(out: &mut W, options: &Options, c: usize) -> Result<(), io::Error>
-    requires { c < length options.now.conditions }
-    ensures ok { OnOk result (Wrote (W.contents out.old) (W.contents out.new) (condition_line options.now c)) }
-    ensures err { OnErr result (WrotePrefix (W.contents out.old) (W.contents out.new) (condition_line options.now c)) }
+fn write_condition_line<W: Write>(
+    out: &mut W,
+    options: &Options,
+    condition: usize,
+) -> Result<(), io::Error>
+    requires { condition < length options.now.conditions }
+    ensures ok { OnOk result (Wrote (W.contents out.old) (W.contents out.new) (condition_line options.now condition)) }
+    ensures err { OnErr result (WrotePrefix (W.contents out.old) (W.contents out.new) (condition_line options.now condition)) }
 {
     let mut digits = Buffer::new();
     write_parts(
@@ -206,9 +214,9 @@ fn write_condition_line<W: Write>(out: &mut W, options: &Options, c: usize) -> R
             b"#define ",
             options.prefix(),
             b"_in_",
-            options.condition(c),
+            options.condition(condition),
             b" ",
-            digits.format(c).as_bytes(),
+            digits.format(condition).as_bytes(),
             b"\n",
         ],
     )
@@ -218,8 +226,8 @@ fn write_condition_lines<W: Write>(out: &mut W, options: &Options) -> Result<(),
     ensures ok { OnOk result (Wrote (W.contents out.old) (W.contents out.new) (flat_map (condition_line options.now) (range_with_len 0 (length options.now.conditions)))) }
     ensures err { OnErr result (WrotePrefix (W.contents out.old) (W.contents out.new) (flat_map (condition_line options.now) (range_with_len 0 (length options.now.conditions)))) }
 {
-    for c in 0..options.conditions() {
-        write_condition_line(out, options, c)?;
+    for condition in 0..options.conditions() {
+        write_condition_line(out, options, condition)?;
     }
     Ok(())
 }

@@ -155,13 +155,13 @@ fn write_class_entries<W: Write>(out: &mut W, tables: &Tables) -> Result<(), io:
     Ok(())
 }
 
-fn write_start<W: Write>(out: &mut W, tables: &Tables, c: u16) -> Result<(), io::Error>
-    requires { c < length tables.now.machine.starts }
-    ensures ok { OnOk result (Wrote (W.contents out.old) (W.contents out.new) (start_line tables.now.machine c)) }
-    ensures err { OnErr result (WrotePrefix (W.contents out.old) (W.contents out.new) (start_line tables.now.machine c)) }
+fn write_start<W: Write>(out: &mut W, tables: &Tables, condition: u16) -> Result<(), io::Error>
+    requires { condition < length tables.now.machine.starts }
+    ensures ok { OnOk result (Wrote (W.contents out.old) (W.contents out.new) (start_line tables.now.machine condition)) }
+    ensures err { OnErr result (WrotePrefix (W.contents out.old) (W.contents out.new) (start_line tables.now.machine condition)) }
 {
-    write_entry(out, start_word(tables, c, false))?;
-    write_entry(out, start_word(tables, c, true))?;
+    write_entry(out, start_word(tables, condition, false))?;
+    write_entry(out, start_word(tables, condition, true))?;
     write_bytes(out, b"\n")
 }
 
@@ -169,8 +169,8 @@ fn write_starts<W: Write>(out: &mut W, tables: &Tables) -> Result<(), io::Error>
     ensures ok { OnOk result (Wrote (W.contents out.old) (W.contents out.new) (flat_map (start_line tables.now.machine) (range_with_len 0 (length tables.now.machine.starts)))) }
     ensures err { OnErr result (WrotePrefix (W.contents out.old) (W.contents out.new) (flat_map (start_line tables.now.machine) (range_with_len 0 (length tables.now.machine.starts)))) }
 {
-    for c in 0..tables.conditions() {
-        write_start(out, tables, c)?;
+    for condition in 0..tables.conditions() {
+        write_start(out, tables, condition)?;
     }
     Ok(())
 }

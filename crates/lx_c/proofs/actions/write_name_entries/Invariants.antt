@@ -5,5 +5,5 @@ use Rattle.std.proofs.Common.{length, take}
 use Rattle.std.specs.List.{flat_map, range_with_len}
 use Rattle.lx_c.proofs.actions.write_name_entries.Given as goal
 
-abbrev pub invariant-loop-k : goal.invariant-loop-k
-invariant-loop-k g l = Wrote (g.W.Write.contents l.fn.out) (g.W.Write.contents l.out) (flat_map (λ k. name_entry (kind_at l.tables k)) (take l.k (range_with_len 0 (length l.tables.kinds))))
+abbrev pub invariant-loop-place : goal.invariant-loop-place
+invariant-loop-place g l = Wrote (g.W.Write.contents l.fn.out) (g.W.Write.contents l.out) (flat_map (λ k. name_entry (kind_at l.tables k)) (take l.place (range_with_len 0 (length l.tables.kinds))))

@@ -7,4 +7,4 @@ use Rattle.lx_c.proofs.declarations.write_capitals.Goals as goal
 pub returns-in_err-write_capital-clause-err : goal.returns-in_err-write_capital-clause-err
 returns-in_err-write_capital-clause-err g c =
     let p = err_from_is_err_and c.from_residual.result c.from_residual.ensures.1 in
-    rw p.1 (prefix_next (λ b. capital b ∷ []) _ _ _ c.args.text.now c.loop-c.c-index 0 c.loop-c-test.true c.loop-c.invariant c.in_err-write_capital.ensures.err)
+    rw p.1 (prefix_next (λ b. capital b ∷ []) _ _ _ c.args.text.now c.loop-letter.letter-index 0 c.loop-letter-test.true c.loop-letter.invariant c.in_err-write_capital.ensures.err)

@@ -3,5 +3,5 @@ use Rattle.lx_c.specs.Kinds.{capitals}
 use Rattle.lx_tables.specs.Output.{Wrote}
 use Rattle.lx_c.proofs.declarations.write_capitals.Given as goal
 
-abbrev pub invariant-loop-c : goal.invariant-loop-c
-invariant-loop-c g l = Wrote (g.W.Write.contents l.fn.out) (g.W.Write.contents l.out) (capitals (take l.c-index l.text))
+abbrev pub invariant-loop-letter : goal.invariant-loop-letter
+invariant-loop-letter g l = Wrote (g.W.Write.contents l.fn.out) (g.W.Write.contents l.out) (capitals (take l.letter-index l.text))

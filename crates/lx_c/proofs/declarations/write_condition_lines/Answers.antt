@@ -8,10 +8,10 @@ use Rattle.lx_c.proofs.declarations.write_condition_lines.Goals as goal
 pub returns-in_err-write_condition_line-clause-err : goal.returns-in_err-write_condition_line-clause-err
 returns-in_err-write_condition_line-clause-err g c =
     let p = err_from_is_err_and c.from_residual.result c.from_residual.ensures.1 in
-    rw p.1 (number_prefix (condition_line c.args.options.now) _ _ _ (length c.args.options.now.conditions) c.loop-c.c (omega arith) c.loop-c.invariant c.in_err-write_condition_line.ensures.err)
+    rw p.1 (number_prefix (condition_line c.args.options.now) _ _ _ (length c.args.options.now.conditions) c.loop-condition.condition (omega arith) c.loop-condition.invariant c.in_err-write_condition_line.ensures.err)
 
-pub loop-c-preserved : goal.loop-c-preserved
-loop-c-preserved g c = number_next (condition_line c.args.options.now) _ _ _ (length c.args.options.now.conditions) c.loop-c.c (omega arith) c.loop-c.invariant c.in_ok-write_condition_line.ensures.ok
+pub loop-condition-preserved : goal.loop-condition-preserved
+loop-condition-preserved g c = number_next (condition_line c.args.options.now) _ _ _ (length c.args.options.now.conditions) c.loop-condition.condition (omega arith) c.loop-condition.invariant c.in_ok-write_condition_line.ensures.ok
 
 pub returns-clause-ok : goal.returns-clause-ok
-returns-clause-ok g c = number_end (condition_line c.args.options.now) _ _ (length c.args.options.now.conditions) c.loop-c.c (omega arith) c.loop-c.invariant
+returns-clause-ok g c = number_end (condition_line c.args.options.now) _ _ (length c.args.options.now.conditions) c.loop-condition.condition (omega arith) c.loop-condition.invariant

@@ -9,10 +9,10 @@ use Rattle.lx_c.proofs.declarations.write_kind_list.Goals as goal
 pub returns-in_err-write_kind_line-clause-err : goal.returns-in_err-write_kind_line-clause-err
 returns-in_err-write_kind_line-clause-err g c =
     let p = err_from_is_err_and c.from_residual.result c.from_residual.ensures.1 in
-    rw p.1 (number_prefix (λ k. kind_line c.args.options.now c.args.first (kind_at c.args.tables.now k) k) _ _ _ (length c.args.tables.now.kinds) c.loop-k.k (omega arith) c.loop-k.invariant (rw c.kind.ensures at c.in_err-write_kind_line.ensures.err))
+    rw p.1 (number_prefix (λ k. kind_line c.args.options.now c.args.first (kind_at c.args.tables.now k) k) _ _ _ (length c.args.tables.now.kinds) c.loop-place.place (omega arith) c.loop-place.invariant (rw c.kind.ensures at c.in_err-write_kind_line.ensures.err))
 
-pub loop-k-preserved : goal.loop-k-preserved
-loop-k-preserved g c = number_next (λ k. kind_line c.args.options.now c.args.first (kind_at c.args.tables.now k) k) _ _ _ (length c.args.tables.now.kinds) c.loop-k.k (omega arith) c.loop-k.invariant (rw c.kind.ensures at c.in_ok-write_kind_line.ensures.ok)
+pub loop-place-preserved : goal.loop-place-preserved
+loop-place-preserved g c = number_next (λ k. kind_line c.args.options.now c.args.first (kind_at c.args.tables.now k) k) _ _ _ (length c.args.tables.now.kinds) c.loop-place.place (omega arith) c.loop-place.invariant (rw c.kind.ensures at c.in_ok-write_kind_line.ensures.ok)
 
 pub returns-clause-ok : goal.returns-clause-ok
-returns-clause-ok g c = number_end (λ k. kind_line c.args.options.now c.args.first (kind_at c.args.tables.now k) k) _ _ (length c.args.tables.now.kinds) c.loop-k.k (omega arith) c.loop-k.invariant
+returns-clause-ok g c = number_end (λ k. kind_line c.args.options.now c.args.first (kind_at c.args.tables.now k) k) _ _ (length c.args.tables.now.kinds) c.loop-place.place (omega arith) c.loop-place.invariant
