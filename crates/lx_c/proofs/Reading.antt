@@ -1,6 +1,6 @@
 -- What was printed of an automaton is read again.
-use Rattle.std.proofs.Common.{ℕ, zero, suc, ◌≡◌, ◌<◌, ◌≤◌, ◌+◌, ◌*◌, ◌-◌, Bool, true, false, List, [], ◌∷◌, ◌++◌, Option, Some, None, length, map, get_or, refl, sym, ◌∙◌, ap, subst, arith, append_assoc, append-nil, rules}
-use Rattle.std.specs.Prelude.{decimal, codes, slice_index}
+use Rattle.std.proofs.Common.{ℕ, zero, suc, ◌≡◌, ◌<◌, ◌≤◌, ◌+◌, ◌*◌, ◌-◌, Bool, true, false, List, [], ◌∷◌, ◌++◌, Option, Some, None, length, map, refl, sym, ◌∙◌, ap, subst, arith, append_assoc, append-nil, rules}
+use Rattle.std.specs.Prelude.{decimal, slice_index}
 use Rattle.std.specs.Str.{all_ascii_digits}
 use Rattle.std.specs.Char.{is_ascii_digit}
 use Rattle.std.specs.List.{flat_map, range_with_len}
@@ -11,8 +11,8 @@ use Rattle.std.proofs.lemmas.Nat.{mul-le}
 use Rattle.std.proofs.lemmas.List.{ext_get_or}
 use Rattle.std.proofs.lemmas.List.FromFn.{length-map-range_with_len, get_or-map-range_with_len}
 use Rattle.lx_automaton.specs.Automata.{Machine, IsMachine, state_count, start_of, accepted_by, class_target}
-use Rattle.lx_c.specs.Rows.{row_width, row_of, target_word, rule_word, entry_text, step_entries, row_text, row_lines, rows_text, class_entries, start_line, start_lines}
-use Rattle.lx_c.specs.Reading.{read_words, row_words, rows_words, start_words, HaveTheWords}
+use Rattle.lx_c.specs.Rows.{row_width, row_of, target_word, rule_word, entry_text, step_entries, row_text, row_lines, rows_text, class_entries, start_line}
+use Rattle.lx_c.specs.Reading.{read_words, row_words, rows_words, HaveTheWords}
 
 abbrev pub read_on : ℕ → List ℕ → ℕ
 read_on n [] = n

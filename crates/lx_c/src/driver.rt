@@ -2,6 +2,13 @@
 
 /// The calls, but for `@_name`.
 pub(crate) const DRIVER: &[u8] = br#"
+/* What is there for lines alone. */
+#ifdef @__NO_LINES
+#define @__LINES(statements)
+#else
+#define @__LINES(statements) statements
+#endif
+
 typedef char @__int_has_32_bits[sizeof(int) >= 4 ? 1 : -1];
 
 /* The steps of an action from here on, up to the next token: its kind, or @_END where there is none. */
@@ -20,6 +27,18 @@ static int @__has_step(size_t state)
         if (@__row[state + i]) return 1;
     return 0;
 }
+
+#ifndef @__NO_LINES
+/* Line and start of line behind these bytes. */
+static void @__count(@_scanner *s, const unsigned char *from, const unsigned char *to)
+{
+    for (; from != to; from++)
+        if (*from == 10) {
+            s->line++;
+            s->line_start = s->before + (size_t)(from + 1 - s->text);
+        }
+}
+#endif
 
 static void @__hand_over(@_scanner *s, const void *text, size_t size, int is_last)
 {
@@ -69,6 +88,7 @@ static void @__hand_over(@_scanner *s, const void *text, size_t size, int is_las
     while (kind == @_END) {
         size_t state, last;
         unsigned rule;
+        @__LINES(int newline = 0;)
         from = p;
         line = s->line;
         line_start = s->line_start;
@@ -79,6 +99,7 @@ static void @__hand_over(@_scanner *s, const void *text, size_t size, int is_las
         state = @__start[2 * condition + at_line_begin];
         do {
             last = state;
+            @__LINES(newline |= *p == 10;)
             state = @__row[state + @__class[*p]];
             if (!state) break;
             p++;
@@ -110,19 +131,7 @@ static void @__hand_over(@_scanner *s, const void *text, size_t size, int is_las
             }
         }
         p -= @__CUT(rule);
-#ifndef @__NO_LINES
-        {
-            const unsigned char *i = from;
-            size_t lines = 0;
-            do lines += *i == 10;
-            while (++i != p);
-            if (lines) {
-                s->line = line + lines;
-                while (i[-1] != 10) i--;
-                s->line_start = s->before + (size_t)(i - text);
-            }
-        }
-#endif
+        @__LINES(if (newline) @__count(s, from, p);)
         at_line_begin = @__BEGIN(p[-1] == 10);
         if (!rule) {
             kind = @_ECHO;
@@ -171,16 +180,7 @@ static void @__hand_over(@_scanner *s, const void *text, size_t size, int is_las
     s->at_line_begin = @__BEGIN(s->text[s->at - 1] == 10);
     s->line = s->from_line;
     s->line_start = s->from_line_start;
-#ifndef @__NO_LINES
-    {
-        size_t i;
-        for (i = s->from; i < s->at; i++)
-            if (s->text[i] == 10) {
-                s->line++;
-                s->line_start = s->before + i + 1;
-            }
-    }
-#endif
+    @__LINES(@__count(s, s->text + s->from, s->text + s->at);)
 }
 
 @__API size_t @_column(const @_scanner *s, const @_token *t)

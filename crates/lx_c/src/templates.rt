@@ -11,8 +11,11 @@ pub(crate) const GUARD: &[u8] = br#"#ifndef @__H
 "#;
 
 /// What a token can be that is no kind.
-pub(crate) const SPECIAL_KINDS: &[u8] = br#"#ifndef @__API
-#define @__API extern /* or static inline, defined before this file is included */
+pub(crate) const SPECIAL_KINDS: &[u8] =
+    br#"/* May be defined before this file: @__API as static inline, which makes a scanner that is included faster; and @__NO_LINES, so that lines aren't counted,
+   the line of each token is 1, and its column how many bytes stand before it plus 1. */
+#ifndef @__API
+#define @__API extern
 #endif
 #ifdef __cplusplus
 extern "C" {
@@ -24,7 +27,7 @@ enum {
     @_END = -1,
     /* a byte that no rule takes, or the text of an ECHO */
     @_ECHO = -2,
-    /* a further part of the text is wanted: @_refill */
+    /* a further part of the text is wanted */
     @_MORE = -3"#;
 
 /// What ends the kinds.
@@ -58,7 +61,7 @@ typedef struct @_scanner {
     size_t before;             /* how many bytes stand before this part */
     size_t line;               /* line and start of line at `at` */
     size_t line_start;
-    size_t from_line;          /* the same at `from` */
+    size_t from_line;          /* line and start of line at `from` */
     size_t from_line_start;
     const int *pending;        /* what is left of an action that gives several tokens */
     int condition;             /* the start condition, by its number */
@@ -82,7 +85,7 @@ typedef struct @_scanner {
 /* Enter a start condition by its number: 0 is INITIAL. A number that is none changes nothing. */
 @__API void @_begin(@_scanner *s, int condition);
 
-/* Go on behind the first `length` bytes, at least 1, of the token given last, as yyless does. Another token or length changes nothing. */
+/* Go on behind the first `length` bytes, at least 1, of the token given last. Another token or length changes nothing. */
 @__API void @_less(@_scanner *s, const @_token *t, size_t length);
 
 /* The column of a token's first byte: bytes of its line, counted from 1. */
@@ -159,7 +162,8 @@ pub(crate) const STARTS: &[u8] = br#" @__start[] = {
 
 /// What ends a scanner.
 pub(crate) const LAST_LINES: &[u8] = br#"
-#undef @__CUT
 #undef @__BEGIN
+#undef @__CUT
+#undef @__LINES
 #undef @__WIDTH
 "#;
