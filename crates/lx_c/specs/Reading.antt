@@ -2,7 +2,7 @@
 use Rattle.std.specs.Prelude.{◌≡◌, ℕ, ◌+◌, ◌*◌, ◌-◌, ◌==◌, true, false, if◌then◌else◌, List, [], ◌∷◌, ◌++◌, length, map}
 use Rattle.std.specs.Char.{is_ascii_digit}
 use Rattle.std.specs.List.{flat_map, range_with_len}
-use Rattle.lx_automaton.specs.Automata.{Machine, state_count, start_of, accepted_by, class_target}
+use Rattle.lx_automaton.specs.Automata.{Machine, IsMachine, state_count, start_of, accepted_by, class_target}
 use Rattle.lx_c.specs.Rows.{row_width, row_of, target_word, rule_word, class_entries, rows_text, start_lines}
 
 -- the numbers between braces (C99, 6.7.8): digits make a number, behind those of n, a comma ends it, and all else is passed over
@@ -29,3 +29,8 @@ pub record HaveTheWords (m : Machine) : Type 0 where
   pub classes : read_words 0 (class_entries m) ≡ m.classes
   pub rows : read_words 0 (rows_text m) ≡ rows_words m
   pub starts : read_words 0 (start_lines m) ≡ start_words m
+
+-- Automata of one width whose arrays are printed alike are the same.
+pub record IsOneToOne : Type 0 where
+  pub same : (m n : Machine) → IsMachine m → IsMachine n → m.width ≡ n.width → class_entries m ≡ class_entries n → rows_text m ≡ rows_text n →
+      start_lines m ≡ start_lines n → m ≡ n
