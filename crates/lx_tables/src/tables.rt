@@ -89,6 +89,16 @@ impl Tables {
         }
     }
 
+    /// Where a state steps on a class of bytes; None where the step is missing.
+    pub fn class_step(&self, state: State, class: u8) -> Option<State>
+        requires state { state.0 < state_count self.now.machine }
+        requires class { class < self.now.machine.width }
+        ensures target { option_map (λ s. s.0) result ≡ class_target self.now.machine state.0 class }
+        ensures state { IfSome result (λ s. s.0 < state_count self.now.machine) }
+    {
+        self.automaton.class_step(state, class)
+    }
+
     /// Where a state steps on a byte; None where the step is missing.
     pub fn step(&self, state: State, byte: u8) -> Option<State>
         requires { state.0 < state_count self.now.machine }

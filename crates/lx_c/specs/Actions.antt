@@ -1,0 +1,106 @@
+-- The arrays of what rules do. The steps of an action stand as numbers: a kind or a number that is returned, -2 for ECHO, -4 - c for BEGIN of the condition c,
+-- and -1 behind the last. Each array has one entry for each rule behind one for no rule, and is closed by a 0 of its own.
+use Rattle.std.specs.Prelude.{ℕ, ◌+◌, Bool, true, false, if◌then◌else◌, List, [], ◌∷◌, ◌++◌, length, codes}
+use Rattle.std.specs.List.{flat_map, list_any, range_with_len}
+use Rattle.lx_rules.specs.declared.rule.Kind.TheVariants.{Name, Number}
+use Rattle.lx_rules.specs.declared.rule.Step.{Step}
+use Rattle.lx_rules.specs.declared.rule.Step.TheVariants.{Echo, Begin, Return}
+use Rattle.lx_tables.specs.Texts.{number}
+use Rattle.lx_tables.specs.Model.{Table, rule_at, kind_at}
+use Rattle.lx_c.specs.Options.{Options, has_file}
+use Rattle.lx_c.specs.Kinds.{first_kind}
+use Rattle.lx_c.specs.Templates.{filled, number_then}
+use Rattle.lx_c.specs.declared.templates.TheConstants.{STEP_ARRAY, STEPS_OF, STEPS, ACTIONS, CUTS, NAMES, KINDS, CUT, NO_CUT}
+
+-- a kind: its number, where the first kind has this one, and its name where a file declares the kinds
+abbrev pub kind_word : Options → ℕ → Table → ℕ → List ℕ
+kind_word o first table k = if has_file o.include then kind_at table k else number (first + k)
+
+abbrev pub step_word : Options → ℕ → Table → Step → List ℕ
+step_word o first table Echo = codes "-2"
+step_word o first table (Begin c) = codes "-" ++ number (4 + c)
+step_word o first table (Return (Name k)) = kind_word o first table k
+step_word o first table (Return (Number n)) = number n
+
+abbrev pub step_entry : Options → ℕ → Table → Step → List ℕ
+step_entry o first table step = step_word o first table step ++ codes ","
+
+-- an action that is nothing or one return has no steps of its own
+abbrev pub is_simple : List Step → Bool
+is_simple [] = true
+is_simple (Return kind ∷ steps) = true
+is_simple (Echo ∷ steps) = false
+is_simple (Begin c ∷ steps) = false
+
+-- the array of the steps of a rule
+abbrev pub steps_array : Options → ℕ → Table → ℕ → List Step → List ℕ
+steps_array o first table r steps =
+    if is_simple steps then []
+    else filled o.prefix STEP_ARRAY.now ++ number_then r (codes "[] = {") ++ flat_map (step_entry o first table) steps ++ codes "-1};\n"
+
+-- where the steps of a rule stand
+abbrev pub steps_entry : Options → ℕ → List Step → List ℕ
+steps_entry o r steps = if is_simple steps then codes "0,\n" else filled o.prefix STEPS_OF.now ++ number_then r (codes ",\n")
+
+-- what an action gives at once: a kind, -1 for nothing, or -4 where its steps are performed
+abbrev pub action_word : Options → ℕ → Table → List Step → List ℕ
+action_word o first table [] = codes "-1"
+action_word o first table (Return kind ∷ steps) = step_word o first table (Return kind)
+action_word o first table (Echo ∷ steps) = codes "-4"
+action_word o first table (Begin c ∷ steps) = codes "-4"
+
+abbrev pub action_entry : Options → ℕ → Table → List Step → List ℕ
+action_entry o first table steps = action_word o first table steps ++ codes ",\n"
+
+-- 1 where the rule ends with `$`, so that one byte of a match is left away
+abbrev pub cut_entry : Bool → List ℕ
+cut_entry line_end = if line_end then codes "1,\n" else codes "0,\n"
+
+abbrev pub name_entry : List ℕ → List ℕ
+name_entry kind = codes "\"" ++ kind ++ codes "\",\n"
+
+abbrev pub kind_entry : List ℕ → List ℕ
+kind_entry kind = kind ++ codes ",\n"
+
+-- an entry for each rule, for each kind
+abbrev pub of_rules : Table → (ℕ → List ℕ) → List ℕ
+of_rules table entry = flat_map entry (range_with_len 0 (length table.rules))
+
+abbrev pub of_kinds : Table → (List ℕ → List ℕ) → List ℕ
+of_kinds table entry = flat_map (λ k. entry (kind_at table k)) (range_with_len 0 (length table.kinds))
+
+-- an array
+abbrev pub array_text : Options → List ℕ → List ℕ → List ℕ
+array_text o head entries = filled o.prefix head ++ entries ++ codes "0};\n"
+
+-- whether some rule ends with `$`
+abbrev pub has_cuts : Table → Bool
+has_cuts table = list_any (λ rule. rule.line_end) table.rules
+
+abbrev pub cut_entries : Table → List ℕ
+cut_entries table = of_rules table (λ r. cut_entry (rule_at table r).line_end)
+
+abbrev pub cuts_text : Options → Table → List ℕ
+cuts_text o table = if has_cuts table then filled o.prefix CUT.now ++ array_text o CUTS.now (cut_entries table) else filled o.prefix NO_CUT.now
+
+-- the kinds that a file declares, in the order of their names
+abbrev pub kinds_array : Options → Table → List ℕ
+kinds_array o table = if has_file o.include then array_text o KINDS.now (of_kinds table kind_entry) else []
+
+abbrev pub steps_arrays : Options → ℕ → Table → List ℕ
+steps_arrays o first table = of_rules table (λ r. steps_array o first table r (rule_at table r).steps)
+
+abbrev pub steps_text : Options → Table → List ℕ
+steps_text o table = array_text o STEPS.now (of_rules table (λ r. steps_entry o r (rule_at table r).steps))
+
+abbrev pub action_entries : Options → ℕ → Table → List ℕ
+action_entries o first table = of_rules table (λ r. action_entry o first table (rule_at table r).steps)
+
+-- all arrays of what rules do, where the first kind has this number
+abbrev pub actions_from : Options → ℕ → Table → List ℕ
+actions_from o first table =
+    steps_arrays o first table ++ steps_text o table ++ array_text o ACTIONS.now (action_entries o first table)
+    ++ cuts_text o table ++ array_text o NAMES.now (of_kinds table name_entry) ++ kinds_array o table
+
+abbrev pub actions_text : Options → Table → List ℕ
+actions_text o table = actions_from o (first_kind table) table

@@ -1,0 +1,84 @@
+-- The kinds in C: their names and their numbers.
+use Rattle.std.specs.Prelude.{ℕ, ◌+◌, ◌-◌, ◌==◌, max, nat_eq, nat_lt, ◌&&◌, ◌||◌, Bool, false, if◌then◌else◌, List, [], ◌∷◌, ◌++◌, Option, Some, None, length, codes, slice_index}
+use Rattle.std.specs.List.{flat_map, starts_with}
+use Rattle.lx_rules.specs.declared.rule.Kind.TheVariants.{Name, Number}
+use Rattle.lx_rules.specs.declared.rule.Step.{Step}
+use Rattle.lx_rules.specs.declared.rule.Step.TheVariants.{Echo, Begin, Return}
+use Rattle.lx_tables.specs.Model.{Table}
+use Rattle.lx_c.specs.Options.{Options, is_small_letter, has_file}
+use Rattle.lx_c.specs.declared.fault.KindFault.{KindFault}
+use Rattle.lx_c.specs.declared.fault.KindFault.TheVariants.{Numbers, Reserved, Declared}
+use Rattle.lx_c.specs.declared.words.TheConstants.{WORDS}
+
+-- the number that a step returns
+abbrev pub returned_number : Step → List ℕ
+returned_number Echo = []
+returned_number (Begin c) = []
+returned_number (Return (Name k)) = []
+returned_number (Return (Number n)) = n ∷ []
+
+abbrev pub returned_by : List Step → List ℕ
+returned_by steps = flat_map returned_number steps
+
+-- n, or one above the greatest of the numbers
+abbrev pub above : ℕ → List ℕ → ℕ
+above n [] = n
+above n (m ∷ numbers) = above (max n (m + 1)) numbers
+
+-- the number of the first kind: 256, or one above the greatest number that an action returns
+abbrev pub first_kind : Table → ℕ
+first_kind table = above 256 (flat_map (λ rule. returned_by rule.steps) table.rules)
+
+abbrev pub capital : ℕ → ℕ
+capital c = if is_small_letter c then c - 32 else c
+
+abbrev pub capitals : List ℕ → List ℕ
+capitals text = flat_map (λ c. capital c ∷ []) text
+
+-- the name of a kind in C: behind the prefix in capitals and _, and as it is where a file declares the kinds
+abbrev pub name_in_c : Options → List ℕ → List ℕ
+name_in_c o kind = if has_file o.include then kind else capitals o.prefix ++ codes "_" ++ kind
+
+-- whether the part stands somewhere in the text
+abbrev pub has_part : List ℕ → List ℕ → Bool
+has_part part [] = false
+has_part part (c ∷ text) = starts_with nat_eq (c ∷ text) part || has_part part text
+
+abbrev pub as_line : List ℕ → List ℕ
+as_line name = codes "\n" ++ name ++ codes "\n"
+
+-- a word of C or C++, or a name that one of its headers defines: a line of the words
+unfoldable pub is_word : List ℕ → Bool
+is_word name = has_part (as_line name) WORDS.now
+
+-- a name that only the scanner's own may have: the prefix, with _ behind it
+abbrev pub begins_as_own : List ℕ → List ℕ → Bool
+begins_as_own prefix name = starts_with nat_eq name prefix && (nat_lt (length prefix) (length name) && slice_index name (length prefix) == 95)
+
+-- A kind behind its prefix begins with a capital, and is none.
+abbrev pub is_own : Options → List ℕ → Bool
+is_own o kind = if has_file o.include then begins_as_own o.prefix kind else false
+
+-- what is wrong with the name of a kind
+abbrev pub name_fault : Options → ℕ → List ℕ → Option KindFault
+name_fault o k kind =
+    if is_word (name_in_c o kind) then Some (Reserved k)
+    else if is_own o kind then Some (Declared k)
+    else None
+
+abbrev pub or_else : Option KindFault → Option KindFault → Option KindFault
+or_else None other = other
+or_else (Some fault) other = Some fault
+
+-- the first fault of the names from number k on
+abbrev pub first_name_fault : Options → ℕ → List (List ℕ) → Option KindFault
+first_name_fault o k [] = None
+first_name_fault o k (kind ∷ kinds) = or_else (name_fault o k kind) (first_name_fault o (k + 1) kinds)
+
+-- the numbers of kinds pass what an int of 32 bits can be
+abbrev pub pass_the_limit : Options → Table → Bool
+pass_the_limit o table = if has_file o.include then false else nat_lt 2147483647 (first_kind table + (length table.kinds - 1))
+
+-- what is wrong with the kinds, if anything is
+abbrev pub kind_fault : Options → Table → Option KindFault
+kind_fault o table = if pass_the_limit o table then Some Numbers else first_name_fault o 0 table.kinds

@@ -1,0 +1,55 @@
+-- What is asked for beside the tables: the prefix of all names, the names of start conditions where they are known, and the file that declares the kinds, if
+-- there is one.
+use Rattle.std.specs.Prelude.{ℕ, ◌==◌, ◌&&◌, ◌||◌, not, nat_le, if◌then◌else◌, Bool, true, false, IsTrue, List, [], ◌∷◌, Option, Some, None, length}
+use Rattle.std.specs.List.{list_all}
+use Rattle.lx_rules.specs.Identifiers.{is_between, is_digit, is_identifier}
+use Rattle.lx_c.specs.declared.fault.OptionFault.{OptionFault}
+use Rattle.lx_c.specs.declared.fault.OptionFault.TheVariants.{Prefix, Condition, Include}
+
+pub record Options : Type 0 where
+  pub prefix : List ℕ
+  -- of each condition, in order; none where they aren't known
+  pub conditions : List (List ℕ)
+  pub include : Option (List ℕ)
+
+abbrev pub is_small_letter : ℕ → Bool
+is_small_letter c = is_between 97 122 c
+
+-- a small letter, a digit or _
+abbrev pub is_prefix_byte : ℕ → Bool
+is_prefix_byte c = is_small_letter c || (is_digit c || c == 95)
+
+-- a small letter, and then up to 31 small letters, digits or _
+abbrev pub is_prefix : List ℕ → Bool
+is_prefix [] = false
+is_prefix (c ∷ text) = is_small_letter c && (list_all is_prefix_byte text && nat_le (length text) 31)
+
+-- bytes of ASCII that may stand between the quotes of an `#include`: neither a quote nor a backslash
+abbrev pub is_include_byte : ℕ → Bool
+is_include_byte c = is_between 32 126 c && not (c == 34 || c == 92)
+
+-- 1 to 255 such bytes
+abbrev pub is_include : List ℕ → Bool
+is_include file = nat_le 1 (length file) && (nat_le (length file) 255 && list_all is_include_byte file)
+
+abbrev pub is_any_include : Option (List ℕ) → Bool
+is_any_include None = true
+is_any_include (Some file) = is_include file
+
+pub record AreOptions (o : Options) : Type 0 where
+  pub prefix : IsTrue (is_prefix o.prefix)
+  pub conditions : IsTrue (list_all is_identifier o.conditions)
+  pub include : IsTrue (is_any_include o.include)
+
+-- whether a file declares the kinds
+abbrev pub has_file : Option (List ℕ) → Bool
+has_file None = false
+has_file (Some file) = true
+
+-- the first thing that is wrong with options, where they are none
+abbrev pub option_fault : Options → Option OptionFault
+option_fault o =
+    if not (is_prefix o.prefix) then Some Prefix
+    else if not (list_all is_identifier o.conditions) then Some Condition
+    else if not (is_any_include o.include) then Some Include
+    else None

@@ -1,0 +1,85 @@
+-- The automaton as arrays of C. The array of rows begins with a row of zeros, and then has the row of each state: for each class of bytes where it steps, as the place
+-- where that state's row begins, 0 for nowhere; and then the number of the rule that it accepts plus 1, or 0.
+use Rattle.std.specs.Prelude.{ℕ, ◌+◌, ◌*◌, ◌==◌, max, not, nat_lt, Bool, true, false, if◌then◌else◌, List, ◌++◌, Option, Some, None, length, codes, slice_index}
+use Rattle.std.specs.List.{flat_map, list_any, range_with_len}
+use Rattle.lx_automaton.specs.Automata.{Machine, state_count, start_of, accepted_by, class_target}
+use Rattle.lx_tables.specs.Model.{Table}
+use Rattle.lx_c.specs.Options.{Options}
+use Rattle.lx_c.specs.Actions.{array_text}
+use Rattle.lx_c.specs.Templates.{filled, number_then}
+use Rattle.lx_c.specs.declared.templates.TheConstants.{WIDTH, CLASSES, ROWS, STARTS, LINE_BEGIN, NO_LINE_BEGIN}
+
+-- how many words a row has
+abbrev pub row_width : Machine → ℕ
+row_width m = m.width + 1
+
+-- where the row of a state begins
+abbrev pub row_of : Machine → ℕ → ℕ
+row_of m s = (s + 1) * row_width m
+
+abbrev pub target_word : Machine → Option ℕ → ℕ
+target_word m None = 0
+target_word m (Some s) = row_of m s
+
+abbrev pub rule_word : Option ℕ → ℕ
+rule_word None = 0
+rule_word (Some r) = r + 1
+
+-- a number of an initializer, and its comma
+abbrev pub entry_text : ℕ → List ℕ
+entry_text n = number_then n (codes ",")
+
+abbrev pub zero_entries : Machine → List ℕ
+zero_entries m = flat_map (λ c. entry_text 0) (range_with_len 0 (row_width m))
+
+abbrev pub step_entries : Machine → ℕ → List ℕ
+step_entries m s = flat_map (λ c. entry_text (target_word m (class_target m s c))) (range_with_len 0 m.width)
+
+abbrev pub row_text : Machine → ℕ → List ℕ
+row_text m s = step_entries m s ++ entry_text (rule_word (accepted_by m s)) ++ codes "\n"
+
+abbrev pub row_lines : Machine → List ℕ
+row_lines m = flat_map (row_text m) (range_with_len 0 (state_count m))
+
+abbrev pub rows_text : Machine → List ℕ
+rows_text m = zero_entries m ++ codes "\n" ++ row_lines m
+
+abbrev pub class_entries : Machine → List ℕ
+class_entries m = flat_map (λ b. entry_text (slice_index m.classes b)) (range_with_len 0 256)
+
+-- of a condition: where the row of the state begins that it starts in, not at line begin and at line begin
+abbrev pub start_line : Machine → ℕ → List ℕ
+start_line m c = entry_text (row_of m (start_of m c false)) ++ entry_text (row_of m (start_of m c true)) ++ codes "\n"
+
+abbrev pub start_lines : Machine → List ℕ
+start_lines m = flat_map (start_line m) (range_with_len 0 (length m.starts))
+
+-- the smallest type that holds all words up to this one
+abbrev pub type_text : ℕ → List ℕ
+type_text most = if nat_lt most 256 then codes "unsigned char" else if nat_lt most 65536 then codes "unsigned short" else codes "unsigned int"
+
+-- no word of a row is greater
+abbrev pub greatest_word : Table → ℕ
+greatest_word table = max (row_width table.machine * state_count table.machine) (length table.rules)
+
+-- an array of words of the table, behind its type
+abbrev pub word_array : Options → Table → List ℕ → List ℕ → List ℕ
+word_array o table head entries = codes "static const " ++ type_text (greatest_word table) ++ filled o.prefix head ++ entries ++ codes "0};\n"
+
+abbrev pub starts_differ : ℕ × ℕ → Bool
+starts_differ start = not (start.0 == start.1)
+
+-- whether a start condition has another start at line begin
+abbrev pub line_begin_text : Options → Table → List ℕ
+line_begin_text o table = if list_any starts_differ table.machine.starts then filled o.prefix LINE_BEGIN.now else filled o.prefix NO_LINE_BEGIN.now
+
+abbrev pub width_text : Options → Table → List ℕ
+width_text o table = filled o.prefix WIDTH.now ++ number_then table.machine.width (codes "\n")
+
+abbrev pub classes_text : Options → Table → List ℕ
+classes_text o table = array_text o CLASSES.now (class_entries table.machine)
+
+abbrev pub automaton_text : Options → Table → List ℕ
+automaton_text o table =
+    line_begin_text o table ++ width_text o table ++ classes_text o table
+    ++ word_array o table ROWS.now (rows_text table.machine) ++ word_array o table STARTS.now (start_lines table.machine)

@@ -1,0 +1,15 @@
+-- Constant text with the prefix put in, and numbers.
+use Rattle.std.specs.Prelude.{ℕ, ◌==◌, if◌then◌else◌, List, [], ◌∷◌, ◌++◌}
+use Rattle.std.specs.List.{flat_map}
+use Rattle.lx_tables.specs.Texts.{number}
+
+-- the prefix for each `@`, and every other byte as it is
+abbrev pub filled_byte : List ℕ → ℕ → List ℕ
+filled_byte prefix c = if c == 64 then prefix else c ∷ []
+
+abbrev pub filled : List ℕ → List ℕ → List ℕ
+filled prefix template = flat_map (filled_byte prefix) template
+
+-- a number in decimal, and what stands behind it
+abbrev pub number_then : ℕ → List ℕ → List ℕ
+number_then n text = number n ++ text

@@ -1,0 +1,130 @@
+//! Whether the kinds of tables can be kinds in C.
+
+ghost use Rattle.std.specs.Prelude.{◌≡◌, ◌⊎◌, ℕ, List, Some, None, IfOk, IfErr, OnOk, OnErr};
+ghost use Rattle.lx_tables.specs.Output.{Wrote, WrotePrefix};
+ghost use Rattle.lx_c.specs.Kinds as kinds;
+ghost use Rattle.lx_c.specs.declared.fault.KindFault.TheVariants as faults;
+
+use crate::declarations::write_name;
+use crate::fault::KindFault;
+use crate::numbering::first_kind;
+use crate::options::Options;
+use crate::words::WORDS;
+use crate::writing::write_bytes;
+use lx_tables::Tables;
+use std::alloc::{AllocError, Global};
+use std::io::{self, Write};
+
+fn has_part(text: &[u8], part: &[u8]) -> bool
+    ensures { result ≡ kinds.has_part part.now text.now }
+{
+    let mut rest = text;
+    while let Some((_, more)) = rest.split_first() {
+        if rest.starts_with(part) {
+            return true;
+        }
+        rest = more;
+    }
+    false
+}
+
+/// Whether the line is one of the words of C and C++.
+fn is_word_line(line: &[u8]) -> bool
+    ensures { (name : List ℕ) → line.now ≡ kinds.as_line name → result ≡ kinds.is_word name }
+{
+    has_part(WORDS, line)
+}
+
+/// Whether the name begins with the prefix, and has `_` behind that.
+fn begins_as_own(prefix: &[u8], name: &[u8]) -> bool
+    ensures { result ≡ kinds.begins_as_own prefix.now name.now }
+{
+    name.starts_with(prefix) && (prefix.len() < name.len() && name[prefix.len()] == b'_')
+}
+
+/// Whether the scanner may have the name of the kind for itself.
+fn is_own(options: &Options, kind: &[u8]) -> bool
+    ensures { result ≡ kinds.is_own options.now kind.now }
+{
+    options.has_include() && begins_as_own(options.prefix(), kind)
+}
+
+fn write_line<W: Write>(out: &mut W, options: &Options, kind: &[u8]) -> Result<(), io::Error>
+    ensures ok { OnOk result (Wrote (W.contents out.old) (W.contents out.new) (kinds.as_line (kinds.name_in_c options.now kind.now))) }
+    ensures err { OnErr result (WrotePrefix (W.contents out.old) (W.contents out.new) (kinds.as_line (kinds.name_in_c options.now kind.now))) }
+{
+    write_bytes(out, b"\n")?;
+    write_name(out, options, kind)?;
+    write_bytes(out, b"\n")
+}
+
+/// The name of a kind in C, as a line.
+fn line_of(alloc: Global, options: &Options, kind: &[u8]) -> Result<Vec<u8>, AllocError>
+    ensures { IfOk result (λ line. line.items ≡ kinds.as_line (kinds.name_in_c options.now kind.now)) }
+{
+    let mut line = Vec::new(alloc);
+    match write_line(&mut line, options, kind) {
+        Ok(()) => Ok(line),
+        Err(_) => Err(AllocError),
+    }
+}
+
+/// What is wrong with the name of a kind, if anything is.
+fn name_fault(
+    alloc: Global,
+    options: &Options,
+    number: u32,
+    kind: &[u8],
+) -> Result<Option<KindFault>, AllocError>
+    ensures { IfOk result (λ fault. fault ≡ kinds.name_fault options.now number kind.now) }
+{
+    let line = line_of(alloc, options, kind)?;
+    if is_word_line(&line) {
+        return Ok(Some(KindFault::Reserved(number)));
+    }
+    if is_own(options, kind) {
+        return Ok(Some(KindFault::Declared(number)));
+    }
+    Ok(None)
+}
+
+/// The first fault of the names of kinds.
+fn first_name_fault(
+    alloc: Global,
+    tables: &Tables,
+    options: &Options,
+) -> Result<Option<KindFault>, AllocError>
+    ensures { IfOk result (λ fault. fault ≡ kinds.first_name_fault options.now 0 tables.now.kinds) }
+{
+    for number in 0..tables.kinds() {
+        if let Some(fault) = name_fault(alloc, options, number, tables.kind(number))? {
+            return Ok(Some(fault));
+        }
+    }
+    Ok(None)
+}
+
+/// Whether the numbers of the kinds pass what an int of 32 bits can be.
+fn pass_the_limit(tables: &Tables, options: &Options) -> bool
+    ensures { result ≡ kinds.pass_the_limit options.now tables.now }
+{
+    if options.has_include() {
+        return false;
+    }
+    first_kind(tables) + u64::from(tables.kinds().saturating_sub(1)) > 2_147_483_647
+}
+
+/// Judges whether the kinds of the tables can be kinds in C under these options: their numbers are below 2,147,483,648 (else [`KindFault::Numbers`], E40), and no
+/// name is a word of C or C++, or one that the scanner declares for itself. Of several faults it gives the first one. Want of memory is a fault too.
+pub fn judge(alloc: Global, tables: &Tables, options: &Options) -> Result<(), KindFault>
+    ensures ok { IfOk result (λ done. kinds.kind_fault options.now tables.now ≡ None) }
+    ensures err { IfErr result (λ fault. (fault ≡ faults.Memory) ⊎ (kinds.kind_fault options.now tables.now ≡ Some fault)) }
+{
+    if pass_the_limit(tables, options) {
+        return Err(KindFault::Numbers);
+    }
+    match first_name_fault(alloc, tables, options)? {
+        None => Ok(()),
+        Some(fault) => Err(fault),
+    }
+}

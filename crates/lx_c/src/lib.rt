@@ -1,0 +1,22 @@
+//! A scanner in C, printed from the tables of a scanner.
+#![tactic(auto)]
+
+mod actions;
+mod declarations;
+mod driver;
+mod fault;
+mod filling;
+pub mod judging;
+pub mod laws;
+mod numbering;
+pub mod options;
+pub mod printing;
+mod rows;
+mod templates;
+mod words;
+mod writing;
+
+pub use crate::fault::{KindFault, OptionFault};
+pub use crate::judging::judge;
+pub use crate::options::Options;
+pub use crate::printing::{print_c, print_header};

@@ -1,0 +1,56 @@
+// The numbers of kinds.
+
+ghost use Rattle.std.specs.Prelude.{◌≡◌, ◌≤◌, ◌<◌, length};
+ghost use Rattle.lx_tables.specs.Model.{rule_at, kind_at};
+ghost use Rattle.lx_c.specs.Kinds as kinds;
+
+use lx_rules::rule::{Kind, Step};
+use lx_tables::Tables;
+
+/// The number, or one more than what the step returns.
+fn above_step(number: u64, step: Step) -> u64
+    requires { number ≤ 4294967296 }
+    ensures number { result ≡ kinds.above number (kinds.returned_number step) }
+    ensures small { result ≤ 4294967296 }
+{
+    match step {
+        Step::Return(Kind::Number(n)) if number <= u64::from(n) => u64::from(n) + 1,
+        _ => number,
+    }
+}
+
+/// The number, or one more than the greatest that the steps return.
+fn above_steps(number: u64, steps: &[Step]) -> u64
+    requires { number ≤ 4294967296 }
+    ensures number { result ≡ kinds.above number (kinds.returned_by steps.now) }
+    ensures small { result ≤ 4294967296 }
+{
+    let mut first = number;
+    for step in steps {
+        first = above_step(first, *step);
+    }
+    first
+}
+
+/// The number of the first kind: 256, or one more than the greatest number that an action returns.
+pub(crate) fn first_kind(tables: &Tables) -> u64
+    ensures number { result ≡ kinds.first_kind tables.now }
+    ensures small { result ≤ 4294967296 }
+{
+    let mut first = 256;
+    for rule in 0..tables.rules() {
+        first = above_steps(first, tables.steps(rule));
+    }
+    first
+}
+
+/// The name of the kind with this number; where there is none, nothing.
+pub(crate) fn kind_name(tables: &Tables, kind: u32) -> &[u8]
+    ensures { result.now ≡ kind_at tables.now kind }
+{
+    if kind < tables.kinds() {
+        tables.kind(kind)
+    } else {
+        b""
+    }
+}

@@ -1,0 +1,163 @@
+//! What is asked for beside the tables.
+
+ghost use Rattle.std.specs.Prelude.{◌≡◌, ◌<◌, Some, [], length, slice_index_or, IfOk, IfErr, option_map};
+ghost use Rattle.std.specs.List.{list_all};
+ghost use Rattle.lx_rules.specs.Identifiers as identifiers;
+ghost use Rattle.lx_rules.specs.views.Rules.{names_view};
+ghost use Rattle.lx_c.specs.Options as specs;
+
+use crate::fault::OptionFault;
+use lx_rules::identifier::{is_digit, is_identifier};
+use std::marker::Model;
+
+/// What a scanner in C is to be like: the prefix of its names, the names of the start conditions where they are known, and the file that declares its kinds, if
+/// there is one.
+#[derive(Drop)]
+pub struct Options {
+    prefix: Vec<u8>,
+    conditions: Vec<Vec<u8>>,
+    include: Option<Vec<u8>>,
+}
+
+impl Model for Options {
+    ghost use Rattle.std.specs.Prelude.{option_map};
+    ghost use Rattle.lx_rules.specs.views.Rules.{names_view};
+    ghost use Rattle.lx_c.specs.Options.{Options, AreOptions};
+
+    ghost Value = { Options };
+
+    ghost view = { λ o. record { prefix = o.prefix.items; conditions = names_view o.conditions.items; include = option_map (λ file. file.items) o.include } };
+
+    ghost invariant = { λ o. AreOptions (record { prefix = o.prefix.items; conditions = names_view o.conditions.items; include = option_map (λ file. file.items) o.include }) };
+}
+
+fn is_small_letter(c: u8) -> bool
+    ensures { result ≡ specs.is_small_letter c }
+{
+    b'a' <= c && c <= b'z'
+}
+
+fn is_prefix_byte(c: u8) -> bool
+    ensures { result ≡ specs.is_prefix_byte c }
+{
+    is_small_letter(c) || (is_digit(c) || c == b'_')
+}
+
+fn are_prefix_bytes(text: &[u8]) -> bool
+    ensures { result ≡ list_all specs.is_prefix_byte text.now }
+{
+    text.iter().all(|c| is_prefix_byte(*c))
+}
+
+/// Whether the text is a small letter with up to 31 small letters, digits or `_` behind it.
+fn is_prefix(text: &[u8]) -> bool
+    ensures { result ≡ specs.is_prefix text.now }
+{
+    let Some((first, rest)) = text.split_first() else {
+        return false;
+    };
+    is_small_letter(*first) && (are_prefix_bytes(rest) && rest.len() <= 31)
+}
+
+fn all_are_identifiers(names: &[Vec<u8>]) -> bool
+    ensures { result ≡ list_all (λ name. identifiers.is_identifier name.items) names.now }
+{
+    names.iter().all(|name| is_identifier(name))
+}
+
+fn are_identifiers(names: &[Vec<u8>]) -> bool
+    ensures { result ≡ list_all identifiers.is_identifier (names_view names.now) }
+{
+    all_are_identifiers(names)
+}
+
+fn is_include_byte(c: u8) -> bool
+    ensures { result ≡ specs.is_include_byte c }
+{
+    b' ' <= c && c <= b'~' && !(c == b'"' || c == b'\\')
+}
+
+fn are_include_bytes(file: &[u8]) -> bool
+    ensures { result ≡ list_all specs.is_include_byte file.now }
+{
+    file.iter().all(|c| is_include_byte(*c))
+}
+
+fn is_include(file: &[u8]) -> bool
+    ensures { result ≡ specs.is_include file.now }
+{
+    1 <= file.len() && (file.len() <= 255 && are_include_bytes(file))
+}
+
+fn is_any_include(include: &Option<Vec<u8>>) -> bool
+    ensures { result ≡ specs.is_any_include (option_map (λ file. file.items) include.now) }
+{
+    match include {
+        None => true,
+        Some(file) => is_include(file),
+    }
+}
+
+impl Options {
+    /// The options of these parts. The prefix is a small letter with up to 31 small letters, digits or `_` behind it; the names of the conditions, of each in
+    /// order, or none where they aren't known, are identifiers; the name of the file is 1 to 255 bytes of 32 to 126 without `"` and `\`.
+    pub fn of(
+        prefix: Vec<u8>,
+        conditions: Vec<Vec<u8>>,
+        include: Option<Vec<u8>>,
+    ) -> Result<Options, OptionFault>
+        ensures ok { IfOk result (λ o. o ≡ record { prefix = prefix.items; conditions = names_view conditions.items; include = option_map (λ file. file.items) include }) }
+        ensures err { IfErr result (λ e. Some e ≡ specs.option_fault (record { prefix = prefix.items; conditions = names_view conditions.items; include = option_map (λ file. file.items) include })) }
+    {
+        if !is_prefix(&prefix) {
+            return Err(OptionFault::Prefix);
+        }
+        if !are_identifiers(&conditions) {
+            return Err(OptionFault::Condition);
+        }
+        if !is_any_include(&include) {
+            return Err(OptionFault::Include);
+        }
+        Ok(Options {
+            prefix,
+            conditions,
+            include,
+        })
+    }
+
+    /// The prefix.
+    pub fn prefix(&self) -> &[u8]
+        ensures { result.now ≡ self.now.prefix }
+    {
+        &self.prefix
+    }
+
+    /// Of how many conditions the names are known: of all or of none.
+    pub(crate) fn conditions(&self) -> usize
+        ensures { result ≡ length self.now.conditions }
+    {
+        self.conditions.len()
+    }
+
+    /// The name of a condition.
+    pub(crate) fn condition(&self, number: usize) -> &[u8]
+        requires { number < length self.now.conditions }
+        ensures { result.now ≡ slice_index_or self.now.conditions number [] }
+    {
+        &self.conditions[number]
+    }
+
+    /// The file that declares the kinds.
+    pub fn include(&self) -> Option<&[u8]>
+        ensures { option_map (λ file. file.now) result ≡ self.now.include }
+    {
+        self.include.as_ref().map(|file| file.as_slice())
+    }
+
+    /// Whether a file declares the kinds.
+    pub fn has_include(&self) -> bool
+        ensures { result ≡ specs.has_file self.now.include }
+    {
+        self.include.is_some()
+    }
+}

@@ -1,0 +1,74 @@
+//! A scanner in C and its header, printed.
+
+ghost use Rattle.lx_c.specs.Declarations.{header_text};
+ghost use Rattle.lx_c.specs.Scanner.{c_from, c_text, driver_text, name_text};
+ghost use Rattle.lx_tables.specs.Output.{Wrote, WrotePrefix};
+ghost use Rattle.std.specs.Prelude.{OnErr, OnOk, ◌≤◌};
+
+use crate::actions::write_actions;
+use crate::declarations::write_header;
+use crate::driver::{DRIVER, NAME_OF_KIND, NAME_OF_NUMBER};
+use crate::filling::write_filled;
+use crate::numbering::first_kind;
+use crate::options::Options;
+use crate::rows::write_automaton;
+use crate::templates::{FIRST_LINE, LAST_LINES};
+use lx_tables::Tables;
+use std::io::{self, Write};
+
+fn write_name_function<W: Write>(out: &mut W, options: &Options) -> Result<(), io::Error>
+    ensures ok { OnOk result (Wrote (W.contents out.old) (W.contents out.new) (name_text options.now)) }
+    ensures err { OnErr result (WrotePrefix (W.contents out.old) (W.contents out.new) (name_text options.now)) }
+{
+    if options.has_include() {
+        write_filled(out, options, NAME_OF_KIND)
+    } else {
+        write_filled(out, options, NAME_OF_NUMBER)
+    }
+}
+
+fn write_driver<W: Write>(out: &mut W, options: &Options) -> Result<(), io::Error>
+    ensures ok { OnOk result (Wrote (W.contents out.old) (W.contents out.new) (driver_text options.now)) }
+    ensures err { OnErr result (WrotePrefix (W.contents out.old) (W.contents out.new) (driver_text options.now)) }
+{
+    write_filled(out, options, DRIVER)?;
+    write_name_function(out, options)?;
+    write_filled(out, options, LAST_LINES)
+}
+
+fn write_scanner<W: Write>(
+    out: &mut W,
+    options: &Options,
+    first: u64,
+    tables: &Tables,
+) -> Result<(), io::Error>
+    requires { first ≤ 4294967296 }
+    ensures ok { OnOk result (Wrote (W.contents out.old) (W.contents out.new) (c_from options.now first tables.now)) }
+    ensures err { OnErr result (WrotePrefix (W.contents out.old) (W.contents out.new) (c_from options.now first tables.now)) }
+{
+    write_filled(out, options, FIRST_LINE)?;
+    write_header(out, options, first, tables)?;
+    write_actions(out, options, first, tables)?;
+    write_automaton(out, options, tables)?;
+    write_driver(out, options)
+}
+
+/// Writes a scanner in C, without memory. Behind an error, or a write of 0 bytes, which is one, a prefix of it was written.
+pub fn print_c<W: Write>(out: &mut W, tables: &Tables, options: &Options) -> Result<(), io::Error>
+    ensures ok { OnOk result (Wrote (W.contents out.old) (W.contents out.new) (c_text options.now tables.now)) }
+    ensures err { OnErr result (WrotePrefix (W.contents out.old) (W.contents out.new) (c_text options.now tables.now)) }
+{
+    write_scanner(out, options, first_kind(tables), tables)
+}
+
+/// Writes the declarations of a scanner in C, without memory. Behind an error, or a write of 0 bytes, which is one, a prefix of them was written.
+pub fn print_header<W: Write>(
+    out: &mut W,
+    tables: &Tables,
+    options: &Options,
+) -> Result<(), io::Error>
+    ensures ok { OnOk result (Wrote (W.contents out.old) (W.contents out.new) (header_text options.now tables.now)) }
+    ensures err { OnErr result (WrotePrefix (W.contents out.old) (W.contents out.new) (header_text options.now tables.now)) }
+{
+    write_header(out, options, first_kind(tables), tables)
+}
