@@ -77,8 +77,8 @@ static inline int lx__word(lx__reader *r, const char *word, const char *message)
 static inline int lx__number(lx__reader *r, const char *word, const char *message, int most) { /* behind a word, up to `most` */
     int n = 0, digits = 0;
     lx__word(r, word, message);
-    for (; lx__is_next(r, '0', '9') && (n || !digits); digits++) { /* no digit stands behind a leading zero */
-        const int digit = *r->at++ - '0';
+    for (; lx__is_next(r, '0', '9') && (n || !digits); digits++, r->at++) { /* no digit stands behind a leading zero */
+        const int digit = *r->at - '0';
         if (digit > most || n > (most - digit) / 10) return lx__refuse(r, "a number is too great");
         n = 10 * n + digit;
     }
@@ -104,8 +104,8 @@ static inline int lx__read_rule(lx__reader *r, const lx_tables *t, int place) { 
     const int sign = lx__number(r, LX__LINE("rule "), 1) ? -1 : 1;
     int is_open = 1;
     while (is_open && lx__is_next(r, ' ', ' ')) {
-        const char step = ++r->at == r->end ? ' ' : *r->at++;
-        const int is_step = memchr("bekn", step, 4) || lx__refuse(r, "a step is due");
+        const char step = ++r->at == r->end ? ' ' : *r->at;
+        const int is_step = memchr("bekn", step, 4) ? r->at++, 1 : lx__refuse(r, "a step is due");
         const int n = !is_step || step == 'e' ? 0 : lx__number(r, "", "", step == 'b' ? t->conditions - 1 : step == 'k' ? t->kinds - 1 : 2147483647);
         if (step == 'n' && n > r->greatest) r->greatest = n;
         is_open = step == 'b' || step == 'e';

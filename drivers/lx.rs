@@ -1,0 +1,326 @@
+//! lx.rs: scans by tables that `lx gen` printed, read at run time. One file for rustc 1.63 and later, without crates and without unsafe code.
+//!
+//!     mod lx;
+//!
+//!     let tables = lx::Tables::read(&std::fs::read("words.tab")?)?;     // lx::Error says by line and cause why a text is no tables
+//!     let id = tables.kind("ID");                                       // Some(Kind::Name(..)), or None where no kind has the name
+//!     for item in tables.scan(&std::fs::read("words.txt")?) {
+//!         if item.kind == lx::Kind::Echo {                              // a byte that no rule takes, or the text of an ECHO
+//!             println!("{}:{}: unexpected {:?}", item.line, item.column, item.text);
+//!         } else if Some(item.kind) == id {
+//!             println!("{} at {}", String::from_utf8_lossy(item.text), item.start);
+//!         }
+//!     }
+//!
+//! A `Scanner` is an iterator; its `begin` goes over to a start condition. Lines and columns count from 1, and columns are counted in bytes.
+#![allow(dead_code)]
+use std::{error, fmt};
+
+/// What an item is: of the kind with this place among `Tables::kinds`, or the number that its action returns, or echoed.
+#[derive(Clone, Copy, Debug, PartialEq, Eq, Hash)]
+pub enum Kind {
+    Name(u32),
+    Number(u32),
+    Echo,
+}
+
+/// A token or an echo: its bytes, how many bytes stand before it, its line and its column.
+#[derive(Clone, Copy, Debug, PartialEq, Eq)]
+pub struct Item<'t> {
+    pub kind: Kind,
+    pub text: &'t [u8],
+    pub start: usize,
+    pub line: usize,
+    pub column: usize,
+}
+
+/// Why a text of tables is refused, and the line of it, from 1.
+#[derive(Clone, Debug, PartialEq, Eq)]
+pub struct Error {
+    pub line: usize,
+    pub cause: String,
+}
+
+impl fmt::Display for Error {
+    fn fmt(&self, f: &mut fmt::Formatter<'_>) -> fmt::Result {
+        write!(f, "line {}: {}", self.line, self.cause)
+    }
+}
+
+impl error::Error for Error {}
+
+#[derive(Clone, Copy)]
+enum Step {
+    Begin(usize),
+    Give(Kind),
+}
+
+struct Rule {
+    ends_line: bool,
+    steps: Vec<Step>,
+}
+
+/// Tables, in which states and rules are counted from 1, and 0 is none.
+pub struct Tables {
+    /// Where the column of each byte's class begins, and in it for each state the next one.
+    columns: [u32; 256],
+    next: Vec<u16>,
+    /// For each state the rule that it accepts.
+    accepts: Vec<u16>,
+    /// The rules, and before them what is done with a byte that none of them takes.
+    rules: Vec<Rule>,
+    /// For each condition the state in which a match begins, and the one at line begin.
+    starts: Vec<[u16; 2]>,
+    kinds: Vec<String>,
+}
+
+impl Tables {
+    pub fn read(text: &[u8]) -> Result<Tables, Error> {
+        let text = String::from_utf8_lossy(text);
+        let mut lines = Lines { rest: &text, number: 0 };
+        let version = lines.after("lx-tables ").or_else(|_| lines.refuse("this is no text of tables"))?;
+        if version != "2" {
+            return lines.refuse("the tables are of another version: `lx up` prints version 2");
+        }
+        let echo = Rule { ends_line: false, steps: vec![Step::Give(Kind::Echo)] };
+        let mut tables = Tables { columns: [0; 256], next: vec![], accepts: vec![0], rules: vec![echo], starts: vec![], kinds: vec![] };
+        for _ in 0..lines.count("conditions ", 64)? {
+            tables.read_start(&mut lines)?;
+        }
+        for _ in 0..lines.count("kinds ", 4_096)? {
+            tables.read_kind(&mut lines)?;
+        }
+        for _ in 0..lines.count("rules ", 4_096)? {
+            tables.read_rule(&mut lines)?;
+        }
+        let classes = lines.count("classes ", 256)?;
+        tables.read_classes(&mut lines, classes)?;
+        let states = lines.count("states ", 16_512)?;
+        if tables.starts.is_empty() || tables.starts.iter().flatten().any(|&start| usize::from(start) > states) {
+            return lines.refuse("the start of a condition isn't among the states");
+        }
+        tables.columns.iter_mut().for_each(|column| *column *= states as u32 + 1);
+        tables.next = vec![0; classes * (states + 1)];
+        for state in 1..=states {
+            tables.read_state(&mut lines, state, states, classes)?;
+        }
+        match (lines.after("end")?, lines.rest) {
+            ("", "") => Ok(tables),
+            _ => lines.refuse("nothing may follow the end"),
+        }
+    }
+
+    fn read_start(&mut self, lines: &mut Lines) -> Result<(), Error> {
+        let fields = lines.after("start ")?;
+        let (plain, at_line_begin) = fields.split_once(' ').ok_or_else(|| lines.error("two states are due"))?;
+        self.starts.push([lines.number(plain, 16_512)? as u16 + 1, lines.number(at_line_begin, 16_512)? as u16 + 1]);
+        Ok(())
+    }
+
+    fn read_kind(&mut self, lines: &mut Lines) -> Result<(), Error> {
+        let name = lines.after("kind ")?;
+        if name.is_empty() || name.starts_with(|c: char| c.is_ascii_digit()) || !name.chars().all(|c| c.is_ascii_alphanumeric() || c == '_') {
+            return lines.refuse("a name is due");
+        }
+        self.kinds.push(name.to_string());
+        Ok(())
+    }
+
+    fn read_rule(&mut self, lines: &mut Lines) -> Result<(), Error> {
+        let mut fields = lines.after("rule ")?.split(' ');
+        let ends_line = lines.number(fields.next().unwrap_or(""), 2)? == 1;
+        let mut steps = vec![];
+        for field in fields {
+            if matches!(steps.last(), Some(Step::Give(Kind::Name(_) | Kind::Number(_)))) {
+                return lines.refuse("nothing may follow a return");
+            }
+            steps.push(match (field.get(..1), field.get(1..).unwrap_or("")) {
+                (Some("e"), "") => Step::Give(Kind::Echo),
+                (Some("b"), condition) => Step::Begin(lines.number(condition, self.starts.len())?),
+                (Some("k"), kind) => Step::Give(Kind::Name(lines.number(kind, self.kinds.len())? as u32)),
+                (Some("n"), number) => Step::Give(Kind::Number(lines.number(number, 1 << 31)? as u32)),
+                _ => return lines.refuse("a step is due"),
+            });
+        }
+        self.rules.push(Rule { ends_line, steps });
+        Ok(())
+    }
+
+    fn read_classes(&mut self, lines: &mut Lines, count: usize) -> Result<(), Error> {
+        let (mut byte, mut seen, mut last) = (0, 0, count);
+        for range in lines.after("class ")?.split(' ') {
+            let (bytes, class) = range.split_once(':').unwrap_or((range, ""));
+            let (low, high) = bytes.split_once('-').unwrap_or((bytes, ""));
+            let (low, high, class) = (lines.number(low, 256)?, lines.number(high, 256)?, lines.number(class, count)?);
+            if low != byte || high < low || class == last || class > seen {
+                return lines.refuse("the next bytes are due, in another class, or the next new one");
+            }
+            self.columns[low..=high].fill(class as u32);
+            byte = high + 1;
+            last = class;
+            seen += usize::from(class == seen);
+        }
+        if (byte, seen) == (256, count) { Ok(()) } else { lines.refuse("a byte has no class, or a class no byte") }
+    }
+
+    fn read_state(&mut self, lines: &mut Lines, state: usize, states: usize, classes: usize) -> Result<(), Error> {
+        let mut fields = lines.after("state ")?.split(' ');
+        let rule = match fields.next() {
+            Some("-") => 0,
+            rule => lines.number(rule.unwrap_or(""), self.rules.len() - 1)? + 1,
+        };
+        self.accepts.push(rule as u16);
+        let mut least = 0;
+        for field in fields {
+            let (class, next) = field.split_once(':').unwrap_or((field, ""));
+            let (class, next) = (lines.number(class, classes)?, lines.number(next, states)?);
+            if class < least {
+                return lines.refuse("a greater class is due");
+            }
+            self.next[class * (states + 1) + state] = next as u16 + 1;
+            least = class + 1;
+        }
+        Ok(())
+    }
+
+    /// The names of the kinds.
+    pub fn kinds(&self) -> &[String] {
+        &self.kinds
+    }
+
+    /// The kind with this name.
+    pub fn kind(&self, name: &str) -> Option<Kind> {
+        self.kinds.iter().position(|kind| kind == name).map(|place| Kind::Name(place as u32))
+    }
+
+    pub fn scan<'t>(&'t self, text: &'t [u8]) -> Scanner<'t> {
+        let last = Item { kind: Kind::Echo, text: &text[..0], start: 0, line: 1, column: 1 };
+        Scanner { tables: self, text, at: 0, line: 1, line_start: 0, condition: 0, last, pending: [].iter() }
+    }
+}
+
+/// The lines of a text of tables, and the number of the last one that was taken.
+struct Lines<'a> {
+    rest: &'a str,
+    number: usize,
+}
+
+impl<'a> Lines<'a> {
+    fn error(&self, cause: &str) -> Error {
+        Error { line: self.number, cause: cause.to_string() }
+    }
+
+    fn refuse<T>(&self, cause: &str) -> Result<T, Error> {
+        Err(self.error(cause))
+    }
+
+    /// Takes the next line, which begins with a word: what stands behind the word.
+    fn after(&mut self, word: &str) -> Result<&'a str, Error> {
+        self.number += 1;
+        let (line, rest) = self.rest.split_once('\n').ok_or_else(|| self.error("the text is cut off"))?;
+        self.rest = rest;
+        line.strip_prefix(word).ok_or_else(|| self.error(&format!("a line that begins with \"{word}\" is due")))
+    }
+
+    fn number(&self, digits: &str, bound: usize) -> Result<usize, Error> {
+        let is_decimal = digits.bytes().all(|digit| digit.is_ascii_digit()) && (digits == "0" || !digits.starts_with('0'));
+        let number = digits.parse().ok().filter(|&number| is_decimal && number < bound);
+        number.ok_or_else(|| self.error(&format!("a number below {bound} is due, and not \"{digits}\"")))
+    }
+
+    fn count(&mut self, word: &str, most: usize) -> Result<usize, Error> {
+        let digits = self.after(word)?;
+        self.number(digits, most + 1)
+    }
+}
+
+/// The items of a text, one after the other.
+pub struct Scanner<'t> {
+    tables: &'t Tables,
+    text: &'t [u8],
+    at: usize,
+    line: usize,
+    line_start: usize,
+    condition: usize,
+    /// The last match, and what is left of the steps of its rule.
+    last: Item<'t>,
+    pending: std::slice::Iter<'t, Step>,
+}
+
+impl<'t> Scanner<'t> {
+    /// Goes over to a start condition by its number, in which the next match begins; 0 is INITIAL. Where there is none of this number it stays.
+    pub fn begin(&mut self, condition: usize) {
+        if condition < self.tables.starts.len() {
+            self.condition = condition;
+        }
+    }
+
+    /// The rule that matches most from here on, and the length of its token.
+    fn longest(&self) -> (usize, usize) {
+        let (tables, rest) = (self.tables, &self.text[self.at..]);
+        let start = usize::from(tables.starts[self.condition][usize::from(self.at == self.line_start)]);
+        let (mut state, mut length) = (start, 0);
+        for &byte in rest {
+            let next = usize::from(tables.next[tables.columns[usize::from(byte)] as usize + state]);
+            if next == 0 {
+                break;
+            }
+            state = next;
+            length += 1;
+        }
+        let rule = usize::from(tables.accepts[state]);
+        if rule == 0 || length == 0 || tables.rules[rule].ends_line {
+            return tables.look_back(start, &rest[..length]);
+        }
+        (rule, length)
+    }
+
+    fn take_match(&mut self) {
+        let (rule, length) = self.longest();
+        let text = &self.text[self.at..self.at + length];
+        self.last = Item { text, start: self.at, line: self.line, column: self.at - self.line_start + 1, ..self.last };
+        self.pending = self.tables.rules[rule].steps.iter();
+        for (place, &byte) in text.iter().enumerate() {
+            if byte == b'\n' {
+                self.line += 1;
+                self.line_start = self.at + place + 1;
+            }
+        }
+        self.at += length;
+    }
+}
+
+impl Tables {
+    /// Walks once more over what was walked, for the last place where a token ends.
+    fn look_back(&self, start: usize, walked: &[u8]) -> (usize, usize) {
+        let (mut state, mut found) = (start, (0, 1));
+        for (place, &byte) in walked.iter().enumerate() {
+            state = usize::from(self.next[self.columns[usize::from(byte)] as usize + state]);
+            let rule = usize::from(self.accepts[state]);
+            let length = place + 1 - usize::from(self.rules[rule].ends_line);
+            if rule > 0 && length > 0 {
+                found = (rule, length);
+            }
+        }
+        found
+    }
+}
+
+impl<'t> Iterator for Scanner<'t> {
+    type Item = Item<'t>;
+
+    fn next(&mut self) -> Option<Item<'t>> {
+        loop {
+            for &step in &mut self.pending {
+                match step {
+                    Step::Begin(condition) => self.condition = condition,
+                    Step::Give(kind) => return Some(Item { kind, ..self.last }),
+                }
+            }
+            if self.at == self.text.len() {
+                return None;
+            }
+            self.take_match();
+        }
+    }
+}
