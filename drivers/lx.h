@@ -43,9 +43,9 @@ typedef struct lx_token {
 typedef struct lx_scanner { /* its fields may be read; the calls below set them */
     const lx_tables *tables;
     const char *text;
-    size_t size, before, at, line, line_start;      /* bytes in the buffer and before it; where the next match begins in it, with its line */
-    int condition, at_line_begin, is_last, pending; /* pending: the place of the steps that are left of the last match's action */
-    lx_token last;                                  /* the last match */
+    size_t size, before, at, line, line_start; /* bytes in the buffer and before it; where the next match begins in it, with its line */
+    int condition, is_last, pending;           /* pending: the place of the steps that are left of the last match's action */
+    lx_token last;                             /* the last match */
 } lx_scanner;
 
 /* ---- Reading tables: a reader goes over the text twice. It judges it and counts words and letters, and then it stores them. */
@@ -220,7 +220,7 @@ static inline void lx_refill(lx_scanner *s, const void *text, size_t size, int i
 
 static inline void lx_init_part(lx_scanner *s, const lx_tables *tables, const void *text, size_t size) { /* a text that comes in parts */
     memset(s, 0, sizeof *s);
-    s->tables = tables, s->line = 1, s->at_line_begin = 1;
+    s->tables = tables, s->line = 1;
     lx_refill(s, text, size, 0);
 }
 
@@ -233,19 +233,25 @@ static inline void lx_begin(lx_scanner *s, int condition) { /* by its number; 0 
     if (condition >= 0 && condition < s->tables->conditions) s->condition = condition;
 }
 
-static inline void lx__take(lx_scanner *s, size_t length) {
-    const char *const from = s->text + s->at, *p = from, *const end = from + length;
+static inline size_t lx__lines(const char *text, size_t length) {
+    size_t lines = 0;
+    while (length > 0) lines += text[--length] == '\n';
+    return lines;
+}
+
+static inline void lx__take(lx_scanner *s, size_t length, size_t lines) { /* as the last match, with so many newlines */
+    const char *const from = s->text + s->at, *end = from + length;
     s->last.text = from, s->last.length = length, s->last.start = s->before + s->at, s->last.line = s->line, s->last.line_start = s->line_start;
-    for (; p != end; p++)
-        if (*p == '\n') s->line++, s->line_start = s->before + (size_t)(p + 1 - s->text);
     s->at += length;
-    if (length) s->at_line_begin = p[-1] == '\n';
+    if (lines == 0) return;
+    while (end[-1] != '\n') end--;
+    s->line += lines, s->line_start = s->last.start + (size_t)(end - from);
 }
 
 static inline void lx_less(lx_scanner *s, const lx_token *t, size_t length) { /* yyless: goes on behind the first bytes of the last token, one at least */
     if (length == 0 || length > t->length) return;
     s->at = t->start - s->before, s->line = t->line, s->line_start = t->line_start, s->pending = 0;
-    lx__take(s, length);
+    lx__take(s, length, lx__lines(t->text, length));
 }
 
 static inline size_t lx_column(const lx_scanner *s, const lx_token *t) { return (void)s, t->start - t->line_start + 1; } /* from 1, in bytes */
@@ -280,18 +286,22 @@ static inline int lx__walk_again(const lx_tables *t, size_t state, const unsigne
 static inline int lx__match(lx_scanner *s) { /* takes the longest match, and begins its action */
     const lx_tables *const t = s->tables;
     const unsigned char *const from = (const unsigned char *)s->text + s->at, *const end = (const unsigned char *)s->text + s->size, *p = from;
-    const size_t start = (size_t)t->starts[2 * s->condition + s->at_line_begin];
-    size_t state, next = start, length;
+    const size_t start = (size_t)t->starts[2 * s->condition + (s->before + s->at == s->line_start)];
+    size_t state = start, next, length, lines = 0;
     int action;
-    do {
+    while ((next = t->steps[t->columns[*p] + state]) != 0) {
         state = next;
-        next = t->steps[t->columns[*p] + state];
-    } while (next && ++p != end);
+        lines += *p == '\n';
+        if (++p == end) break;
+    }
     if (next && !s->is_last && lx__has_step(t, next)) return lx_MORE;
     length = (size_t)(p - from);
-    action = t->accepts[next ? next : state];
-    if (action <= 0 || length == 0) action = lx__walk_again(t, start, from, &length);
-    lx__take(s, length);
+    action = t->accepts[state];
+    if (action <= 0 || length == 0) {
+        action = lx__walk_again(t, start, from, &length);
+        lines = lx__lines(s->text + s->at, length);
+    }
+    lx__take(s, length, lines);
     return lx__perform(s, action);
 }
 
@@ -299,7 +309,7 @@ static inline int lx_next(lx_scanner *s, lx_token *t) { /* the next token, and i
     int kind = s->pending ? lx__perform(s, s->pending) : (int)lx_END;
     while (kind == lx_END && s->at != s->size) kind = lx__match(s);
     if (kind == lx_END && !s->is_last) kind = lx_MORE;
-    if (kind == lx_END || kind == lx_MORE) lx__take(s, 0);
+    if (kind == lx_END || kind == lx_MORE) lx__take(s, 0, 0);
     *t = s->last;
     return t->kind = kind;
 }

@@ -49,26 +49,23 @@ impl fmt::Display for Error {
 
 impl error::Error for Error {}
 
+/// A step of an action, or its end. Behind the return of a kind that isn't Echo no end is looked for.
 #[derive(Clone, Copy)]
 enum Step {
-    Begin(usize),
+    Begin(u16),
     Give(Kind),
+    End,
 }
 
-struct Rule {
-    ends_line: bool,
-    steps: Vec<Step>,
-}
-
-/// Tables, in which states and rules are counted from 1, and 0 is none.
+/// Tables, in which states are counted from 1, and 0 is none.
 pub struct Tables {
     /// Where the column of each byte's class begins, and in it for each state the next one.
     columns: [u32; 256],
     next: Vec<u16>,
-    /// For each state the rule that it accepts.
-    accepts: Vec<u16>,
-    /// The rules, and before them what is done with a byte that none of them takes.
-    rules: Vec<Rule>,
+    /// For each state the place of its action, or 0; below 0, where the rule ends with `$`.
+    accepts: Vec<i32>,
+    /// The actions one behind the other; first that of a byte that no rule takes.
+    steps: Vec<Step>,
     /// For each condition the state in which a match begins, and the one at line begin.
     starts: Vec<[u16; 2]>,
     kinds: Vec<String>,
@@ -82,17 +79,15 @@ impl Tables {
         if version != "2" {
             return lines.refuse("the tables are of another version: `lx up` prints version 2");
         }
-        let echo = Rule { ends_line: false, steps: vec![Step::Give(Kind::Echo)] };
-        let mut tables = Tables { columns: [0; 256], next: vec![], accepts: vec![0], rules: vec![echo], starts: vec![], kinds: vec![] };
+        let steps = vec![Step::Give(Kind::Echo), Step::End];
+        let mut tables = Tables { columns: [0; 256], next: vec![], accepts: vec![0], steps, starts: vec![], kinds: vec![] };
         for _ in 0..lines.count("conditions ", 64)? {
             tables.read_start(&mut lines)?;
         }
         for _ in 0..lines.count("kinds ", 4_096)? {
             tables.read_kind(&mut lines)?;
         }
-        for _ in 0..lines.count("rules ", 4_096)? {
-            tables.read_rule(&mut lines)?;
-        }
+        let rules = (0..lines.count("rules ", 4_096)?).map(|_| tables.read_rule(&mut lines)).collect::<Result<Vec<_>, _>>()?;
         let classes = lines.count("classes ", 256)?;
         tables.read_classes(&mut lines, classes)?;
         let states = lines.count("states ", 16_512)?;
@@ -102,7 +97,7 @@ impl Tables {
         tables.columns.iter_mut().for_each(|column| *column *= states as u32 + 1);
         tables.next = vec![0; classes * (states + 1)];
         for state in 1..=states {
-            tables.read_state(&mut lines, state, states, classes)?;
+            tables.read_state(&mut lines, state, states, &rules)?;
         }
         match (lines.after("end")?, lines.rest) {
             ("", "") => Ok(tables),
@@ -126,24 +121,24 @@ impl Tables {
         Ok(())
     }
 
-    fn read_rule(&mut self, lines: &mut Lines) -> Result<(), Error> {
+    /// The place of the rule's action, as states accept it.
+    fn read_rule(&mut self, lines: &mut Lines) -> Result<i32, Error> {
         let mut fields = lines.after("rule ")?.split(' ');
         let ends_line = lines.number(fields.next().unwrap_or(""), 2)? == 1;
-        let mut steps = vec![];
+        let (place, mut is_open) = (self.steps.len() as i32, true);
         for field in fields {
-            if matches!(steps.last(), Some(Step::Give(Kind::Name(_) | Kind::Number(_)))) {
-                return lines.refuse("nothing may follow a return");
-            }
-            steps.push(match (field.get(..1), field.get(1..).unwrap_or("")) {
-                (Some("e"), "") => Step::Give(Kind::Echo),
-                (Some("b"), condition) => Step::Begin(lines.number(condition, self.starts.len())?),
-                (Some("k"), kind) => Step::Give(Kind::Name(lines.number(kind, self.kinds.len())? as u32)),
-                (Some("n"), number) => Step::Give(Kind::Number(lines.number(number, 1 << 31)? as u32)),
-                _ => return lines.refuse("a step is due"),
-            });
+            let step = match (field.get(..1), field.get(1..).unwrap_or("")) {
+                (Some("e"), "") if is_open => Step::Give(Kind::Echo),
+                (Some("b"), condition) if is_open => Step::Begin(lines.number(condition, self.starts.len())? as u16),
+                (Some("k"), kind) if is_open => Step::Give(Kind::Name(lines.number(kind, self.kinds.len())? as u32)),
+                (Some("n"), number) if is_open => Step::Give(Kind::Number(lines.number(number, 1 << 31)? as u32)),
+                _ => return lines.refuse("a step is due, or nothing behind a return"),
+            };
+            is_open = matches!(step, Step::Begin(_) | Step::Give(Kind::Echo));
+            self.steps.push(step);
         }
-        self.rules.push(Rule { ends_line, steps });
-        Ok(())
+        self.steps.push(Step::End);
+        Ok(if ends_line { -place } else { place })
     }
 
     fn read_classes(&mut self, lines: &mut Lines, count: usize) -> Result<(), Error> {
@@ -163,14 +158,13 @@ impl Tables {
         if (byte, seen) == (256, count) { Ok(()) } else { lines.refuse("a byte has no class, or a class no byte") }
     }
 
-    fn read_state(&mut self, lines: &mut Lines, state: usize, states: usize, classes: usize) -> Result<(), Error> {
+    fn read_state(&mut self, lines: &mut Lines, state: usize, states: usize, rules: &[i32]) -> Result<(), Error> {
+        let (classes, mut least) = (self.next.len() / (states + 1), 0);
         let mut fields = lines.after("state ")?.split(' ');
-        let rule = match fields.next() {
+        self.accepts.push(match fields.next() {
             Some("-") => 0,
-            rule => lines.number(rule.unwrap_or(""), self.rules.len() - 1)? + 1,
-        };
-        self.accepts.push(rule as u16);
-        let mut least = 0;
+            rule => rules[lines.number(rule.unwrap_or(""), rules.len())?],
+        });
         for field in fields {
             let (class, next) = field.split_once(':').unwrap_or((field, ""));
             let (class, next) = (lines.number(class, classes)?, lines.number(next, states)?);
@@ -195,7 +189,7 @@ impl Tables {
 
     pub fn scan<'t>(&'t self, text: &'t [u8]) -> Scanner<'t> {
         let last = Item { kind: Kind::Echo, text: &text[..0], start: 0, line: 1, column: 1 };
-        Scanner { tables: self, text, at: 0, line: 1, line_start: 0, condition: 0, last, pending: [].iter() }
+        Scanner { tables: self, text, at: 0, line: 1, line_start: 0, condition: 0, last, pending: NOTHING }
     }
 }
 
@@ -242,10 +236,13 @@ pub struct Scanner<'t> {
     line: usize,
     line_start: usize,
     condition: usize,
-    /// The last match, and what is left of the steps of its rule.
+    /// The place of the steps that are left of an action, of a match that gave an item already; or that of no steps.
+    pending: usize,
     last: Item<'t>,
-    pending: std::slice::Iter<'t, Step>,
 }
+
+/// The place of an action's end.
+const NOTHING: usize = 1;
 
 impl<'t> Scanner<'t> {
     /// Goes over to a start condition by its number, in which the next match begins; 0 is INITIAL. Where there is none of this number it stays.
@@ -255,11 +252,31 @@ impl<'t> Scanner<'t> {
         }
     }
 
-    /// The rule that matches most from here on, and the length of its token.
-    fn longest(&self) -> (usize, usize) {
+    /// Does the steps from a place on, up to one that gives an item: its kind.
+    #[inline(always)]
+    fn perform(&mut self, mut place: usize) -> Option<Kind> {
+        loop {
+            match self.tables.steps[place] {
+                Step::Begin(condition) => self.condition = usize::from(condition),
+                Step::Give(kind) => {
+                    self.pending = if kind == Kind::Echo { place + 1 } else { NOTHING };
+                    return Some(kind);
+                }
+                Step::End => {
+                    self.pending = NOTHING;
+                    return None;
+                }
+            }
+            place += 1;
+        }
+    }
+
+    /// Takes the longest match: the place of its action, and an item whose kind isn't known yet. Newlines are counted on the way.
+    #[inline(always)]
+    fn take_match(&mut self) -> (usize, Item<'t>) {
         let (tables, rest) = (self.tables, &self.text[self.at..]);
         let start = usize::from(tables.starts[self.condition][usize::from(self.at == self.line_start)]);
-        let (mut state, mut length) = (start, 0);
+        let (mut state, mut length, mut newlines) = (start, 0, 0);
         for &byte in rest {
             let next = usize::from(tables.next[tables.columns[usize::from(byte)] as usize + state]);
             if next == 0 {
@@ -267,39 +284,35 @@ impl<'t> Scanner<'t> {
             }
             state = next;
             length += 1;
+            newlines += usize::from(byte == b'\n');
         }
-        let rule = usize::from(tables.accepts[state]);
-        if rule == 0 || length == 0 || tables.rules[rule].ends_line {
-            return tables.look_back(start, &rest[..length]);
+        let mut action = tables.accepts[state];
+        if action <= 0 || length == 0 {
+            (action, length) = tables.look_back(start, &rest[..length]);
+            newlines = rest[..length].iter().filter(|&&byte| byte == b'\n').count();
         }
-        (rule, length)
-    }
-
-    fn take_match(&mut self) {
-        let (rule, length) = self.longest();
-        let text = &self.text[self.at..self.at + length];
-        self.last = Item { text, start: self.at, line: self.line, column: self.at - self.line_start + 1, ..self.last };
-        self.pending = self.tables.rules[rule].steps.iter();
-        for (place, &byte) in text.iter().enumerate() {
-            if byte == b'\n' {
-                self.line += 1;
-                self.line_start = self.at + place + 1;
-            }
+        let text = &rest[..length];
+        let found = Item { kind: Kind::Echo, text, start: self.at, line: self.line, column: self.at - self.line_start + 1 };
+        if newlines > 0 {
+            self.line += newlines;
+            self.line_start = self.at + text.iter().rposition(|&byte| byte == b'\n').map_or(0, |place| place + 1);
         }
         self.at += length;
+        (action as usize, found)
     }
 }
 
 impl Tables {
-    /// Walks once more over what was walked, for the last place where a token ends.
-    fn look_back(&self, start: usize, walked: &[u8]) -> (usize, usize) {
+    /// Walks once more over what was walked, for the last place where a token ends: its action and its length.
+    #[cold]
+    fn look_back(&self, start: usize, walked: &[u8]) -> (i32, usize) {
         let (mut state, mut found) = (start, (0, 1));
         for (place, &byte) in walked.iter().enumerate() {
             state = usize::from(self.next[self.columns[usize::from(byte)] as usize + state]);
-            let rule = usize::from(self.accepts[state]);
-            let length = place + 1 - usize::from(self.rules[rule].ends_line);
-            if rule > 0 && length > 0 {
-                found = (rule, length);
+            let action = self.accepts[state];
+            let length = place + usize::from(action > 0);
+            if action != 0 && length > 0 {
+                found = (action.abs(), length);
             }
         }
         found
@@ -309,18 +322,22 @@ impl Tables {
 impl<'t> Iterator for Scanner<'t> {
     type Item = Item<'t>;
 
+    #[inline(always)]
     fn next(&mut self) -> Option<Item<'t>> {
-        loop {
-            for &step in &mut self.pending {
-                match step {
-                    Step::Begin(condition) => self.condition = condition,
-                    Step::Give(kind) => return Some(Item { kind, ..self.last }),
-                }
+        if self.pending != NOTHING {
+            if let Some(kind) = self.perform(self.pending) {
+                return Some(Item { kind, ..self.last });
             }
-            if self.at == self.text.len() {
-                return None;
-            }
-            self.take_match();
         }
+        while self.at < self.text.len() {
+            let (action, found) = self.take_match();
+            if let Some(kind) = self.perform(action) {
+                if self.pending != NOTHING {
+                    self.last = found;
+                }
+                return Some(Item { kind, ..found });
+            }
+        }
+        None
     }
 }
