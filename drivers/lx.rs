@@ -72,6 +72,7 @@ pub struct Tables {
 }
 
 impl Tables {
+    /// Reads a text of tables, of at most 1,000,000,000 bytes.
     pub fn read(text: &[u8]) -> Result<Tables, Error> {
         let text = String::from_utf8_lossy(text);
         let mut lines = Lines { rest: &text, number: 0 };
@@ -81,7 +82,11 @@ impl Tables {
         }
         let steps = vec![Step::Give(Kind::Echo), Step::End];
         let mut tables = Tables { columns: [0; 256], next: vec![], accepts: vec![0], steps, starts: vec![], kinds: vec![] };
-        for _ in 0..lines.count("conditions ", 64)? {
+        let conditions = lines.count("conditions ", 64)?;
+        if conditions == 0 {
+            return lines.refuse("a start condition is due");
+        }
+        for _ in 0..conditions {
             tables.read_start(&mut lines)?;
         }
         for _ in 0..lines.count("kinds ", 4_096)? {
@@ -91,7 +96,7 @@ impl Tables {
         let classes = lines.count("classes ", 256)?;
         tables.read_classes(&mut lines, classes)?;
         let states = lines.count("states ", 16_512)?;
-        if tables.starts.is_empty() || tables.starts.iter().flatten().any(|&start| usize::from(start) > states) {
+        if tables.starts.iter().flatten().any(|&start| usize::from(start) > states) {
             return lines.refuse("the start of a condition isn't among the states");
         }
         tables.columns.iter_mut().for_each(|column| *column *= states as u32 + 1);

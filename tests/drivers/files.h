@@ -1,7 +1,6 @@
-/* A file in a block of memory of its exact size, and what a word such as `part3` asks for. */
+/* A file in a block of memory of its exact size. */
 #include <stdio.h>
 #include <stdlib.h>
-#include <string.h>
 
 struct file {
     unsigned char *bytes;
@@ -20,7 +19,3 @@ static struct file file_read(const char *path)
     fclose(from);
     return file;
 }
-
-static enum listing_mode mode_of(const char *word) { return *word == 'p' ? BY_PARTS : *word == 'f' ? BY_FILL : WHOLE; }
-
-static size_t number_of(const char *word) { return strlen(word) > 4 ? (size_t)strtoul(word + 4, NULL, 10) : 0; }

@@ -1,4 +1,4 @@
-/* list_by_header MODE TABLES FILE..: the listing of files by drivers/lx.h. MODE is `whole`, or `part` or `fill` with a number. */
+/* list_by_header WAY TABLES FILE..: the listing of files by drivers/lx.h, each line with the column before it. */
 #include "../../drivers/lx.h"
 static lx_tables tables;
 #define P(name) lx_##name
@@ -28,7 +28,7 @@ int main(int argc, char **argv)
     free(text.bytes);
     for (i = 3; i < argc; i++) {
         const struct file file = file_read(argv[i]);
-        lx_list((unsigned)i - 3, file.bytes, file.size, mode_of(argv[1]), number_of(argv[1]));
+        lx_list((unsigned)i - 3, file.bytes, file.size, argv[1]);
         free(file.bytes);
     }
     free(memory);

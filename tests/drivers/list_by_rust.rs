@@ -1,4 +1,5 @@
 //! list_by_rust TABLES FILE..: the listing of files by drivers/lx.rs, each line with the column before it.
+//! list_by_rust --damage CASES FILE: what it says of each text of tables in CASES, which has its length as four bytes before it.
 #[path = "../../drivers/lx.rs"]
 mod lx;
 
@@ -24,14 +25,39 @@ fn write_item(out: &mut impl Write, tables: &Tables, file: usize, item: &Item) -
     writeln!(out, "{} {file} {kind} {} {} {} {}", item.column, item.line, item.start, item.text.len(), shown(item.text))
 }
 
+fn list(out: &mut impl Write, tables: &Tables, files: &[Vec<u8>]) -> io::Result<()> {
+    for (number, file) in files.iter().enumerate() {
+        for item in tables.scan(file) {
+            write_item(out, tables, number, &item)?;
+        }
+    }
+    Ok(())
+}
+
+fn damage(out: &mut impl Write, mut texts: &[u8], files: &[Vec<u8>]) -> io::Result<()> {
+    while let [a, b, c, d, rest @ ..] = texts {
+        let (text, behind) = rest.split_at(u32::from_le_bytes([*a, *b, *c, *d]) as usize);
+        texts = behind;
+        match Tables::read(text) {
+            Err(error) => writeln!(out, "= refused at line {}", error.line)?,
+            Ok(tables) => {
+                writeln!(out, "= taken")?;
+                list(out, &tables, files)?;
+            }
+        }
+    }
+    Ok(())
+}
+
 fn main() -> Result<(), Box<dyn std::error::Error>> {
     let words: Vec<String> = std::env::args().skip(1).collect();
-    let tables = Tables::read(&std::fs::read(&words[0])?)?;
+    let is_damage = words[0] == "--damage";
+    let files = words[usize::from(is_damage)..].iter().map(std::fs::read).collect::<Result<Vec<_>, _>>()?;
     let mut out = BufWriter::new(io::stdout());
-    for (number, name) in words[1..].iter().enumerate() {
-        for item in tables.scan(&std::fs::read(name)?) {
-            write_item(&mut out, &tables, number, &item)?;
-        }
+    if is_damage {
+        damage(&mut out, &files[0], &files[1..])?;
+    } else {
+        list(&mut out, &Tables::read(&files[0])?, &files[1..])?;
     }
     Ok(out.flush()?)
 }

@@ -1,16 +1,14 @@
 /* The listing of a text as `lx scan` has it, each line with the column before it, by a scanner in C.
  *
- * Before it is included, P(name) is the scanner's name for a call or type, INIT and INIT_PART begin a text, COLUMN is a token's column and NAME a kind's name. It may be
- * included for several scanners. The text comes whole, in parts of so many bytes, or so many tokens a call. Each buffer is a block of memory of its exact size, so that a sanitizer sees each byte
- * too far. */
+ * Where P is defined when it is included, P(name) is the scanner's name for a call or a type, INIT and INIT_PART begin a text, COLUMN is a token's column and NAME
+ * a kind's name: then it gives P(list). It may be included for several scanners. A text comes whole, in parts of so many bytes, or so many tokens a call; each part is a block of
+ * memory of its exact size, so that a sanitizer sees each byte too far. */
 #include <stdio.h>
 #include <stdlib.h>
 #include <string.h>
 
 #ifndef LISTING_H
 #define LISTING_H
-enum listing_mode { WHOLE, BY_PARTS, BY_FILL };
-
 /* a block of exactly these bytes: the rest of the one before, and what comes behind it */
 static unsigned char *listing_block(const void *rest, size_t rest_size, const unsigned char *more, size_t more_size)
 {
@@ -33,6 +31,7 @@ static void listing_text(const char *text, size_t length)
 }
 #endif
 
+#ifdef P
 static void P(list_item)(unsigned file, const P(scanner) *s, const P(token) *t)
 {
     printf("%lu %u ", (unsigned long)COLUMN(s, t), file);
@@ -87,11 +86,12 @@ static void P(list_by_parts)(unsigned file, const unsigned char *text, size_t si
     free(block);
 }
 
-static void P(list)(unsigned file, const unsigned char *text, size_t size, enum listing_mode mode, size_t number)
+/* way: `whole`, or `part` or `fill` with a number behind it */
+static void P(list)(unsigned file, const unsigned char *text, size_t size, const char *way)
 {
-    switch (mode) {
-    case WHOLE: P(list_whole)(file, text, size); break;
-    case BY_PARTS: P(list_by_parts)(file, text, size, number); break;
-    case BY_FILL: P(list_by_fill)(file, text, size, number); break;
-    }
+    const size_t number = *way == 'w' ? 0 : (size_t)strtoul(way + 4, NULL, 10);
+    if (*way == 'p') P(list_by_parts)(file, text, size, number);
+    else if (*way == 'f') P(list_by_fill)(file, text, size, number);
+    else P(list_whole)(file, text, size);
 }
+#endif
