@@ -28,8 +28,7 @@ typedef struct lx_tables {       /* states are counted from 1, and 0 is none */
     const unsigned short *steps; /* in a column for each state the next one */
     const int *accepts;          /* for each state the place of its action, or 0; below 0, where the rule ends with `$` */
     const int *actions;          /* a kind, lx_ECHO or -4 - a condition each, up to lx_END; first that of a byte that no rule takes */
-    const int *starts;           /* where a match begins: for each condition a state, and the one at line begin */
-    const int *names;            /* where each name begins among the letters */
+    const int *starts, *names;   /* for each condition the state where a match begins, and the one at line begin; where names begin */
     const char *letters;
     int conditions, kinds, first, classes, states; /* how many, and the number of the first kind with a name */
 } lx_tables;
@@ -60,20 +59,20 @@ typedef struct lx__reader {
 #define LX__DUE(word) word, "\"" word "\" is due"
 #define LX__LINE(word) "\n" word, "a line that begins with \"" word "\" is due"
 
+static inline int *lx__place(const lx__reader *r) { return r->memory ? r->memory + r->words : NULL; }
+static inline int lx__is_next(const lx__reader *r, char least, char most) { return !r->message && r->at != r->end && *r->at >= least && *r->at <= most; }
 static inline int lx__refuse(lx__reader *r, const char *message) {
     if (!r->message) r->message = r->at == r->end ? "the text is cut off" : message;
     return 0;
 }
-
-static inline int lx__is_next(const lx__reader *r, char least, char most) {
-    return !r->message && r->at != r->end && *r->at >= least && *r->at <= most;
+static inline void lx__put(lx__reader *r, int word) {
+    if (r->memory) r->memory[r->words] = word;
+    r->words++;
 }
-
 static inline int lx__word(lx__reader *r, const char *word, const char *message) {
     for (; *word && lx__is_next(r, *word, *word); word++) r->line += *r->at++ == '\n';
     return *word ? lx__refuse(r, message) : 1;
 }
-
 static inline int lx__number(lx__reader *r, const char *word, const char *message, int most) { /* behind a word, up to `most` */
     int n = 0, digits = 0;
     lx__word(r, word, message);
@@ -83,11 +82,6 @@ static inline int lx__number(lx__reader *r, const char *word, const char *messag
         n = 10 * n + digit;
     }
     return digits ? n : lx__refuse(r, "a number is due");
-}
-
-static inline void lx__put(lx__reader *r, int word) {
-    if (r->memory) r->memory[r->words] = word;
-    r->words++;
 }
 
 static inline void lx__read_kind(lx__reader *r) {
@@ -108,8 +102,8 @@ static inline int lx__read_rule(lx__reader *r, const lx_tables *t, int place) { 
         const int is_step = memchr("bekn", step, 4) ? r->at++, 1 : lx__refuse(r, "a step is due");
         const int n = !is_step || step == 'e' ? 0 : lx__number(r, "", "", step == 'b' ? t->conditions - 1 : step == 'k' ? t->kinds - 1 : 2147483647);
         if (step == 'n' && n > r->greatest) r->greatest = n;
-        is_open = step == 'b' || step == 'e';
         lx__put(r, step == 'b' ? -4 - n : step == 'e' ? (int)lx_ECHO : step == 'k' ? t->first + n : n);
+        is_open = step == 'b' || step == 'e';
     }
     lx__put(r, lx_END);
     return sign * place;
@@ -122,8 +116,7 @@ static inline void lx__read_classes(lx__reader *r, lx_tables *t) {
         const int low = lx__number(r, LX__DUE(" "), 255), high = lx__number(r, LX__DUE("-"), 255), one = lx__number(r, LX__DUE(":"), t->classes - 1);
         if (low != byte || high < low || one == last || one > seen) lx__refuse(r, "the next bytes are due, in another class, or the next new one");
         for (; byte <= high; byte++) t->columns[byte] = (unsigned)(one * (t->states + 1));
-        last = one;
-        seen += one == seen;
+        last = one, seen += one == seen;
     }
     if (seen < t->classes) lx__refuse(r, "a class has no bytes");
 }
@@ -141,15 +134,13 @@ static inline void lx__read_state(lx__reader *r, const lx_tables *t, int state, 
     }
 }
 
-static inline int *lx__place(const lx__reader *r) { return r->memory ? r->memory + r->words : NULL; }
-
 static inline void lx__read(lx__reader *r, lx_tables *t) { /* where it is stored, what `t` counts is known from the time before */
     int i, rules, start = 0, *places;
     size_t actions;
     lx__word(r, "lx-tables ", "this is no text of tables");
     lx__word(r, "2", "the tables are of another version: `lx up` prints version 2");
     t->conditions = lx__number(r, LX__LINE("conditions "), 64);
-    if (t->conditions == 0) lx__refuse(r, "a number is too small");
+    if (t->conditions == 0) lx__refuse(r, "a start condition is due");
     t->starts = lx__place(r);
     for (i = 0; i < 2 * t->conditions; i++) {
         const int state = i % 2 ? lx__number(r, LX__DUE(" "), 16511) : lx__number(r, LX__LINE("start "), 16511);
@@ -171,10 +162,10 @@ static inline void lx__read(lx__reader *r, lx_tables *t) { /* where it is stored
     t->classes = lx__number(r, LX__LINE("classes "), 256);
     lx__read_classes(r, t);
     t->states = lx__number(r, LX__LINE("states "), 16512);
-    if (start >= t->states) lx__refuse(r, "a start is greater than the last state");
+    if (start >= t->states) lx__refuse(r, "the start of a condition isn't among the states");
     t->accepts = lx__place(r), r->words++;
     for (i = 1; i <= t->states && !r->message; i++) lx__read_state(r, t, i, places, rules);
-    lx__word(r, "\nend\n", "the line \"end\" is due");
+    lx__word(r, "\nend\n", "a line \"end\" is due");
     if (r->at != r->end) lx__refuse(r, "nothing may follow the end");
     if (t->kinds > 2147483647 - r->greatest) lx__refuse(r, "a number leaves none for the kinds");
     t->steps = r->steps, t->letters = r->names;
@@ -185,7 +176,8 @@ static inline size_t lx_tables_read(lx_tables *t, void *memory, const char *text
     lx__reader r = {text, text + n, NULL, 1, 0, 0, 255, NULL, NULL, NULL}, storing = r;
     size_t steps;
     memset(t, 0, sizeof *t);
-    lx__read(&r, t);
+    if (n > 1000000000) r.message = "the text is too long";
+    else lx__read(&r, t);
     if (r.message) return error->line = r.line, error->message = r.message, 0;
     t->first = t->kinds ? r.greatest + 1 : r.greatest;
     steps = (size_t)(t->classes * (t->states + 1));
@@ -196,16 +188,13 @@ static inline size_t lx_tables_read(lx_tables *t, void *memory, const char *text
     }
     return r.words * sizeof *r.memory + steps * sizeof *r.steps + r.letters;
 }
-
 static inline size_t lx_tables_size(const char *text, size_t n, lx_error *error) {
     lx_tables t;
     return lx_tables_read(&t, NULL, text, n, error);
 }
-
 static inline const char *lx_name(const lx_tables *t, int kind) { /* NULL where it is no kind with a name */
     return kind >= t->first && kind - t->first < t->kinds ? t->letters + t->names[kind - t->first] : NULL;
 }
-
 static inline int lx_kind(const lx_tables *t, const char *name) {
     int i = 0;
     while (i < t->kinds && strcmp(name, t->letters + t->names[i]) != 0) i++;
@@ -214,31 +203,26 @@ static inline int lx_kind(const lx_tables *t, const char *name) {
 
 /* ---- Scanning. Where lx_MORE comes, the bytes from s->text + s->at on are handed over again, moved or not, with more behind them. */
 static inline void lx_refill(lx_scanner *s, const void *text, size_t size, int is_last) {
-    s->before += s->at;
-    s->at = 0, s->text = text ? (const char *)text : "", s->size = size, s->is_last = is_last;
+    s->before += s->at, s->at = 0, s->text = text ? (const char *)text : "", s->size = size, s->is_last = is_last;
 }
-
 static inline void lx_init_part(lx_scanner *s, const lx_tables *tables, const void *text, size_t size) { /* a text that comes in parts */
     memset(s, 0, sizeof *s);
     s->tables = tables, s->line = 1;
     lx_refill(s, text, size, 0);
 }
-
 static inline void lx_init(lx_scanner *s, const lx_tables *tables, const void *text, size_t size) { /* a whole text, which stays where it is */
     lx_init_part(s, tables, text, size);
     s->is_last = 1;
 }
-
 static inline void lx_begin(lx_scanner *s, int condition) { /* by its number; 0 is INITIAL */
     if (condition >= 0 && condition < s->tables->conditions) s->condition = condition;
 }
-
+static inline size_t lx_column(const lx_scanner *s, const lx_token *t) { return (void)s, t->start - t->line_start + 1; } /* from 1, in bytes */
 static inline size_t lx__lines(const char *text, size_t length) {
     size_t lines = 0;
     while (length > 0) lines += text[--length] == '\n';
     return lines;
 }
-
 static inline void lx__take(lx_scanner *s, size_t length, size_t lines) { /* as the last match, with so many newlines */
     const char *const from = s->text + s->at, *end = from + length;
     s->last.text = from, s->last.length = length, s->last.start = s->before + s->at, s->last.line = s->line, s->last.line_start = s->line_start;
@@ -247,22 +231,17 @@ static inline void lx__take(lx_scanner *s, size_t length, size_t lines) { /* as 
     while (end[-1] != '\n') end--;
     s->line += lines, s->line_start = s->last.start + (size_t)(end - from);
 }
-
 static inline void lx_less(lx_scanner *s, const lx_token *t, size_t length) { /* yyless: goes on behind the first bytes of the last token, one at least */
     if (length == 0 || length > t->length) return;
     s->at = t->start - s->before, s->line = t->line, s->line_start = t->line_start, s->pending = 0;
     lx__take(s, length, lx__lines(t->text, length));
 }
-
-static inline size_t lx_column(const lx_scanner *s, const lx_token *t) { return (void)s, t->start - t->line_start + 1; } /* from 1, in bytes */
-
 static inline int lx__perform(lx_scanner *s, int place) { /* the steps of an action up to one that gives an item */
     const int *step = s->tables->actions + place;
     for (; *step <= -4; step++) s->condition = -4 - *step;
     s->pending = *step == lx_ECHO ? (int)(step + 1 - s->tables->actions) : 0;
     return *step;
 }
-
 static inline int lx__has_step(const lx_tables *t, size_t state) {
     int byte = 0;
     while (byte < 256 && t->steps[t->columns[byte] + state] == 0) byte++;
@@ -297,10 +276,7 @@ static inline int lx__match(lx_scanner *s) { /* takes the longest match, and beg
     if (next && !s->is_last && lx__has_step(t, next)) return lx_MORE;
     length = (size_t)(p - from);
     action = t->accepts[state];
-    if (action <= 0 || length == 0) {
-        action = lx__walk_again(t, start, from, &length);
-        lines = lx__lines(s->text + s->at, length);
-    }
+    if (action <= 0 || length == 0) action = lx__walk_again(t, start, from, &length), lines = lx__lines(s->text + s->at, length);
     lx__take(s, length, lines);
     return lx__perform(s, action);
 }
@@ -313,7 +289,6 @@ static inline int lx_next(lx_scanner *s, lx_token *t) { /* the next token, and i
     *t = s->last;
     return t->kind = kind;
 }
-
 static inline size_t lx_fill(lx_scanner *s, lx_token *t, size_t most) { /* how many tokens: fewer only where the last one is lx_END or lx_MORE */
     size_t n = 0;
     while (n < most)
