@@ -18,44 +18,25 @@ use std::{error, fmt};
 
 /// What an item is: of the kind with this place among `Tables::kinds`, or the number that its action returns, or echoed.
 #[derive(Clone, Copy, Debug, PartialEq, Eq, Hash)]
-pub enum Kind {
-    Name(u32),
-    Number(u32),
-    Echo,
-}
+pub enum Kind { Name(u32), Number(u32), Echo }
 
 /// A token or an echo: its bytes, how many bytes stand before it, its line and its column.
 #[derive(Clone, Copy, Debug, PartialEq, Eq)]
-pub struct Item<'t> {
-    pub kind: Kind,
-    pub text: &'t [u8],
-    pub start: usize,
-    pub line: usize,
-    pub column: usize,
-}
+pub struct Item<'t> { pub kind: Kind, pub text: &'t [u8], pub start: usize, pub line: usize, pub column: usize }
 
 /// Why a text of tables is refused, and the line of it, from 1.
 #[derive(Clone, Debug, PartialEq, Eq)]
-pub struct Error {
-    pub line: usize,
-    pub cause: String,
-}
+pub struct Error { pub line: usize, pub cause: String }
 
 impl fmt::Display for Error {
-    fn fmt(&self, f: &mut fmt::Formatter<'_>) -> fmt::Result {
-        write!(f, "line {}: {}", self.line, self.cause)
-    }
+    fn fmt(&self, f: &mut fmt::Formatter<'_>) -> fmt::Result { write!(f, "line {}: {}", self.line, self.cause) }
 }
 
 impl error::Error for Error {}
 
 /// A step of an action, or its end. Behind the return of a kind that isn't Echo no end is looked for.
 #[derive(Clone, Copy)]
-enum Step {
-    Begin(u16),
-    Give(Kind),
-    End,
-}
+enum Step { Begin(u16), Give(Kind), End }
 
 /// Tables, in which states are counted from 1, and 0 is none.
 pub struct Tables {
@@ -68,7 +49,8 @@ pub struct Tables {
     steps: Vec<Step>,
     /// For each condition the state in which a match begins, and the one at line begin.
     starts: Vec<[u16; 2]>,
-    kinds: Vec<String>,
+    /// The names of the kinds.
+    pub kinds: Vec<String>,
 }
 
 impl Tables {
@@ -76,6 +58,9 @@ impl Tables {
     pub fn read(text: &[u8]) -> Result<Tables, Error> {
         let text = String::from_utf8_lossy(text);
         let mut lines = Lines { rest: &text, number: 0 };
+        if text.len() > 1_000_000_000 {
+            return lines.refuse("the text is too long");
+        }
         let version = lines.after("lx-tables ").or_else(|_| lines.refuse("this is no text of tables"))?;
         if version != "2" {
             return lines.refuse("the tables are of another version: `lx up` prints version 2");
@@ -182,11 +167,6 @@ impl Tables {
         Ok(())
     }
 
-    /// The names of the kinds.
-    pub fn kinds(&self) -> &[String] {
-        &self.kinds
-    }
-
     /// The kind with this name.
     pub fn kind(&self, name: &str) -> Option<Kind> {
         self.kinds.iter().position(|kind| kind == name).map(|place| Kind::Name(place as u32))
@@ -195,6 +175,21 @@ impl Tables {
     pub fn scan<'t>(&'t self, text: &'t [u8]) -> Scanner<'t> {
         let last = Item { kind: Kind::Echo, text: &text[..0], start: 0, line: 1, column: 1 };
         Scanner { tables: self, text, at: 0, line: 1, line_start: 0, condition: 0, last, pending: NOTHING }
+    }
+
+    /// Walks once more over what was walked, for the last place where a token ends: its action and its length.
+    #[cold]
+    fn look_back(&self, start: usize, walked: &[u8]) -> (i32, usize) {
+        let (mut state, mut found) = (start, (0, 1));
+        for (place, &byte) in walked.iter().enumerate() {
+            state = usize::from(self.next[self.columns[usize::from(byte)] as usize + state]);
+            let action = self.accepts[state];
+            let length = place + usize::from(action > 0);
+            if action != 0 && length > 0 {
+                found = (action.abs(), length);
+            }
+        }
+        found
     }
 }
 
@@ -205,13 +200,9 @@ struct Lines<'a> {
 }
 
 impl<'a> Lines<'a> {
-    fn error(&self, cause: &str) -> Error {
-        Error { line: self.number, cause: cause.to_string() }
-    }
+    fn error(&self, cause: &str) -> Error { Error { line: self.number, cause: cause.to_string() } }
 
-    fn refuse<T>(&self, cause: &str) -> Result<T, Error> {
-        Err(self.error(cause))
-    }
+    fn refuse<T>(&self, cause: &str) -> Result<T, Error> { Err(self.error(cause)) }
 
     /// Takes the next line, which begins with a word: what stands behind the word.
     fn after(&mut self, word: &str) -> Result<&'a str, Error> {
@@ -281,9 +272,10 @@ impl<'t> Scanner<'t> {
     fn take_match(&mut self) -> (usize, Item<'t>) {
         let (tables, rest) = (self.tables, &self.text[self.at..]);
         let start = usize::from(tables.starts[self.condition][usize::from(self.at == self.line_start)]);
+        let (columns, steps) = (&tables.columns, &tables.next[..]);
         let (mut state, mut length, mut newlines) = (start, 0, 0);
-        for &byte in rest {
-            let next = usize::from(tables.next[tables.columns[usize::from(byte)] as usize + state]);
+        while let Some(&byte) = rest.get(length) {
+            let next = usize::from(steps[columns[usize::from(byte)] as usize + state]);
             if next == 0 {
                 break;
             }
@@ -304,23 +296,6 @@ impl<'t> Scanner<'t> {
         }
         self.at += length;
         (action as usize, found)
-    }
-}
-
-impl Tables {
-    /// Walks once more over what was walked, for the last place where a token ends: its action and its length.
-    #[cold]
-    fn look_back(&self, start: usize, walked: &[u8]) -> (i32, usize) {
-        let (mut state, mut found) = (start, (0, 1));
-        for (place, &byte) in walked.iter().enumerate() {
-            state = usize::from(self.next[self.columns[usize::from(byte)] as usize + state]);
-            let action = self.accepts[state];
-            let length = place + usize::from(action > 0);
-            if action != 0 && length > 0 {
-                found = (action.abs(), length);
-            }
-        }
-        found
     }
 }
 

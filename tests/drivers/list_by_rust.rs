@@ -18,7 +18,7 @@ fn shown(text: &[u8]) -> String {
 
 fn write_item(out: &mut impl Write, tables: &Tables, file: usize, item: &Item) -> io::Result<()> {
     let kind = match item.kind {
-        Kind::Name(place) => format!("T {}", tables.kinds()[place as usize]),
+        Kind::Name(place) => format!("T {}", tables.kinds[place as usize]),
         Kind::Number(number) => format!("T {number}"),
         Kind::Echo => "E -".to_string(),
     };
