@@ -232,7 +232,7 @@ static inline void lx__take(lx_scanner *s, size_t length, size_t lines) { /* as 
     s->line += lines, s->line_start = s->last.start + (size_t)(end - from);
 }
 static inline void lx_less(lx_scanner *s, const lx_token *t, size_t length) { /* yyless: goes on behind the first bytes of the last token, one at least */
-    if (length == 0 || length > t->length) return;
+    if (t->start != s->last.start || length == 0 || length > s->last.length) return;
     s->at = t->start - s->before, s->line = t->line, s->line_start = t->line_start, s->pending = 0;
     lx__take(s, length, lx__lines(t->text, length));
 }
