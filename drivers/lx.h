@@ -1,9 +1,9 @@
 /* lx.h: scans by tables that `lx gen` printed, read at run time. One header for C99 and C++98, which asks for no memory and prints nothing.
  *
  *     lx_tables tables; lx_scanner s; lx_token t; lx_error error;
- *     size_t size = lx_tables_size(text, length, &error);          -- text: what `lx gen words.l` printed
- *     void *memory = malloc(size);                                 -- it has to stay as long as the tables are used
- *     if (!size || !memory || !lx_tables_read(&tables, memory, text, length, &error)) {
+ *     size_t size = lx_tables_size(text, length, &error);          -- text: what `lx gen words.l` printed; 0 where it is refused
+ *     void *memory = size ? malloc(size) : NULL;                   -- it has to stay as long as the tables are used
+ *     if (!memory || !lx_tables_read(&tables, memory, text, length, &error)) {
  *         fprintf(stderr, "words.tab:%lu: %s\n", (unsigned long)error.line, error.message);
  *         return 1;
  *     }
@@ -11,7 +11,7 @@
  *     while (lx_next(&s, &t) != lx_END)
  *         if (t.kind == lx_kind(&tables, "ID")) printf("%.*s\n", (int)t.length, t.text);
  *
- * The calls are those of a scanner that `lx gen --c` prints. Each text of tables is taken, and none that would lead out of the arrays. */
+ * The calls are those of a scanner that `lx gen --c` prints, but for P_fill. Each text of tables is taken, and none that would lead out of the arrays. */
 #ifndef LX_H
 #define LX_H
 #include <stddef.h>
@@ -34,14 +34,12 @@ typedef struct lx_tables {       /* states are counted from 1, and 0 is none */
 } lx_tables;
 
 typedef struct lx_token {
-    int kind;
-    const char *text;                       /* in the caller's buffer, with no NUL behind it */
+    int kind; const char *text;             /* in the caller's buffer, with no NUL behind it */
     size_t length, start, line, line_start; /* start: bytes before it; line: from 1; line_start: bytes before that line */
 } lx_token;
 
 typedef struct lx_scanner { /* its fields may be read; the calls below set them */
-    const lx_tables *tables;
-    const char *text;
+    const lx_tables *tables; const char *text;
     size_t size, before, at, line, line_start; /* bytes in the buffer and before it; where the next match begins in it, with its line */
     int condition, is_last, pending;           /* pending: the place of the steps that are left of the last match's action */
     lx_token last;                             /* the last match */
@@ -49,11 +47,9 @@ typedef struct lx_scanner { /* its fields may be read; the calls below set them 
 
 /* ---- Reading tables: a reader goes over the text twice. It judges it and counts words and letters, and then it stores them. */
 typedef struct lx__reader {
-    const char *at, *end, *message;
-    size_t line, words, letters;
+    const char *at, *end, *message; size_t line, words, letters;
     int greatest, *memory; /* greatest: of the numbers that actions return, and 255 */
-    unsigned short *steps;
-    char *names;
+    unsigned short *steps; char *names;
 } lx__reader;
 
 #define LX__DUE(word) word, "\"" word "\" is due"
@@ -61,14 +57,8 @@ typedef struct lx__reader {
 
 static inline int *lx__place(const lx__reader *r) { return r->memory ? r->memory + r->words : NULL; }
 static inline int lx__is_next(const lx__reader *r, char least, char most) { return !r->message && r->at != r->end && *r->at >= least && *r->at <= most; }
-static inline int lx__refuse(lx__reader *r, const char *message) {
-    if (!r->message) r->message = r->at == r->end ? "the text is cut off" : message;
-    return 0;
-}
-static inline void lx__put(lx__reader *r, int word) {
-    if (r->memory) r->memory[r->words] = word;
-    r->words++;
-}
+static inline int lx__refuse(lx__reader *r, const char *why) { return r->message = r->message ? r->message : r->at == r->end ? "the text is cut off" : why, 0; }
+static inline void lx__put(lx__reader *r, int word) { int *const place = lx__place(r); r->words++; if (place) *place = word; }
 static inline int lx__word(lx__reader *r, const char *word, const char *message) {
     for (; *word && lx__is_next(r, *word, *word); word++) r->line += *r->at++ == '\n';
     return *word ? lx__refuse(r, message) : 1;
@@ -93,10 +83,10 @@ static inline void lx__read_kind(lx__reader *r) {
     if (i == r->letters) lx__refuse(r, "a name is due");
     r->letters = i + 1; /* a NUL is there */
 }
-
-static inline int lx__read_rule(lx__reader *r, const lx_tables *t, int place) { /* gives the place of its action, below 0 where it ends with `$` */
-    const int sign = lx__number(r, LX__LINE("rule "), 1) ? -1 : 1;
+static inline void lx__read_rule(lx__reader *r, const lx_tables *t, int place, int *accepted) { /* accepted: the place, below 0 where the rule ends with `$` */
     int is_open = 1;
+    if (lx__number(r, LX__LINE("rule "), 1)) place = -place;
+    if (accepted) *accepted = place;
     while (is_open && lx__is_next(r, ' ', ' ')) {
         const char step = ++r->at == r->end ? ' ' : *r->at;
         const int is_step = memchr("bekn", step, 4) ? r->at++, 1 : lx__refuse(r, "a step is due");
@@ -106,9 +96,7 @@ static inline int lx__read_rule(lx__reader *r, const lx_tables *t, int place) { 
         is_open = step == 'b' || step == 'e';
     }
     lx__put(r, lx_END);
-    return sign * place;
 }
-
 static inline void lx__read_classes(lx__reader *r, lx_tables *t) {
     int byte = 0, seen = 0, last = -1;
     lx__word(r, LX__LINE("class"));
@@ -120,7 +108,6 @@ static inline void lx__read_classes(lx__reader *r, lx_tables *t) {
     }
     if (seen < t->classes) lx__refuse(r, "a class has no bytes");
 }
-
 static inline void lx__read_state(lx__reader *r, const lx_tables *t, int state, const int *places, int rules) {
     int least = 0, rule = -1;
     if (lx__word(r, LX__LINE("state ")) && lx__is_next(r, '-', '-')) r->at++;
@@ -135,34 +122,24 @@ static inline void lx__read_state(lx__reader *r, const lx_tables *t, int state, 
 }
 
 static inline void lx__read(lx__reader *r, lx_tables *t) { /* where it is stored, what `t` counts is known from the time before */
-    int i, rules, start = 0, *places;
+    int i, rules, state, greatest_start = 0, *places;
     size_t actions;
     lx__word(r, "lx-tables ", "this is no text of tables");
     lx__word(r, "2", "the tables are of another version: `lx up` prints version 2");
-    t->conditions = lx__number(r, LX__LINE("conditions "), 64);
-    if (t->conditions == 0) lx__refuse(r, "a start condition is due");
-    t->starts = lx__place(r);
+    t->conditions = lx__number(r, LX__LINE("conditions "), 64), t->starts = lx__place(r);
     for (i = 0; i < 2 * t->conditions; i++) {
-        const int state = i % 2 ? lx__number(r, LX__DUE(" "), 16511) : lx__number(r, LX__LINE("start "), 16511);
-        if (state > start) start = state;
-        lx__put(r, state + 1);
+        state = i % 2 ? lx__number(r, LX__DUE(" "), 16511) : lx__number(r, LX__LINE("start "), 16511);
+        lx__put(r, state + 1), greatest_start = state > greatest_start ? state : greatest_start;
     }
-    t->kinds = lx__number(r, LX__LINE("kinds "), 4096);
-    t->names = lx__place(r);
+    t->kinds = lx__number(r, LX__LINE("kinds "), 4096), t->names = lx__place(r);
     for (i = 0; i < t->kinds; i++) lx__read_kind(r);
-    rules = lx__number(r, LX__LINE("rules "), 4096);
-    places = lx__place(r); /* of the rules' actions */
-    actions = r->words += (size_t)rules;
-    t->actions = lx__place(r);
+    rules = lx__number(r, LX__LINE("rules "), 4096), places = lx__place(r); /* of the rules' actions */
+    actions = r->words += (size_t)rules, t->actions = lx__place(r);
     lx__put(r, lx_ECHO), lx__put(r, lx_END);
-    for (i = 0; i < rules; i++) {
-        const int place = lx__read_rule(r, t, (int)(r->words - actions));
-        if (places) places[i] = place;
-    }
-    t->classes = lx__number(r, LX__LINE("classes "), 256);
-    lx__read_classes(r, t);
+    for (i = 0; i < rules; i++) lx__read_rule(r, t, (int)(r->words - actions), places ? places + i : NULL);
+    t->classes = lx__number(r, LX__LINE("classes "), 256), lx__read_classes(r, t);
     t->states = lx__number(r, LX__LINE("states "), 16512);
-    if (start >= t->states) lx__refuse(r, "the start of a condition isn't among the states");
+    if (greatest_start >= t->states || t->conditions == 0) lx__refuse(r, "a condition has no start among the states, or there is none");
     t->accepts = lx__place(r), r->words++;
     for (i = 1; i <= t->states && !r->message; i++) lx__read_state(r, t, i, places, rules);
     lx__word(r, "\nend\n", "a line \"end\" is due");
@@ -176,11 +153,10 @@ static inline size_t lx_tables_read(lx_tables *t, void *memory, const char *text
     lx__reader r = {text, text + n, NULL, 1, 0, 0, 255, NULL, NULL, NULL}, storing = r;
     size_t steps;
     memset(t, 0, sizeof *t);
-    if (n > 1000000000) r.message = "the text is too long";
-    else lx__read(&r, t);
+    if (n > 1000000000) lx__refuse(&r, "the text is too long");
+    lx__read(&r, t);
     if (r.message) return error->line = r.line, error->message = r.message, 0;
-    t->first = t->kinds ? r.greatest + 1 : r.greatest;
-    steps = (size_t)(t->classes * (t->states + 1));
+    t->first = t->kinds ? r.greatest + 1 : r.greatest, steps = (size_t)(t->classes * (t->states + 1));
     if (memory) {
         storing.memory = (int *)memory, storing.steps = (unsigned short *)(storing.memory + r.words), storing.names = (char *)(storing.steps + steps);
         memset(storing.steps, 0, steps * sizeof *r.steps + r.letters);
@@ -188,11 +164,8 @@ static inline size_t lx_tables_read(lx_tables *t, void *memory, const char *text
     }
     return r.words * sizeof *r.memory + steps * sizeof *r.steps + r.letters;
 }
-static inline size_t lx_tables_size(const char *text, size_t n, lx_error *error) {
-    lx_tables t;
-    return lx_tables_read(&t, NULL, text, n, error);
-}
-static inline const char *lx_name(const lx_tables *t, int kind) { /* NULL where it is no kind with a name */
+static inline size_t lx_tables_size(const char *text, size_t n, lx_error *error) { lx_tables t; return lx_tables_read(&t, NULL, text, n, error); }
+static inline const char *lx_name(const lx_tables *t, int kind) { /* or NULL */
     return kind >= t->first && kind - t->first < t->kinds ? t->letters + t->names[kind - t->first] : NULL;
 }
 static inline int lx_kind(const lx_tables *t, const char *name) {
@@ -210,19 +183,10 @@ static inline void lx_init_part(lx_scanner *s, const lx_tables *tables, const vo
     s->tables = tables, s->line = 1;
     lx_refill(s, text, size, 0);
 }
-static inline void lx_init(lx_scanner *s, const lx_tables *tables, const void *text, size_t size) { /* a whole text, which stays where it is */
-    lx_init_part(s, tables, text, size);
-    s->is_last = 1;
-}
-static inline void lx_begin(lx_scanner *s, int condition) { /* by its number; 0 is INITIAL */
-    if (condition >= 0 && condition < s->tables->conditions) s->condition = condition;
-}
+static inline void lx_init(lx_scanner *s, const lx_tables *t, const void *text, size_t size) { lx_init_part(s, t, text, size), s->is_last = 1; } /* a whole text */
+static inline void lx_begin(lx_scanner *s, int condition) { if (condition >= 0 && condition < s->tables->conditions) s->condition = condition; } /* 0 is INITIAL */
 static inline size_t lx_column(const lx_scanner *s, const lx_token *t) { return (void)s, t->start - t->line_start + 1; } /* from 1, in bytes */
-static inline size_t lx__lines(const char *text, size_t length) {
-    size_t lines = 0;
-    while (length > 0) lines += text[--length] == '\n';
-    return lines;
-}
+static inline size_t lx__lines(const char *text, size_t length) { size_t n = 0; while (length > 0) n += text[--length] == '\n'; return n; }
 static inline void lx__take(lx_scanner *s, size_t length, size_t lines) { /* as the last match, with so many newlines */
     const char *const from = s->text + s->at, *end = from + length;
     s->last.text = from, s->last.length = length, s->last.start = s->before + s->at, s->last.line = s->line, s->last.line_start = s->line_start;
@@ -242,12 +206,7 @@ static inline int lx__perform(lx_scanner *s, int place) { /* the steps of an act
     s->pending = *step == lx_ECHO ? (int)(step + 1 - s->tables->actions) : 0;
     return *step;
 }
-static inline int lx__has_step(const lx_tables *t, size_t state) {
-    int byte = 0;
-    while (byte < 256 && t->steps[t->columns[byte] + state] == 0) byte++;
-    return byte < 256;
-}
-
+static inline int lx__has_step(const lx_tables *t, size_t state) { int b = 0; while (b < 256 && t->steps[t->columns[b] + state] == 0) b++; return b < 256; }
 /* walks once more over so many bytes, for the last place where a state accepts: its action, and the length of its token */
 static inline int lx__walk_again(const lx_tables *t, size_t state, const unsigned char *text, size_t *length) {
     const size_t walked = *length;
@@ -261,7 +220,6 @@ static inline int lx__walk_again(const lx_tables *t, size_t state, const unsigne
     }
     return action;
 }
-
 static inline int lx__match(lx_scanner *s) { /* takes the longest match, and begins its action */
     const lx_tables *const t = s->tables;
     const unsigned char *const from = (const unsigned char *)s->text + s->at, *const end = (const unsigned char *)s->text + s->size, *p = from;
@@ -280,7 +238,6 @@ static inline int lx__match(lx_scanner *s) { /* takes the longest match, and beg
     lx__take(s, length, lines);
     return lx__perform(s, action);
 }
-
 static inline int lx_next(lx_scanner *s, lx_token *t) { /* the next token, and its kind; behind the end always lx_END */
     int kind = s->pending ? lx__perform(s, s->pending) : (int)lx_END;
     while (kind == lx_END && s->at != s->size) kind = lx__match(s);
@@ -289,12 +246,4 @@ static inline int lx_next(lx_scanner *s, lx_token *t) { /* the next token, and i
     *t = s->last;
     return t->kind = kind;
 }
-static inline size_t lx_fill(lx_scanner *s, lx_token *t, size_t most) { /* how many tokens: fewer only where the last one is lx_END or lx_MORE */
-    size_t n = 0;
-    while (n < most)
-        if (lx_next(s, &t[n++]) == lx_END || t[n - 1].kind == lx_MORE) break;
-    return n;
-}
-#undef LX__DUE
-#undef LX__LINE
 #endif

@@ -85,15 +85,15 @@ class Tables:
         reader = Reader(text.encode() if isinstance(text, str) else bytes(text))
         reader.word(b"lx-tables ", "this is no text of tables")
         reader.word(b"2", "the tables are of another version: `lx up` prints version 2")
-        conditions = reader.count(b"conditions ", MOST_CONDITIONS) or reader.refuse("a number is too small")
+        conditions = reader.count(b"conditions ", MOST_CONDITIONS)
         starts = [(reader.count(b"start ", MOST_STATES - 1), reader.number(b" ", MOST_STATES - 1)) for _ in range(conditions)]
         self.kinds = [self._kind(reader) for _ in range(reader.count(b"kinds ", MOST_KINDS))]
         actions = [self._action(reader, conditions) for _ in range(reader.count(b"rules ", MOST_RULES))]
         count = reader.count(b"classes ", MOST_CLASSES)
         self.classes = self._classes(reader, count)
         rows = [[] for _ in range(reader.count(b"states ", MOST_STATES))]
-        if max(map(max, starts)) >= len(rows):
-            reader.refuse("a start is greater than the last state")
+        if not starts or max(map(max, starts)) >= len(rows):
+            reader.refuse("a condition has no start among the states, or there is none")
         for row in rows:
             row += self._row(reader, rows, count, actions)
         reader.word(b"\nend\n", 'the line "end" is due')

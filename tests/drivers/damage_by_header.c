@@ -2,6 +2,7 @@
  * or the listing of FILE by it. */
 #include "../../drivers/lx.h"
 static lx_tables tables;
+#define WITHOUT_FILL
 #define P(name) lx_##name
 #define INIT(s, text, size) lx_init(s, &tables, text, size)
 #define INIT_PART(s, text, size) lx_init_part(s, &tables, text, size)

@@ -1,7 +1,7 @@
 /* The listing of a text as `lx scan` has it, each line with the column before it, by a scanner in C.
  *
  * Where P is defined when it is included, P(name) is the scanner's name for a call or a type, INIT and INIT_PART begin a text, COLUMN is a token's column and NAME
- * a kind's name: then it gives P(list). It may be included for several scanners. A text comes whole, in parts of so many bytes, or so many tokens a call; each part is a block of
+ * a kind's name: then it gives P(list). It may be included for several scanners. WITHOUT_FILL leaves out what they don't have. A text comes whole, in parts of so many bytes, or so many tokens a call; each part is a block of
  * memory of its exact size, so that a sanitizer sees each byte too far. */
 #include <stdio.h>
 #include <stdlib.h>
@@ -52,6 +52,7 @@ static void P(list_whole)(unsigned file, const unsigned char *text, size_t size)
     if (P(next)(&s, &t) != P(END)) puts("there is a token behind the end");
 }
 
+#ifndef WITHOUT_FILL
 static void P(list_by_fill)(unsigned file, const unsigned char *text, size_t size, size_t most)
 {
     P(token) *const tokens = (P(token) *)malloc(most * sizeof *tokens);
@@ -65,6 +66,7 @@ static void P(list_by_fill)(unsigned file, const unsigned char *text, size_t siz
     } while (i == most);
     free(tokens);
 }
+#endif
 
 static void P(list_by_parts)(unsigned file, const unsigned char *text, size_t size, size_t part)
 {
@@ -91,7 +93,9 @@ static void P(list)(unsigned file, const unsigned char *text, size_t size, const
 {
     const size_t number = *way == 'w' ? 0 : (size_t)strtoul(way + 4, NULL, 10);
     if (*way == 'p') P(list_by_parts)(file, text, size, number);
+#ifndef WITHOUT_FILL
     else if (*way == 'f') P(list_by_fill)(file, text, size, number);
+#endif
     else P(list_whole)(file, text, size);
 }
 #endif
