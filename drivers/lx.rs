@@ -73,7 +73,9 @@ impl Tables {
         tables.columns.iter_mut().for_each(|column| *column *= states as u32 + 1);
         tables.next = vec![0; classes * (states + 1)];
         for state in 1..=states { tables.read_state(&mut lines, state, states, &rules)?; }
-        if (lines.after("end")?, lines.rest) == ("", "") { Ok(tables) } else { lines.refuse("nothing may follow the end") }
+        if !lines.after("end")?.is_empty() { return lines.refuse("the line's end is due"); }
+        lines.number += 1;
+        if lines.rest.is_empty() { Ok(tables) } else { lines.refuse("nothing may follow the end") }
     }
     fn read_kind(&mut self, lines: &mut Lines) -> Result<(), Error> {
         let name = lines.after("kind ")?;
@@ -206,8 +208,7 @@ impl<'t> Scanner<'t> {
     fn take_match(&mut self) -> (usize, Item<'t>) {
         let (tables, rest) = (self.tables, &self.text[self.at..]);
         let start = usize::from(tables.starts[self.condition][usize::from(self.at == self.line_start)]);
-        let (columns, steps) = (&tables.columns, &tables.next[..]);
-        let (mut state, mut length, mut newlines) = (start, 0, 0);
+        let (columns, steps, mut state, mut length, mut newlines) = (&tables.columns, &tables.next[..], start, 0, 0);
         while let Some(&byte) = rest.get(length) {
             let next = usize::from(steps[columns[usize::from(byte)] as usize + state]);
             if next == 0 { break; }
@@ -219,11 +220,10 @@ impl<'t> Scanner<'t> {
             (action, length) = tables.look_back(start, &rest[..length]);
             newlines = rest[..length].iter().filter(|&&byte| byte == b'\n').count();
         }
-        let text = &rest[..length];
-        let found = Item { kind: Kind::Echo, text, start: self.at, line: self.line, column: self.at - self.line_start + 1 };
+        let found = Item { kind: Kind::Echo, text: &rest[..length], start: self.at, line: self.line, column: self.at - self.line_start + 1 };
         if newlines > 0 {
             self.line += newlines;
-            self.line_start = self.at + text.iter().rposition(|&byte| byte == b'\n').map_or(0, |place| place + 1);
+            self.line_start = self.at + found.text.iter().rposition(|&byte| byte == b'\n').map_or(0, |place| place + 1);
         }
         self.at += length;
         (action as usize, found)

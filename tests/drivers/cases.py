@@ -9,6 +9,8 @@ BYTES = b"aaabbbcccdd01 \n\n"
 SETS = [".", "[ab]", "[^a]", "[^ab\\n]", "[[:digit:]]", "[b-d]", '"ab"', '"a b"', "\\n", "\\x61", "[ \\n]", "(a|bc)", "{D}"]
 # Each byte of small tables is changed into these: what the format knows, and bytes that it doesn't.
 CHANGES = b"0129-: \n\rabeknsx\0\x7f\xff"
+# And these take the place of a field.
+FIELDS = b"0 1 255 256 16511 16512 2147483647 2147483648 99999999999999999999 -1 - k0 k1 n0 n2147483648 e b0 b1 0:0 0-255:0 end state".split() + [b""]
 
 
 @dataclasses.dataclass
@@ -75,6 +77,26 @@ def random_case(draw, number):
     texts = [bytes(draw.choice(BYTES) for _ in range(draw.choice([0, 1, 7, 40, 150]))) for _ in range(3)]
     texts += [mutated(draw, texts[-1], 8), bytes(range(256)), bytes(draw.choice(b"ab\n") for _ in range(60))]
     return Case(f"random-{number}", specification(draw), texts)
+
+
+def rearranged(tables, count, draw):
+    """Texts in which lines are swapped, repeated or left away, and fields replaced."""
+    for _ in range(count):
+        lines = tables.split(b"\n")
+        for _ in range(draw.randint(1, 4)):
+            one, other = draw.randrange(len(lines)), draw.randrange(len(lines))
+            fields = lines[one].split(b" ")
+            fields[draw.randrange(len(fields))] = draw.choice(FIELDS)
+            match draw.randrange(4):
+                case 0:
+                    lines[one], lines[other] = lines[other], lines[one]
+                case 1:
+                    lines.insert(one, lines[other])
+                case 2:
+                    del lines[one : one + draw.randrange(2)]
+                case 3:
+                    lines[one] = b" ".join(fields)
+        yield b"\n".join(lines)
 
 
 def truncated(tables, most, draw):
