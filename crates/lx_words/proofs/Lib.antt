@@ -1,4 +1,5 @@
 pub mod Asked
+pub mod Globals
 pub mod NumbersRead
 pub mod PlainNames
 pub mod PlainOrders
