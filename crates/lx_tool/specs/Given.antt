@@ -64,22 +64,22 @@ pub record IsUntouched {S : Type 0} (before after : S) (old new : Option (List �
   pub sources : after ≡ before
   pub output : Keeps old new
 
--- The text that files are listed by was refused, as `Refused` says, before a file was read; or a file can't be opened, and nothing was written;
+-- The text that files are listed by was refused, as `Cause` says, before a file was read; or a file can't be opened, and nothing was written;
 -- or the output failed behind a prefix, as `Part` says; or memory was refused, and nothing was written or a prefix.
 abbrev pub FailsListing : {S : Type 0} → (Failure → Type 0) → Type 0 → List (List ℕ) → S → S → Option (List ℕ) → Option (List ℕ) → Failure → Type 0
-FailsListing Refused Part names before after old new (Specification fault) = Refused (Specification fault) × IsUntouched before after old new
-FailsListing Refused Part names before after old new (Automaton fault) = Refused (Automaton fault) × IsUntouched before after old new
-FailsListing Refused Part names before after old new (Tables fault) = Refused (Tables fault) × IsUntouched before after old new
-FailsListing Refused Part names before after old new (Words error) = ⊥
-FailsListing Refused Part names before after old new TooManyFiles = ⊥
-FailsListing Refused Part names before after old new InputTwice = ⊥
-FailsListing Refused Part names before after old new (Refused fault) = ⊥
-FailsListing Refused Part names before after old new (NotRead name) = Contains names name.now × Keeps old new
-FailsListing Refused Part names before after old new Output = Part
-FailsListing Refused Part names before after old new Memory = Keeps old new ⊎ Part
+FailsListing Cause Part names before after old new (Specification fault) = Cause (Specification fault) × IsUntouched before after old new
+FailsListing Cause Part names before after old new (Automaton fault) = Cause (Automaton fault) × IsUntouched before after old new
+FailsListing Cause Part names before after old new (Tables fault) = Cause (Tables fault) × IsUntouched before after old new
+FailsListing Cause Part names before after old new (Words error) = ⊥
+FailsListing Cause Part names before after old new TooManyFiles = ⊥
+FailsListing Cause Part names before after old new InputTwice = ⊥
+FailsListing Cause Part names before after old new (Refused fault) = ⊥
+FailsListing Cause Part names before after old new (NotRead name) = Contains names name.now × Keeps old new
+FailsListing Cause Part names before after old new Output = Part
+FailsListing Cause Part names before after old new Memory = Keeps old new ⊎ Part
 
 -- That listing failed: the part that was written, if any, is as `ListsPrefix` says.
 abbrev pub FailsGiven : {S : Type 0} → (S → List ℕ → PlainInput → S → Type 0) → (Failure → Type 0) → (List PlainInput → Option (List ℕ) → Option (List ℕ) → Type 0) → List (List ℕ) → S → S →
     Option (List ℕ) → Option (List ℕ) → Failure → Type 0
-FailsGiven gives Refused ListsPrefix names before after old new failure =
-    FailsListing Refused (ArePartlyListed gives (λ inputs. ListsPrefix inputs old new) names before after) names before after old new failure
+FailsGiven gives Cause ListsPrefix names before after old new failure =
+    FailsListing Cause (ArePartlyListed gives (λ inputs. ListsPrefix inputs old new) names before after) names before after old new failure

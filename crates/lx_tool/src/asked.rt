@@ -123,9 +123,9 @@ fn push_listed<'a, S: Sources>(
     text: &'a mut Vec<u8>,
 ) -> Result<(), Failure<'a>>
     requires { vec_len names.old ≤ max_files }
-    ensures ok { OnOk result (AreListNames S.gives (plain_list list) (texts_of names.old.items) sources.old sources.new (texts_of names.new.items)) }
+    ensures ok { OnOk result (AreListNames S.gives (plain_list list.entry) (texts_of names.old.items) sources.old sources.new (texts_of names.new.items)) }
     ensures few { OnOk result (vec_len names.new ≤ max_files) }
-    ensures err { IfErr result (IsListRefused S.gives (plain_list list) (texts_of names.old.items) sources.old) }
+    ensures err { IfErr result (IsListRefused S.gives (plain_list list.entry) (texts_of names.old.items) sources.old) }
 {
     *text = read_whole(alloc, sources, list.name)?;
     match push_names(names, text, list.separator, MAX_FILES) {
@@ -164,8 +164,8 @@ fn selection_of<'a>(
     tables: &Tables,
     only: Option<&'a str>,
 ) -> Result<Option<Selection>, Failure<'a>>
-    ensures ok { IfOk result (λ selection. IsOnly tables.now (option_map (λ text. text.now) only) selection) }
-    ensures err { IfErr result (IsOnlyRefused tables.now (option_map (λ text. text.now) only)) }
+    ensures ok { IfOk result (λ selection. IsOnly tables.now (option_map (λ text. text.now) only.entry) selection) }
+    ensures err { IfErr result (IsOnlyRefused tables.now (option_map (λ text. text.now) only.entry)) }
 {
     match only {
         Some(text) => Ok(Some(choose(alloc, tables, text)?)),

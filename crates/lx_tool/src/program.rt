@@ -329,13 +329,16 @@ fn generate_named<'a, S: Sources, T: Targets, O: Write>(
     targets: &mut T,
     out: &mut O,
 ) -> Result<(), Failure<'a>>
-    ensures ok { OnOk result (HasDone S.gives sources.old sources.new (O.contents out.old) (O.contents out.new) [] (gen-asked (plain_print words))) }
-    ensures placed { OnOk result (HasPlaced S.gives T.places sources.old targets.old targets.new (Some (gen-asked (plain_print words)))) }
-    ensures err { IfErr result (HasFailed S.gives (Some (gen-asked (plain_print words))) sources.old (O.contents out.old) (O.contents out.new)) }
+    ensures ok { OnOk result (HasDone S.gives sources.old sources.new (O.contents out.old) (O.contents out.new) [] (gen-asked (plain_print words.entry))) }
+    ensures placed { OnOk result (HasPlaced S.gives T.places sources.old targets.old targets.new (Some (gen-asked (plain_print words.entry)))) }
+    ensures err { IfErr result (HasFailed S.gives (Some (gen-asked (plain_print words.entry))) sources.old (O.contents out.old) (O.contents out.new)) }
 {
     let text = read_whole(alloc, sources, words.rules)?;
     match words.target {
-        Some(target) => place_tables(alloc, &tables_of_text(alloc, &text)?, target, targets),
+        Some(target) => {
+            let tables = tables_of_text(alloc, &text)?;
+            place_tables(alloc, &tables, target, targets)
+        }
         None => generate(alloc, &text, out),
     }
 }
@@ -348,13 +351,16 @@ fn upgrade_named<'a, S: Sources, T: Targets, O: Write>(
     targets: &mut T,
     out: &mut O,
 ) -> Result<(), Failure<'a>>
-    ensures ok { OnOk result (HasDone S.gives sources.old sources.new (O.contents out.old) (O.contents out.new) [] (up-asked (plain_print words))) }
-    ensures placed { OnOk result (HasPlaced S.gives T.places sources.old targets.old targets.new (Some (up-asked (plain_print words)))) }
-    ensures err { IfErr result (HasFailed S.gives (Some (up-asked (plain_print words))) sources.old (O.contents out.old) (O.contents out.new)) }
+    ensures ok { OnOk result (HasDone S.gives sources.old sources.new (O.contents out.old) (O.contents out.new) [] (up-asked (plain_print words.entry))) }
+    ensures placed { OnOk result (HasPlaced S.gives T.places sources.old targets.old targets.new (Some (up-asked (plain_print words.entry)))) }
+    ensures err { IfErr result (HasFailed S.gives (Some (up-asked (plain_print words.entry))) sources.old (O.contents out.old) (O.contents out.new)) }
 {
     let text = read_whole(alloc, sources, words.rules)?;
     match words.target {
-        Some(target) => place_tables(alloc, &read_tables(alloc, &text)?, target, targets),
+        Some(target) => {
+            let tables = read_tables(alloc, &text)?;
+            place_tables(alloc, &tables, target, targets)
+        }
         None => upgrade(alloc, &text, out),
     }
 }

@@ -39,8 +39,6 @@ pub trait Targets {
 pub struct NoTargets;
 
 impl Targets for NoTargets {
-    ghost use Rattle.std.specs.Prelude.{⊥};
-
     ghost places = { λ _ _ _ _. ⊥ };
 
     fn place(&mut self, _name: &str, _bytes: &[u8]) -> Result<(), TargetFault> {

@@ -1,6 +1,7 @@
 use Rattle.std.proofs.lemmas.Result.{IfErr-weaker, IfOk-weaker}
 use Rattle.lx_words.specs.CommandLine.{plain_order, run}
 use Rattle.lx_tool.specs.Planning.{ListsAsked, ListsByRulesIn}
+use Rattle.lx_tool.specs.Tabling.{AreTablesOfText}
 use Rattle.lx_tool.proofs.GivenListed.{listed_as_well}
 use Rattle.lx_tool.proofs.Obeyed.{later_refused}
 use Rattle.lx_tool.proofs.Planned.{GiveItems, asked_by_rules}
@@ -14,6 +15,7 @@ returns-clause-ok g c =
     let new = g.O.Write.contents c.list_asked.new.out in
     let text = c.in_ok-text.text.items in
     let table = c.in_ok-tables.tables in
+    let made : AreTablesOfText c.in_ok-text.text.items table = rw c.deref.ensures.value at c.in_ok-tables.ensures.ok in
     let law : GiveItems = record { by_rules = c.items_are_by_rules.ensures } in
     IfOk-weaker c.list_asked.result _ _
     (λ cut h. record {
@@ -24,7 +26,7 @@ returns-clause-ok g c =
       behind = h.behind;
       named = h.named;
       listed = listed_as_well gives (λ inputs. ListsAsked order.form table h.names inputs old new) (λ inputs. ListsByRulesIn order.form text h.names inputs old new)
-      (λ inputs. asked_by_rules order.form text table h.names inputs old new law c.conditions-conditions.ensures.table c.in_ok-tables.ensures.ok) h.names h.behind c.list_asked.new.sources _ h.listed;
+      (λ inputs. asked_by_rules order.form text table h.names inputs old new law c.conditions-conditions.ensures.table made) h.names h.behind c.list_asked.new.sources _ h.listed;
     })
     c.list_asked.ensures.ok
 
@@ -36,7 +38,8 @@ returns-clause-err g c =
     let new = g.O.Write.contents c.list_asked.new.out in
     let between = c.read_whole.new.sources in
     let table = c.in_ok-tables.tables in
+    let made : AreTablesOfText c.in_ok-text.text.items table = rw c.deref.ensures.value at c.in_ok-tables.ensures.ok in
     IfErr-weaker c.list_asked.result _ _
     (later_refused gives c.args.sources.now old new (run order) order table between
-    (λ failure h. record { text = c.in_ok-text.text.items; between = between; given = c.in_ok-text.ensures.ok; table = table; tables = c.in_ok-tables.ensures.ok; holds = h }))
+    (λ failure h. record { text = c.in_ok-text.text.items; between = between; given = c.in_ok-text.ensures.ok; table = table; tables = made; holds = h }))
     c.list_asked.ensures.err
