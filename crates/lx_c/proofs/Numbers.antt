@@ -4,7 +4,7 @@ use Rattle.std.specs.List.{flat_map}
 use Rattle.lx_c.specs.Kinds.{above}
 use Rattle.lx_c.proofs.Written.{texts_more}
 
-above-append : (n : ℕ) (xs ys : List ℕ) → above n (xs ++ ys) ≡ above (above n xs) ys
+pub above-append : (n : ℕ) (xs ys : List ℕ) → above n (xs ++ ys) ≡ above (above n xs) ys
 above-append n [] ys = refl
 above-append n (x ∷ xs) ys = above-append (max n (x + 1)) xs ys
 
