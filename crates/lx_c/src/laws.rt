@@ -3,6 +3,7 @@
 ghost use Rattle.std.specs.Prelude.{◌≡◌, None};
 ghost use Rattle.lx_automaton.specs.Automata.{Machine, IsMachine};
 ghost use Rattle.lx_tables.specs.Model.{Table, IsTable};
+ghost use Rattle.lx_c.specs.Kinds.{AreApart};
 ghost use Rattle.lx_c.specs.Options.{Options};
 ghost use Rattle.lx_c.specs.Reading.{HaveTheWords, HaveTheActions, IsOneToOne};
 
@@ -19,4 +20,9 @@ pub fn arrays_are_one_to_one()
 /// A law: where no file declares the kinds, the numbers between the braces of the arrays of actions are what the steps of the rules say.
 pub fn arrays_have_the_actions()
     ensures { (o : Options) (table : Table) → IsTable table → o.include ≡ None → HaveTheActions o table }
+{}
+
+/// A law: the numbers of kinds are above all bytes, and above all numbers that actions return.
+pub fn kinds_are_apart()
+    ensures { (table : Table) → AreApart table }
 {}
