@@ -44,12 +44,12 @@ abbrev pub has_part : List ℕ → List ℕ → Bool
 has_part part [] = false
 has_part part (c ∷ text) = starts_with nat_eq (c ∷ text) part || has_part part text
 
-abbrev pub as_line : List ℕ → List ℕ
-as_line name = codes "\n" ++ name ++ codes "\n"
+abbrev pub spaced : List ℕ → List ℕ
+spaced name = codes " " ++ name ++ codes " "
 
--- a word of C or C++, or a name that one of its headers defines: a line of the words
+-- a word of C or C++, or a name that one of its headers defines
 unfoldable pub is_word : List ℕ → Bool
-is_word name = has_part (as_line name) WORDS.now
+is_word name = has_part (spaced name) WORDS.now
 
 -- a name that only the scanner's own may have: the prefix, with _ behind it
 abbrev pub begins_as_own : List ℕ → List ℕ → Bool
