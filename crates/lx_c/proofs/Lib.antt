@@ -1,3 +1,4 @@
+pub mod ActionsRead
 pub mod NameFaults
 pub mod NoneOf
 pub mod Numbers

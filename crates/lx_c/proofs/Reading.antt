@@ -18,7 +18,7 @@ abbrev pub read_on : ℕ → List ℕ → ℕ
 read_on n [] = n
 read_on n (c ∷ cs) = read_on (10 * n + (c - 48)) cs
 
-own : IsNumeralModel (λ ds. all_ascii_digits ds ≡ true) (read_on 0)
+pub own : IsNumeralModel (λ ds. all_ascii_digits ds ≡ true) (read_on 0)
 own = numerals_by_fold _ (search rules) read_on (search rules)
 
 digits_read : (n : ℕ) (ds behind : List ℕ) → all_ascii_digits ds ≡ true → read_words n (ds ++ (44 ∷ behind)) ≡ read_on n ds ∷ read_words 0 behind

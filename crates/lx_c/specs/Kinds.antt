@@ -1,6 +1,6 @@
 -- The kinds in C: their names and their numbers.
-use Rattle.std.specs.Prelude.{ℕ, ◌+◌, ◌-◌, ◌==◌, max, nat_eq, nat_lt, ◌&&◌, ◌||◌, Bool, false, if◌then◌else◌, List, [], ◌∷◌, ◌++◌, Option, Some, None, length, codes, slice_index}
-use Rattle.std.specs.List.{flat_map, starts_with}
+use Rattle.std.specs.Prelude.{ℕ, ◌<◌, ◌≤◌, ◌+◌, ◌-◌, ◌==◌, max, nat_eq, nat_lt, ◌&&◌, ◌||◌, Bool, false, if◌then◌else◌, List, [], ◌∷◌, ◌++◌, Option, Some, None, length, codes, slice_index}
+use Rattle.std.specs.List.{All, flat_map, starts_with}
 use Rattle.lx_rules.specs.declared.rule.Kind.TheVariants.{Name, Number}
 use Rattle.lx_rules.specs.declared.rule.Step.{Step}
 use Rattle.lx_rules.specs.declared.rule.Step.TheVariants.{Echo, Begin, Return}
@@ -44,12 +44,12 @@ abbrev pub has_part : List ℕ → List ℕ → Bool
 has_part part [] = false
 has_part part (c ∷ text) = starts_with nat_eq (c ∷ text) part || has_part part text
 
-abbrev pub as_line : List ℕ → List ℕ
-as_line name = codes "\n" ++ name ++ codes "\n"
+abbrev pub spaced : List ℕ → List ℕ
+spaced name = codes " " ++ name ++ codes " "
 
--- a word of C or C++, or a name that one of its headers defines: a line of the words
+-- a word of C or C++, or a name that one of its headers defines
 unfoldable pub is_word : List ℕ → Bool
-is_word name = has_part (as_line name) WORDS.now
+is_word name = has_part (spaced name) WORDS.now
 
 -- a name that only the scanner's own may have: the prefix, with _ behind it
 abbrev pub begins_as_own : List ℕ → List ℕ → Bool
@@ -82,3 +82,8 @@ pass_the_limit o table = if has_file o.include then false else nat_lt 2147483647
 -- what is wrong with the kinds, if anything is
 abbrev pub kind_fault : Options → Table → Option KindFault
 kind_fault o table = if pass_the_limit o table then Some Numbers else first_name_fault o 0 table.kinds
+
+-- The numbers of kinds are above all bytes, and above all numbers that actions return, so no two meet.
+pub record AreApart (table : Table) : Type 0 where
+  pub bytes : 256 ≤ first_kind table
+  pub numbers : All (λ n. n < first_kind table) (flat_map (λ rule. returned_by rule.steps) table.rules)

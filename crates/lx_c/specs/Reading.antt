@@ -1,8 +1,15 @@
--- What C reads of the arrays of the automaton.
-use Rattle.std.specs.Prelude.{◌≡◌, ℕ, ◌+◌, ◌*◌, ◌-◌, ◌==◌, true, false, if◌then◌else◌, List, [], ◌∷◌, ◌++◌, length, map}
+-- What C reads of the arrays.
+use Rattle.std.specs.Prelude.{◌≡◌, ℕ, ◌+◌, ◌*◌, ◌-◌, ◌==◌, if◌then◌else◌, List, [], ◌∷◌, ◌++◌, length, map, codes, ◌<◌, Bool, true, false}
 use Rattle.std.specs.Char.{is_ascii_digit}
 use Rattle.std.specs.List.{flat_map, range_with_len}
 use Rattle.lx_automaton.specs.Automata.{Machine, IsMachine, state_count, start_of, accepted_by, class_target}
+use Rattle.lx_rules.specs.declared.rule.Kind.TheVariants.{Name, Number}
+use Rattle.lx_rules.specs.declared.rule.Step.{Step}
+use Rattle.lx_rules.specs.declared.rule.Step.TheVariants.{Echo, Begin, Return}
+use Rattle.lx_tables.specs.Model.{Table, rule_at}
+use Rattle.lx_c.specs.Options.{Options}
+use Rattle.lx_c.specs.Kinds.{first_kind}
+use Rattle.lx_c.specs.Actions.{step_entry, action_entries, cut_entries}
 use Rattle.lx_c.specs.Rows.{row_width, row_of, target_word, rule_word, class_entries, rows_text, start_lines}
 
 -- the numbers between braces (C99, 6.7.8): digits make a number, behind those of n, a comma ends it, and all else is passed over
@@ -29,6 +36,43 @@ pub record HaveTheWords (m : Machine) : Type 0 where
   pub classes : read_words 0 (class_entries m) ≡ m.classes
   pub rows : read_words 0 (rows_text m) ≡ rows_words m
   pub starts : read_words 0 (start_lines m) ≡ start_words m
+
+-- the numbers between braces where a `-` may stand before one: of each whether it is negative, and its digits' number
+abbrev pub read_signed : Bool → ℕ → List ℕ → List (Bool × ℕ)
+read_signed minus n [] = []
+read_signed minus n (b ∷ bs) =
+    if is_ascii_digit b then read_signed minus (10 * n + (b - 48)) bs
+    else if b == 45 then read_signed true n bs
+    else if b == 44 then (minus, n) ∷ read_signed false 0 bs
+    else read_signed minus n bs
+
+-- a step as a number with its sign, where the first kind has this number
+abbrev pub step_number : ℕ → Step → Bool × ℕ
+step_number first Echo = (true, 2)
+step_number first (Begin c) = (true, 4 + c)
+step_number first (Return (Name k)) = (false, first + k)
+step_number first (Return (Number n)) = (false, n)
+
+-- what an action gives at once
+abbrev pub action_number : ℕ → List Step → Bool × ℕ
+action_number first [] = (true, 1)
+action_number first (Return kind ∷ steps) = step_number first (Return kind)
+action_number first (Echo ∷ steps) = (true, 4)
+action_number first (Begin c ∷ steps) = (true, 4)
+
+-- what the rule with this number does, and whether it ends with `$`
+abbrev pub action_of : Table → ℕ → Bool × ℕ
+action_of table r = action_number (first_kind table) (rule_at table r).steps
+
+abbrev pub cut_of : Table → ℕ → ℕ
+cut_of table r = if (rule_at table r).line_end then 1 else 0
+
+-- the numbers of the arrays of actions are those of the table's rules, in their order
+pub record HaveTheActions (o : Options) (table : Table) : Type 0 where
+  pub steps : (r : ℕ) → r < length table.rules →
+      read_signed false 0 (flat_map (step_entry o (first_kind table) table) (rule_at table r).steps ++ codes "-1};\n") ≡ map (step_number (first_kind table)) (rule_at table r).steps
+  pub actions : read_signed false 0 (action_entries o (first_kind table) table) ≡ map (action_of table) (range_with_len 0 (length table.rules))
+  pub cuts : read_words 0 (cut_entries table) ≡ map (cut_of table) (range_with_len 0 (length table.rules))
 
 -- Automata of one width whose arrays are printed alike are the same.
 pub record IsOneToOne : Type 0 where

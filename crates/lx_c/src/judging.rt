@@ -28,11 +28,11 @@ fn has_part(text: &[u8], part: &[u8]) -> bool
     false
 }
 
-/// Whether the line is one of the words of C and C++.
-fn is_word_line(line: &[u8]) -> bool
-    ensures { (name : List ℕ) → line.now ≡ kinds.as_line name → result ≡ kinds.is_word name }
+/// Whether the name, with a blank on both sides, is one of the words of C and C++.
+fn is_spaced_word(spaced: &[u8]) -> bool
+    ensures { (name : List ℕ) → spaced.now ≡ kinds.spaced name → result ≡ kinds.is_word name }
 {
-    has_part(WORDS, line)
+    has_part(WORDS, spaced)
 }
 
 /// Whether the name begins with the prefix, and has `_` behind that.
@@ -49,22 +49,22 @@ fn is_own(options: &Options, kind: &[u8]) -> bool
     options.has_include() && begins_as_own(options.prefix(), kind)
 }
 
-fn write_line<W: Write>(out: &mut W, options: &Options, kind: &[u8]) -> Result<(), io::Error>
-    ensures ok { OnOk result (Wrote (W.contents out.old) (W.contents out.new) (kinds.as_line (kinds.name_in_c options.now kind.now))) }
-    ensures err { OnErr result (WrotePrefix (W.contents out.old) (W.contents out.new) (kinds.as_line (kinds.name_in_c options.now kind.now))) }
+fn write_spaced<W: Write>(out: &mut W, options: &Options, kind: &[u8]) -> Result<(), io::Error>
+    ensures ok { OnOk result (Wrote (W.contents out.old) (W.contents out.new) (kinds.spaced (kinds.name_in_c options.now kind.now))) }
+    ensures err { OnErr result (WrotePrefix (W.contents out.old) (W.contents out.new) (kinds.spaced (kinds.name_in_c options.now kind.now))) }
 {
-    write_bytes(out, b"\n")?;
+    write_bytes(out, b" ")?;
     write_name(out, options, kind)?;
-    write_bytes(out, b"\n")
+    write_bytes(out, b" ")
 }
 
-/// The name of a kind in C, as a line.
-fn line_of(alloc: Global, options: &Options, kind: &[u8]) -> Result<Vec<u8>, AllocError>
-    ensures { IfOk result (λ line. line.items ≡ kinds.as_line (kinds.name_in_c options.now kind.now)) }
+/// The name of a kind in C, with a blank on both sides.
+fn spaced_name(alloc: Global, options: &Options, kind: &[u8]) -> Result<Vec<u8>, AllocError>
+    ensures { IfOk result (λ spaced. spaced.items ≡ kinds.spaced (kinds.name_in_c options.now kind.now)) }
 {
-    let mut line = Vec::new(alloc);
-    match write_line(&mut line, options, kind) {
-        Ok(()) => Ok(line),
+    let mut spaced = Vec::new(alloc);
+    match write_spaced(&mut spaced, options, kind) {
+        Ok(()) => Ok(spaced),
         Err(_) => Err(AllocError),
     }
 }
@@ -78,8 +78,8 @@ fn name_fault(
 ) -> Result<Option<KindFault>, AllocError>
     ensures { IfOk result (λ fault. fault ≡ kinds.name_fault options.now number kind.now) }
 {
-    let line = line_of(alloc, options, kind)?;
-    if is_word_line(&line) {
+    let spaced = spaced_name(alloc, options, kind)?;
+    if is_spaced_word(&spaced) {
         return Ok(Some(KindFault::Reserved(number)));
     }
     if is_own(options, kind) {

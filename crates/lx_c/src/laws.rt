@@ -1,7 +1,11 @@
 //! What C reads of the arrays.
 
+ghost use Rattle.std.specs.Prelude.{◌≡◌, None};
 ghost use Rattle.lx_automaton.specs.Automata.{Machine, IsMachine};
-ghost use Rattle.lx_c.specs.Reading.{HaveTheWords, IsOneToOne};
+ghost use Rattle.lx_tables.specs.Model.{Table, IsTable};
+ghost use Rattle.lx_c.specs.Kinds.{AreApart};
+ghost use Rattle.lx_c.specs.Options.{Options};
+ghost use Rattle.lx_c.specs.Reading.{HaveTheWords, HaveTheActions, IsOneToOne};
 
 /// A law: the numbers between the braces of the arrays of the automaton are its classes, rows and starts, in their order.
 pub fn arrays_have_the_words()
@@ -11,4 +15,14 @@ pub fn arrays_have_the_words()
 /// A law: automata with the same number of classes and the same arrays are the same.
 pub fn arrays_are_one_to_one()
     ensures { IsOneToOne }
+{}
+
+/// A law: where no file declares the kinds, the numbers between the braces of the arrays of actions are what the steps of the rules say.
+pub fn arrays_have_the_actions()
+    ensures { (o : Options) (table : Table) → IsTable table → o.include ≡ None → HaveTheActions o table }
+{}
+
+/// A law: the numbers of kinds are above all bytes, and above all numbers that actions return.
+pub fn kinds_are_apart()
+    ensures { (table : Table) → AreApart table }
 {}
