@@ -68,6 +68,9 @@ static void check_parts(void)
     CHECK(lx_next(&s, &t) == lx_MORE && s.at == 4);
     lx_refill(&s, "x", 1, 1);
     CHECK(lx_next(&s, &t) == 257 && t.start == 4 && t.line == 2 && lx_column(&s, &t) == 2 && lx_next(&s, &t) == lx_END);
+    lx_init_part(&s, &tables, "x\n", 2);
+    lx_begin(&s, 2);
+    CHECK(lx_next(&s, &t) == lx_MORE && s.at == 2 && s.condition == 1); /* behind the newline no step could follow, so it was taken */
 }
 
 int main(int argc, char **argv)
