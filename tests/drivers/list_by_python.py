@@ -25,3 +25,21 @@ def damage(texts, data):
         else:
             yield "= taken\n"
             yield from listing(tables, [data])
+
+
+def calls(tables):
+    """Tries next and begin by the tables of all_steps.l, and says what isn't so."""
+    scanner = tables.scan(b"ab\ncd  e")
+    scanner.begin(2)
+    first = scanner.next()
+    if first != ("ID", b"cd", 3, 2, 1):  # OUT skips the first line, and then IN is begun
+        yield f"the first token is {first}\n"
+    scanner.begin(0)
+    if [scanner.next().kind for _ in range(3)] != [None, None, "ID"] or scanner.next() is not None or scanner.next() is not None:
+        yield "behind begin it goes on otherwise\n"
+    for condition in (-1, 3):
+        try:
+            scanner.begin(condition)
+            yield f"there is a condition {condition}\n"
+        except ValueError:
+            pass

@@ -1,4 +1,5 @@
 //! list_by_rust TABLES FILE..: the listing of files by drivers/lx.rs, each line with the column before it.
+//! list_by_rust --calls TABLES: nothing, or which of the other calls isn't as it should be.
 //! list_by_rust --damage CASES FILE: what it says of each text of tables in CASES, which has its length as four bytes before it.
 #[path = "../../drivers/lx.rs"]
 mod lx;
@@ -49,9 +50,30 @@ fn damage(out: &mut impl Write, mut texts: &[u8], files: &[Vec<u8>]) -> io::Resu
     Ok(())
 }
 
+/// Tries kinds and begin by the tables of all_steps.l, and prints what isn't so.
+fn calls(tables: &Tables) {
+    let (id, text) = (tables.kind("ID"), b"ab\ncd  e");
+    let mut scanner = tables.scan(text);
+    scanner.begin(3);
+    scanner.begin(2);
+    let first = scanner.next().map(|item| (Some(item.kind), item.text, item.start, item.line, item.column));
+    if first != Some((id, b"cd", 3, 2, 1)) {
+        println!("the first item is {first:?}"); // OUT skips the first line, and then IN is begun
+    }
+    scanner.begin(0);
+    let kinds: Vec<Kind> = scanner.map(|item| item.kind).collect();
+    if kinds != [Kind::Echo, Kind::Echo, Kind::Name(1)] || tables.kind("NONE").is_some() {
+        println!("behind begin come {kinds:?}");
+    }
+}
+
 fn main() -> Result<(), Box<dyn std::error::Error>> {
     let words: Vec<String> = std::env::args().skip(1).collect();
     let is_damage = words[0] == "--damage";
+    if words[0] == "--calls" {
+        calls(&Tables::read(&std::fs::read(&words[1])?)?);
+        return Ok(());
+    }
     let files = words[usize::from(is_damage)..].iter().map(std::fs::read).collect::<Result<Vec<_>, _>>()?;
     let mut out = BufWriter::new(io::stdout());
     if is_damage {

@@ -1,8 +1,9 @@
 /* The listing of a text as `lx scan` has it, each line with the column before it, by a scanner in C.
  *
- * Where P is defined when it is included, P(name) is the scanner's name for a call or a type, INIT and INIT_PART begin a text, COLUMN is a token's column and NAME
- * a kind's name: then it gives P(list). It may be included for several scanners. WITHOUT_FILL leaves out what they don't have. A text comes whole, in parts of so many bytes, or so many tokens a call; each part is a block of
- * memory of its exact size, so that a sanitizer sees each byte too far. */
+ * Where P is defined when it is included, P(name) is the scanner's name for a call or a type, INIT and INIT_PART begin a text, COLUMN is a token's column
+ * and NAME a kind's name: then it gives P(list). It may be included for several scanners; WITHOUT_FILL is defined where they have no fill. A text comes
+ * whole, in parts of so many bytes, or so many tokens a call; each part is a block of memory of its exact size, so that a sanitizer sees each byte too
+ * far. */
 #include <stdio.h>
 #include <stdlib.h>
 #include <string.h>
