@@ -47,10 +47,7 @@ fn main(rt: HostRuntime) -> ExitCode {
 fn start<
     R: AllocGlobal + Env + Files + Input + Print + RandomSource + Threads + Wait + Sync,
     E: Write,
->(
-    rt: &R,
-    err: &mut E,
-) -> io::Result<u8> {
+>(rt: &R, err: &mut E) -> io::Result<u8> {
     let alloc = rt.alloc();
     let words: Vec<String> = env::args(rt)?.collect(alloc)?;
     let mut out = PipeOutput::new(BufWriter::with_capacity(alloc, BUFFER, io::writer(rt))?);

@@ -1,12 +1,11 @@
 //! Real files as the program's targets.
 
 use lx_tool::{TargetFault, Targets};
-use std::fs;
 use std::fs::{File, OpenOptions, Permissions};
-use std::io;
 use std::io::{Error, ErrorKind, Write};
 use std::random::RandomSource;
 use std::rt::Files;
+use std::{fs, io};
 
 /// The files of the system, by their paths. A file is replaced by a new one beside it, which takes its name once it is whole.
 #[derive(Drop)]

@@ -35,8 +35,8 @@ module _ (separator : ℕ) (text : List ℕ) (old new : List (List ℕ)) (rest :
       text_is = inr (
         refl,
         ap (λ bytes. bytes ++ separator ∷ []) (before ∙ ap (λ bytes. ended separator read.names ++ bytes) is)
-        ∙ append_assoc (ended separator read.names) part (separator ∷ [])
-        ∙ sym (ended_more separator read.names part),
+            ∙ append_assoc (ended separator read.names) part (separator ∷ [])
+            ∙ sym (ended_more separator read.names part),
       );
     }
     read_more (Some later) is = record {
@@ -44,11 +44,11 @@ module _ (separator : ℕ) (text : List ℕ) (old new : List (List ℕ)) (rest :
       names_are = names_more;
       behind = behind_more;
       text_is = inl (
-        before
-        ∙ ap (λ bytes. ended separator read.names ++ bytes) (is ∙ sym (append_assoc part (separator ∷ []) later))
-        ∙ sym (append_assoc (ended separator read.names) (part ++ separator ∷ []) later)
-        ∙ ap (λ bytes. bytes ++ later) (sym (ended_more separator read.names part))
-      );
+          before
+          ∙ ap (λ bytes. ended separator read.names ++ bytes) (is ∙ sym (append_assoc part (separator ∷ []) later))
+          ∙ sym (append_assoc (ended separator read.names) (part ++ separator ∷ []) later)
+          ∙ ap (λ bytes. bytes ++ later) (sym (ended_more separator read.names part))
+          );
     }
 
   pub no_name : (behind : Option (List ℕ)) → AreParts separator rest part behind → (part ≡ []) ⊎ (is_utf8 part ≡ false) → IsNoName separator text (length new - length old + 1)

@@ -3,8 +3,8 @@
 ghost use Rattle.std.specs.Prelude.{◌≡◌};
 ghost use Rattle.lx_tool.specs.Statuses.{status_of};
 
-use clap::Error as WordsError;
 use crate::target::TargetFault;
+use clap::Error as WordsError;
 use lx_auto::BuildFault;
 use lx_forms::ChoiceFault;
 use lx_post::RunFault;
@@ -81,10 +81,8 @@ impl Failure<'_> {
     {
         match self {
             Failure::Specification(_) | Failure::Automaton(_) | Failure::Tables(_) => 1,
-            Failure::Words(_)
-            | Failure::TooManyFiles
-            | Failure::InputTwice
-            | Failure::Refused(_) => 2,
+            Failure::Words(_) | Failure::TooManyFiles | Failure::InputTwice | Failure::Refused(_) =>
+                2,
             Failure::NotRead(_) => 3,
             Failure::Output => 4,
             Failure::Memory => 5,

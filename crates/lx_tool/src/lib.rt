@@ -18,7 +18,9 @@ pub use given::{list_by_specification, list_by_tables};
 pub use lx_lines::{LineWrites, Listing, list_plan, print_listing};
 pub use lx_words::VERSION;
 pub use output::Output;
-pub use planning::{list_files, list_files_in, listings_are_by_rules, printed_tables_list_by_rules};
+pub use planning::{
+    list_files, list_files_in, listings_are_by_rules, printed_tables_list_by_rules,
+};
 pub use program::{run, run_with};
 pub use reading::read_to_end;
 pub use source::{ListSources, STANDARD_INPUT, SourceFault, Sources};

@@ -162,13 +162,7 @@ fn flag<'a>(alloc: Global, long: &'a str, help: &'a str) -> Arg<'a>
         .action(ArgAction::SetTrue)
 }
 
-fn option<'a>(
-    alloc: Global,
-    id: &'a str,
-    long: &'a str,
-    value: &'a str,
-    help: &'a str,
-) -> Arg<'a>
+fn option<'a>(alloc: Global, id: &'a str, long: &'a str, value: &'a str, help: &'a str) -> Arg<'a>
     ensures rule { rule_of result ≡ option_rule id.now long.now }
     ensures local { result.global ≡ false }
 {
@@ -179,10 +173,9 @@ fn target<'a>(alloc: Global) -> Arg<'a>
     ensures rule { rule_of result ≡ target_rule }
     ensures local { result.global ≡ false }
 {
-    Arg::new(alloc, "target")
-        .short('o')
-        .value_name("FILE")
-        .help("The file that gets the text, all of it or nothing, in the place of the output")
+    Arg::new(alloc, "target").short('o').value_name("FILE").help(
+        "The file that gets the text, all of it or nothing, in the place of the output",
+    )
 }
 
 fn names<'a>(alloc: Global) -> Arg<'a>
@@ -248,7 +241,9 @@ fn files<'a>(alloc: Global) -> Arg<'a>
     ensures local { result.global ≡ false }
 {
     Arg::new(alloc, "FILE")
-        .help("The files, in the order of the listing; - is standard input, of which nothing is listed before its end")
+        .help(
+            "The files, in the order of the listing; - is standard input, of which nothing is listed before its end",
+        )
         .num_args(1..)
         .action(ArgAction::Append)
 }

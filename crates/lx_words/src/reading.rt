@@ -7,7 +7,9 @@ ghost use Rattle.lx_post.specs.Claimed.{max_workers};
 ghost use Rattle.lx_words.specs.CommandLine.{IsFault, IsTold, PlainWordsAsk, asked_as, asked_by, asked_of, files_in, first_in, flag_in, form_in, items_in, list_in, request_in, plain_form, plain_list, plain_order, plain_print, print_in, rules_in, workers_in, words_of};
 
 use crate::app::command;
-use crate::request::{ALONE, FormWords, ITEMS, ListRequest, ListWords, PrintWords, Refusal, Request};
+use crate::request::{
+    ALONE, FormWords, ITEMS, ListRequest, ListWords, PrintWords, Refusal, Request,
+};
 use clap::error::ErrorKind;
 use clap::{ArgMatches, Error};
 use lx_piece::MAX_ITEMS;
