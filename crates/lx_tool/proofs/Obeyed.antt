@@ -87,6 +87,7 @@ module _ (old mid new : Option (List ℕ)) (kept : Keeps mid new) where
       names = h.names;
       behind = h.behind;
       named = h.named;
+      judged = h.judged;
       listed = listed_kept (λ inputs. ListsByRulesIn order.form h.text h.names inputs old mid) (λ inputs. ListsByRulesIn order.form h.text h.names inputs old new) (rules_in_kept order.form h.text h.names) h.names h.behind h.listed;
     }
     obeyed_kept (Some (scan order)) h = record {
@@ -96,6 +97,7 @@ module _ (old mid new : Option (List ℕ)) (kept : Keeps mid new) where
       names = h.names;
       behind = h.behind;
       named = h.named;
+      judged = h.judged;
       listed = listed_kept (λ inputs. ListsByTextIn order.form h.text h.names inputs old mid) (λ inputs. ListsByTextIn order.form h.text h.names inputs old new) (text_in_kept order.form h.text h.names) h.names h.behind h.listed;
     }
     obeyed_kept (Some (gen print)) h = (printed_kept (λ text. Generates text old mid) (λ text. Generates text old new) generates_kept print.rules print.target h.0, h.1)

@@ -7,7 +7,7 @@ use Rattle.lx_tables.specs.Texts.{text_2}
 use Rattle.lx_piece.specs.Plans.{PlainInput, max_files}
 use Rattle.lx_words.specs.CommandLine.{Asked, PlainOrder, PlainPrint, stored, run, scan, gen, up}
 use Rattle.lx_tool.specs.Given.{AreListed, IsNoTable}
-use Rattle.lx_tool.specs.Naming.{AreFileNames, IsListingRefused, IsWordsFault, input_count, input_uses}
+use Rattle.lx_tool.specs.Naming.{AreFileNames, AreJudged, IsListingRefused, IsWordsFault, input_count, input_uses}
 use Rattle.lx_tool.specs.Planning.{ListsAsked, ListsByRules, ListsByRulesIn, ListsByTextIn}
 use Rattle.lx_tool.specs.Sources.{whole}
 use Rattle.lx_tool.specs.Statuses.{HidesNoMemory, status_of}
@@ -34,6 +34,7 @@ pub record AreListedBy {S : Type 0} (gives : S → List ℕ → PlainInput → S
   pub names : List (List ℕ)
   pub behind : S
   pub named : AreFileNames gives order between behind names
+  pub judged : AreJudged order names
   pub listed : AreListed gives (Lists text names) names behind after cut
 
 -- The names were read, and the files listed in the form that the words ask for, by these tables.
@@ -41,6 +42,7 @@ pub record AreListedAs {S : Type 0} (gives : S → List ℕ → PlainInput → S
   pub names : List (List ℕ)
   pub behind : S
   pub named : AreFileNames gives order before behind names
+  pub judged : AreJudged order names
   pub listed : AreListed gives (λ inputs. ListsAsked order.form table names inputs old new) names behind after cut
 
 -- They gave the text with this name, whole, of which something was printed.

@@ -1,5 +1,5 @@
 -- The files that a listing's words name, and those that LIST names behind them; and the form that the words ask for.
-use Rattle.std.specs.Prelude.{◌≡◌, ◌≢◌, ℕ, ◌+◌, ◌-◌, ◌<◌, ◌⊎◌, ⊤, Bool, if◌then◌else◌, List, [], ◌∷◌, ◌++◌, Option, Some, None, Contains, IsSomeAnd, MatchOption, codes, length}
+use Rattle.std.specs.Prelude.{◌≡◌, ◌≢◌, ℕ, ◌+◌, ◌-◌, ◌<◌, ◌≤◌, ◌⊎◌, ⊤, Bool, if◌then◌else◌, List, [], ◌∷◌, ◌++◌, Option, Some, None, Contains, IsSomeAnd, MatchOption, codes, length}
 use Rattle.std.specs.Option.{option_map_or}
 use Rattle.std.specs.Str.{bytes_eq}
 use Rattle.lx_tables.specs.Model.{Table}
@@ -61,6 +61,12 @@ pub record FilesHave {S : Type 0} (gives : S → List ℕ → PlainInput → S �
   pub after : S
   pub named : AreFileNames gives order before after names
   pub have : Have names
+
+-- What holds of the names of files that are listed: there is one, standard input is read once at most, and each file has a number.
+pub record AreJudged (order : PlainOrder) (names : List (List ℕ)) : Type 0 where
+  pub some : 0 < length names
+  pub inputs : input_uses order names ≤ 1
+  pub numbers : order.form.first + length names ≤ max_number + 1
 
 -- ---- the form
 

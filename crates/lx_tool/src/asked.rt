@@ -6,7 +6,7 @@ ghost use Rattle.lx_piece.specs.Plans.{max_files};
 ghost use Rattle.lx_forms.specs.Views.{form_view};
 ghost use Rattle.lx_words.specs.CommandLine.{plain_form, plain_list, plain_order};
 ghost use Rattle.lx_tool.specs.Commands.{AreListedAs, AreWordsRefused};
-ghost use Rattle.lx_tool.specs.Naming.{AreFileNames, AreListNames, AreNamesRefused, AreNamesUnread, IsFormatFault, IsListingRefused, IsListRefused, IsOnly, IsOnlyRefused, format_by, input_count, input_uses, inputs_among, list_input};
+ghost use Rattle.lx_tool.specs.Naming.{AreFileNames, AreJudged, AreListNames, AreNamesRefused, AreNamesUnread, IsFormatFault, IsListingRefused, IsListRefused, IsOnly, IsOnlyRefused, format_by, input_count, input_uses, inputs_among, list_input};
 ghost use Rattle.lx_tool.specs.Sources.{texts_of};
 ghost use Rattle.lx_tool.specs.Statuses.{HidesNoMemory, status_of};
 
@@ -99,7 +99,7 @@ pub(crate) fn judge_words<'a>(order: &ListRequest<'a>) -> Result<(), Failure<'a>
 // Refuses no names at all, standard input named twice, and numbers that are too large.
 fn judge_names<'a>(order: &ListRequest<'a>, names: &[&str]) -> Result<(), Failure<'a>>
     requires { length names.now ≤ max_files }
-    ensures ok { OnOk result (0 < length names.now) }
+    ensures ok { OnOk result (AreJudged (plain_order order.now) (texts_of names.now)) }
     ensures err { IfErr result (AreNamesRefused (plain_order order.now) (texts_of names.now)) }
 {
     if names.is_empty() {

@@ -25,6 +25,7 @@ returns-clause-ok g c =
       names = h.names;
       behind = h.behind;
       named = h.named;
+      judged = h.judged;
       listed = listed_as_well gives (λ inputs. ListsAsked order.form table h.names inputs old new) (λ inputs. ListsByRulesIn order.form text h.names inputs old new)
           (λ inputs. asked_by_rules order.form text table h.names inputs old new law c.conditions-conditions.ensures.table made) h.names h.behind c.list_asked.new.sources _ h.listed;
     })

@@ -23,6 +23,7 @@ returns-clause-ok g c =
       names = h.names;
       behind = h.behind;
       named = h.named;
+      judged = h.judged;
       listed = listed_as_well gives (λ inputs. ListsAsked order.form table h.names inputs old new) (λ inputs. ListsByTextIn order.form text h.names inputs old new)
           (λ inputs bytes l. record { table = table; is_table = made.0; of_text = made.1; listed = l }) h.names h.behind c.list_asked.new.sources _ h.listed;
     })
