@@ -1,5 +1,5 @@
 -- The files that a listing's words name, and those that LIST names behind them; and the form that the words ask for.
-use Rattle.std.specs.Prelude.{◌≡◌, ◌≢◌, ℕ, ◌+◌, ◌-◌, ◌<◌, ◌≤◌, ◌⊎◌, ⊤, Bool, if◌then◌else◌, List, [], ◌∷◌, ◌++◌, Option, Some, None, Contains, IsSomeAnd, MatchOption, codes, length}
+use Rattle.std.specs.Prelude.{◌≡◌, ◌≢◌, ℕ, ◌+◌, ◌-◌, ◌<◌, ◌≤◌, ◌⊎◌, ⊤, Bool, if◌then◌else◌, List, [], ◌∷◌, Option, Some, None, Contains, IsSomeAnd, MatchOption, codes, length}
 use Rattle.std.specs.Option.{option_map_or}
 use Rattle.std.specs.Str.{bytes_eq}
 use Rattle.lx_tables.specs.Model.{Table}
