@@ -1,6 +1,6 @@
 //! Lines of a listing as fields, put behind what a block holds. Where memory is refused a part of a line stands there.
 
-ghost use Rattle.std.specs.Prelude.{◌≡◌, ◌<◌, ◌++◌, OnOk, decimal};
+ghost use Rattle.std.specs.Prelude.{◌≡◌, ◌<◌, ◌≤◌, ◌++◌, OnOk, decimal, length, take};
 ghost use Rattle.std.specs.List.{flat_map};
 ghost use Rattle.lx_scan.specs.ItemParts.{IsItemOf, LiesIn, NamesKindAmong, text_of};
 ghost use Rattle.lx_piece.specs.Plans.{bytes_of, files_of, kinds_of};
@@ -23,10 +23,25 @@ fn push_name_byte(block: &mut Vec<u8>, byte: u8) -> Result<(), AllocError>
     push_text(block, &[byte])
 }
 
+// How many bytes at the front of a name stand in a line as they are.
+fn plain_front(name: &[u8]) -> usize
+    ensures within { result ≤ length name.now }
+    ensures plain { flat_map name_escaped (take result name.now) ≡ take result name.now }
+{
+    let mut plain = 0;
+    while plain < name.len() && matches!(name[plain], b'!'..=b'[' | b']'..=b'~') {
+        plain += 1;
+    }
+    plain
+}
+
+// A name. Most are plain, and are copied at once.
 fn push_name(block: &mut Vec<u8>, name: &[u8]) -> Result<(), AllocError>
     ensures { OnOk result (block.new.items ≡ block.old.items ++ flat_map name_escaped name.now) }
 {
-    for byte in name {
+    let plain = plain_front(name);
+    block.extend_from_slice(&name[..plain])?;
+    for byte in &name[plain..] {
         push_name_byte(block, *byte)?;
     }
     Ok(())
