@@ -1,13 +1,6 @@
 /* damage_by_header CASES FILE: what drivers/lx.h says of each text of tables in CASES, which has its length as four bytes before it: the line at which it is refused,
  * or the listing of FILE by it. */
-#include "../../drivers/lx.h"
-static lx_tables tables;
-#define WITHOUT_FILL
-#define P(name) lx_##name
-#define INIT(s, text, size) lx_init(s, &tables, text, size)
-#define INIT_PART(s, text, size) lx_init_part(s, &tables, text, size)
-#define COLUMN(s, t) lx_column(s, t)
-#define NAME(kind) lx_name(&tables, kind)
+#include "by_header.h"
 #include "listing.h"
 #include "files.h"
 

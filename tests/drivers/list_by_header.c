@@ -1,12 +1,5 @@
 /* list_by_header WAY TABLES FILE..: the listing of files by drivers/lx.h, each line with the column before it. */
-#include "../../drivers/lx.h"
-static lx_tables tables;
-#define WITHOUT_FILL
-#define P(name) lx_##name
-#define INIT(s, text, size) lx_init(s, &tables, text, size)
-#define INIT_PART(s, text, size) lx_init_part(s, &tables, text, size)
-#define COLUMN(s, t) lx_column(s, t)
-#define NAME(kind) lx_name(&tables, kind)
+#include "by_header.h"
 #include "listing.h"
 #include "files.h"
 
