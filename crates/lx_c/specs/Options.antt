@@ -53,3 +53,7 @@ option_fault o =
     else if not (list_all is_identifier o.conditions) then Some Condition
     else if not (is_any_include o.include) then Some Include
     else None
+
+-- with these names of the conditions, where all are identifiers
+abbrev pub named : Options → List (List ℕ) → Options
+named o names = if list_all is_identifier names then record o { conditions = names } else o

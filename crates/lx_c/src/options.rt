@@ -125,6 +125,20 @@ impl Options {
         })
     }
 
+    /// The same with these names of the conditions, of each in order, where all are identifiers, as those of a specification are; else without names.
+    pub fn named(self, conditions: Vec<Vec<u8>>) -> Options
+        ensures { result ≡ specs.named self (names_view conditions.items) }
+    {
+        if !are_identifiers(&conditions) {
+            return self;
+        }
+        Options {
+            prefix: self.prefix,
+            conditions,
+            include: self.include,
+        }
+    }
+
     /// The prefix.
     pub fn prefix(&self) -> &[u8]
         ensures { result.now ≡ self.now.prefix }

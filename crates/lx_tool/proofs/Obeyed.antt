@@ -1,24 +1,26 @@
 -- What was done by what the words ask for, or why it wasn't.
-use Rattle.std.proofs.Common.{ℕ, zero, suc, ◌≡◌, ◌≢◌, ◌<◌, List, [], ◌∷◌, Option, Some, None, All, Bor, Ok, Err, Result, IfOk, IfErr, inl, inr, length, arith, refl, ◌∙◌, ap, subst}
-use Rattle.std.specs.Prelude.{Contains, MatchOption}
+use Rattle.std.proofs.Common.{ℕ, zero, suc, ◌≡◌, ◌≢◌, ◌<◌, List, [], ◌∷◌, Option, Some, None, All, Bor, Ok, Err, Result, IfOk, IfErr, inl, inr, length, arith, refl, ◌∙◌, ap, ap₂, subst}
+use Rattle.std.specs.Prelude.{◌⊎◌, Contains, IfSome}
 use Rattle.std.proofs.lemmas.List.{length-map}
 use Rattle.std.specs.Io.KnownBytes.{Keeps, Appends}
 use Rattle.std.proofs.lemmas.List.Elements.{All-cons, All-nil, All-from_recursion}
 use Rattle.lx_tables.specs.Model.{Table}
 use Rattle.lx_piece.specs.Plans.{PlainInput, max_files}
 use Rattle.lx_tables.specs.Output.{Wrote}
-use Rattle.lx_words.specs.CommandLine.{Asked, PlainFormWords, PlainOrder, PlainPrint, stored, run, scan, gen, up}
-use Rattle.lx_tool.specs.Commands.{AreRulesRefused, AreWordsRefused, HasEnded, HasFailed, HasObeyed, IsCutShort, IsFormRefused, IsPlacingFault, IsPrinted, IsRefusedLater, files_asked, inputs_asked, names_asked, stored_specification, stored_text}
+use Rattle.lx_c.specs.Options.{Options, named}
+use Rattle.lx_words.specs.CommandLine.{Asked, PlainC, PlainFormWords, PlainOrder, PlainPrint, stored, run, scan, gen, up}
+use Rattle.lx_tool.specs.Commands.{AreRulesRefused, AreWordsRefused, HasDone, HasEnded, HasFailed, HasObeyed, IsCutShort, IsFormRefused, IsPrinted, IsRefused, IsRefusedLater, files_asked, inputs_asked, names_asked, stored_specification, stored_text}
 use Rattle.lx_tool.specs.Given.{AreListed, IsNoTable, IsUnread}
 use Rattle.lx_tool.specs.Naming.{IsListingRefused, IsWordsFault, input_uses}
 use Rattle.lx_tool.specs.Planning.{AreBytes, ListsByRules, ListsByRulesIn, ListsByTextIn}
 use Rattle.lx_tool.specs.Sources.{texts_of, whole}
 use Rattle.lx_tool.specs.Statuses.{HasStatusOfCut, HidesNoMemory, status_of}
-use Rattle.lx_tool.specs.Tabling.{FailsGenerating, Generates, HasNoTables, Upgrades}
+use Rattle.lx_tool.specs.Printing.{AreKindsRefused, AreScannerWordsRefused, FailsPrinting, IsScannerFault, IsWritten, PrintsSpecification, PrintsTables}
+use Rattle.lx_tool.specs.Tabling.{HasNoTables}
 use Rattle.lx_tool.specs.declared.failure.Failure.{Failure}
 use Rattle.lx_tool.specs.declared.failure.RequestFault.{RequestFault}
 use Rattle.lx_tool.specs.declared.failure.RequestFault.TheVariants.{NoTargets}
-use Rattle.lx_tool.specs.declared.failure.Failure.TheVariants.{Specification, Automaton, Tables, Words, TooManyFiles, InputTwice, Refused, NotRead, Output, Memory}
+use Rattle.lx_tool.specs.declared.failure.Failure.TheVariants.{Specification, Automaton, Tables, Kinds, Words, TooManyFiles, InputTwice, Refused, NotRead, Output, Memory}
 
 -- ---- what a writer holds
 
@@ -61,20 +63,16 @@ module _ (old mid new : Option (List ℕ)) (kept : Keeps mid new) where
     };
   }
 
-  generates_kept : (text : List ℕ) → Generates text old mid → Generates text old new
-  generates_kept text h = record { tables = h.tables; of_text = h.of_text; wrote = wrote_kept old mid new _ h.wrote kept }
-
-  upgrades_kept : (text : List ℕ) → Upgrades text old mid → Upgrades text old new
-  upgrades_kept text h = record { tables = h.tables; is_table = h.is_table; of_text = h.of_text; wrote = wrote_kept old mid new _ h.wrote kept }
+  written_kept : (target : Option (List ℕ)) (text : List ℕ) → IsWritten target text old mid → IsWritten target text old new
+  written_kept None text h = wrote_kept old mid new text h kept
+  written_kept (Some name) text h = keeps_both old mid new h kept
 
   module _ {S : Type 0} (gives : S → List ℕ → PlainInput → S → Type 0) (before after : S) (cut : List (List ℕ)) where
     listed_kept : (P Q : List PlainInput → Type 0) → ((inputs : List PlainInput) → P inputs → Q inputs) → (names : List (List ℕ)) (between : S) → AreListed gives P names between after cut → AreListed gives Q names between after cut
     listed_kept P Q as_well names between l = record { inputs = l.inputs; read = l.read; listed = as_well l.inputs l.listed }
 
-    printed_kept : (P Q : List ℕ → Type 0) → ((text : List ℕ) → P text → Q text) → (rules : List ℕ) (target : Option (List ℕ)) → MatchOption target (IsPrinted gives P rules before after) (λ _. Keeps old mid) →
-        MatchOption target (IsPrinted gives Q rules before after) (λ _. Keeps old new)
-    printed_kept P Q as_well rules None h = record { text = h.text; given = h.given; printed = as_well h.text h.printed }
-    printed_kept P Q as_well rules (Some target) h = keeps_both old mid new h kept
+    printed_kept : (Prints : List ℕ → List ℕ → Type 0) (print : PlainPrint) → IsPrinted gives Prints print before after old mid → IsPrinted gives Prints print before after old new
+    printed_kept Prints print h = record { text = h.text; given = h.given; printed = h.printed; prints = h.prints; written = written_kept print.target h.printed h.written }
 
     -- what was done stands after the last flush
     pub obeyed_kept : (asked : Option Asked) → HasObeyed gives before after old mid cut asked → HasObeyed gives before after old new cut asked
@@ -100,8 +98,8 @@ module _ (old mid new : Option (List ℕ)) (kept : Keeps mid new) where
       judged = h.judged;
       listed = listed_kept (λ inputs. ListsByTextIn order.form h.text h.names inputs old mid) (λ inputs. ListsByTextIn order.form h.text h.names inputs old new) (text_in_kept order.form h.text h.names) h.names h.behind h.listed;
     }
-    obeyed_kept (Some (gen print)) h = (printed_kept (λ text. Generates text old mid) (λ text. Generates text old new) generates_kept print.rules print.target h.0, h.1)
-    obeyed_kept (Some (up print)) h = (printed_kept (λ text. Upgrades text old mid) (λ text. Upgrades text old new) upgrades_kept print.rules print.target h.0, h.1)
+    obeyed_kept (Some (gen print)) h = (printed_kept (PrintsSpecification print.c) print h.0, h.1)
+    obeyed_kept (Some (up print)) h = (printed_kept (PrintsTables print.c) print h.0, h.1)
 
 -- ---- refusals
 
@@ -109,6 +107,7 @@ pub no_tables_tells : (text : List ℕ) (failure : Failure) → HasNoTables text
 no_tables_tells text (Specification fault) h = h.0
 no_tables_tells text (Automaton fault) h = h.known
 no_tables_tells text (Tables fault) h = absurd h
+no_tables_tells text (Kinds fault) h = tt
 no_tables_tells text (Words error) h = absurd h
 no_tables_tells text TooManyFiles h = tt
 no_tables_tells text InputTwice h = tt
@@ -121,6 +120,7 @@ pub no_table_tells : (text : List ℕ) (failure : Failure) → IsNoTable text fa
 no_table_tells text (Specification fault) h = absurd h
 no_table_tells text (Automaton fault) h = absurd h
 no_table_tells text (Tables fault) h = λ e. let f = h.0 in cc
+no_table_tells text (Kinds fault) h = tt
 no_table_tells text (Words error) h = absurd h
 no_table_tells text TooManyFiles h = tt
 no_table_tells text InputTwice h = tt
@@ -143,6 +143,7 @@ module _ {S : Type 0} (gives : S → List ℕ → PlainInput → S → Type 0) (
   rules_refused asked Refuses refused tells kept few once listing known words (Specification fault) h = λ low. record { cause = refused (Specification fault) h; tells = tells (Specification fault) h; kept = kept }
   rules_refused asked Refuses refused tells kept few once listing known words (Automaton fault) h = λ low. record { cause = refused (Automaton fault) h; tells = tells (Automaton fault) h; kept = kept }
   rules_refused asked Refuses refused tells kept few once listing known words (Tables fault) h = λ low. record { cause = refused (Tables fault) h; tells = tells (Tables fault) h; kept = kept }
+  rules_refused asked Refuses refused tells kept few once listing known words (Kinds fault) h = λ low. record { cause = refused (Kinds fault) h; tells = tells (Kinds fault) h; kept = kept }
   rules_refused asked Refuses refused tells kept few once listing known words (Words error) h = absurd (words error h)
   rules_refused asked Refuses refused tells kept few once listing known words TooManyFiles h = absurd (few h)
   rules_refused asked Refuses refused tells kept few once listing known words InputTwice h = absurd (once h)
@@ -164,6 +165,7 @@ module _ {S : Type 0} (gives : S → List ℕ → PlainInput → S → Type 0) (
   later_refused asked order table between later (Specification fault) h = λ low. absurd (h low).0
   later_refused asked order table between later (Automaton fault) h = λ low. absurd (h low).0
   later_refused asked order table between later (Tables fault) h = λ low. absurd (h low).0
+  later_refused asked order table between later (Kinds fault) h = λ low. absurd (h low).0
   later_refused asked order table between later (Words error) h = λ low. absurd (h low).0
   later_refused asked order table between later TooManyFiles h = λ low. record { cause = inr (later TooManyFiles (h low).0); tells = tt; kept = (h low).2 }
   later_refused asked order table between later InputTwice h = λ low. record { cause = inr (later InputTwice (h low).0); tells = tt; kept = (h low).2 }
@@ -177,6 +179,7 @@ module _ {S : Type 0} (gives : S → List ℕ → PlainInput → S → Type 0) (
   rules_unread asked name among kept (Specification fault) h = absurd h
   rules_unread asked name among kept (Automaton fault) h = absurd h
   rules_unread asked name among kept (Tables fault) h = absurd h
+  rules_unread asked name among kept (Kinds fault) h = absurd h
   rules_unread asked name among kept (Words error) h = absurd h
   rules_unread asked name among kept TooManyFiles h = absurd h
   rules_unread asked name among kept InputTwice h = absurd h
@@ -186,19 +189,6 @@ module _ {S : Type 0} (gives : S → List ℕ → PlainInput → S → Type 0) (
   rules_unread asked name among kept Memory h = λ low. absurd (omega (arith, low))
 
   module _ (text : List ℕ) (between : S) where
-    pub gen_refused : (print : PlainPrint) → gives before print.rules (whole text) between →
-        (failure : Failure) → FailsGenerating text old new failure → HasFailed gives (Some (gen print)) before old new failure
-    gen_refused print given (Specification fault) h = λ low. record { cause = record { text = text; after = between; given = given; refused = h.0 }; tells = h.0.0; kept = h.1 }
-    gen_refused print given (Automaton fault) h = λ low. record { cause = record { text = text; after = between; given = given; refused = h.0 }; tells = h.0.known; kept = h.1 }
-    gen_refused print given (Tables fault) h = absurd h
-    gen_refused print given (Words error) h = absurd h
-    gen_refused print given TooManyFiles h = absurd h
-    gen_refused print given InputTwice h = absurd h
-    gen_refused print given (Refused fault) h = absurd h
-    gen_refused print given (NotRead other) h = absurd h
-    gen_refused print given Output h = λ low. absurd (omega (arith, low))
-    gen_refused print given Memory h = λ low. absurd (omega (arith, low))
-
     -- the text has no tables
     pub rules_no_tables : (asked : Asked) → ((failure : Failure) → HasNoTables text failure → AreRulesRefused gives before asked failure) → Keeps old new →
         (failure : Failure) → HasNoTables text failure → HasFailed gives (Some asked) before old new failure
@@ -211,15 +201,30 @@ module _ {S : Type 0} (gives : S → List ℕ → PlainInput → S → Type 0) (
     rules_no_table asked refused kept =
         rules_refused asked (IsNoTable text) refused (no_table_tells text) kept (λ r. absurd r) (λ r. absurd r) (λ fault r. absurd r) (λ name r. absurd r) (λ error r. absurd r)
 
-  -- no file was made
-  pub placing_refused : (asked : Asked) → IsFormRefused asked NoTargets → Keeps old new → (failure : Failure) → IsPlacingFault failure → HasFailed gives (Some asked) before old new failure
-  placing_refused asked form kept failure (inl h) = rw h (λ low. record { cause = inl form; tells = tt; kept = kept })
-  placing_refused asked form kept failure (inr (inl h)) = rw h (λ low. absurd (omega (arith, low)))
-  placing_refused asked form kept failure (inr (inr h)) = rw h (λ low. absurd (omega (arith, low)))
+  -- the words on a scanner in C were refused
+  pub scanner_refused : (asked : Asked) (c : PlainC) → ((fault : RequestFault) → IsScannerFault c fault → IsFormRefused asked fault) → Keeps old new →
+      (failure : Failure) → AreScannerWordsRefused c failure → HasFailed gives (Some asked) before old new failure
+  scanner_refused asked c form kept failure (inl h) = rw h (λ low. absurd (omega (arith, low)))
+  scanner_refused asked c form kept failure (inr h) = rw h.1 (λ low. record { cause = inl (form h.0 h.2); tells = tt; kept = kept })
+
+  -- no file was made, or the kinds were refused
+  module _ (asked : Asked) (c : PlainC) (o : Options) (table : Table) (target : Option (List ℕ)) (form : target ≢ None → IsFormRefused asked NoTargets)
+      (kinds : (failure : Failure) → AreKindsRefused c o table failure → AreRulesRefused gives before asked failure) where
+    for_cause : (failure : Failure) → Keeps old new → ((failure ≡ Refused NoTargets) × (target ≢ None)) ⊎ AreKindsRefused c o table failure → IsRefused gives (Some asked) before old new failure
+    for_cause failure kept (inl h) = rw h.0 (record { cause = inl (form h.1); tells = tt; kept = kept })
+    for_cause failure kept (inr h) = rw h.answers (record { cause = subst (AreRulesRefused gives before asked) h.answers (kinds failure h); tells = tt; kept = kept })
+
+    pub printing_refused : (failure : Failure) → (status_of failure < 4 → FailsPrinting c o table target old new failure) → HasFailed gives (Some asked) before old new failure
+    printing_refused failure h = λ low. for_cause failure (h low).kept (h low).cause
 
   -- the stored specification was refused
   pub stored_refused : (failure : Failure) → (status_of failure < 4 → HasNoTables stored_specification failure × Keeps old new) → HasFailed gives (Some stored) before old new failure
   stored_refused failure h = λ low. rules_refused stored (HasNoTables stored_specification) (λ f r. r) (no_tables_tells stored_specification) (h low).1 (λ r. absurd r) (λ r. absurd r) (λ fault r. absurd r) (λ name r. absurd r) (λ error r. absurd r) failure (h low).0 low
+
+-- ---- scanners in C
+
+pub named_as : (result o p : Options) (ns ms : List (List ℕ)) → result ≡ named o ns → o ≡ p → ns ≡ ms → result ≡ named p ms
+named_as result o p ns ms is same names = is ∙ ap₂ named same names
 
 -- ---- ends
 
@@ -241,6 +246,32 @@ has_ended gives asked before after old new items (Ok cut) status obeyed failed t
     let is : status ≡ 3 = grind arith in
     inl (is, ended_cut gives before after old new names asked (λ e. let nobody = ap length e in absurd (grind arith)) obeyed)
 has_ended gives asked before after old new items (Err failure) status obeyed failed told other some few = inr (failure, other, failed (omega (arith, few, other)))
+
+some_status : (failure : Failure) → 0 < status_of failure
+some_status (Specification fault) = omega arith
+some_status (Automaton fault) = omega arith
+some_status (Tables fault) = omega arith
+some_status (Kinds fault) = omega arith
+some_status (Words error) = omega arith
+some_status TooManyFiles = omega arith
+some_status InputTwice = omega arith
+some_status (Refused fault) = omega arith
+some_status (NotRead name) = omega arith
+some_status Output = omega arith
+some_status Memory = omega arith
+
+none_cut : {X : Type 0} (status : ℕ) (cut : List X) → HasStatusOfCut status cut → status ≡ 0 → cut ≡ []
+none_cut status [] told is = refl
+none_cut status (x ∷ xs) told is = let three = told.some (omega arith) in absurd (omega (arith, is, three))
+
+-- what is known at exit status 0
+pub has_done : {S V : Type 0} (gives : S → List ℕ → PlainInput → S → Type 0) (asked : Option Asked) (before after : S) (old new : Option (List ℕ)) (items : V → List (Bor (List ℕ))) (ended : Result V Failure) (status : ℕ) →
+    IfOk ended (λ cut. HasObeyed gives before after old new (texts_of (items cut)) asked) →
+    IfOk ended (λ cut. HasStatusOfCut status (items cut)) → IfErr ended (λ failure. status ≡ status_of failure) → status ≡ 0 → IfSome asked (HasDone gives before after old new [])
+has_done gives None before after old new items ended status obeyed told other none = tt
+has_done gives (Some asked) before after old new items (Ok cut) status obeyed told other none =
+    subst (λ (names : List (List ℕ)). HasDone gives before after old new names asked) (ap texts_of (none_cut status (items cut) told none)) obeyed
+has_done gives (Some asked) before after old new items (Err failure) status obeyed told other none = let some = some_status failure in absurd (omega (arith, some, other, none))
 
 -- the stored text is one of bytes
 pub stored_bytes : AreBytes (whole stored_text ∷ [])

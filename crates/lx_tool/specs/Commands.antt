@@ -3,7 +3,6 @@ use Rattle.std.specs.Prelude.{◌≡◌, ◌≢◌, ℕ, ◌<◌, ◌⊎◌, Lis
 use Rattle.std.specs.Option.{option_map_or}
 use Rattle.std.specs.Io.KnownBytes.{Keeps}
 use Rattle.lx_tables.specs.Model.{Table}
-use Rattle.lx_tables.specs.Texts.{text_2}
 use Rattle.lx_piece.specs.Plans.{PlainInput, max_files}
 use Rattle.lx_words.specs.CommandLine.{Asked, PlainOrder, PlainPrint, stored, run, scan, gen, up}
 use Rattle.lx_tool.specs.Given.{AreListed, IsNoTable}
@@ -11,11 +10,12 @@ use Rattle.lx_tool.specs.Naming.{AreFileNames, AreJudged, IsListingRefused, IsWo
 use Rattle.lx_tool.specs.Planning.{ListsAsked, ListsByRules, ListsByRulesIn, ListsByTextIn}
 use Rattle.lx_tool.specs.Sources.{whole}
 use Rattle.lx_tool.specs.Statuses.{HidesNoMemory, status_of}
-use Rattle.lx_tool.specs.Tabling.{AreTablesIn, AreTablesOfText, Generates, HasNoTables, Upgrades}
+use Rattle.lx_tool.specs.Printing.{AreKindsOfSpecificationRefused, AreKindsOfTablesRefused, IsPlaced, IsScannerFault, IsWritten, PrintsSpecification, PrintsTables}
+use Rattle.lx_tool.specs.Tabling.{AreTablesIn, AreTablesOfText, HasNoTables}
 use Rattle.lx_tool.specs.declared.failure.Failure.{Failure}
 use Rattle.lx_tool.specs.declared.failure.RequestFault.{RequestFault}
 use Rattle.lx_tool.specs.declared.failure.RequestFault.TheVariants.{NoTargets}
-use Rattle.lx_tool.specs.declared.failure.Failure.TheVariants.{Specification, Automaton, Tables, Words, TooManyFiles, InputTwice, Refused, NotRead, Output, Memory}
+use Rattle.lx_tool.specs.declared.failure.Failure.TheVariants.{Specification, Automaton, Tables, Kinds, Words, TooManyFiles, InputTwice, Refused, NotRead, Output, Memory}
 
 -- the specification and the file of the stored run
 abbrev pub stored_specification : List ℕ
@@ -45,45 +45,37 @@ pub record AreListedAs {S : Type 0} (gives : S → List ℕ → PlainInput → S
   pub judged : AreJudged order names
   pub listed : AreListed gives (λ inputs. ListsAsked order.form table names inputs old new) names behind after cut
 
--- They gave the text with this name, whole, of which something was printed.
-pub record IsPrinted {S : Type 0} (gives : S → List ℕ → PlainInput → S → Type 0) (Prints : List ℕ → Type 0) (name : List ℕ) (before after : S) : Type 0 where
+-- They gave the text of which the words print something, whole; `Prints` says what that is, and it went to the output, unless a file gets it.
+pub record IsPrinted {S : Type 0} (gives : S → List ℕ → PlainInput → S → Type 0) (Prints : List ℕ → List ℕ → Type 0) (print : PlainPrint) (before after : S) (old new : Option (List ℕ)) : Type 0 where
   pub text : List ℕ
-  pub given : gives before name (whole text) after
-  pub printed : Prints text
-
--- That was printed to the output; or, where `-o` is given, nothing was.
-abbrev pub HasPrinted : {S : Type 0} → (S → List ℕ → PlainInput → S → Type 0) → (List ℕ → Type 0) → PlainPrint → S → S → Option (List ℕ) → Option (List ℕ) → Type 0
-HasPrinted gives Prints print before after old new =
-    MatchOption print.target (IsPrinted gives Prints print.rules before after) (λ target. Keeps old new)
+  pub given : gives before print.rules (whole text) after
+  pub printed : List ℕ
+  pub prints : Prints text printed
+  pub written : IsWritten print.target printed old new
 
 -- What the words ask for was done; `cut` names the files that were cut short.
 abbrev pub HasDone : {S : Type 0} → (S → List ℕ → PlainInput → S → Type 0) → S → S → Option (List ℕ) → Option (List ℕ) → List (List ℕ) → Asked → Type 0
 HasDone gives before after old new cut stored = ListsByRules stored_specification (whole stored_text ∷ []) old new × (cut ≡ [])
 HasDone gives before after old new cut (run order) = AreListedBy gives (λ text names inputs. ListsByRulesIn order.form text names inputs old new) order before after cut
 HasDone gives before after old new cut (scan order) = AreListedBy gives (λ text names inputs. ListsByTextIn order.form text names inputs old new) order before after cut
-HasDone gives before after old new cut (gen print) = HasPrinted gives (λ text. Generates text old new) print before after old new × (cut ≡ [])
-HasDone gives before after old new cut (up print) = HasPrinted gives (λ text. Upgrades text old new) print before after old new × (cut ≡ [])
+HasDone gives before after old new cut (gen print) = IsPrinted gives (PrintsSpecification print.c) print before after old new × (cut ≡ [])
+HasDone gives before after old new cut (up print) = IsPrinted gives (PrintsTables print.c) print before after old new × (cut ≡ [])
 
 -- ---- what is put into files
 
--- A file got the text of tables of what the sources gave.
-pub record IsPlaced {S T : Type 0} (gives : S → List ℕ → PlainInput → S → Type 0) (places : T → List ℕ → List ℕ → T → Type 0) (AreTables : List ℕ → Table → Type 0) (rules target : List ℕ) (before : S) (old new : T) : Type 0 where
+-- They gave that text, and the file of `-o` got what is printed of it, where it is given; and else none was made.
+pub record HasPlacedText {S T : Type 0} (gives : S → List ℕ → PlainInput → S → Type 0) (places : T → List ℕ → List ℕ → T → Type 0) (Prints : List ℕ → List ℕ → Type 0) (print : PlainPrint) (before : S) (old new : T) : Type 0 where
   pub text : List ℕ
   pub after : S
-  pub given : gives before rules (whole text) after
-  pub table : Table
-  pub tables : AreTables text table
-  pub placed : places old target (text_2 table) new
-
--- the file of `-o` got it, where it is given; and else none was made
-abbrev pub HasPlacedText : {S T : Type 0} → (S → List ℕ → PlainInput → S → Type 0) → (T → List ℕ → List ℕ → T → Type 0) → (List ℕ → Table → Type 0) → PlainPrint → S → T → T → Type 0
-HasPlacedText gives places AreTables print before old new =
-    MatchOption print.target (new ≡ old) (λ target. IsPlaced gives places AreTables print.rules target before old new)
+  pub given : gives before print.rules (whole text) after
+  pub printed : List ℕ
+  pub prints : Prints text printed
+  pub placed : IsPlaced places print.target printed old new
 
 -- What files were made for what the words ask for.
 abbrev pub HasPlaced : {S T : Type 0} → (S → List ℕ → PlainInput → S → Type 0) → (T → List ℕ → List ℕ → T → Type 0) → S → T → T → Option Asked → Type 0
-HasPlaced gives places before old new (Some (gen print)) = HasPlacedText gives places AreTablesOfText print before old new
-HasPlaced gives places before old new (Some (up print)) = HasPlacedText gives places AreTablesIn print before old new
+HasPlaced gives places before old new (Some (gen print)) = HasPlacedText gives places (PrintsSpecification print.c) print before old new
+HasPlaced gives places before old new (Some (up print)) = HasPlacedText gives places (PrintsTables print.c) print before old new
 HasPlaced gives places before old new (Some (run order)) = new ≡ old
 HasPlaced gives places before old new (Some (scan order)) = new ≡ old
 HasPlaced gives places before old new (Some stored) = new ≡ old
@@ -131,8 +123,8 @@ abbrev pub AreRulesRefused : {S : Type 0} → (S → List ℕ → PlainInput →
 AreRulesRefused gives before stored failure = HasNoTables stored_specification failure
 AreRulesRefused gives before (run order) failure = IsTextRefused gives (λ text. HasNoTables text failure) order.rules before
 AreRulesRefused gives before (scan order) failure = IsTextRefused gives (λ text. IsNoTable text failure) order.rules before
-AreRulesRefused gives before (gen print) failure = IsTextRefused gives (λ text. HasNoTables text failure) print.rules before
-AreRulesRefused gives before (up print) failure = IsTextRefused gives (λ text. IsNoTable text failure) print.rules before
+AreRulesRefused gives before (gen print) failure = IsTextRefused gives (λ text. HasNoTables text failure ⊎ AreKindsOfSpecificationRefused print.c text failure) print.rules before
+AreRulesRefused gives before (up print) failure = IsTextRefused gives (λ text. IsNoTable text failure ⊎ AreKindsOfTablesRefused print.c text failure) print.rules before
 
 -- the words of a listing are refused
 abbrev pub AreWordsRefused : PlainOrder → Failure → Type 0
@@ -166,19 +158,20 @@ IsTargetRefused print fault = (fault ≡ NoTargets) × (print.target ≢ None)
 abbrev pub IsPlacingFault : Failure → Type 0
 IsPlacingFault failure = (failure ≡ Refused NoTargets) ⊎ ((failure ≡ Output) ⊎ (failure ≡ Memory))
 
--- the words on the form of a listing, on its files, or on the file of `-o` are refused
+-- the words on the form of a listing, on its files, on the file of `-o`, or on a scanner in C are refused
 abbrev pub IsFormRefused : Asked → RequestFault → Type 0
 IsFormRefused stored fault = ⊥
 IsFormRefused (run order) fault = IsWordsFault order fault
 IsFormRefused (scan order) fault = IsWordsFault order fault
-IsFormRefused (gen print) fault = IsTargetRefused print fault
-IsFormRefused (up print) fault = IsTargetRefused print fault
+IsFormRefused (gen print) fault = IsTargetRefused print fault ⊎ IsScannerFault print.c fault
+IsFormRefused (up print) fault = IsTargetRefused print fault ⊎ IsScannerFault print.c fault
 
 -- why what the words ask for was not done
 abbrev pub HasCause : {S : Type 0} → (S → List ℕ → PlainInput → S → Type 0) → S → Asked → Failure → Type 0
 HasCause gives before asked (Specification fault) = AreRulesRefused gives before asked (Specification fault)
 HasCause gives before asked (Automaton fault) = AreRulesRefused gives before asked (Automaton fault)
 HasCause gives before asked (Tables fault) = AreRulesRefused gives before asked (Tables fault)
+HasCause gives before asked (Kinds fault) = AreRulesRefused gives before asked (Kinds fault)
 HasCause gives before asked (Words error) = ⊥
 HasCause gives before asked TooManyFiles = (max_files < length (files_asked asked)) ⊎ IsRefusedLater gives before asked TooManyFiles
 HasCause gives before asked InputTwice = (1 < inputs_asked asked) ⊎ IsRefusedLater gives before asked InputTwice

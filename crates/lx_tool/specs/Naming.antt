@@ -14,9 +14,9 @@ use Rattle.lx_forms.specs.declared.choosing.ChoiceFault.{ChoiceFault}
 use Rattle.lx_tool.specs.Sources.{whole}
 use Rattle.lx_tool.specs.Statuses.{failure_of_choice}
 use Rattle.lx_tool.specs.declared.failure.Failure.{Failure}
-use Rattle.lx_tool.specs.declared.failure.Failure.TheVariants.{Specification, Automaton, Tables, Words, TooManyFiles, InputTwice, Refused, NotRead, Output, Memory}
+use Rattle.lx_tool.specs.declared.failure.Failure.TheVariants.{Specification, Automaton, Tables, Kinds, Words, TooManyFiles, InputTwice, Refused, NotRead, Output, Memory}
 use Rattle.lx_tool.specs.declared.failure.RequestFault.{RequestFault}
-use Rattle.lx_tool.specs.declared.failure.RequestFault.TheVariants.{NoKind, EmptyKind, NoFormat, NoFile, NoName, NoTargets, NumberTooLarge}
+use Rattle.lx_tool.specs.declared.failure.RequestFault.TheVariants.{NoKind, EmptyKind, NoFormat, NoFile, NoName, NoScanner, NoTargets, Scanner, ScannerAndHeader, NumberTooLarge}
 
 -- ---- the names of files
 
@@ -101,6 +101,9 @@ IsWordsFault order (NoKind word) = ⊥
 IsWordsFault order EmptyKind = ⊥
 IsWordsFault order (NoName line list) = ⊥
 IsWordsFault order NoTargets = ⊥
+IsWordsFault order ScannerAndHeader = ⊥
+IsWordsFault order NoScanner = ⊥
+IsWordsFault order (Scanner f) = ⊥
 IsWordsFault order NumberTooLarge = ⊥
 
 -- why a listing's files or its form are refused, where its tables are these
@@ -112,6 +115,9 @@ IsListingFault gives order table before EmptyKind = IsSomeAnd order.form.only Is
 IsListingFault gives order table before (NoName line list) =
     IsSomeAnd order.list (λ l. (list.now ≡ l.name) × ListSays gives l before (λ text. IsNoName l.separator text line))
 IsListingFault gives order table before NoTargets = ⊥
+IsListingFault gives order table before ScannerAndHeader = ⊥
+IsListingFault gives order table before NoScanner = ⊥
+IsListingFault gives order table before (Scanner f) = ⊥
 IsListingFault gives order table before NumberTooLarge = FilesHave gives order before (λ names. max_number + 1 < order.form.first + length names)
 
 -- LIST names more files than may stand behind those of the words
@@ -123,6 +129,7 @@ abbrev pub IsListingRefused : {S : Type 0} → (S → List ℕ → PlainInput �
 IsListingRefused gives order table before (Specification fault) = ⊥
 IsListingRefused gives order table before (Automaton fault) = ⊥
 IsListingRefused gives order table before (Tables fault) = ⊥
+IsListingRefused gives order table before (Kinds fault) = ⊥
 IsListingRefused gives order table before (Words error) = ⊥
 IsListingRefused gives order table before TooManyFiles = IsListTooLong gives order before
 IsListingRefused gives order table before InputTwice = FilesHave gives order before (λ names. 1 < input_uses order names)
@@ -142,6 +149,9 @@ IsFormatFault words (NoKind word) = ⊥
 IsFormatFault words EmptyKind = ⊥
 IsFormatFault words (NoName line list) = ⊥
 IsFormatFault words NoTargets = ⊥
+IsFormatFault words ScannerAndHeader = ⊥
+IsFormatFault words NoScanner = ⊥
+IsFormatFault words (Scanner f) = ⊥
 IsFormatFault words NumberTooLarge = ⊥
 
 -- these names of files are refused

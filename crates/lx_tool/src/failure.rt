@@ -6,11 +6,13 @@ ghost use Rattle.lx_tool.specs.Statuses.{status_of};
 use crate::target::TargetFault;
 use clap::Error as WordsError;
 use lx_auto::BuildFault;
+use lx_c::OptionFault;
 use lx_forms::ChoiceFault;
 use lx_post::RunFault;
 use lx_spec::fault::{Code, SpecFault};
 use lx_tables::TableFault;
 use std::alloc::{AllocError, AllocFailed};
+use std::fmt::{self, Display, Formatter, Write};
 use thiserror::Error;
 
 /// Why what the words ask for is refused.
@@ -34,9 +36,48 @@ pub enum RequestFault<'a> {
     /// `-o` is given, and no files can be made.
     #[error("-o isn't served here")]
     NoTargets,
+    /// Both `--c` and `--header` are given.
+    #[error("--c and --header exclude one another")]
+    ScannerAndHeader,
+    /// `--prefix` or `--include` is given, and neither `--c` nor `--header`.
+    #[error("--prefix and --include go with --c or --header")]
+    NoScanner,
+    /// What `--prefix` or `--include` says is refused.
+    #[error("{0}")]
+    Scanner(OptionFault),
     /// The last file's number would be above 4,294,967,295.
     #[error("the number of the last file would be above 4294967295")]
     NumberTooLarge,
+}
+
+/// Why the kinds of tables can't be kinds in C.
+#[derive(Debug, Drop)]
+pub enum KindsFault {
+    /// Their numbers would pass 2,147,483,647.
+    Numbers,
+    /// The kind with this name is a word of C or C++.
+    Reserved(Vec<u8>),
+    /// The kind with this name would be declared twice, as the scanner's own names begin so.
+    Declared(Vec<u8>),
+}
+
+impl Display for KindsFault {
+    fn fmt<W: Write>(&self, f: &mut Formatter<W>) -> Result<(), fmt::Error> {
+        match self {
+            KindsFault::Numbers => f.write_str("E40"),
+            KindsFault::Reserved(name) => {
+                write!(f, "{} is a word of C or C++", text_of(name))
+            }
+            KindsFault::Declared(name) => {
+                write!(f, "{} would be declared twice", text_of(name))
+            }
+        }
+    }
+}
+
+// The name of a kind, which is of ASCII.
+fn text_of(name: &[u8]) -> &str {
+    str::from_utf8(name).unwrap_or("a kind")
 }
 
 /// Why a command is not done. Its text is the line on the error stream.
@@ -51,6 +92,9 @@ pub enum Failure<'a> {
     /// A text is no table's.
     #[error("lx: {0}")]
     Tables(TableFault),
+    /// The kinds of tables can't be kinds in C.
+    #[error("lx: {0}")]
+    Kinds(KindsFault),
     /// The words of the command line have no form, as the text says.
     #[error("{0}")]
     Words(WordsError),
@@ -80,7 +124,10 @@ impl Failure<'_> {
         ensures { result ≡ status_of self.now }
     {
         match self {
-            Failure::Specification(_) | Failure::Automaton(_) | Failure::Tables(_) => 1,
+            Failure::Specification(_)
+            | Failure::Automaton(_)
+            | Failure::Tables(_)
+            | Failure::Kinds(_) => 1,
             Failure::Words(_) | Failure::TooManyFiles | Failure::InputTwice | Failure::Refused(_) =>
                 2,
             Failure::NotRead(_) => 3,

@@ -7,13 +7,14 @@ mod given;
 mod merged;
 mod output;
 mod planning;
+mod printing;
 mod program;
 mod reading;
 mod source;
 mod tabling;
 mod target;
 
-pub use failure::{Failure, RequestFault};
+pub use failure::{Failure, KindsFault, RequestFault};
 pub use given::{list_by_specification, list_by_tables};
 pub use lx_lines::{LineWrites, Listing, list_plan, print_listing};
 pub use lx_words::VERSION;
@@ -24,5 +25,5 @@ pub use planning::{
 pub use program::{run, run_with};
 pub use reading::read_to_end;
 pub use source::{ListSources, STANDARD_INPUT, SourceFault, Sources};
-pub use tabling::{generate, tables_of_text, upgrade};
+pub use tabling::tables_of_text;
 pub use target::{NoTargets, TargetFault, Targets};

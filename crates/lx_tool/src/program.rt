@@ -3,8 +3,7 @@
 ghost use Rattle.std.specs.Prelude.{◌≡◌, ◌<◌, ◌≤◌, [], ◌∷◌, Some, IfOk, IfErr, OnOk, IfSome, length};
 ghost use Rattle.std.specs.Io.KnownBytes.{Keeps};
 ghost use Rattle.lx_words.specs.CommandLine.{asked_as, asked_by, plain_order, plain_print, run as run-asked, scan as scan-asked, gen as gen-asked, up as up-asked, words_of};
-ghost use Rattle.lx_tool.specs.Commands.{HasDone, HasEnded, HasFailed, HasObeyed, HasPlaced, IsPlacingFault, stored_specification, stored_text};
-ghost use Rattle.lx_tables.specs.Texts.{text_2};
+ghost use Rattle.lx_tool.specs.Commands.{HasDone, HasEnded, HasFailed, HasObeyed, HasPlaced, stored_specification, stored_text};
 ghost use Rattle.lx_tool.specs.Planning.{ListsByRules};
 ghost use Rattle.lx_tool.specs.Sources.{texts_of, whole};
 ghost use Rattle.lx_tool.specs.Statuses.{HasStatusOfCut, status_of};
@@ -16,12 +15,12 @@ use crate::given::read_whole;
 use crate::output::Output;
 use crate::planning::{list_files, listings_are_by_rules};
 use crate::source::{Sources, make_input};
-use crate::tabling::{generate, read_tables, tables_of_text, upgrade};
+use crate::printing::{judge_scanner_words, named_options, print_asked};
+use crate::tabling::{read_tables, specification_of, tables_of, tables_of_text};
 use crate::target::{NoTargets, Targets};
 use lx_lines::LineWrites;
 use lx_piece::MAX_FILES;
 use lx_scan::ruling::items_are_by_rules;
-use lx_tables::Tables;
 use lx_words::{ALONE, ITEMS, ListRequest, PrintWords, Refusal, Request, read_words};
 use std::alloc::Global;
 use std::io;
@@ -302,26 +301,7 @@ fn list_by_tables_of<'a, R: Threads + Wait + Sync, S: Sources, O: Write>(
     list_asked(rt, alloc, tables, order, sources, list, writes, out)
 }
 
-// Puts the text of tables into a file, in version 2.
-fn place_tables<'a, T: Targets>(
-    alloc: Global,
-    tables: &Tables,
-    target: &str,
-    targets: &mut T,
-) -> Result<(), Failure<'a>>
-    ensures ok { OnOk result (T.places targets.old target.now (text_2 tables.now) targets.new) }
-    ensures err { IfErr result IsPlacingFault }
-{
-    let mut text = Vec::new(alloc);
-    // a list refuses a write for want of memory alone
-    if tables.print(&mut text).is_err() {
-        return Err(Failure::Memory);
-    }
-    targets.place(target, &text)?;
-    Ok(())
-}
-
-// Prints the tables of the specification, or puts them into a file.
+// Prints what the words ask for of the specification, or puts it into a file.
 fn generate_named<'a, S: Sources, T: Targets, O: Write>(
     alloc: Global,
     words: PrintWords<'a>,
@@ -333,17 +313,15 @@ fn generate_named<'a, S: Sources, T: Targets, O: Write>(
     ensures placed { OnOk result (HasPlaced S.gives T.places sources.old targets.old targets.new (Some (gen-asked (plain_print words.entry)))) }
     ensures err { IfErr result (HasFailed S.gives (Some (gen-asked (plain_print words.entry))) sources.old (O.contents out.old) (O.contents out.new)) }
 {
+    judge_scanner_words(alloc, &words.c)?;
     let text = read_whole(alloc, sources, words.rules)?;
-    match words.target {
-        Some(target) => {
-            let tables = tables_of_text(alloc, &text)?;
-            place_tables(alloc, &tables, target, targets)
-        }
-        None => generate(alloc, &text, out),
-    }
+    let spec = specification_of(alloc, &text)?;
+    let tables = tables_of(alloc, &spec)?;
+    let options = named_options(alloc, &words.c, &spec)?;
+    print_asked(alloc, &words, &options, &tables, targets, out)
 }
 
-// Prints tables in version 2, or puts them into a file.
+// Prints what the words ask for of tables, or puts it into a file.
 fn upgrade_named<'a, S: Sources, T: Targets, O: Write>(
     alloc: Global,
     words: PrintWords<'a>,
@@ -355,12 +333,8 @@ fn upgrade_named<'a, S: Sources, T: Targets, O: Write>(
     ensures placed { OnOk result (HasPlaced S.gives T.places sources.old targets.old targets.new (Some (up-asked (plain_print words.entry)))) }
     ensures err { IfErr result (HasFailed S.gives (Some (up-asked (plain_print words.entry))) sources.old (O.contents out.old) (O.contents out.new)) }
 {
+    let options = judge_scanner_words(alloc, &words.c)?;
     let text = read_whole(alloc, sources, words.rules)?;
-    match words.target {
-        Some(target) => {
-            let tables = read_tables(alloc, &text)?;
-            place_tables(alloc, &tables, target, targets)
-        }
-        None => upgrade(alloc, &text, out),
-    }
+    let tables = read_tables(alloc, &text)?;
+    print_asked(alloc, &words, &options, &tables, targets, out)
 }

@@ -1,5 +1,5 @@
 -- What `gen` and `up` ask for where the name begins with no hyphen.
-use Rattle.std.proofs.Common.{◌≡◌, ◌∙◌, Bool, true, false, refl, codes, [], ◌∷◌, Some}
+use Rattle.std.proofs.Common.{◌≡◌, ◌∙◌, ◌++◌, Bool, true, false, refl, codes, List, [], ◌∷◌, Some}
 use Rattle.clap.specs.Faults.{defaults_fault, positional_fault}
 use Rattle.clap.specs.Simple.{filled, help_rule, new_shape}
 use Rattle.clap.specs.Walk.{Walk, arg_by_index, finished, idle, nothing_held, to_positional, walk_from, walked}
@@ -7,7 +7,7 @@ use Rattle.clap.specs.Words.{Rule, Shape, Text}
 use Rattle.clap.specs.declared.builder.action.ArgAction.TheVariants.{Set}
 use Rattle.clap.specs.declared.builder.value_parser.ValueParser.TheVariants as parser
 use Rattle.lx_words.proofs.PlainWords.{Enters, Steps, asks, ending, no_words, standing, step_then, value_goes, value_passes}
-use Rattle.lx_words.specs.CommandLine.{Asked, IsPlainWord, asked_by, asked_of, gen, lx_app, plain_text, rules_rule, target_rule, up}
+use Rattle.lx_words.specs.CommandLine.{Asked, IsPlainWord, asked_by, asked_of, flag_rule, gen, lx_app, option_rule, plain_text, rules_rule, target_rule, up}
 
 -- ---- the two subcommands, as they are built
 
@@ -30,8 +30,14 @@ rules b = record (rules_rule (id b)) {
 abbrev help : Rule
 help = record help_rule { range = Some (record { start_inclusive = 0; end_inclusive = 0 }); parser = Some parser.String }
 
+-- the options that aren't given in such words
+abbrev further_rules : List Rule
+further_rules =
+    filled target_rule ∷ filled (flag_rule (codes "c")) ∷ filled (flag_rule (codes "header"))
+    ∷ filled (option_rule (codes "prefix") (codes "prefix")) ∷ filled (option_rule (codes "include") (codes "include")) ∷ []
+
 abbrev printing : Bool → Shape
-printing b = record (new_shape (name b)) { rules = filled target_rule ∷ rules b ∷ help ∷ []; disable_help_subcommand = true; is_built = true }
+printing b = record (new_shape (name b)) { rules = further_rules ++ rules b ∷ help ∷ []; disable_help_subcommand = true; is_built = true }
 
 enters : (b : Bool) → Enters (name b) (printing b)
 unfolding lx_app walked

@@ -15,6 +15,7 @@ use Rattle.std.specs.declared.alloc.Global.{Global}
 use Rattle.std.specs.declared.string.String.{String}
 use Rattle.lx_piece.specs.Plans.{max_items}
 use Rattle.lx_post.specs.Claimed.{max_workers}
+use Rattle.lx_words.specs.declared.request.CWords.{CWords}
 use Rattle.lx_words.specs.declared.request.FormWords.{FormWords}
 use Rattle.lx_words.specs.declared.request.ListRequest.{ListRequest}
 use Rattle.lx_words.specs.declared.request.ListWords.{ListWords}
@@ -88,9 +89,14 @@ files_rule = record (new_rule (codes "FILE")) {
 abbrev pub target_rule : Rule
 target_rule = record (new_rule (codes "target")) { short = Some 111; value_names = 1 }
 
--- `gen [-o FILE] SPEC` and `up [-o FILE] TABLES`
+-- `[--c] [--header] [--prefix P] [--include FILE]`
+abbrev pub with_c : App → App
+with_c app =
+    with_rule (with_rule (with_rule (with_rule app (flag_rule (codes "c"))) (flag_rule (codes "header"))) (option_rule (codes "prefix") (codes "prefix"))) (option_rule (codes "include") (codes "include"))
+
+-- `gen` and `up`: `[-o FILE]`, the words on a scanner in C, and SPEC or TABLES
 abbrev pub one_file_app : Text → Text → App
-one_file_app name id = with_rule (with_rule (new_app name) target_rule) (rules_rule id)
+one_file_app name id = with_rule (with_c (with_rule (new_app name) target_rule)) (rules_rule id)
 
 -- `[--names] [--only KIND,..] [--no-text] [--format FORMAT]`
 abbrev pub with_form : App → App
@@ -140,10 +146,18 @@ pub record PlainOrder : Type 0 where
   pub list : Option PlainList
   pub form : PlainFormWords
 
--- a text that is printed: the name of what it is made of, and the file that gets it in the place of the output, if it is given
+-- a scanner in C: whether it is printed, whether its declarations are, what its names begin with, if it is given, and the file that declares its kinds, if it is
+pub record PlainC : Type 0 where
+  pub scanner : Bool
+  pub header : Bool
+  pub prefix : Option Text
+  pub include : Option Text
+
+-- a text that is printed: the name of what it is made of, the file that gets it in the place of the output, if it is given, and whether it is a scanner in C
 pub record PlainPrint : Type 0 where
   pub rules : Text
   pub target : Option Text
+  pub c : PlainC
 
 pub data Asked : Type 0 where
   stored : Asked
@@ -202,9 +216,17 @@ request_in id workers rows = record {
   form = form_in rows;
 }
 
+abbrev pub c_in : List Row → PlainC
+c_in rows = record {
+  scanner = flag_in (codes "c") rows;
+  header = flag_in (codes "header") rows;
+  prefix = first_of (codes "prefix") rows;
+  include = first_of (codes "include") rows;
+}
+
 -- a text that is printed
 abbrev pub print_in : Text → List Row → PlainPrint
-print_in id rows = record { rules = rules_in id rows; target = first_of (codes "target") rows }
+print_in id rows = record { rules = rules_in id rows; target = first_of (codes "target") rows; c = c_in rows }
 
 -- what a subcommand asks for, by the rows of its arguments
 abbrev pub asked_of : Text × List Row → Option Asked
@@ -255,8 +277,16 @@ plain_order o = record {
   form = plain_form o.form;
 }
 
+abbrev pub plain_c : CWords → PlainC
+plain_c c = record {
+  scanner = c.scanner;
+  header = c.header;
+  prefix = option_map (λ word. word.now) c.prefix;
+  include = option_map (λ word. word.now) c.include;
+}
+
 abbrev pub plain_print : PrintWords → PlainPrint
-plain_print p = record { rules = p.rules.now; target = option_map (λ name. name.now) p.target }
+plain_print p = record { rules = p.rules.now; target = option_map (λ name. name.now) p.target; c = plain_c p.c }
 
 -- what a request was asked by; the help and the version are none
 abbrev pub asked_as : Request → Option Asked
@@ -316,9 +346,9 @@ plain_listing workers per_piece rules files = record {
   form = record { first = 0; names = false; only = None; text = true; format = None };
 }
 
--- a text that goes to the output
+-- tables that go to the output
 abbrev pub plain_text : Text → PlainPrint
-plain_text rules = record { rules = rules; target = None }
+plain_text rules = record { rules = rules; target = None; c = record { scanner = false; header = false; prefix = None; include = None } }
 
 -- Such words ask for what they say.
 pub record PlainWordsAsk : Type 0 where

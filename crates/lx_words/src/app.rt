@@ -3,7 +3,7 @@
 ghost use Rattle.std.specs.Prelude.{◌≡◌, [], ◌∷◌, IfOk, codes, false};
 ghost use Rattle.clap.specs.Words.{app_of, rule_of};
 ghost use Rattle.clap.specs.declared.builder.Command.TheViews.{out-Command as fields_of};
-ghost use Rattle.lx_words.specs.CommandLine.{files_rule, first_rule, flag_rule, items_rule, list_app, list_rule, lx_app, one_file_app, option_rule, rules_rule, target_rule, with_form, with_list, workers_rule, zeros_rule};
+ghost use Rattle.lx_words.specs.CommandLine.{files_rule, first_rule, flag_rule, items_rule, list_app, list_rule, lx_app, one_file_app, option_rule, rules_rule, target_rule, with_c, with_form, with_list, workers_rule, zeros_rule};
 
 use crate::version::VERSION;
 use clap::{Arg, ArgAction, Command, value_parser};
@@ -30,20 +30,20 @@ fn gen_command<'a>(alloc: Global) -> Result<Command<'a>, AllocError>
     ensures app { IfOk result (λ command. app_of command ≡ one_file_app (codes "gen") (codes "SPEC")) }
     ensures local { IfOk result (λ command. (fields_of command).has_globals ≡ false) }
 {
-    Command::new(alloc, "gen")
-        .about("Prints the tables of a specification")
-        .arg(target(alloc))?
-        .arg(specification(alloc))
+    let command = Command::new(alloc, "gen")
+        .about("Prints the tables of a specification, or a scanner in C")
+        .arg(target(alloc))?;
+    with_c(alloc, command)?.arg(specification(alloc))
 }
 
 fn up_command<'a>(alloc: Global) -> Result<Command<'a>, AllocError>
     ensures app { IfOk result (λ command. app_of command ≡ one_file_app (codes "up") (codes "TABLES")) }
     ensures local { IfOk result (λ command. (fields_of command).has_globals ≡ false) }
 {
-    Command::new(alloc, "up")
-        .about("Prints tables in version 2")
-        .arg(target(alloc))?
-        .arg(tables(alloc))
+    let command = Command::new(alloc, "up")
+        .about("Prints tables in version 2, or as a scanner in C")
+        .arg(target(alloc))?;
+    with_c(alloc, command)?.arg(tables(alloc))
 }
 
 fn run_command<'a>(alloc: Global) -> Result<Command<'a>, AllocError>
@@ -70,6 +70,18 @@ fn scan_command<'a>(alloc: Global) -> Result<Command<'a>, AllocError>
     with_list(alloc, with_form(alloc, command)?)?
         .arg(tables(alloc))?
         .arg(files(alloc))
+}
+
+// The options on a scanner in C.
+fn with_c<'a>(alloc: Global, command: Command<'a>) -> Result<Command<'a>, AllocError>
+    ensures app { IfOk result (λ new. app_of new ≡ with_c (app_of command.entry)) }
+    ensures local { IfOk result (λ new. (fields_of command.entry).has_globals ≡ false → (fields_of new).has_globals ≡ false) }
+{
+    command
+        .arg(scanner(alloc))?
+        .arg(header(alloc))?
+        .arg(prefix(alloc))?
+        .arg(include(alloc))
 }
 
 // The options on the form of a listing.
@@ -176,6 +188,36 @@ fn target<'a>(alloc: Global) -> Arg<'a>
     Arg::new(alloc, "target").short('o').value_name("FILE").help(
         "The file that gets the text, all of it or nothing, in the place of the output",
     )
+}
+
+fn scanner<'a>(alloc: Global) -> Arg<'a>
+    ensures rule { rule_of result ≡ flag_rule (codes "c") }
+    ensures local { result.global ≡ false }
+{
+    flag(alloc, "c", "Prints a scanner in C in the place of tables")
+}
+
+fn header<'a>(alloc: Global) -> Arg<'a>
+    ensures rule { rule_of result ≡ flag_rule (codes "header") }
+    ensures local { result.global ≡ false }
+{
+    flag(alloc, "header", "Prints the declarations of that scanner")
+}
+
+fn prefix<'a>(alloc: Global) -> Arg<'a>
+    ensures rule { rule_of result ≡ option_rule (codes "prefix") (codes "prefix") }
+    ensures local { result.global ≡ false }
+{
+    let help = "What the names of that scanner begin with, and else lx";
+    option(alloc, "prefix", "prefix", "P", help)
+}
+
+fn include<'a>(alloc: Global) -> Arg<'a>
+    ensures rule { rule_of result ≡ option_rule (codes "include") (codes "include") }
+    ensures local { result.global ≡ false }
+{
+    let help = "The file that declares the kinds of that scanner, as bison writes one";
+    option(alloc, "include", "include", "FILE", help)
 }
 
 fn names<'a>(alloc: Global) -> Arg<'a>

@@ -4,11 +4,11 @@ ghost use Rattle.std.specs.Prelude.{◌≡◌, ◌≢◌, ◌≤◌, ◌<◌, If
 ghost use Rattle.clap.specs.Words.{first_of, found_of, kind_of, rows_of, subcommand_rows_of};
 ghost use Rattle.lx_piece.specs.Plans.{max_items};
 ghost use Rattle.lx_post.specs.Claimed.{max_workers};
-ghost use Rattle.lx_words.specs.CommandLine.{IsFault, IsTold, PlainWordsAsk, asked_as, asked_by, asked_of, files_in, first_in, flag_in, form_in, items_in, list_in, request_in, plain_form, plain_list, plain_order, plain_print, print_in, rules_in, workers_in, words_of};
+ghost use Rattle.lx_words.specs.CommandLine.{IsFault, IsTold, PlainWordsAsk, asked_as, asked_by, asked_of, c_in, files_in, first_in, flag_in, form_in, items_in, list_in, request_in, plain_c, plain_form, plain_list, plain_order, plain_print, print_in, rules_in, workers_in, words_of};
 
 use crate::app::command;
 use crate::request::{
-    ALONE, FormWords, ITEMS, ListRequest, ListWords, PrintWords, Refusal, Request,
+    ALONE, CWords, FormWords, ITEMS, ListRequest, ListWords, PrintWords, Refusal, Request,
 };
 use clap::error::ErrorKind;
 use clap::{ArgMatches, Error};
@@ -79,6 +79,19 @@ fn print_words_of<'a>(found: &ArgMatches<'a>, rules: &str) -> PrintWords<'a>
     PrintWords {
         rules: rules_of(found, rules),
         target: value_of(found, "target"),
+        c: c_words_of(found),
+    }
+}
+
+// Whether it is a scanner in C.
+fn c_words_of<'a>(found: &ArgMatches<'a>) -> CWords<'a>
+    ensures { plain_c result ≡ c_in (rows_of (found_of found.now)) }
+{
+    CWords {
+        scanner: has_flag(found, "c"),
+        header: has_flag(found, "header"),
+        prefix: value_of(found, "prefix"),
+        include: value_of(found, "include"),
     }
 }
 

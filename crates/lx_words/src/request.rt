@@ -24,9 +24,9 @@ pub enum Request<'a> {
     Run(ListRequest<'a>),
     /// `scan`: the listing of files by tables.
     Scan(ListRequest<'a>),
-    /// `gen`: the tables of a specification.
+    /// `gen`: the tables of a specification, or a scanner in C.
     Gen(PrintWords<'a>),
-    /// `up`: tables, printed in version 2.
+    /// `up`: tables, printed in version 2 or as a scanner in C.
     Up(PrintWords<'a>),
 }
 
@@ -37,6 +37,21 @@ pub struct PrintWords<'a> {
     pub rules: &'a str,
     /// `-o`: the file that gets the text in the place of the output.
     pub target: Option<&'a str>,
+    /// Whether it is a scanner in C.
+    pub c: CWords<'a>,
+}
+
+/// The words on a scanner in C.
+#[derive(Clone, Copy, Debug)]
+pub struct CWords<'a> {
+    /// `--c`: whether the scanner is printed.
+    pub scanner: bool,
+    /// `--header`: whether its declarations are.
+    pub header: bool,
+    /// `--prefix`: what its names begin with.
+    pub prefix: Option<&'a str>,
+    /// `--include`: the file that declares its kinds.
+    pub include: Option<&'a str>,
 }
 
 /// The words of `run` and of `scan`.

@@ -1,19 +1,55 @@
-use Rattle.std.proofs.lemmas.Result.{on_ok_weaker}
+use Rattle.std.proofs.Common.{inl, inr, refl}
+use Rattle.std.proofs.lemmas.Result.{IfErr-weaker, err_from_is_err_and, on_ok_weaker}
+use Rattle.lx_words.specs.CommandLine.{plain_print, up}
+use Rattle.lx_tool.specs.Printing.{options_by, printed_text}
 use Rattle.lx_tool.specs.Tabling.{AreTablesIn}
+use Rattle.lx_tool.proofs.Obeyed.{keeps_itself, printing_refused, scanner_refused}
 use Rattle.lx_tool.proofs.program.upgrade_named.Goals as goal
 
-pub returns-in-Some-clause-placed : goal.returns-in-Some-clause-placed
-returns-in-Some-clause-placed g c =
-    let table = c.in_ok-tables-in-Some.tables in
-    let made : AreTablesIn c.in_ok-text.text.items table = rw c.deref.ensures.value at c.in_ok-tables-in-Some.ensures.ok in
-    rw c.in-Some.is
-    (on_ok_weaker c.place_tables.result
+pub returns-in_err-options-clause-err : goal.returns-in_err-options-clause-err
+returns-in_err-options-clause-err g c =
+    let p = err_from_is_err_and c.from_residual.result c.from_residual.ensures.1 in
+    let print = plain_print c.args.words in
+    let held = g.O.Write.contents c.args.out.now in
+    rw (p.1, p.2) (scanner_refused g.S.Sources.gives c.args.sources.now held held (up print) print.c (λ fault h. inr h) (keeps_itself held) c.in_err-options.field-0.0 c.in_err-options.ensures.err)
+
+pub returns-clause-ok : goal.returns-clause-ok
+returns-clause-ok g c =
+    let print = plain_print c.args.words in
+    let table = c.in_ok-tables.tables in
+    let made : AreTablesIn c.in_ok-text.text.items table = rw c.deref.ensures.value at c.in_ok-tables.ensures.ok in
+    on_ok_weaker c.print_asked.result
+    (λ h. (record {
+      text = c.in_ok-text.text.items;
+      given = c.in_ok-text.ensures.ok;
+      printed = printed_text print.c (options_by print.c) table;
+      prints = record { table = table; is_table = made.0; of_text = made.1; prints = record { words = c.in_ok-options.ensures.asked; kinds = h.kinds; is = refl } };
+      written = h.written;
+    }, refl))
+    (rw c.in_ok-options.ensures.ok at c.print_asked.ensures.ok)
+
+pub returns-clause-placed : goal.returns-clause-placed
+returns-clause-placed g c =
+    let print = plain_print c.args.words in
+    let table = c.in_ok-tables.tables in
+    let made : AreTablesIn c.in_ok-text.text.items table = rw c.deref.ensures.value at c.in_ok-tables.ensures.ok in
+    on_ok_weaker c.print_asked.result
     (λ h. record {
       text = c.in_ok-text.text.items;
       after = c.read_whole.new.sources;
       given = c.in_ok-text.ensures.ok;
-      table = table;
-      tables = made;
-      placed = h;
+      printed = printed_text print.c (options_by print.c) table;
+      prints = record { table = table; is_table = made.0; of_text = made.1; prints = record { words = c.in_ok-options.ensures.asked; kinds = h.kinds; is = refl } };
+      placed = h.placed;
     })
-    c.place_tables.ensures.ok)
+    (rw c.in_ok-options.ensures.ok at c.print_asked.ensures.placed)
+
+pub returns-clause-err : goal.returns-clause-err
+returns-clause-err g c =
+    let print = plain_print c.args.words in
+    let table = c.in_ok-tables.tables in
+    let made : AreTablesIn c.in_ok-text.text.items table = rw c.deref.ensures.value at c.in_ok-tables.ensures.ok in
+    IfErr-weaker c.print_asked.result _ _
+    (printing_refused g.S.Sources.gives c.args.sources.now (g.O.Write.contents c.args.out.now) (g.O.Write.contents c.print_asked.new.out) (up print) print.c (options_by print.c) table print.target (λ some. inl (refl, some))
+    (λ failure k. record { text = c.in_ok-text.text.items; after = c.read_whole.new.sources; given = c.in_ok-text.ensures.ok; refused = inr (record { table = table; is_table = made.0; of_text = made.1; refused = k }) }))
+    (rw c.in_ok-options.ensures.ok at c.print_asked.ensures.err)

@@ -1,9 +1,9 @@
-use Rattle.std.proofs.lemmas.Result.{err_from_is_err_and}
+use Rattle.std.proofs.lemmas.Result.{IfErr-weaker, IfOk-weaker}
 use Rattle.lx_rules.specs.views.Specs.{spec_view}
-use Rattle.lx_tool.proofs.Tabled.{too_large}
 use Rattle.lx_tool.proofs.tabling.tables_of_text.Goals as goal
 
-pub returns-in_err-automaton-clause-err : goal.returns-in_err-automaton-clause-err
-returns-in_err-automaton-clause-err c =
-    let p = err_from_is_err_and c.from_residual-in_err-automaton.result c.from_residual-in_err-automaton.ensures.1 in
-    rw (p.1, p.2) (too_large c.args.text.now (spec_view c.in_ok-spec.spec) c.in_ok-spec.ensures.spec c.in_err-automaton.field-0.0 c.in_err-automaton.ensures.positions c.in_err-automaton.ensures.sets)
+pub returns-clause-ok : goal.returns-clause-ok
+returns-clause-ok c = IfOk-weaker c.tables_of.result _ _ (λ tables of. record { spec = spec_view c.in_ok-spec.spec; read = c.in_ok-spec.ensures.ok; of_spec = of }) c.tables_of.ensures.ok
+
+pub returns-clause-err : goal.returns-clause-err
+returns-clause-err c = IfErr-weaker c.tables_of.result _ _ (λ failure none. none c.args.text.now c.in_ok-spec.ensures.ok) c.tables_of.ensures.err

@@ -1,0 +1,214 @@
+//! What `gen` and `up` print: tables in version 2, or a scanner in C.
+
+ghost use Rattle.std.specs.Prelude.{◌≡◌, ◌<◌, ◌⊎◌, None, IfOk, IfErr, IsTrue, OnErr, OnOk, codes, map, option_map, unwrap_or};
+ghost use Rattle.std.specs.Io.KnownBytes.{Keeps};
+ghost use Rattle.lx_c.specs.Options.{named};
+ghost use Rattle.lx_rules.specs.views.Rules.{names_view};
+ghost use Rattle.lx_rules.specs.views.Specs.{spec_view};
+ghost use Rattle.lx_tables.specs.Output.{Wrote, WrotePrefix};
+ghost use Rattle.lx_words.specs.CommandLine.{plain_c, plain_print};
+ghost use Rattle.lx_tool.specs.Commands.{IsPlacingFault};
+ghost use Rattle.lx_tool.specs.Printing.{AreKindsRefused, AreScannerWordsRefused, FailsPrinting, IsToldAs, PlacesTables, WritesTables, are_scanner_words, condition_names, is_in_c, kind_named, kinds_fault, options_by, printed_text};
+ghost use Rattle.lx_tool.specs.Statuses.{status_of};
+
+use crate::failure::{Failure, KindsFault, RequestFault};
+use crate::target::Targets;
+use lx_c::{KindFault, Options, judge, print_c, print_header};
+use lx_rules::{Condition, Spec};
+use lx_tables::Tables;
+use lx_words::{CWords, PrintWords};
+use std::alloc::{AllocError, Global};
+use std::io::{self, Write};
+
+// What the names of a scanner begin with where `--prefix` isn't given.
+const PREFIX: &str = "lx";
+
+fn is_in_c(words: &CWords<'_>) -> bool
+    ensures { result ≡ is_in_c (plain_c words.now) }
+{
+    words.scanner || words.header
+}
+
+fn bytes_of(alloc: Global, word: Option<&str>) -> Result<Option<Vec<u8>>, AllocError>
+    ensures { IfOk result (λ bytes. option_map (λ b. b.items) bytes ≡ option_map (λ w. w.now) word.entry) }
+{
+    match word {
+        Some(word) => Ok(Some(Vec::from_slice(alloc, word.as_bytes())?)),
+        None => Ok(None),
+    }
+}
+
+// What the names of a scanner begin with.
+fn prefix_of<'a>(words: &CWords<'a>) -> &'a str
+    ensures { result.now ≡ unwrap_or (option_map (λ word. word.now) words.now.prefix) (codes "lx") }
+{
+    match words.prefix {
+        Some(prefix) => prefix,
+        None => PREFIX,
+    }
+}
+
+// The options of a scanner in C, but for the names of its conditions.
+fn options_of<'a>(alloc: Global, words: &CWords<'a>) -> Result<Options, Failure<'a>>
+    ensures ok { IfOk result (λ options. options ≡ options_by (plain_c words.now)) }
+    ensures err { IfErr result (AreScannerWordsRefused (plain_c words.now)) }
+{
+    let prefix = Vec::from_slice(alloc, prefix_of(words).as_bytes())?;
+    let include = bytes_of(alloc, words.include)?;
+    match Options::of(prefix, Vec::new(alloc), include) {
+        Ok(options) => Ok(options),
+        Err(fault) => Err(Failure::Refused(RequestFault::Scanner(fault))),
+    }
+}
+
+/// Judges the words on a scanner in C. The result are its options, but for the names of its conditions.
+pub(crate) fn judge_scanner_words<'a>(
+    alloc: Global,
+    words: &CWords<'a>,
+) -> Result<Options, Failure<'a>>
+    ensures ok { IfOk result (λ options. options ≡ options_by (plain_c words.now)) }
+    ensures asked { IfOk result (λ options. IsTrue (are_scanner_words (plain_c words.now))) }
+    ensures err { IfErr result (AreScannerWordsRefused (plain_c words.now)) }
+{
+    if words.scanner && words.header {
+        return Err(Failure::Refused(RequestFault::ScannerAndHeader));
+    }
+    if !is_in_c(words) && (words.prefix.is_some() || words.include.is_some()) {
+        return Err(Failure::Refused(RequestFault::NoScanner));
+    }
+    options_of(alloc, words)
+}
+
+// The names of conditions.
+fn names_of(
+    alloc: Global,
+    conditions: &[Condition],
+) -> Result<Vec<Vec<u8>>, AllocError>
+    ensures { IfOk result (λ names. names_view names.items ≡ map (λ condition. condition.name.items) conditions.now) }
+{
+    let mut names = Vec::new(alloc);
+    for condition in conditions {
+        names.push(Vec::from_slice(alloc, &condition.name)?)?;
+    }
+    Ok(names)
+}
+
+/// The options of a scanner in C that the words ask for, with the names of the specification's conditions.
+pub(crate) fn named_options<'a>(
+    alloc: Global,
+    words: &CWords<'a>,
+    spec: &Spec,
+) -> Result<Options, Failure<'a>>
+    ensures ok { IfOk result (λ options. options ≡ named (options_by (plain_c words.now)) (condition_names (spec_view spec.now))) }
+    ensures err { IfErr result (AreScannerWordsRefused (plain_c words.now)) }
+{
+    let options = options_of(alloc, words)?;
+    let names = names_of(alloc, &spec.conditions)?;
+    Ok(options.named(names))
+}
+
+// The name of the kind with a number.
+fn kind_named(alloc: Global, tables: &Tables, number: u32) -> Result<Vec<u8>, AllocError>
+    ensures { IfOk result (λ name. name.items ≡ kind_named tables.now number) }
+{
+    if number < tables.kinds() {
+        Vec::from_slice(alloc, tables.kind(number))
+    } else {
+        Ok(Vec::new(alloc))
+    }
+}
+
+// The fault of kinds, as it is told.
+fn told_of(
+    alloc: Global,
+    tables: &Tables,
+    fault: KindFault,
+) -> Result<KindsFault, AllocError>
+    ensures { IfOk result (IsToldAs tables.now fault) }
+{
+    match fault {
+        KindFault::Numbers => Ok(KindsFault::Numbers),
+        KindFault::Reserved(number) => Ok(KindsFault::Reserved(kind_named(alloc, tables, number)?)),
+        KindFault::Declared(number) => Ok(KindsFault::Declared(kind_named(alloc, tables, number)?)),
+        KindFault::Memory => Err(AllocError),
+    }
+}
+
+// Refuses tables with kinds that can be none in C, where a scanner in C is printed.
+fn judge_kinds<'a>(
+    alloc: Global,
+    words: &CWords<'_>,
+    options: &Options,
+    tables: &Tables,
+) -> Result<(), Failure<'a>>
+    ensures ok { OnOk result (kinds_fault (plain_c words.now) options.now tables.now ≡ None) }
+    ensures err { IfErr result (λ failure. (failure ≡ Failure.Memory) ⊎ AreKindsRefused (plain_c words.now) options.now tables.now failure) }
+{
+    if !is_in_c(words) {
+        return Ok(());
+    }
+    match judge(alloc, tables, options) {
+        Ok(()) => Ok(()),
+        Err(fault) => Err(Failure::Kinds(told_of(alloc, tables, fault)?)),
+    }
+}
+
+// Writes the text.
+fn write_text<W: Write>(
+    words: &CWords<'_>,
+    options: &Options,
+    tables: &Tables,
+    out: &mut W,
+) -> Result<(), io::Error>
+    ensures ok { OnOk result (Wrote (W.contents out.old) (W.contents out.new) (printed_text (plain_c words.now) options.now tables.now)) }
+    ensures err { OnErr result (WrotePrefix (W.contents out.old) (W.contents out.new) (printed_text (plain_c words.now) options.now tables.now)) }
+{
+    if words.scanner {
+        return print_c(out, tables, options);
+    }
+    if words.header {
+        return print_header(out, tables, options);
+    }
+    tables.print(out)
+}
+
+// Puts the text into a file.
+fn place_text<'a, T: Targets>(
+    alloc: Global,
+    words: &CWords<'_>,
+    options: &Options,
+    tables: &Tables,
+    target: &str,
+    targets: &mut T,
+) -> Result<(), Failure<'a>>
+    ensures ok { OnOk result (T.places targets.old target.now (printed_text (plain_c words.now) options.now tables.now) targets.new) }
+    ensures err { IfErr result IsPlacingFault }
+{
+    let mut text = Vec::new(alloc);
+    // a list refuses a write for want of memory alone
+    if write_text(words, options, tables, &mut text).is_err() {
+        return Err(Failure::Memory);
+    }
+    targets.place(target, &text)?;
+    Ok(())
+}
+
+/// Prints tables as the words ask, to the output or into a file.
+pub(crate) fn print_asked<'a, T: Targets, O: Write>(
+    alloc: Global,
+    words: &PrintWords<'a>,
+    options: &Options,
+    tables: &Tables,
+    targets: &mut T,
+    out: &mut O,
+) -> Result<(), Failure<'a>>
+    ensures ok { OnOk result (WritesTables (plain_c words.now.c) options.now tables.now (plain_print words.now).target (O.contents out.old) (O.contents out.new)) }
+    ensures placed { OnOk result (PlacesTables T.places (plain_c words.now.c) options.now tables.now (plain_print words.now).target targets.old targets.new) }
+    ensures err { IfErr result (λ failure. status_of failure < 4 → FailsPrinting (plain_c words.now.c) options.now tables.now (plain_print words.now).target (O.contents out.old) (O.contents out.new) failure) }
+{
+    judge_kinds(alloc, &words.c, options, tables)?;
+    match words.target {
+        Some(target) => place_text(alloc, &words.c, options, tables, target, targets),
+        None => write_text(&words.c, options, tables, out).map_err(|_| Failure::Output),
+    }
+}
