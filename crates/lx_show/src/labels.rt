@@ -3,9 +3,7 @@
 ghost use Rattle.std.specs.Prelude.{◌≡◌, ◌<◌, ◌++◌, OnOk, codes, decimal, length, map, option_map};
 ghost use Rattle.std.specs.List.{flat_map};
 ghost use Rattle.lx_automaton.specs.Automata.{state_count};
-ghost use Rattle.lx_rules.specs.Invariant.{are_steps};
 ghost use Rattle.lx_rules.specs.views.Rules.{names_view};
-ghost use Rattle.lx_scan.specs.ItemParts.{IsKindAmong};
 ghost use Rattle.lx_tables.specs.Model.{rule_at};
 ghost use Rattle.lx_show.specs.Labels as specs;
 
