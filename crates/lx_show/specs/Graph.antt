@@ -27,13 +27,17 @@ edge_text m s class = edge_to m s class (class_target m s class)
 unfoldable pub edges_text : Machine → ℕ → List ℕ
 edges_text m s = flat_map (edge_text m s) (range_with_len 0 m.width)
 
+-- a state as a node
+abbrev pub state_name : ℕ → List ℕ
+state_name s = codes "    " ++ decimal s
+
 -- a state that accepts a rule, with what is done behind the rule's matches
 abbrev pub accepting_line : Table → List (List ℕ) → ℕ → TableRule → List ℕ
 accepting_line table names s rule =
-    codes "    " ++ (decimal s ++ (codes " [shape=doublecircle, label=\"" ++ (decimal s ++ (action_label table names rule ++ codes "\"];\n"))))
+    state_name s ++ (codes " [shape=doublecircle, label=\"" ++ (decimal s ++ (action_label table names rule ++ codes "\"];\n")))
 
 abbrev pub node_by : Table → List (List ℕ) → ℕ → Option ℕ → List ℕ
-node_by table names s None = codes "    " ++ (decimal s ++ codes ";\n")
+node_by table names s None = state_name s ++ codes ";\n"
 node_by table names s (Some rule) = accepting_line table names s (rule_at table rule)
 
 abbrev pub node_line : Table → List (List ℕ) → ℕ → List ℕ
@@ -43,18 +47,25 @@ node_line table names s = node_by table names s (accepted_by table.machine s)
 abbrev pub state_text : Table → List (List ℕ) → ℕ → List ℕ
 state_text table names s = node_line table names s ++ edges_text table.machine s
 
+-- the node of a condition
+abbrev pub begin_text : ℕ → List ℕ
+begin_text c = codes "    begin" ++ decimal c
+
+abbrev pub begin_edge : ℕ → ℕ → List ℕ
+begin_edge c s = begin_text c ++ (codes " -> " ++ decimal s)
+
 -- where a condition begins
 abbrev pub start_edge : ℕ → ℕ → List ℕ
-start_edge c s = codes "    begin" ++ (decimal c ++ (codes " -> " ++ (decimal s ++ codes ";\n")))
+start_edge c s = begin_edge c s ++ codes ";\n"
 
 -- where a condition begins at the beginning of a line, if that is elsewhere
 abbrev pub line_edge : ℕ → ℕ → ℕ → List ℕ
 line_edge c elsewhere s =
     if s == elsewhere then []
-    else codes "    begin" ++ (decimal c ++ (codes " -> " ++ (decimal s ++ codes " [label=\"^\"];\n")))
+    else begin_edge c s ++ codes " [label=\"^\"];\n"
 
 abbrev pub condition_line : List (List ℕ) → ℕ → List ℕ
-condition_line names c = codes "    begin" ++ (decimal c ++ (codes " [shape=plaintext, label=\"" ++ (condition_label names c ++ codes "\"];\n")))
+condition_line names c = begin_text c ++ (codes " [shape=plaintext, label=\"" ++ (condition_label names c ++ codes "\"];\n"))
 
 -- a condition and where it begins
 abbrev pub condition_text : List (List ℕ) → Machine → ℕ → List ℕ

@@ -4,6 +4,7 @@ ghost use Rattle.std.specs.Prelude.{◌≡◌, ◌<◌, ◌≤◌, ◌++◌, OnO
 ghost use Rattle.std.specs.List.{flat_map};
 ghost use Rattle.lx_automaton.specs.Automata.{class_target, state_count};
 ghost use Rattle.lx_show.specs.Graph as specs;
+ghost use Rattle.lx_show.specs.Labels.{is_target};
 
 use crate::labels::{push_number, push_ranges};
 use lx_tables::{State, Tables};
@@ -13,7 +14,7 @@ fn is_target(tables: &Tables, state: u32, target: u32, class: u16) -> bool
     requires state { state < state_count tables.now.machine }
     requires class { class < tables.now.machine.width }
     requires byte { class < 256 }
-    ensures { result ≡ specs.is_target target (class_target tables.now.machine state class) }
+    ensures { result ≡ is_target target (class_target tables.now.machine state class) }
 {
     match tables.class_step(State(state), class as u8) {
         None => false,

@@ -115,6 +115,20 @@ fn push_range_part(
     }
 }
 
+fn push_range_at(
+    text: &mut Vec<u8>,
+    tables: &Tables,
+    state: u32,
+    target: u32,
+    byte: u16,
+) -> Result<(), AllocError>
+    requires state { state < state_count tables.now.machine }
+    requires byte { byte < 256 }
+    ensures { OnOk result (text.new.items ≡ text.old.items ++ specs.range_part (specs.leads tables.now.machine state target) byte) }
+{
+    push_range_part(text, tables, state, target, byte as u8)
+}
+
 /// The ranges of the bytes on which the state steps to the target.
 pub(crate) fn push_ranges(
     text: &mut Vec<u8>,
@@ -125,8 +139,8 @@ pub(crate) fn push_ranges(
     requires { state < state_count tables.now.machine }
     ensures { OnOk result (text.new.items ≡ text.old.items ++ specs.ranges tables.now.machine state target) }
 {
-    for byte in 0..=255 {
-        push_range_part(text, tables, state, target, byte)?;
+    for byte in 0..256 {
+        push_range_at(text, tables, state, target, byte)?;
     }
     Ok(())
 }

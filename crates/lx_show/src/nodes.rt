@@ -11,6 +11,13 @@ use crate::labels::{push_action, push_condition, push_number};
 use lx_tables::{State, Tables};
 use std::alloc::AllocError;
 
+fn push_state_name(text: &mut Vec<u8>, state: u32) -> Result<(), AllocError>
+    ensures { OnOk result (text.new.items ≡ text.old.items ++ specs.state_name state) }
+{
+    text.extend_from_slice(b"    ")?;
+    push_number(text, u64::from(state))
+}
+
 fn push_accepting(
     text: &mut Vec<u8>,
     tables: &Tables,
@@ -21,8 +28,7 @@ fn push_accepting(
     requires { rule < length tables.now.rules }
     ensures { OnOk result (text.new.items ≡ text.old.items ++ specs.accepting_line tables.now (names_view names.now) state (rule_at tables.now rule)) }
 {
-    text.extend_from_slice(b"    ")?;
-    push_number(text, u64::from(state))?;
+    push_state_name(text, state)?;
     text.extend_from_slice(b" [shape=doublecircle, label=\"")?;
     push_number(text, u64::from(state))?;
     push_action(text, tables, names, rule)?;
@@ -40,8 +46,7 @@ fn push_node(
 {
     match tables.accepts(State(state)) {
         None => {
-            text.extend_from_slice(b"    ")?;
-            push_number(text, u64::from(state))?;
+            push_state_name(text, state)?;
             text.extend_from_slice(b";\n")
         }
         Some(rule) => push_accepting(text, tables, names, state, rule),
@@ -62,6 +67,21 @@ pub(crate) fn push_state(
     push_edges(text, tables, state)
 }
 
+fn push_begin(text: &mut Vec<u8>, condition: u16) -> Result<(), AllocError>
+    ensures { OnOk result (text.new.items ≡ text.old.items ++ specs.begin_text condition) }
+{
+    text.extend_from_slice(b"    begin")?;
+    push_number(text, u64::from(condition))
+}
+
+fn push_begin_edge(text: &mut Vec<u8>, condition: u16, state: u32) -> Result<(), AllocError>
+    ensures { OnOk result (text.new.items ≡ text.old.items ++ specs.begin_edge condition state) }
+{
+    push_begin(text, condition)?;
+    text.extend_from_slice(b" -> ")?;
+    push_number(text, u64::from(state))
+}
+
 fn push_condition_line(
     text: &mut Vec<u8>,
     names: &[Vec<u8>],
@@ -69,8 +89,7 @@ fn push_condition_line(
 ) -> Result<(), AllocError>
     ensures { OnOk result (text.new.items ≡ text.old.items ++ specs.condition_line (names_view names.now) condition) }
 {
-    text.extend_from_slice(b"    begin")?;
-    push_number(text, u64::from(condition))?;
+    push_begin(text, condition)?;
     text.extend_from_slice(b" [shape=plaintext, label=\"")?;
     push_condition(text, names, condition)?;
     text.extend_from_slice(b"\"];\n")
@@ -79,10 +98,7 @@ fn push_condition_line(
 fn push_start_edge(text: &mut Vec<u8>, condition: u16, state: u32) -> Result<(), AllocError>
     ensures { OnOk result (text.new.items ≡ text.old.items ++ specs.start_edge condition state) }
 {
-    text.extend_from_slice(b"    begin")?;
-    push_number(text, u64::from(condition))?;
-    text.extend_from_slice(b" -> ")?;
-    push_number(text, u64::from(state))?;
+    push_begin_edge(text, condition, state)?;
     text.extend_from_slice(b";\n")
 }
 
@@ -97,10 +113,7 @@ fn push_line_edge(
     if state == elsewhere {
         return Ok(());
     }
-    text.extend_from_slice(b"    begin")?;
-    push_number(text, u64::from(condition))?;
-    text.extend_from_slice(b" -> ")?;
-    push_number(text, u64::from(state))?;
+    push_begin_edge(text, condition, state)?;
     text.extend_from_slice(b" [label=\"^\"];\n")
 }
 

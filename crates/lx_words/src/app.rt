@@ -1,11 +1,10 @@
 //! The command line of `lx`, as `clap` reads it.
 
 ghost use Rattle.std.specs.Prelude.{◌≡◌, [], ◌∷◌, IfOk, codes, false};
-ghost use Rattle.clap.specs.Words.{app_of, new_rule, rule_of};
+ghost use Rattle.clap.specs.Words.{app_of, rule_of};
 ghost use Rattle.clap.specs.declared.builder.Command.TheViews.{out-Command as fields_of};
-ghost use Rattle.lx_words.specs.CommandLine.{actions_rule, check_app, explain_app, files_rule, first_rule, flag_rule, import_app, items_rule, list_app, list_rule, lx_app, most_rule, one_file_app, option_rule, quiet_rule, rules_rule, show_app, target_rule, warnings_rule, with_c, with_form, with_further, with_list, with_listings, workers_rule, zeros_rule};
+ghost use Rattle.lx_words.specs.CommandLine.{files_rule, first_rule, flag_rule, items_rule, list_app, list_rule, lx_app, one_file_app, option_rule, rules_rule, show_app, target_rule, with_c, with_form, with_further, with_list, with_listings, workers_rule, zeros_rule};
 
-use crate::request::MOST_TOLD;
 use crate::version::VERSION;
 use clap::{Arg, ArgAction, Command, value_parser};
 use lx_piece::MAX_ITEMS;
@@ -39,11 +38,7 @@ fn with_listings<'a>(alloc: Global, command: Command<'a>) -> Result<Command<'a>,
 fn with_further<'a>(alloc: Global, command: Command<'a>) -> Result<Command<'a>, AllocError>
     ensures { IfOk result (λ new. app_of new ≡ with_further (app_of command.entry)) }
 {
-    command
-        .subcommand(check_command(alloc)?)?
-        .subcommand(explain_command(alloc)?)?
-        .subcommand(show_command(alloc)?)?
-        .subcommand(import_command(alloc)?)
+    command.subcommand(show_command(alloc)?)
 }
 
 fn gen_command<'a>(alloc: Global) -> Result<Command<'a>, AllocError>
@@ -92,28 +87,6 @@ fn scan_command<'a>(alloc: Global) -> Result<Command<'a>, AllocError>
         .arg(files(alloc))
 }
 
-fn check_command<'a>(alloc: Global) -> Result<Command<'a>, AllocError>
-    ensures app { IfOk result (λ command. app_of command ≡ check_app) }
-    ensures local { IfOk result (λ command. (fields_of command).has_globals ≡ false) }
-{
-    Command::new(alloc, "check")
-        .about("Says what is wrong with a specification, and what is right but suspicious")
-        .arg(quiet(alloc))?
-        .arg(warnings(alloc))?
-        .arg(most(alloc))?
-        .arg(json(alloc))?
-        .arg(specification(alloc))
-}
-
-fn explain_command<'a>(alloc: Global) -> Result<Command<'a>, AllocError>
-    ensures app { IfOk result (λ command. app_of command ≡ explain_app) }
-    ensures local { IfOk result (λ command. (fields_of command).has_globals ≡ false) }
-{
-    Command::new(alloc, "explain")
-        .about("Says what a code, a cause or a warning means")
-        .arg(word(alloc))
-}
-
 fn show_command<'a>(alloc: Global) -> Result<Command<'a>, AllocError>
     ensures app { IfOk result (λ command. app_of command ≡ show_app) }
     ensures local { IfOk result (λ command. (fields_of command).has_globals ≡ false) }
@@ -122,19 +95,6 @@ fn show_command<'a>(alloc: Global) -> Result<Command<'a>, AllocError>
         .about("Prints the automaton as a graph for Graphviz")
         .arg(all(alloc))?
         .arg(either(alloc))
-}
-
-fn import_command<'a>(alloc: Global) -> Result<Command<'a>, AllocError>
-    ensures app { IfOk result (λ command. app_of command ≡ import_app) }
-    ensures local { IfOk result (λ command. (fields_of command).has_globals ≡ false) }
-{
-    Command::new(alloc, "import")
-        .about("Prints a specification made of one for flex")
-        .arg(target(alloc))?
-        .arg(actions(alloc))?
-        .arg(kinds_prefix(alloc))?
-        .arg(lossy(alloc))?
-        .arg(flex(alloc))
 }
 
 // The options on a scanner in C.
@@ -199,96 +159,11 @@ fn either<'a>(alloc: Global) -> Arg<'a>
         .required(true)
 }
 
-fn flex<'a>(alloc: Global) -> Arg<'a>
-    ensures rule { rule_of result ≡ rules_rule (codes "FLEX") }
-    ensures local { result.global ≡ false }
-{
-    Arg::new(alloc, "FLEX")
-        .help("The specification for flex")
-        .required(true)
-}
-
-fn word<'a>(alloc: Global) -> Arg<'a>
-    ensures rule { rule_of result ≡ new_rule (codes "WORD") }
-    ensures local { result.global ≡ false }
-{
-    Arg::new(alloc, "WORD").help("The code or the name; without it, all are listed")
-}
-
-fn quiet<'a>(alloc: Global) -> Arg<'a>
-    ensures rule { rule_of result ≡ quiet_rule }
-    ensures local { result.global ≡ false }
-{
-    Arg::new(alloc, "quiet")
-        .short('q')
-        .help("Prints the findings alone, without lines of the source and counts")
-        .action(ArgAction::SetTrue)
-}
-
-fn warnings<'a>(alloc: Global) -> Arg<'a>
-    ensures rule { rule_of result ≡ warnings_rule }
-    ensures local { result.global ≡ false }
-{
-    Arg::new(alloc, "warnings")
-        .short('W')
-        .value_name("NAME")
-        .help("Switches a warning on, or off as no-NAME; all, and error: warnings are errors")
-        .action(ArgAction::Append)
-}
-
-fn most<'a>(alloc: Global) -> Arg<'a>
-    ensures rule { rule_of result ≡ most_rule }
-    ensures local { result.global ≡ false }
-{
-    option(
-        alloc,
-        "most",
-        "most",
-        "N",
-        "How many errors are said, from 1 to 100",
-    )
-    .value_parser(value_parser!(u8).range(1..=i64::from(MOST_TOLD)))
-    .default_value("20")
-}
-
-fn json<'a>(alloc: Global) -> Arg<'a>
-    ensures rule { rule_of result ≡ flag_rule (codes "json") }
-    ensures local { result.global ≡ false }
-{
-    flag(alloc, "json", "Prints the findings as SARIF 2.1.0")
-}
-
 fn all<'a>(alloc: Global) -> Arg<'a>
     ensures rule { rule_of result ≡ flag_rule (codes "all") }
     ensures local { result.global ≡ false }
 {
     flag(alloc, "all", "Prints automata of more than 200 states too")
-}
-
-fn actions<'a>(alloc: Global) -> Arg<'a>
-    ensures rule { rule_of result ≡ actions_rule }
-    ensures local { result.global ≡ false }
-{
-    Arg::new(alloc, "actions")
-        .short('c')
-        .value_name("FILE")
-        .help("The file that gets the actions in C")
-}
-
-fn kinds_prefix<'a>(alloc: Global) -> Arg<'a>
-    ensures rule { rule_of result ≡ option_rule (codes "prefix") (codes "prefix") }
-    ensures local { result.global ≡ false }
-{
-    let help = "What kinds begin with in that file, in small letters, and else lx";
-    option(alloc, "prefix", "prefix", "P", help)
-}
-
-fn lossy<'a>(alloc: Global) -> Arg<'a>
-    ensures rule { rule_of result ≡ flag_rule (codes "lossy") }
-    ensures local { result.global ≡ false }
-{
-    let help = "Makes kinds of rules of what can't be brought over, in the place of a refusal";
-    flag(alloc, "lossy", help)
 }
 
 fn items<'a>(alloc: Global) -> Arg<'a>

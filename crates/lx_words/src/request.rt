@@ -3,7 +3,6 @@
 ghost use Rattle.std.specs.Prelude.{◌<◌, ◌≤◌};
 ghost use Rattle.lx_piece.specs.Plans.{max_items};
 ghost use Rattle.lx_post.specs.Claimed.{max_workers};
-ghost use Rattle.lx_words.specs.Limits.{most_told};
 
 use clap::Error;
 use std::alloc::AllocError;
@@ -13,12 +12,6 @@ pub const ITEMS: u32 = 256;
 
 /// No workers: the calling thread scans the files itself, as `run` does where `-j` is not given.
 pub const ALONE: u8 = 0;
-
-/// How many errors `check` says at most where `--most` is not given.
-pub const TOLD: u8 = 20;
-
-/// The greatest number of `--most`.
-pub const MOST_TOLD: u8 = 100;
 
 /// What the words of the command line ask for.
 #[derive(Drop)]
@@ -35,31 +28,8 @@ pub enum Request<'a> {
     Gen(PrintWords<'a>),
     /// `up`: tables, printed in version 2 or as a scanner in C.
     Up(PrintWords<'a>),
-    /// `check`: what is wrong with a specification.
-    Check(CheckWords<'a>),
-    /// `explain`: what a code or a name means, or all of them.
-    Explain(Option<&'a str>),
     /// `show`: the automaton as a graph.
     Show(ShowWords<'a>),
-    /// `import`: a specification made of one for flex.
-    Import(ImportWords<'a>),
-}
-
-/// The words of `check`.
-#[derive(Drop)]
-pub struct CheckWords<'a> {
-    /// The name of the specification.
-    pub rules: &'a str,
-    /// `-q`: whether the findings are printed alone.
-    pub quiet: bool,
-    /// `-W`: the names of warnings, in order.
-    pub warnings: Vec<&'a str>,
-    /// `--most`: how many errors are said at most.
-    pub most: u8,
-    /// `--json`: whether the findings are printed as SARIF.
-    pub json: bool,
-    ghost some: { 0 < most },
-    ghost few: { most ≤ most_told },
 }
 
 /// The words of `show`.
@@ -69,21 +39,6 @@ pub struct ShowWords<'a> {
     pub rules: &'a str,
     /// `--all`: whether automata of any number of states are printed.
     pub all: bool,
-}
-
-/// The words of `import`.
-#[derive(Clone, Copy, Debug)]
-pub struct ImportWords<'a> {
-    /// The name of the specification for flex.
-    pub rules: &'a str,
-    /// `-o`: the file that gets the specification in the place of the output.
-    pub target: Option<&'a str>,
-    /// `-c`: the file that gets the actions.
-    pub actions: Option<&'a str>,
-    /// `--prefix`: what the names of kinds begin with there.
-    pub prefix: Option<&'a str>,
-    /// `--lossy`: whether what can't be brought over is left away.
-    pub lossy: bool,
 }
 
 /// The words of `gen` and of `up`.
