@@ -23,3 +23,8 @@ text_next text old mid new n i l h k =
 pub text_end : (text : ℕ → List ℕ) (old mid : List ℕ) (n i : ℕ) → n ≤ i → mid ≡ old ++ flat_map text (take i (range_with_len 0 n)) → mid ≡ old ++ flat_map text (range_with_len 0 n)
 text_end text old mid n i l h =
     h ∙ ap (λ xs. old ++ flat_map text xs) (take_all i (range_with_len 0 n) (omega (arith, length-range_with_len 0 n)))
+
+-- three texts, one behind the other
+pub three : (old one two new x y z : List ℕ) → one ≡ old ++ x → two ≡ one ++ y → new ≡ two ++ z → new ≡ old ++ (x ++ (y ++ z))
+three old one two new x y z h k l =
+    l ∙ (ap (λ bs. bs ++ z) (k ∙ ap (λ bs. bs ++ y) h) ∙ (append_assoc (old ++ x) y z ∙ append_assoc old x (y ++ z)))

@@ -31,10 +31,13 @@ edges_text m s = flat_map (edge_text m s) (range_with_len 0 m.width)
 abbrev pub state_name : ℕ → List ℕ
 state_name s = codes "    " ++ decimal s
 
+-- it has a second circle, and a label that begins with its number
+abbrev pub accepting_name : ℕ → List ℕ
+accepting_name s = state_name s ++ (codes " [shape=doublecircle, label=\"" ++ decimal s)
+
 -- a state that accepts a rule, with what is done behind the rule's matches
 abbrev pub accepting_line : Table → List (List ℕ) → ℕ → TableRule → List ℕ
-accepting_line table names s rule =
-    state_name s ++ (codes " [shape=doublecircle, label=\"" ++ (decimal s ++ (action_label table names rule ++ codes "\"];\n")))
+accepting_line table names s rule = accepting_name s ++ (action_label table names rule ++ codes "\"];\n")
 
 abbrev pub node_by : Table → List (List ℕ) → ℕ → Option ℕ → List ℕ
 node_by table names s None = state_name s ++ codes ";\n"

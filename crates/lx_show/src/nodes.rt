@@ -7,7 +7,7 @@ ghost use Rattle.lx_tables.specs.Model.{rule_at};
 ghost use Rattle.lx_show.specs.Graph as specs;
 
 use crate::edges::push_edges;
-use crate::labels::{push_action, push_condition, push_number};
+use crate::labels::{push, push_action, push_condition, push_number};
 use lx_tables::{State, Tables};
 use std::alloc::AllocError;
 
@@ -15,6 +15,14 @@ fn push_state_name(text: &mut Vec<u8>, state: u32) -> Result<(), AllocError>
     ensures { OnOk result (text.new.items ≡ text.old.items ++ specs.state_name state) }
 {
     text.extend_from_slice(b"    ")?;
+    push_number(text, u64::from(state))
+}
+
+fn push_accepting_name(text: &mut Vec<u8>, state: u32) -> Result<(), AllocError>
+    ensures { OnOk result (text.new.items ≡ text.old.items ++ specs.accepting_name state) }
+{
+    push_state_name(text, state)?;
+    push(text, b" [shape=doublecircle, label=\"")?;
     push_number(text, u64::from(state))
 }
 
@@ -28,9 +36,7 @@ fn push_accepting(
     requires { rule < length tables.now.rules }
     ensures { OnOk result (text.new.items ≡ text.old.items ++ specs.accepting_line tables.now (names_view names.now) state (rule_at tables.now rule)) }
 {
-    push_state_name(text, state)?;
-    text.extend_from_slice(b" [shape=doublecircle, label=\"")?;
-    push_number(text, u64::from(state))?;
+    push_accepting_name(text, state)?;
     push_action(text, tables, names, rule)?;
     text.extend_from_slice(b"\"];\n")
 }
