@@ -3,6 +3,5 @@ pub mod NamesRefused
 pub mod Obeyed
 pub mod Planned
 pub mod ReadOn
-pub mod Shown
 pub mod SourceLemmas
 pub mod Tabled

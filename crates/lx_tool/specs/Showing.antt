@@ -1,5 +1,5 @@
 -- What `show` prints: the automaton of a specification, or of tables, as a graph.
-use Rattle.std.specs.Prelude.{◌≡◌, ◌<◌, ◌≤◌, ◌⊎◌, ℕ, Bool, false, not, nat_eq, IsTrue, List, [], Option, codes}
+use Rattle.std.specs.Prelude.{◌≡◌, ◌<◌, ◌≤◌, ◌⊎◌, ℕ, Bool, true, false, nat_eq, List, [], Option, codes}
 use Rattle.std.specs.Io.KnownBytes.{Appends}
 use Rattle.std.specs.List.{starts_with}
 use Rattle.lx_rules.specs.Plain.{PlainSpec}
@@ -35,14 +35,14 @@ pub record AreShownOfSpecification (text : List ℕ) (table : Table) (names : Li
 -- The tables that are shown of a text, and the names of their conditions, which tables have not.
 abbrev pub AreShown : List ℕ → Table → List (List ℕ) → Type 0
 AreShown text table names =
-    (IsTrue (begins_as_tables text) × AreTablesIn text table × (names ≡ []))
-    ⊎ (IsTrue (not (begins_as_tables text)) × AreShownOfSpecification text table names)
+    ((begins_as_tables text ≡ true) × AreTablesIn text table × (names ≡ []))
+    ⊎ ((begins_as_tables text ≡ false) × AreShownOfSpecification text table names)
 
 -- The text has none.
 abbrev pub HasNoneShown : List ℕ → Failure → Type 0
 HasNoneShown text failure =
-    (IsTrue (begins_as_tables text) × IsNoTable text failure)
-    ⊎ (IsTrue (not (begins_as_tables text)) × HasNoTables text failure)
+    ((begins_as_tables text ≡ true) × IsNoTable text failure)
+    ⊎ ((begins_as_tables text ≡ false) × HasNoTables text failure)
 
 -- they have more states than are shown
 pub record HasManyStates (all : Bool) (table : Table) (failure : Failure) : Type 0 where

@@ -1,6 +1,7 @@
 //! What `show` prints: the automaton as a graph.
 
 ghost use Rattle.std.specs.Prelude.{◌≡◌, ◌≤◌, [], IfOk, IfErr, OnOk, Some, false};
+ghost use Rattle.std.specs.Io.KnownBytes.{Appends};
 ghost use Rattle.lx_automaton.specs.Automata.{state_count};
 ghost use Rattle.lx_rules.specs.views.Rules.{names_view};
 ghost use Rattle.lx_words.specs.CommandLine.{plain_show, show as show-asked};
@@ -70,6 +71,13 @@ fn judge_size<'a>(words: &ShowWords<'_>, tables: &Tables) -> Result<(), Failure<
     Err(Failure::Unprintable(PrintFault::TooManyStates(tables.states())))
 }
 
+fn write_graph<'a, O: Write>(graph: &[u8], out: &mut O) -> Result<(), Failure<'a>>
+    ensures ok { OnOk result (Appends (O.contents out.old) (O.contents out.new) graph.now) }
+    ensures err { IfErr result (λ failure. failure ≡ Failure.Output) }
+{
+    out.write_all(graph).map_err(|_| Failure::Output)
+}
+
 /// Prints the automaton of a specification, or of tables, as a graph.
 pub(crate) fn show_named<'a, S: Sources, O: Write>(
     alloc: Global,
@@ -84,5 +92,5 @@ pub(crate) fn show_named<'a, S: Sources, O: Write>(
     let shown = shown_of(alloc, &text)?;
     judge_size(&words, &shown.tables)?;
     let graph = graph_of(alloc, &shown.tables, &shown.names)?;
-    out.write_all(&graph).map_err(|_| Failure::Output)
+    write_graph(&graph, out)
 }
