@@ -8,7 +8,7 @@ use Rattle.lx_tool.specs.Given.{AreListed, ArePartlyListed, AreRead, FailsListin
 use Rattle.lx_tool.specs.Planning.{AreBytes, ListsBy, ListsPrefixBy}
 use Rattle.lx_tool.specs.Statuses.{failure_of_run}
 use Rattle.lx_tool.specs.declared.failure.Failure.{Failure}
-use Rattle.lx_tool.specs.declared.failure.Failure.TheVariants.{Specification, Automaton, Tables, Kinds, Words, TooManyFiles, InputTwice, Refused, NotRead, Output, Memory}
+use Rattle.lx_tool.specs.declared.failure.Failure.TheVariants.{Specification, Automaton, Tables, Unprintable, Words, TooManyFiles, InputTwice, Refused, NotRead, Output, Memory}
 use Rattle.lx_post.specs.declared.run_fault.RunFault.{RunFault}
 use Rattle.lx_post.specs.declared.run_fault.RunFault.TheVariants as run
 
@@ -51,7 +51,7 @@ pub fails_as_well : {S : Type 0} (P Q : Failure → Type 0) (Part OtherPart : Ty
 fails_as_well P Q Part OtherPart names before after old new refused part (Specification fault) h = (refused (Specification fault) h.0, h.1)
 fails_as_well P Q Part OtherPart names before after old new refused part (Automaton fault) h = (refused (Automaton fault) h.0, h.1)
 fails_as_well P Q Part OtherPart names before after old new refused part (Tables fault) h = (refused (Tables fault) h.0, h.1)
-fails_as_well P Q Part OtherPart names before after old new refused part (Kinds fault) h = h
+fails_as_well P Q Part OtherPart names before after old new refused part (Unprintable fault) h = h
 fails_as_well P Q Part OtherPart names before after old new refused part (Words error) h = h
 fails_as_well P Q Part OtherPart names before after old new refused part TooManyFiles h = h
 fails_as_well P Q Part OtherPart names before after old new refused part InputTwice h = h

@@ -8,11 +8,12 @@ use Rattle.lx_tables.specs.Model.{Table}
 use Rattle.lx_piece.specs.Plans.{PlainInput, max_files}
 use Rattle.lx_tables.specs.Output.{Wrote}
 use Rattle.lx_c.specs.Options.{Options, named}
-use Rattle.lx_words.specs.CommandLine.{Asked, PlainC, PlainFormWords, PlainOrder, PlainPrint, stored, run, scan, gen, up}
+use Rattle.lx_words.specs.CommandLine.{Asked, PlainC, PlainFormWords, PlainOrder, PlainPrint, PlainShow, stored, run, scan, gen, up, show}
 use Rattle.lx_tool.specs.Commands.{AreRulesRefused, AreWordsRefused, HasDone, HasEnded, HasFailed, HasObeyed, IsCutShort, IsFormRefused, IsPrinted, IsRefused, IsRefusedLater, files_asked, inputs_asked, names_asked, stored_specification, stored_text}
 use Rattle.lx_tool.specs.Given.{AreListed, IsNoTable, IsUnread}
 use Rattle.lx_tool.specs.Naming.{IsListingRefused, IsWordsFault, input_uses}
 use Rattle.lx_tool.specs.Planning.{AreBytes, ListsByRules, ListsByRulesIn, ListsByTextIn}
+use Rattle.lx_tool.specs.Showing.{HasManyStates, HasNoneShown, IsNotShown, IsShown}
 use Rattle.lx_tool.specs.Sources.{texts_of, whole}
 use Rattle.lx_tool.specs.Statuses.{HasStatusOfCut, HidesNoMemory, status_of}
 use Rattle.lx_tool.specs.Printing.{AreKindsRefused, AreScannerWordsRefused, FailsPrinting, IsScannerFault, IsWritten, PrintsSpecification, PrintsTables}
@@ -20,7 +21,7 @@ use Rattle.lx_tool.specs.Tabling.{HasNoTables}
 use Rattle.lx_tool.specs.declared.failure.Failure.{Failure}
 use Rattle.lx_tool.specs.declared.failure.RequestFault.{RequestFault}
 use Rattle.lx_tool.specs.declared.failure.RequestFault.TheVariants.{NoTargets}
-use Rattle.lx_tool.specs.declared.failure.Failure.TheVariants.{Specification, Automaton, Tables, Kinds, Words, TooManyFiles, InputTwice, Refused, NotRead, Output, Memory}
+use Rattle.lx_tool.specs.declared.failure.Failure.TheVariants.{Specification, Automaton, Tables, Unprintable, Words, TooManyFiles, InputTwice, Refused, NotRead, Output, Memory}
 
 -- ---- what a writer holds
 
@@ -74,6 +75,9 @@ module _ (old mid new : Option (List ℕ)) (kept : Keeps mid new) where
     printed_kept : (Prints : List ℕ → List ℕ → Type 0) (print : PlainPrint) → IsPrinted gives Prints print before after old mid → IsPrinted gives Prints print before after old new
     printed_kept Prints print h = record { text = h.text; given = h.given; printed = h.printed; prints = h.prints; written = written_kept print.target h.printed h.written }
 
+    shown_kept : (s : PlainShow) → IsShown gives s before after old mid → IsShown gives s before after old new
+    shown_kept s h = record { text = h.text; given = h.given; table = h.table; names = h.names; shown = h.shown; few = h.few; wrote = appends_kept old mid new _ h.wrote kept }
+
     -- what was done stands after the last flush
     pub obeyed_kept : (asked : Option Asked) → HasObeyed gives before after old mid cut asked → HasObeyed gives before after old new cut asked
     obeyed_kept None h = h
@@ -100,6 +104,7 @@ module _ (old mid new : Option (List ℕ)) (kept : Keeps mid new) where
     }
     obeyed_kept (Some (gen print)) h = (printed_kept (PrintsSpecification print.c) print h.0, h.1)
     obeyed_kept (Some (up print)) h = (printed_kept (PrintsTables print.c) print h.0, h.1)
+    obeyed_kept (Some (show s)) h = (shown_kept s h.0, h.1)
 
 -- ---- refusals
 
@@ -107,7 +112,7 @@ pub no_tables_tells : (text : List ℕ) (failure : Failure) → HasNoTables text
 no_tables_tells text (Specification fault) h = h.0
 no_tables_tells text (Automaton fault) h = h.known
 no_tables_tells text (Tables fault) h = absurd h
-no_tables_tells text (Kinds fault) h = tt
+no_tables_tells text (Unprintable fault) h = tt
 no_tables_tells text (Words error) h = absurd h
 no_tables_tells text TooManyFiles h = tt
 no_tables_tells text InputTwice h = tt
@@ -120,7 +125,7 @@ pub no_table_tells : (text : List ℕ) (failure : Failure) → IsNoTable text fa
 no_table_tells text (Specification fault) h = absurd h
 no_table_tells text (Automaton fault) h = absurd h
 no_table_tells text (Tables fault) h = λ e. let f = h.0 in cc
-no_table_tells text (Kinds fault) h = tt
+no_table_tells text (Unprintable fault) h = tt
 no_table_tells text (Words error) h = absurd h
 no_table_tells text TooManyFiles h = tt
 no_table_tells text InputTwice h = tt
@@ -143,7 +148,7 @@ module _ {S : Type 0} (gives : S → List ℕ → PlainInput → S → Type 0) (
   rules_refused asked Refuses refused tells kept few once listing known words (Specification fault) h = λ low. record { cause = refused (Specification fault) h; tells = tells (Specification fault) h; kept = kept }
   rules_refused asked Refuses refused tells kept few once listing known words (Automaton fault) h = λ low. record { cause = refused (Automaton fault) h; tells = tells (Automaton fault) h; kept = kept }
   rules_refused asked Refuses refused tells kept few once listing known words (Tables fault) h = λ low. record { cause = refused (Tables fault) h; tells = tells (Tables fault) h; kept = kept }
-  rules_refused asked Refuses refused tells kept few once listing known words (Kinds fault) h = λ low. record { cause = refused (Kinds fault) h; tells = tells (Kinds fault) h; kept = kept }
+  rules_refused asked Refuses refused tells kept few once listing known words (Unprintable fault) h = λ low. record { cause = refused (Unprintable fault) h; tells = tells (Unprintable fault) h; kept = kept }
   rules_refused asked Refuses refused tells kept few once listing known words (Words error) h = absurd (words error h)
   rules_refused asked Refuses refused tells kept few once listing known words TooManyFiles h = absurd (few h)
   rules_refused asked Refuses refused tells kept few once listing known words InputTwice h = absurd (once h)
@@ -165,7 +170,7 @@ module _ {S : Type 0} (gives : S → List ℕ → PlainInput → S → Type 0) (
   later_refused asked order table between later (Specification fault) h = λ low. absurd (h low).0
   later_refused asked order table between later (Automaton fault) h = λ low. absurd (h low).0
   later_refused asked order table between later (Tables fault) h = λ low. absurd (h low).0
-  later_refused asked order table between later (Kinds fault) h = λ low. absurd (h low).0
+  later_refused asked order table between later (Unprintable fault) h = λ low. absurd (h low).0
   later_refused asked order table between later (Words error) h = λ low. absurd (h low).0
   later_refused asked order table between later TooManyFiles h = λ low. record { cause = inr (later TooManyFiles (h low).0); tells = tt; kept = (h low).2 }
   later_refused asked order table between later InputTwice h = λ low. record { cause = inr (later InputTwice (h low).0); tells = tt; kept = (h low).2 }
@@ -179,7 +184,7 @@ module _ {S : Type 0} (gives : S → List ℕ → PlainInput → S → Type 0) (
   rules_unread asked name among kept (Specification fault) h = absurd h
   rules_unread asked name among kept (Automaton fault) h = absurd h
   rules_unread asked name among kept (Tables fault) h = absurd h
-  rules_unread asked name among kept (Kinds fault) h = absurd h
+  rules_unread asked name among kept (Unprintable fault) h = absurd h
   rules_unread asked name among kept (Words error) h = absurd h
   rules_unread asked name among kept TooManyFiles h = absurd h
   rules_unread asked name among kept InputTwice h = absurd h
@@ -217,6 +222,19 @@ module _ {S : Type 0} (gives : S → List ℕ → PlainInput → S → Type 0) (
     pub printing_refused : (failure : Failure) → (status_of failure < 4 → FailsPrinting c o table target old new failure) → HasFailed gives (Some asked) before old new failure
     printing_refused failure h = λ low. for_cause failure (h low).kept (h low).cause
 
+  -- the text has nothing that can be shown
+  pub show_refused : (s : PlainShow) (text : List ℕ) → ((failure : Failure) → IsNotShown s text failure → AreRulesRefused gives before (show s) failure) → Keeps old new →
+      (failure : Failure) → HasNoneShown text failure → HasFailed gives (Some (show s)) before old new failure
+  show_refused s text refused kept failure (inl h) =
+      rules_refused (show s) (IsNoTable text) (λ f r. refused f (inl (inl (h.0, r)))) (no_table_tells text) kept (λ r. absurd r) (λ r. absurd r) (λ fault r. absurd r) (λ name r. absurd r) (λ error r. absurd r) failure h.1
+  show_refused s text refused kept failure (inr h) =
+      rules_refused (show s) (HasNoTables text) (λ f r. refused f (inl (inr (h.0, r)))) (no_tables_tells text) kept (λ r. absurd r) (λ r. absurd r) (λ fault r. absurd r) (λ name r. absurd r) (λ error r. absurd r) failure h.1
+
+  -- or too much
+  pub show_too_large : (s : PlainShow) (table : Table) → ((failure : Failure) → HasManyStates s.all table failure → AreRulesRefused gives before (show s) failure) → Keeps old new →
+      (failure : Failure) → HasManyStates s.all table failure → HasFailed gives (Some (show s)) before old new failure
+  show_too_large s table refused kept failure h = rw h.told (λ low. record { cause = subst (AreRulesRefused gives before (show s)) h.told (refused failure h); tells = tt; kept = kept })
+
   -- the stored specification was refused
   pub stored_refused : (failure : Failure) → (status_of failure < 4 → HasNoTables stored_specification failure × Keeps old new) → HasFailed gives (Some stored) before old new failure
   stored_refused failure h = λ low. rules_refused stored (HasNoTables stored_specification) (λ f r. r) (no_tables_tells stored_specification) (h low).1 (λ r. absurd r) (λ r. absurd r) (λ fault r. absurd r) (λ name r. absurd r) (λ error r. absurd r) failure (h low).0 low
@@ -251,7 +269,7 @@ some_status : (failure : Failure) → 0 < status_of failure
 some_status (Specification fault) = omega arith
 some_status (Automaton fault) = omega arith
 some_status (Tables fault) = omega arith
-some_status (Kinds fault) = omega arith
+some_status (Unprintable fault) = omega arith
 some_status (Words error) = omega arith
 some_status TooManyFiles = omega arith
 some_status InputTwice = omega arith

@@ -4,10 +4,11 @@ use Rattle.std.specs.Option.{option_map_or}
 use Rattle.std.specs.Io.KnownBytes.{Keeps}
 use Rattle.lx_tables.specs.Model.{Table}
 use Rattle.lx_piece.specs.Plans.{PlainInput, max_files}
-use Rattle.lx_words.specs.CommandLine.{Asked, PlainOrder, PlainPrint, stored, run, scan, gen, up}
+use Rattle.lx_words.specs.CommandLine.{Asked, PlainOrder, PlainPrint, stored, run, scan, gen, up, show}
 use Rattle.lx_tool.specs.Given.{AreListed, IsNoTable}
 use Rattle.lx_tool.specs.Naming.{AreFileNames, AreJudged, IsListingRefused, IsWordsFault, input_count, input_uses}
 use Rattle.lx_tool.specs.Planning.{ListsAsked, ListsByRules, ListsByRulesIn, ListsByTextIn}
+use Rattle.lx_tool.specs.Showing.{IsNotShown, IsShown}
 use Rattle.lx_tool.specs.Sources.{whole}
 use Rattle.lx_tool.specs.Statuses.{HidesNoMemory, status_of}
 use Rattle.lx_tool.specs.Printing.{AreKindsOfSpecificationRefused, AreKindsOfTablesRefused, IsPlaced, IsScannerFault, IsWritten, PrintsSpecification, PrintsTables}
@@ -15,7 +16,7 @@ use Rattle.lx_tool.specs.Tabling.{AreTablesIn, AreTablesOfText, HasNoTables}
 use Rattle.lx_tool.specs.declared.failure.Failure.{Failure}
 use Rattle.lx_tool.specs.declared.failure.RequestFault.{RequestFault}
 use Rattle.lx_tool.specs.declared.failure.RequestFault.TheVariants.{NoTargets}
-use Rattle.lx_tool.specs.declared.failure.Failure.TheVariants.{Specification, Automaton, Tables, Kinds, Words, TooManyFiles, InputTwice, Refused, NotRead, Output, Memory}
+use Rattle.lx_tool.specs.declared.failure.Failure.TheVariants.{Specification, Automaton, Tables, Unprintable, Words, TooManyFiles, InputTwice, Refused, NotRead, Output, Memory}
 
 -- the specification and the file of the stored run
 abbrev pub stored_specification : List ℕ
@@ -60,6 +61,7 @@ HasDone gives before after old new cut (run order) = AreListedBy gives (λ text 
 HasDone gives before after old new cut (scan order) = AreListedBy gives (λ text names inputs. ListsByTextIn order.form text names inputs old new) order before after cut
 HasDone gives before after old new cut (gen print) = IsPrinted gives (PrintsSpecification print.c) print before after old new × (cut ≡ [])
 HasDone gives before after old new cut (up print) = IsPrinted gives (PrintsTables print.c) print before after old new × (cut ≡ [])
+HasDone gives before after old new cut (show s) = IsShown gives s before after old new × (cut ≡ [])
 
 -- ---- what is put into files
 
@@ -79,6 +81,7 @@ HasPlaced gives places before old new (Some (up print)) = HasPlacedText gives pl
 HasPlaced gives places before old new (Some (run order)) = new ≡ old
 HasPlaced gives places before old new (Some (scan order)) = new ≡ old
 HasPlaced gives places before old new (Some stored) = new ≡ old
+HasPlaced gives places before old new (Some (show s)) = new ≡ old
 HasPlaced gives places before old new None = new ≡ old
 
 -- ---- why it is not
@@ -90,6 +93,7 @@ files_asked (run order) = order.files
 files_asked (scan order) = order.files
 files_asked (gen print) = []
 files_asked (up print) = []
+files_asked (show s) = []
 
 -- the names in the words of a listing: that of the specification or the tables, that of LIST, and those of the files
 abbrev pub names_of_order : PlainOrder → List (List ℕ)
@@ -102,6 +106,7 @@ names_asked (run order) = names_of_order order
 names_asked (scan order) = names_of_order order
 names_asked (gen print) = print.rules ∷ []
 names_asked (up print) = print.rules ∷ []
+names_asked (show s) = s.rules ∷ []
 
 -- how many of them are standard input
 abbrev pub inputs_asked : Asked → ℕ
@@ -110,6 +115,7 @@ inputs_asked (run order) = input_uses order order.files
 inputs_asked (scan order) = input_uses order order.files
 inputs_asked (gen print) = input_count print.rules
 inputs_asked (up print) = input_count print.rules
+inputs_asked (show s) = input_count s.rules
 
 -- The sources gave the text with this name, whole, which is refused.
 pub record IsTextRefused {S : Type 0} (gives : S → List ℕ → PlainInput → S → Type 0) (Refuses : List ℕ → Type 0) (name : List ℕ) (before : S) : Type 0 where
@@ -125,6 +131,7 @@ AreRulesRefused gives before (run order) failure = IsTextRefused gives (λ text.
 AreRulesRefused gives before (scan order) failure = IsTextRefused gives (λ text. IsNoTable text failure) order.rules before
 AreRulesRefused gives before (gen print) failure = IsTextRefused gives (λ text. HasNoTables text failure ⊎ AreKindsOfSpecificationRefused print.c text failure) print.rules before
 AreRulesRefused gives before (up print) failure = IsTextRefused gives (λ text. IsNoTable text failure ⊎ AreKindsOfTablesRefused print.c text failure) print.rules before
+AreRulesRefused gives before (show s) failure = IsTextRefused gives (λ text. IsNotShown s text failure) s.rules before
 
 -- the words of a listing are refused
 abbrev pub AreWordsRefused : PlainOrder → Failure → Type 0
@@ -149,6 +156,7 @@ IsRefusedLater gives before (run order) failure = RulesGiven gives AreTablesOfTe
 IsRefusedLater gives before (scan order) failure = RulesGiven gives AreTablesIn order before (λ table between. IsListingRefused gives order table between failure)
 IsRefusedLater gives before (gen print) failure = ⊥
 IsRefusedLater gives before (up print) failure = ⊥
+IsRefusedLater gives before (show s) failure = ⊥
 
 -- `-o` is given, and no files can be made
 abbrev pub IsTargetRefused : PlainPrint → RequestFault → Type 0
@@ -165,13 +173,14 @@ IsFormRefused (run order) fault = IsWordsFault order fault
 IsFormRefused (scan order) fault = IsWordsFault order fault
 IsFormRefused (gen print) fault = IsTargetRefused print fault ⊎ IsScannerFault print.c fault
 IsFormRefused (up print) fault = IsTargetRefused print fault ⊎ IsScannerFault print.c fault
+IsFormRefused (show s) fault = ⊥
 
 -- why what the words ask for was not done
 abbrev pub HasCause : {S : Type 0} → (S → List ℕ → PlainInput → S → Type 0) → S → Asked → Failure → Type 0
 HasCause gives before asked (Specification fault) = AreRulesRefused gives before asked (Specification fault)
 HasCause gives before asked (Automaton fault) = AreRulesRefused gives before asked (Automaton fault)
 HasCause gives before asked (Tables fault) = AreRulesRefused gives before asked (Tables fault)
-HasCause gives before asked (Kinds fault) = AreRulesRefused gives before asked (Kinds fault)
+HasCause gives before asked (Unprintable fault) = AreRulesRefused gives before asked (Unprintable fault)
 HasCause gives before asked (Words error) = ⊥
 HasCause gives before asked TooManyFiles = (max_files < length (files_asked asked)) ⊎ IsRefusedLater gives before asked TooManyFiles
 HasCause gives before asked InputTwice = (1 < inputs_asked asked) ⊎ IsRefusedLater gives before asked InputTwice

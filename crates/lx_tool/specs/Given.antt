@@ -7,7 +7,7 @@ use Rattle.lx_tables.specs.declared.fault.TableFault.TheVariants as table
 use Rattle.lx_tool.specs.Planning.{AreBytes}
 use Rattle.lx_tool.specs.Sources.{AreGiven, cut_names}
 use Rattle.lx_tool.specs.declared.failure.Failure.{Failure}
-use Rattle.lx_tool.specs.declared.failure.Failure.TheVariants.{Specification, Automaton, Tables, Kinds, Words, TooManyFiles, InputTwice, Refused, NotRead, Output, Memory}
+use Rattle.lx_tool.specs.declared.failure.Failure.TheVariants.{Specification, Automaton, Tables, Unprintable, Words, TooManyFiles, InputTwice, Refused, NotRead, Output, Memory}
 
 -- The sources gave these inputs for these names, in this order; `cut` names those that were cut short.
 pub record AreRead {S : Type 0} (gives : S → List ℕ → PlainInput → S → Type 0) (names : List (List ℕ)) (before after : S) (inputs : List PlainInput) (cut : List (List ℕ)) : Type 0 where
@@ -38,7 +38,7 @@ abbrev pub IsUnread : List (List ℕ) → Failure → Type 0
 IsUnread names (Specification fault) = ⊥
 IsUnread names (Automaton fault) = ⊥
 IsUnread names (Tables fault) = ⊥
-IsUnread names (Kinds fault) = ⊥
+IsUnread names (Unprintable fault) = ⊥
 IsUnread names (Words error) = ⊥
 IsUnread names TooManyFiles = ⊥
 IsUnread names InputTwice = ⊥
@@ -52,7 +52,7 @@ abbrev pub IsNoTable : List ℕ → Failure → Type 0
 IsNoTable text (Specification fault) = ⊥
 IsNoTable text (Automaton fault) = ⊥
 IsNoTable text (Tables fault) = (fault ≡ table.NoTables) × IsNoText text
-IsNoTable text (Kinds fault) = ⊥
+IsNoTable text (Unprintable fault) = ⊥
 IsNoTable text (Words error) = ⊥
 IsNoTable text TooManyFiles = ⊥
 IsNoTable text InputTwice = ⊥
@@ -72,7 +72,7 @@ abbrev pub FailsListing : {S : Type 0} → (Failure → Type 0) → Type 0 → L
 FailsListing Cause Part names before after old new (Specification fault) = Cause (Specification fault) × IsUntouched before after old new
 FailsListing Cause Part names before after old new (Automaton fault) = Cause (Automaton fault) × IsUntouched before after old new
 FailsListing Cause Part names before after old new (Tables fault) = Cause (Tables fault) × IsUntouched before after old new
-FailsListing Cause Part names before after old new (Kinds fault) = ⊥
+FailsListing Cause Part names before after old new (Unprintable fault) = ⊥
 FailsListing Cause Part names before after old new (Words error) = ⊥
 FailsListing Cause Part names before after old new TooManyFiles = ⊥
 FailsListing Cause Part names before after old new InputTwice = ⊥

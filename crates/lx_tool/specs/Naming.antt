@@ -14,7 +14,7 @@ use Rattle.lx_forms.specs.declared.choosing.ChoiceFault.{ChoiceFault}
 use Rattle.lx_tool.specs.Sources.{whole}
 use Rattle.lx_tool.specs.Statuses.{failure_of_choice}
 use Rattle.lx_tool.specs.declared.failure.Failure.{Failure}
-use Rattle.lx_tool.specs.declared.failure.Failure.TheVariants.{Specification, Automaton, Tables, Kinds, Words, TooManyFiles, InputTwice, Refused, NotRead, Output, Memory}
+use Rattle.lx_tool.specs.declared.failure.Failure.TheVariants.{Specification, Automaton, Tables, Unprintable, Words, TooManyFiles, InputTwice, Refused, NotRead, Output, Memory}
 use Rattle.lx_tool.specs.declared.failure.RequestFault.{RequestFault}
 use Rattle.lx_tool.specs.declared.failure.RequestFault.TheVariants.{NoKind, EmptyKind, NoFormat, NoFile, NoName, NoScanner, NoTargets, Scanner, ScannerAndHeader, NumberTooLarge}
 
@@ -129,7 +129,7 @@ abbrev pub IsListingRefused : {S : Type 0} → (S → List ℕ → PlainInput �
 IsListingRefused gives order table before (Specification fault) = ⊥
 IsListingRefused gives order table before (Automaton fault) = ⊥
 IsListingRefused gives order table before (Tables fault) = ⊥
-IsListingRefused gives order table before (Kinds fault) = ⊥
+IsListingRefused gives order table before (Unprintable fault) = ⊥
 IsListingRefused gives order table before (Words error) = ⊥
 IsListingRefused gives order table before TooManyFiles = IsListTooLong gives order before
 IsListingRefused gives order table before InputTwice = FilesHave gives order before (λ names. 1 < input_uses order names)

@@ -18,9 +18,9 @@ use Rattle.lx_c.specs.declared.fault.KindFault.TheVariants as kind
 use Rattle.lx_c.specs.declared.fault.OptionFault.{OptionFault}
 use Rattle.lx_words.specs.CommandLine.{PlainC}
 use Rattle.lx_tool.specs.declared.failure.Failure.{Failure}
-use Rattle.lx_tool.specs.declared.failure.Failure.TheVariants.{Kinds, Memory, Refused}
-use Rattle.lx_tool.specs.declared.failure.KindsFault.{KindsFault}
-use Rattle.lx_tool.specs.declared.failure.KindsFault.TheVariants.{Numbers, Reserved, Declared}
+use Rattle.lx_tool.specs.declared.failure.Failure.TheVariants.{Unprintable, Memory, Refused}
+use Rattle.lx_tool.specs.declared.failure.PrintFault.{PrintFault}
+use Rattle.lx_tool.specs.declared.failure.PrintFault.TheVariants.{Numbers, Reserved, Declared}
 use Rattle.lx_tool.specs.declared.failure.RequestFault.{RequestFault}
 use Rattle.lx_tool.specs.declared.failure.RequestFault.TheVariants.{NoScanner, NoTargets, Scanner, ScannerAndHeader}
 
@@ -107,7 +107,7 @@ abbrev pub kind_named : Table → ℕ → List ℕ
 kind_named table number = slice_index_or table.kinds number []
 
 -- the fault, as it is told: a kind by its name
-abbrev pub IsToldAs : Table → KindFault → KindsFault → Type 0
+abbrev pub IsToldAs : Table → KindFault → PrintFault → Type 0
 IsToldAs table kind.Numbers told = told ≡ Numbers
 IsToldAs table (kind.Reserved number) told = (name : Vec ℕ Global) × (told ≡ Reserved name) × (name.items ≡ kind_named table number)
 IsToldAs table (kind.Declared number) told = (name : Vec ℕ Global) × (told ≡ Declared name) × (name.items ≡ kind_named table number)
@@ -116,8 +116,8 @@ IsToldAs table kind.Memory told = ⊥
 pub record AreKindsRefused (c : PlainC) (o : Options) (table : Table) (failure : Failure) : Type 0 where
   pub fault : KindFault
   pub is : kinds_fault c o table ≡ Some fault
-  pub told : KindsFault
-  pub answers : failure ≡ Kinds told
+  pub told : PrintFault
+  pub answers : failure ≡ Unprintable told
   pub told_as : IsToldAs table fault told
 
 pub record AreKindsOfSpecificationRefused (c : PlainC) (text : List ℕ) (failure : Failure) : Type 0 where

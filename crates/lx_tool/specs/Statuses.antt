@@ -13,7 +13,7 @@ use Rattle.lx_post.specs.declared.run_fault.RunFault.TheVariants as run
 use Rattle.lx_forms.specs.declared.choosing.ChoiceFault.{ChoiceFault}
 use Rattle.lx_forms.specs.declared.choosing.ChoiceFault.TheVariants as choice
 use Rattle.lx_tool.specs.declared.failure.Failure.{Failure}
-use Rattle.lx_tool.specs.declared.failure.Failure.TheVariants.{Specification, Automaton, Tables, Kinds, Words, TooManyFiles, InputTwice, Refused, NotRead, Output, Memory}
+use Rattle.lx_tool.specs.declared.failure.Failure.TheVariants.{Specification, Automaton, Tables, Unprintable, Words, TooManyFiles, InputTwice, Refused, NotRead, Output, Memory}
 use Rattle.lx_tool.specs.declared.target.TargetFault.{TargetFault}
 use Rattle.lx_tool.specs.declared.target.TargetFault.TheVariants as target
 use Rattle.lx_tool.specs.declared.failure.RequestFault.TheVariants.{NoKind, EmptyKind, NoTargets}
@@ -23,7 +23,7 @@ abbrev pub status_of : Failure → ℕ
 status_of (Specification fault) = 1
 status_of (Automaton fault) = 1
 status_of (Tables fault) = 1
-status_of (Kinds fault) = 1
+status_of (Unprintable fault) = 1
 status_of (Words error) = 2
 status_of TooManyFiles = 2
 status_of InputTwice = 2
@@ -74,7 +74,7 @@ abbrev pub HidesNoMemory : Failure → Type 0
 HidesNoMemory (Specification fault) = fault.code ≢ code.Memory
 HidesNoMemory (Automaton fault) = fault ≢ build.Memory
 HidesNoMemory (Tables fault) = fault ≢ table.Memory
-HidesNoMemory (Kinds fault) = ⊤
+HidesNoMemory (Unprintable fault) = ⊤
 HidesNoMemory (Words error) = kind_of error ≢ kind.OutOfMemory
 HidesNoMemory TooManyFiles = ⊤
 HidesNoMemory InputTwice = ⊤

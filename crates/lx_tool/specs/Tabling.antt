@@ -10,7 +10,7 @@ use Rattle.lx_auto.specs.declared.fault.BuildFault.TheVariants as build
 use Rattle.lx_tables.specs.Model.{Table, IsTable, AreTablesOf}
 use Rattle.lx_tables.specs.Reading.{IsTextOf}
 use Rattle.lx_tool.specs.declared.failure.Failure.{Failure}
-use Rattle.lx_tool.specs.declared.failure.Failure.TheVariants.{Specification, Automaton, Tables, Kinds, Words, TooManyFiles, InputTwice, Refused, NotRead, Output, Memory}
+use Rattle.lx_tool.specs.declared.failure.Failure.TheVariants.{Specification, Automaton, Tables, Unprintable, Words, TooManyFiles, InputTwice, Refused, NotRead, Output, Memory}
 
 -- Tables of the specification that a text says.
 pub record AreTablesOfText (text : List ℕ) (tables : Table) : Type 0 where
@@ -35,7 +35,7 @@ abbrev pub HasNoTables : List ℕ → Failure → Type 0
 HasNoTables text (Specification fault) = (fault.code ≢ code.Memory) × IsFault text fault
 HasNoTables text (Automaton fault) = IsTooLarge text fault
 HasNoTables text (Tables fault) = ⊥
-HasNoTables text (Kinds fault) = ⊥
+HasNoTables text (Unprintable fault) = ⊥
 HasNoTables text (Words error) = ⊥
 HasNoTables text TooManyFiles = ⊥
 HasNoTables text InputTwice = ⊥

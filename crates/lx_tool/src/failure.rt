@@ -50,26 +50,30 @@ pub enum RequestFault<'a> {
     NumberTooLarge,
 }
 
-/// Why the kinds of tables can't be kinds in C.
+/// Why a text that was read isn't printed as the words ask.
 #[derive(Debug, Drop)]
-pub enum KindsFault {
-    /// Their numbers would pass 2,147,483,647.
+pub enum PrintFault {
+    /// The numbers of kinds in C would pass 2,147,483,647.
     Numbers,
     /// The kind with this name is a word of C or C++.
     Reserved(Vec<u8>),
     /// The kind with this name would be declared twice, as the scanner's own names begin so.
     Declared(Vec<u8>),
+    /// A graph would have so many states, and not all are asked for.
+    TooManyStates(u32),
 }
 
-impl Display for KindsFault {
+impl Display for PrintFault {
     fn fmt<W: Write>(&self, f: &mut Formatter<W>) -> Result<(), fmt::Error> {
         match self {
-            KindsFault::Numbers => f.write_str("E40"),
-            KindsFault::Reserved(name) => {
-                write!(f, "{} is a word of C or C++", text_of(name))
-            }
-            KindsFault::Declared(name) => {
-                write!(f, "{} would be declared twice", text_of(name))
+            PrintFault::Numbers => f.write_str("E40"),
+            PrintFault::Reserved(name) => { write!(f, "{} is a word of C or C++", text_of(name)) }
+            PrintFault::Declared(name) => { write!(f, "{} would be declared twice", text_of(name)) }
+            PrintFault::TooManyStates(states) => {
+                write!(
+                    f,
+                    "{states} states are more than 200, and shown with --all alone"
+                )
             }
         }
     }
@@ -92,9 +96,9 @@ pub enum Failure<'a> {
     /// A text is no table's.
     #[error("lx: {0}")]
     Tables(TableFault),
-    /// The kinds of tables can't be kinds in C.
+    /// What was read can't be printed as the words ask.
     #[error("lx: {0}")]
-    Kinds(KindsFault),
+    Unprintable(PrintFault),
     /// The words of the command line have no form, as the text says.
     #[error("{0}")]
     Words(WordsError),
@@ -127,7 +131,7 @@ impl Failure<'_> {
             Failure::Specification(_)
             | Failure::Automaton(_)
             | Failure::Tables(_)
-            | Failure::Kinds(_) => 1,
+            | Failure::Unprintable(_) => 1,
             Failure::Words(_) | Failure::TooManyFiles | Failure::InputTwice | Failure::Refused(_) =>
                 2,
             Failure::NotRead(_) => 3,

@@ -10,11 +10,12 @@ mod planning;
 mod printing;
 mod program;
 mod reading;
+mod showing;
 mod source;
 mod tabling;
 mod target;
 
-pub use failure::{Failure, KindsFault, RequestFault};
+pub use failure::{Failure, PrintFault, RequestFault};
 pub use given::{list_by_specification, list_by_tables};
 pub use lx_lines::{LineWrites, Listing, list_plan, print_listing};
 pub use lx_words::VERSION;

@@ -11,7 +11,7 @@ ghost use Rattle.lx_tool.specs.Commands.{IsPlacingFault};
 ghost use Rattle.lx_tool.specs.Printing.{AreKindsRefused, AreScannerWordsRefused, FailsPrinting, IsToldAs, PlacesTables, WritesTables, are_scanner_words, condition_names, is_in_c, kind_named, kinds_fault, options_by, printed_text};
 ghost use Rattle.lx_tool.specs.Statuses.{status_of};
 
-use crate::failure::{Failure, KindsFault, RequestFault};
+use crate::failure::{Failure, PrintFault, RequestFault};
 use crate::target::Targets;
 use lx_c::{KindFault, Options, judge, print_c, print_header};
 use lx_rules::{Condition, Spec};
@@ -79,11 +79,8 @@ pub(crate) fn judge_scanner_words<'a>(
     options_of(alloc, words)
 }
 
-// The names of conditions.
-fn names_of(
-    alloc: Global,
-    conditions: &[Condition],
-) -> Result<Vec<Vec<u8>>, AllocError>
+/// The names of conditions.
+pub(crate) fn names_of(alloc: Global, conditions: &[Condition]) -> Result<Vec<Vec<u8>>, AllocError>
     ensures { IfOk result (λ names. names_view names.items ≡ map (λ condition. condition.name.items) conditions.now) }
 {
     let mut names = Vec::new(alloc);
@@ -119,17 +116,13 @@ fn kind_named(alloc: Global, tables: &Tables, number: u32) -> Result<Vec<u8>, Al
 }
 
 // The fault of kinds, as it is told.
-fn told_of(
-    alloc: Global,
-    tables: &Tables,
-    fault: KindFault,
-) -> Result<KindsFault, AllocError>
+fn told_of(alloc: Global, tables: &Tables, fault: KindFault) -> Result<PrintFault, AllocError>
     ensures { IfOk result (IsToldAs tables.now fault) }
 {
     match fault {
-        KindFault::Numbers => Ok(KindsFault::Numbers),
-        KindFault::Reserved(number) => Ok(KindsFault::Reserved(kind_named(alloc, tables, number)?)),
-        KindFault::Declared(number) => Ok(KindsFault::Declared(kind_named(alloc, tables, number)?)),
+        KindFault::Numbers => Ok(PrintFault::Numbers),
+        KindFault::Reserved(number) => Ok(PrintFault::Reserved(kind_named(alloc, tables, number)?)),
+        KindFault::Declared(number) => Ok(PrintFault::Declared(kind_named(alloc, tables, number)?)),
         KindFault::Memory => Err(AllocError),
     }
 }
@@ -149,7 +142,7 @@ fn judge_kinds<'a>(
     }
     match judge(alloc, tables, options) {
         Ok(()) => Ok(()),
-        Err(fault) => Err(Failure::Kinds(told_of(alloc, tables, fault)?)),
+        Err(fault) => Err(Failure::Unprintable(told_of(alloc, tables, fault)?)),
     }
 }
 

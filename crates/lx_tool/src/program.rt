@@ -14,8 +14,9 @@ use crate::failure::Failure;
 use crate::given::read_whole;
 use crate::output::Output;
 use crate::planning::{list_files, listings_are_by_rules};
-use crate::source::{Sources, make_input};
 use crate::printing::{judge_scanner_words, named_options, print_asked};
+use crate::showing::show_named;
+use crate::source::{Sources, make_input};
 use crate::tabling::{read_tables, specification_of, tables_of, tables_of_text};
 use crate::target::{NoTargets, Targets};
 use lx_lines::LineWrites;
@@ -227,6 +228,10 @@ fn carry_out<'a, R: Threads + Wait + Sync, S: Sources, T: Targets, O: Write>(
         }
         Request::Up(words) => {
             upgrade_named(alloc, words, sources, targets, out)?;
+            Ok(Vec::new(alloc))
+        }
+        Request::Show(words) => {
+            show_named(alloc, words, sources, out)?;
             Ok(Vec::new(alloc))
         }
     }

@@ -21,6 +21,7 @@ use Rattle.lx_words.specs.declared.request.ListRequest.{ListRequest}
 use Rattle.lx_words.specs.declared.request.ListWords.{ListWords}
 use Rattle.lx_words.specs.declared.request.PrintWords.{PrintWords}
 use Rattle.lx_words.specs.declared.request.Request.{Request}
+use Rattle.lx_words.specs.declared.request.ShowWords.{ShowWords}
 use Rattle.lx_words.specs.declared.request.Request.TheVariants as request
 
 -- words, as texts
@@ -98,6 +99,10 @@ with_c app =
 abbrev pub one_file_app : Text → Text → App
 one_file_app name id = with_rule (with_c (with_rule (new_app name) target_rule)) (rules_rule id)
 
+-- `[--all] RULES`
+abbrev pub show_app : App
+show_app = with_rule (with_rule (new_app (codes "show")) (flag_rule (codes "all"))) (rules_rule (codes "RULES"))
+
 -- `[--names] [--only KIND,..] [--no-text] [--format FORMAT]`
 abbrev pub with_form : App → App
 with_form app =
@@ -115,10 +120,18 @@ list_app name workers id = with_rule (with_rule (with_list (with_form (with_rule
 abbrev pub bare_app : App
 bare_app = on_top (λ s. record s { disable_help_subcommand = true; subcommand_required = true; has_version = true }) (new_app (codes "lx"))
 
-unfoldable pub lx_app : App
-lx_app = with_subcommand (with_subcommand (with_subcommand (with_subcommand bare_app
+-- the commands that list, and those that print what these list by
+abbrev pub with_listings : App → App
+with_listings app = with_subcommand (with_subcommand (with_subcommand (with_subcommand app
     (one_file_app (codes "gen") (codes "SPEC")).top) (one_file_app (codes "up") (codes "TABLES")).top)
     (list_app (codes "scan") (codes "4" ∷ []) (codes "TABLES")).top) (list_app (codes "run") [] (codes "SPEC")).top
+
+-- the commands that help to write a specification
+abbrev pub with_further : App → App
+with_further app = with_subcommand app show_app.top
+
+unfoldable pub lx_app : App
+lx_app = with_further (with_listings bare_app)
 
 -- ---- what words ask for
 
@@ -159,12 +172,18 @@ pub record PlainPrint : Type 0 where
   pub target : Option Text
   pub c : PlainC
 
+-- a graph: the name of a specification or of tables, and whether it may have any number of states
+pub record PlainShow : Type 0 where
+  pub rules : Text
+  pub all : Bool
+
 pub data Asked : Type 0 where
   stored : Asked
   run : PlainOrder → Asked
   scan : PlainOrder → Asked
   gen : PlainPrint → Asked
   up : PlainPrint → Asked
+  show : PlainShow → Asked
 
 -- the number of an option, from 1 to `most`, and `default` where it isn't given
 abbrev pub number_in : Text → ℕ → ℕ → List Row → ℕ
@@ -181,8 +200,9 @@ workers_in default rows = number_in (codes "workers") max_workers default rows
 abbrev pub rules_in : Text → List Row → Text
 rules_in id rows = unwrap_or (first_of id rows) []
 
-abbrev pub files_in : List Row → List Text
-files_in rows = unwrap_or (all_of (codes "FILE") rows) []
+-- all values of an argument, in order
+abbrev pub values_in : Text → List Row → List Text
+values_in id rows = unwrap_or (all_of id rows) []
 
 -- whether a flag is given
 abbrev pub flag_in : Text → List Row → Bool
@@ -211,7 +231,7 @@ request_in id workers rows = record {
   workers = workers_in workers rows;
   per_piece = items_in rows;
   rules = rules_in id rows;
-  files = files_in rows;
+  files = values_in (codes "FILE") rows;
   list = list_in rows;
   form = form_in rows;
 }
@@ -228,13 +248,21 @@ c_in rows = record {
 abbrev pub print_in : Text → List Row → PlainPrint
 print_in id rows = record { rules = rules_in id rows; target = first_of (codes "target") rows; c = c_in rows }
 
+abbrev pub show_in : List Row → PlainShow
+show_in rows = record { rules = rules_in (codes "RULES") rows; all = flag_in (codes "all") rows }
+
+-- what one of the further commands asks for
+abbrev pub further_of : Text × List Row → Option Asked
+further_of p =
+    if bytes_eq p.0 (codes "show") then Some (show (show_in p.1)) else None
+
 -- what a subcommand asks for, by the rows of its arguments
 abbrev pub asked_of : Text × List Row → Option Asked
 asked_of p =
     if bytes_eq p.0 (codes "gen") then Some (gen (print_in (codes "SPEC") p.1))
     else (if bytes_eq p.0 (codes "up") then Some (up (print_in (codes "TABLES") p.1))
     else (if bytes_eq p.0 (codes "scan") then Some (scan (request_in (codes "TABLES") 4 p.1))
-    else (if bytes_eq p.0 (codes "run") then Some (run (request_in (codes "SPEC") 0 p.1)) else None)))
+    else (if bytes_eq p.0 (codes "run") then Some (run (request_in (codes "SPEC") 0 p.1)) else further_of p)))
 
 -- `clap` may answer the words by an error of this kind, of which the help and the version are two
 abbrev pub IsFault : List Text → ErrorKind → Type 0
@@ -288,6 +316,9 @@ plain_c c = record {
 abbrev pub plain_print : PrintWords → PlainPrint
 plain_print p = record { rules = p.rules.now; target = option_map (λ name. name.now) p.target; c = plain_c p.c }
 
+abbrev pub plain_show : ShowWords → PlainShow
+plain_show s = record { rules = s.rules.now; all = s.all }
+
 -- what a request was asked by; the help and the version are none
 abbrev pub asked_as : Request → Option Asked
 asked_as request.Stored = Some stored
@@ -296,6 +327,7 @@ asked_as (request.Run o) = Some (run (plain_order o))
 asked_as (request.Scan o) = Some (scan (plain_order o))
 asked_as (request.Gen words) = Some (gen (plain_print words))
 asked_as (request.Up words) = Some (up (plain_print words))
+asked_as (request.Show words) = Some (show (plain_show words))
 
 -- ---- what that comes to, for words that are no flags
 

@@ -3,7 +3,7 @@
 ghost use Rattle.std.specs.Prelude.{◌≡◌, [], ◌∷◌, IfOk, codes, false};
 ghost use Rattle.clap.specs.Words.{app_of, rule_of};
 ghost use Rattle.clap.specs.declared.builder.Command.TheViews.{out-Command as fields_of};
-ghost use Rattle.lx_words.specs.CommandLine.{files_rule, first_rule, flag_rule, items_rule, list_app, list_rule, lx_app, one_file_app, option_rule, rules_rule, target_rule, with_c, with_form, with_list, workers_rule, zeros_rule};
+ghost use Rattle.lx_words.specs.CommandLine.{files_rule, first_rule, flag_rule, items_rule, list_app, list_rule, lx_app, one_file_app, option_rule, rules_rule, show_app, target_rule, with_c, with_form, with_further, with_list, with_listings, workers_rule, zeros_rule};
 
 use crate::version::VERSION;
 use clap::{Arg, ArgAction, Command, value_parser};
@@ -14,16 +14,31 @@ use std::alloc::{AllocError, Global};
 pub(crate) fn command<'a>(alloc: Global) -> Result<Command<'a>, AllocError>
     ensures { IfOk result (λ command. app_of command ≡ lx_app) }
 {
-    Command::new(alloc, "lx")
+    let command = Command::new(alloc, "lx")
         .about("Scans files by the rules of a lex specification.")
         .version(VERSION)
         .after_help("Without words, lists a text that the program holds by rules that it holds.")
         .disable_help_subcommand(true)
-        .subcommand_required(true)
+        .subcommand_required(true);
+    with_further(alloc, with_listings(alloc, command)?)
+}
+
+// The commands that list, and those that print what these list by.
+fn with_listings<'a>(alloc: Global, command: Command<'a>) -> Result<Command<'a>, AllocError>
+    ensures { IfOk result (λ new. app_of new ≡ with_listings (app_of command.entry)) }
+{
+    command
         .subcommand(gen_command(alloc)?)?
         .subcommand(up_command(alloc)?)?
         .subcommand(scan_command(alloc)?)?
         .subcommand(run_command(alloc)?)
+}
+
+// The commands that help to write a specification.
+fn with_further<'a>(alloc: Global, command: Command<'a>) -> Result<Command<'a>, AllocError>
+    ensures { IfOk result (λ new. app_of new ≡ with_further (app_of command.entry)) }
+{
+    command.subcommand(show_command(alloc)?)
 }
 
 fn gen_command<'a>(alloc: Global) -> Result<Command<'a>, AllocError>
@@ -70,6 +85,16 @@ fn scan_command<'a>(alloc: Global) -> Result<Command<'a>, AllocError>
     with_list(alloc, with_form(alloc, command)?)?
         .arg(tables(alloc))?
         .arg(files(alloc))
+}
+
+fn show_command<'a>(alloc: Global) -> Result<Command<'a>, AllocError>
+    ensures app { IfOk result (λ command. app_of command ≡ show_app) }
+    ensures local { IfOk result (λ command. (fields_of command).has_globals ≡ false) }
+{
+    Command::new(alloc, "show")
+        .about("Prints the automaton as a graph for Graphviz")
+        .arg(all(alloc))?
+        .arg(either(alloc))
 }
 
 // The options on a scanner in C.
@@ -123,6 +148,22 @@ fn tables<'a>(alloc: Global) -> Arg<'a>
     Arg::new(alloc, "TABLES")
         .help("The tables, in either version of their text")
         .required(true)
+}
+
+fn either<'a>(alloc: Global) -> Arg<'a>
+    ensures rule { rule_of result ≡ rules_rule (codes "RULES") }
+    ensures local { result.global ≡ false }
+{
+    Arg::new(alloc, "RULES")
+        .help("The specification, or tables, whose text begins with lx-tables")
+        .required(true)
+}
+
+fn all<'a>(alloc: Global) -> Arg<'a>
+    ensures rule { rule_of result ≡ flag_rule (codes "all") }
+    ensures local { result.global ≡ false }
+{
+    flag(alloc, "all", "Prints automata of more than 200 states too")
 }
 
 fn items<'a>(alloc: Global) -> Arg<'a>

@@ -7,5 +7,8 @@ mod request;
 mod version;
 
 pub use reading::{plain_words_ask, read_words};
-pub use request::{ALONE, CWords, FormWords, ITEMS, ListRequest, ListWords, PrintWords, Refusal, Request};
+pub use request::{
+    ALONE, CWords, FormWords, ITEMS, ListRequest, ListWords, PrintWords, Refusal, Request,
+    ShowWords,
+};
 pub use version::VERSION;

@@ -4,11 +4,12 @@ ghost use Rattle.std.specs.Prelude.{◌≡◌, ◌≢◌, ◌≤◌, ◌<◌, If
 ghost use Rattle.clap.specs.Words.{first_of, found_of, kind_of, rows_of, subcommand_rows_of};
 ghost use Rattle.lx_piece.specs.Plans.{max_items};
 ghost use Rattle.lx_post.specs.Claimed.{max_workers};
-ghost use Rattle.lx_words.specs.CommandLine.{IsFault, IsTold, PlainWordsAsk, asked_as, asked_by, asked_of, c_in, files_in, first_in, flag_in, form_in, items_in, list_in, request_in, plain_c, plain_form, plain_list, plain_order, plain_print, print_in, rules_in, workers_in, words_of};
+ghost use Rattle.lx_words.specs.CommandLine.{IsFault, IsTold, PlainWordsAsk, asked_as, asked_by, asked_of, c_in, first_in, flag_in, form_in, further_of, items_in, list_in, request_in, plain_c, plain_form, plain_list, plain_order, plain_print, plain_show, print_in, rules_in, show_in, values_in, workers_in, words_of};
 
 use crate::app::command;
 use crate::request::{
     ALONE, CWords, FormWords, ITEMS, ListRequest, ListWords, PrintWords, Refusal, Request,
+    ShowWords,
 };
 use clap::error::ErrorKind;
 use clap::{ArgMatches, Error};
@@ -68,7 +69,31 @@ fn named_request_of<'a>(
         "gen" => Ok(Request::Gen(print_words_of(found, "SPEC"))),
         "up" => Ok(Request::Up(print_words_of(found, "TABLES"))),
         "scan" => Ok(Request::Scan(list_request_of(alloc, found, "TABLES", WORKERS)?)),
-        _ => Ok(Request::Run(list_request_of(alloc, found, "SPEC", ALONE)?)),
+        "run" => Ok(Request::Run(list_request_of(alloc, found, "SPEC", ALONE)?)),
+        _ => further_request_of(alloc, name, found),
+    }
+}
+
+// What one of the further commands asks for.
+fn further_request_of<'a>(
+    alloc: Global,
+    name: &str,
+    found: &ArgMatches<'a>,
+) -> Result<Request<'a>, AllocError>
+    requires { is_some (further_of (name.now, rows_of (found_of found.now))) ≡ true }
+    ensures { IfOk result (λ request. further_of (name.now, rows_of (found_of found.now)) ≡ asked_as request) }
+{
+    match name {
+        _ => Ok(Request::Show(show_words_of(found))),
+    }
+}
+
+fn show_words_of<'a>(found: &ArgMatches<'a>) -> ShowWords<'a>
+    ensures { plain_show result ≡ show_in (rows_of (found_of found.now)) }
+{
+    ShowWords {
+        rules: rules_of(found, "RULES"),
+        all: has_flag(found, "all"),
     }
 }
 
@@ -109,7 +134,7 @@ fn list_request_of<'a>(
         workers: workers_of(found, workers),
         per_piece: items_of(found),
         rules: rules_of(found, rules),
-        files: files_of(alloc, found)?,
+        files: values_of(alloc, found, "FILE")?,
         list: list_of(found),
         form: form_of(found),
     })
@@ -170,10 +195,15 @@ fn rules_of<'a>(found: &ArgMatches<'a>, id: &str) -> &'a str
     found.get_str(id).unwrap_or("")
 }
 
-fn files_of<'a>(alloc: Global, found: &ArgMatches<'a>) -> Result<Vec<&'a str>, AllocError>
-    ensures { IfOk result (λ files. map (λ name. name.now) files.items ≡ files_in (rows_of (found_of found.now))) }
+// All values of an argument, in order.
+fn values_of<'a>(
+    alloc: Global,
+    found: &ArgMatches<'a>,
+    id: &str,
+) -> Result<Vec<&'a str>, AllocError>
+    ensures { IfOk result (λ values. map (λ value. value.now) values.items ≡ values_in id.now (rows_of (found_of found.now))) }
 {
-    match found.get_strs("FILE") {
+    match found.get_strs(id) {
         Some(names) => Vec::from_slice(alloc, names),
         None => Ok(Vec::new(alloc)),
     }

@@ -28,6 +28,17 @@ pub enum Request<'a> {
     Gen(PrintWords<'a>),
     /// `up`: tables, printed in version 2 or as a scanner in C.
     Up(PrintWords<'a>),
+    /// `show`: the automaton as a graph.
+    Show(ShowWords<'a>),
+}
+
+/// The words of `show`.
+#[derive(Clone, Copy, Debug)]
+pub struct ShowWords<'a> {
+    /// The name of the specification, or of the tables.
+    pub rules: &'a str,
+    /// `--all`: whether automata of any number of states are printed.
+    pub all: bool,
 }
 
 /// The words of `gen` and of `up`.

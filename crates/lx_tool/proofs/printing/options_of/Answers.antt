@@ -17,5 +17,5 @@ returns-in-Err-clause-err c =
     let o = plain_c c.args.words.now in
     let prefix = c.in_ok-prefix.ensures.items ∙ c.as_bytes.ensures.value ∙ c.prefix_of.ensures in
     let same = same_parts c.in_ok-prefix.prefix.items (options_by o).prefix (names_view c.new.result.items) (option_map (λ b. b.items) c.in_ok-include.include) (options_by o).include
-        prefix (ap names_view c.new.ensures.items) c.in_ok-include.ensures in
+    prefix (ap names_view c.new.ensures.items) c.in_ok-include.ensures in
     inr (Scanner c.in-Err.fault, refl, inr (inr (c.in-Err.fault, refl, c.in-Err.ensures.err ∙ ap option_fault same)))

@@ -45,19 +45,22 @@ returns-clause-ok g c =
     let table = c.in_ok-tables.tables in
     let spec = spec_view c.in_ok-spec.spec in
     on_ok_weaker c.print_asked.result
-    (λ h. (record {
-      text = c.in_ok-text.text.items;
-      given = c.in_ok-text.ensures.ok;
-      printed = printed_text print.c (named (options_by print.c) (condition_names spec)) table;
-      prints = record {
-        spec = spec;
-        read = rw c.deref.ensures.value at c.in_ok-spec.ensures.ok;
-        table = table;
-        of_spec = c.in_ok-tables.ensures.ok;
-        prints = record { words = c.in_ok-judge_scanner_words.ensures.asked; kinds = h.kinds; is = refl };
-      };
-      written = h.written;
-    }, refl))
+    (λ h. (
+      record {
+        text = c.in_ok-text.text.items;
+        given = c.in_ok-text.ensures.ok;
+        printed = printed_text print.c (named (options_by print.c) (condition_names spec)) table;
+        prints = record {
+          spec = spec;
+          read = rw c.deref.ensures.value at c.in_ok-spec.ensures.ok;
+          table = table;
+          of_spec = c.in_ok-tables.ensures.ok;
+          prints = record { words = c.in_ok-judge_scanner_words.ensures.asked; kinds = h.kinds; is = refl };
+        };
+        written = h.written;
+      },
+      refl,
+    ))
     (rw c.in_ok-options.ensures.ok at c.print_asked.ensures.ok)
 
 pub returns-clause-placed : goal.returns-clause-placed

@@ -19,13 +19,16 @@ returns-clause-ok g c =
     let table = c.in_ok-tables.tables in
     let made : AreTablesIn c.in_ok-text.text.items table = rw c.deref.ensures.value at c.in_ok-tables.ensures.ok in
     on_ok_weaker c.print_asked.result
-    (λ h. (record {
-      text = c.in_ok-text.text.items;
-      given = c.in_ok-text.ensures.ok;
-      printed = printed_text print.c (options_by print.c) table;
-      prints = record { table = table; is_table = made.0; of_text = made.1; prints = record { words = c.in_ok-options.ensures.asked; kinds = h.kinds; is = refl } };
-      written = h.written;
-    }, refl))
+    (λ h. (
+      record {
+        text = c.in_ok-text.text.items;
+        given = c.in_ok-text.ensures.ok;
+        printed = printed_text print.c (options_by print.c) table;
+        prints = record { table = table; is_table = made.0; of_text = made.1; prints = record { words = c.in_ok-options.ensures.asked; kinds = h.kinds; is = refl } };
+        written = h.written;
+      },
+      refl,
+    ))
     (rw c.in_ok-options.ensures.ok at c.print_asked.ensures.ok)
 
 pub returns-clause-placed : goal.returns-clause-placed

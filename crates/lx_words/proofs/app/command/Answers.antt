@@ -1,17 +1,13 @@
-use Rattle.std.proofs.Common.{◌≡◌, ◌∙◌, ap, ap₂, rules}
+use Rattle.std.proofs.Common.{◌≡◌, ◌∙◌, ap, rules}
 use Rattle.std.proofs.lemmas.Result.{IfOk-weaker}
-use Rattle.clap.specs.Words.{App, app_of, with_subcommand}
-use Rattle.lx_words.specs.CommandLine.{bare_app, lx_app}
+use Rattle.clap.specs.Words.{app_of}
+use Rattle.lx_words.specs.CommandLine.{bare_app, lx_app, with_further, with_listings}
 use Rattle.lx_words.proofs.app.command.Goals as goal
 
 pub returns : goal.returns
 unfolding lx_app
 returns c =
-    let bare : app_of c.subcommand_required.result ≡ bare_app = search rules in
-    let top = λ (a : App). a.top in
-    let one = c.in_ok-subcommand.ensures.shape c.in_ok-gen_command.ensures.local ∙ ap₂ with_subcommand bare (ap top c.in_ok-gen_command.ensures.app) in
-    let two = c.in_ok-subcommand-2.ensures.shape c.in_ok-up_command.ensures.local ∙ ap₂ with_subcommand one (ap top c.in_ok-up_command.ensures.app) in
-    let three = c.in_ok-subcommand-3.ensures.shape c.in_ok-scan_command.ensures.local ∙ ap₂ with_subcommand two (ap top c.in_ok-scan_command.ensures.app) in
-    IfOk-weaker c.subcommand-4.result _ _
-    (λ command added. added.shape c.in_ok-run_command.ensures.local ∙ ap₂ with_subcommand three (ap top c.in_ok-run_command.ensures.app))
-    c.subcommand-4.ensures
+    let bare : app_of c.subcommand_required-command.result ≡ bare_app = search rules in
+    IfOk-weaker c.with_further.result _ _
+    (λ command is. is ∙ ap with_further (c.in_ok-with_listings.ensures ∙ ap with_listings bare))
+    c.with_further.ensures

@@ -1,0 +1,2 @@
+pub mod NoneOf
+pub mod Texts

@@ -1,0 +1,9 @@
+//! The automaton of tables as a graph for Graphviz, in its language DOT.
+#![tactic(auto)]
+
+mod edges;
+pub mod graph;
+mod labels;
+mod nodes;
+
+pub use crate::graph::graph_of;

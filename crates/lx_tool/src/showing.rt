@@ -1,0 +1,96 @@
+//! What `show` prints: the automaton as a graph.
+
+ghost use Rattle.std.specs.Prelude.{◌≡◌, ◌≤◌, [], IfOk, IfErr, OnOk, Some, false};
+ghost use Rattle.std.specs.Io.KnownBytes.{Appends};
+ghost use Rattle.lx_automaton.specs.Automata.{state_count};
+ghost use Rattle.lx_rules.specs.views.Rules.{names_view};
+ghost use Rattle.lx_words.specs.CommandLine.{plain_show, show as show-asked};
+ghost use Rattle.lx_tool.specs.Commands.{HasDone, HasFailed};
+ghost use Rattle.lx_tool.specs.Showing.{AreShown, HasManyStates, HasNoneShown, begins_as_tables, max_shown};
+
+use crate::failure::{Failure, PrintFault};
+use crate::given::read_whole;
+use crate::printing::names_of;
+use crate::source::Sources;
+use crate::tabling::{read_tables, specification_of, tables_of};
+use lx_show::graph_of;
+use lx_tables::Tables;
+use lx_words::ShowWords;
+use std::alloc::Global;
+use std::io::Write;
+
+// How many states are shown where not all are asked for.
+const MAX_SHOWN: u32 = 200;
+
+// What is shown of a text.
+#[derive(Drop)]
+struct Shown {
+    tables: Tables,
+    // The names of the conditions, where these are known.
+    names: Vec<Vec<u8>>,
+}
+
+fn begins_as_tables(text: &[u8]) -> bool
+    ensures { result ≡ begins_as_tables text.now }
+{
+    text.starts_with(b"lx-tables ")
+}
+
+// The tables of a specification, and the names of its conditions.
+fn shown_of_specification<'a>(alloc: Global, text: &[u8]) -> Result<Shown, Failure<'a>>
+    requires { begins_as_tables text.now ≡ false }
+    ensures ok { IfOk result (λ shown. AreShown text.now shown.tables (names_view shown.names.items)) }
+    ensures err { IfErr result (λ failure. HasNoneShown text.now failure) }
+{
+    let spec = specification_of(alloc, text)?;
+    let tables = tables_of(alloc, &spec)?;
+    let names = names_of(alloc, &spec.conditions)?;
+    Ok(Shown { tables, names })
+}
+
+fn shown_of<'a>(alloc: Global, text: &[u8]) -> Result<Shown, Failure<'a>>
+    ensures ok { IfOk result (λ shown. AreShown text.now shown.tables (names_view shown.names.items)) }
+    ensures err { IfErr result (λ failure. HasNoneShown text.now failure) }
+{
+    if !begins_as_tables(text) {
+        return shown_of_specification(alloc, text);
+    }
+    let tables = read_tables(alloc, text)?;
+    let names = Vec::new(alloc);
+    Ok(Shown { tables, names })
+}
+
+// Refuses more states than are shown.
+fn judge_size<'a>(words: &ShowWords<'_>, tables: &Tables) -> Result<(), Failure<'a>>
+    ensures ok { OnOk result (words.now.all ≡ false → state_count tables.now.machine ≤ max_shown) }
+    ensures err { IfErr result (HasManyStates words.now.all tables.now) }
+{
+    if words.all || tables.states() <= MAX_SHOWN {
+        return Ok(());
+    }
+    Err(Failure::Unprintable(PrintFault::TooManyStates(tables.states())))
+}
+
+fn write_graph<'a, O: Write>(graph: &[u8], out: &mut O) -> Result<(), Failure<'a>>
+    ensures ok { OnOk result (Appends (O.contents out.old) (O.contents out.new) graph.now) }
+    ensures err { IfErr result (λ failure. failure ≡ Failure.Output) }
+{
+    out.write_all(graph).map_err(|_| Failure::Output)
+}
+
+/// Prints the automaton of a specification, or of tables, as a graph.
+pub(crate) fn show_named<'a, S: Sources, O: Write>(
+    alloc: Global,
+    words: ShowWords<'a>,
+    sources: &mut S,
+    out: &mut O,
+) -> Result<(), Failure<'a>>
+    ensures ok { OnOk result (HasDone S.gives sources.old sources.new (O.contents out.old) (O.contents out.new) [] (show-asked (plain_show words.entry))) }
+    ensures err { IfErr result (HasFailed S.gives (Some (show-asked (plain_show words.entry))) sources.old (O.contents out.old) (O.contents out.new)) }
+{
+    let text = read_whole(alloc, sources, words.rules)?;
+    let shown = shown_of(alloc, &text)?;
+    judge_size(&words, &shown.tables)?;
+    let graph = graph_of(alloc, &shown.tables, &shown.names)?;
+    write_graph(&graph, out)
+}
