@@ -18,7 +18,7 @@ list: value | list ',' value;
 members: member | members ',' member;
 member: STRING ':' value;
 %%
-#define json__API static
+#define json__API static inline
 #include "scanner.c"
 
 static json_scanner scanner;
