@@ -61,12 +61,7 @@ fn push_edge_line(
     text.extend_from_slice(b"\"];\n")
 }
 
-fn push_edge(
-    text: &mut Vec<u8>,
-    tables: &Tables,
-    state: u32,
-    class: u16,
-) -> Result<(), AllocError>
+fn push_edge(text: &mut Vec<u8>, tables: &Tables, state: u32, class: u16) -> Result<(), AllocError>
     requires state { state < state_count tables.now.machine }
     requires class { class < tables.now.machine.width }
     requires byte { class < 256 }
@@ -85,11 +80,7 @@ fn push_edge(
 }
 
 /// The edges from a state.
-pub(crate) fn push_edges(
-    text: &mut Vec<u8>,
-    tables: &Tables,
-    state: u32,
-) -> Result<(), AllocError>
+pub(crate) fn push_edges(text: &mut Vec<u8>, tables: &Tables, state: u32) -> Result<(), AllocError>
     requires { state < state_count tables.now.machine }
     ensures { OnOk result (text.new.items ≡ text.old.items ++ specs.edges_text tables.now.machine state) }
 {

@@ -10,11 +10,7 @@ use crate::nodes::{push_start, push_state};
 use lx_tables::Tables;
 use std::alloc::{AllocError, Global};
 
-fn push_starts(
-    text: &mut Vec<u8>,
-    tables: &Tables,
-    names: &[Vec<u8>],
-) -> Result<(), AllocError>
+fn push_starts(text: &mut Vec<u8>, tables: &Tables, names: &[Vec<u8>]) -> Result<(), AllocError>
     ensures { OnOk result (text.new.items ≡ text.old.items ++ flat_map (specs.condition_text (names_view names.now) tables.now.machine) (range_with_len 0 (length tables.now.machine.starts))) }
 {
     for condition in 0..tables.conditions() {
@@ -23,11 +19,7 @@ fn push_starts(
     Ok(())
 }
 
-fn push_states(
-    text: &mut Vec<u8>,
-    tables: &Tables,
-    names: &[Vec<u8>],
-) -> Result<(), AllocError>
+fn push_states(text: &mut Vec<u8>, tables: &Tables, names: &[Vec<u8>]) -> Result<(), AllocError>
     ensures { OnOk result (text.new.items ≡ text.old.items ++ flat_map (specs.state_text tables.now (names_view names.now)) (range_with_len 0 (state_count tables.now.machine))) }
 {
     for state in 0..tables.states() {
@@ -40,11 +32,7 @@ fn push_states(
 /// says what the rule's action does. Where a state steps to another, an edge has the ranges of bytes on which it does: `[a-z]`, and `\xHH` for bytes that
 /// aren't printed. Each start condition has an edge to the state in which it begins, and one with `^` where that is another at the beginning of a line.
 /// `names` are the names of the conditions, identifiers, in order; a condition without a name stands there by its number. Err: memory was refused.
-pub fn graph_of(
-    alloc: Global,
-    tables: &Tables,
-    names: &[Vec<u8>],
-) -> Result<Vec<u8>, AllocError>
+pub fn graph_of(alloc: Global, tables: &Tables, names: &[Vec<u8>]) -> Result<Vec<u8>, AllocError>
     ensures { IfOk result (λ text. text.items ≡ specs.graph_text tables.now (names_view names.now)) }
 {
     let mut text = Vec::new(alloc);

@@ -39,13 +39,16 @@ returns-clause-ok g c =
     let wrote : OnOk c.write_graph.result (Appends (g.O.Write.contents c.args.out.now) (g.O.Write.contents c.write_graph.new.out) (graph_text c.in_ok-shown.shown.tables names)) =
     rw (c.deref-3.ensures.value, graph) at c.write_graph.ensures.ok in
     on_ok_weaker c.write_graph.result
-    (λ h. (record {
-      text = c.in_ok-text.text.items;
-      given = c.in_ok-text.ensures.ok;
-      table = c.in_ok-shown.shown.tables;
-      names = names;
-      shown = shown;
-      few = c.in_ok-judge_size.ensures.ok;
-      wrote = h;
-    }, refl))
+    (λ h. (
+      record {
+        text = c.in_ok-text.text.items;
+        given = c.in_ok-text.ensures.ok;
+        table = c.in_ok-shown.shown.tables;
+        names = names;
+        shown = shown;
+        few = c.in_ok-judge_size.ensures.ok;
+        wrote = h;
+      },
+      refl,
+    ))
     wrote
