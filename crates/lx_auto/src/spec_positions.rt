@@ -1,17 +1,19 @@
 // The positions of a specification, with what is known of them.
-ghost use Rattle.std.specs.Prelude.{◌≡◌, ◌<◌, ◌≤◌, ◌⊎◌, IfOk, IfErr};
+ghost use Rattle.std.specs.Prelude.{◌≡◌, ◌<◌, ◌≤◌, ◌⊎◌, min, IfOk, IfErr};
 ghost use Rattle.lx_rules.specs.views.Specs.{spec_view};
 ghost use Rattle.lx_auto.specs.Counts.{count_of_spec};
 ghost use Rattle.lx_auto.specs.PositionTables.{ArePositionsOf};
 ghost use Rattle.lx_auto.specs.Simplified.{simplified_pattern};
 
+use crate::count::{count_definitions, count_rules};
 use crate::fault::BuildFault;
 use crate::groups::groups_of;
 use crate::leaf::leaves_of;
+use crate::names::index_names;
 use crate::position_table::PositionTable;
 use crate::rule_unfolding::unfold_rules;
 use lx_rules::spec::Spec;
-use std::alloc::Global;
+use std::alloc::{AllocError, Global};
 
 /// The positions of a specification's rules, the bytes of each, and the bytes in groups.
 ///
@@ -37,4 +39,13 @@ pub(crate) fn positions_of<'s>(
         leaves,
         groups,
     })
+}
+
+/// How many positions a specification has, before anything is unfolded; 16,385 stands for all numbers above 16,384. Err: memory was refused.
+pub fn count_positions(alloc: Global, spec: &Spec) -> Result<u32, AllocError>
+    ensures { IfOk result (λ count. count ≡ min 16385 (count_of_spec (spec_view spec.now))) }
+{
+    let names = index_names(alloc, &spec.definitions)?;
+    let counts = count_definitions(alloc, &names)?;
+    Ok(count_rules(&spec.rules, &names, &counts))
 }

@@ -15,7 +15,7 @@ use std::alloc::{AllocError, Global};
 
 /// What a spelling in a pattern means.
 #[derive(Drop)]
-pub(crate) enum Lexeme {
+pub enum Lexeme {
     /// A byte, an escape, a period or a bracket expression.
     Set(ByteSet),
     /// A quoted string: its first byte, and those behind it.
@@ -201,7 +201,7 @@ fn brace_at(alloc: Global, text: &[u8]) -> Result<Option<(Lexeme, &[u8])>, Alloc
 }
 
 /// The lexeme at the front and what stands behind it; `None` where no spelling stands at the front.
-pub(crate) fn lexeme_at(alloc: Global, text: &[u8]) -> Result<Option<(Lexeme, &[u8])>, AllocError>
+pub fn lexeme_at(alloc: Global, text: &[u8]) -> Result<Option<(Lexeme, &[u8])>, AllocError>
     ensures { IfOk result (λ o. option_map (λ f. (lexeme_of f.0, f.1.now)) o ≡ lexeme_at text.now) }
 {
     let Some((first, rest)) = text.split_first() else {

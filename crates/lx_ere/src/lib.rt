@@ -7,7 +7,7 @@ pub mod expr;
 pub mod extent;
 pub mod fault;
 mod groups;
-mod lexeme;
+pub mod lexeme;
 mod name;
 mod prefix;
 pub mod read;

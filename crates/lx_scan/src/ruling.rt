@@ -1,6 +1,6 @@
 //! By tables of a specification the choice and the items of a text are those by its rules, and there is one list of items.
 
-ghost use Rattle.std.specs.Prelude.{◌≡◌, ◌<◌, ℕ, All, Bool, List, length};
+ghost use Rattle.std.specs.Prelude.{◌≡◌, ◌<◌, ℕ, All, Bool, List, Option, length};
 ghost use Rattle.lx_rules.specs.Choice.{IsChoice};
 ghost use Rattle.lx_rules.specs.Plain.{PlainSpec};
 ghost use Rattle.lx_tables.specs.Model.{AreTablesOf, IsTable, Table};
@@ -14,6 +14,11 @@ use crate::item::Item;
 pub fn choice_is_by_rules()
     ensures { (spec : PlainSpec) (table : Table) (condition : ℕ) (begin : Bool) (text : List ℕ) → AreTablesOf spec table → condition < length spec.conditions →
         All (λ b. b < 256) text → IsChoice spec condition begin text (choice_of table condition begin text) }
+{}
+
+/// A law: by the rules of a specification there is one choice for a text, in each condition, at line begin or not.
+pub fn one_choice()
+    ensures { (spec : PlainSpec) (condition : ℕ) (begin : Bool) (text : List ℕ) (x y : Option (ℕ × ℕ)) → IsChoice spec condition begin text x → IsChoice spec condition begin text y → x ≡ y }
 {}
 
 /// A law: tables of a specification give of every text of bytes its items by the rules.

@@ -18,8 +18,8 @@ use lx_rules::rule::Step;
 use lx_tables::Tables;
 use std::alloc::{AllocError, Global};
 
-// The condition behind the steps.
-fn condition_behind(steps: &[Step], condition: u16) -> u16
+/// The condition behind the steps of an action that is done in a condition.
+pub fn condition_behind(steps: &[Step], condition: u16) -> u16
     ensures { result ≡ condition_after steps.now condition }
 {
     let mut now = condition;

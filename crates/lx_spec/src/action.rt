@@ -35,9 +35,9 @@ pub enum Action<'a> {
     Own(Vec<Statement<'a>>),
 }
 
-// What stands at the front of some words: nothing, a brace, a statement of so many words, or no statement.
+/// What stands at the front of some words: nothing, a brace, a statement of so many words, or no statement.
 #[derive(Drop)]
-enum Turn<'t> {
+pub enum Turn<'t> {
     Finished,
     Opens,
     Closes,
@@ -220,8 +220,8 @@ fn letters_at<'t>(text: &[u8], words: &[Word<'t>]) -> Option<(Statement<'t>, usi
     }
 }
 
-// What stands at the front of some words.
-fn turn_at<'t>(words: &[Word<'t>]) -> Turn<'t>
+/// What stands at the front of some words.
+pub fn turn_at<'t>(words: &[Word<'t>]) -> Turn<'t>
     ensures value { turn_view words.now result ≡ plain.turn_at (words_view words.now) }
     ensures within { TakesWords result (length words.now) }
 {
@@ -291,10 +291,7 @@ fn is_bar(words: &[Word]) -> bool
 }
 
 /// The action that a text is; `None` where it has no form.
-pub(crate) fn read_action<'t>(
-    alloc: Global,
-    text: &'t [u8],
-) -> Result<Option<Action<'t>>, AllocError>
+pub fn read_action<'t>(alloc: Global, text: &'t [u8]) -> Result<Option<Action<'t>>, AllocError>
     ensures { IfOk result (λ o. MatchOption o ((a : plain.Action) → IsAction text.now a → ⊥) (λ a. IsAction text.now (action_view a))) }
 {
     let Some(words) = read_words(alloc, text)? else {

@@ -33,7 +33,8 @@ fn behind_code(c: u8) -> Mode
     }
 }
 
-fn next_mode(mode: Mode, c: u8) -> Mode
+/// What a byte makes of the mode before it.
+pub fn next_mode(mode: Mode, c: u8) -> Mode
     ensures { result ≡ plain.next_mode mode c }
 {
     match mode {
@@ -63,13 +64,15 @@ fn next_mode(mode: Mode, c: u8) -> Mode
     }
 }
 
-fn counts(mode: Mode) -> bool
+/// Whether a brace counts in this mode.
+pub fn counts(mode: Mode) -> bool
     ensures { result ≡ plain.counts mode }
 {
     matches!(mode, Mode::Code | Mode::Slash)
 }
 
-fn behind_line(mode: Mode) -> Mode
+/// What the end of a line makes of the mode before it.
+pub fn behind_line(mode: Mode) -> Mode
     ensures { result ≡ plain.behind_line mode }
 {
     match mode {
@@ -98,7 +101,7 @@ fn with_byte(count: Count, c: u8) -> Count
 }
 
 /// One more line.
-pub(crate) fn with_line(count: Count, line: &[u8]) -> Count
+pub fn with_line(count: Count, line: &[u8]) -> Count
     requires opened { count.opened + length line.now < 18446744073709551616 }
     requires closed { count.closed + length line.now < 18446744073709551616 }
     ensures value { result ≡ plain.with_line count line.now }
@@ -124,7 +127,7 @@ fn is_outside(mode: Mode) -> bool
 
 /// Whether the action ends with the lines that were counted: no comment is open, and as many braces at least are
 /// closed as opened.
-pub(crate) fn is_closed(count: Count) -> bool
+pub fn is_closed(count: Count) -> bool
     ensures { result ≡ plain.is_closed count }
 {
     is_outside(count.mode) && count.opened <= count.closed

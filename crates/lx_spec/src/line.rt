@@ -46,7 +46,7 @@ fn no_blanks_len(text: &[u8]) -> usize
 }
 
 /// The first word of a text with blanks between words, and the text behind it.
-pub(crate) fn next_word(text: &[u8]) -> Option<(&[u8], &[u8])>
+pub fn next_word(text: &[u8]) -> Option<(&[u8], &[u8])>
     ensures { option_map (λ w. (w.0.now, w.1.now)) result ≡ bytes.next_word text.now }
 {
     let rest = &text[blanks_len(text)..];
@@ -207,7 +207,7 @@ fn named_text(text: &[u8]) -> Line<'_>
 }
 
 /// The first form of Definitions that fits the line.
-pub(crate) fn line_of(text: &[u8]) -> Line<'_>
+pub fn line_of(text: &[u8]) -> Line<'_>
     ensures { line_view result ≡ plain.line_of text.now }
 {
     let Some((c, rest)) = text.split_first() else {

@@ -86,7 +86,7 @@ fn rule_begins<'a>(prefix: Prefix<'a>, text: &'a [u8]) -> RuleLine<'a>
 }
 
 /// The first form of Rules that fits the line.
-pub(crate) fn rule_line_of(text: &[u8]) -> RuleLine<'_>
+pub fn rule_line_of(text: &[u8]) -> RuleLine<'_>
     ensures { rule_line_view result ≡ plain.rule_line_of text.now }
 {
     let Some((c, _)) = text.split_first() else {

@@ -355,10 +355,7 @@ fn only_initial<'a>(alloc: Global) -> Result<ParsedSections<'a>, SpecFault>
 }
 
 /// What the sections of a text say, or their first fault in the order of the text.
-pub(crate) fn read_sections<'a>(
-    alloc: Global,
-    text: &'a [u8],
-) -> Result<ParsedSections<'a>, SpecFault>
+pub fn read_sections<'a>(alloc: Global, text: &'a [u8]) -> Result<ParsedSections<'a>, SpecFault>
     requires { length text.now ≤ max_specification_bytes }
     ensures { Gives sections_view result (plain.sections_of text.now) }
 {

@@ -125,7 +125,7 @@ fn sign_piece(c: u8, text: &[u8]) -> Piece<'_>
 }
 
 /// The first form that fits the front of the text.
-fn piece_at(text: &[u8]) -> Piece<'_>
+pub fn piece_at(text: &[u8]) -> Piece<'_>
     ensures value { piece_view result ≡ plain.piece_at text.now }
     ensures less { LeavesLess result (length text.now) }
 {

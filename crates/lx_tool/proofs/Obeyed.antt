@@ -1,6 +1,6 @@
 -- What was done by what the words ask for, or why it wasn't.
-use Rattle.std.proofs.Common.{ℕ, zero, suc, ◌≡◌, ◌≢◌, ◌<◌, List, [], ◌∷◌, Option, Some, None, All, Bor, Ok, Err, Result, IfOk, IfErr, inl, inr, length, arith, refl, ◌∙◌, ap, ap₂, subst}
-use Rattle.std.specs.Prelude.{◌⊎◌, Contains, IfSome}
+use Rattle.std.proofs.Common.{ℕ, zero, suc, ◌≡◌, ◌≢◌, ◌<◌, List, [], ◌∷◌, ◌++◌, Option, Some, None, All, Bor, Ok, Err, Result, IfOk, IfErr, inl, inr, length, arith, refl, sym, ◌∙◌, ap, ap₂, subst}
+use Rattle.std.specs.Prelude.{◌⊎◌, Contains, IfSome, MatchOption}
 use Rattle.std.proofs.lemmas.List.{length-map}
 use Rattle.std.specs.Io.KnownBytes.{Keeps, Appends}
 use Rattle.std.proofs.lemmas.List.Elements.{All-cons, All-nil, All-from_recursion}
@@ -8,14 +8,16 @@ use Rattle.lx_tables.specs.Model.{Table}
 use Rattle.lx_piece.specs.Plans.{PlainInput, max_files}
 use Rattle.lx_tables.specs.Output.{Wrote}
 use Rattle.lx_c.specs.Options.{Options, named}
-use Rattle.lx_words.specs.CommandLine.{Asked, PlainC, PlainFormWords, PlainOrder, PlainPrint, PlainShow, stored, run, scan, gen, up, show}
-use Rattle.lx_tool.specs.Commands.{AreRulesRefused, AreWordsRefused, HasDone, HasEnded, HasFailed, HasObeyed, IsCutShort, IsFormRefused, IsPrinted, IsRefused, IsRefusedLater, files_asked, inputs_asked, names_asked, stored_specification, stored_text}
+use Rattle.lx_words.specs.CommandLine.{Asked, PlainC, PlainCheck, PlainFormWords, PlainOrder, PlainPrint, PlainShow, stored, run, scan, gen, up, check, explain, show}
+use Rattle.lx_tool.specs.Commands.{AreRulesRefused, AreWordsRefused, HasDone, HasEnded, HasFailed, HasObeyed, HasToldFailure, IsCutShort, IsFormRefused, IsPrinted, IsRefused, IsRefusedLater, files_asked, inputs_asked, names_asked, stored_specification, stored_text}
+use Rattle.lx_tool.specs.Checking.{IsChecked, IsReported, IsWarningFault}
+use Rattle.lx_tool.specs.Explaining.{IsExplained, IsUnexplained}
 use Rattle.lx_tool.specs.Given.{AreListed, IsNoTable, IsUnread}
 use Rattle.lx_tool.specs.Naming.{IsListingRefused, IsWordsFault, input_uses}
 use Rattle.lx_tool.specs.Planning.{AreBytes, ListsByRules, ListsByRulesIn, ListsByTextIn}
 use Rattle.lx_tool.specs.Showing.{HasManyStates, HasNoneShown, IsNotShown, IsShown}
 use Rattle.lx_tool.specs.Sources.{texts_of, whole}
-use Rattle.lx_tool.specs.Statuses.{HasStatusOfCut, HidesNoMemory, status_of}
+use Rattle.lx_tool.specs.Statuses.{HasStatusOfCut, HidesNoMemory, WroteReport, report_in, status_of}
 use Rattle.lx_tool.specs.Printing.{AreKindsRefused, AreScannerWordsRefused, FailsPrinting, IsScannerFault, IsWritten, PrintsSpecification, PrintsTables}
 use Rattle.lx_tool.specs.Tabling.{HasNoTables}
 use Rattle.lx_tool.specs.declared.failure.Failure.{Failure}
@@ -34,6 +36,12 @@ appends_kept None mid new bytes h k = tt
 appends_kept (Some xs) None new bytes h k = absurd h
 appends_kept (Some xs) (Some ys) None bytes h k = absurd k
 appends_kept (Some xs) (Some ys) (Some zs) bytes h k = k ∙ h
+
+kept_appends : (old mid new : Option (List ℕ)) (bytes : List ℕ) → Keeps old mid → Appends mid new bytes → Appends old new bytes
+kept_appends None mid new bytes h k = tt
+kept_appends (Some xs) None new bytes h k = absurd h
+kept_appends (Some xs) (Some ys) None bytes h k = absurd k
+kept_appends (Some xs) (Some ys) (Some zs) bytes h k = k ∙ ap (λ bs. bs ++ bytes) h
 
 keeps_both : (old mid new : Option (List ℕ)) → Keeps old mid → Keeps mid new → Keeps old new
 keeps_both None mid new h k = tt
@@ -104,6 +112,8 @@ module _ (old mid new : Option (List ℕ)) (kept : Keeps mid new) where
     }
     obeyed_kept (Some (gen print)) h = (printed_kept (PrintsSpecification print.c) print h.0, h.1)
     obeyed_kept (Some (up print)) h = (printed_kept (PrintsTables print.c) print h.0, h.1)
+    obeyed_kept (Some (check c)) h = (record { text = h.0.text; given = h.0.given; accepted = h.0.accepted; said = h.0.said; wrote = appends_kept old mid new _ h.0.wrote kept }, h.1)
+    obeyed_kept (Some (explain word)) h = (record { said = h.0.said; wrote = appends_kept old mid new _ h.0.wrote kept; begins = h.0.begins }, h.1)
     obeyed_kept (Some (show s)) h = (shown_kept s h.0, h.1)
 
 -- ---- refusals
@@ -235,6 +245,35 @@ module _ {S : Type 0} (gives : S → List ℕ → PlainInput → S → Type 0) (
       (failure : Failure) → HasManyStates s.all table failure → HasFailed gives (Some (show s)) before old new failure
   show_too_large s table refused kept failure h = rw h.told (λ low. record { cause = subst (AreRulesRefused gives before (show s)) h.told (refused failure h); tells = tt; kept = kept })
 
+  -- the text is refused, as the report says
+  check_reported : (c : PlainCheck) (text : List ℕ) → ((failure : Failure) → IsReported c text failure → AreRulesRefused gives before (check c) failure) → Keeps old new →
+      (failure : Failure) → IsReported c text failure → HasFailed gives (Some (check c)) before old new failure
+  check_reported c text refused kept (Specification fault) h = λ low. let carried = h.carried in absurd cc
+  check_reported c text refused kept (Automaton fault) h = λ low. let carried = h.carried in absurd cc
+  check_reported c text refused kept (Tables fault) h = λ low. let carried = h.carried in absurd cc
+  check_reported c text refused kept (Unprintable fault) h = λ low. record { cause = refused (Unprintable fault) h; tells = tt; kept = kept }
+  check_reported c text refused kept (Words error) h = λ low. let carried = h.carried in absurd cc
+  check_reported c text refused kept TooManyFiles h = λ low. let carried = h.carried in absurd cc
+  check_reported c text refused kept InputTwice h = λ low. let carried = h.carried in absurd cc
+  check_reported c text refused kept (Refused fault) h = λ low. let carried = h.carried in absurd cc
+  check_reported c text refused kept (NotRead name) h = λ low. let carried = h.carried in absurd cc
+  check_reported c text refused kept Output h = λ low. absurd (omega (arith, low))
+  check_reported c text refused kept Memory h = λ low. absurd (omega (arith, low))
+
+  pub check_refused : (c : PlainCheck) (text : List ℕ) → ((failure : Failure) → IsReported c text failure → AreRulesRefused gives before (check c) failure) → Keeps old new →
+      (failure : Failure) → (failure ≡ Memory) ⊎ IsReported c text failure → HasFailed gives (Some (check c)) before old new failure
+  check_refused c text refused kept failure (inl h) = rw h (λ low. absurd (omega (arith, low)))
+  check_refused c text refused kept failure (inr h) = check_reported c text refused kept failure h
+
+  -- or its words are
+  pub warning_refused : (c : PlainCheck) → Keeps old new → (failure : Failure) → (fault : RequestFault) × (failure ≡ Refused fault) × IsWarningFault fault → HasFailed gives (Some (check c)) before old new failure
+  warning_refused c kept failure h = rw h.1 (λ low. record { cause = inl h.2; tells = tt; kept = kept })
+
+  -- nothing is known of a word
+  pub explain_refused : (word : Option (List ℕ)) (failure : Failure) → (status_of failure < 4 → IsUnexplained word failure × Keeps old new) → HasFailed gives (Some (explain word)) before old new failure
+  explain_refused word failure h = λ low. let known = (h low).0 in
+      rw known.0 (record { cause = subst (IsUnexplained word) known.0 known; tells = tt; kept = (h low).1 })
+
   -- the stored specification was refused
   pub stored_refused : (failure : Failure) → (status_of failure < 4 → HasNoTables stored_specification failure × Keeps old new) → HasFailed gives (Some stored) before old new failure
   stored_refused failure h = λ low. rules_refused stored (HasNoTables stored_specification) (λ f r. r) (no_tables_tells stored_specification) (h low).1 (λ r. absurd r) (λ r. absurd r) (λ fault r. absurd r) (λ name r. absurd r) (λ error r. absurd r) failure (h low).0 low
@@ -252,9 +291,28 @@ pub ended_cut : {S : Type 0} (gives : S → List ℕ → PlainInput → S → Ty
 ended_cut gives before after old new cut None some h = absurd (some h)
 ended_cut gives before after old new cut (Some asked) some h = record { cut = cut; some = some; done = h }
 
+-- what happened, once what is to be said of it is on the output
+module _ (old mid new : Option (List ℕ)) where
+  kept_wrote : (report : Option (List ℕ)) → Keeps old mid → MatchOption report (Keeps mid new) (λ bytes. Appends mid new bytes) → MatchOption report (Keeps old new) (λ bytes. Appends old new bytes)
+  kept_wrote None h k = keeps_both old mid new h k
+  kept_wrote (Some bytes) h k = kept_appends old mid new bytes h k
+
+  pub said_ok : {V : Type 0} (Holds : V → Option (List ℕ) → Type 0) (ended said : Result V Failure) → IfOk ended (λ v. Holds v mid) → IfOk said (λ v. (ended ≡ Ok v) × (new ≡ mid)) → IfOk said (λ v. Holds v new)
+  said_ok Holds ended (Ok v) h k = let held : Holds v mid = rw k.0 at h in subst (λ n. Holds v n) (sym k.1) held
+  said_ok Holds ended (Err failure) h k = tt
+
+  pub said_err : {S V : Type 0} (gives : S → List ℕ → PlainInput → S → Type 0) (asked : Option Asked) (before : S) (ended said : Result V Failure) → IfErr ended (HasFailed gives asked before old mid) →
+      IfErr said (λ failure. status_of failure < 4 → (ended ≡ Err failure) × WroteReport failure mid new) → IfErr said (HasToldFailure gives asked before old new)
+  said_err gives asked before ended (Ok v) h k = tt
+  said_err gives asked before ended (Err failure) h k = λ low.
+      let wrote = k low in
+      let failed : HasFailed gives asked before old mid failure = rw wrote.0 at h in
+      let refused = failed low in
+      record { cause = refused.cause; tells = refused.tells; wrote = kept_wrote (report_in failure) refused.kept wrote.1 }
+
 -- what is known at an exit status from 1 to 3
 pub has_ended : {S V : Type 0} (gives : S → List ℕ → PlainInput → S → Type 0) (asked : Option Asked) (before after : S) (old new : Option (List ℕ)) (items : V → List (Bor (List ℕ))) (ended : Result V Failure) (status : ℕ) →
-    IfOk ended (λ cut. HasObeyed gives before after old new (texts_of (items cut)) asked) → IfErr ended (HasFailed gives asked before old new) →
+    IfOk ended (λ cut. HasObeyed gives before after old new (texts_of (items cut)) asked) → IfErr ended (HasToldFailure gives asked before old new) →
     IfOk ended (λ cut. HasStatusOfCut status (items cut)) → IfErr ended (λ failure. status ≡ status_of failure) → 0 < status → status < 4 → HasEnded gives asked before after old new status
 has_ended gives asked before after old new items (Ok cut) status obeyed failed told other some few =
     let names : List (List ℕ) = texts_of (items cut) in

@@ -4,13 +4,15 @@ use Rattle.std.specs.Option.{option_map_or}
 use Rattle.std.specs.Io.KnownBytes.{Keeps}
 use Rattle.lx_tables.specs.Model.{Table}
 use Rattle.lx_piece.specs.Plans.{PlainInput, max_files}
-use Rattle.lx_words.specs.CommandLine.{Asked, PlainOrder, PlainPrint, stored, run, scan, gen, up, show}
+use Rattle.lx_words.specs.CommandLine.{Asked, PlainOrder, PlainPrint, stored, run, scan, gen, up, check, explain, show}
+use Rattle.lx_tool.specs.Checking.{IsChecked, IsReported, IsWarningFault}
+use Rattle.lx_tool.specs.Explaining.{IsExplained, IsUnexplained}
 use Rattle.lx_tool.specs.Given.{AreListed, IsNoTable}
 use Rattle.lx_tool.specs.Naming.{AreFileNames, AreJudged, IsListingRefused, IsWordsFault, input_count, input_uses}
 use Rattle.lx_tool.specs.Planning.{ListsAsked, ListsByRules, ListsByRulesIn, ListsByTextIn}
 use Rattle.lx_tool.specs.Showing.{IsNotShown, IsShown}
 use Rattle.lx_tool.specs.Sources.{whole}
-use Rattle.lx_tool.specs.Statuses.{HidesNoMemory, status_of}
+use Rattle.lx_tool.specs.Statuses.{HidesNoMemory, WroteReport, status_of}
 use Rattle.lx_tool.specs.Printing.{AreKindsOfSpecificationRefused, AreKindsOfTablesRefused, IsPlaced, IsScannerFault, IsWritten, PrintsSpecification, PrintsTables}
 use Rattle.lx_tool.specs.Tabling.{AreTablesIn, AreTablesOfText, HasNoTables}
 use Rattle.lx_tool.specs.declared.failure.Failure.{Failure}
@@ -61,6 +63,8 @@ HasDone gives before after old new cut (run order) = AreListedBy gives (λ text 
 HasDone gives before after old new cut (scan order) = AreListedBy gives (λ text names inputs. ListsByTextIn order.form text names inputs old new) order before after cut
 HasDone gives before after old new cut (gen print) = IsPrinted gives (PrintsSpecification print.c) print before after old new × (cut ≡ [])
 HasDone gives before after old new cut (up print) = IsPrinted gives (PrintsTables print.c) print before after old new × (cut ≡ [])
+HasDone gives before after old new cut (check c) = IsChecked gives c before after old new × (cut ≡ [])
+HasDone gives before after old new cut (explain word) = IsExplained word old new × (cut ≡ [])
 HasDone gives before after old new cut (show s) = IsShown gives s before after old new × (cut ≡ [])
 
 -- ---- what is put into files
@@ -81,6 +85,8 @@ HasPlaced gives places before old new (Some (up print)) = HasPlacedText gives pl
 HasPlaced gives places before old new (Some (run order)) = new ≡ old
 HasPlaced gives places before old new (Some (scan order)) = new ≡ old
 HasPlaced gives places before old new (Some stored) = new ≡ old
+HasPlaced gives places before old new (Some (check c)) = new ≡ old
+HasPlaced gives places before old new (Some (explain word)) = new ≡ old
 HasPlaced gives places before old new (Some (show s)) = new ≡ old
 HasPlaced gives places before old new None = new ≡ old
 
@@ -93,6 +99,8 @@ files_asked (run order) = order.files
 files_asked (scan order) = order.files
 files_asked (gen print) = []
 files_asked (up print) = []
+files_asked (check c) = []
+files_asked (explain word) = []
 files_asked (show s) = []
 
 -- the names in the words of a listing: that of the specification or the tables, that of LIST, and those of the files
@@ -106,6 +114,8 @@ names_asked (run order) = names_of_order order
 names_asked (scan order) = names_of_order order
 names_asked (gen print) = print.rules ∷ []
 names_asked (up print) = print.rules ∷ []
+names_asked (check c) = c.rules ∷ []
+names_asked (explain word) = []
 names_asked (show s) = s.rules ∷ []
 
 -- how many of them are standard input
@@ -115,6 +125,8 @@ inputs_asked (run order) = input_uses order order.files
 inputs_asked (scan order) = input_uses order order.files
 inputs_asked (gen print) = input_count print.rules
 inputs_asked (up print) = input_count print.rules
+inputs_asked (check c) = input_count c.rules
+inputs_asked (explain word) = 0
 inputs_asked (show s) = input_count s.rules
 
 -- The sources gave the text with this name, whole, which is refused.
@@ -124,13 +136,15 @@ pub record IsTextRefused {S : Type 0} (gives : S → List ℕ → PlainInput →
   pub given : gives before name (whole text) after
   pub refused : Refuses text
 
--- the specification or the tables are refused
+-- the specification or the tables are refused, or nothing is known of the word
 abbrev pub AreRulesRefused : {S : Type 0} → (S → List ℕ → PlainInput → S → Type 0) → S → Asked → Failure → Type 0
 AreRulesRefused gives before stored failure = HasNoTables stored_specification failure
 AreRulesRefused gives before (run order) failure = IsTextRefused gives (λ text. HasNoTables text failure) order.rules before
 AreRulesRefused gives before (scan order) failure = IsTextRefused gives (λ text. IsNoTable text failure) order.rules before
 AreRulesRefused gives before (gen print) failure = IsTextRefused gives (λ text. HasNoTables text failure ⊎ AreKindsOfSpecificationRefused print.c text failure) print.rules before
 AreRulesRefused gives before (up print) failure = IsTextRefused gives (λ text. IsNoTable text failure ⊎ AreKindsOfTablesRefused print.c text failure) print.rules before
+AreRulesRefused gives before (check c) failure = IsTextRefused gives (λ text. IsReported c text failure) c.rules before
+AreRulesRefused gives before (explain word) failure = IsUnexplained word failure
 AreRulesRefused gives before (show s) failure = IsTextRefused gives (λ text. IsNotShown s text failure) s.rules before
 
 -- the words of a listing are refused
@@ -156,6 +170,8 @@ IsRefusedLater gives before (run order) failure = RulesGiven gives AreTablesOfTe
 IsRefusedLater gives before (scan order) failure = RulesGiven gives AreTablesIn order before (λ table between. IsListingRefused gives order table between failure)
 IsRefusedLater gives before (gen print) failure = ⊥
 IsRefusedLater gives before (up print) failure = ⊥
+IsRefusedLater gives before (check c) failure = ⊥
+IsRefusedLater gives before (explain word) failure = ⊥
 IsRefusedLater gives before (show s) failure = ⊥
 
 -- `-o` is given, and no files can be made
@@ -173,6 +189,8 @@ IsFormRefused (run order) fault = IsWordsFault order fault
 IsFormRefused (scan order) fault = IsWordsFault order fault
 IsFormRefused (gen print) fault = IsTargetRefused print fault ⊎ IsScannerFault print.c fault
 IsFormRefused (up print) fault = IsTargetRefused print fault ⊎ IsScannerFault print.c fault
+IsFormRefused (check c) fault = IsWarningFault fault
+IsFormRefused (explain word) fault = ⊥
 IsFormRefused (show s) fault = ⊥
 
 -- why what the words ask for was not done
@@ -212,8 +230,17 @@ pub record IsRefused {S : Type 0} (gives : S → List ℕ → PlainInput → S �
 abbrev pub HasFailed : {S : Type 0} → (S → List ℕ → PlainInput → S → Type 0) → Option Asked → S → Option (List ℕ) → Option (List ℕ) → Failure → Type 0
 HasFailed gives asked before old new failure = status_of failure < 4 → IsRefused gives asked before old new failure
 
+-- What the words ask for was not done, for a cause that isn't the output or memory; nothing was written but the report of `check`.
+pub record IsTold {S : Type 0} (gives : S → List ℕ → PlainInput → S → Type 0) (asked : Option Asked) (before : S) (old new : Option (List ℕ)) (failure : Failure) : Type 0 where
+  pub cause : MatchOption asked (status_of failure ≡ 2) (λ a. HasCause gives before a failure)
+  pub tells : HidesNoMemory failure
+  pub wrote : WroteReport failure old new
+
+abbrev pub HasToldFailure : {S : Type 0} → (S → List ℕ → PlainInput → S → Type 0) → Option Asked → S → Option (List ℕ) → Option (List ℕ) → Failure → Type 0
+HasToldFailure gives asked before old new failure = status_of failure < 4 → IsTold gives asked before old new failure
+
 -- What is known at an exit status from 1 to 3: a cut file, or why the words were refused or not obeyed.
 abbrev pub HasEnded : {S : Type 0} → (S → List ℕ → PlainInput → S → Type 0) → Option Asked → S → S → Option (List ℕ) → Option (List ℕ) → ℕ → Type 0
 HasEnded gives asked before after old new status =
     ((status ≡ 3) × IsCutShort gives asked before after old new)
-    ⊎ ((failure : Failure) × (status ≡ status_of failure) × IsRefused gives asked before old new failure)
+    ⊎ ((failure : Failure) × (status ≡ status_of failure) × IsTold gives asked before old new failure)

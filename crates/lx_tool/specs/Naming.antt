@@ -16,7 +16,7 @@ use Rattle.lx_tool.specs.Statuses.{failure_of_choice}
 use Rattle.lx_tool.specs.declared.failure.Failure.{Failure}
 use Rattle.lx_tool.specs.declared.failure.Failure.TheVariants.{Specification, Automaton, Tables, Unprintable, Words, TooManyFiles, InputTwice, Refused, NotRead, Output, Memory}
 use Rattle.lx_tool.specs.declared.failure.RequestFault.{RequestFault}
-use Rattle.lx_tool.specs.declared.failure.RequestFault.TheVariants.{NoKind, EmptyKind, NoFormat, NoFile, NoName, NoScanner, NoTargets, Scanner, ScannerAndHeader, NumberTooLarge}
+use Rattle.lx_tool.specs.declared.failure.RequestFault.TheVariants.{NoKind, EmptyKind, NoFormat, NoFile, NoName, NoScanner, NoTargets, NoWarning, Scanner, ScannerAndHeader, NumberTooLarge}
 
 -- ---- the names of files
 
@@ -101,6 +101,7 @@ IsWordsFault order (NoKind word) = ⊥
 IsWordsFault order EmptyKind = ⊥
 IsWordsFault order (NoName line list) = ⊥
 IsWordsFault order NoTargets = ⊥
+IsWordsFault order (NoWarning word) = ⊥
 IsWordsFault order ScannerAndHeader = ⊥
 IsWordsFault order NoScanner = ⊥
 IsWordsFault order (Scanner f) = ⊥
@@ -115,6 +116,7 @@ IsListingFault gives order table before EmptyKind = IsSomeAnd order.form.only Is
 IsListingFault gives order table before (NoName line list) =
     IsSomeAnd order.list (λ l. (list.now ≡ l.name) × ListSays gives l before (λ text. IsNoName l.separator text line))
 IsListingFault gives order table before NoTargets = ⊥
+IsListingFault gives order table before (NoWarning word) = ⊥
 IsListingFault gives order table before ScannerAndHeader = ⊥
 IsListingFault gives order table before NoScanner = ⊥
 IsListingFault gives order table before (Scanner f) = ⊥
@@ -149,6 +151,7 @@ IsFormatFault words (NoKind word) = ⊥
 IsFormatFault words EmptyKind = ⊥
 IsFormatFault words (NoName line list) = ⊥
 IsFormatFault words NoTargets = ⊥
+IsFormatFault words (NoWarning word) = ⊥
 IsFormatFault words ScannerAndHeader = ⊥
 IsFormatFault words NoScanner = ⊥
 IsFormatFault words (Scanner f) = ⊥

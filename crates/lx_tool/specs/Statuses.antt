@@ -1,5 +1,6 @@
 -- Why a command is not done, and the exit statuses of the program.
-use Rattle.std.specs.Prelude.{ℕ, List, length, ◌<◌, ◌≡◌, ◌≢◌, ◌⊎◌, ⊤}
+use Rattle.std.specs.Prelude.{ℕ, List, Option, Some, None, MatchOption, length, ◌<◌, ◌≡◌, ◌≢◌, ◌⊎◌, ⊤}
+use Rattle.std.specs.Io.KnownBytes.{Appends, Keeps}
 use Rattle.clap.specs.declared.error.kind.ErrorKind.TheVariants as kind
 use Rattle.clap.specs.Words.{kind_of}
 use Rattle.lx_auto.specs.declared.fault.BuildFault.{BuildFault}
@@ -16,6 +17,8 @@ use Rattle.lx_tool.specs.declared.failure.Failure.{Failure}
 use Rattle.lx_tool.specs.declared.failure.Failure.TheVariants.{Specification, Automaton, Tables, Unprintable, Words, TooManyFiles, InputTwice, Refused, NotRead, Output, Memory}
 use Rattle.lx_tool.specs.declared.target.TargetFault.{TargetFault}
 use Rattle.lx_tool.specs.declared.target.TargetFault.TheVariants as target
+use Rattle.lx_tool.specs.declared.failure.PrintFault.{PrintFault}
+use Rattle.lx_tool.specs.declared.failure.PrintFault.TheVariants.{Numbers, Reserved, Declared, TooManyStates, Unexplained, Reported}
 use Rattle.lx_tool.specs.declared.failure.RequestFault.TheVariants.{NoKind, EmptyKind, NoTargets}
 
 -- the exit status of a command that is not done
@@ -31,6 +34,32 @@ status_of (Refused fault) = 2
 status_of (NotRead name) = 3
 status_of Output = 4
 status_of Memory = 5
+
+-- the report that a failure carries, which goes to the output
+abbrev pub report_of_print : PrintFault → Option (List ℕ)
+report_of_print Numbers = None
+report_of_print (Reserved name) = None
+report_of_print (Declared name) = None
+report_of_print (TooManyStates states) = None
+report_of_print Unexplained = None
+report_of_print (Reported report) = Some report.items
+
+abbrev pub report_in : Failure → Option (List ℕ)
+report_in (Specification fault) = None
+report_in (Automaton fault) = None
+report_in (Tables fault) = None
+report_in (Unprintable fault) = report_of_print fault
+report_in (Words error) = None
+report_in TooManyFiles = None
+report_in InputTwice = None
+report_in (Refused fault) = None
+report_in (NotRead name) = None
+report_in Output = None
+report_in Memory = None
+
+-- What was written where a command is not done: its report, and else nothing.
+abbrev pub WroteReport : Failure → Option (List ℕ) → Option (List ℕ) → Type 0
+WroteReport failure old new = MatchOption (report_in failure) (Keeps old new) (λ report. Appends old new report)
 
 -- the exit status where all was done, but that these files were cut short
 pub record HasStatusOfCut {X : Type 0} (status : ℕ) (cut : List X) : Type 0 where

@@ -1,7 +1,7 @@
 //! Why a command is not done.
 
-ghost use Rattle.std.specs.Prelude.{◌≡◌};
-ghost use Rattle.lx_tool.specs.Statuses.{status_of};
+ghost use Rattle.std.specs.Prelude.{◌≡◌, option_map};
+ghost use Rattle.lx_tool.specs.Statuses.{report_in, report_of_print, status_of};
 
 use crate::target::TargetFault;
 use clap::Error as WordsError;
@@ -45,6 +45,9 @@ pub enum RequestFault<'a> {
     /// What `--prefix` or `--include` says is refused.
     #[error("{0}")]
     Scanner(OptionFault),
+    /// `-W` has this word, which names no warning.
+    #[error("no warning {0}")]
+    NoWarning(&'a str),
     /// The last file's number would be above 4,294,967,295.
     #[error("the number of the last file would be above 4294967295")]
     NumberTooLarge,
@@ -61,6 +64,26 @@ pub enum PrintFault {
     Declared(Vec<u8>),
     /// A graph would have so many states, and not all are asked for.
     TooManyStates(u32),
+    /// No code and no cause has the name that is asked for.
+    Unexplained,
+    /// A specification is refused, or has warnings that are errors, as this report says, which goes to the output.
+    Reported(Vec<u8>),
+}
+
+impl PrintFault {
+    // The report that goes to the output.
+    fn report(&self) -> Option<&[u8]>
+        ensures { option_map (λ report. report.now) result ≡ report_of_print self.now }
+    {
+        match self {
+            PrintFault::Reported(report) => Some(report),
+            PrintFault::Numbers
+            | PrintFault::Reserved(_)
+            | PrintFault::Declared(_)
+            | PrintFault::TooManyStates(_)
+            | PrintFault::Unexplained => None,
+        }
+    }
 }
 
 impl Display for PrintFault {
@@ -75,6 +98,8 @@ impl Display for PrintFault {
                     "{states} states are more than 200, and shown with --all alone"
                 )
             }
+            PrintFault::Unexplained => f.write_str("no code and no cause has this name"),
+            PrintFault::Reported(_) => f.write_str("the specification is refused"),
         }
     }
 }
@@ -123,6 +148,25 @@ pub enum Failure<'a> {
 }
 
 impl Failure<'_> {
+    /// The report that goes to the output.
+    pub(crate) fn report(&self) -> Option<&[u8]>
+        ensures { option_map (λ report. report.now) result ≡ report_in self.now }
+    {
+        match self {
+            Failure::Unprintable(fault) => fault.report(),
+            Failure::Specification(_)
+            | Failure::Automaton(_)
+            | Failure::Tables(_)
+            | Failure::Words(_)
+            | Failure::TooManyFiles
+            | Failure::InputTwice
+            | Failure::Refused(_)
+            | Failure::NotRead(_)
+            | Failure::Output
+            | Failure::Memory => None,
+        }
+    }
+
     /// The exit status.
     pub(crate) fn status(&self) -> u8
         ensures { result ≡ status_of self.now }

@@ -2,6 +2,8 @@
 #![tactic(auto)]
 
 mod asked;
+mod checking;
+mod explaining;
 mod failure;
 mod given;
 mod merged;

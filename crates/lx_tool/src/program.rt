@@ -1,18 +1,20 @@
 //! The program `lx`, but for the real files and streams.
 
-ghost use Rattle.std.specs.Prelude.{◌≡◌, ◌<◌, ◌≤◌, [], ◌∷◌, Some, IfOk, IfErr, OnOk, IfSome, length};
-ghost use Rattle.std.specs.Io.KnownBytes.{Keeps};
+ghost use Rattle.std.specs.Prelude.{◌≡◌, ◌<◌, ◌≤◌, [], ◌∷◌, Some, Ok, Err, IfOk, IfErr, OnOk, IfSome, length};
+ghost use Rattle.std.specs.Io.KnownBytes.{Appends, Keeps};
 ghost use Rattle.lx_words.specs.CommandLine.{asked_as, asked_by, plain_order, plain_print, run as run-asked, scan as scan-asked, gen as gen-asked, up as up-asked, words_of};
 ghost use Rattle.lx_tool.specs.Commands.{HasDone, HasEnded, HasFailed, HasObeyed, HasPlaced, stored_specification, stored_text};
 ghost use Rattle.lx_tool.specs.Planning.{ListsByRules};
 ghost use Rattle.lx_tool.specs.Sources.{texts_of, whole};
-ghost use Rattle.lx_tool.specs.Statuses.{HasStatusOfCut, status_of};
+ghost use Rattle.lx_tool.specs.Statuses.{HasStatusOfCut, WroteReport, status_of};
 ghost use Rattle.lx_tool.specs.Tabling.{HasNoTables};
 
 use crate::asked::{judge_words, list_asked};
-use crate::failure::Failure;
+use crate::checking::check_named;
+use crate::explaining::explain_named;
+use crate::failure::{Failure, PrintFault};
 use crate::given::read_whole;
-use crate::output::Output;
+use crate::output::{Output, write_text};
 use crate::planning::{list_files, listings_are_by_rules};
 use crate::printing::{judge_scanner_words, named_options, print_asked};
 use crate::showing::show_named;
@@ -54,7 +56,7 @@ pub fn run<R: Threads + Wait + Sync, S: Sources, O: Write, E: Write>(
     ensures known { result ≤ 5 }
     ensures done { result ≡ 0 →
         IfSome (asked_by (words_of words.now)) (HasDone S.gives sources.old sources.new (O.contents out.old) (O.contents out.new) []) }
-    // All was listed and a file was cut short; or the words, the specification, the tables or a file were refused, and nothing was written.
+    // All was listed and a file was cut short; or the words, the specification, the tables or a file were refused, and nothing was written but the report of `check`.
     ensures ended { 0 < result → result < 4 →
         HasEnded S.gives (asked_by (words_of words.now)) sources.old sources.new (O.contents out.old) (O.contents out.new) result }
 {
@@ -70,6 +72,7 @@ pub fn run<R: Threads + Wait + Sync, S: Sources, O: Write, E: Write>(
         LineWrites::EachLine,
         out,
     );
+    let ended = say(ended, out);
     tell(ended, sources, &targets, false, err)
 }
 
@@ -89,7 +92,7 @@ pub fn run_with<R: Threads + Wait + Sync, S: Sources, T: Targets, O: Write + Out
         IfSome (asked_by (words_of words.now)) (HasDone S.gives sources.old sources.new (O.contents out.old) (O.contents out.new) []) }
     // The file of `-o` was made.
     ensures placed { result ≡ 0 → HasPlaced S.gives T.places sources.old targets.old targets.new (asked_by (words_of words.now)) }
-    // All was listed and a file was cut short; or the words, the specification, the tables or a file were refused, and nothing was written.
+    // All was listed and a file was cut short; or the words, the specification, the tables or a file were refused, and nothing was written but the report of `check`.
     ensures ended { 0 < result → result < 4 →
         HasEnded S.gives (asked_by (words_of words.now)) sources.old sources.new (O.contents out.old) (O.contents out.new) result }
 {
@@ -104,6 +107,7 @@ pub fn run_with<R: Threads + Wait + Sync, S: Sources, T: Targets, O: Write + Out
         LineWrites::Whole,
         out,
     );
+    let ended = say(ended, out);
     tell(ended, sources, targets, out.is_closed(), err)
 }
 
@@ -139,6 +143,8 @@ fn tell_failure<S: Sources, T: Targets, E: Write>(
     let _ = match failure {
         // Its text ends with a newline.
         Failure::Words(error) => write!(err, "{error}"),
+        // What there is to be said is on the output.
+        Failure::Unprintable(PrintFault::Reported(_)) => Ok(()),
         _ => writeln!(err, "{failure}"),
     };
     match failure {
@@ -196,6 +202,42 @@ fn execute<'a, R: Threads + Wait + Sync, S: Sources, T: Targets, O: Write>(
     Ok(cut)
 }
 
+// Writes the report that a failure carries.
+fn write_report<'a, O: Write>(failure: &Failure<'_>, out: &mut O) -> Result<(), Failure<'a>>
+    ensures ok { OnOk result (WroteReport failure.now (O.contents out.old) (O.contents out.new)) }
+    ensures err { IfErr result (λ other. other ≡ Failure.Output) }
+{
+    match failure.report() {
+        Some(report) => write_report_bytes(report, out),
+        None => Ok(()),
+    }
+}
+
+fn write_report_bytes<'a, O: Write>(report: &[u8], out: &mut O) -> Result<(), Failure<'a>>
+    ensures ok { OnOk result (Appends (O.contents out.old) (O.contents out.new) report.now) }
+    ensures err { IfErr result (λ other. other ≡ Failure.Output) }
+{
+    write_text(report, out)?;
+    out.flush().map_err(|_| Failure::Output)
+}
+
+// What happened, once what is to be said of it is on the output.
+fn say<'a, O: Write>(
+    ended: Result<Vec<&'a str>, Failure<'a>>,
+    out: &mut O,
+) -> Result<Vec<&'a str>, Failure<'a>>
+    ensures ok { IfOk result (λ cut. (ended.entry ≡ Ok cut) × (O.contents out.new ≡ O.contents out.old)) }
+    ensures err { IfErr result (λ failure. status_of failure < 4 → (ended.entry ≡ Err failure) × WroteReport failure (O.contents out.old) (O.contents out.new)) }
+{
+    match ended {
+        Ok(cut) => Ok(cut),
+        Err(failure) => {
+            write_report(&failure, out)?;
+            Err(failure)
+        }
+    }
+}
+
 // Does what a request asks for. Nothing but a listing has files.
 fn carry_out<'a, R: Threads + Wait + Sync, S: Sources, T: Targets, O: Write>(
     rt: &R,
@@ -228,6 +270,14 @@ fn carry_out<'a, R: Threads + Wait + Sync, S: Sources, T: Targets, O: Write>(
         }
         Request::Up(words) => {
             upgrade_named(alloc, words, sources, targets, out)?;
+            Ok(Vec::new(alloc))
+        }
+        Request::Check(words) => {
+            check_named(alloc, &words, sources, out)?;
+            Ok(Vec::new(alloc))
+        }
+        Request::Explain(word) => {
+            explain_named(alloc, word, out)?;
             Ok(Vec::new(alloc))
         }
         Request::Show(words) => {

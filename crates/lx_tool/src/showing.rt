@@ -10,6 +10,7 @@ ghost use Rattle.lx_tool.specs.Showing.{AreShown, HasManyStates, HasNoneShown, b
 
 use crate::failure::{Failure, PrintFault};
 use crate::given::read_whole;
+use crate::output::write_text;
 use crate::printing::names_of;
 use crate::source::Sources;
 use crate::tabling::{read_tables, specification_of, tables_of};
@@ -71,13 +72,6 @@ fn judge_size<'a>(words: &ShowWords<'_>, tables: &Tables) -> Result<(), Failure<
     Err(Failure::Unprintable(PrintFault::TooManyStates(tables.states())))
 }
 
-fn write_graph<'a, O: Write>(graph: &[u8], out: &mut O) -> Result<(), Failure<'a>>
-    ensures ok { OnOk result (Appends (O.contents out.old) (O.contents out.new) graph.now) }
-    ensures err { IfErr result (λ failure. failure ≡ Failure.Output) }
-{
-    out.write_all(graph).map_err(|_| Failure::Output)
-}
-
 /// Prints the automaton of a specification, or of tables, as a graph.
 pub(crate) fn show_named<'a, S: Sources, O: Write>(
     alloc: Global,
@@ -92,5 +86,5 @@ pub(crate) fn show_named<'a, S: Sources, O: Write>(
     let shown = shown_of(alloc, &text)?;
     judge_size(&words, &shown.tables)?;
     let graph = graph_of(alloc, &shown.tables, &shown.names)?;
-    write_graph(&graph, out)
+    write_text(&graph, out)
 }

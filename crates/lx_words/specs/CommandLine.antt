@@ -15,7 +15,9 @@ use Rattle.std.specs.declared.alloc.Global.{Global}
 use Rattle.std.specs.declared.string.String.{String}
 use Rattle.lx_piece.specs.Plans.{max_items}
 use Rattle.lx_post.specs.Claimed.{max_workers}
+use Rattle.lx_words.specs.Limits.{most_told}
 use Rattle.lx_words.specs.declared.request.CWords.{CWords}
+use Rattle.lx_words.specs.declared.request.CheckWords.{CheckWords}
 use Rattle.lx_words.specs.declared.request.FormWords.{FormWords}
 use Rattle.lx_words.specs.declared.request.ListRequest.{ListRequest}
 use Rattle.lx_words.specs.declared.request.ListWords.{ListWords}
@@ -99,6 +101,30 @@ with_c app =
 abbrev pub one_file_app : Text → Text → App
 one_file_app name id = with_rule (with_c (with_rule (new_app name) target_rule)) (rules_rule id)
 
+-- `-q`
+abbrev pub quiet_rule : Rule
+quiet_rule = record (new_rule (codes "quiet")) { short = Some 113; action = Some SetTrue }
+
+-- `-W NAME`, any number of times
+abbrev pub warnings_rule : Rule
+warnings_rule = record (new_rule (codes "warnings")) { short = Some 87; value_names = 1; action = Some Append }
+
+-- `--most N`, from 1 to `most_told`, and 20 where it isn't given
+abbrev pub most_rule : Rule
+most_rule = record (option_rule (codes "most") (codes "most")) {
+  parser = Some (Signed (pos 1) (pos most_told));
+  defaults = codes "20" ∷ [];
+}
+
+-- `[-q] [-W NAME].. [--most N] [--json] SPEC`
+abbrev pub check_app : App
+check_app =
+    with_rule (with_rule (with_rule (with_rule (with_rule (new_app (codes "check")) quiet_rule) warnings_rule) most_rule) (flag_rule (codes "json"))) (rules_rule (codes "SPEC"))
+
+-- `[WORD]`
+abbrev pub explain_app : App
+explain_app = with_rule (new_app (codes "explain")) (new_rule (codes "WORD"))
+
 -- `[--all] RULES`
 abbrev pub show_app : App
 show_app = with_rule (with_rule (new_app (codes "show")) (flag_rule (codes "all"))) (rules_rule (codes "RULES"))
@@ -128,7 +154,7 @@ with_listings app = with_subcommand (with_subcommand (with_subcommand (with_subc
 
 -- the commands that help to write a specification
 abbrev pub with_further : App → App
-with_further app = with_subcommand app show_app.top
+with_further app = with_subcommand (with_subcommand (with_subcommand app check_app.top) explain_app.top) show_app.top
 
 unfoldable pub lx_app : App
 lx_app = with_further (with_listings bare_app)
@@ -172,6 +198,14 @@ pub record PlainPrint : Type 0 where
   pub target : Option Text
   pub c : PlainC
 
+-- what is said of a specification: the name of it, whether the findings are said alone, what `-W` says, in order, how many errors at most, and whether in JSON
+pub record PlainCheck : Type 0 where
+  pub rules : Text
+  pub quiet : Bool
+  pub warnings : List Text
+  pub most : ℕ
+  pub json : Bool
+
 -- a graph: the name of a specification or of tables, and whether it may have any number of states
 pub record PlainShow : Type 0 where
   pub rules : Text
@@ -183,6 +217,8 @@ pub data Asked : Type 0 where
   scan : PlainOrder → Asked
   gen : PlainPrint → Asked
   up : PlainPrint → Asked
+  check : PlainCheck → Asked
+  explain : Option Text → Asked
   show : PlainShow → Asked
 
 -- the number of an option, from 1 to `most`, and `default` where it isn't given
@@ -248,13 +284,28 @@ c_in rows = record {
 abbrev pub print_in : Text → List Row → PlainPrint
 print_in id rows = record { rules = rules_in id rows; target = first_of (codes "target") rows; c = c_in rows }
 
+-- the number of `--most`
+abbrev pub most_in : List Row → ℕ
+most_in rows = number_in (codes "most") most_told 20 rows
+
+abbrev pub check_in : List Row → PlainCheck
+check_in rows = record {
+  rules = rules_in (codes "SPEC") rows;
+  quiet = flag_in (codes "quiet") rows;
+  warnings = values_in (codes "warnings") rows;
+  most = most_in rows;
+  json = flag_in (codes "json") rows;
+}
+
 abbrev pub show_in : List Row → PlainShow
 show_in rows = record { rules = rules_in (codes "RULES") rows; all = flag_in (codes "all") rows }
 
 -- what one of the further commands asks for
 abbrev pub further_of : Text × List Row → Option Asked
 further_of p =
-    if bytes_eq p.0 (codes "show") then Some (show (show_in p.1)) else None
+    if bytes_eq p.0 (codes "check") then Some (check (check_in p.1))
+    else (if bytes_eq p.0 (codes "explain") then Some (explain (first_of (codes "WORD") p.1))
+    else (if bytes_eq p.0 (codes "show") then Some (show (show_in p.1)) else None))
 
 -- what a subcommand asks for, by the rows of its arguments
 abbrev pub asked_of : Text × List Row → Option Asked
@@ -316,6 +367,15 @@ plain_c c = record {
 abbrev pub plain_print : PrintWords → PlainPrint
 plain_print p = record { rules = p.rules.now; target = option_map (λ name. name.now) p.target; c = plain_c p.c }
 
+abbrev pub plain_check : CheckWords → PlainCheck
+plain_check c = record {
+  rules = c.rules.now;
+  quiet = c.quiet;
+  warnings = map (λ name. name.now) c.warnings.items;
+  most = c.most;
+  json = c.json;
+}
+
 abbrev pub plain_show : ShowWords → PlainShow
 plain_show s = record { rules = s.rules.now; all = s.all }
 
@@ -327,6 +387,8 @@ asked_as (request.Run o) = Some (run (plain_order o))
 asked_as (request.Scan o) = Some (scan (plain_order o))
 asked_as (request.Gen words) = Some (gen (plain_print words))
 asked_as (request.Up words) = Some (up (plain_print words))
+asked_as (request.Check words) = Some (check (plain_check words))
+asked_as (request.Explain word) = Some (explain (option_map (λ w. w.now) word))
 asked_as (request.Show words) = Some (show (plain_show words))
 
 -- ---- what that comes to, for words that are no flags

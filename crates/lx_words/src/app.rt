@@ -1,10 +1,11 @@
 //! The command line of `lx`, as `clap` reads it.
 
 ghost use Rattle.std.specs.Prelude.{◌≡◌, [], ◌∷◌, IfOk, codes, false};
-ghost use Rattle.clap.specs.Words.{app_of, rule_of};
+ghost use Rattle.clap.specs.Words.{app_of, new_rule, rule_of};
 ghost use Rattle.clap.specs.declared.builder.Command.TheViews.{out-Command as fields_of};
-ghost use Rattle.lx_words.specs.CommandLine.{files_rule, first_rule, flag_rule, items_rule, list_app, list_rule, lx_app, one_file_app, option_rule, rules_rule, show_app, target_rule, with_c, with_form, with_further, with_list, with_listings, workers_rule, zeros_rule};
+ghost use Rattle.lx_words.specs.CommandLine.{check_app, explain_app, files_rule, first_rule, flag_rule, items_rule, list_app, list_rule, lx_app, most_rule, one_file_app, option_rule, quiet_rule, rules_rule, show_app, target_rule, warnings_rule, with_c, with_form, with_further, with_list, with_listings, workers_rule, zeros_rule};
 
+use crate::request::MOST_TOLD;
 use crate::version::VERSION;
 use clap::{Arg, ArgAction, Command, value_parser};
 use lx_piece::MAX_ITEMS;
@@ -38,7 +39,10 @@ fn with_listings<'a>(alloc: Global, command: Command<'a>) -> Result<Command<'a>,
 fn with_further<'a>(alloc: Global, command: Command<'a>) -> Result<Command<'a>, AllocError>
     ensures { IfOk result (λ new. app_of new ≡ with_further (app_of command.entry)) }
 {
-    command.subcommand(show_command(alloc)?)
+    command
+        .subcommand(check_command(alloc)?)?
+        .subcommand(explain_command(alloc)?)?
+        .subcommand(show_command(alloc)?)
 }
 
 fn gen_command<'a>(alloc: Global) -> Result<Command<'a>, AllocError>
@@ -85,6 +89,28 @@ fn scan_command<'a>(alloc: Global) -> Result<Command<'a>, AllocError>
     with_list(alloc, with_form(alloc, command)?)?
         .arg(tables(alloc))?
         .arg(files(alloc))
+}
+
+fn check_command<'a>(alloc: Global) -> Result<Command<'a>, AllocError>
+    ensures app { IfOk result (λ command. app_of command ≡ check_app) }
+    ensures local { IfOk result (λ command. (fields_of command).has_globals ≡ false) }
+{
+    Command::new(alloc, "check")
+        .about("Says what is wrong with a specification, and what is right but suspicious")
+        .arg(quiet(alloc))?
+        .arg(warnings(alloc))?
+        .arg(most(alloc))?
+        .arg(json(alloc))?
+        .arg(specification(alloc))
+}
+
+fn explain_command<'a>(alloc: Global) -> Result<Command<'a>, AllocError>
+    ensures app { IfOk result (λ command. app_of command ≡ explain_app) }
+    ensures local { IfOk result (λ command. (fields_of command).has_globals ≡ false) }
+{
+    Command::new(alloc, "explain")
+        .about("Says what a code of an error or a cause means, and what to do")
+        .arg(word(alloc))
 }
 
 fn show_command<'a>(alloc: Global) -> Result<Command<'a>, AllocError>
@@ -164,6 +190,56 @@ fn all<'a>(alloc: Global) -> Arg<'a>
     ensures local { result.global ≡ false }
 {
     flag(alloc, "all", "Prints automata of more than 200 states too")
+}
+
+fn quiet<'a>(alloc: Global) -> Arg<'a>
+    ensures rule { rule_of result ≡ quiet_rule }
+    ensures local { result.global ≡ false }
+{
+    Arg::new(alloc, "quiet")
+        .short('q')
+        .help("Prints the findings alone, without lines of the source and counts")
+        .action(ArgAction::SetTrue)
+}
+
+fn warnings<'a>(alloc: Global) -> Arg<'a>
+    ensures rule { rule_of result ≡ warnings_rule }
+    ensures local { result.global ≡ false }
+{
+    Arg::new(alloc, "warnings")
+        .short('W')
+        .value_name("NAME")
+        .help("Switches a warning on, or off as no-NAME; all, and error: warnings are errors")
+        .action(ArgAction::Append)
+}
+
+fn most<'a>(alloc: Global) -> Arg<'a>
+    ensures rule { rule_of result ≡ most_rule }
+    ensures local { result.global ≡ false }
+{
+    option(
+        alloc,
+        "most",
+        "most",
+        "N",
+        "How many errors are said, from 1 to 100",
+    )
+    .value_parser(value_parser!(u8).range(1..=i64::from(MOST_TOLD)))
+    .default_value("20")
+}
+
+fn json<'a>(alloc: Global) -> Arg<'a>
+    ensures rule { rule_of result ≡ flag_rule (codes "json") }
+    ensures local { result.global ≡ false }
+{
+    flag(alloc, "json", "Prints the findings as SARIF 2.1.0")
+}
+
+fn word<'a>(alloc: Global) -> Arg<'a>
+    ensures rule { rule_of result ≡ new_rule (codes "WORD") }
+    ensures local { result.global ≡ false }
+{
+    Arg::new(alloc, "WORD").help("The code or the cause; without it, all are listed")
 }
 
 fn items<'a>(alloc: Global) -> Arg<'a>

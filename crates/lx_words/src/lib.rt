@@ -8,7 +8,7 @@ mod version;
 
 pub use reading::{plain_words_ask, read_words};
 pub use request::{
-    ALONE, CWords, FormWords, ITEMS, ListRequest, ListWords, PrintWords, Refusal, Request,
-    ShowWords,
+    ALONE, CWords, CheckWords, FormWords, ITEMS, ListRequest, ListWords, MOST_TOLD, PrintWords,
+    Refusal, Request, ShowWords, TOLD,
 };
 pub use version::VERSION;

@@ -4,12 +4,13 @@ ghost use Rattle.std.specs.Prelude.{◌≡◌, ◌≢◌, ◌≤◌, ◌<◌, If
 ghost use Rattle.clap.specs.Words.{first_of, found_of, kind_of, rows_of, subcommand_rows_of};
 ghost use Rattle.lx_piece.specs.Plans.{max_items};
 ghost use Rattle.lx_post.specs.Claimed.{max_workers};
-ghost use Rattle.lx_words.specs.CommandLine.{IsFault, IsTold, PlainWordsAsk, asked_as, asked_by, asked_of, c_in, first_in, flag_in, form_in, further_of, items_in, list_in, request_in, plain_c, plain_form, plain_list, plain_order, plain_print, plain_show, print_in, rules_in, show_in, values_in, workers_in, words_of};
+ghost use Rattle.lx_words.specs.Limits.{most_told};
+ghost use Rattle.lx_words.specs.CommandLine.{IsFault, IsTold, PlainWordsAsk, asked_as, asked_by, asked_of, c_in, check_in, first_in, flag_in, form_in, further_of, items_in, list_in, most_in, request_in, plain_c, plain_check, plain_form, plain_list, plain_order, plain_print, plain_show, print_in, rules_in, show_in, values_in, workers_in, words_of};
 
 use crate::app::command;
 use crate::request::{
-    ALONE, CWords, FormWords, ITEMS, ListRequest, ListWords, PrintWords, Refusal, Request,
-    ShowWords,
+    ALONE, CWords, CheckWords, FormWords, ITEMS, ListRequest, ListWords, MOST_TOLD, PrintWords,
+    Refusal, Request, ShowWords, TOLD,
 };
 use clap::error::ErrorKind;
 use clap::{ArgMatches, Error};
@@ -84,8 +85,22 @@ fn further_request_of<'a>(
     ensures { IfOk result (λ request. further_of (name.now, rows_of (found_of found.now)) ≡ asked_as request) }
 {
     match name {
+        "check" => Ok(Request::Check(check_words_of(alloc, found)?)),
+        "explain" => Ok(Request::Explain(value_of(found, "WORD"))),
         _ => Ok(Request::Show(show_words_of(found))),
     }
+}
+
+fn check_words_of<'a>(alloc: Global, found: &ArgMatches<'a>) -> Result<CheckWords<'a>, AllocError>
+    ensures { IfOk result (λ words. plain_check words ≡ check_in (rows_of (found_of found.now))) }
+{
+    Ok(CheckWords {
+        rules: rules_of(found, "SPEC"),
+        quiet: has_flag(found, "quiet"),
+        warnings: values_of(alloc, found, "warnings")?,
+        most: most_of(found),
+        json: has_flag(found, "json"),
+    })
 }
 
 fn show_words_of<'a>(found: &ArgMatches<'a>) -> ShowWords<'a>
@@ -218,6 +233,18 @@ fn items_of(found: &ArgMatches<'_>) -> u32
     match found.get_one::<u32>("items") {
         Some(items) if 0 < items && items <= MAX_ITEMS => items,
         _ => ITEMS,
+    }
+}
+
+// How many errors are said.
+fn most_of(found: &ArgMatches<'_>) -> u8
+    ensures most { result ≡ most_in (rows_of (found_of found.now)) }
+    ensures some { 0 < result }
+    ensures few { result ≤ most_told }
+{
+    match found.get_one::<u8>("most") {
+        Some(most) if 0 < most && most <= MOST_TOLD => most,
+        _ => TOLD,
     }
 }
 

@@ -3,6 +3,7 @@
 ghost use Rattle.std.specs.Prelude.{◌<◌, ◌≤◌};
 ghost use Rattle.lx_piece.specs.Plans.{max_items};
 ghost use Rattle.lx_post.specs.Claimed.{max_workers};
+ghost use Rattle.lx_words.specs.Limits.{most_told};
 
 use clap::Error;
 use std::alloc::AllocError;
@@ -12,6 +13,12 @@ pub const ITEMS: u32 = 256;
 
 /// No workers: the calling thread scans the files itself, as `run` does where `-j` is not given.
 pub const ALONE: u8 = 0;
+
+/// How many errors `check` says at most where `--most` is not given.
+pub const TOLD: u8 = 20;
+
+/// The greatest number of `--most`.
+pub const MOST_TOLD: u8 = 100;
 
 /// What the words of the command line ask for.
 #[derive(Drop)]
@@ -28,8 +35,29 @@ pub enum Request<'a> {
     Gen(PrintWords<'a>),
     /// `up`: tables, printed in version 2 or as a scanner in C.
     Up(PrintWords<'a>),
+    /// `check`: what is wrong with a specification, or suspicious.
+    Check(CheckWords<'a>),
+    /// `explain`: what a code or a cause means, or a list of all.
+    Explain(Option<&'a str>),
     /// `show`: the automaton as a graph.
     Show(ShowWords<'a>),
+}
+
+/// The words of `check`.
+#[derive(Drop)]
+pub struct CheckWords<'a> {
+    /// The name of the specification.
+    pub rules: &'a str,
+    /// `-q`: whether the findings are printed alone.
+    pub quiet: bool,
+    /// `-W`: the names of warnings, in order.
+    pub warnings: Vec<&'a str>,
+    /// `--most`: how many errors are said at most.
+    pub most: u8,
+    /// `--json`: whether the findings are printed as SARIF.
+    pub json: bool,
+    ghost some: { 0 < most },
+    ghost few: { most ≤ most_told },
 }
 
 /// The words of `show`.

@@ -1,5 +1,5 @@
 use Rattle.std.proofs.lemmas.Result.{err_from_is_err_and}
-use Rattle.lx_tool.proofs.Obeyed.{stored_refused}
+use Rattle.lx_tool.proofs.Obeyed.{explain_refused, stored_refused}
 use Rattle.lx_tool.proofs.program.carry_out.Goals as goal
 
 pub returns-in_err-list_stored-in-Stored-clause-err :
@@ -20,6 +20,13 @@ pub returns-in_err-upgrade_named-in-Up-clause-err :
 returns-in_err-upgrade_named-in-Up-clause-err g c =
     let p = err_from_is_err_and c.from_residual-in_err-upgrade_named-in-Up.result c.from_residual-in_err-upgrade_named-in-Up.ensures.1 in
     rw (p.1, p.2, c.in-Up.is) c.in_err-upgrade_named-in-Up.ensures.err
+
+pub returns-in_err-explain_named-in-Explain-clause-err :
+    goal.returns-in_err-explain_named-in-Explain-clause-err
+returns-in_err-explain_named-in-Explain-clause-err g c =
+    let p = err_from_is_err_and c.from_residual-in_err-explain_named-in-Explain.result c.from_residual-in_err-explain_named-in-Explain.ensures.1 in
+    rw (p.1, p.2, c.in-Explain.is)
+    (explain_refused g.S.Sources.gives c.args.sources.now (g.O.Write.contents c.args.out.now) (g.O.Write.contents c.explain_named.new.out) _ c.in_err-explain_named-in-Explain.field-0.0 c.in_err-explain_named-in-Explain.ensures.err)
 
 pub returns-in_err-show_named-in-Show-clause-err :
     goal.returns-in_err-show_named-in-Show-clause-err

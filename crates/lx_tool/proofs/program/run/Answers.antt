@@ -1,14 +1,29 @@
 use Rattle.std.proofs.Common.{map}
 use Rattle.lx_words.specs.CommandLine.{asked_by}
-use Rattle.lx_tool.proofs.Obeyed.{has_done, has_ended}
+use Rattle.lx_tool.specs.Commands.{HasObeyed}
+use Rattle.lx_tool.specs.Sources.{texts_of}
+use Rattle.lx_tool.proofs.Obeyed.{has_done, has_ended, said_err, said_ok}
 use Rattle.lx_tool.proofs.program.run.Goals as goal
 
 pub returns-clause-ended : goal.returns-clause-ended
 returns-clause-ended g c =
-    has_ended g.S.Sources.gives (asked_by (map (λ word. word.bytes.items) c.args.words.now)) c.args.sources.now c.execute-ended.new.sources (g.O.Write.contents c.args.out.now) (g.O.Write.contents c.execute-ended.new.out)
-    (λ cut. cut.items) c.execute-ended.result c.tell.result c.execute-ended.ensures.ok c.execute-ended.ensures.err c.tell.ensures.ok c.tell.ensures.err
+    let gives = g.S.Sources.gives in
+    let asked = asked_by (map (λ word. word.bytes.items) c.args.words.now) in
+    let old = g.O.Write.contents c.args.out.now in
+    let mid = g.O.Write.contents c.execute-ended.new.out in
+    let new = g.O.Write.contents c.say-ended.new.out in
+    has_ended gives asked c.args.sources.now c.execute-ended.new.sources old new (λ cut. cut.items) c.say-ended.result c.tell.result
+    (said_ok old mid new (λ cut held. HasObeyed gives c.args.sources.now c.execute-ended.new.sources old held (texts_of cut.items) asked) c.execute-ended.result c.say-ended.result c.execute-ended.ensures.ok c.say-ended.ensures.ok)
+    (said_err old mid new gives asked c.args.sources.now c.execute-ended.result c.say-ended.result c.execute-ended.ensures.err c.say-ended.ensures.err)
+    c.tell.ensures.ok c.tell.ensures.err
 
 pub returns-clause-done : goal.returns-clause-done
 returns-clause-done g c =
-    has_done g.S.Sources.gives (asked_by (map (λ word. word.bytes.items) c.args.words.now)) c.args.sources.now c.execute-ended.new.sources (g.O.Write.contents c.args.out.now) (g.O.Write.contents c.execute-ended.new.out)
-    (λ cut. cut.items) c.execute-ended.result c.tell.result c.execute-ended.ensures.ok c.tell.ensures.ok c.tell.ensures.err
+    let gives = g.S.Sources.gives in
+    let asked = asked_by (map (λ word. word.bytes.items) c.args.words.now) in
+    let old = g.O.Write.contents c.args.out.now in
+    let mid = g.O.Write.contents c.execute-ended.new.out in
+    let new = g.O.Write.contents c.say-ended.new.out in
+    has_done gives asked c.args.sources.now c.execute-ended.new.sources old new (λ cut. cut.items) c.say-ended.result c.tell.result
+    (said_ok old mid new (λ cut held. HasObeyed gives c.args.sources.now c.execute-ended.new.sources old held (texts_of cut.items) asked) c.execute-ended.result c.say-ended.result c.execute-ended.ensures.ok c.say-ended.ensures.ok)
+    c.tell.ensures.ok c.tell.ensures.err

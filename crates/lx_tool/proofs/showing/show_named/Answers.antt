@@ -36,9 +36,9 @@ returns-clause-ok g c =
     let names = names_view c.in_ok-shown.shown.names.items in
     let shown : AreShown c.in_ok-text.text.items c.in_ok-shown.shown.tables names = rw c.deref.ensures.value at c.in_ok-shown.ensures.ok in
     let graph : c.in_ok-graph.graph.items ≡ graph_text c.in_ok-shown.shown.tables names = rw c.deref-2.ensures.value at c.in_ok-graph.ensures in
-    let wrote : OnOk c.write_graph.result (Appends (g.O.Write.contents c.args.out.now) (g.O.Write.contents c.write_graph.new.out) (graph_text c.in_ok-shown.shown.tables names)) =
-    rw (c.deref-3.ensures.value, graph) at c.write_graph.ensures.ok in
-    on_ok_weaker c.write_graph.result
+    let wrote : OnOk c.write_text.result (Appends (g.O.Write.contents c.args.out.now) (g.O.Write.contents c.write_text.new.out) (graph_text c.in_ok-shown.shown.tables names)) =
+    rw (c.deref-3.ensures.value, graph) at c.write_text.ensures.ok in
+    on_ok_weaker c.write_text.result
     (λ h. (
       record {
         text = c.in_ok-text.text.items;

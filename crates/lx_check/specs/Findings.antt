@@ -1,0 +1,63 @@
+-- What is found in the text of a specification.
+use Rattle.std.specs.Prelude.{◌≡◌, ℕ, ◌<◌, ◌≤◌, ⊤, List, [], ◌∷◌, length}
+use Rattle.lx_auto.specs.Counts.{count_of_spec}
+use Rattle.lx_auto.specs.PositionSets.{HasMoreReachedSets}
+use Rattle.lx_automaton.specs.Automata.{state_count}
+use Rattle.lx_rules.specs.Plain.{PlainSpec}
+use Rattle.lx_rules.specs.views.Specs.{spec_view}
+use Rattle.lx_spec.specs.Whole.{IsFault, IsRead}
+use Rattle.lx_tables.specs.Model.{AreTablesOf, Table}
+use Rattle.lx_chosen.specs.Chosen.{AreFlagsOf, IsEntered, IsEverChosenBy}
+use Rattle.lx_check.specs.declared.finding.Finding.{Finding}
+use Rattle.lx_check.specs.declared.finding.Finding.TheVariants.{Specification, TooManyPositions, TooManySets}
+use Rattle.lx_check.specs.declared.report.Accepted.{Accepted}
+use Rattle.lx_check.specs.declared.report.Counts.{Counts}
+use Rattle.lx_check.specs.declared.report.Report.{Report}
+use Rattle.lx_check.specs.declared.report.Report.TheVariants as report
+
+-- in which way a specification is too large for tables: of positions, or of reached sets
+abbrev pub IsTooLarge : PlainSpec → Finding → Type 0
+IsTooLarge spec (Specification fault) = ⊥
+IsTooLarge spec TooManyPositions = 16384 < count_of_spec spec
+IsTooLarge spec TooManySets = (count_of_spec spec ≤ 16384) × HasMoreReachedSets spec 16384
+
+-- the text says a specification that is too large
+pub record SaysTooLarge (text : List ℕ) (finding : Finding) : Type 0 where
+  pub spec : PlainSpec
+  pub read : IsRead text spec
+  pub too_large : IsTooLarge spec finding
+
+-- This is wrong with the text.
+abbrev pub IsFinding : List ℕ → Finding → Type 0
+IsFinding text (Specification fault) = IsFault text fault
+IsFinding text TooManyPositions = SaysTooLarge text TooManyPositions
+IsFinding text TooManySets = SaysTooLarge text TooManySets
+
+-- The first of the findings is wrong with the text.
+abbrev pub BeginsWithFinding : List ℕ → List Finding → Type 0
+BeginsWithFinding text [] = ⊥
+BeginsWithFinding text (finding ∷ more) = IsFinding text finding
+
+-- The text is refused for what is wrong with it, or it says this specification, and these are its tables.
+abbrev pub IsVerdict : List ℕ → Report → Type 0
+IsVerdict text (report.Refused findings) = BeginsWithFinding text findings.items
+IsVerdict text (report.Accepted accepted) = IsRead text (spec_view accepted.spec) × AreTablesOf (spec_view accepted.spec) accepted.tables
+
+-- of each rule of the specification whether it is ever chosen by the rules, and of each condition whether it is entered
+abbrev pub TellsChosen : Accepted → Type 0
+TellsChosen accepted =
+    AreFlagsOf (length (spec_view accepted.spec).rules) (IsEverChosenBy (spec_view accepted.spec)) accepted.chosen.items
+    × AreFlagsOf (length (spec_view accepted.spec).conditions) (IsEntered accepted.tables) accepted.entered.items
+
+-- how much a specification and its tables have
+pub record AreCounts (spec : PlainSpec) (table : Table) (counts : Counts) : Type 0 where
+  pub rules : counts.rules ≡ length spec.rules
+  pub definitions : counts.definitions ≡ length spec.definitions
+  pub conditions : counts.conditions ≡ length spec.conditions
+  pub positions : counts.positions ≡ count_of_spec spec
+  pub states : counts.states ≡ state_count table.machine
+  pub classes : counts.classes ≡ table.machine.width
+
+abbrev pub IfAccepted : (Accepted → Type 0) → Report → Type 0
+IfAccepted P (report.Refused findings) = ⊤
+IfAccepted P (report.Accepted accepted) = P accepted

@@ -1,0 +1,73 @@
+//! What is to be said of the text of a specification.
+
+ghost use Rattle.std.specs.Prelude.{◌≡◌, ◌≤◌, IfOk};
+ghost use Rattle.lx_auto.specs.Counts.{count_of_spec};
+ghost use Rattle.lx_rules.specs.views.Specs.{spec_view};
+ghost use Rattle.lx_tables.specs.Model.{AreTablesOf};
+ghost use Rattle.lx_check.specs.Findings.{AreCounts, IfAccepted, IsVerdict, TellsChosen};
+ghost use Rattle.lx_check.specs.Further.{AreFindings, IfRefused};
+
+use crate::further::{findings_from, too_large};
+use crate::report::{Accepted, Counts, Report};
+use crate::verdict::{read, tables_of};
+use lx_auto::count_positions;
+use lx_chosen::ruling::chosen_is_by_rules;
+use lx_chosen::{chosen_rules, entered_conditions};
+use lx_spec::Spec;
+use lx_tables::Tables;
+use std::alloc::{AllocError, Global};
+
+// How much a specification and its tables have.
+fn counts_of(alloc: Global, spec: &Spec, tables: &Tables) -> Result<Counts, AllocError>
+    requires { count_of_spec (spec_view spec.now) ≤ 16384 }
+    ensures { IfOk result (AreCounts (spec_view spec.now) tables.now) }
+{
+    let positions = count_positions(alloc, spec)?;
+    Ok(Counts {
+        rules: spec.rules.len() as u32,
+        definitions: spec.definitions.len() as u32,
+        conditions: spec.conditions.len() as u32,
+        positions,
+        states: tables.states(),
+        classes: u32::from(tables.classes()),
+    })
+}
+
+// A specification that has tables.
+fn accepted(alloc: Global, spec: Spec, tables: Tables) -> Result<Accepted, AllocError>
+    requires tables { AreTablesOf (spec_view spec) tables }
+    requires few_positions { count_of_spec (spec_view spec) ≤ 16384 }
+    ensures spec { IfOk result (λ accepted. spec_view accepted.spec ≡ spec_view spec) }
+    ensures tables { IfOk result (λ accepted. AreTablesOf (spec_view accepted.spec) accepted.tables) }
+    ensures chosen { IfOk result TellsChosen }
+    ensures counts { IfOk result (λ accepted. AreCounts (spec_view accepted.spec) accepted.tables accepted.counts) }
+{
+    chosen_is_by_rules();
+    let counts = counts_of(alloc, &spec, &tables)?;
+    let chosen = chosen_rules(alloc, &tables)?;
+    let entered = entered_conditions(alloc, &tables)?;
+    Ok(Accepted {
+        spec,
+        tables,
+        counts,
+        chosen,
+        entered,
+    })
+}
+
+/// What is to be said of the text of a specification: what is wrong with it, or where it is accepted, what it says and which of its rules are chosen.
+pub fn check(alloc: Global, text: &[u8], most: usize) -> Result<Report, AllocError>
+    ensures first { IfOk result (IsVerdict text.now) }
+    ensures each { IfOk result (IfRefused (AreFindings most text.now)) }
+    ensures chosen { IfOk result (IfAccepted TellsChosen) }
+    ensures counts { IfOk result (IfAccepted (λ accepted. AreCounts (spec_view accepted.spec) accepted.tables accepted.counts)) }
+{
+    let spec = match read(alloc, text)? {
+        Ok(spec) => spec,
+        Err(fault) => return Ok(Report::Refused(findings_from(alloc, text, fault, most)?)),
+    };
+    match tables_of(alloc, &spec)? {
+        Ok(tables) => Ok(Report::Accepted(accepted(alloc, spec, tables)?)),
+        Err(finding) => Ok(Report::Refused(too_large(alloc, text, finding, most)?)),
+    }
+}

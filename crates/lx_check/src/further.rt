@@ -1,0 +1,81 @@
+// What is wrong with a text behind its first fault.
+
+ghost use Rattle.std.specs.Prelude.{◌≡◌, ◌-◌, ◌∷◌, [], IfOk, length, option_map};
+ghost use Rattle.lx_spec.specs.Whole.{IsFault};
+ghost use Rattle.lx_check.specs.Findings.{SaysTooLarge};
+ghost use Rattle.lx_check.specs.Further.{AreFindings, HasFurther};
+
+use crate::finding::Finding;
+use crate::verdict::read;
+use crate::without::without;
+use lx_spec::SpecFault;
+use std::alloc::{AllocError, Global};
+
+// The most bytes that are read in all.
+const MAX_READ_BYTES: usize = 2_000_000;
+
+// These findings, and behind them what is found in a text, if there is one: so many faults at most, where so many bytes are read at most.
+fn with_further(
+    alloc: Global,
+    findings: Vec<Finding>,
+    rest: Option<Vec<u8>>,
+    most: usize,
+    left: usize,
+) -> Result<Vec<Finding>, AllocError>
+    ensures { IfOk result (λ found. HasFurther most left (option_map (λ text. text.items) rest) findings.items found.items) }
+{
+    let mut findings = findings;
+    let mut rest = rest;
+    let mut left = left;
+    for _count in 0..most {
+        let Some(text) = rest else {
+            return Ok(findings);
+        };
+        if text.len() > left {
+            return Ok(findings);
+        }
+        let Err(fault) = read(alloc, &text)? else {
+            return Ok(findings);
+        };
+        findings.push(Finding::Specification(fault))?;
+        left -= text.len();
+        rest = without(alloc, &text, fault)?;
+    }
+    Ok(findings)
+}
+
+/// What is wrong with a text whose first fault this is: this, and then each time the first fault of the text in which those before it are out of
+/// action; so many at most, and no more where 2,000,000 bytes were read in all.
+pub(crate) fn findings_from(
+    alloc: Global,
+    text: &[u8],
+    fault: SpecFault,
+    most: usize,
+) -> Result<Vec<Finding>, AllocError>
+    requires { IsFault text.now fault }
+    ensures { IfOk result (λ findings. AreFindings most text.now findings.items) }
+{
+    let mut findings = Vec::new(alloc);
+    findings.push(Finding::Specification(fault))?;
+    if most < 2 {
+        return Ok(findings);
+    }
+    let rest = without(alloc, text, fault)?;
+    let left = MAX_READ_BYTES.saturating_sub(text.len());
+    with_further(alloc, findings, rest, most.saturating_sub(1), left)
+}
+
+/// That a text says a specification which is too large.
+pub(crate) fn too_large(
+    alloc: Global,
+    text: &[u8],
+    finding: Finding,
+    most: usize,
+) -> Result<Vec<Finding>, AllocError>
+    requires { SaysTooLarge text.now finding }
+    ensures { IfOk result (λ findings. AreFindings most text.now findings.items) }
+{
+    let mut findings = Vec::new(alloc);
+    findings.push(finding)?;
+    Ok(findings)
+}

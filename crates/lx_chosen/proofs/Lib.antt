@@ -1,0 +1,5 @@
+pub mod ByRules
+pub mod Entering
+pub mod Meeting
+pub mod Reaching
+pub mod Taking

@@ -1,0 +1,4 @@
+pub mod Causes
+pub mod CodeWords
+pub mod Places
+pub mod Printed

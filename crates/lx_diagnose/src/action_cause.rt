@@ -1,0 +1,329 @@
+// Causes of actions without a form (E20).
+
+use crate::causes::ActionCause;
+use crate::found::{Found, found_at, found_named};
+use crate::outline::{RuleExtent, RulePrefix};
+use crate::places::{Span, between, one_byte};
+use crate::scan::{begins_at, find, is_at, is_blank_at, is_digit_at, is_listed, next_blank, part};
+use crate::words::{PlacedWords, behind_word_before, failing_word, place_at, words_of};
+use lx_spec::action::{Action, Statement, Turn, read_action, turn_at};
+use lx_spec::word::Word;
+use std::alloc::{AllocError, Global};
+
+// What a scanner of flex has, and an action can't call.
+const FLEX_CALLS: &[u8] =
+    b" REJECT yymore yyless unput input yyinput yyterminate yy_push_state yy_pop_state yy_top_state yyrestart yy_switch_to_buffer yy_set_bol YY_FLUSH_BUFFER ";
+
+// The variables of a scanner, which an action can't use.
+const FLEX_VARIABLES: &[u8] = b" yytext yyleng yylval yylloc yylineno yyin yyout YY_START YYSTATE ";
+
+// The first words of statements.
+const STATEMENTS: &[u8] = b" return BEGIN ECHO ";
+
+// So many blanks of a line are asked whether the pattern should go on there.
+const MAX_BLANKS: usize = 8;
+
+// The most words of a statement without its `;`.
+const MAX_STATEMENT_WORDS: usize = 4;
+
+fn says_anything(statements: &[Statement]) -> bool {
+    for statement in statements {
+        if !matches!(*statement, Statement::Nothing) {
+            return true;
+        }
+    }
+    false
+}
+
+// Whether the text has the form of an action that does anything.
+fn is_action(alloc: Global, text: &[u8]) -> Result<bool, AllocError> {
+    match read_action(alloc, text)? {
+        Some(Action::Shared) => Ok(true),
+        Some(Action::Own(statements)) => Ok(says_anything(&statements)),
+        None => Ok(false),
+    }
+}
+
+// Whether the words before an action could belong to a pattern.
+fn may_be_pattern(text: &[u8], words: Span) -> bool {
+    let first = part(
+        text,
+        between(words.start, next_blank(text, words.start, words.end())),
+    );
+    !(is_at(text, words.start, b'|')
+        || is_listed(STATEMENTS, first)
+        || find(text, words.start, words.end(), b";").is_some()
+        || find(text, words.start, words.end(), b"{").is_some()
+        || find(text, words.start, words.end(), b"=").is_some())
+}
+
+// Whether the action has a form behind some of its words, which then belong to the pattern.
+fn is_pattern_cut(alloc: Global, text: &[u8], rule: RuleExtent) -> Result<bool, AllocError> {
+    let (start, end) = (rule.action.start, rule.action.end());
+    let mut blanks = 0;
+    for at in start..rule.line.end() {
+        if blanks < MAX_BLANKS && is_blank_at(text, at) && !is_blank_at(text, at + 1) {
+            blanks += 1;
+            let behind = at + 1;
+            if may_be_pattern(text, between(start, at))
+                && is_action(alloc, part(text, between(behind, end)))?
+            {
+                return Ok(true);
+            }
+        }
+    }
+    Ok(false)
+}
+
+// Where the first word of the action is, that stands at the pattern's end with no blank before it.
+fn joined_word(
+    alloc: Global,
+    text: &[u8],
+    rule: RuleExtent,
+    word: &[u8],
+) -> Result<Option<Span>, AllocError> {
+    let at = rule.pattern.end().saturating_sub(word.len());
+    if at > rule.pattern.start
+        && begins_at(text, at, word)
+        && is_action(alloc, part(text, between(at, rule.action.end())))?
+    {
+        Ok(Some(Span {
+            start: at,
+            len: word.len(),
+        }))
+    } else {
+        Ok(None)
+    }
+}
+
+// What is wrong between pattern and action.
+fn border_cause(
+    alloc: Global,
+    text: &[u8],
+    rule: RuleExtent,
+) -> Result<Option<(ActionCause, Found)>, AllocError> {
+    if let RulePrefix::Absent = rule.prefix {
+        if is_at(text, rule.pattern.start, b'#') {
+            return Ok(Some((
+                ActionCause::CommentHash,
+                found_at(one_byte(rule.pattern.start)),
+            )));
+        }
+    }
+    if begins_at(text, rule.action.start, b"%{") {
+        let group = Span {
+            start: rule.action.start,
+            len: 2,
+        };
+        return Ok(Some((ActionCause::GroupAsAction, found_at(group))));
+    }
+    if is_pattern_cut(alloc, text, rule)? {
+        let blank = one_byte(rule.pattern.end());
+        return Ok(Some((
+            ActionCause::BlankInPattern,
+            found_named(blank, rule.pattern),
+        )));
+    }
+    if let Some(word) = joined_word(alloc, text, rule, b"return")? {
+        return Ok(Some((ActionCause::NoBlank, found_at(word))));
+    }
+    if let Some(word) = joined_word(alloc, text, rule, b"BEGIN")? {
+        return Ok(Some((ActionCause::NoBlank, found_at(word))));
+    }
+    Ok(None)
+}
+
+fn word_at<'t>(words: &PlacedWords<'t>, number: usize) -> Option<Word<'t>> {
+    if number < words.words.len() {
+        Some(words.words[number])
+    } else {
+        None
+    }
+}
+
+// Whether so many words from one on are a statement once a semicolon stands behind them.
+fn lacks_semicolon(
+    alloc: Global,
+    words: &PlacedWords,
+    number: usize,
+    count: usize,
+) -> Result<bool, AllocError> {
+    let mut with_semicolon = Vec::new(alloc);
+    for i in 0..count {
+        match word_at(words, number.saturating_add(i)) {
+            Some(word) => with_semicolon.push(word)?,
+            None => return Ok(false),
+        }
+    }
+    with_semicolon.push(Word::Semicolon)?;
+    match turn_at(&with_semicolon) {
+        Turn::States(_, n) => Ok(n == with_semicolon.len()),
+        _ => Ok(false),
+    }
+}
+
+// Whether a statement could end before this word.
+fn may_end_before(words: &PlacedWords, number: usize) -> bool {
+    match word_at(words, number) {
+        None => words.stop.is_none(),
+        Some(Word::CloseBrace) => true,
+        Some(Word::Letters(text)) => is_listed(STATEMENTS, text),
+        Some(_) => false,
+    }
+}
+
+// Where a semicolon is missing, in the statement that begins with this word.
+fn missing_semicolon(
+    alloc: Global,
+    words: &PlacedWords,
+    number: usize,
+) -> Result<Option<Span>, AllocError> {
+    for count in 1..=MAX_STATEMENT_WORDS {
+        let behind = number.saturating_add(count);
+        if may_end_before(words, behind) && lacks_semicolon(alloc, words, number, count)? {
+            return Ok(Some(Span {
+                start: behind_word_before(words, behind),
+                len: 0,
+            }));
+        }
+    }
+    Ok(None)
+}
+
+// Why the text where the words stop is nothing that is returned.
+fn stopped_return(text: &[u8], at: usize) -> ActionCause {
+    if is_at(text, at, b'"') {
+        ActionCause::ReturnString
+    } else if is_at(text, at, b'\'') {
+        ActionCause::ConstantForm
+    } else if is_at(text, at, b'-') && is_digit_at(text, at.saturating_add(1)) {
+        ActionCause::ReturnNumber
+    } else {
+        ActionCause::ReturnExpression
+    }
+}
+
+// Why what begins with this word, directly behind `return`, is nothing that is returned.
+fn return_cause(
+    text: &[u8],
+    words: &PlacedWords,
+    number: usize,
+    end: usize,
+) -> (ActionCause, Found) {
+    let next = number.saturating_add(1);
+    let at = place_at(words, next, end);
+    match word_at(words, next) {
+        None => match words.stop {
+            Some(stop) => (stopped_return(text, stop), found_at(at)),
+            None => (
+                ActionCause::ReturnAlone,
+                found_at(place_at(words, number, end)),
+            ),
+        },
+        Some(Word::Semicolon) => (
+            ActionCause::ReturnAlone,
+            found_at(place_at(words, number, end)),
+        ),
+        Some(Word::Letters(_)) => {
+            if is_digit_at(text, at.start) {
+                (ActionCause::ReturnNumber, found_at(at))
+            } else {
+                (ActionCause::ReturnExpression, found_at(at))
+            }
+        }
+        Some(_) => (ActionCause::ReturnExpression, found_at(at)),
+    }
+}
+
+// Why no statement begins with this word, which is letters.
+fn letters_cause(
+    text: &[u8],
+    words: &PlacedWords,
+    letters: &[u8],
+    number: usize,
+    end: usize,
+) -> (ActionCause, Found) {
+    let at = place_at(words, number, end);
+    if letters == b"return".as_slice() {
+        return_cause(text, words, number, end)
+    } else if letters == b"BEGIN".as_slice() {
+        (ActionCause::BeginForm, found_at(at))
+    } else if is_listed(FLEX_CALLS, letters) {
+        (ActionCause::FlexCall, found_at(at))
+    } else if is_listed(FLEX_VARIABLES, letters) {
+        (ActionCause::FlexVariable, found_at(at))
+    } else {
+        (ActionCause::C, found_at(at))
+    }
+}
+
+// What stands there up to the next blank or the end of the line.
+fn run_at(text: &[u8], start: usize) -> Span {
+    for at in start..text.len() {
+        if is_blank_at(text, at) || is_at(text, at, b'\n') || is_at(text, at, b'\r') {
+            return between(start, at);
+        }
+    }
+    between(start, text.len())
+}
+
+// Why the text where the words stop, behind whole statements, begins none.
+fn stop_cause(text: &[u8], at: Span) -> (ActionCause, Found) {
+    if is_at(text, at.start, b'\r') && at.end() == text.len() {
+        (ActionCause::CarriageReturn, found_at(at))
+    } else if is_at(text, at.start, b'\'') {
+        (ActionCause::ConstantForm, found_at(at))
+    } else {
+        (ActionCause::C, found_at(run_at(text, at.start)))
+    }
+}
+
+// Why no statement begins with this word.
+fn word_cause(
+    alloc: Global,
+    text: &[u8],
+    words: &PlacedWords,
+    number: usize,
+    end: usize,
+) -> Result<(ActionCause, Found), AllocError> {
+    if let Some(at) = missing_semicolon(alloc, words, number)? {
+        return Ok((ActionCause::Semicolon, found_at(at)));
+    }
+    let at = place_at(words, number, end);
+    match word_at(words, number) {
+        Some(Word::Letters(letters)) => Ok(letters_cause(text, words, letters, number, end)),
+        Some(Word::CloseBrace) => Ok((ActionCause::BraceNotOpen, found_at(at))),
+        Some(_) => Ok((ActionCause::C, found_at(at))),
+        None => Ok(stop_cause(text, at)),
+    }
+}
+
+fn is_bar(words: &PlacedWords) -> bool {
+    match word_at(words, 0) {
+        Some(Word::Bar) => words.words.len() > 1 || words.stop.is_some(),
+        _ => false,
+    }
+}
+
+/// Why the action of a rule has no form.
+pub(crate) fn action_cause(
+    alloc: Global,
+    text: &[u8],
+    rule: RuleExtent,
+) -> Result<(ActionCause, Found), AllocError> {
+    if let Some(cause) = border_cause(alloc, text, rule)? {
+        return Ok(cause);
+    }
+    let end = rule.action.end();
+    let words = words_of(alloc, text, rule.action)?;
+    if is_bar(&words) {
+        return Ok((ActionCause::BarNotAlone, found_at(place_at(&words, 0, end))));
+    }
+    match failing_word(&words.words) {
+        Some(number) => word_cause(alloc, text, &words, number, end),
+        None => match words.stop {
+            Some(at) => Ok(stop_cause(text, one_byte(at))),
+            None => Ok((ActionCause::NoForm, found_at(rule.action))),
+        },
+    }
+}

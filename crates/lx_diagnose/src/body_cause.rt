@@ -1,0 +1,298 @@
+// Causes of expressions that have no reading (E10): where reading stops, and why.
+
+use crate::brace_cause::brace_cause;
+use crate::bracket_cause::bracket_cause;
+use crate::causes::PatternCause;
+use crate::escape_cause::{escape_cause, quote_cause};
+use crate::found::{Found, found_at};
+use crate::places::{Span, between, one_byte};
+use crate::scan::{is_at, is_blank_at, part};
+use lx_ere::lexeme::{Lexeme, lexeme_at};
+use std::alloc::{AllocError, Global};
+
+/// What is read: the pattern of a rule behind its `^`, or a substitute, which has no anchors.
+#[derive(Clone, Copy)]
+pub(crate) enum Body {
+    Pattern,
+    Substitute,
+}
+
+// An open group, from the place of its parenthesis on, or what is outside all groups. Whether anything stands behind its last bar, and whether that ends with
+// what can be repeated.
+#[derive(Clone, Copy)]
+struct Group {
+    opened: usize,
+    is_filled: bool,
+    ends_with_unit: bool,
+}
+
+// What a lexeme does to the groups.
+#[derive(Clone, Copy)]
+enum Kind {
+    Unit,
+    Repeat,
+    Interval,
+    Open,
+    Close,
+    Bar,
+}
+
+// The groups that are open, the innermost last, and whether an interval was read last.
+#[derive(Drop)]
+struct Groups {
+    outer: Vec<Group>,
+    innermost: Group,
+    behind_interval: bool,
+}
+
+fn kind_of(lexeme: &Lexeme) -> Kind {
+    match lexeme {
+        Lexeme::Set(_) | Lexeme::Quoted(_, _) | Lexeme::Name(_) => Kind::Unit,
+        Lexeme::Interval(_, _) => Kind::Interval,
+        Lexeme::OpenGroup => Kind::Open,
+        Lexeme::CloseGroup => Kind::Close,
+        Lexeme::Star | Lexeme::Plus | Lexeme::Question => Kind::Repeat,
+        Lexeme::Bar => Kind::Bar,
+    }
+}
+
+fn empty_group(opened: usize) -> Group {
+    Group {
+        opened,
+        is_filled: false,
+        ends_with_unit: false,
+    }
+}
+
+// Why what repeats can't stand here.
+fn repeat_cause(text: &[u8], at: Span, groups: &Groups) -> PatternCause {
+    let behind_parenthesis = at.start > 0 && groups.innermost.opened == at.start - 1;
+    if is_at(text, at.start, b'?') && behind_parenthesis && !groups.outer.is_empty() {
+        PatternCause::GroupOption
+    } else if groups.behind_interval {
+        PatternCause::RepeatBehindInterval
+    } else {
+        PatternCause::NothingToRepeat
+    }
+}
+
+fn close_group(groups: &mut Groups) -> Option<PatternCause> {
+    if groups.outer.is_empty() {
+        return Some(PatternCause::GroupNotOpen);
+    }
+    if !groups.innermost.is_filled {
+        return Some(PatternCause::EmptyAlternative);
+    }
+    if let Some(outer) = groups.outer.pop() {
+        groups.innermost = Group {
+            opened: outer.opened,
+            is_filled: true,
+            ends_with_unit: true,
+        };
+    }
+    None
+}
+
+// What the innermost group is with a lexeme behind it that is no group's; nothing where it can't stand there.
+fn with_lexeme(group: Group, kind: Kind) -> Option<Group> {
+    match kind {
+        Kind::Unit => Some(Group {
+            opened: group.opened,
+            is_filled: true,
+            ends_with_unit: true,
+        }),
+        Kind::Repeat => if group.ends_with_unit {
+            Some(group)
+        } else {
+            None
+        },
+        Kind::Interval => if group.is_filled {
+            Some(Group {
+                opened: group.opened,
+                is_filled: true,
+                ends_with_unit: false,
+            })
+        } else {
+            None
+        },
+        Kind::Bar => if group.is_filled {
+            Some(empty_group(group.opened))
+        } else {
+            None
+        },
+        Kind::Open | Kind::Close => Some(group),
+    }
+}
+
+// Why a lexeme can't stand where it does, of all but those of groups.
+fn misplaced_cause(text: &[u8], at: Span, groups: &Groups, kind: Kind) -> PatternCause {
+    match kind {
+        Kind::Repeat | Kind::Interval => repeat_cause(text, at, groups),
+        _ => PatternCause::EmptyAlternative,
+    }
+}
+
+// Takes a lexeme; what stands there is why it can't stand where it does.
+fn take_lexeme(
+    text: &[u8],
+    groups: &mut Groups,
+    kind: Kind,
+    at: Span,
+) -> Result<Option<PatternCause>, AllocError> {
+    match kind {
+        Kind::Open => {
+            groups.outer.push(groups.innermost)?;
+            groups.innermost = empty_group(at.start);
+            groups.behind_interval = false;
+            Ok(None)
+        }
+        Kind::Close => {
+            groups.behind_interval = false;
+            Ok(close_group(groups))
+        }
+        _ => match with_lexeme(groups.innermost, kind) {
+            Some(group) => {
+                groups.innermost = group;
+                groups.behind_interval = matches!(kind, Kind::Interval);
+                Ok(None)
+            }
+            None => Ok(Some(misplaced_cause(text, at, groups, kind))),
+        },
+    }
+}
+
+// Why a slash can't stand where it does.
+fn slash_cause(text: &[u8], span: Span, at: usize) -> (PatternCause, Found) {
+    let is_first = at == span.start;
+    let is_last = at.saturating_add(1) == span.end();
+    let is_doubled = is_at(text, at.saturating_add(1), b'/');
+    if is_first || is_last || is_doubled {
+        (PatternCause::Slash, found_at(one_byte(at)))
+    } else {
+        (PatternCause::LookAhead, found_at(between(at, span.end())))
+    }
+}
+
+fn anchor_cause(body: Body, is_outermost: bool, inside: PatternCause) -> PatternCause {
+    match body {
+        Body::Substitute if is_outermost => PatternCause::DefinitionAnchor,
+        _ => inside,
+    }
+}
+
+fn blank_cause(text: &[u8], span: Span, at: usize) -> (PatternCause, Found) {
+    if is_at(text, span.start, b'=') || is_at(text, span.start, b':') {
+        (
+            PatternCause::DefinitionEquals,
+            found_at(one_byte(span.start)),
+        )
+    } else {
+        (PatternCause::DefinitionBlank, found_at(one_byte(at)))
+    }
+}
+
+// Why no spelling stands there.
+fn spelling_cause(text: &[u8], body: Body, span: Span, at: usize) -> (PatternCause, Found) {
+    let here = found_at(one_byte(at));
+    let end = span.end();
+    if is_at(text, at, b'\\') {
+        escape_cause(text, at, end)
+    } else if is_at(text, at, b'"') {
+        quote_cause(text, at, end)
+    } else if is_at(text, at, b'[') {
+        bracket_cause(text, at, end)
+    } else if is_at(text, at, b'{') {
+        brace_cause(text, at, end)
+    } else if is_at(text, at, b'/') {
+        slash_cause(text, span, at)
+    } else if is_at(text, at, b'^') {
+        (
+            anchor_cause(body, at == span.start, PatternCause::CaretInside),
+            here,
+        )
+    } else if is_at(text, at, b'$') {
+        (
+            anchor_cause(
+                body,
+                at.saturating_add(1) == end,
+                PatternCause::DollarInside,
+            ),
+            here,
+        )
+    } else if is_blank_at(text, at) {
+        blank_cause(text, span, at)
+    } else {
+        (PatternCause::OddByte, here)
+    }
+}
+
+// Whether a pattern may end with what stands there.
+fn is_ending(text: &[u8], body: Body, at: usize, end: usize) -> bool {
+    let rest = part(text, between(at, end));
+    match body {
+        Body::Pattern => rest.is_empty() || rest == b"$".as_slice() || rest == b"/\\n".as_slice(),
+        Body::Substitute => rest.is_empty(),
+    }
+}
+
+// Why reading can't end where it does, behind the last spelling; nothing where it can.
+fn end_cause(
+    text: &[u8],
+    body: Body,
+    span: Span,
+    at: usize,
+    groups: &Groups,
+) -> Option<(PatternCause, Found)> {
+    if !is_ending(text, body, at, span.end()) {
+        return Some(spelling_cause(text, body, span, at));
+    }
+    if !groups.outer.is_empty() {
+        if at < span.end() {
+            return Some(spelling_cause(text, body, span, at));
+        }
+        let opening = one_byte(groups.innermost.opened);
+        return Some((PatternCause::ParenthesisOpen, found_at(opening)));
+    }
+    if groups.innermost.is_filled {
+        return None;
+    }
+    if at == span.start {
+        Some((PatternCause::NothingButAnchors, found_at(span)))
+    } else {
+        Some((
+            PatternCause::EmptyAlternative,
+            found_at(one_byte(at.saturating_sub(1))),
+        ))
+    }
+}
+
+/// Why an expression has no reading; nothing where it has one.
+pub(crate) fn body_cause(
+    alloc: Global,
+    text: &[u8],
+    body: Body,
+    span: Span,
+) -> Result<Option<(PatternCause, Found)>, AllocError> {
+    let mut groups = Groups {
+        outer: Vec::new(alloc),
+        innermost: empty_group(span.start),
+        behind_interval: false,
+    };
+    let end = span.end();
+    let mut rest = part(text, span);
+    for _ in 0..span.len {
+        let Some((lexeme, behind)) = lexeme_at(alloc, rest)? else {
+            break;
+        };
+        let at = between(
+            end.saturating_sub(rest.len()),
+            end.saturating_sub(behind.len()),
+        );
+        if let Some(cause) = take_lexeme(text, &mut groups, kind_of(&lexeme), at)? {
+            return Ok(Some((cause, found_at(at))));
+        }
+        rest = behind;
+    }
+    let at = end.saturating_sub(rest.len());
+    Ok(end_cause(text, body, span, at, &groups))
+}

@@ -1,0 +1,95 @@
+// Causes of what stands in braces (E10).
+
+use crate::causes::PatternCause;
+use crate::found::{Found, found_at, found_named};
+use crate::places::{Span, between, one_byte};
+use crate::scan::{begins_at, behind_digits, behind_word, is_at, is_digit_at, is_word_at, part};
+
+// The largest bound of an interval.
+const MAX_BOUND: usize = 255;
+
+// The number that digits spell; of a large one, that it is large.
+fn number_in(text: &[u8], digits: Span) -> usize {
+    let mut number: usize = 0;
+    for digit in part(text, digits) {
+        if number <= MAX_BOUND {
+            number = number * 10 + usize::from(digit.saturating_sub(b'0'));
+        }
+    }
+    number
+}
+
+// Up to the closing brace and with it; or what stands before it, where there is none.
+fn braces_at(text: &[u8], at: usize, end: usize) -> Span {
+    for i in at..end {
+        if is_at(text, i, b'}') {
+            return between(at, i + 1);
+        }
+    }
+    between(at, end)
+}
+
+// Why an interval that begins with these digits has no form.
+fn interval_cause(text: &[u8], at: usize, end: usize) -> (PatternCause, Found) {
+    let braces = braces_at(text, at, end);
+    let start = at.saturating_add(1);
+    let low = between(start, behind_digits(text, start, end));
+    if number_in(text, low) > MAX_BOUND {
+        return (PatternCause::IntervalLarge, found_at(low));
+    }
+    let next = low.end().saturating_add(1);
+    let high = between(next, behind_digits(text, next, end));
+    if !is_at(text, low.end(), b',') || high.len == 0 || !is_at(text, high.end(), b'}') {
+        return (PatternCause::IntervalForm, found_at(braces));
+    }
+    if number_in(text, high) > MAX_BOUND {
+        (PatternCause::IntervalLarge, found_at(high))
+    } else if number_in(text, low) > number_in(text, high) {
+        (PatternCause::IntervalBackwards, found_at(braces))
+    } else {
+        (PatternCause::IntervalForm, found_at(braces))
+    }
+}
+
+// Where a name with hyphens ends; nothing where that isn't what stands from a place on.
+fn hyphened_name(text: &[u8], start: usize, end: usize) -> Option<Span> {
+    if is_digit_at(text, start) || !is_at(text, behind_word(text, start, end), b'-') {
+        return None;
+    }
+    for at in start..end {
+        if is_at(text, at, b'}') {
+            return Some(between(start, at));
+        }
+        if !is_word_at(text, at) && !is_at(text, at, b'-') {
+            return None;
+        }
+    }
+    None
+}
+
+/// Why what begins with this brace is neither a name nor an interval.
+pub(crate) fn brace_cause(text: &[u8], at: usize, end: usize) -> (PatternCause, Found) {
+    let start = at.saturating_add(1);
+    if begins_at(text, at, b"{-}") || begins_at(text, at, b"{+}") {
+        return (
+            PatternCause::SetOperator,
+            found_at(Span { start: at, len: 3 }),
+        );
+    }
+    if is_digit_at(text, start) {
+        return interval_cause(text, at, end);
+    }
+    if is_at(text, start, b',') && is_digit_at(text, start.saturating_add(1)) {
+        return (
+            PatternCause::IntervalLow,
+            found_at(braces_at(text, at, end)),
+        );
+    }
+    match hyphened_name(text, start, end) {
+        Some(name) if is_word_at(text, start) => (
+            PatternCause::NameHyphen,
+            found_named(name, name),
+        ),
+        _ => (PatternCause::BraceOpen, found_at(one_byte(at))),
+    }
+}

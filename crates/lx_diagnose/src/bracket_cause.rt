@@ -1,0 +1,171 @@
+// Causes of bracket expressions (E10).
+
+use crate::causes::PatternCause;
+use crate::escape_cause::{escape_cause, escape_len};
+use crate::found::{Found, found_at, found_named};
+use crate::places::{Span, between, one_byte};
+use crate::scan::{begins_at, behind_word, find, is_at, is_listed, part};
+use lx_ere::escape::escape_at;
+
+// The classes of XBD 9.3.5.
+const CLASSES: &[u8] =
+    b" upper lower alpha digit alnum xdigit space blank punct print graph cntrl ";
+
+// What was read of one member of the brackets.
+#[derive(Clone, Copy)]
+enum Member {
+    // It is read, up to this place.
+    Upto(usize),
+    // It has no form.
+    Bad(PatternCause, Found),
+}
+
+// Whether a `-` follows that isn't directly before the closing bracket.
+fn range_follows(text: &[u8], at: usize) -> bool {
+    is_at(text, at, b'-') && !is_at(text, at.saturating_add(1), b']')
+}
+
+// From the mark of `[:`, `[.` or `[=` up to the same mark with a bracket behind it, with both.
+fn marked_at(text: &[u8], at: usize, end: usize, close: &[u8]) -> Option<Span> {
+    match find(text, at.saturating_add(2), end, close) {
+        Some(last) => Some(between(at, last.saturating_add(2))),
+        None => None,
+    }
+}
+
+// A class, which stands from its `[:` on.
+fn class_member(text: &[u8], at: usize, end: usize) -> Member {
+    let Some(class) = marked_at(text, at, end, b":]") else {
+        return Member::Bad(
+            PatternCause::ClassUnknown,
+            found_at(Span { start: at, len: 2 }),
+        );
+    };
+    let name = between(at.saturating_add(2), class.end().saturating_sub(2));
+    if is_at(text, name.start, b'^') {
+        let positive = between(name.start.saturating_add(1), name.end());
+        return Member::Bad(PatternCause::ClassNegated, found_named(class, positive));
+    }
+    if behind_word(text, name.start, name.end()) < name.end()
+        || !is_listed(CLASSES, part(text, name))
+    {
+        return Member::Bad(PatternCause::ClassUnknown, found_named(class, name));
+    }
+    if range_follows(text, class.end()) {
+        return Member::Bad(PatternCause::ClassRange, found_at(class));
+    }
+    Member::Upto(class.end())
+}
+
+// One byte between marks, as in `[.c.]`.
+fn collation_member(text: &[u8], at: usize, end: usize, close: &[u8]) -> Member {
+    match marked_at(text, at, end, close) {
+        Some(element) if element.len == 5 => Member::Upto(element.end()),
+        Some(element) => Member::Bad(PatternCause::LongCollation, found_at(element)),
+        None => Member::Bad(
+            PatternCause::LongCollation,
+            found_at(Span { start: at, len: 2 }),
+        ),
+    }
+}
+
+// A point of a range: one byte, maybe escaped or between marks.
+fn point_member(text: &[u8], at: usize, end: usize) -> Member {
+    if is_at(text, at, b'\\') {
+        return match escape_len(text, at, end) {
+            Some(len) => Member::Upto(at.saturating_add(1).saturating_add(len)),
+            None => {
+                let (cause, place) = escape_cause(text, at, end);
+                Member::Bad(cause, place)
+            }
+        };
+    }
+    if begins_at(text, at, b"[.") {
+        return collation_member(text, at, end, b".]");
+    }
+    Member::Upto(at.saturating_add(1))
+}
+
+// The byte that a point is.
+fn point_byte(text: &[u8], point: Span) -> u8 {
+    match part(text, point) {
+        [b'\\', rest @ ..] => match escape_at(rest) {
+            Some((byte, _)) => byte,
+            None => 0,
+        },
+        [b'[', b'.', byte, ..] => *byte,
+        [byte, ..] => *byte,
+        [] => 0,
+    }
+}
+
+// The end of a range whose first point is known.
+fn range_member(text: &[u8], low: Span, end: usize) -> Member {
+    let at = low.end().saturating_add(1);
+    if begins_at(text, at, b"[:") || begins_at(text, at, b"[=") {
+        return Member::Bad(
+            PatternCause::ClassRange,
+            found_at(Span { start: at, len: 2 }),
+        );
+    }
+    match point_member(text, at, end) {
+        Member::Bad(cause, place) => Member::Bad(cause, place),
+        Member::Upto(behind) => {
+            let high = between(at, behind);
+            if point_byte(text, low) > point_byte(text, high) {
+                Member::Bad(
+                    PatternCause::RangeBackwards,
+                    found_at(between(low.start, behind)),
+                )
+            } else if range_follows(text, behind) {
+                Member::Bad(PatternCause::RangeShared, found_at(high))
+            } else {
+                Member::Upto(behind)
+            }
+        }
+    }
+}
+
+// The member that begins there.
+fn member_at(text: &[u8], at: usize, end: usize) -> Member {
+    if begins_at(text, at, b"[:") {
+        return class_member(text, at, end);
+    }
+    if begins_at(text, at, b"[=") {
+        return collation_member(text, at, end, b"=]");
+    }
+    match point_member(text, at, end) {
+        Member::Bad(cause, place) => Member::Bad(cause, place),
+        Member::Upto(behind) => {
+            if range_follows(text, behind) && behind.saturating_add(1) < end {
+                range_member(text, between(at, behind), end)
+            } else {
+                Member::Upto(behind)
+            }
+        }
+    }
+}
+
+/// Why the bracket that stands there begins no bracket expression.
+pub(crate) fn bracket_cause(text: &[u8], at: usize, end: usize) -> (PatternCause, Found) {
+    let opening = at.saturating_add(1);
+    let first = if is_at(text, opening, b'^') {
+        opening.saturating_add(1)
+    } else {
+        opening
+    };
+    let mut next = first;
+    for i in first..end {
+        if i < next {
+            continue;
+        }
+        if i > first && is_at(text, i, b']') {
+            return (PatternCause::NoReading, found_at(between(at, i + 1)));
+        }
+        match member_at(text, i, end) {
+            Member::Upto(behind) => next = behind,
+            Member::Bad(cause, place) => return (cause, place),
+        }
+    }
+    (PatternCause::BracketsOpen, found_at(one_byte(at)))
+}

@@ -1,0 +1,221 @@
+// Names that are nested too deep, or in a circle.
+
+use crate::names::{Visit, names_in, number_of, substitute_of};
+use crate::outline::Outline;
+use crate::places::Span;
+use std::alloc::{AllocError, Global};
+
+// The most names of a chain.
+const MAX_NAME_DEPTH: usize = 32;
+
+// A definition mentions this one, here.
+#[derive(Clone, Copy)]
+struct Mention {
+    to: usize,
+    at: Span,
+}
+
+// How far a definition was followed.
+#[derive(Clone, Copy)]
+enum Stage {
+    // Not at all.
+    Pending,
+    // It leads to what is followed now.
+    Open,
+    // With all to which it leads: so many names stand in the longest chain from it on.
+    Done(usize),
+}
+
+// Which of the mentions are those of a definition, as from the first place up to the second.
+#[derive(Clone, Copy)]
+struct Row {
+    first: usize,
+    end: usize,
+}
+
+// A definition that is followed, and which of its mentions is next.
+#[derive(Clone, Copy)]
+struct Step {
+    definition: usize,
+    next: usize,
+}
+
+/// What is too deep.
+#[derive(Clone, Copy)]
+pub(crate) enum Depth {
+    /// A definition leads to itself: it is mentioned here.
+    Circle(Span),
+    /// The chain of names is too long.
+    TooLong,
+}
+
+/// All mentions of definitions by definitions.
+#[derive(Drop)]
+pub(crate) struct Mentions {
+    mentions: Vec<Mention>,
+    rows: Vec<Row>,
+    stages: Vec<Stage>,
+}
+
+fn push_mentions(
+    outline: &Outline,
+    text: &[u8],
+    names: &[Span],
+    mentions: &mut Vec<Mention>,
+) -> Result<(), AllocError> {
+    for name in names {
+        let at = *name;
+        if let Some(to) = number_of(outline, text, at) {
+            mentions.push(Mention { to, at })?;
+        }
+    }
+    Ok(())
+}
+
+fn no_rows(alloc: Global, count: usize) -> Result<(Vec<Row>, Vec<Stage>), AllocError> {
+    let mut rows = Vec::new(alloc);
+    let mut stages = Vec::new(alloc);
+    for _ in 0..count {
+        rows.push(Row { first: 0, end: 0 })?;
+        stages.push(Stage::Pending)?;
+    }
+    Ok((rows, stages))
+}
+
+fn set_row(rows: &mut [Row], number: usize, row: Row) {
+    if number < rows.len() {
+        rows[number] = row;
+    }
+}
+
+fn row_of(rows: &[Row], number: usize) -> Row {
+    if number < rows.len() {
+        rows[number]
+    } else {
+        Row { first: 0, end: 0 }
+    }
+}
+
+fn set_stage(stages: &mut [Stage], number: usize, stage: Stage) {
+    if number < stages.len() {
+        stages[number] = stage;
+    }
+}
+
+fn stage_of(stages: &[Stage], number: usize) -> Stage {
+    if number < stages.len() {
+        stages[number]
+    } else {
+        Stage::Done(0)
+    }
+}
+
+/// The mentions of the definitions to which a rule leads.
+pub(crate) fn mentions_of(
+    alloc: Global,
+    outline: &Outline,
+    text: &[u8],
+    visits: &[Visit],
+) -> Result<Mentions, AllocError> {
+    let mut mentions = Vec::new(alloc);
+    let (mut rows, stages) = no_rows(alloc, outline.definitions.len())?;
+    for visit in visits {
+        let number = visit.definition;
+        let names = names_in(alloc, text, substitute_of(&outline.definitions, number))?;
+        let first = mentions.len();
+        push_mentions(outline, text, &names, &mut mentions)?;
+        let end = mentions.len();
+        set_row(&mut rows, number, Row { first, end });
+    }
+    Ok(Mentions {
+        mentions,
+        rows,
+        stages,
+    })
+}
+
+fn height(mentions: &[Mention], stages: &[Stage], row: Row) -> usize {
+    let mut most: usize = 0;
+    for i in row.first..row.end {
+        if i < mentions.len() {
+            if let Stage::Done(names) = stage_of(stages, mentions[i].to) {
+                most = most.max(names);
+            }
+        }
+    }
+    most.saturating_add(1)
+}
+
+// One step: a mention is followed, or a definition is done with. What stands there is a mention that closes a circle.
+fn take_step(
+    mentions: &[Mention],
+    rows: &[Row],
+    stages: &mut [Stage],
+    steps: &mut Vec<Step>,
+    step: Step,
+) -> Result<Option<Span>, AllocError> {
+    let row = row_of(rows, step.definition);
+    if step.next >= row.end || step.next >= mentions.len() {
+        let names = height(mentions, stages, row);
+        set_stage(stages, step.definition, Stage::Done(names));
+        return Ok(None);
+    }
+    let mention = mentions[step.next];
+    steps.push(Step {
+        definition: step.definition,
+        next: step.next + 1,
+    })?;
+    match stage_of(stages, mention.to) {
+        Stage::Open => Ok(Some(mention.at)),
+        Stage::Done(_) => Ok(None),
+        Stage::Pending => {
+            set_stage(stages, mention.to, Stage::Open);
+            steps.push(Step {
+                definition: mention.to,
+                next: row_of(rows, mention.to).first,
+            })?;
+            Ok(None)
+        }
+    }
+}
+
+/// What is too deep from a definition on.
+pub(crate) fn depth_from(
+    alloc: Global,
+    mentions: &mut Mentions,
+    definition: usize,
+) -> Result<Option<Depth>, AllocError> {
+    let Mentions {
+        mentions,
+        rows,
+        stages,
+    } = mentions;
+    let most_steps = mentions
+        .len()
+        .saturating_add(rows.len())
+        .saturating_add(rows.len());
+    let mut steps = Vec::new(alloc);
+    if let Stage::Pending = stage_of(stages, definition) {
+        set_stage(stages, definition, Stage::Open);
+        steps.push(Step {
+            definition,
+            next: row_of(rows, definition).first,
+        })?;
+    }
+    for _ in 0..most_steps {
+        let Some(step) = steps.pop() else {
+            break;
+        };
+        if let Some(at) = take_step(mentions, rows, stages, &mut steps, step)? {
+            return Ok(Some(Depth::Circle(at)));
+        }
+    }
+    match stage_of(stages, definition) {
+        Stage::Done(names) => Ok(if names > MAX_NAME_DEPTH {
+            Some(Depth::TooLong)
+        } else {
+            None
+        }),
+        Stage::Pending | Stage::Open => Ok(None),
+    }
+}

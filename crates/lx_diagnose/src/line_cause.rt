@@ -1,0 +1,239 @@
+// Causes of lines of Definitions without a form (E04).
+
+use crate::causes::LineCause;
+use crate::found::{Found, found_at, found_named};
+use crate::places::{Span, between, one_byte};
+use crate::scan::{
+    before_blanks, begins_at, behind_blanks, behind_word, find, is_at, is_blank_at, is_digit_at,
+    is_listed, is_word_at, next_blank, part,
+};
+use lx_spec::action::{Action, read_action};
+use lx_spec::rule_line::{RuleLine, rule_line_of};
+use std::alloc::{AllocError, Global};
+
+// The words that `%option` may have.
+const OPTIONS: &[u8] = b" noyywrap nounput noinput ";
+
+// What may stand behind `%` with a number, or alone.
+const SIZES: &[u8] = b" p n a e k o array pointer ";
+
+// So many bytes at the beginning tell whether a text has a NUL at each second one.
+const WIDE_BYTES: usize = 8;
+
+// Whether the first of some bytes, every second one, are NUL.
+fn has_nuls_from(text: &[u8], first: usize) -> bool {
+    for at in 0..WIDE_BYTES {
+        if at % 2 == first && !is_at(text, at, 0) {
+            return false;
+        }
+    }
+    true
+}
+
+fn is_wide(text: &[u8]) -> bool {
+    begins_at(text, 0, b"\xFF\xFE")
+        || begins_at(text, 0, b"\xFE\xFF")
+        || has_nuls_from(text, 0)
+        || has_nuls_from(text, 1)
+}
+
+// Causes of a whole text, which show in its first line.
+fn text_cause(text: &[u8], line: Span) -> Option<(LineCause, Found)> {
+    if line.start > 0 {
+        return None;
+    }
+    if begins_at(text, 0, b"\xEF\xBB\xBF") {
+        return Some((
+            LineCause::ByteOrderMark,
+            found_at(Span { start: 0, len: 3 }),
+        ));
+    }
+    if is_wide(text) {
+        return Some((LineCause::WideText, found_at(one_byte(0))));
+    }
+    if begins_at(text, 0, b"lx-tables ") {
+        return Some((LineCause::TablesGiven, found_at(Span { start: 0, len: 9 })));
+    }
+    None
+}
+
+fn has_action(alloc: Global, action: &[u8]) -> Result<bool, AllocError> {
+    if action.is_empty() {
+        return Ok(false);
+    }
+    match read_action(alloc, action)? {
+        Some(Action::Own(_)) | Some(Action::Shared) => Ok(true),
+        None => Ok(false),
+    }
+}
+
+/// Whether the line would be a rule, or is meant as one.
+pub(crate) fn is_rule(alloc: Global, text: &[u8], line: Span) -> Result<bool, AllocError> {
+    if is_at(text, line.start, b'<') {
+        return Ok(true);
+    }
+    match rule_line_of(part(text, line)) {
+        RuleLine::BeginsRule { action, .. } => has_action(alloc, action),
+        RuleLine::Skipped | RuleLine::OpensGroup | RuleLine::RulesEnd => Ok(false),
+    }
+}
+
+// The first word behind `%option` that is none of its words.
+fn other_option(text: &[u8], start: usize, end: usize) -> Option<Span> {
+    let mut next = start;
+    for at in start..end {
+        if at < next || is_blank_at(text, at) {
+            continue;
+        }
+        next = next_blank(text, at, end);
+        let word = between(at, next);
+        if !is_listed(OPTIONS, part(text, word)) {
+            return Some(word);
+        }
+    }
+    None
+}
+
+fn option_cause(text: &[u8], word: Span, end: usize) -> (LineCause, Found) {
+    let start = behind_blanks(text, word.end(), end);
+    if start >= end || find(text, start, end, b",").is_some() {
+        return (LineCause::OptionForm, found_at(word));
+    }
+    match other_option(text, start, end) {
+        Some(option) => (LineCause::OptionWord, found_at(option)),
+        None => (LineCause::OptionForm, found_at(word)),
+    }
+}
+
+fn conditions_cause(text: &[u8], word: Span, end: usize) -> (LineCause, Found) {
+    if let Some(comma) = find(text, word.end(), end, b",") {
+        return (LineCause::ConditionsComma, found_at(one_byte(comma)));
+    }
+    let start = behind_blanks(text, word.end(), end);
+    let mut next = start;
+    for at in start..end {
+        if at < next || is_blank_at(text, at) {
+            continue;
+        }
+        next = next_blank(text, at, end);
+        if behind_word(text, at, next) < next || !begins_name(text, at) {
+            return (
+                LineCause::ConditionsForm,
+                found_named(between(at, next), word),
+            );
+        }
+    }
+    (LineCause::ConditionsForm, found_at(word))
+}
+
+fn begins_name(text: &[u8], at: usize) -> bool {
+    is_word_at(text, at) && !is_digit_at(text, at)
+}
+
+fn is_size(text: &[u8], letters: Span) -> bool {
+    let letter = Span {
+        start: letters.start,
+        len: 1,
+    };
+    let digits = between(letters.start.saturating_add(1), letters.end());
+    is_listed(SIZES, part(text, letters))
+        || is_listed(SIZES, part(text, letter)) && are_digits_in(text, digits)
+}
+
+fn are_digits_in(text: &[u8], span: Span) -> bool {
+    for digit in part(text, span) {
+        if !digit.is_ascii_digit() {
+            return false;
+        }
+    }
+    true
+}
+
+fn begins_conditions(text: &[u8], letters: Span) -> bool {
+    is_at(text, letters.start, b's')
+        || is_at(text, letters.start, b'S')
+        || is_at(text, letters.start, b'x')
+        || is_at(text, letters.start, b'X')
+}
+
+// A line that begins with `%`.
+fn percent_cause(text: &[u8], line: Span) -> (LineCause, Found) {
+    let end = line.end();
+    let start = line.start.saturating_add(1);
+    let word = between(line.start, behind_word(text, start, end));
+    let letters = between(start, word.end());
+    if begins_at(text, line.start, b"%}") {
+        return (
+            LineCause::GroupCloses,
+            found_at(Span {
+                start: line.start,
+                len: 2,
+            }),
+        );
+    }
+    if part(text, letters) == b"option".as_slice() {
+        return option_cause(text, word, end);
+    }
+    if part(text, letters) == b"top".as_slice() {
+        return (LineCause::TopGroup, found_at(word));
+    }
+    if is_size(text, letters) {
+        return (LineCause::SizeForm, found_at(word));
+    }
+    if begins_conditions(text, letters) {
+        return conditions_cause(text, word, end);
+    }
+    (LineCause::PercentWord, found_at(word))
+}
+
+fn is_c(text: &[u8], line: Span) -> bool {
+    let last = before_blanks(text, line.start, line.end()).saturating_sub(1);
+    is_at(text, line.start, b'#')
+        || begins_at(text, line.start, b"//")
+        || is_at(text, last, b';')
+        || is_at(text, last, b'{')
+        || is_at(text, last, b'}')
+}
+
+// A line that begins with what should be a name.
+fn named_cause(text: &[u8], line: Span) -> (LineCause, Found) {
+    let end = line.end();
+    let word = between(line.start, next_blank(text, line.start, end));
+    let letters_end = behind_word(text, line.start, end);
+    if is_c(text, line) {
+        return (
+            LineCause::CLine,
+            found_at(between(line.start, before_blanks(text, line.start, end))),
+        );
+    }
+    if letters_end == word.end() && begins_name(text, line.start) {
+        return (LineCause::NameAlone, found_at(word));
+    }
+    let bad = if begins_name(text, line.start) {
+        letters_end
+    } else {
+        line.start
+    };
+    let mut place = found_named(one_byte(bad), word);
+    place.other = one_byte(bad);
+    (LineCause::NameForm, place)
+}
+
+/// Why a line of Definitions has no form.
+pub(crate) fn line_cause(
+    alloc: Global,
+    text: &[u8],
+    line: Span,
+) -> Result<(LineCause, Found), AllocError> {
+    if let Some(cause) = text_cause(text, line) {
+        return Ok(cause);
+    }
+    if is_rule(alloc, text, line)? {
+        return Ok((LineCause::RuleBeforePercent, found_at(line)));
+    }
+    if is_at(text, line.start, b'%') {
+        Ok(percent_cause(text, line))
+    } else {
+        Ok(named_cause(text, line))
+    }
+}

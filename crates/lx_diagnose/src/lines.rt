@@ -1,0 +1,121 @@
+// The lines of a text, and places in them.
+
+ghost use Rattle.std.specs.Prelude.{◌≡◌, ◌+◌, ◌-◌, ◌<◌, ◌≤◌, length};
+ghost use Rattle.std.specs.List.{prefix_len};
+ghost use Rattle.lx_diagnose.specs.Places as specs;
+
+use crate::places::{Place, Span};
+
+fn line_len(text: &[u8]) -> usize
+    ensures value { result ≡ prefix_len specs.is_no_newline text.now }
+    ensures within { result ≤ length text.now }
+{
+    text.iter().take_while(|c| **c != b'\n').count()
+}
+
+fn behind_line(text: &[u8]) -> &[u8]
+    ensures { result.now ≡ specs.behind_line text.now }
+{
+    let n = line_len(text);
+    if n < text.len() { &text[n + 1..] } else { &[] }
+}
+
+// The text from a line on.
+fn from_line(text: &[u8], line: u32) -> &[u8]
+    ensures { result.now ≡ specs.behind_lines (line - 1) text.now }
+{
+    let mut rest = text;
+    for _ in 1..line {
+        rest = behind_line(rest);
+    }
+    rest
+}
+
+fn unknown_place(start: usize, line: u32) -> Place
+    ensures line { result.line ≡ line }
+    ensures column { result.column ≡ 0 }
+    ensures width { result.width ≡ 0 }
+{
+    Place {
+        start,
+        line,
+        column: 0,
+        width: 0,
+    }
+}
+
+// The place of so many bytes, behind the first ones of a line.
+fn place_behind(start: usize, line: u32, before: usize, width: usize, len: usize) -> Place
+    requires within { before ≤ len }
+    requires fits { len < 9223372036854775808 }
+    ensures start { result.start ≡ start }
+    ensures line { result.line ≡ line }
+    ensures column { result.column ≡ before + 1 }
+    ensures within { result.column + result.width ≤ len + 1 }
+{
+    let left = len - before;
+    Place {
+        start,
+        line,
+        column: before + 1,
+        width: if width < left { width } else { left },
+    }
+}
+
+/// Where a part of the text stands, seen as a part of this line; what lies behind the line's end is left away. The column is unknown where the part doesn't
+/// begin in the line.
+pub(crate) fn place_in(text: &[u8], line: u32, span: Span) -> Place
+    ensures line { result.line ≡ line }
+    ensures place { specs.IsInText text.now result }
+{
+    if line == 0 || line as usize > text.len() {
+        return unknown_place(span.start, line);
+    }
+    let rest = from_line(text, line);
+    let start = text.len().saturating_sub(rest.len());
+    let len = line_len(rest);
+    if start <= span.start && span.start - start <= len {
+        place_behind(span.start, line, span.start - start, span.len, len)
+    } else {
+        unknown_place(span.start, line)
+    }
+}
+
+/// The number of the line in which a byte of the text stands.
+pub(crate) fn line_number(text: &[u8], at: usize) -> u32 {
+    let mut number: u32 = 1;
+    for i in 0..text.len() {
+        if i < at && text[i] == b'\n' && number < u32::MAX {
+            number += 1;
+        }
+    }
+    number
+}
+
+/// Where a part of the text stands.
+pub(crate) fn place_of(text: &[u8], span: Span) -> Place
+    ensures { specs.IsInText text.now result }
+{
+    place_in(text, line_number(text, span.start), span)
+}
+
+/// All bytes of a line; none where the text has no such line.
+pub(crate) fn line_span(text: &[u8], line: u32) -> Span {
+    if line == 0 || line as usize > text.len() {
+        return Span { start: 0, len: 0 };
+    }
+    let rest = from_line(text, line);
+    Span {
+        start: text.len().saturating_sub(rest.len()),
+        len: line_len(rest),
+    }
+}
+
+/// The bytes of a line, which is counted from 1, without its newline; none where the text has no such line.
+pub fn line_bytes(text: &[u8], line: u32) -> &[u8] {
+    if line == 0 || line as usize > text.len() {
+        return &[];
+    }
+    let rest = from_line(text, line);
+    &rest[..line_len(rest)]
+}

@@ -1,0 +1,125 @@
+// Causes of names that aren't defined (E11), or are nested too deep (E12).
+
+use crate::causes::{DepthCause, NameCause};
+use crate::depth::{Depth, depth_from, mentions_of};
+use crate::found::{Found, found_named};
+use crate::names::{body_of, inside, names_in, number_of, substitute_of, visits_of};
+use crate::outline::{ConditionLine, DefinitionLine, Outline, RuleExtent};
+use crate::places::Span;
+use crate::scan::part;
+use crate::similar::most_similar;
+use std::alloc::{AllocError, Global};
+
+// The first name of an expression that isn't defined.
+fn first_undefined(
+    alloc: Global,
+    outline: &Outline,
+    text: &[u8],
+    span: Span,
+) -> Result<Option<Span>, AllocError> {
+    for name in &names_in(alloc, text, span)? {
+        if number_of(outline, text, *name).is_none() {
+            return Ok(Some(*name));
+        }
+    }
+    Ok(None)
+}
+
+/// The names that are defined, in order.
+fn defined_names(alloc: Global, definitions: &[DefinitionLine]) -> Result<Vec<Span>, AllocError> {
+    let mut names = Vec::new(alloc);
+    for definition in definitions {
+        names.push(definition.name)?;
+    }
+    Ok(names)
+}
+
+/// The condition with the name that stands there.
+pub(crate) fn condition_named(
+    conditions: &[ConditionLine],
+    text: &[u8],
+    name: Span,
+) -> Option<ConditionLine> {
+    for condition in conditions {
+        if part(text, condition.name) == part(text, name) {
+            return Some(*condition);
+        }
+    }
+    None
+}
+
+// Why the name in braces isn't defined; `at` is where the rule has it, or leads to it, and `within` where a definition has it.
+fn undefined_cause(
+    alloc: Global,
+    outline: &Outline,
+    text: &[u8],
+    braces: Span,
+    at: Span,
+    within: Option<Span>,
+) -> Result<(NameCause, Found), AllocError> {
+    let name = inside(braces);
+    let mut place = found_named(at, name);
+    place.note = within;
+    if condition_named(&outline.conditions, text, name).is_some() {
+        return Ok((NameCause::Condition, place));
+    }
+    let names = defined_names(alloc, &outline.definitions)?;
+    match most_similar(text, &names, name) {
+        Some(i) if i < names.len() => {
+            place.other = names[i];
+            Ok((NameCause::Similar, place))
+        }
+        _ => Ok((NameCause::NotDefined, place)),
+    }
+}
+
+/// Why a name to which the rule leads isn't defined.
+pub(crate) fn name_cause(
+    alloc: Global,
+    outline: &Outline,
+    text: &[u8],
+    rule: RuleExtent,
+) -> Result<(NameCause, Found), AllocError> {
+    let body = body_of(text, rule.pattern);
+    if let Some(braces) = first_undefined(alloc, outline, text, body)? {
+        return undefined_cause(alloc, outline, text, braces, braces, None);
+    }
+    let visits = visits_of(alloc, outline, text, rule)?;
+    for visit in &visits {
+        let substitute = substitute_of(&outline.definitions, visit.definition);
+        if let Some(braces) = first_undefined(alloc, outline, text, substitute)? {
+            return undefined_cause(alloc, outline, text, braces, visit.via, Some(braces));
+        }
+    }
+    Ok((NameCause::Unknown, found_named(rule.pattern, rule.pattern)))
+}
+
+/// Why names are nested too deep.
+pub(crate) fn depth_cause(
+    alloc: Global,
+    outline: &Outline,
+    text: &[u8],
+    rule: RuleExtent,
+) -> Result<(DepthCause, Found), AllocError> {
+    let visits = visits_of(alloc, outline, text, rule)?;
+    let mut mentions = mentions_of(alloc, outline, text, &visits)?;
+    let names = names_in(alloc, text, body_of(text, rule.pattern))?;
+    for name in &names {
+        let at = *name;
+        if let Some(definition) = number_of(outline, text, at) {
+            match depth_from(alloc, &mut mentions, definition)? {
+                Some(Depth::Circle(mention)) => {
+                    let mut place = found_named(at, inside(mention));
+                    place.note = Some(mention);
+                    return Ok((DepthCause::Circle, place));
+                }
+                Some(Depth::TooLong) => return Ok((
+                    DepthCause::TooDeep,
+                    found_named(at, inside(at)),
+                )),
+                None => {}
+            }
+        }
+    }
+    Ok((DepthCause::TooDeep, found_named(rule.pattern, rule.pattern)))
+}

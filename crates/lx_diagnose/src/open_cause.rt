@@ -1,0 +1,154 @@
+// Causes of what is open where the text ends (E03).
+
+use crate::causes::OpenCause;
+use crate::found::{Found, found_at};
+use crate::line_cause::is_rule;
+use crate::outline::{Outline, RuleExtent};
+use crate::places::{Span, between, one_byte};
+use crate::scan::{begins_at, behind_blanks, is_at};
+use lx_spec::block::{Mode, behind_line, counts, next_mode};
+use std::alloc::{AllocError, Global};
+
+// What an action has left open, up to a place.
+#[derive(Drop)]
+struct Reading {
+    mode: Mode,
+    // The braces that are open, the outermost first.
+    braces: Vec<Span>,
+    // Where the last comment begins.
+    comment: Span,
+    // The first closing brace that doesn't count, since one was open.
+    hidden: Option<Span>,
+}
+
+fn is_comment(mode: Mode) -> bool {
+    matches!(mode, Mode::Comment | Mode::Star)
+}
+
+fn take_brace(reading: &mut Reading, byte: u8, at: usize) -> Result<(), AllocError> {
+    if byte == b'{' && counts(reading.mode) {
+        reading.braces.push(one_byte(at))?;
+    } else if byte == b'}' && counts(reading.mode) {
+        let _ = reading.braces.pop();
+    } else if byte == b'}' && reading.hidden.is_none() && !reading.braces.is_empty() {
+        reading.hidden = Some(one_byte(at));
+    }
+    Ok(())
+}
+
+fn take_byte(reading: &mut Reading, byte: u8, at: usize) -> Result<(), AllocError> {
+    if byte == b'\n' {
+        reading.mode = behind_line(reading.mode);
+        return Ok(());
+    }
+    take_brace(reading, byte, at)?;
+    let mode = next_mode(reading.mode, byte);
+    if is_comment(mode) && !is_comment(reading.mode) {
+        reading.comment = Span {
+            start: at.saturating_sub(1),
+            len: 2,
+        };
+    }
+    reading.mode = mode;
+    Ok(())
+}
+
+// The first further line of an action that reads as a rule.
+fn next_rule(alloc: Global, text: &[u8], action: Span) -> Result<Option<Span>, AllocError> {
+    for at in action.start..action.end() {
+        if is_at(text, at, b'\n') {
+            let start = at.saturating_add(1);
+            let line = between(start, line_end(text, start));
+            if is_rule(alloc, text, line)? {
+                return Ok(Some(line));
+            }
+        }
+    }
+    Ok(None)
+}
+
+fn line_end(text: &[u8], start: usize) -> usize {
+    for at in start..text.len() {
+        if is_at(text, at, b'\n') || is_at(text, at, b'\r') {
+            return at;
+        }
+    }
+    text.len()
+}
+
+fn action_cause(
+    alloc: Global,
+    text: &[u8],
+    rule: RuleExtent,
+) -> Result<(OpenCause, Found), AllocError> {
+    let mut reading = Reading {
+        mode: Mode::Code,
+        braces: Vec::new(alloc),
+        comment: rule.action,
+        hidden: None,
+    };
+    for at in rule.action.start..rule.action.end() {
+        if at < text.len() {
+            take_byte(&mut reading, text[at], at)?;
+        }
+    }
+    if is_comment(reading.mode) {
+        return Ok((OpenCause::ActionComment, found_at(reading.comment)));
+    }
+    let opened = match reading.braces.first() {
+        Some(brace) if brace.start < rule.line.end() => *brace,
+        _ => rule.action,
+    };
+    let mut place = found_at(opened);
+    match reading.hidden {
+        Some(hidden) => {
+            place.other = hidden;
+            place.note = Some(hidden);
+            Ok((OpenCause::HiddenBrace, place))
+        }
+        None => {
+            place.note = next_rule(alloc, text, rule.action)?;
+            Ok((OpenCause::Action, place))
+        }
+    }
+}
+
+// The first `%}` behind a place that has blanks before it on its line.
+fn indented_close(text: &[u8], from: usize) -> Option<Span> {
+    for at in from..text.len() {
+        if is_at(text, at, b'\n') {
+            let behind = behind_blanks(text, at.saturating_add(1), text.len());
+            if begins_at(text, behind, b"%}") {
+                return Some(Span {
+                    start: behind,
+                    len: 2,
+                });
+            }
+        }
+    }
+    None
+}
+
+/// Why something that begins on a line is open where the text ends.
+pub(crate) fn open_cause(
+    alloc: Global,
+    text: &[u8],
+    outline: &Outline,
+    line: Span,
+) -> Result<(OpenCause, Found), AllocError> {
+    if let Some(rule) = outline.rule {
+        return action_cause(alloc, text, rule);
+    }
+    let mut place = found_at(Span {
+        start: line.start,
+        len: 2,
+    });
+    if begins_at(text, line.start, b"%{") {
+        place.note = indented_close(text, line.start);
+        return Ok((OpenCause::Group, place));
+    }
+    if begins_at(text, line.start, b"/*") {
+        return Ok((OpenCause::Comment, place));
+    }
+    Ok((OpenCause::NotClosed, found_at(line)))
+}

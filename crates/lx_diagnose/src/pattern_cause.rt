@@ -1,0 +1,89 @@
+// Causes of patterns and substitutes that have no reading (E10).
+
+use crate::body_cause::{Body, body_cause};
+use crate::causes::PatternCause;
+use crate::found::{Found, found_at};
+use crate::names::{body_of, substitute_of, visits_of};
+use crate::outline::{Outline, RuleExtent};
+use crate::places::Span;
+use crate::prefix_cause::prefix_cause;
+use std::alloc::{AllocError, Global};
+
+// The most bytes of a pattern or a substitute.
+const MAX_PATTERN_BYTES: usize = 1024;
+
+fn length_cause(span: Span) -> Option<(PatternCause, Found)> {
+    if span.len > MAX_PATTERN_BYTES {
+        Some((PatternCause::TooLong, found_at(span)))
+    } else {
+        None
+    }
+}
+
+// Why a text has no reading, as a pattern of which nothing but the text is known, or as a substitute.
+fn text_cause(
+    alloc: Global,
+    text: &[u8],
+    body: Body,
+    whole: Span,
+) -> Result<Option<(PatternCause, Found)>, AllocError> {
+    if let Some(cause) = length_cause(whole) {
+        return Ok(Some(cause));
+    }
+    let span = match body {
+        Body::Pattern => body_of(text, whole),
+        Body::Substitute => whole,
+    };
+    match body_cause(alloc, text, body, span)? {
+        Some((PatternCause::NothingButAnchors, _)) => Ok(Some((
+            PatternCause::NothingButAnchors,
+            found_at(whole),
+        ))),
+        cause => Ok(cause),
+    }
+}
+
+// The cause of the first definition to which the rule leads whose substitute has no reading: it is told at the name in the rule, with the place in the
+// definition beside it.
+fn definition_cause(
+    alloc: Global,
+    outline: &Outline,
+    text: &[u8],
+    rule: RuleExtent,
+) -> Result<Option<(PatternCause, Found)>, AllocError> {
+    let visits = visits_of(alloc, outline, text, rule)?;
+    for visit in &visits {
+        let substitute = substitute_of(&outline.definitions, visit.definition);
+        if let Some((cause, place)) = text_cause(alloc, text, Body::Substitute, substitute)? {
+            return Ok(Some((
+                cause,
+                Found {
+                    at: visit.via,
+                    name: place.name,
+                    other: place.other,
+                    note: Some(place.at),
+                },
+            )));
+        }
+    }
+    Ok(None)
+}
+
+/// Why a rule has no reading: its list of conditions, its pattern, or a substitute to which it leads.
+pub(crate) fn pattern_cause(
+    alloc: Global,
+    outline: &Outline,
+    text: &[u8],
+    rule: RuleExtent,
+) -> Result<(PatternCause, Found), AllocError> {
+    if let Some(cause) = prefix_cause(alloc, text, rule)? {
+        return Ok(cause);
+    }
+    if let Some(cause) = text_cause(alloc, text, Body::Pattern, rule.pattern)? {
+        return Ok(cause);
+    }
+    match definition_cause(alloc, outline, text, rule)? {
+        Some(cause) => Ok(cause),
+        None => Ok((PatternCause::NoReading, found_at(rule.pattern))),
+    }
+}

@@ -1,0 +1,161 @@
+// Causes of what stands before a pattern (E10).
+
+use crate::causes::PatternCause;
+use crate::found::{Found, found_at, found_named};
+use crate::outline::{RuleExtent, RulePrefix};
+use crate::places::{Span, between, one_byte};
+use crate::scan::{
+    before_blanks, begins_at, behind_blanks, behind_word, is_at, is_blank_at, is_digit_at,
+    is_word_at, part,
+};
+use lx_spec::action::read_action;
+use std::alloc::{AllocError, Global};
+
+// What no pattern is, and a rule of flex for the end of a file begins with.
+const END_OF_FILE: &[u8] = b"<<EOF>>";
+
+fn is_identifier_in(text: &[u8], start: usize, end: usize) -> bool {
+    start < end && !is_digit_at(text, start) && behind_word(text, start, end) == end
+}
+
+// Whether a name of a condition, or `0`, stands from one place up to another.
+fn is_name_in(text: &[u8], start: usize, end: usize) -> bool {
+    is_identifier_in(text, start, end) || part(text, between(start, end)) == b"0".as_slice()
+}
+
+fn has_blank_in(text: &[u8], span: Span) -> bool {
+    for at in span.start..span.end() {
+        if is_blank_at(text, at) {
+            return true;
+        }
+    }
+    false
+}
+
+// The first of the texts between commas that is no name of a condition.
+fn first_other(text: &[u8], names: Span) -> Option<Span> {
+    let mut start = names.start;
+    for at in names.start..names.end() {
+        if is_at(text, at, b',') {
+            if !is_name_in(text, start, at) {
+                return Some(between(start, at));
+            }
+            start = at + 1;
+        }
+    }
+    if is_name_in(text, start, names.end()) {
+        None
+    } else {
+        Some(between(start, names.end()))
+    }
+}
+
+// Whether a name stands there with blanks before it or behind it.
+fn is_name_with_blanks(text: &[u8], field: Span) -> bool {
+    let start = behind_blanks(text, field.start, field.end());
+    let end = before_blanks(text, start, field.end());
+    has_blank_in(text, field) && is_name_in(text, start, end)
+}
+
+fn listed_cause(text: &[u8], line: Span, names: Span) -> Option<(PatternCause, Found)> {
+    let Some(other) = first_other(text, names) else {
+        return None;
+    };
+    if part(text, names) == b"*".as_slice() {
+        let list = Span {
+            start: line.start,
+            len: 3,
+        };
+        return Some((PatternCause::AllConditions, found_at(list)));
+    }
+    if !is_word_at(text, names.start) && !is_name_with_blanks(text, other) {
+        return Some((PatternCause::PrefixOperator, found_at(one_byte(line.start))));
+    }
+    if is_name_with_blanks(text, other) {
+        return Some((PatternCause::PrefixBlank, found_at(other)));
+    }
+    Some((PatternCause::PrefixName, found_at(other)))
+}
+
+fn unclosed_cause(text: &[u8], line: Span) -> (PatternCause, Found) {
+    let opening = one_byte(line.start);
+    if is_word_at(text, line.start.saturating_add(1)) {
+        (PatternCause::PrefixName, found_at(opening))
+    } else {
+        (PatternCause::PrefixOperator, found_at(opening))
+    }
+}
+
+fn behind_list_cause(text: &[u8], rule: RuleExtent) -> Option<(PatternCause, Found)> {
+    if rule.pattern.len == 0 {
+        let behind = Span {
+            start: rule.pattern.start,
+            len: 0,
+        };
+        return Some((PatternCause::PatternMissing, found_at(behind)));
+    }
+    if part(text, rule.pattern) == b"{".as_slice() {
+        return Some((
+            PatternCause::Scope,
+            found_named(rule.pattern, between(rule.line.start, rule.pattern.start)),
+        ));
+    }
+    None
+}
+
+// A comment that is read as a pattern: `//` alone may be meant as one.
+fn comment_cause(
+    alloc: Global,
+    text: &[u8],
+    rule: RuleExtent,
+) -> Result<Option<(PatternCause, Found)>, AllocError> {
+    let mark = Span {
+        start: rule.pattern.start,
+        len: 2,
+    };
+    let is_comment = if begins_at(text, mark.start, b"/*") {
+        true
+    } else if begins_at(text, mark.start, b"//") {
+        read_action(alloc, part(text, rule.action))?.is_none()
+    } else {
+        false
+    };
+    if is_comment {
+        Ok(Some((PatternCause::CommentLine, found_at(mark))))
+    } else {
+        Ok(None)
+    }
+}
+
+/// Why a rule has no reading, where that shows before its pattern is read.
+pub(crate) fn prefix_cause(
+    alloc: Global,
+    text: &[u8],
+    rule: RuleExtent,
+) -> Result<Option<(PatternCause, Found)>, AllocError> {
+    if begins_at(text, rule.line.start, END_OF_FILE) {
+        let word = Span {
+            start: rule.line.start,
+            len: END_OF_FILE.len(),
+        };
+        return Ok(Some((PatternCause::EndOfFile, found_at(word))));
+    }
+    match rule.prefix {
+        RulePrefix::Absent => comment_cause(alloc, text, rule),
+        RulePrefix::Unclosed => Ok(Some(unclosed_cause(text, rule.line))),
+        RulePrefix::Listed(names) => match listed_cause(text, rule.line, names) {
+            Some(cause) => Ok(Some(cause)),
+            None => {
+                let behind = Span {
+                    start: rule.pattern.start,
+                    len: END_OF_FILE.len(),
+                };
+                if part(text, behind) == END_OF_FILE {
+                    Ok(Some((PatternCause::EndOfFile, found_at(behind))))
+                } else {
+                    Ok(behind_list_cause(text, rule))
+                }
+            }
+        },
+    }
+}

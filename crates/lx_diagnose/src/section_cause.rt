@@ -1,0 +1,154 @@
+// Causes of names that are declared twice (E05), of limits (E06), and of a text without Rules (E02).
+
+use crate::causes::{LimitCause, RulesCause, TwiceCause};
+use crate::found::{Found, found_at, found_noted};
+use crate::name_cause::condition_named;
+use crate::outline::{ConditionLine, DefinitionLine, Outline};
+use crate::places::{Span, between};
+use crate::scan::{begins_at, behind_blanks, behind_word, is_at, is_blank_at, part};
+
+// The first words of actions.
+const RETURN: &[u8] = b"return";
+
+const BEGIN: &[u8] = b"BEGIN";
+
+// The first of the definitions with this name.
+fn definition_named(definitions: &[DefinitionLine], text: &[u8], name: Span) -> Option<Span> {
+    for definition in definitions {
+        if part(text, definition.name) == part(text, name) {
+            return Some(definition.name);
+        }
+    }
+    None
+}
+
+// Of a name that stands twice, the later place with the first one.
+fn again(name: Span, first: Option<Span>) -> Option<Found> {
+    match first {
+        Some(first) => if first.start < name.start {
+            Some(found_noted(name, first))
+        } else {
+            None
+        },
+        None => None,
+    }
+}
+
+fn definition_again(outline: &Outline, text: &[u8], line: u32) -> Option<Found> {
+    for definition in &outline.definitions {
+        if definition.line == line {
+            let first = definition_named(&outline.definitions, text, definition.name);
+            if let Some(found) = again(definition.name, first) {
+                return Some(found);
+            }
+        }
+    }
+    None
+}
+
+fn condition_again(
+    conditions: &[ConditionLine],
+    text: &[u8],
+    line: u32,
+) -> Option<(TwiceCause, Found)> {
+    for condition in conditions {
+        if condition.line == line {
+            if part(text, condition.name) == b"INITIAL".as_slice() {
+                return Some((TwiceCause::Initial, found_at(condition.name)));
+            }
+            let first = match condition_named(conditions, text, condition.name) {
+                Some(first) => Some(first.name),
+                None => None,
+            };
+            if let Some(found) = again(condition.name, first) {
+                return Some((TwiceCause::Again, found));
+            }
+        }
+    }
+    None
+}
+
+/// Which name is declared a second time on a line.
+pub(crate) fn twice_cause(
+    outline: &Outline,
+    text: &[u8],
+    line: u32,
+    whole: Span,
+) -> (TwiceCause, Found) {
+    if let Some(found) = definition_again(outline, text, line) {
+        return (TwiceCause::Again, found);
+    }
+    match condition_again(&outline.conditions, text, line) {
+        Some(cause) => cause,
+        None => (
+            TwiceCause::Again,
+            found_at(between(whole.start, behind_word(text, whole.start, whole.end()))),
+        ),
+    }
+}
+
+/// Which limit is passed on a line.
+pub(crate) fn limit_cause(outline: &Outline, line: u32, whole: Span) -> (LimitCause, Found) {
+    for definition in &outline.definitions {
+        if definition.line == line {
+            return (LimitCause::Definitions, found_at(definition.name));
+        }
+    }
+    for condition in &outline.conditions {
+        if condition.line == line {
+            return (LimitCause::Conditions, found_at(condition.name));
+        }
+    }
+    (LimitCause::Rules, found_at(whole))
+}
+
+// A cause without a line of its own: what it is about is the second place.
+fn noted(at: Span) -> Found {
+    let mut place = found_noted(at, at);
+    place.other = at;
+    place
+}
+
+// The first `%%` with blanks before it on its line.
+fn indented_percent(text: &[u8]) -> Option<Span> {
+    for at in 0..text.len() {
+        let begins = at == 0 || is_at(text, at - 1, b'\n');
+        if begins && is_blank_at(text, at) {
+            let behind = behind_blanks(text, at, text.len());
+            if begins_at(text, behind, b"%%") {
+                return Some(Span {
+                    start: behind,
+                    len: 2,
+                });
+            }
+        }
+    }
+    None
+}
+
+fn begins_action(text: &[u8], substitute: Span) -> bool {
+    is_at(text, substitute.start, b'{') && !is_at(text, substitute.end().saturating_sub(1), b'}')
+        || begins_at(text, substitute.start, RETURN)
+        || begins_at(text, substitute.start, BEGIN)
+}
+
+fn ends_action(text: &[u8], substitute: Span) -> bool {
+    substitute.len > 1 && is_at(text, substitute.end().saturating_sub(1), b';')
+}
+
+/// Why no line begins Rules.
+pub(crate) fn rules_cause(outline: &Outline, text: &[u8]) -> (RulesCause, Found) {
+    if let Some(percent) = indented_percent(text) {
+        return (RulesCause::IndentedPercent, noted(percent));
+    }
+    for definition in &outline.definitions {
+        let substitute = definition.substitute;
+        if begins_action(text, substitute) || ends_action(text, substitute) {
+            return (
+                RulesCause::RulesAsDefinitions,
+                noted(between(definition.name.start, substitute.end())),
+            );
+        }
+    }
+    (RulesCause::Missing, found_at(Span { start: 0, len: 0 }))
+}

@@ -1,0 +1,134 @@
+//! Why a text is no table's (B01).
+
+ghost use Rattle.std.specs.Prelude.{◌<◌, IfOk, length};
+ghost use Rattle.lx_diagnose.specs.Printed.{ArePrinted};
+
+use crate::places::{Span, between};
+use crate::scan::{begins_at, behind_digits, find, is_at, part};
+use crate::wording::{Fillings, filled, printed, told};
+use lx_explain::words_of;
+use std::alloc::{AllocError, Global};
+
+// What each table's text begins with.
+const BEGINNING: &[u8] = b"lx-tables ";
+
+// The last line of each table's text.
+const LAST_LINE: &[u8] = b"end";
+
+/// Why a text is no table's.
+#[derive(Clone, Copy)]
+pub enum TableCause {
+    NoTable,
+    Newer,
+    Specification,
+    CarriageReturns,
+    Cut,
+}
+
+// The number that stands behind the beginning.
+fn version_of(text: &[u8]) -> Span {
+    let start = BEGINNING.len();
+    between(start, behind_digits(text, start, text.len()))
+}
+
+fn line_end(text: &[u8], start: usize) -> usize {
+    for at in start..text.len() {
+        if is_at(text, at, b'\n') {
+            return at;
+        }
+    }
+    text.len()
+}
+
+fn is_newer(text: &[u8]) -> bool {
+    let version = version_of(text);
+    let number = part(text, version);
+    let is_whole = is_at(text, version.end(), b'\n') || is_at(text, version.end(), b'\r');
+    is_whole && !number.is_empty() && number != b"1".as_slice() && number != b"2".as_slice()
+}
+
+fn is_specification(text: &[u8]) -> bool {
+    begins_at(text, 0, b"%%") || find(text, 0, text.len(), b"\n%%").is_some()
+}
+
+// Whether the last line is another than the end of a table.
+fn is_cut(text: &[u8]) -> bool {
+    let end = text.len();
+    let last = end.saturating_sub(LAST_LINE.len() + 2);
+    !(begins_at(text, last, b"\nend\n") && last.saturating_add(LAST_LINE.len() + 2) == end)
+}
+
+/// Why a text is no table's, where it isn't.
+pub fn table_cause(text: &[u8]) -> TableCause {
+    if text.is_empty() {
+        return TableCause::Cut;
+    }
+    if !begins_at(text, 0, BEGINNING) {
+        return if is_specification(text) {
+            TableCause::Specification
+        } else {
+            TableCause::NoTable
+        };
+    }
+    if is_newer(text) {
+        return TableCause::Newer;
+    }
+    if is_at(text, line_end(text, 0).saturating_sub(1), b'\r') {
+        return TableCause::CarriageReturns;
+    }
+    if is_cut(text) {
+        TableCause::Cut
+    } else {
+        TableCause::NoTable
+    }
+}
+
+/// The word by which `explain` tells of a cause: its name, or that of the code.
+pub fn table_topic(cause: TableCause) -> &'static str {
+    match cause {
+        TableCause::NoTable => "B01",
+        TableCause::Newer => "newer-tables",
+        TableCause::Specification => "specification-given",
+        TableCause::CarriageReturns => "carriage-returns",
+        TableCause::Cut => "cut-tables",
+    }
+}
+
+fn table_phrase(cause: TableCause) -> &'static str {
+    match cause {
+        TableCause::NoTable => "this is no table of lx",
+        TableCause::Newer => "tables of version `@`; this lx reads 1 and 2",
+        TableCause::Cut => "the text is cut short behind line #",
+        TableCause::Specification | TableCause::CarriageReturns => "",
+    }
+}
+
+// How many lines end in a text.
+fn count_lines(text: &[u8]) -> u32 {
+    let mut lines: u32 = 0;
+    for byte in text {
+        if *byte == b'\n' {
+            lines = lines.saturating_add(1);
+        }
+    }
+    lines
+}
+
+/// Why a text is no table's, in words, in one line without an end. Bytes of the text outside 32 to 126 stand as `\xHH`. Err: memory was refused.
+pub fn table_sentence(alloc: Global, cause: TableCause, text: &[u8]) -> Result<Vec<u8>, AllocError>
+    ensures printed { IfOk result (λ words. ArePrinted words.items) }
+    ensures some { IfOk result (λ words. 0 < length words.items) }
+{
+    let phrase = table_phrase(cause).as_bytes();
+    if phrase.is_empty() {
+        let words = printed(alloc, words_of(table_topic(cause)).as_bytes())?;
+        return told(words);
+    }
+    let fillings = Fillings {
+        name: part(text, version_of(text)),
+        other: part(text, version_of(text)),
+        line: count_lines(text),
+    };
+    let words = filled(alloc, phrase, &fillings)?;
+    told(words)
+}

@@ -1,0 +1,50 @@
+// What `explain` says of a cause.
+
+ghost use Rattle.std.specs.Prelude.{◌≡◌};
+ghost use Rattle.lx_diagnose.specs.Causes.{code_of};
+ghost use Rattle.lx_diagnose.specs.CodeWords.{word_of};
+
+use crate::causes::Cause;
+use crate::naming::name_of;
+use lx_explain::{to_do, words_of};
+
+/// The code of a cause, as it is printed.
+pub fn code_word(cause: Cause) -> &'static str
+    ensures { result.now ≡ word_of (code_of cause) }
+{
+    match cause {
+        Cause::TooLong => "E01",
+        Cause::NoRules(_) => "E02",
+        Cause::NotClosed(_) => "E03",
+        Cause::NoForm(_) => "E04",
+        Cause::Twice(_) => "E05",
+        Cause::TooMany(_) => "E06",
+        Cause::NoReading(_) => "E10",
+        Cause::Undefined(_) => "E11",
+        Cause::TooDeep(_) => "E12",
+        Cause::NoCondition(_) => "E13",
+        Cause::NoAction(_) => "E20",
+        Cause::NoNext => "E21",
+        Cause::Memory => "E90",
+    }
+}
+
+/// The word by which `explain` tells of a cause: its name, or that of its code.
+pub fn topic_of(cause: Cause) -> &'static str {
+    let name = name_of(cause);
+    if name.is_empty() {
+        code_word(cause)
+    } else {
+        name
+    }
+}
+
+/// What is wrong, in the general words of `explain`.
+pub(crate) fn said_of(cause: Cause) -> &'static str {
+    words_of(topic_of(cause))
+}
+
+/// What to write in place of what is refused, in the words of `explain`.
+pub fn hint(cause: Cause) -> &'static str {
+    to_do(topic_of(cause))
+}

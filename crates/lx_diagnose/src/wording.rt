@@ -1,0 +1,182 @@
+//! A cause in words.
+
+ghost use Rattle.std.specs.Prelude.{◌≡◌, ◌<◌, ◌≤◌, ◌++◌, IfOk, OnOk, codes, decimal, length, take};
+ghost use Rattle.lx_diagnose.specs.Printed as specs;
+ghost use Rattle.lx_diagnose.specs.Printed.{ArePrinted};
+
+use crate::diagnosing::Diagnosis;
+use crate::lines::line_number;
+use crate::phrases::phrase_of;
+use crate::scan::part;
+use crate::topic::said_of;
+use itoa::Buffer;
+use std::alloc::{AllocError, Global};
+
+// The most bytes of a name that are shown.
+const MAX_NAME_BYTES: usize = 64;
+
+/// What is put into a phrase.
+#[derive(Clone, Copy)]
+pub(crate) struct Fillings<'t> {
+    pub name: &'t [u8],
+    pub other: &'t [u8],
+    pub line: u32,
+}
+
+fn is_printed(byte: u8) -> bool
+    ensures { result ≡ specs.is_printed byte }
+{
+    32 <= byte && byte < 127
+}
+
+fn digit(n: u8) -> u8
+    requires { n < 16 }
+    ensures { result ≡ specs.digit n }
+{
+    if n < 10 { b'0' + n } else { b'A' + (n - 10) }
+}
+
+// A byte that is printed stands for itself, and any other one as `\xHH`.
+fn push_byte(text: &mut Vec<u8>, byte: u8) -> Result<(), AllocError>
+    ensures { OnOk result (text.new.items ≡ text.old.items ++ specs.escaped byte) }
+{
+    if is_printed(byte) {
+        return text.extend_from_slice(&[byte]);
+    }
+    text.extend_from_slice(b"\\x")?;
+    text.extend_from_slice(&[digit(byte / 16), digit(byte % 16)])
+}
+
+fn push_printed_byte(text: &mut Vec<u8>, byte: u8) -> Result<(), AllocError>
+    ensures value { OnOk result (text.new.items ≡ text.old.items ++ specs.escaped byte) }
+    ensures printed { OnOk result (ArePrinted text.old.items → ArePrinted text.new.items) }
+{
+    push_byte(text, byte)
+}
+
+fn push_printed(text: &mut Vec<u8>, bytes: &[u8]) -> Result<(), AllocError>
+    ensures value { OnOk result (text.new.items ≡ text.old.items ++ specs.shown bytes.now) }
+    ensures printed { OnOk result (ArePrinted text.old.items → ArePrinted text.new.items) }
+{
+    for byte in bytes {
+        push_printed_byte(text, *byte)?;
+    }
+    Ok(())
+}
+
+fn push_dots(text: &mut Vec<u8>) -> Result<(), AllocError>
+    ensures value { OnOk result (text.new.items ≡ text.old.items ++ specs.shown (codes "..")) }
+    ensures printed { OnOk result (ArePrinted text.old.items → ArePrinted text.new.items) }
+{
+    push_printed(text, b"..")
+}
+
+fn first_bytes(name: &[u8], most: usize) -> &[u8]
+    requires { most ≤ length name.now }
+    ensures { result.now ≡ take most name.now }
+{
+    &name[..most]
+}
+
+// A name, of which the first bytes are shown where it is longer than so many.
+#[tactic(auto, unfolding(crate::specs::Printed::shown_name))]
+fn push_name(text: &mut Vec<u8>, name: &[u8], most: usize) -> Result<(), AllocError>
+    ensures value { OnOk result (text.new.items ≡ text.old.items ++ specs.shown_name most name.now) }
+    ensures printed { OnOk result (ArePrinted text.old.items → ArePrinted text.new.items) }
+{
+    if name.len() <= most {
+        return push_printed(text, name);
+    }
+    push_printed(text, first_bytes(name, most))?;
+    push_dots(text)
+}
+
+fn push_line(text: &mut Vec<u8>, line: u32) -> Result<(), AllocError>
+    ensures value { OnOk result (text.new.items ≡ text.old.items ++ specs.shown (decimal line)) }
+    ensures printed { OnOk result (ArePrinted text.old.items → ArePrinted text.new.items) }
+{
+    let mut digits = Buffer::new();
+    push_printed(text, digits.format(line).as_bytes())
+}
+
+// A byte of a phrase, or what is put there.
+#[tactic(auto, unfolding(crate::specs::Printed::filling))]
+fn push_filled(text: &mut Vec<u8>, byte: u8, fillings: &Fillings) -> Result<(), AllocError>
+    ensures value { OnOk result (text.new.items ≡ text.old.items ++ specs.filling fillings.now.name.now fillings.now.other.now fillings.now.line byte) }
+    ensures printed { OnOk result (ArePrinted text.old.items → ArePrinted text.new.items) }
+{
+    if byte == b'@' {
+        push_name(text, fillings.name, MAX_NAME_BYTES)
+    } else if byte == b'~' {
+        push_name(text, fillings.other, MAX_NAME_BYTES)
+    } else if byte == b'#' {
+        push_line(text, fillings.line)
+    } else {
+        push_printed_byte(text, byte)
+    }
+}
+
+fn push_phrase(text: &mut Vec<u8>, phrase: &[u8], fillings: &Fillings) -> Result<(), AllocError>
+    ensures value { OnOk result (text.new.items ≡ text.old.items ++ specs.filled fillings.now.name.now fillings.now.other.now fillings.now.line phrase.now) }
+    ensures printed { OnOk result (ArePrinted text.old.items → ArePrinted text.new.items) }
+{
+    for byte in phrase {
+        push_filled(text, *byte, fillings)?;
+    }
+    Ok(())
+}
+
+/// Some bytes as they are shown.
+pub(crate) fn printed(alloc: Global, bytes: &[u8]) -> Result<Vec<u8>, AllocError>
+    ensures value { IfOk result (λ words. words.items ≡ specs.shown bytes.now) }
+    ensures printed { IfOk result (λ words. ArePrinted words.items) }
+{
+    let mut words = Vec::new(alloc);
+    push_printed(&mut words, bytes)?;
+    Ok(words)
+}
+
+/// A phrase with what is put into it.
+pub(crate) fn filled(
+    alloc: Global,
+    phrase: &[u8],
+    fillings: &Fillings,
+) -> Result<Vec<u8>, AllocError>
+    ensures value { IfOk result (λ words. words.items ≡ specs.filled fillings.now.name.now fillings.now.other.now fillings.now.line phrase.now) }
+    ensures printed { IfOk result (λ words. ArePrinted words.items) }
+{
+    let mut words = Vec::new(alloc);
+    push_phrase(&mut words, phrase, fillings)?;
+    Ok(words)
+}
+
+/// The words, or a `?` where there are none.
+pub(crate) fn told(mut words: Vec<u8>) -> Result<Vec<u8>, AllocError>
+    requires { ArePrinted words.items }
+    ensures printed { IfOk result (λ told. ArePrinted told.items) }
+    ensures some { IfOk result (λ told. 0 < length told.items) }
+{
+    if words.is_empty() {
+        words.push(b'?')?;
+    }
+    Ok(words)
+}
+
+/// A diagnosis of a text in words, in one line without an end. Bytes of the text outside 32 to 126 stand as `\xHH`. Err: memory was refused.
+pub fn sentence(alloc: Global, diagnosis: &Diagnosis, text: &[u8]) -> Result<Vec<u8>, AllocError>
+    ensures printed { IfOk result (λ words. ArePrinted words.items) }
+    ensures some { IfOk result (λ words. 0 < length words.items) }
+{
+    let phrase = phrase_of(diagnosis.cause).as_bytes();
+    if phrase.is_empty() {
+        let words = printed(alloc, said_of(diagnosis.cause).as_bytes())?;
+        return told(words);
+    }
+    let fillings = Fillings {
+        name: part(text, diagnosis.name),
+        other: part(text, diagnosis.other),
+        line: line_number(text, diagnosis.other.start),
+    };
+    let words = filled(alloc, phrase, &fillings)?;
+    told(words)
+}

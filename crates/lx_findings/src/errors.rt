@@ -1,0 +1,160 @@
+// Faults of a specification, as lines.
+
+ghost use Rattle.std.specs.Prelude.{◌≡◌, OnOk};
+ghost use Rattle.lx_diagnose.specs.Causes as diagnose;
+ghost use Rattle.lx_diagnose.specs.CodeWords.{word_of};
+ghost use Rattle.lx_findings.specs.Said.{Extends, TellsFault, code_of, line_of};
+
+use crate::pieces::{place_of, push_line, push_note};
+use crate::style::Style;
+use lx_check::Finding;
+use lx_diagnose::{
+    Diagnosis, Place as TextPlace, code_word, diagnose, hint, line_bytes, note_words, sentence,
+};
+use lx_explain::{to_do, words_of};
+use lx_report::{Place, Severity, push_marked};
+use lx_spec::SpecFault;
+use std::alloc::{AllocError, Global};
+
+// The line of the source, with a mark, where the column is known.
+fn push_source(
+    alloc: Global,
+    text: &mut Vec<u8>,
+    source: &[u8],
+    place: &TextPlace,
+) -> Result<(), AllocError>
+    ensures { OnOk result (Extends text.old.items text.new.items) }
+{
+    if place.line == 0 || place.column == 0 {
+        return Ok(());
+    }
+    push_marked(
+        alloc,
+        text,
+        u64::from(place.line),
+        place.column,
+        place.width,
+        line_bytes(source, place.line),
+    )
+}
+
+// The second place that belongs to a fault.
+fn push_second(
+    text: &mut Vec<u8>,
+    style: &Style<'_>,
+    diagnosis: &Diagnosis,
+) -> Result<(), AllocError>
+    ensures { OnOk result (Extends text.old.items text.new.items) }
+{
+    match &diagnosis.note {
+        Some(place) => {
+            let words = note_words(diagnosis.cause);
+            push_note(text, style.file, place_of(place), words.as_bytes())
+        }
+        None => Ok(()),
+    }
+}
+
+// What stands behind the line of a fault.
+fn push_details(
+    alloc: Global,
+    text: &mut Vec<u8>,
+    style: &Style<'_>,
+    source: &[u8],
+    diagnosis: &Diagnosis,
+) -> Result<(), AllocError>
+    ensures { OnOk result (Extends text.old.items text.new.items) }
+{
+    push_source(alloc, text, source, &diagnosis.place)?;
+    push_note(
+        text,
+        style.file,
+        place_of(&diagnosis.place),
+        hint(diagnosis.cause).as_bytes(),
+    )?;
+    push_second(text, style, diagnosis)
+}
+
+// The line of a fault.
+fn push_fault_line(
+    alloc: Global,
+    text: &mut Vec<u8>,
+    style: &Style<'_>,
+    source: &[u8],
+    diagnosis: &Diagnosis,
+    fault: SpecFault,
+) -> Result<(), AllocError>
+    requires code { diagnose.code_of diagnosis.now.cause ≡ fault.code }
+    requires line { diagnosis.now.place.line ≡ fault.line }
+    ensures { OnOk result (TellsFault style.now.file.now (word_of fault.code) fault.line text.old.items text.new.items) }
+{
+    let words = sentence(alloc, diagnosis, source)?;
+    push_line(
+        text,
+        style.file,
+        Severity::Error,
+        place_of(&diagnosis.place),
+        code_word(diagnosis.cause).as_bytes(),
+        &words,
+        b"",
+    )
+}
+
+// A fault of the text, with what belongs to it.
+fn push_fault(
+    alloc: Global,
+    text: &mut Vec<u8>,
+    style: &Style<'_>,
+    source: &[u8],
+    fault: SpecFault,
+) -> Result<(), AllocError>
+    ensures { OnOk result (TellsFault style.now.file.now (word_of fault.code) fault.line text.old.items text.new.items) }
+{
+    let diagnosis = diagnose(alloc, source, fault)?;
+    push_fault_line(alloc, text, style, source, &diagnosis, fault)?;
+    if style.quiet {
+        return Ok(());
+    }
+    push_details(alloc, text, style, source, &diagnosis)
+}
+
+// That a specification is too large, which is a fault without a line.
+fn push_too_large(text: &mut Vec<u8>, style: &Style<'_>, code: &str) -> Result<(), AllocError>
+    ensures { OnOk result (TellsFault style.now.file.now code.now 0 text.old.items text.new.items) }
+{
+    let nowhere = Place {
+        line: 0,
+        column: 0,
+        width: 0,
+    };
+    push_line(
+        text,
+        style.file,
+        Severity::Error,
+        nowhere,
+        code.as_bytes(),
+        words_of(code).as_bytes(),
+        b"",
+    )?;
+    if style.quiet {
+        return Ok(());
+    }
+    push_note(text, style.file, nowhere, to_do(code).as_bytes())
+}
+
+/// A finding of a text that is refused.
+pub(crate) fn push_error(
+    alloc: Global,
+    text: &mut Vec<u8>,
+    style: &Style<'_>,
+    source: &[u8],
+    finding: Finding,
+) -> Result<(), AllocError>
+    ensures { OnOk result (TellsFault style.now.file.now (code_of finding) (line_of finding) text.old.items text.new.items) }
+{
+    match finding {
+        Finding::Specification(fault) => push_fault(alloc, text, style, source, fault),
+        Finding::TooManyPositions => push_too_large(text, style, "E30"),
+        Finding::TooManySets => push_too_large(text, style, "E31"),
+    }
+}

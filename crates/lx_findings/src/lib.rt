@@ -1,0 +1,14 @@
+//! What `check` says of a specification: its faults, or its warnings and counts.
+#![tactic(auto)]
+
+mod errors;
+mod pieces;
+mod sarif;
+pub mod saying;
+pub mod style;
+mod untaken;
+mod warnings;
+
+pub use crate::sarif::sarif_of;
+pub use crate::saying::{Said, report_of};
+pub use crate::style::Style;

@@ -1,0 +1,133 @@
+// What is said of a specification, as SARIF 2.1.0.
+
+use crate::pieces::{place_of, push};
+use crate::saying::Said;
+use crate::style::Style;
+use crate::warnings::{Warning, place_of_warning, warnings_of};
+use lx_check::{Accepted, Finding as Fault, Report};
+use lx_diagnose::{code_word, diagnose, name_of, sentence};
+use lx_explain::words_of;
+use lx_report::{Finding, Place, Severity, push_result, push_sarif_end, push_sarif_start};
+use lx_spec::SpecFault;
+use std::alloc::{AllocError, Global};
+
+fn push_fault_result(
+    alloc: Global,
+    text: &mut Vec<u8>,
+    style: &Style<'_>,
+    source: &[u8],
+    fault: SpecFault,
+) -> Result<(), AllocError> {
+    let diagnosis = diagnose(alloc, source, fault)?;
+    let words = sentence(alloc, &diagnosis, source)?;
+    let finding = Finding {
+        severity: Severity::Error,
+        place: place_of(&diagnosis.place),
+        code: code_word(diagnosis.cause).as_bytes(),
+        words: &words,
+        name: name_of(diagnosis.cause).as_bytes(),
+    };
+    push_result(text, style.file, &finding)
+}
+
+fn push_large_result(text: &mut Vec<u8>, style: &Style<'_>, code: &str) -> Result<(), AllocError> {
+    let finding = Finding {
+        severity: Severity::Error,
+        place: Place {
+            line: 0,
+            column: 0,
+            width: 0,
+        },
+        code: code.as_bytes(),
+        words: words_of(code).as_bytes(),
+        name: b"",
+    };
+    push_result(text, style.file, &finding)
+}
+
+fn push_error_result(
+    alloc: Global,
+    text: &mut Vec<u8>,
+    style: &Style<'_>,
+    source: &[u8],
+    fault: Fault,
+) -> Result<(), AllocError> {
+    match fault {
+        Fault::Specification(fault) => push_fault_result(alloc, text, style, source, fault),
+        Fault::TooManyPositions => push_large_result(text, style, "E30"),
+        Fault::TooManySets => push_large_result(text, style, "E31"),
+    }
+}
+
+fn push_warning_result(
+    text: &mut Vec<u8>,
+    style: &Style<'_>,
+    warning: &Warning,
+) -> Result<(), AllocError> {
+    let finding = Finding {
+        severity: Severity::Warning,
+        place: place_of_warning(warning),
+        code: b"",
+        words: &warning.words,
+        name: warning.name.as_bytes(),
+    };
+    push_result(text, style.file, &finding)
+}
+
+// Results stand with commas between them.
+fn push_comma(text: &mut Vec<u8>, place: usize) -> Result<(), AllocError> {
+    if place == 0 {
+        Ok(())
+    } else {
+        push(text, b",\n")
+    }
+}
+
+fn push_error_results(
+    alloc: Global,
+    text: &mut Vec<u8>,
+    style: &Style<'_>,
+    source: &[u8],
+    faults: &[Fault],
+) -> Result<(), AllocError> {
+    for i in 0..faults.len() {
+        push_comma(text, i)?;
+        push_error_result(alloc, text, style, source, faults[i])?;
+    }
+    Ok(())
+}
+
+fn push_warning_results(
+    alloc: Global,
+    text: &mut Vec<u8>,
+    style: &Style<'_>,
+    accepted: &Accepted,
+) -> Result<usize, AllocError> {
+    let warnings = warnings_of(alloc, style, accepted)?;
+    for i in 0..warnings.len() {
+        push_comma(text, i)?;
+        push_warning_result(text, style, &warnings[i])?;
+    }
+    Ok(warnings.len())
+}
+
+/// What is said of a text of a specification, of which this is the report, as SARIF 2.1.0 by this version of the program. Err: memory was refused.
+pub fn sarif_of(
+    alloc: Global,
+    style: &Style<'_>,
+    version: &[u8],
+    source: &[u8],
+    report: &Report,
+) -> Result<Said, AllocError> {
+    let mut text = Vec::new(alloc);
+    push_sarif_start(&mut text, version)?;
+    let warnings = match report {
+        Report::Refused(faults) => {
+            push_error_results(alloc, &mut text, style, source, faults)?;
+            0
+        }
+        Report::Accepted(accepted) => { push_warning_results(alloc, &mut text, style, accepted)? }
+    };
+    push_sarif_end(&mut text)?;
+    Ok(Said { text, warnings })
+}

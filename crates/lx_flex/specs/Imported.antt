@@ -1,0 +1,51 @@
+-- What lx reads is what was read of the file for flex.
+use Rattle.std.specs.Prelude.{◌≡◌, ℕ, ◌⊎◌, List, [], ◌∷◌, Option}
+use Rattle.lx_flex_pattern.specs.Tree.{Tree, Pattern}
+use Rattle.lx_flex_pattern.specs.Translation.{IsReadAs, HaveSameTexts}
+use Rattle.lx_rules.specs.Plain.{PlainSpec, PlainRule, PlainDefinition, StartCondition}
+use Rattle.lx_spec.specs.Whole.{IsRead}
+
+-- a rule of flex: the numbers of its conditions, rising, and what it matches
+pub record FlexRule : Type 0 where
+  pub conditions : Option (List ℕ)
+  pub pattern : Pattern
+
+-- a definition of flex, by its name in lx
+pub record FlexDefinition : Type 0 where
+  pub name : List ℕ
+  pub tree : Tree
+
+-- The rule of lx is active where that of flex is, with the same anchors and the same texts.
+pub record IsRule (rule : FlexRule) (read : PlainRule) : Type 0 where
+  pub active : read.conditions ≡ rule.conditions
+  pub matches : IsReadAs rule.pattern read.reading
+
+-- The rules are as many, and each is that of flex at its place.
+abbrev pub AreRules : List FlexRule → List PlainRule → Type 0
+AreRules [] [] = Unit {0}
+AreRules [] (read ∷ more) = ⊥
+AreRules (rule ∷ rules) [] = ⊥
+AreRules (rule ∷ rules) (read ∷ more) = IsRule rule read × AreRules rules more
+
+-- The definition of lx has the name and the texts of that of flex.
+pub record IsThis (definition : FlexDefinition) (read : PlainDefinition) : Type 0 where
+  pub same_name : read.name ≡ definition.name
+  pub same_texts : HaveSameTexts definition.tree read.tree
+
+-- One of the definitions is this one.
+abbrev pub IsDefinition : List FlexDefinition → PlainDefinition → Type 0
+IsDefinition [] read = ⊥
+IsDefinition (d ∷ ds) read = IsThis d read ⊎ IsDefinition ds read
+
+-- Each definition that the rules reach is one of flex.
+abbrev pub AreDefinitions : List FlexDefinition → List PlainDefinition → Type 0
+AreDefinitions ds [] = Unit {0}
+AreDefinitions ds (read ∷ more) = IsDefinition ds read × AreDefinitions ds more
+
+-- The text is a specification of lx, and says these conditions, these rules in this order, and of the definitions those that rules reach.
+pub record IsImported (conditions : List StartCondition) (definitions : List FlexDefinition) (rules : List FlexRule) (text : List ℕ) : Type 0 where
+  pub spec : PlainSpec
+  pub is_read : IsRead text spec
+  pub same_conditions : spec.conditions ≡ conditions
+  pub same_definitions : AreDefinitions definitions spec.definitions
+  pub same_rules : AreRules rules spec.rules

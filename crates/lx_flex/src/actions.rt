@@ -1,0 +1,382 @@
+//! What an action does, as far as lx has it (flex's manual, "Actions").
+
+use crate::conditions::{StartCondition, place_of};
+use crate::cursor::front;
+use crate::report::Cause;
+use crate::tokens::{Token, Tokens};
+use std::alloc::{AllocError, Global};
+
+/// A step of an action.
+#[derive(Debug, Drop)]
+pub(crate) enum Step {
+    /// `ECHO`.
+    Echo,
+    /// `BEGIN` of the condition with this number.
+    Begin(u16),
+    /// `return` of a kind as it is written.
+    Return(Vec<u8>),
+}
+
+/// An action.
+#[derive(Debug, Drop)]
+pub(crate) enum Action {
+    /// `|`, that of the next rule.
+    Bar,
+    /// Steps that lx has too.
+    Steps(Vec<Step>),
+    /// C text.
+    Code {
+        /// The text.
+        text: Vec<u8>,
+        /// The line on which it begins.
+        line: u32,
+        /// The conditions that it begins in any case.
+        begins: Vec<Step>,
+        /// What lx can't do.
+        problem: Option<Cause>,
+    },
+}
+
+/// Whether the bytes are a decimal number below 2,147,483,648 without a zero before it.
+fn is_small_number(word: &[u8]) -> bool {
+    if word.len() > 10 || (word.len() > 1 && front(1, word) == b"0".as_slice()) {
+        return false;
+    }
+    let mut number: u64 = 0;
+    for byte in word {
+        if !byte.is_ascii_digit() {
+            return false;
+        }
+        number = number
+            .saturating_mul(10)
+            .saturating_add(u64::from(byte.saturating_sub(b'0')));
+    }
+    number < 2_147_483_648
+}
+
+/// Whether the word is a name that isn't one of flex's own.
+fn is_kind_name(word: &[u8]) -> bool {
+    let Some((first, _)) = word.split_first() else {
+        return false;
+    };
+    !first.is_ascii_digit() && front(2, word) != b"yy".as_slice()
+}
+
+/// Whether the character constant has the same byte in C and in lx: one byte of ASCII, or a backslash and a letter or mark of C.
+fn is_plain_character(constant: &[u8]) -> bool {
+    match constant {
+        [b'\'', byte, b'\''] => byte.is_ascii()
+            && *byte != b'\\'
+            && *byte != b'\n'
+            && *byte != b'\'',
+        [b'\'', b'\\', byte, b'\''] => matches!(
+            *byte,
+            b'a' | b'b' | b't' | b'n' | b'v' | b'f' | b'r' | b'\\' | b'\'' | b'"' | b'?' | b'0'
+        ),
+        _ => false,
+    }
+}
+
+/// The kind of a `return`, where lx has it.
+fn kind_of(token: Token) -> Option<&[u8]> {
+    match token {
+        Token::Word(word) => {
+            if is_kind_name(word) || is_small_number(word) {
+                Some(word)
+            } else {
+                None
+            }
+        }
+        Token::Character(constant) => {
+            if is_plain_character(constant) {
+                Some(constant)
+            } else {
+                None
+            }
+        }
+        Token::Text | Token::Mark(_) => None,
+    }
+}
+
+/// The one token up to the `;`, in parentheses or not.
+fn operand<'a>(tokens: &mut Tokens<'a>) -> Option<Token<'a>> {
+    let first = tokens.next()?;
+    if first != Token::Mark(b'(') {
+        return if tokens.next()? == Token::Mark(b';') {
+            Some(first)
+        } else {
+            None
+        };
+    }
+    let inner = tokens.next()?;
+    if tokens.next()? == Token::Mark(b')') && tokens.next()? == Token::Mark(b';') {
+        Some(inner)
+    } else {
+        None
+    }
+}
+
+/// The condition of a `BEGIN`.
+fn begun(conditions: &[StartCondition], token: Token) -> Option<u16> {
+    match token {
+        Token::Word(word) => place_of(conditions, word),
+        _ => None,
+    }
+}
+
+/// What a statement that begins with a word does, where lx has it.
+fn step_of(
+    alloc: Global,
+    tokens: &mut Tokens,
+    conditions: &[StartCondition],
+    word: &[u8],
+) -> Result<Option<Step>, AllocError> {
+    if word == b"ECHO".as_slice() {
+        return Ok(if tokens.next() == Some(Token::Mark(b';')) {
+            Some(Step::Echo)
+        } else {
+            None
+        });
+    }
+    if word == b"BEGIN".as_slice() {
+        let Some(token) = operand(tokens) else {
+            return Ok(None);
+        };
+        return Ok(begun(conditions, token).map(|place| Step::Begin(place)));
+    }
+    if word != b"return".as_slice() {
+        return Ok(None);
+    }
+    let Some(token) = operand(tokens) else {
+        return Ok(None);
+    };
+    match kind_of(token) {
+        Some(kind) => Ok(Some(Step::Return(Vec::from_slice(alloc, kind)?))),
+        None => Ok(None),
+    }
+}
+
+/// The steps of a text, where it is nothing but statements that lx has.
+fn steps_of(
+    alloc: Global,
+    text: &[u8],
+    conditions: &[StartCondition],
+) -> Result<Option<Vec<Step>>, AllocError> {
+    let mut tokens = Tokens::new(text);
+    let mut steps = Vec::new(alloc);
+    let mut open: u32 = 0;
+    let mut returned = false;
+    for _ in 0..text.len().saturating_add(1) {
+        match tokens.next() {
+            None => return Ok(if open == 0 { Some(steps) } else { None }),
+            Some(Token::Mark(b';')) => {}
+            Some(Token::Mark(b'{')) => open = open.saturating_add(1),
+            Some(Token::Mark(b'}')) => {
+                if open == 0 {
+                    return Ok(None);
+                }
+                open = open.saturating_sub(1);
+            }
+            Some(Token::Word(word)) => {
+                let Some(step) = step_of(alloc, &mut tokens, conditions, word)? else {
+                    return Ok(None);
+                };
+                let last = matches!(step, Step::Return(_));
+                if !returned {
+                    steps.push(step)?;
+                }
+                returned = returned || last;
+            }
+            Some(_) => return Ok(None),
+        }
+    }
+    Ok(None)
+}
+
+/// What lx can't do in the place of a word of flex's; `called` says that a parenthesis follows.
+fn problem_of(word: &[u8], called: bool) -> Option<Cause> {
+    if word == b"REJECT".as_slice() {
+        return Some(Cause::Reject);
+    }
+    if !called {
+        return None;
+    }
+    if word == b"yymore".as_slice() {
+        Some(Cause::More)
+    } else if word == b"yyless".as_slice() {
+        Some(Cause::Less)
+    } else if word == b"unput".as_slice() || word == b"yyunput".as_slice() {
+        Some(Cause::Unput)
+    } else if word == b"input".as_slice() || word == b"yyinput".as_slice() {
+        Some(Cause::Input)
+    } else if word == b"yyterminate".as_slice() {
+        Some(Cause::Terminate)
+    } else {
+        other_problem_of(word)
+    }
+}
+
+fn other_problem_of(word: &[u8]) -> Option<Cause> {
+    if word == b"yy_push_state".as_slice()
+        || word == b"yy_pop_state".as_slice()
+        || word == b"yy_top_state".as_slice()
+    {
+        return Some(Cause::StateStack);
+    }
+    if word == b"yyrestart".as_slice()
+        || word == b"yy_switch_to_buffer".as_slice()
+        || word == b"yypush_buffer_state".as_slice()
+        || word == b"yypop_buffer_state".as_slice()
+    {
+        return Some(Cause::OtherBuffer);
+    }
+    if word == b"yy_scan_string".as_slice()
+        || word == b"yy_scan_bytes".as_slice()
+        || word == b"yy_scan_buffer".as_slice()
+    {
+        return Some(Cause::OtherBuffer);
+    }
+    None
+}
+
+/// Whether what stands behind the word may be left out.
+fn is_branching(word: &[u8]) -> bool {
+    word == b"if".as_slice()
+        || word == b"else".as_slice()
+        || word == b"while".as_slice()
+        || word == b"for".as_slice()
+        || word == b"do".as_slice()
+        || word == b"switch".as_slice()
+        || word == b"case".as_slice()
+        || word == b"default".as_slice()
+        || word == b"goto".as_slice()
+        || word == b"break".as_slice()
+        || word == b"continue".as_slice()
+        || word == b"return".as_slice()
+}
+
+/// Whether a mark may leave out what stands behind it: `?`, `&`, `|`, or a line for the preprocessor.
+fn is_branching_mark(mark: u8) -> bool {
+    mark == b'?' || mark == b'&' || mark == b'|' || mark == b'#'
+}
+
+/// What was found in C text.
+#[derive(Drop)]
+struct Found {
+    begins: Vec<Step>,
+    problem: Option<Cause>,
+    /// Whether what follows may be left out.
+    branching: bool,
+}
+
+/// The first problem stays.
+fn note(found: &mut Found, problem: Cause) {
+    if found.problem.is_none() {
+        found.problem = Some(problem);
+    }
+}
+
+/// What a `BEGIN` in C text does.
+fn note_begin(
+    found: &mut Found,
+    tokens: &mut Tokens,
+    conditions: &[StartCondition],
+) -> Result<(), AllocError> {
+    let place = match operand(tokens) {
+        Some(token) => begun(conditions, token),
+        None => None,
+    };
+    let Some(place) = place else {
+        note(found, Cause::UnknownBegin);
+        return Ok(());
+    };
+    if found.branching {
+        note(found, Cause::ConditionalBegin);
+        return Ok(());
+    }
+    found.begins.push(Step::Begin(place))?;
+    Ok(())
+}
+
+/// A word of C text; `member` says that it stands behind `.` or `->`.
+fn note_word(
+    found: &mut Found,
+    tokens: &mut Tokens,
+    conditions: &[StartCondition],
+    word: &[u8],
+    member: bool,
+) -> Result<(), AllocError> {
+    if member {
+        return Ok(());
+    }
+    if word == b"BEGIN".as_slice() {
+        return note_begin(found, tokens, conditions);
+    }
+    if is_branching(word) {
+        found.branching = true;
+    }
+    let mut ahead = *tokens;
+    let called = ahead.next() == Some(Token::Mark(b'('));
+    if let Some(problem) = problem_of(word, called) {
+        note(found, problem);
+    }
+    Ok(())
+}
+
+/// What C text does that lx has to do, or can't.
+fn look_through(
+    alloc: Global,
+    text: &[u8],
+    conditions: &[StartCondition],
+) -> Result<Found, AllocError> {
+    let mut found = Found {
+        begins: Vec::new(alloc),
+        problem: None,
+        branching: false,
+    };
+    let mut tokens = Tokens::new(text);
+    let mut before: u8 = 0;
+    for _ in 0..text.len() {
+        let Some(token) = tokens.next() else {
+            break;
+        };
+        match token {
+            Token::Word(word) => {
+                let member = before == b'.' || before == b'>';
+                note_word(&mut found, &mut tokens, conditions, word, member)?;
+                before = 0;
+            }
+            Token::Mark(mark) => {
+                if is_branching_mark(mark) {
+                    found.branching = true;
+                }
+                before = mark;
+            }
+            _ => before = 0,
+        }
+    }
+    Ok(found)
+}
+
+/// The action that a C text is.
+pub(crate) fn action_of(
+    alloc: Global,
+    text: &[u8],
+    line: u32,
+    conditions: &[StartCondition],
+) -> Result<Action, AllocError> {
+    if let Some(steps) = steps_of(alloc, text, conditions)? {
+        return Ok(Action::Steps(steps));
+    }
+    let Found {
+        begins,
+        problem,
+        branching: _,
+    } = look_through(alloc, text, conditions)?;
+    Ok(Action::Code {
+        text: Vec::from_slice(alloc, text)?,
+        line,
+        begins,
+        problem,
+    })
+}

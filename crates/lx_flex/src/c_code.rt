@@ -1,0 +1,223 @@
+//! How far C text goes in a file (flex's manual, "Format of the Input File", "Actions").
+
+use crate::cursor::{Cursor, between, front, place_of, skip};
+use crate::report::{Cause, Stop, stopped};
+
+/// Where in C text a byte stands.
+#[derive(Clone, Copy, PartialEq, Eq, Debug)]
+enum Place {
+    Code,
+    String,
+    Character,
+    Comment,
+}
+
+/// What is known within C text.
+#[derive(Clone, Copy)]
+struct Scan {
+    place: Place,
+    /// How many braces are open; flex counts closing ones below none too.
+    open: i64,
+    /// Whether a backslash takes the next byte along.
+    escaped: bool,
+    /// The byte before.
+    before: u8,
+}
+
+/// The place behind a byte of code.
+fn behind_code(before: u8, byte: u8) -> Place {
+    if byte == b'"' {
+        Place::String
+    } else if byte == b'\'' {
+        Place::Character
+    } else if byte == b'*' && before == b'/' {
+        Place::Comment
+    } else {
+        Place::Code
+    }
+}
+
+/// The place behind a byte that isn't escaped.
+fn behind(scan: Scan, byte: u8) -> Place {
+    match scan.place {
+        Place::Code => behind_code(scan.before, byte),
+        Place::String => {
+            if byte == b'"' || byte == b'\n' {
+                Place::Code
+            } else {
+                Place::String
+            }
+        }
+        Place::Character => {
+            if byte == b'\'' || byte == b'\n' {
+                Place::Code
+            } else {
+                Place::Character
+            }
+        }
+        Place::Comment => {
+            if byte == b'/' && scan.before == b'*' {
+                Place::Code
+            } else {
+                Place::Comment
+            }
+        }
+    }
+}
+
+/// What is known behind a byte.
+fn next_scan(scan: Scan, byte: u8) -> Scan {
+    let quoted = scan.place == Place::String || scan.place == Place::Character;
+    if quoted && scan.escaped {
+        return Scan {
+            escaped: false,
+            before: byte,
+            ..scan
+        };
+    }
+    let open = if scan.place != Place::Code {
+        scan.open
+    } else if byte == b'{' {
+        scan.open.saturating_add(1)
+    } else if byte == b'}' {
+        scan.open.saturating_sub(1)
+    } else {
+        scan.open
+    };
+    let place = behind(scan, byte);
+    Scan {
+        place,
+        open,
+        escaped: quoted && byte == b'\\',
+        // a `*/` or `/*` doesn't share its bytes with another one
+        before: if place != scan.place { 0 } else { byte },
+    }
+}
+
+/// Whether the action ends before this newline.
+fn ends_here(scan: Scan) -> bool {
+    scan.open <= 0 && scan.place != Place::Comment && !scan.escaped
+}
+
+/// How many bytes an action has: up to the first line's end at which no brace and no comment is open; none where it isn't closed.
+fn action_length(text: &[u8]) -> Option<usize> {
+    let mut scan = Scan {
+        place: Place::Code,
+        open: 0,
+        escaped: false,
+        before: 0,
+    };
+    let mut count: usize = 0;
+    for byte in text {
+        if *byte == b'\n' && ends_here(scan) {
+            return Some(count);
+        }
+        scan = next_scan(scan, *byte);
+        count = count.saturating_add(1);
+    }
+    if ends_here(scan) { Some(count) } else { None }
+}
+
+/// The C text of an action, from here to its end; what follows is the next line.
+pub(crate) fn take_action<'a>(cursor: &mut Cursor<'a>) -> Result<&'a [u8], Stop> {
+    let rest = cursor.rest();
+    let Some(length) = action_length(rest) else {
+        return stopped(cursor.line, Cause::NotClosed);
+    };
+    cursor.advance(length.saturating_add(1));
+    Ok(front(length, rest))
+}
+
+/// The C text up to `%}`, from behind `%{` on; what follows is the line behind that of `%}`.
+pub(crate) fn take_block<'a>(cursor: &mut Cursor<'a>) -> Result<&'a [u8], Stop> {
+    let rest = cursor.rest();
+    let Some(length) = place_of(rest, b"%}") else {
+        return stopped(cursor.line, Cause::NotClosed);
+    };
+    cursor.advance(length);
+    cursor.skip_line();
+    Ok(front(length, rest))
+}
+
+/// Goes on behind a line that begins with `%}`.
+pub(crate) fn skip_block(cursor: &mut Cursor) -> Result<(), Stop> {
+    let line = cursor.line;
+    cursor.skip_line();
+    for _ in 0..cursor.text.len() {
+        if cursor.is_at_end() {
+            break;
+        }
+        let last = cursor.begins_with(b"%}");
+        cursor.skip_line();
+        if last {
+            return Ok(());
+        }
+    }
+    stopped(line, Cause::NotClosed)
+}
+
+/// Goes on behind the line that holds the end of a comment, from behind its `/*` on.
+pub(crate) fn skip_comment(cursor: &mut Cursor) -> Result<(), Stop> {
+    let Some(length) = place_of(cursor.rest(), b"*/") else {
+        return stopped(cursor.line, Cause::NotClosed);
+    };
+    cursor.advance(length.saturating_add(2));
+    cursor.skip_line();
+    Ok(())
+}
+
+/// How many bytes stand up to and with the brace that closes the first one.
+fn braced_length(text: &[u8]) -> Option<usize> {
+    let mut open: u64 = 0;
+    let mut count: usize = 0;
+    for byte in text {
+        count = count.saturating_add(1);
+        if *byte == b'{' {
+            open = open.saturating_add(1);
+        } else if *byte == b'}' {
+            open = open.saturating_sub(1);
+            if open == 0 {
+                return Some(count);
+            }
+        }
+    }
+    None
+}
+
+/// Goes on behind the line of the brace that closes `%top{`.
+pub(crate) fn skip_braces(cursor: &mut Cursor) -> Result<(), Stop> {
+    let Some(length) = braced_length(cursor.rest()) else {
+        return stopped(cursor.line, Cause::NotClosed);
+    };
+    cursor.advance(length);
+    cursor.skip_line();
+    Ok(())
+}
+
+/// The text without what a file's lines have around it: blanks at the front, and blanks and carriage returns at the end.
+pub(crate) fn tidy(text: &[u8]) -> &[u8] {
+    let mut start: usize = 0;
+    let mut end: usize = 0;
+    let mut at: usize = 0;
+    let mut met = false;
+    for byte in text {
+        if !met && byte.is_ascii_whitespace() {
+            start = start.saturating_add(1);
+        }
+        at = at.saturating_add(1);
+        if !byte.is_ascii_whitespace() {
+            met = true;
+            end = at;
+        }
+    }
+    between(start, end, text)
+}
+
+/// The text behind a mark at its front.
+pub(crate) fn behind_mark<'a>(mark: &[u8], text: &'a [u8]) -> Option<&'a [u8]> {
+    if front(mark.len(), text) == mark {
+        Some(skip(mark.len(), text))
+    } else {
+        None
+    }
+}

@@ -1,0 +1,93 @@
+//! Start conditions (flex's manual, "Start Conditions").
+
+use crate::cursor::front;
+use std::alloc::{AllocError, Global};
+
+/// A start condition.
+#[derive(Debug, Drop)]
+pub(crate) struct StartCondition {
+    /// Its name in flex, which may have hyphens.
+    pub(crate) name: Vec<u8>,
+    /// Its name in lx.
+    pub(crate) lx_name: Vec<u8>,
+    pub(crate) exclusive: bool,
+}
+
+/// The place of the condition with this name; `INITIAL` and `0` are the first.
+pub(crate) fn place_of(conditions: &[StartCondition], name: &[u8]) -> Option<u16> {
+    if name == b"0".as_slice() {
+        return Some(0);
+    }
+    let mut place: u16 = 0;
+    for condition in conditions {
+        if condition.name.as_slice() == name {
+            return Some(place);
+        }
+        place = place.saturating_add(1);
+    }
+    None
+}
+
+fn is_lx_name(conditions: &[StartCondition], name: &[u8]) -> bool {
+    conditions.iter().any(|c| c.lx_name.as_slice() == name)
+}
+
+/// The name with `_` for each hyphen.
+pub(crate) fn without_hyphens(alloc: Global, name: &[u8]) -> Result<Vec<u8>, AllocError> {
+    let mut renamed = Vec::new(alloc);
+    for byte in name {
+        renamed.push(if *byte == b'-' { b'_' } else { *byte })?;
+    }
+    Ok(renamed)
+}
+
+/// A name for lx that no condition has yet.
+pub(crate) fn new_name(
+    alloc: Global,
+    conditions: &[StartCondition],
+    name: &[u8],
+) -> Result<Vec<u8>, AllocError> {
+    let mut renamed = without_hyphens(alloc, name)?;
+    for _ in conditions {
+        if !is_lx_name(conditions, renamed.as_slice()) {
+            break;
+        }
+        renamed.push(b'_')?;
+    }
+    Ok(renamed)
+}
+
+/// Whether the byte is one of a name of flex.
+fn is_name_byte(byte: u8, first: bool) -> bool {
+    byte.is_ascii_alphabetic()
+        || byte == b'_'
+        || (!first && (byte.is_ascii_digit() || byte == b'-'))
+}
+
+/// The name at the front of a text: a letter or `_`, then letters, digits, `_` and hyphens; empty where there is none.
+pub(crate) fn name_at(text: &[u8]) -> &[u8] {
+    let mut count: usize = 0;
+    for byte in text {
+        if !is_name_byte(*byte, count == 0) {
+            break;
+        }
+        count = count.saturating_add(1);
+    }
+    front(count, text)
+}
+
+/// The numbers that are in either list, rising.
+pub(crate) fn joined(
+    alloc: Global,
+    count: u16,
+    one: &[u16],
+    other: &[u16],
+) -> Result<Vec<u16>, AllocError> {
+    let mut numbers = Vec::new(alloc);
+    for number in 0..count {
+        if one.iter().any(|n| *n == number) || other.iter().any(|n| *n == number) {
+            numbers.push(number)?;
+        }
+    }
+    Ok(numbers)
+}

@@ -1,0 +1,141 @@
+//! A place in a file, and what stands there.
+
+/// The text without its first n bytes.
+pub(crate) fn skip(n: usize, text: &[u8]) -> &[u8] {
+    if n <= text.len() { &text[n..] } else { &[] }
+}
+
+/// The first n bytes of the text, or all of it.
+pub(crate) fn front(n: usize, text: &[u8]) -> &[u8] {
+    if n <= text.len() { &text[..n] } else { text }
+}
+
+/// The bytes from one place to another.
+pub(crate) fn between(from: usize, to: usize, text: &[u8]) -> &[u8] {
+    skip(from, front(to, text))
+}
+
+pub(crate) fn is_blank(byte: u8) -> bool {
+    byte == b' ' || byte == b'\t'
+}
+
+/// How many blanks stand at the front.
+pub(crate) fn blank_run(text: &[u8]) -> usize {
+    let mut count: usize = 0;
+    for byte in text {
+        if !is_blank(*byte) {
+            break;
+        }
+        count = count.saturating_add(1);
+    }
+    count
+}
+
+/// The text without the blanks at its end.
+pub(crate) fn trimmed(text: &[u8]) -> &[u8] {
+    let mut end: usize = 0;
+    let mut at: usize = 0;
+    for byte in text {
+        at = at.saturating_add(1);
+        if !is_blank(*byte) {
+            end = at;
+        }
+    }
+    front(end, text)
+}
+
+/// How many bytes stand before the first newline.
+fn line_length(text: &[u8]) -> usize {
+    let mut count: usize = 0;
+    for byte in text {
+        if *byte == b'\n' {
+            break;
+        }
+        count = count.saturating_add(1);
+    }
+    count
+}
+
+/// Where these bytes first stand in the text.
+pub(crate) fn place_of(text: &[u8], part: &[u8]) -> Option<usize> {
+    let mut at: usize = 0;
+    for _ in text {
+        if front(part.len(), skip(at, text)) == part {
+            return Some(at);
+        }
+        at = at.saturating_add(1);
+    }
+    None
+}
+
+/// A place in a text, with its line, counted from 1.
+#[derive(Clone, Copy)]
+pub(crate) struct Cursor<'a> {
+    pub(crate) text: &'a [u8],
+    pub(crate) at: usize,
+    pub(crate) line: u32,
+}
+
+impl<'a> Cursor<'a> {
+    /// What is left.
+    pub(crate) fn rest(&self) -> &'a [u8] {
+        skip(self.at, self.text)
+    }
+
+    /// Whether nothing is left.
+    pub(crate) fn is_at_end(&self) -> bool {
+        self.rest().is_empty()
+    }
+
+    /// The byte that stands so many bytes further on.
+    pub(crate) fn peek_at(&self, n: usize) -> Option<u8> {
+        self.rest().get(n).copied()
+    }
+
+    /// Whether the next byte is this one.
+    pub(crate) fn is_at(&self, byte: u8) -> bool {
+        self.peek_at(0) == Some(byte)
+    }
+
+    /// Whether these bytes stand next.
+    pub(crate) fn begins_with(&self, prefix: &[u8]) -> bool {
+        front(prefix.len(), self.rest()) == prefix
+    }
+
+    /// The rest of the line, without its end.
+    pub(crate) fn line_rest(&self) -> &'a [u8] {
+        let rest = self.rest();
+        let line = front(line_length(rest), rest);
+        match line.split_last() {
+            Some((last, before)) => { if *last == b'\r' { before } else { line } }
+            None => line,
+        }
+    }
+
+    /// Goes on by so many bytes.
+    pub(crate) fn advance(&mut self, n: usize) {
+        for byte in front(n, self.rest()) {
+            if *byte == b'\n' {
+                self.line = self.line.saturating_add(1);
+            }
+        }
+        self.at = self.at.saturating_add(n).min(self.text.len());
+    }
+
+    /// Goes on behind the end of the line.
+    pub(crate) fn skip_line(&mut self) {
+        let length = line_length(self.rest());
+        self.advance(length.saturating_add(1));
+    }
+
+    /// Goes on behind blanks.
+    pub(crate) fn skip_blanks(&mut self) {
+        let count = blank_run(self.rest());
+        self.advance(count);
+    }
+
+    /// Whether nothing but blanks is left of the line.
+    pub(crate) fn is_blank_line(&self) -> bool {
+        blank_run(self.line_rest()) == self.line_rest().len()
+    }
+}

@@ -1,0 +1,249 @@
+//! The definitions section (flex's manual, "Format of the Definitions Section").
+
+use crate::c_code::{skip_block, skip_braces, skip_comment};
+use crate::conditions::{StartCondition, name_at, new_name};
+use crate::cursor::{Cursor, front, is_blank, skip, trimmed};
+use crate::options::read_options;
+use crate::report::{Cause, Reports, Stop, stopped};
+use lx_flex_pattern::Options;
+use std::alloc::{AllocError, Global};
+
+/// The most definitions, and the most start conditions.
+const MAX_DEFINITIONS: usize = 1024;
+
+const MAX_CONDITIONS: usize = 64;
+
+/// A definition as it is written.
+#[derive(Debug, Drop)]
+pub(crate) struct RawDefinition {
+    pub(crate) line: u32,
+    pub(crate) name: Vec<u8>,
+    pub(crate) text: Vec<u8>,
+}
+
+/// What the definitions section says.
+#[derive(Drop)]
+pub(crate) struct Declared {
+    /// `INITIAL`, and then the conditions in the order in which they are declared.
+    pub(crate) conditions: Vec<StartCondition>,
+    pub(crate) definitions: Vec<RawDefinition>,
+    pub(crate) options: Options,
+}
+
+/// Nothing but `INITIAL`.
+pub(crate) fn nothing_declared(alloc: Global) -> Result<Declared, AllocError> {
+    let mut conditions = Vec::new(alloc);
+    conditions.push(StartCondition {
+        name: Vec::from_slice(alloc, b"INITIAL")?,
+        lx_name: Vec::from_slice(alloc, b"INITIAL")?,
+        exclusive: false,
+    })?;
+    Ok(Declared {
+        conditions,
+        definitions: Vec::new(alloc),
+        options: Options {
+            fold: false,
+            posix: false,
+            bare_names: false,
+        },
+    })
+}
+
+fn is_condition(declared: &Declared, name: &[u8]) -> bool {
+    declared
+        .conditions
+        .iter()
+        .any(|c| c.name.as_slice() == name)
+}
+
+fn is_definition(declared: &Declared, name: &[u8]) -> bool {
+    declared
+        .definitions
+        .iter()
+        .any(|d| d.name.as_slice() == name)
+}
+
+fn add_condition(
+    alloc: Global,
+    declared: &mut Declared,
+    reports: &mut Reports,
+    line: u32,
+    name: &[u8],
+    exclusive: bool,
+) -> Result<(), Stop> {
+    if is_condition(declared, name) {
+        reports.add(line, Cause::Twice, true)?;
+        return Ok(());
+    }
+    if declared.conditions.len() >= MAX_CONDITIONS {
+        return stopped(line, Cause::TooMany);
+    }
+    let lx_name = new_name(alloc, declared.conditions.as_slice(), name)?;
+    declared.conditions.push(StartCondition {
+        name: Vec::from_slice(alloc, name)?,
+        lx_name,
+        exclusive,
+    })?;
+    Ok(())
+}
+
+/// The names behind `%s` or `%x`.
+fn read_conditions(
+    alloc: Global,
+    cursor: &mut Cursor,
+    declared: &mut Declared,
+    reports: &mut Reports,
+    exclusive: bool,
+) -> Result<(), Stop> {
+    let line = cursor.line_rest();
+    let mut rest = line;
+    for _ in line {
+        rest = skip(crate::cursor::blank_run(rest), rest);
+        if rest.is_empty() {
+            break;
+        }
+        let name = name_at(rest);
+        if name.is_empty() {
+            reports.add(cursor.line, Cause::BadDefinitionLine, true)?;
+            break;
+        }
+        add_condition(alloc, declared, reports, cursor.line, name, exclusive)?;
+        rest = skip(name.len(), rest);
+    }
+    cursor.skip_line();
+    Ok(())
+}
+
+/// A definition's line.
+fn read_definition(
+    alloc: Global,
+    cursor: &mut Cursor,
+    declared: &mut Declared,
+    reports: &mut Reports,
+) -> Result<(), Stop> {
+    let line = cursor.line_rest();
+    let name = name_at(line);
+    let rest = skip(name.len(), line);
+    let text = trimmed(skip(crate::cursor::blank_run(rest), rest));
+    if name.is_empty() || text.is_empty() {
+        reports.add(cursor.line, Cause::BadDefinitionLine, true)?;
+    } else if is_definition(declared, name) {
+        reports.add(cursor.line, Cause::Twice, true)?;
+    } else if declared.definitions.len() >= MAX_DEFINITIONS {
+        return stopped(cursor.line, Cause::TooMany);
+    } else {
+        declared.definitions.push(RawDefinition {
+            line: cursor.line,
+            name: Vec::from_slice(alloc, name)?,
+            text: Vec::from_slice(alloc, text)?,
+        })?;
+    }
+    cursor.skip_line();
+    Ok(())
+}
+
+/// Whether the letter behind a `%` begins a line that flex passes over.
+fn is_passed_over(letter: Option<u8>) -> bool {
+    match letter {
+        Some(letter) => matches!(
+            letter.to_ascii_lowercase(),
+            b'a' | b'c' | b'e' | b'k' | b'n' | b'o' | b'p' | b'r'
+        ),
+        None => false,
+    }
+}
+
+/// How many bytes `%s` or `%x` and the letters behind it have.
+fn directive_length(line: &[u8]) -> usize {
+    name_at(skip(1, line)).len().saturating_add(1)
+}
+
+/// A line that begins with `%`, but not with `%%`.
+fn read_directive(
+    alloc: Global,
+    cursor: &mut Cursor,
+    declared: &mut Declared,
+    reports: &mut Reports,
+) -> Result<(), Stop> {
+    if cursor.begins_with(b"%{") {
+        return skip_block(cursor);
+    }
+    if cursor.begins_with(b"%top") {
+        return skip_braces(cursor);
+    }
+    if cursor.begins_with(b"%option") {
+        cursor.advance(7);
+        read_options(alloc, cursor, &mut declared.options, reports)?;
+        return Ok(());
+    }
+    let letter = cursor.peek_at(1);
+    if letter == Some(b's')
+        || letter == Some(b'S')
+        || letter == Some(b'x')
+        || letter == Some(b'X')
+    {
+        let exclusive = letter == Some(b'x') || letter == Some(b'X');
+        let length = directive_length(cursor.line_rest());
+        cursor.advance(length);
+        return read_conditions(alloc, cursor, declared, reports, exclusive);
+    }
+    if !is_passed_over(letter) {
+        reports.add(cursor.line, Cause::BadDefinitionLine, true)?;
+    }
+    cursor.skip_line();
+    Ok(())
+}
+
+/// Whether the line is for the preprocessor's line count, `#line`.
+fn is_line_directive(line: &[u8]) -> bool {
+    if front(1, line) != b"#".as_slice() {
+        return false;
+    }
+    let rest = skip(1, line);
+    front(4, skip(crate::cursor::blank_run(rest), rest)) == b"line".as_slice()
+}
+
+/// One line of definitions, or what begins on it.
+fn read_line(
+    alloc: Global,
+    cursor: &mut Cursor,
+    declared: &mut Declared,
+    reports: &mut Reports,
+) -> Result<(), Stop> {
+    let begins_blank = match cursor.peek_at(0) {
+        Some(byte) => is_blank(byte),
+        None => true,
+    };
+    if begins_blank || cursor.is_blank_line() || is_line_directive(cursor.line_rest()) {
+        cursor.skip_line();
+        return Ok(());
+    }
+    if cursor.begins_with(b"/*") {
+        cursor.advance(2);
+        return skip_comment(cursor);
+    }
+    if cursor.is_at(b'%') {
+        return read_directive(alloc, cursor, declared, reports);
+    }
+    read_definition(alloc, cursor, declared, reports)
+}
+
+/// Reads the definitions section, up to and with its `%%` line.
+pub(crate) fn read_definitions(
+    alloc: Global,
+    cursor: &mut Cursor,
+    reports: &mut Reports,
+) -> Result<Declared, Stop> {
+    let mut declared = nothing_declared(alloc)?;
+    for _ in 0..cursor.text.len() {
+        if cursor.begins_with(b"%%") {
+            cursor.skip_line();
+            return Ok(declared);
+        }
+        if cursor.is_at_end() {
+            break;
+        }
+        read_line(alloc, cursor, &mut declared, reports)?;
+    }
+    stopped(cursor.line, Cause::NoRules)
+}

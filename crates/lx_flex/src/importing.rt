@@ -1,0 +1,208 @@
+//! Bringing a whole file over.
+
+ghost use Rattle.std.specs.Prelude.{◌≡◌, map, IfOk, OnOk};
+ghost use Rattle.lx_flex.specs.Imported.{IsImported};
+ghost use Rattle.lx_flex.specs.views.{definition_of, rule_of};
+ghost use Rattle.lx_rules.specs.views.Conditions.{condition_view};
+
+use crate::checking::{CheckFault, check};
+use crate::cursor::Cursor;
+use crate::definitions::{Declared, read_definitions};
+use crate::judging::{ImportedRule, JudgedRule, judged};
+use crate::naming::{ImportedDefinition, Naming, naming_of};
+use crate::printing::{cases, specification};
+use crate::report::{Cause, Fault, Report, Reports, Stop, stopped};
+use crate::rules::read_rules;
+use lx_rules::Condition;
+use std::alloc::{AllocError, Global};
+
+/// The most bytes of a file.
+const MAX_FILE_BYTES: usize = 1_048_576;
+
+/// How a file is brought over.
+#[derive(Debug, Clone, Copy)]
+pub struct Options<'a> {
+    /// Whether what lx can't do is left out, and reported, in the place of refusing the file.
+    pub lossy: bool,
+    /// What the kinds of the C text begin with, as it is written: they have it in capitals.
+    pub prefix: &'a [u8],
+}
+
+/// A file that was brought over.
+#[derive(Drop)]
+pub struct Imported {
+    /// The specification for lx.
+    pub specification: Vec<u8>,
+    /// The C text of the rules that return their numbers, as cases of a switch.
+    pub cases: Vec<u8>,
+    /// What is to be said; nothing of it is fatal.
+    pub reports: Vec<Report>,
+    /// The conditions by their names in lx, `INITIAL` first.
+    pub conditions: Vec<Condition>,
+    /// The definitions that lx has by a name.
+    pub definitions: Vec<ImportedDefinition>,
+    /// The rules, in order, without those for `<<EOF>>`.
+    pub rules: Vec<ImportedRule>,
+}
+
+/// What was read and printed, before lx reads it.
+#[derive(Drop)]
+struct Draft {
+    specification: Vec<u8>,
+    cases: Vec<u8>,
+    conditions: Vec<Condition>,
+    definitions: Vec<ImportedDefinition>,
+    rules: Vec<ImportedRule>,
+}
+
+fn conditions_of(alloc: Global, declared: &Declared) -> Result<Vec<Condition>, AllocError> {
+    let mut conditions = Vec::new(alloc);
+    for condition in declared.conditions.as_slice() {
+        conditions.push(Condition {
+            name: condition.lx_name.clone()?,
+            exclusive: condition.exclusive,
+        })?;
+    }
+    Ok(conditions)
+}
+
+fn rules_of(alloc: Global, rules: Vec<JudgedRule>) -> Result<Vec<ImportedRule>, AllocError> {
+    let mut list = Vec::new(alloc);
+    for judged in rules {
+        let JudgedRule {
+            rule,
+            text: _,
+            action: _,
+        } = judged;
+        list.push(rule)?;
+    }
+    Ok(list)
+}
+
+/// Reads and prints the file.
+fn draft_of(
+    alloc: Global,
+    text: &[u8],
+    options: Options,
+    reports: &mut Reports,
+) -> Result<Draft, Stop> {
+    if text.len() > MAX_FILE_BYTES {
+        return stopped(0, Cause::TooLong);
+    }
+    let mut cursor = Cursor {
+        text,
+        at: 0,
+        line: 1,
+    };
+    let declared = read_definitions(alloc, &mut cursor, reports)?;
+    let Naming { names, definitions } = naming_of(alloc, &declared)?;
+    let raw = read_rules(alloc, &mut cursor, &declared, &names, reports)?;
+    let rules = judged(alloc, raw, reports, options.lossy)?;
+    Ok(Draft {
+        specification: specification(alloc, &declared, definitions.as_slice(), rules.as_slice())?,
+        cases: cases(alloc, options.prefix, rules.as_slice())?,
+        conditions: conditions_of(alloc, &declared)?,
+        definitions,
+        rules: rules_of(alloc, rules)?,
+    })
+}
+
+/// The line of the file of the rule that lx refuses, by the line of what was printed: the rules are its last lines.
+fn own_line(draft: &Draft, line: u32) -> u32 {
+    let mut lines: usize = 0;
+    for byte in draft.specification.as_slice() {
+        if *byte == b'\n' {
+            lines = lines.saturating_add(1);
+        }
+    }
+    let before = lines.saturating_sub(draft.rules.len());
+    let at = usize::try_from(line).unwrap_or(0);
+    if at <= before {
+        return 0;
+    }
+    match draft.rules.get(at.saturating_sub(before).saturating_sub(1)) {
+        Some(rule) => rule.line,
+        None => 0,
+    }
+}
+
+/// What is to be said where lx doesn't read what was printed as it should; none where memory was refused.
+fn check_report(draft: &Draft, fault: CheckFault) -> Option<(u32, Cause)> {
+    match fault {
+        CheckFault::NotTheSame => Some((0, Cause::NotTheSame)),
+        CheckFault::Refused(refused) => {
+            if refused.code == lx_spec::Code::Memory {
+                None
+            } else {
+                Some((own_line(draft, refused.line), Cause::Refused(refused.code)))
+            }
+        }
+    }
+}
+
+fn refused(reports: Reports) -> Fault {
+    Fault::Refused(reports.list)
+}
+
+/// The draft as what was brought over, where lx reads it as what was read of the file.
+fn checked(alloc: Global, draft: Draft, reports: Reports) -> Result<Imported, Fault>
+    ensures { IfOk result (λ i. IsImported (map condition_view i.conditions.items) (map definition_of i.definitions.items) (map rule_of i.rules.items) i.specification.items) }
+{
+    let outcome = check(
+        alloc,
+        draft.specification.as_slice(),
+        draft.conditions.as_slice(),
+        draft.definitions.as_slice(),
+        draft.rules.as_slice(),
+    );
+    if let Err(fault) = outcome {
+        let Some((line, cause)) = check_report(&draft, fault) else {
+            return Err(Fault::Memory);
+        };
+        let mut reports = reports;
+        reports.add(line, cause, true)?;
+        return Err(refused(reports));
+    }
+    let Draft {
+        specification,
+        cases,
+        conditions,
+        definitions,
+        rules,
+    } = draft;
+    Ok(Imported {
+        specification,
+        cases,
+        reports: reports.list,
+        conditions,
+        definitions,
+        rules,
+    })
+}
+
+/// Brings a specification for flex over to one for lx (flex's manual, "Format of the Input File").
+///
+/// At Ok lx accepts the specification, and reads it as the conditions, the rules and, of the definitions, those that rules reach, that were
+/// read of the file: as many rules, in the same order, each active in the same conditions, with the same anchors and the same texts. It fails
+/// with reports, at least one of them fatal, where something can't be brought over; with `lossy` that is left out where there is something
+/// to put in its place, and only reported.
+pub fn import(alloc: Global, text: &[u8], options: Options) -> Result<Imported, Fault>
+    ensures { IfOk result (λ i. IsImported (map condition_view i.conditions.items) (map definition_of i.definitions.items) (map rule_of i.rules.items) i.specification.items) }
+{
+    let mut reports = Reports {
+        list: Vec::new(alloc),
+        fatal: false,
+    };
+    let draft = match draft_of(alloc, text, options, &mut reports) {
+        Ok(draft) => draft,
+        Err(Stop::Memory) => return Err(Fault::Memory),
+        Err(Stop::At(report)) => {
+            reports.add(report.line, report.cause, true)?;
+            return Err(refused(reports));
+        }
+    };
+    if reports.fatal {
+        return Err(refused(reports));
+    }
+    checked(alloc, draft, reports)
+}

@@ -1,0 +1,191 @@
+//! Rules of a file as rules of lx: what becomes of `<<EOF>>` rules and of actions, and what is to be reported.
+
+use crate::actions::{Action, Step};
+use crate::report::{Cause, Reports, Stop};
+use crate::rules::RawRule;
+use lx_flex_pattern::{Pattern, Reading, Tree, translate};
+use std::alloc::{AllocError, Global};
+
+/// Where a rule is active, and what it matches.
+#[derive(Debug, Drop)]
+pub struct ImportedRule {
+    /// Its line in the file.
+    pub line: u32,
+    /// The numbers of its conditions, rising; none where it names none.
+    pub conditions: Option<Vec<u16>>,
+    /// What it matches.
+    pub pattern: Pattern,
+}
+
+/// A rule with its texts in lx.
+#[derive(Drop)]
+pub(crate) struct JudgedRule {
+    pub(crate) rule: ImportedRule,
+    /// Its pattern in lx.
+    pub(crate) text: Vec<u8>,
+    pub(crate) action: Action,
+}
+
+/// The rules without those for `<<EOF>>`, from the last to the first; a rule whose action is that of such a one gets it.
+pub(crate) fn without_ends(
+    alloc: Global,
+    rules: Vec<RawRule>,
+) -> Result<Vec<(ImportedRule, bool, Action)>, AllocError> {
+    let mut left = rules;
+    let mut kept = Vec::new(alloc);
+    let mut carried: Option<Action> = None;
+    for _ in 0..left.len() {
+        let Some(raw) = left.pop() else {
+            break;
+        };
+        let RawRule {
+            line,
+            conditions,
+            reading,
+            action,
+        } = raw;
+        match reading {
+            None => {
+                if !matches!(action, Action::Bar) {
+                    carried = Some(action);
+                }
+            }
+            Some(reading) => {
+                let action = match action {
+                    Action::Bar => carried.take().unwrap_or(Action::Bar),
+                    other => other,
+                };
+                carried = None;
+                let Reading {
+                    pattern,
+                    trailing,
+                    length: _,
+                } = reading;
+                let rule = ImportedRule {
+                    line,
+                    conditions,
+                    pattern,
+                };
+                kept.push((rule, trailing, action))?;
+            }
+        }
+    }
+    kept.reverse();
+    Ok(kept)
+}
+
+/// Whether the tree matches the empty word; of a name it isn't known, and taken for no.
+fn matches_nothing(tree: &Tree) -> bool {
+    match tree {
+        Tree::Empty => true,
+        Tree::OneOf {
+            excluded: _,
+            fold: _,
+            members: _,
+        } => false,
+        Tree::Then(first, second) => matches_nothing(first) && matches_nothing(second),
+        Tree::Or(this, that) => matches_nothing(this) || matches_nothing(that),
+        Tree::Times { body, low, high: _ } => *low == 0 || matches_nothing(body),
+        Tree::Name(_) => false,
+    }
+}
+
+/// What is to be said of a pattern with `$` and of one with something else behind it.
+fn judge_pattern(
+    reports: &mut Reports,
+    rule: &ImportedRule,
+    trailing: bool,
+    behind_bar: bool,
+    lossy: bool,
+) -> Result<(), AllocError> {
+    if trailing {
+        reports.add(rule.line, Cause::TrailingContext, !lossy)?;
+    }
+    if rule.pattern.line_end && behind_bar {
+        reports.add(rule.line, Cause::DollarBehindBar, !lossy)?;
+    }
+    if rule.pattern.line_end && matches_nothing(&rule.pattern.tree) {
+        reports.add(rule.line, Cause::EmptyBeforeDollar, !lossy)?;
+    }
+    Ok(())
+}
+
+/// The action, with what is to be said of it; with a loss nothing but the rule's number is left of what lx can't do.
+fn judge_action(
+    alloc: Global,
+    reports: &mut Reports,
+    rule_line: u32,
+    action: Action,
+    last: bool,
+    lossy: bool,
+) -> Result<Action, AllocError> {
+    match action {
+        Action::Bar => {
+            if last {
+                reports.add(rule_line, Cause::DanglingBar, true)?;
+            }
+            Ok(Action::Bar)
+        }
+        Action::Steps(steps) => Ok(Action::Steps(steps)),
+        Action::Code {
+            text,
+            line,
+            begins,
+            problem,
+        } => {
+            let kept: Vec<Step> = match problem {
+                Some(cause) => {
+                    reports.add(line, cause, !lossy)?;
+                    Vec::new(alloc)
+                }
+                None => begins,
+            };
+            Ok(Action::Code {
+                text,
+                line,
+                begins: kept,
+                problem,
+            })
+        }
+    }
+}
+
+/// The rule's pattern in lx, or none with a report.
+fn text_of(
+    alloc: Global,
+    reports: &mut Reports,
+    rule: &ImportedRule,
+) -> Result<Option<Vec<u8>>, Stop> {
+    match translate(alloc, &rule.pattern) {
+        Ok(text) => Ok(Some(text)),
+        Err(lx_flex_pattern::Cause::Memory) => Err(Stop::Memory),
+        Err(cause) => {
+            reports.add(rule.line, Cause::Pattern(cause), true)?;
+            Ok(None)
+        }
+    }
+}
+
+/// The rules as lx has them, with all that is to be said of them.
+pub(crate) fn judged(
+    alloc: Global,
+    rules: Vec<RawRule>,
+    reports: &mut Reports,
+    lossy: bool,
+) -> Result<Vec<JudgedRule>, Stop> {
+    let kept = without_ends(alloc, rules)?;
+    let count = kept.len();
+    let mut judged = Vec::new(alloc);
+    let mut behind_bar = false;
+    let mut number: usize = 0;
+    for (rule, trailing, action) in kept {
+        number = number.saturating_add(1);
+        judge_pattern(reports, &rule, trailing, behind_bar, lossy)?;
+        behind_bar = matches!(action, Action::Bar);
+        let action = judge_action(alloc, reports, rule.line, action, number == count, lossy)?;
+        if let Some(text) = text_of(alloc, reports, &rule)? {
+            judged.push(JudgedRule { rule, text, action })?;
+        }
+    }
+    Ok(judged)
+}

@@ -1,0 +1,150 @@
+//! `%option` lines (flex's manual, "Scanner Options").
+
+use crate::cursor::{Cursor, blank_run, front, is_blank, place_of, skip};
+use crate::report::{Cause, Reports};
+use lx_flex_pattern::Options;
+use std::alloc::{AllocError, Global};
+
+/// The words that change no token, with a blank on each side.
+const HARMLESS: &[u8] =
+    b" 7bit 8bit align always-interactive array backup batch bison-bridge bison-locations c++ debug default ecs fast full input interactive line main meta-ecs never-interactive perf-report pointer read reentrant reject stack stdinit stdout unistd unput verbose warn yylineno yymore yywrap yy_push_state yy_pop_state yy_top_state yy_scan_buffer yy_scan_bytes yy_scan_string yyalloc yyrealloc yyfree yyget_debug yyset_debug yyget_extra yyset_extra yyget_leng yyget_text yyget_lineno yyset_lineno yyget_in yyset_in yyget_out yyset_out yyget_lval yyset_lval yyget_lloc yyset_lloc extra-type outfile prefix yyclass header header-file tables-file tables-verify ";
+
+/// The bytes of a word of options.
+fn word_length(text: &[u8]) -> usize {
+    let mut count: usize = 0;
+    for byte in text {
+        if is_blank(*byte) || *byte == b'=' || *byte == b'"' {
+            break;
+        }
+        count = count.saturating_add(1);
+    }
+    count
+}
+
+/// The word without each `no` before it, and whether it is switched on.
+fn sense_of(word: &[u8]) -> (&[u8], bool) {
+    let mut rest = word;
+    let mut on = true;
+    for _ in word {
+        if front(2, rest) != b"no".as_slice() {
+            break;
+        }
+        rest = skip(2, rest);
+        on = !on;
+    }
+    (rest, on)
+}
+
+fn is_harmless(alloc: Global, word: &[u8]) -> Result<bool, AllocError> {
+    let mut wanted = Vec::new(alloc);
+    wanted.push(b' ')?;
+    wanted.extend_from_slice(word)?;
+    wanted.push(b' ')?;
+    Ok(!word.is_empty() && place_of(HARMLESS, wanted.as_slice()).is_some())
+}
+
+/// What a word changes of how patterns are read; none where it changes nothing there.
+fn changed(options: Options, word: &[u8], on: bool) -> Option<Options> {
+    if word == b"case-insensitive".as_slice() || word == b"caseless".as_slice() {
+        return Some(Options {
+            fold: on,
+            ..options
+        });
+    }
+    if word == b"case-sensitive".as_slice() || word == b"caseful".as_slice() {
+        return Some(Options {
+            fold: !on,
+            ..options
+        });
+    }
+    if word == b"posix-compat".as_slice() || word == b"posix".as_slice() {
+        return Some(Options {
+            posix: on,
+            ..options
+        });
+    }
+    if word == b"lex-compat".as_slice() {
+        return Some(Options {
+            posix: on,
+            bare_names: on,
+            ..options
+        });
+    }
+    None
+}
+
+/// How many bytes a mark between words has: `=`, or a text in quotes; 0 where a word stands there.
+fn mark_length(text: &[u8]) -> usize {
+    match text.split_first() {
+        None => 0,
+        Some((first, more)) => {
+            if *first == b'=' {
+                1
+            } else if *first == b'"' {
+                place_of(more, b"\"")
+                    .unwrap_or(more.len())
+                    .saturating_add(2)
+            } else {
+                0
+            }
+        }
+    }
+}
+
+/// The word in small letters, as flex takes it.
+fn in_small_letters(alloc: Global, word: &[u8]) -> Result<Vec<u8>, AllocError> {
+    let mut small = Vec::new(alloc);
+    for byte in word {
+        small.push(byte.to_ascii_lowercase())?;
+    }
+    Ok(small)
+}
+
+/// Takes one word of a line; what is left of the line.
+fn read_word<'a>(
+    alloc: Global,
+    text: &'a [u8],
+    options: &mut Options,
+    unknown: &mut bool,
+) -> Result<&'a [u8], AllocError> {
+    let mark = mark_length(text);
+    if mark != 0 {
+        return Ok(skip(mark, text));
+    }
+    let length = word_length(text);
+    let small = in_small_letters(alloc, front(length, text))?;
+    let (word, on) = sense_of(small.as_slice());
+    match changed(*options, word, on) {
+        Some(next) => *options = next,
+        None => {
+            if !is_harmless(alloc, word)? {
+                *unknown = true;
+            }
+        }
+    }
+    Ok(skip(length, text))
+}
+
+/// Reads the words of a line, from behind `%option` on.
+pub(crate) fn read_options(
+    alloc: Global,
+    cursor: &mut Cursor,
+    options: &mut Options,
+    reports: &mut Reports,
+) -> Result<(), AllocError> {
+    let line = cursor.line_rest();
+    let mut rest = line;
+    let mut unknown = false;
+    for _ in line {
+        rest = skip(blank_run(rest), rest);
+        if rest.is_empty() {
+            break;
+        }
+        rest = read_word(alloc, rest, options, &mut unknown)?;
+    }
+    if unknown {
+        reports.add(cursor.line, Cause::UnknownOption, true)?;
+    }
+    cursor.skip_line();
+    Ok(())
+}

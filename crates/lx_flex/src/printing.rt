@@ -1,0 +1,248 @@
+//! The specification for lx, and the C text of actions.
+
+use crate::actions::{Action, Step};
+use crate::conditions::StartCondition;
+use crate::definitions::Declared;
+use crate::judging::JudgedRule;
+use crate::naming::ImportedDefinition;
+use itoa::Buffer;
+use std::alloc::{AllocError, Global};
+
+fn push(text: &mut Vec<u8>, bytes: &[u8]) -> Result<(), AllocError> {
+    text.extend_from_slice(bytes)
+}
+
+fn push_number(text: &mut Vec<u8>, number: u32) -> Result<(), AllocError> {
+    let mut digits = Buffer::new();
+    text.extend_from_slice(digits.format(number).as_bytes())
+}
+
+/// `%s` or `%x` and a name, on a line; `INITIAL` has none.
+fn push_conditions(text: &mut Vec<u8>, conditions: &[StartCondition]) -> Result<(), AllocError> {
+    let mut first = true;
+    for condition in conditions {
+        if !first {
+            push(text, if condition.exclusive { b"%x " } else { b"%s " })?;
+            push(text, condition.lx_name.as_slice())?;
+            push(text, b"\n")?;
+        }
+        first = false;
+    }
+    Ok(())
+}
+
+fn push_definitions(
+    text: &mut Vec<u8>,
+    definitions: &[ImportedDefinition],
+) -> Result<(), AllocError> {
+    for definition in definitions {
+        push(text, definition.name.as_slice())?;
+        push(text, b"  ")?;
+        push(text, definition.text.as_slice())?;
+        push(text, b"\n")?;
+    }
+    Ok(())
+}
+
+fn push_condition(
+    text: &mut Vec<u8>,
+    conditions: &[StartCondition],
+    number: u16,
+) -> Result<(), AllocError> {
+    match conditions.get(usize::from(number)) {
+        Some(condition) => push(text, condition.lx_name.as_slice()),
+        None => Ok(()),
+    }
+}
+
+/// The conditions before a pattern.
+fn push_list(
+    text: &mut Vec<u8>,
+    conditions: &[StartCondition],
+    numbers: &[u16],
+) -> Result<(), AllocError> {
+    let mut mark: &[u8] = b"<";
+    for number in numbers {
+        push(text, mark)?;
+        push_condition(text, conditions, *number)?;
+        mark = b",";
+    }
+    push(text, b">")
+}
+
+fn push_step(
+    text: &mut Vec<u8>,
+    conditions: &[StartCondition],
+    step: &Step,
+) -> Result<(), AllocError> {
+    match step {
+        Step::Echo => push(text, b"ECHO;"),
+        Step::Begin(number) => {
+            push(text, b"BEGIN ")?;
+            push_condition(text, conditions, *number)?;
+            push(text, b";")
+        }
+        Step::Return(kind) => {
+            push(text, b"return ")?;
+            push(text, kind.as_slice())?;
+            push(text, b";")
+        }
+    }
+}
+
+fn push_steps(
+    text: &mut Vec<u8>,
+    conditions: &[StartCondition],
+    steps: &[Step],
+) -> Result<(), AllocError> {
+    let mut first = true;
+    for step in steps {
+        if !first {
+            push(text, b" ")?;
+        }
+        push_step(text, conditions, step)?;
+        first = false;
+    }
+    Ok(())
+}
+
+/// Steps as an action: `;` for none, and braces round several.
+fn push_action_steps(
+    text: &mut Vec<u8>,
+    conditions: &[StartCondition],
+    steps: &[Step],
+) -> Result<(), AllocError> {
+    if steps.is_empty() {
+        return push(text, b";");
+    }
+    if steps.len() == 1 {
+        return push_steps(text, conditions, steps);
+    }
+    push(text, b"{ ")?;
+    push_steps(text, conditions, steps)?;
+    push(text, b" }")
+}
+
+/// The action of C text: what it begins in any case, and the rule's number as a kind.
+fn push_code(
+    text: &mut Vec<u8>,
+    conditions: &[StartCondition],
+    begins: &[Step],
+    number: u32,
+) -> Result<(), AllocError> {
+    if !begins.is_empty() {
+        push(text, b"{ ")?;
+        push_steps(text, conditions, begins)?;
+        push(text, b" ")?;
+    }
+    push(text, b"return RULE_")?;
+    push_number(text, number)?;
+    push(text, b";")?;
+    if !begins.is_empty() {
+        push(text, b" }")?;
+    }
+    Ok(())
+}
+
+fn push_action(
+    text: &mut Vec<u8>,
+    conditions: &[StartCondition],
+    action: &Action,
+    number: u32,
+) -> Result<(), AllocError> {
+    match action {
+        Action::Bar => push(text, b"|"),
+        Action::Steps(steps) => push_action_steps(text, conditions, steps.as_slice()),
+        Action::Code {
+            text: _,
+            line: _,
+            begins,
+            problem: _,
+        } => push_code(text, conditions, begins.as_slice(), number),
+    }
+}
+
+fn push_rule(
+    text: &mut Vec<u8>,
+    conditions: &[StartCondition],
+    judged: &JudgedRule,
+    number: u32,
+) -> Result<(), AllocError> {
+    if let Some(numbers) = &judged.rule.conditions {
+        push_list(text, conditions, numbers.as_slice())?;
+    }
+    push(text, judged.text.as_slice())?;
+    push(text, b"  ")?;
+    push_action(text, conditions, &judged.action, number)?;
+    push(text, b"\n")
+}
+
+/// The specification.
+pub(crate) fn specification(
+    alloc: Global,
+    declared: &Declared,
+    definitions: &[ImportedDefinition],
+    rules: &[JudgedRule],
+) -> Result<Vec<u8>, AllocError> {
+    let conditions = declared.conditions.as_slice();
+    let mut text = Vec::new(alloc);
+    push_conditions(&mut text, conditions)?;
+    push_definitions(&mut text, definitions)?;
+    push(&mut text, b"%%\n")?;
+    let mut number: u32 = 0;
+    for rule in rules {
+        number = number.saturating_add(1);
+        push_rule(&mut text, conditions, rule, number)?;
+    }
+    Ok(text)
+}
+
+/// The prefix in capitals.
+fn push_prefix(text: &mut Vec<u8>, prefix: &[u8]) -> Result<(), AllocError> {
+    for byte in prefix {
+        text.push(byte.to_ascii_uppercase())?;
+    }
+    Ok(())
+}
+
+/// One case: the C text of a rule, with the line on which it stands.
+fn push_case(
+    text: &mut Vec<u8>,
+    prefix: &[u8],
+    number: u32,
+    line: u32,
+    code: &[u8],
+) -> Result<(), AllocError> {
+    push(text, b"case ")?;
+    push_prefix(text, prefix)?;
+    push(text, b"_RULE_")?;
+    push_number(text, number)?;
+    push(text, b":\n#line ")?;
+    push_number(text, line)?;
+    push(text, b"\n")?;
+    push(text, code)?;
+    push(text, b"\n    break;\n")
+}
+
+/// The cases of a switch over kinds: the C text of each rule that returns its number.
+pub(crate) fn cases(
+    alloc: Global,
+    prefix: &[u8],
+    rules: &[JudgedRule],
+) -> Result<Vec<u8>, AllocError> {
+    let mut text = Vec::new(alloc);
+    let mut number: u32 = 0;
+    for judged in rules {
+        number = number.saturating_add(1);
+        if let Action::Code {
+            text: code,
+            line,
+            begins: _,
+            problem: _,
+        } = &judged.action
+        {
+            push_case(&mut text, prefix, number, *line, code.as_slice())?;
+        }
+    }
+    Ok(text)
+}

@@ -1,0 +1,142 @@
+//! What can't be brought over, or only with a loss, and what to do about it.
+
+use std::alloc::{AllocError, AllocFailed};
+use thiserror::Error;
+
+/// What is to be said of a line.
+#[derive(Debug, Clone, Copy, PartialEq, Eq, Error)]
+pub enum Cause {
+    #[error("the file has more than 1,048,576 bytes; split it")]
+    TooLong,
+    #[error("there is no line %%; write one before the rules")]
+    NoRules,
+    #[error("a comment, a code block, a scope or an action isn't closed; close it")]
+    NotClosed,
+    #[error("flex has no such line among definitions; delete it")]
+    BadDefinitionLine,
+    #[error("the name is defined or declared twice; delete one")]
+    Twice,
+    #[error("there are more than 1,024 definitions, 63 start conditions, 4,096 rules or 64 nested scopes; split the file")]
+    TooMany,
+    #[error("flex has no such %option; delete the word")]
+    UnknownOption,
+    #[error("flex reads no rule here; write a pattern, blanks and an action")]
+    BadRule,
+    #[error("the start condition isn't declared; declare it with %s or %x")]
+    UnknownCondition,
+    #[error("the pattern: {0}; write another one")]
+    Pattern(lx_flex_pattern::Cause),
+    #[error("the last rule has the action of the next; write its action")]
+    DanglingBar,
+    #[error("an <<EOF>> rule is left out; do its work at the end of the tokens")]
+    EofRule,
+    #[error("trailing context, r/s; match r alone, or r and s as one token")]
+    TrailingContext,
+    #[error("a pattern before $ that matches nothing; write + for *")]
+    EmptyBeforeDollar,
+    #[error("$ behind a rule with the action |, where flex takes the newline along; give that rule an action of its own")]
+    DollarBehindBar,
+    #[error("REJECT; write the other rule's pattern first")]
+    Reject,
+    #[error("yymore; join the tokens behind the scanner")]
+    More,
+    #[error("yyless; write a pattern for what is to be taken")]
+    Less,
+    #[error("unput; change the text before it is scanned")]
+    Unput,
+    #[error("input; write a pattern for what it reads")]
+    Input,
+    #[error("yyterminate; stop behind the scanner")]
+    Terminate,
+    #[error("a stack of start conditions; use BEGIN with a condition's name")]
+    StateStack,
+    #[error("another buffer is scanned; scan it by a call of its own")]
+    OtherBuffer,
+    #[error("BEGIN of what is no start condition's name; write the name")]
+    UnknownBegin,
+    #[error("BEGIN under a condition; write a rule for each case")]
+    ConditionalBegin,
+    #[error("lx refuses what would be printed: {0}")]
+    Refused(lx_spec::Code),
+    #[error("lx reads what would be printed otherwise")]
+    NotTheSame,
+}
+
+/// What is to be said of a line, counted from 1.
+#[derive(Debug, Clone, Copy, PartialEq, Eq)]
+pub struct Report {
+    pub line: u32,
+    pub cause: Cause,
+    /// Whether it keeps the file from being brought over.
+    pub fatal: bool,
+}
+
+/// Why reading stops.
+#[derive(Debug, Clone, Copy, PartialEq, Eq)]
+pub(crate) enum Stop {
+    At(Report),
+    Memory,
+}
+
+impl From<AllocError> for Stop {
+    fn from(_e: AllocError) -> Stop {
+        Stop::Memory
+    }
+}
+
+impl<T: Drop> From<AllocFailed<T>> for Stop {
+    fn from(_e: AllocFailed<T>) -> Stop {
+        Stop::Memory
+    }
+}
+
+/// Why a file isn't brought over.
+#[derive(Debug, Drop)]
+pub enum Fault {
+    /// What was found, in the order of the text; at least one report is fatal.
+    Refused(Vec<Report>),
+    /// Memory was refused.
+    Memory,
+}
+
+impl From<AllocError> for Fault {
+    fn from(_e: AllocError) -> Fault {
+        Fault::Memory
+    }
+}
+
+impl<T: Drop> From<AllocFailed<T>> for Fault {
+    fn from(_e: AllocFailed<T>) -> Fault {
+        Fault::Memory
+    }
+}
+
+/// The most reports that are kept.
+const MAX_REPORTS: usize = 1000;
+
+/// What was found so far.
+#[derive(Drop)]
+pub(crate) struct Reports {
+    pub(crate) list: Vec<Report>,
+    pub(crate) fatal: bool,
+}
+
+impl Reports {
+    /// Adds a report; those above the limit count, and aren't kept.
+    pub(crate) fn add(&mut self, line: u32, cause: Cause, fatal: bool) -> Result<(), AllocError> {
+        self.fatal = self.fatal || fatal;
+        if self.list.len() < MAX_REPORTS {
+            self.list.push(Report { line, cause, fatal })?;
+        }
+        Ok(())
+    }
+}
+
+/// A report that stops reading.
+pub(crate) fn stopped<T>(line: u32, cause: Cause) -> Result<T, Stop> {
+    Err(Stop::At(Report {
+        line,
+        cause,
+        fatal: true,
+    }))
+}

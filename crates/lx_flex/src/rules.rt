@@ -1,0 +1,404 @@
+//! The rules section (flex's manual, "Format of the Rules Section", "Start Conditions").
+
+use crate::actions::{Action, action_of};
+use crate::c_code::{behind_mark, skip_block, take_action, take_block, tidy};
+use crate::conditions::{joined, name_at, place_of};
+use crate::cursor::{Cursor, blank_run, is_blank, skip};
+use crate::definitions::Declared;
+use crate::report::{Cause, Reports, Stop, stopped};
+use lx_flex_pattern::{Names, Reading, read_pattern};
+use std::alloc::{AllocError, Global};
+
+/// The most rules.
+const MAX_RULES: usize = 4096;
+
+/// The most scopes that are open at once.
+const MAX_SCOPES: usize = 64;
+
+/// A rule as it is written.
+#[derive(Debug, Drop)]
+pub(crate) struct RawRule {
+    pub(crate) line: u32,
+    /// The conditions that it names, with those of the scopes around it; none where there are none.
+    pub(crate) conditions: Option<Vec<u16>>,
+    /// What it matches; none for `<<EOF>>`.
+    pub(crate) reading: Option<Reading>,
+    pub(crate) action: Action,
+}
+
+/// A scope that is open: its conditions, with those around it, and its line.
+#[derive(Drop)]
+struct Scope {
+    conditions: Vec<u16>,
+    line: u32,
+}
+
+/// What was read of the rules.
+#[derive(Drop)]
+struct Rules {
+    scopes: Vec<Scope>,
+    list: Vec<RawRule>,
+    /// Whether no rule was met, so that indented lines are code.
+    prologue: bool,
+}
+
+fn own_conditions(alloc: Global, rules: &Rules) -> Result<Vec<u16>, AllocError> {
+    match rules.scopes.last() {
+        Some(scope) => scope.conditions.clone(),
+        None => Ok(Vec::new(alloc)),
+    }
+}
+
+fn condition_count(declared: &Declared) -> u16 {
+    u16::try_from(declared.conditions.len()).unwrap_or(u16::MAX)
+}
+
+/// All conditions.
+fn all_conditions(alloc: Global, declared: &Declared) -> Result<Vec<u16>, AllocError> {
+    let mut numbers = Vec::new(alloc);
+    for number in 0..condition_count(declared) {
+        numbers.push(number)?;
+    }
+    Ok(numbers)
+}
+
+/// Blanks and newlines between the names of a list.
+fn skip_space(cursor: &mut Cursor) {
+    let mut count: usize = 0;
+    for byte in cursor.rest() {
+        if !byte.is_ascii_whitespace() {
+            break;
+        }
+        count = count.saturating_add(1);
+    }
+    cursor.advance(count);
+}
+
+/// A name of a list, into the numbers.
+fn read_condition(
+    cursor: &mut Cursor,
+    declared: &Declared,
+    reports: &mut Reports,
+    numbers: &mut Vec<u16>,
+) -> Result<bool, Stop> {
+    let name = name_at(cursor.rest());
+    if name.is_empty() {
+        return Ok(false);
+    }
+    let found = place_of(declared.conditions.as_slice(), name);
+    let line = cursor.line;
+    cursor.advance(name.len());
+    match found {
+        Some(number) => numbers.push(number)?,
+        None => reports.add(line, Cause::UnknownCondition, true)?,
+    }
+    Ok(true)
+}
+
+/// The conditions of a list, from behind its `<` on; none where it is no list.
+fn read_list(
+    alloc: Global,
+    cursor: &mut Cursor,
+    declared: &Declared,
+    reports: &mut Reports,
+) -> Result<Option<Vec<u16>>, Stop> {
+    if cursor.begins_with(b"*>") {
+        cursor.advance(2);
+        return Ok(Some(all_conditions(alloc, declared)?));
+    }
+    let mut numbers = Vec::new(alloc);
+    for _ in 0..cursor.text.len() {
+        skip_space(cursor);
+        if !read_condition(cursor, declared, reports, &mut numbers)? {
+            return Ok(None);
+        }
+        skip_space(cursor);
+        let mark = cursor.peek_at(0);
+        cursor.advance(1);
+        if mark == Some(b'>') {
+            return Ok(Some(numbers));
+        }
+        if mark != Some(b',') {
+            return Ok(None);
+        }
+    }
+    Ok(None)
+}
+
+/// The action behind a pattern.
+fn read_action(alloc: Global, cursor: &mut Cursor, declared: &Declared) -> Result<Action, Stop> {
+    cursor.skip_blanks();
+    let line = cursor.line;
+    if cursor.is_at(b'|') {
+        cursor.skip_line();
+        return Ok(Action::Bar);
+    }
+    let text = if cursor.begins_with(b"%{") {
+        cursor.advance(2);
+        take_block(cursor)?
+    } else {
+        take_action(cursor)?
+    };
+    Ok(action_of(alloc, tidy(text), line, declared.conditions.as_slice())?)
+}
+
+/// The conditions of a rule: those of the scopes and its own.
+fn conditions_of(
+    alloc: Global,
+    rules: &Rules,
+    declared: &Declared,
+    own: &[u16],
+) -> Result<Option<Vec<u16>>, AllocError> {
+    let outer = own_conditions(alloc, rules)?;
+    let all = joined(alloc, condition_count(declared), outer.as_slice(), own)?;
+    Ok(if all.is_empty() { None } else { Some(all) })
+}
+
+/// Whether what stands behind a pattern is an action or the line's end.
+fn is_behind_pattern(cursor: &Cursor) -> bool {
+    match cursor.peek_at(0) {
+        None => true,
+        Some(byte) => is_blank(byte) || byte == b'\n' || byte == b'\r',
+    }
+}
+
+/// The pattern, or none with a report; what follows is its action.
+fn read_rule_pattern(
+    alloc: Global,
+    cursor: &mut Cursor,
+    declared: &Declared,
+    names: &Names,
+    reports: &mut Reports,
+) -> Result<Option<Reading>, Stop> {
+    let line = cursor.line;
+    match read_pattern(alloc, cursor.rest(), names, declared.options) {
+        Ok(reading) => {
+            cursor.advance(reading.length);
+            if is_behind_pattern(cursor) {
+                return Ok(Some(reading));
+            }
+            reports.add(line, Cause::BadRule, true)?;
+        }
+        Err(lx_flex_pattern::Cause::Memory) => return Err(Stop::Memory),
+        Err(cause) => {
+            reports.add(line, Cause::Pattern(cause), true)?;
+            let length = lx_ere::pattern_end(cursor.line_rest());
+            cursor.advance(length);
+        }
+    }
+    Ok(None)
+}
+
+/// A rule, from its pattern on.
+fn read_rule(
+    alloc: Global,
+    cursor: &mut Cursor,
+    declared: &Declared,
+    names: &Names,
+    reports: &mut Reports,
+    rules: &mut Rules,
+    own: &[u16],
+) -> Result<(), Stop> {
+    let line = cursor.line;
+    if rules.list.len() >= MAX_RULES {
+        return stopped(line, Cause::TooMany);
+    }
+    let conditions = conditions_of(alloc, rules, declared, own)?;
+    let end_of_file = cursor.begins_with(b"<<EOF>>");
+    let reading = if end_of_file {
+        cursor.advance(7);
+        None
+    } else {
+        read_rule_pattern(alloc, cursor, declared, names, reports)?
+    };
+    let action = read_action(alloc, cursor, declared)?;
+    if end_of_file {
+        reports.add(line, Cause::EofRule, false)?;
+    } else if reading.is_none() {
+        return Ok(());
+    }
+    rules.list.push(RawRule {
+        line,
+        conditions,
+        reading,
+        action,
+    })?;
+    Ok(())
+}
+
+/// Whether a `{` stands next that opens a scope: one with neither a name nor a number behind it that it closes.
+fn opens_scope(cursor: &Cursor) -> bool {
+    let Some(rest) = behind_mark(b"{", cursor.rest()) else {
+        return false;
+    };
+    let name = name_at(rest);
+    let named = !name.is_empty() && behind_mark(b"}", skip(name.len(), rest)).is_some();
+    let counted = match rest.first() {
+        Some(byte) => byte.is_ascii_digit(),
+        None => false,
+    };
+    !named && !counted
+}
+
+/// A scope opens.
+fn open_scope(
+    alloc: Global,
+    cursor: &mut Cursor,
+    declared: &Declared,
+    rules: &mut Rules,
+    own: &[u16],
+) -> Result<(), Stop> {
+    if rules.scopes.len() >= MAX_SCOPES {
+        return stopped(cursor.line, Cause::TooMany);
+    }
+    let outer = own_conditions(alloc, rules)?;
+    let conditions = joined(alloc, condition_count(declared), outer.as_slice(), own)?;
+    rules.scopes.push(Scope {
+        conditions,
+        line: cursor.line,
+    })?;
+    cursor.advance(1);
+    if is_behind_pattern(cursor) {
+        let _code = take_action(cursor)?;
+    }
+    Ok(())
+}
+
+/// Where nothing stands behind a list of conditions on its line, what follows stands on the next line that isn't empty.
+fn skip_to_next(cursor: &mut Cursor, rules: &mut Rules) -> Result<(), Stop> {
+    if !cursor.is_blank_line() {
+        return Ok(());
+    }
+    for _ in 0..cursor.text.len() {
+        if cursor.is_at_end() || !skip_code(cursor, rules)? {
+            break;
+        }
+    }
+    cursor.skip_blanks();
+    Ok(())
+}
+
+/// A list of conditions, and the rule or the scope behind it.
+fn read_listed(
+    alloc: Global,
+    cursor: &mut Cursor,
+    declared: &Declared,
+    names: &Names,
+    reports: &mut Reports,
+    rules: &mut Rules,
+) -> Result<(), Stop> {
+    let line = cursor.line;
+    cursor.advance(1);
+    let Some(own) = read_list(alloc, cursor, declared, reports)? else {
+        reports.add(line, Cause::BadRule, true)?;
+        cursor.skip_line();
+        return Ok(());
+    };
+    skip_to_next(cursor, rules)?;
+    if opens_scope(cursor) {
+        return open_scope(alloc, cursor, declared, rules, own.as_slice());
+    }
+    read_rule(
+        alloc,
+        cursor,
+        declared,
+        names,
+        reports,
+        rules,
+        own.as_slice(),
+    )
+}
+
+/// A scope closes.
+fn close_scope(cursor: &mut Cursor, reports: &mut Reports, rules: &mut Rules) -> Result<(), Stop> {
+    if rules.scopes.pop().is_none() {
+        reports.add(cursor.line, Cause::BadRule, true)?;
+    }
+    cursor.advance(1);
+    let _code = take_action(cursor)?;
+    Ok(())
+}
+
+/// What is passed over on a line of rules: an empty line, code and comments; whether there was any.
+fn skip_code(cursor: &mut Cursor, rules: &mut Rules) -> Result<bool, Stop> {
+    if cursor.is_blank_line() {
+        cursor.skip_line();
+        return Ok(true);
+    }
+    if rules.prologue {
+        if cursor.begins_with(b"%{") {
+            skip_block(cursor)?;
+            return Ok(true);
+        }
+        if cursor.is_at(b' ') || cursor.is_at(b'\t') {
+            cursor.skip_line();
+            return Ok(true);
+        }
+        rules.prologue = false;
+    }
+    let rest = cursor.rest();
+    let inner = skip(blank_run(rest), rest);
+    if behind_mark(b"%{", inner).is_some() {
+        cursor.skip_blanks();
+        cursor.advance(2);
+        let _code = take_block(cursor)?;
+        return Ok(true);
+    }
+    if behind_mark(b"/*", inner).is_some() && blank_run(rest) != 0 {
+        let _code = take_action(cursor)?;
+        return Ok(true);
+    }
+    Ok(false)
+}
+
+/// One rule, or what else begins on a line.
+fn read_line(
+    alloc: Global,
+    cursor: &mut Cursor,
+    declared: &Declared,
+    names: &Names,
+    reports: &mut Reports,
+    rules: &mut Rules,
+) -> Result<(), Stop> {
+    if skip_code(cursor, rules)? {
+        return Ok(());
+    }
+    cursor.skip_blanks();
+    if cursor.is_at(b'}') {
+        return close_scope(cursor, reports, rules);
+    }
+    if cursor.is_at(b'<') && !cursor.begins_with(b"<<EOF>>") {
+        return read_listed(alloc, cursor, declared, names, reports, rules);
+    }
+    read_rule(alloc, cursor, declared, names, reports, rules, &[])
+}
+
+/// Reads the rules section, up to its `%%` line or the file's end.
+pub(crate) fn read_rules(
+    alloc: Global,
+    cursor: &mut Cursor,
+    declared: &Declared,
+    names: &Names,
+    reports: &mut Reports,
+) -> Result<Vec<RawRule>, Stop> {
+    let mut rules = Rules {
+        scopes: Vec::new(alloc),
+        list: Vec::new(alloc),
+        prologue: true,
+    };
+    for _ in 0..cursor.text.len() {
+        if cursor.is_at_end() || cursor.begins_with(b"%%") {
+            break;
+        }
+        read_line(alloc, cursor, declared, names, reports, &mut rules)?;
+    }
+    let Rules {
+        scopes,
+        list,
+        prologue: _,
+    } = rules;
+    match scopes.last() {
+        Some(scope) => stopped(scope.line, Cause::NotClosed),
+        None => Ok(list),
+    }
+}

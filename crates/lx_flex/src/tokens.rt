@@ -1,0 +1,143 @@
+//! The words and marks of C text, without blanks, comments and what stands in quotes.
+
+use crate::cursor::{between, front, skip};
+
+/// A word or a mark of C.
+#[derive(Debug, Clone, Copy, PartialEq, Eq)]
+pub(crate) enum Token<'a> {
+    /// A longest run of letters, digits and `_`.
+    Word(&'a [u8]),
+    /// A character constant with its quotes.
+    Character(&'a [u8]),
+    /// A string.
+    Text,
+    /// Any other byte.
+    Mark(u8),
+}
+
+fn is_word_byte(byte: u8) -> bool {
+    byte.is_ascii_alphanumeric() || byte == b'_'
+}
+
+fn word_length(text: &[u8]) -> usize {
+    let mut count: usize = 0;
+    for byte in text {
+        if !is_word_byte(*byte) {
+            break;
+        }
+        count = count.saturating_add(1);
+    }
+    count
+}
+
+/// How many bytes a quoted text has, from behind its opening quote to behind its closing one or to the line's end.
+fn quoted_length(text: &[u8], quote: u8) -> usize {
+    let mut count: usize = 0;
+    let mut escaped = false;
+    for byte in text {
+        if *byte == b'\n' && !escaped {
+            return count;
+        }
+        count = count.saturating_add(1);
+        if *byte == quote && !escaped {
+            return count;
+        }
+        escaped = *byte == b'\\' && !escaped;
+    }
+    count
+}
+
+/// How many bytes a comment has, with what ends it; 0 where none stands there.
+fn comment_length(text: &[u8]) -> usize {
+    let start = front(2, text);
+    if start == b"//".as_slice() {
+        let mut count: usize = 0;
+        for byte in text {
+            if *byte == b'\n' {
+                break;
+            }
+            count = count.saturating_add(1);
+        }
+        return count;
+    }
+    if start != b"/*".as_slice() {
+        return 0;
+    }
+    let mut count: usize = 2;
+    let mut star = false;
+    for byte in skip(2, text) {
+        count = count.saturating_add(1);
+        if *byte == b'/' && star {
+            return count;
+        }
+        star = *byte == b'*';
+    }
+    count
+}
+
+fn blank_length(text: &[u8]) -> usize {
+    let mut count: usize = 0;
+    for byte in text {
+        if !byte.is_ascii_whitespace() {
+            break;
+        }
+        count = count.saturating_add(1);
+    }
+    count
+}
+
+/// The words and marks of a text, one after the other.
+#[derive(Clone, Copy)]
+pub(crate) struct Tokens<'a> {
+    text: &'a [u8],
+    at: usize,
+}
+
+impl<'a> Tokens<'a> {
+    pub(crate) fn new(text: &'a [u8]) -> Tokens<'a> {
+        Tokens { text, at: 0 }
+    }
+
+    fn take(&mut self, length: usize) -> &'a [u8] {
+        let start = self.at;
+        self.at = self.at.saturating_add(length);
+        between(start, self.at, self.text)
+    }
+
+    /// Goes on behind blanks and comments.
+    fn skip_nothing(&mut self) {
+        for _ in 0..self.text.len() {
+            let rest = skip(self.at, self.text);
+            let length = blank_length(rest).saturating_add(comment_length(skip(
+                blank_length(rest),
+                rest,
+            )));
+            if length == 0 {
+                return;
+            }
+            self.at = self.at.saturating_add(length);
+        }
+    }
+
+    /// The next word or mark.
+    pub(crate) fn next(&mut self) -> Option<Token<'a>> {
+        self.skip_nothing();
+        let rest = skip(self.at, self.text);
+        let (first, more) = rest.split_first()?;
+        let byte = *first;
+        if is_word_byte(byte) {
+            return Some(Token::Word(self.take(word_length(rest))));
+        }
+        if byte == b'\'' {
+            let length = quoted_length(more, b'\'').saturating_add(1);
+            return Some(Token::Character(self.take(length)));
+        }
+        if byte == b'"' {
+            let length = quoted_length(more, b'"').saturating_add(1);
+            let _text = self.take(length);
+            return Some(Token::Text);
+        }
+        let _mark = self.take(1);
+        Some(Token::Mark(byte))
+    }
+}

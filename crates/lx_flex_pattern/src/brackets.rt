@@ -1,0 +1,264 @@
+//! Bracket expressions (flex's manual, "Patterns").
+
+use crate::classes::Class;
+use crate::escapes::read_escape;
+use crate::fault::Cause;
+use crate::sets::set_has;
+use crate::source::{MAX_FLEX_PATTERN_BYTES, Source, front, skip};
+use crate::trees::{Member, Tree};
+use std::alloc::{AllocError, Global};
+
+/// A class by its name.
+fn class_of(name: &[u8]) -> Option<Class> {
+    if name == b"alnum".as_slice() {
+        Some(Class::Alnum)
+    } else if name == b"alpha".as_slice() {
+        Some(Class::Alpha)
+    } else if name == b"blank".as_slice() {
+        Some(Class::Blank)
+    } else if name == b"cntrl".as_slice() {
+        Some(Class::Cntrl)
+    } else if name == b"digit".as_slice() {
+        Some(Class::Digit)
+    } else if name == b"graph".as_slice() {
+        Some(Class::Graph)
+    } else {
+        other_class_of(name)
+    }
+}
+
+fn other_class_of(name: &[u8]) -> Option<Class> {
+    if name == b"lower".as_slice() {
+        Some(Class::Lower)
+    } else if name == b"print".as_slice() {
+        Some(Class::Print)
+    } else if name == b"punct".as_slice() {
+        Some(Class::Punct)
+    } else if name == b"space".as_slice() {
+        Some(Class::Space)
+    } else if name == b"upper".as_slice() {
+        Some(Class::Upper)
+    } else if name == b"xdigit".as_slice() {
+        Some(Class::Xdigit)
+    } else {
+        None
+    }
+}
+
+/// How many letters stand at the front.
+fn letter_run(text: &[u8]) -> usize {
+    let mut count: usize = 0;
+    for byte in text {
+        if !byte.is_ascii_alphabetic() {
+            break;
+        }
+        count = count.saturating_add(1);
+    }
+    count
+}
+
+/// How many bytes the `[:`, the `^`, where there is one, the letters and the `:]` take, where these stand next.
+fn class_length(source: &Source) -> Option<usize> {
+    if !source.begins_with(b"[:") {
+        return None;
+    }
+    let start: usize = if source.peek_at(2) == Some(b'^') {
+        3
+    } else {
+        2
+    };
+    let count = letter_run(skip(start, source.rest()));
+    let end = start.saturating_add(count);
+    if count == 0 || front(2, skip(end, source.rest())) != b":]".as_slice() {
+        return None;
+    }
+    Some(end.saturating_add(2))
+}
+
+/// A class that takes so many bytes.
+fn read_class(source: &mut Source, length: usize, fold: bool) -> Result<Member, Cause> {
+    let negated = source.peek_at(2) == Some(b'^');
+    let start: usize = if negated { 3 } else { 2 };
+    let letters = length.saturating_sub(start.saturating_add(2));
+    let Some(class) = class_of(front(letters, skip(start, source.rest()))) else {
+        return Err(Cause::NoForm);
+    };
+    source.advance(length);
+    if !negated {
+        return Ok(Member::Class(class));
+    }
+    if fold && (class == Class::Upper || class == Class::Lower) {
+        return Err(Cause::AmbiguousClass);
+    }
+    Ok(Member::NotClass(class))
+}
+
+/// Whether a `-` that means a range stands next: one with a byte behind it that isn't the closing bracket.
+fn is_at_range(source: &Source) -> bool {
+    match source.peek_at(1) {
+        None => false,
+        Some(next) => source.is_at(b'-') && next != b']' && next != b'\n',
+    }
+}
+
+/// One byte of brackets: an escape, or the byte for itself.
+fn read_point(source: &mut Source) -> Result<u8, Cause> {
+    let Some(byte) = source.peek() else {
+        return Err(Cause::NotClosed);
+    };
+    if byte == b'\n' {
+        return Err(Cause::NotClosed);
+    }
+    source.advance(1);
+    if byte == b'\\' {
+        return read_escape(source);
+    }
+    Ok(byte)
+}
+
+/// The last byte of a range, from behind its `-` on.
+fn read_range_end(source: &mut Source, low: u8) -> Result<Member, Cause> {
+    if is_at_range(source) || class_length(source).is_some() {
+        return Err(Cause::NoForm);
+    }
+    let high = read_point(source)?;
+    if high < low {
+        return Err(Cause::NoForm);
+    }
+    Ok(Member::Range(low, high))
+}
+
+/// A member of brackets.
+fn read_member(source: &mut Source, first: bool, fold: bool) -> Result<Member, Cause> {
+    if let Some(length) = class_length(source) {
+        return read_class(source, length, fold);
+    }
+    if !first && is_at_range(source) {
+        return Err(Cause::NoForm);
+    }
+    let low = read_point(source)?;
+    if !is_at_range(source) {
+        return Ok(Member::Range(low, low));
+    }
+    source.advance(1);
+    read_range_end(source, low)
+}
+
+/// Whether the brackets begin with a `^` that excludes.
+fn read_caret(source: &mut Source) -> bool {
+    let excluded = match source.peek_at(1) {
+        None => false,
+        Some(next) => source.is_at(b'^') && next != b'\n',
+    };
+    if excluded {
+        source.advance(1);
+    }
+    excluded
+}
+
+/// Brackets, from behind the `[` on.
+pub(crate) fn read_brackets(alloc: Global, source: &mut Source, fold: bool) -> Result<Tree, Cause> {
+    let excluded = read_caret(source);
+    let mut members = Vec::new(alloc);
+    for _ in 0..MAX_FLEX_PATTERN_BYTES {
+        if source.is_at(b']') && !members.is_empty() {
+            source.advance(1);
+            return Ok(Tree::OneOf {
+                excluded,
+                fold,
+                members,
+            });
+        }
+        let member = read_member(source, members.is_empty(), fold)?;
+        members.push(member)?;
+    }
+    Err(Cause::TooLarge)
+}
+
+/// The ranges of the bytes that pass a test, given as a flag for each byte.
+fn ranges_of(alloc: Global, flags: &[bool]) -> Result<Vec<Member>, AllocError> {
+    let mut ranges = Vec::new(alloc);
+    let mut first: Option<u8> = None;
+    let mut last: u8 = 0;
+    let mut byte: u8 = 0;
+    for flag in flags {
+        if *flag {
+            if first.is_none() {
+                first = Some(byte);
+            }
+            last = byte;
+        } else if let Some(low) = first {
+            ranges.push(Member::Range(low, last))?;
+            first = None;
+        }
+        byte = byte.saturating_add(1);
+    }
+    if let Some(low) = first {
+        ranges.push(Member::Range(low, last))?;
+    }
+    Ok(ranges)
+}
+
+/// What is in the first set, and in the second (`{+}`: in either; `{-}`: in the first alone).
+fn combined_flags(
+    alloc: Global,
+    left: &Tree,
+    right: &Tree,
+    union: bool,
+) -> Result<Vec<bool>, AllocError> {
+    let mut flags = Vec::new(alloc);
+    for byte in 0..=255u8 {
+        let in_left = is_in(left, byte);
+        let in_right = is_in(right, byte);
+        let flag = if union {
+            in_left || in_right
+        } else {
+            in_left && !in_right
+        };
+        flags.push(flag)?;
+    }
+    Ok(flags)
+}
+
+fn is_in(tree: &Tree, byte: u8) -> bool {
+    match tree {
+        Tree::OneOf {
+            excluded,
+            fold,
+            members,
+        } => set_has(*excluded, *fold, members.as_slice(), byte),
+        _ => false,
+    }
+}
+
+/// Whether the tree is a set of all bytes but some.
+pub(crate) fn is_excluded(tree: &Tree) -> bool {
+    match tree {
+        Tree::OneOf {
+            excluded,
+            fold: _,
+            members: _,
+        } => *excluded,
+        _ => false,
+    }
+}
+
+/// The set of `[..]{+}[..]` or `[..]{-}[..]`. One without bytes excludes all bytes.
+pub(crate) fn combined(
+    alloc: Global,
+    left: &Tree,
+    right: &Tree,
+    union: bool,
+) -> Result<Tree, AllocError> {
+    let flags = combined_flags(alloc, left, right, union)?;
+    let mut members = ranges_of(alloc, flags.as_slice())?;
+    let excluded = members.is_empty();
+    if excluded {
+        members.push(Member::Range(0, 255))?;
+    }
+    Ok(Tree::OneOf {
+        excluded,
+        fold: false,
+        members,
+    })
+}

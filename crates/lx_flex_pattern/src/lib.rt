@@ -1,0 +1,23 @@
+//! Patterns of flex, read and printed as patterns of `lx` that match the same texts.
+#![tactic(auto)]
+
+mod brackets;
+pub mod classes;
+mod escapes;
+pub mod fault;
+mod groups;
+pub mod mirror;
+pub mod names;
+mod printing;
+pub mod reading;
+pub mod sets;
+mod source;
+pub mod translation;
+pub mod trees;
+
+pub use crate::classes::Class;
+pub use crate::fault::Cause;
+pub use crate::names::{Definition, Names};
+pub use crate::reading::{Options, Reading, read_pattern};
+pub use crate::translation::{has_same_texts, is_read_as, translate, translate_substitute};
+pub use crate::trees::{Member, Pattern, Tree};

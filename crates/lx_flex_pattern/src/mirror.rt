@@ -1,0 +1,89 @@
+//! Whether what lx reads is what flex reads.
+
+ghost use Rattle.std.specs.Prelude.{◌≡◌, IsTrue, true};
+ghost use Rattle.lx_ere.specs.Regex.{regex_of};
+ghost use Rattle.lx_flex_pattern.specs.Mirror.{Mirrors};
+ghost use Rattle.lx_flex_pattern.specs.views.{tree_of};
+
+use crate::sets::has_bytes;
+use crate::trees::Tree;
+use lx_ere::Expr;
+
+fn same_high(one: Option<u8>, other: Option<u8>) -> bool
+    ensures { result ≡ true → one ≡ other }
+{
+    match (one, other) {
+        (None, None) => true,
+        (Some(one), Some(other)) => one == other,
+        _ => false,
+    }
+}
+
+fn same_names(one: &[u8], other: &[u8]) -> bool
+    ensures { result ≡ true → one.now ≡ other.now }
+{
+    one == other
+}
+
+/// Whether the tree of lx has the form of that of flex, with the same bytes in each set.
+pub(crate) fn mirrors(tree: &Tree, expr: &Expr) -> bool
+    ensures { result ≡ true → Mirrors (tree_of tree.now) (regex_of expr.now) }
+{
+    match tree {
+        Tree::Empty => match expr {
+            Expr::Times { body: _, low, high } => {
+                if *low != 0 {
+                    return false;
+                }
+                same_high(*high, Some(0))
+            }
+            _ => false,
+        },
+        Tree::OneOf {
+            excluded,
+            fold,
+            members,
+        } => match expr {
+            Expr::Set(found) => has_bytes(found, *excluded, *fold, members.as_slice()),
+            _ => false,
+        },
+        Tree::Then(first, second) => match expr {
+            Expr::Then(lx_first, lx_second) => {
+                if !mirrors(first, lx_first) {
+                    return false;
+                }
+                mirrors(second, lx_second)
+            }
+            _ => false,
+        },
+        Tree::Or(this, that) => match expr {
+            Expr::Or(lx_this, lx_that) => {
+                if !mirrors(this, lx_this) {
+                    return false;
+                }
+                mirrors(that, lx_that)
+            }
+            _ => false,
+        },
+        Tree::Times { body, low, high } => match expr {
+            Expr::Times {
+                body: lx_body,
+                low: lx_low,
+                high: lx_high,
+            } => {
+                if *low != *lx_low {
+                    return false;
+                }
+                if !same_high(*high, *lx_high) {
+                    return false;
+                }
+                mirrors(body, lx_body)
+            }
+            _ => false,
+        },
+        Tree::Name(name) => match expr {
+            Expr::Name(lx_name) => same_names(name.as_slice(), lx_name.as_slice()),
+            _ => false,
+        },
+    }
+}

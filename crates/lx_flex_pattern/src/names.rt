@@ -1,0 +1,55 @@
+//! The definitions that patterns name.
+
+use std::alloc::{AllocError, Global};
+use std::collections::BTreeMap;
+
+/// A definition.
+#[derive(Drop)]
+pub struct Definition {
+    /// Its text, as flex has it.
+    pub text: Vec<u8>,
+    /// The name by which lx has it; none where its text stands for itself wherever it is named.
+    pub lx_name: Option<Vec<u8>>,
+}
+
+/// Definitions by their names.
+#[derive(Drop)]
+pub struct Names {
+    entries: BTreeMap<Vec<u8>, Definition>,
+}
+
+impl Names {
+    /// No definitions.
+    pub fn new(alloc: Global) -> Names {
+        Names {
+            entries: BTreeMap::new(alloc),
+        }
+    }
+
+    /// The definition of a name.
+    pub fn get(&self, name: &[u8]) -> Option<&Definition> {
+        self.entries.get(name)
+    }
+
+    /// Whether the name is defined.
+    pub fn has(&self, name: &[u8]) -> bool {
+        self.entries.get(name).is_some()
+    }
+
+    /// Adds a definition.
+    pub fn add(
+        &mut self,
+        alloc: Global,
+        name: &[u8],
+        text: &[u8],
+        lx_name: Option<Vec<u8>>,
+    ) -> Result<(), AllocError> {
+        let definition = Definition {
+            text: Vec::from_slice(alloc, text)?,
+            lx_name,
+        };
+        let key = Vec::from_slice(alloc, name)?;
+        self.entries.insert(key, definition)?;
+        Ok(())
+    }
+}

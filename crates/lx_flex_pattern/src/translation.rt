@@ -1,0 +1,96 @@
+//! Patterns of flex as texts that lx reads.
+
+ghost use Rattle.std.specs.Prelude.{◌≡◌, true, IfOk, IfSome};
+ghost use Rattle.lx_ere.specs.Pattern.{IsPattern, IsSubstitute};
+ghost use Rattle.lx_ere.specs.Regex.{reading_of, regex_of};
+ghost use Rattle.lx_flex_pattern.specs.Translation.{HaveSameTexts, IsReadAs, IsTranslation, IsSubstituteOf};
+ghost use Rattle.lx_flex_pattern.specs.views.{pattern_of, tree_of};
+
+use crate::fault::Cause;
+use crate::mirror::mirrors;
+use crate::printing::{printed, printed_tree};
+use crate::trees::{Pattern, Tree};
+use lx_ere::EreFault;
+use std::alloc::{AllocError, Global};
+
+/// The most bytes of a pattern or a substitute of lx.
+const MAX_LX_PATTERN_BYTES: usize = 1024;
+
+/// The text as lx reads it.
+fn read_back(alloc: Global, text: &[u8]) -> Result<Option<lx_ere::Pattern>, AllocError>
+    ensures { IfOk result (λ read. IfSome read (λ p. IsPattern text.now (reading_of p))) }
+{
+    match lx_ere::read_pattern(alloc, text) {
+        Ok(read) => Ok(Some(read)),
+        Err(EreFault::NoReading) => Ok(None),
+        Err(EreFault::Memory) => Err(AllocError),
+    }
+}
+
+/// The text as lx reads it where it is a substitute.
+fn read_back_substitute(alloc: Global, text: &[u8]) -> Result<Option<lx_ere::Expr>, AllocError>
+    ensures { IfOk result (λ read. IfSome read (λ e. IsSubstitute text.now (regex_of e))) }
+{
+    match lx_ere::read_substitute(alloc, text) {
+        Ok(read) => Ok(Some(read)),
+        Err(EreFault::NoReading) => Ok(None),
+        Err(EreFault::Memory) => Err(AllocError),
+    }
+}
+
+/// Whether the tree of lx has the same texts as that of flex; a tree of another form isn't looked at.
+pub fn has_same_texts(tree: &Tree, expr: &lx_ere::Expr) -> bool
+    ensures { result ≡ true → HaveSameTexts (tree_of tree.now) (regex_of expr.now) }
+{
+    mirrors(tree, expr)
+}
+
+/// Whether the pattern of lx has the anchors and the texts of that of flex.
+pub fn is_read_as(pattern: &Pattern, read: &lx_ere::Pattern) -> bool
+    ensures { result ≡ true → IsReadAs (pattern_of pattern.now) (reading_of read.now) }
+{
+    if pattern.line_begin != read.line_begin {
+        return false;
+    }
+    if pattern.line_end != read.line_end {
+        return false;
+    }
+    has_same_texts(&pattern.tree, &read.expr)
+}
+
+/// The pattern as a text that lx reads as a pattern with the same anchors and the same texts.
+///
+/// It fails with [`Cause::TooLarge`] where that text has more bytes than lx reads, and with [`Cause::NotRead`] where lx wouldn't read it as
+/// the same pattern; the trees of `read_pattern` are all read so.
+pub fn translate(alloc: Global, pattern: &Pattern) -> Result<Vec<u8>, Cause>
+    ensures { IfOk result (λ text. IsTranslation (pattern_of pattern.now) text.items) }
+{
+    let text = printed(alloc, pattern)?;
+    if text.len() > MAX_LX_PATTERN_BYTES {
+        return Err(Cause::TooLarge);
+    }
+    let Some(read) = read_back(alloc, text.as_slice())? else {
+        return Err(Cause::NotRead);
+    };
+    if !is_read_as(pattern, &read) {
+        return Err(Cause::NotRead);
+    }
+    Ok(text)
+}
+
+/// The tree as a text that lx reads as a substitute with the same texts. It fails as [`translate`] does.
+pub fn translate_substitute(alloc: Global, tree: &Tree) -> Result<Vec<u8>, Cause>
+    ensures { IfOk result (λ text. IsSubstituteOf (tree_of tree.now) text.items) }
+{
+    let text = printed_tree(alloc, tree)?;
+    if text.len() > MAX_LX_PATTERN_BYTES {
+        return Err(Cause::TooLarge);
+    }
+    let Some(read) = read_back_substitute(alloc, text.as_slice())? else {
+        return Err(Cause::NotRead);
+    };
+    if !has_same_texts(tree, &read) {
+        return Err(Cause::NotRead);
+    }
+    Ok(text)
+}

@@ -1,0 +1,7 @@
+use Rattle.std.proofs.Common.{◌≡◌, ◌++◌, take}
+use Rattle.std.specs.List.{flat_map}
+use Rattle.lx_report.specs.Bytes.{source_byte}
+use Rattle.lx_report.proofs.bytes.push_source.Given as goal
+
+abbrev pub invariant-loop-byte : goal.invariant-loop-byte
+invariant-loop-byte l = l.text.items ≡ l.fn.text.items ++ flat_map source_byte (take l.byte-index l.bytes)

@@ -1,0 +1,186 @@
+//! Findings as lines, in the form in which C's compilers have theirs, put behind a text. Where memory is refused a part of it stands there.
+
+ghost use Rattle.std.specs.Prelude.{◌≡◌, ◌++◌, IfOk, OnOk, decimal, length};
+ghost use Rattle.lx_report.specs.Lines as specs;
+
+use crate::bytes::{push, push_number, push_shown, push_source, push_times};
+use crate::finding::{Finding, Place, Severity};
+use itoa::Buffer;
+use std::alloc::{AllocError, Global};
+
+// How many bytes of a line of the source are shown before the place, and how many in all.
+const MOST_BEFORE: usize = 50;
+
+const MOST_SHOWN: usize = 100;
+
+fn push_column(text: &mut Vec<u8>, column: u64) -> Result<(), AllocError>
+    ensures { OnOk result (text.new.items ≡ text.old.items ++ specs.column_text column) }
+{
+    if column == 0 {
+        return Ok(());
+    }
+    push(text, b":")?;
+    push_number(text, column)
+}
+
+fn push_place(text: &mut Vec<u8>, place: Place) -> Result<(), AllocError>
+    ensures { OnOk result (text.new.items ≡ text.old.items ++ specs.place_text place) }
+{
+    if place.line == 0 {
+        return Ok(());
+    }
+    push(text, b":")?;
+    push_number(text, place.line)?;
+    push_column(text, place.column)
+}
+
+fn push_severity(text: &mut Vec<u8>, severity: Severity) -> Result<(), AllocError>
+    ensures { OnOk result (text.new.items ≡ text.old.items ++ specs.severity_text severity) }
+{
+    match severity {
+        Severity::Error => push(text, b": error: "),
+        Severity::Warning => push(text, b": warning: "),
+        Severity::Note => push(text, b": note: "),
+    }
+}
+
+fn push_code(text: &mut Vec<u8>, code: &[u8]) -> Result<(), AllocError>
+    ensures { OnOk result (text.new.items ≡ text.old.items ++ specs.code_text code.now) }
+{
+    if code.is_empty() {
+        return Ok(());
+    }
+    push_shown(text, code)?;
+    push(text, b": ")
+}
+
+fn push_tag(text: &mut Vec<u8>, severity: Severity, name: &[u8]) -> Result<(), AllocError>
+    ensures { OnOk result (text.new.items ≡ text.old.items ++ specs.tag_text severity name.now) }
+{
+    match severity {
+        Severity::Warning => {
+            push(text, b" [")?;
+            push_shown(text, name)?;
+            push(text, b"]")
+        }
+        Severity::Error | Severity::Note => Ok(()),
+    }
+}
+
+fn push_head(
+    text: &mut Vec<u8>,
+    file: &[u8],
+    place: Place,
+    severity: Severity,
+) -> Result<(), AllocError>
+    ensures { OnOk result (text.new.items ≡ text.old.items ++ specs.head_text file.now place severity) }
+{
+    push_shown(text, file)?;
+    push_place(text, place)?;
+    push_severity(text, severity)
+}
+
+fn push_said(text: &mut Vec<u8>, finding: &Finding<'_>) -> Result<(), AllocError>
+    ensures { OnOk result (text.new.items ≡ text.old.items ++ specs.said_text finding.now.severity finding.now.code.now finding.now.words.now finding.now.name.now) }
+{
+    push_code(text, finding.code)?;
+    push_shown(text, finding.words)?;
+    push_tag(text, finding.severity, finding.name)?;
+    push(text, b"\n")
+}
+
+/// A finding in the file with this name, in a line: where it is, how much it weighs, its code, its words and its name. Err: memory was refused.
+pub fn push_finding(
+    text: &mut Vec<u8>,
+    file: &[u8],
+    finding: &Finding<'_>,
+) -> Result<(), AllocError>
+    ensures { OnOk result (text.new.items ≡ text.old.items ++ specs.finding_line file.now finding.now.severity finding.now.place finding.now.code.now finding.now.words.now finding.now.name.now) }
+{
+    push_head(text, file, finding.place, finding.severity)?;
+    push_said(text, finding)
+}
+
+// How many bytes at a line's begin are not shown.
+fn hidden(column: usize) -> usize
+    ensures { result ≡ specs.hidden column }
+{
+    column.saturating_sub(1).saturating_sub(MOST_BEFORE)
+}
+
+// The part of a line that is shown.
+fn part(column: usize, line: &[u8]) -> &[u8]
+    ensures { result.now ≡ specs.part column line.now }
+{
+    let front = hidden(column).min(line.len());
+    let rest = &line[front..];
+    &rest[..MOST_SHOWN.min(rest.len())]
+}
+
+// How many columns are shown before the place.
+fn width_before(alloc: Global, column: usize, line: &[u8]) -> Result<usize, AllocError>
+    ensures { IfOk result (λ width. width ≡ length (specs.source (specs.before column line.now))) }
+{
+    let shown = part(column, line);
+    let before = column.saturating_sub(1) - hidden(column);
+    let mut text = Vec::new(alloc);
+    push_source(&mut text, &shown[..shown.len().min(before)])?;
+    Ok(text.len())
+}
+
+fn push_source_line(
+    text: &mut Vec<u8>,
+    number: u64,
+    column: usize,
+    line: &[u8],
+) -> Result<(), AllocError>
+    ensures { OnOk result (text.new.items ≡ text.old.items ++ specs.source_line number column line.now) }
+{
+    push(text, b"    ")?;
+    push_number(text, number)?;
+    push(text, b" | ")?;
+    push_source(text, part(column, line))?;
+    push(text, b"\n")
+}
+
+fn push_margin(text: &mut Vec<u8>, number: u64) -> Result<(), AllocError>
+    ensures { OnOk result (text.new.items ≡ text.old.items ++ specs.margin number) }
+{
+    push(text, b"    ")?;
+    push_times(text, b' ', width_of(number))?;
+    push(text, b" | ")
+}
+
+fn width_of(number: u64) -> usize
+    ensures { result ≡ length (decimal number) }
+{
+    let mut digits = Buffer::new();
+    digits.format(number).len()
+}
+
+fn push_mark(text: &mut Vec<u8>, before: usize, width: usize) -> Result<(), AllocError>
+    ensures { OnOk result (text.new.items ≡ text.old.items ++ specs.mark before width) }
+{
+    push_times(text, b' ', before)?;
+    push(text, b"^")?;
+    push_times(text, b'~', width.saturating_sub(1))?;
+    push(text, b"\n")
+}
+
+/// A line of the source with its number before it, and a line with a mark below so many bytes from the column, which is counted from 1. Bytes that aren't printed
+/// are shown as `\xHH`, a tab as a blank, and of a long line a part around the column. Err: memory was refused.
+pub fn push_marked(
+    alloc: Global,
+    text: &mut Vec<u8>,
+    number: u64,
+    column: usize,
+    width: usize,
+    line: &[u8],
+) -> Result<(), AllocError>
+    ensures { OnOk result (text.new.items ≡ text.old.items ++ specs.marked number column width line.now) }
+{
+    let before = width_before(alloc, column, line)?;
+    push_source_line(text, number, column, line)?;
+    push_margin(text, number)?;
+    push_mark(text, before, width)
+}

@@ -1,0 +1,156 @@
+//! Findings as SARIF 2.1.0 (OASIS Standard, 27 March 2020), put behind a text. Where memory is refused a part of them stands there.
+
+ghost use Rattle.std.specs.Prelude.{◌≡◌, ◌++◌, OnOk, length};
+ghost use Rattle.lx_report.specs.Sarif as specs;
+
+use crate::bytes::{push, push_number, push_shown, push_string_of_shown, push_uri};
+use crate::finding::{Finding, Place, Severity};
+use std::alloc::AllocError;
+
+/// What stands before the results; `version` is the program's.
+pub fn push_sarif_start(text: &mut Vec<u8>, version: &[u8]) -> Result<(), AllocError>
+    ensures { OnOk result (text.new.items ≡ text.old.items ++ specs.start version.now) }
+{
+    push(
+        text,
+        b"{\"$schema\":\"https://json.schemastore.org/sarif-2.1.0.json\",\"version\":\"2.1.0\",\"runs\":[{\"tool\":{\"driver\":{\"name\":\"lx\",\"version\":",
+    )?;
+    push_string_of_shown(text, version)?;
+    push(text, b"}},\"results\":[")
+}
+
+/// What stands behind the results.
+pub fn push_sarif_end(text: &mut Vec<u8>) -> Result<(), AllocError>
+    ensures { OnOk result (text.new.items ≡ text.old.items ++ specs.end) }
+{
+    push(text, b"]}]}\n")
+}
+
+fn push_level(text: &mut Vec<u8>, severity: Severity) -> Result<(), AllocError>
+    ensures { OnOk result (text.new.items ≡ text.old.items ++ specs.level severity) }
+{
+    match severity {
+        Severity::Error => push(text, b",\"level\":\"error\""),
+        Severity::Warning => push(text, b",\"level\":\"warning\""),
+        Severity::Note => push(text, b",\"level\":\"note\""),
+    }
+}
+
+// The code and the name, with a slash between them where both are there.
+fn push_rule(text: &mut Vec<u8>, code: &[u8], name: &[u8]) -> Result<(), AllocError>
+    ensures { OnOk result (text.new.items ≡ text.old.items ++ specs.rule code.now name.now) }
+{
+    push_shown(text, code)?;
+    if !code.is_empty() && !name.is_empty() {
+        push(text, b"/")?;
+    }
+    push_shown(text, name)
+}
+
+fn push_rule_id(text: &mut Vec<u8>, code: &[u8], name: &[u8]) -> Result<(), AllocError>
+    ensures { OnOk result (text.new.items ≡ text.old.items ++ specs.rule_id code.now name.now) }
+{
+    push(text, b"{\"ruleId\":\"")?;
+    push_rule(text, code, name)?;
+    push(text, b"\"")
+}
+
+fn push_message(text: &mut Vec<u8>, words: &[u8]) -> Result<(), AllocError>
+    ensures { OnOk result (text.new.items ≡ text.old.items ++ specs.message words.now) }
+{
+    push(text, b",\"message\":{\"text\":")?;
+    push_string_of_shown(text, words)?;
+    push(text, b"}")
+}
+
+fn push_artifact(text: &mut Vec<u8>, file: &[u8]) -> Result<(), AllocError>
+    ensures { OnOk result (text.new.items ≡ text.old.items ++ specs.artifact file.now) }
+{
+    push(
+        text,
+        b",\"locations\":[{\"physicalLocation\":{\"artifactLocation\":{\"uri\":\"",
+    )?;
+    push_uri(text, file)?;
+    push(text, b"\"}")
+}
+
+fn push_first_column(text: &mut Vec<u8>, column: u64) -> Result<(), AllocError>
+    ensures { OnOk result (text.new.items ≡ text.old.items ++ specs.first_column column) }
+{
+    push(text, b",\"startColumn\":")?;
+    push_number(text, column)
+}
+
+fn push_end_column(text: &mut Vec<u8>, behind: u64) -> Result<(), AllocError>
+    ensures { OnOk result (text.new.items ≡ text.old.items ++ specs.end_column behind) }
+{
+    push(text, b",\"endColumn\":")?;
+    push_number(text, behind)
+}
+
+// The columns of a region; the last is the one behind it.
+fn push_columns(text: &mut Vec<u8>, column: u64, behind: u64) -> Result<(), AllocError>
+    ensures { OnOk result (text.new.items ≡ text.old.items ++ specs.columns column behind) }
+{
+    if column == 0 {
+        return Ok(());
+    }
+    push_first_column(text, column)?;
+    push_end_column(text, behind)
+}
+
+fn push_first_line(text: &mut Vec<u8>, line: u64) -> Result<(), AllocError>
+    ensures { OnOk result (text.new.items ≡ text.old.items ++ specs.first_line line) }
+{
+    push(text, b",\"region\":{\"startLine\":")?;
+    push_number(text, line)
+}
+
+// The column behind a place.
+fn behind(place: Place) -> u64
+    ensures { result ≡ specs.behind place }
+{
+    place.column.saturating_add(place.width.max(1))
+}
+
+fn push_known_region(text: &mut Vec<u8>, place: Place) -> Result<(), AllocError>
+    ensures { OnOk result (text.new.items ≡ text.old.items ++ specs.known_region place) }
+{
+    push_first_line(text, place.line)?;
+    push_columns(text, place.column, behind(place))?;
+    push(text, b"}")
+}
+
+fn push_region(text: &mut Vec<u8>, place: Place) -> Result<(), AllocError>
+    ensures { OnOk result (text.new.items ≡ text.old.items ++ specs.region place) }
+{
+    if place.line == 0 {
+        Ok(())
+    } else {
+        push_known_region(text, place)
+    }
+}
+
+fn push_location(text: &mut Vec<u8>, file: &[u8], place: Place) -> Result<(), AllocError>
+    ensures { OnOk result (text.new.items ≡ text.old.items ++ specs.location file.now place) }
+{
+    push_artifact(text, file)?;
+    push_region(text, place)?;
+    push(text, b"}}]}")
+}
+
+fn push_what(text: &mut Vec<u8>, finding: &Finding<'_>) -> Result<(), AllocError>
+    ensures { OnOk result (text.new.items ≡ text.old.items ++ specs.what finding.now.severity finding.now.code.now finding.now.words.now finding.now.name.now) }
+{
+    push_rule_id(text, finding.code, finding.name)?;
+    push_level(text, finding.severity)?;
+    push_message(text, finding.words)
+}
+
+/// A finding in the file with this name, as a result. Err: memory was refused.
+pub fn push_result(text: &mut Vec<u8>, file: &[u8], finding: &Finding<'_>) -> Result<(), AllocError>
+    ensures { OnOk result (text.new.items ≡ text.old.items ++ specs.result_text file.now finding.now.severity finding.now.place finding.now.code.now finding.now.words.now finding.now.name.now) }
+{
+    push_what(text, finding)?;
+    push_location(text, file, finding.place)
+}

@@ -1,0 +1,17 @@
+-- What `explain` prints: what a code of an error or a cause means, or a list of all.
+use Rattle.std.specs.Prelude.{◌≡◌, ◌≢◌, Option, None, true, nat_eq, IfSome, List, ℕ}
+use Rattle.std.specs.Io.KnownBytes.{Appends}
+use Rattle.std.specs.List.{starts_with}
+use Rattle.lx_tool.specs.declared.failure.Failure.{Failure}
+use Rattle.lx_tool.specs.declared.failure.Failure.TheVariants.{Unprintable}
+use Rattle.lx_tool.specs.declared.failure.PrintFault.TheVariants.{Unexplained}
+
+-- Something was written; where a word is given, it begins with that.
+pub record IsExplained (word : Option (List ℕ)) (old new : Option (List ℕ)) : Type 0 where
+  pub said : List ℕ
+  pub wrote : Appends old new said
+  pub begins : IfSome word (λ w. starts_with nat_eq said w ≡ true)
+
+-- Nothing is known of the word.
+abbrev pub IsUnexplained : Option (List ℕ) → Failure → Type 0
+IsUnexplained word failure = (failure ≡ Unprintable Unexplained) × (word ≢ None)
