@@ -26,6 +26,8 @@ pub struct Options<'a> {
     pub lossy: bool,
     /// What the kinds of the C text begin with, as it is written: they have it in capitals.
     pub prefix: &'a [u8],
+    /// The name of the file, which the lines `#line` of the C text have.
+    pub file: &'a [u8],
 }
 
 /// A file that was brought over.
@@ -100,7 +102,7 @@ fn draft_of(
     let rules = judged(alloc, raw, reports, options.lossy)?;
     Ok(Draft {
         specification: specification(alloc, &declared, definitions.as_slice(), rules.as_slice())?,
-        cases: cases(alloc, options.prefix, rules.as_slice())?,
+        cases: cases(alloc, options, rules.as_slice())?,
         conditions: conditions_of(alloc, &declared)?,
         definitions,
         rules: rules_of(alloc, rules)?,

@@ -3,6 +3,7 @@
 use crate::actions::{Action, Step};
 use crate::conditions::StartCondition;
 use crate::definitions::Declared;
+use crate::importing::Options;
 use crate::judging::JudgedRule;
 use crate::naming::ImportedDefinition;
 use itoa::Buffer;
@@ -205,20 +206,39 @@ fn push_prefix(text: &mut Vec<u8>, prefix: &[u8]) -> Result<(), AllocError> {
     Ok(())
 }
 
+/// A file's name in quotes, as C has it.
+fn push_file(text: &mut Vec<u8>, file: &[u8]) -> Result<(), AllocError> {
+    text.push(b'"')?;
+    for byte in file {
+        match *byte {
+            b'"' | b'\\' => {
+                text.push(b'\\')?;
+                text.push(*byte)?;
+            }
+            b'\n' => push(text, b"\\n")?,
+            other => text.push(other)?,
+        }
+    }
+    text.push(b'"')?;
+    Ok(())
+}
+
 /// One case: the C text of a rule, with the line on which it stands.
 fn push_case(
     text: &mut Vec<u8>,
-    prefix: &[u8],
+    options: Options,
     number: u32,
     line: u32,
     code: &[u8],
 ) -> Result<(), AllocError> {
     push(text, b"case ")?;
-    push_prefix(text, prefix)?;
+    push_prefix(text, options.prefix)?;
     push(text, b"_RULE_")?;
     push_number(text, number)?;
     push(text, b":\n#line ")?;
     push_number(text, line)?;
+    push(text, b" ")?;
+    push_file(text, options.file)?;
     push(text, b"\n")?;
     push(text, code)?;
     push(text, b"\n    break;\n")
@@ -227,7 +247,7 @@ fn push_case(
 /// The cases of a switch over kinds: the C text of each rule that returns its number.
 pub(crate) fn cases(
     alloc: Global,
-    prefix: &[u8],
+    options: Options,
     rules: &[JudgedRule],
 ) -> Result<Vec<u8>, AllocError> {
     let mut text = Vec::new(alloc);
@@ -241,7 +261,7 @@ pub(crate) fn cases(
             problem: _,
         } = &judged.action
         {
-            push_case(&mut text, prefix, number, *line, code.as_slice())?;
+            push_case(&mut text, options, number, *line, code.as_slice())?;
         }
     }
     Ok(text)

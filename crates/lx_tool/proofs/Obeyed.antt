@@ -8,11 +8,12 @@ use Rattle.lx_tables.specs.Model.{Table}
 use Rattle.lx_piece.specs.Plans.{PlainInput, max_files}
 use Rattle.lx_tables.specs.Output.{Wrote}
 use Rattle.lx_c.specs.Options.{Options, named}
-use Rattle.lx_words.specs.CommandLine.{Asked, PlainC, PlainCheck, PlainFormWords, PlainOrder, PlainPrint, PlainShow, stored, run, scan, gen, up, check, explain, show}
+use Rattle.lx_words.specs.CommandLine.{Asked, PlainC, PlainCheck, PlainFormWords, PlainImport, PlainOrder, PlainPrint, PlainShow, stored, run, scan, gen, up, check, explain, show, imports}
 use Rattle.lx_tool.specs.Commands.{AreRulesRefused, AreWordsRefused, HasDone, HasEnded, HasFailed, HasObeyed, HasToldFailure, IsCutShort, IsFormRefused, IsPrinted, IsRefused, IsRefusedLater, files_asked, inputs_asked, names_asked, stored_specification, stored_text}
 use Rattle.lx_tool.specs.Checking.{IsChecked, IsReported, IsWarningFault}
 use Rattle.lx_tool.specs.Explaining.{IsExplained, IsUnexplained}
 use Rattle.lx_tool.specs.Given.{AreListed, IsNoTable, IsUnread}
+use Rattle.lx_tool.specs.Importing.{AreImportWordsRefused, IsNotImported, IsUnplaced}
 use Rattle.lx_tool.specs.Naming.{IsListingRefused, IsWordsFault, input_uses}
 use Rattle.lx_tool.specs.Planning.{AreBytes, ListsByRules, ListsByRulesIn, ListsByTextIn}
 use Rattle.lx_tool.specs.Showing.{HasManyStates, HasNoneShown, IsNotShown, IsShown}
@@ -115,6 +116,7 @@ module _ (old mid new : Option (List ℕ)) (kept : Keeps mid new) where
     obeyed_kept (Some (check c)) h = (record { text = h.0.text; given = h.0.given; accepted = h.0.accepted; said = h.0.said; wrote = appends_kept old mid new _ h.0.wrote kept }, h.1)
     obeyed_kept (Some (explain word)) h = (record { said = h.0.said; wrote = appends_kept old mid new _ h.0.wrote kept; begins = h.0.begins }, h.1)
     obeyed_kept (Some (show s)) h = (shown_kept s h.0, h.1)
+    obeyed_kept (Some (imports i)) h = (record { text = h.0.text; given = h.0.given; printed = h.0.printed; of_flex = h.0.of_flex; written = written_kept i.target h.0.printed h.0.written }, h.1)
 
 -- ---- refusals
 
@@ -273,6 +275,19 @@ module _ {S : Type 0} (gives : S → List ℕ → PlainInput → S → Type 0) (
   pub explain_refused : (word : Option (List ℕ)) (failure : Failure) → (status_of failure < 4 → IsUnexplained word failure × Keeps old new) → HasFailed gives (Some (explain word)) before old new failure
   explain_refused word failure h = λ low. let known = (h low).0 in
       rw known.0 (record { cause = subst (IsUnexplained word) known.0 known; tells = tt; kept = (h low).1 })
+
+  -- what flex reads wasn't brought over
+  pub import_refused : (i : PlainImport) → ((failure : Failure) → IsNotImported failure → AreRulesRefused gives before (imports i) failure) → Keeps old new →
+      (failure : Failure) → (failure ≡ Memory) ⊎ IsNotImported failure → HasFailed gives (Some (imports i)) before old new failure
+  import_refused i refused kept failure (inl h) = rw h (λ low. absurd (omega (arith, low)))
+  import_refused i refused kept failure (inr h) = rw h (λ low. record { cause = subst (AreRulesRefused gives before (imports i)) h (refused failure h); tells = tt; kept = kept })
+
+  -- or no file was made for it
+  pub import_unplaced : (i : PlainImport) (target : Option (List ℕ)) → (target ≢ None → AreImportWordsRefused i NoTargets) → (failure : Failure) → (status_of failure < 4 → Keeps old new) →
+      IsUnplaced target failure → HasFailed gives (Some (imports i)) before old new failure
+  import_unplaced i target asked failure kept (inl h) = rw h (λ low. absurd (omega (arith, low)))
+  import_unplaced i target asked failure kept (inr (inl h)) = rw h (λ low. absurd (omega (arith, low)))
+  import_unplaced i target asked failure kept (inr (inr h)) = rw h.0 (λ low. record { cause = inl (asked h.1); tells = tt; kept = (rw h.0 at kept) low })
 
   -- the stored specification was refused
   pub stored_refused : (failure : Failure) → (status_of failure < 4 → HasNoTables stored_specification failure × Keeps old new) → HasFailed gives (Some stored) before old new failure

@@ -4,10 +4,11 @@ use Rattle.std.specs.Option.{option_map_or}
 use Rattle.std.specs.Io.KnownBytes.{Keeps}
 use Rattle.lx_tables.specs.Model.{Table}
 use Rattle.lx_piece.specs.Plans.{PlainInput, max_files}
-use Rattle.lx_words.specs.CommandLine.{Asked, PlainOrder, PlainPrint, stored, run, scan, gen, up, check, explain, show}
+use Rattle.lx_words.specs.CommandLine.{Asked, PlainOrder, PlainPrint, stored, run, scan, gen, up, check, explain, show, imports}
 use Rattle.lx_tool.specs.Checking.{IsChecked, IsReported, IsWarningFault}
 use Rattle.lx_tool.specs.Explaining.{IsExplained, IsUnexplained}
 use Rattle.lx_tool.specs.Given.{AreListed, IsNoTable}
+use Rattle.lx_tool.specs.Importing.{AreImportWordsRefused, HasPlacedImport, IsBroughtOver, IsNotImported}
 use Rattle.lx_tool.specs.Naming.{AreFileNames, AreJudged, IsListingRefused, IsWordsFault, input_count, input_uses}
 use Rattle.lx_tool.specs.Planning.{ListsAsked, ListsByRules, ListsByRulesIn, ListsByTextIn}
 use Rattle.lx_tool.specs.Showing.{IsNotShown, IsShown}
@@ -66,6 +67,7 @@ HasDone gives before after old new cut (up print) = IsPrinted gives (PrintsTable
 HasDone gives before after old new cut (check c) = IsChecked gives c before after old new × (cut ≡ [])
 HasDone gives before after old new cut (explain word) = IsExplained word old new × (cut ≡ [])
 HasDone gives before after old new cut (show s) = IsShown gives s before after old new × (cut ≡ [])
+HasDone gives before after old new cut (imports i) = IsBroughtOver gives i before after old new × (cut ≡ [])
 
 -- ---- what is put into files
 
@@ -88,6 +90,7 @@ HasPlaced gives places before old new (Some stored) = new ≡ old
 HasPlaced gives places before old new (Some (check c)) = new ≡ old
 HasPlaced gives places before old new (Some (explain word)) = new ≡ old
 HasPlaced gives places before old new (Some (show s)) = new ≡ old
+HasPlaced gives places before old new (Some (imports i)) = HasPlacedImport gives places i before old new
 HasPlaced gives places before old new None = new ≡ old
 
 -- ---- why it is not
@@ -102,6 +105,7 @@ files_asked (up print) = []
 files_asked (check c) = []
 files_asked (explain word) = []
 files_asked (show s) = []
+files_asked (imports i) = []
 
 -- the names in the words of a listing: that of the specification or the tables, that of LIST, and those of the files
 abbrev pub names_of_order : PlainOrder → List (List ℕ)
@@ -117,6 +121,7 @@ names_asked (up print) = print.rules ∷ []
 names_asked (check c) = c.rules ∷ []
 names_asked (explain word) = []
 names_asked (show s) = s.rules ∷ []
+names_asked (imports i) = i.rules ∷ []
 
 -- how many of them are standard input
 abbrev pub inputs_asked : Asked → ℕ
@@ -128,6 +133,7 @@ inputs_asked (up print) = input_count print.rules
 inputs_asked (check c) = input_count c.rules
 inputs_asked (explain word) = 0
 inputs_asked (show s) = input_count s.rules
+inputs_asked (imports i) = input_count i.rules
 
 -- The sources gave the text with this name, whole, which is refused.
 pub record IsTextRefused {S : Type 0} (gives : S → List ℕ → PlainInput → S → Type 0) (Refuses : List ℕ → Type 0) (name : List ℕ) (before : S) : Type 0 where
@@ -146,6 +152,7 @@ AreRulesRefused gives before (up print) failure = IsTextRefused gives (λ text. 
 AreRulesRefused gives before (check c) failure = IsTextRefused gives (λ text. IsReported c text failure) c.rules before
 AreRulesRefused gives before (explain word) failure = IsUnexplained word failure
 AreRulesRefused gives before (show s) failure = IsTextRefused gives (λ text. IsNotShown s text failure) s.rules before
+AreRulesRefused gives before (imports i) failure = IsTextRefused gives (λ text. IsNotImported failure) i.rules before
 
 -- the words of a listing are refused
 abbrev pub AreWordsRefused : PlainOrder → Failure → Type 0
@@ -173,6 +180,7 @@ IsRefusedLater gives before (up print) failure = ⊥
 IsRefusedLater gives before (check c) failure = ⊥
 IsRefusedLater gives before (explain word) failure = ⊥
 IsRefusedLater gives before (show s) failure = ⊥
+IsRefusedLater gives before (imports i) failure = ⊥
 
 -- `-o` is given, and no files can be made
 abbrev pub IsTargetRefused : PlainPrint → RequestFault → Type 0
@@ -192,6 +200,7 @@ IsFormRefused (up print) fault = IsTargetRefused print fault ⊎ IsScannerFault 
 IsFormRefused (check c) fault = IsWarningFault fault
 IsFormRefused (explain word) fault = ⊥
 IsFormRefused (show s) fault = ⊥
+IsFormRefused (imports i) fault = AreImportWordsRefused i fault
 
 -- why what the words ask for was not done
 abbrev pub HasCause : {S : Type 0} → (S → List ℕ → PlainInput → S → Type 0) → S → Asked → Failure → Type 0

@@ -18,7 +18,7 @@ use Rattle.lx_tool.specs.declared.failure.Failure.TheVariants.{Specification, Au
 use Rattle.lx_tool.specs.declared.target.TargetFault.{TargetFault}
 use Rattle.lx_tool.specs.declared.target.TargetFault.TheVariants as target
 use Rattle.lx_tool.specs.declared.failure.PrintFault.{PrintFault}
-use Rattle.lx_tool.specs.declared.failure.PrintFault.TheVariants.{Numbers, Reserved, Declared, TooManyStates, Unexplained, Reported}
+use Rattle.lx_tool.specs.declared.failure.PrintFault.TheVariants.{Numbers, Reserved, Declared, TooManyStates, Unexplained, NotImported, Reported}
 use Rattle.lx_tool.specs.declared.failure.RequestFault.TheVariants.{NoKind, EmptyKind, NoTargets}
 
 -- the exit status of a command that is not done
@@ -42,6 +42,7 @@ report_of_print (Reserved name) = None
 report_of_print (Declared name) = None
 report_of_print (TooManyStates states) = None
 report_of_print Unexplained = None
+report_of_print NotImported = None
 report_of_print (Reported report) = Some report.items
 
 abbrev pub report_in : Failure → Option (List ℕ)

@@ -66,6 +66,8 @@ pub enum PrintFault {
     TooManyStates(u32),
     /// No code and no cause has the name that is asked for.
     Unexplained,
+    /// What flex reads can't all be brought over.
+    NotImported,
     /// A specification is refused, or has warnings that are errors, as this report says, which goes to the output.
     Reported(Vec<u8>),
 }
@@ -81,7 +83,8 @@ impl PrintFault {
             | PrintFault::Reserved(_)
             | PrintFault::Declared(_)
             | PrintFault::TooManyStates(_)
-            | PrintFault::Unexplained => None,
+            | PrintFault::Unexplained
+            | PrintFault::NotImported => None,
         }
     }
 }
@@ -99,6 +102,7 @@ impl Display for PrintFault {
                 )
             }
             PrintFault::Unexplained => f.write_str("no code and no cause has this name"),
+            PrintFault::NotImported => f.write_str("the file isn't brought over"),
             PrintFault::Reported(_) => f.write_str("the specification is refused"),
         }
     }

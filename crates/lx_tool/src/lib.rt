@@ -6,6 +6,7 @@ mod checking;
 mod explaining;
 mod failure;
 mod given;
+mod importing;
 mod merged;
 mod output;
 mod planning;

@@ -38,8 +38,8 @@ fn bytes_of(alloc: Global, word: Option<&str>) -> Result<Option<Vec<u8>>, AllocE
     }
 }
 
-// What the names of a scanner begin with.
-fn prefix_of<'a>(words: &CWords<'a>) -> &'a str
+/// What the names of a scanner begin with.
+pub(crate) fn prefix_of<'a>(words: &CWords<'a>) -> &'a str
     ensures { result.now ≡ unwrap_or (option_map (λ word. word.now) words.now.prefix) (codes "lx") }
 {
     match words.prefix {

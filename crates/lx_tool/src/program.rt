@@ -14,6 +14,7 @@ use crate::checking::check_named;
 use crate::explaining::explain_named;
 use crate::failure::{Failure, PrintFault};
 use crate::given::read_whole;
+use crate::importing::import_named;
 use crate::output::{Output, write_text};
 use crate::planning::{list_files, listings_are_by_rules};
 use crate::printing::{judge_scanner_words, named_options, print_asked};
@@ -61,6 +62,7 @@ pub fn run<R: Threads + Wait + Sync, S: Sources, O: Write, E: Write>(
         HasEnded S.gives (asked_by (words_of words.now)) sources.old sources.new (O.contents out.old) (O.contents out.new) result }
 {
     let mut list = Vec::new(alloc);
+    let mut notes = Vec::new(alloc);
     let mut targets = NoTargets;
     let ended = execute(
         rt,
@@ -69,11 +71,12 @@ pub fn run<R: Threads + Wait + Sync, S: Sources, O: Write, E: Write>(
         sources,
         &mut targets,
         &mut list,
+        &mut notes,
         LineWrites::EachLine,
         out,
     );
     let ended = say(ended, out);
-    tell(ended, sources, &targets, false, err)
+    tell(ended, &notes, sources, &targets, false, err)
 }
 
 /// The same, where files are made by `targets`, the lines of a listing are written a block of them at once, and no line tells of an output
@@ -97,6 +100,7 @@ pub fn run_with<R: Threads + Wait + Sync, S: Sources, T: Targets, O: Write + Out
         HasEnded S.gives (asked_by (words_of words.now)) sources.old sources.new (O.contents out.old) (O.contents out.new) result }
 {
     let mut list = Vec::new(alloc);
+    let mut notes = Vec::new(alloc);
     let ended = execute(
         rt,
         alloc,
@@ -104,16 +108,18 @@ pub fn run_with<R: Threads + Wait + Sync, S: Sources, T: Targets, O: Write + Out
         sources,
         targets,
         &mut list,
+        &mut notes,
         LineWrites::Whole,
         out,
     );
     let ended = say(ended, out);
-    tell(ended, sources, targets, out.is_closed(), err)
+    tell(ended, &notes, sources, targets, out.is_closed(), err)
 }
 
-// Says how it ended; the result is the exit status.
+// Says how it ended, and what else there is to be said; the result is the exit status.
 fn tell<S: Sources, T: Targets, E: Write>(
     ended: Result<Vec<&str>, Failure<'_>>,
+    notes: &[u8],
     sources: &S,
     targets: &T,
     is_closed: bool,
@@ -123,10 +129,14 @@ fn tell<S: Sources, T: Targets, E: Write>(
     ensures err { IfErr ended.entry (λ failure. result ≡ status_of failure) }
 {
     match ended {
-        Ok(cut) => tell_cut(&cut, err),
+        Ok(cut) => {
+            let _ = err.write_all(notes);
+            tell_cut(&cut, err)
+        }
         Err(failure) => {
             if !(is_closed && matches!(failure, Failure::Output)) {
                 tell_failure(&failure, sources, targets, err);
+                let _ = err.write_all(notes);
             }
             failure.status()
         }
@@ -177,8 +187,8 @@ fn tell_cut<E: Write>(cut: &[&str], err: &mut E) -> u8
     if cut.is_empty() { 0 } else { CUT_SHORT }
 }
 
-// Does what the words ask for. The text of a list of files stays in `list`, since names lie in it. The result are the names of the files that
-// were cut short.
+// Does what the words ask for. The text of a list of files stays in `list`, since names lie in it; further lines for the error stream go to `notes`.
+// The result are the names of the files that were cut short.
 fn execute<'a, R: Threads + Wait + Sync, S: Sources, T: Targets, O: Write>(
     rt: &R,
     alloc: Global,
@@ -186,6 +196,7 @@ fn execute<'a, R: Threads + Wait + Sync, S: Sources, T: Targets, O: Write>(
     sources: &mut S,
     targets: &mut T,
     list: &'a mut Vec<u8>,
+    notes: &mut Vec<u8>,
     writes: LineWrites,
     out: &mut O,
 ) -> Result<Vec<&'a str>, Failure<'a>>
@@ -194,7 +205,7 @@ fn execute<'a, R: Threads + Wait + Sync, S: Sources, T: Targets, O: Write>(
     ensures err { IfErr result (HasFailed S.gives (asked_by (words_of words.now)) sources.old (O.contents out.old) (O.contents out.new)) }
 {
     let cut = match read_words(alloc, words) {
-        Ok(order) => carry_out(rt, alloc, order, sources, targets, list, writes, out)?,
+        Ok(order) => carry_out(rt, alloc, order, sources, targets, list, notes, writes, out)?,
         Err(Refusal::Words(error)) => return Err(Failure::Words(error)),
         Err(Refusal::Memory) => return Err(Failure::Memory),
     };
@@ -246,6 +257,7 @@ fn carry_out<'a, R: Threads + Wait + Sync, S: Sources, T: Targets, O: Write>(
     sources: &mut S,
     targets: &mut T,
     list: &'a mut Vec<u8>,
+    notes: &mut Vec<u8>,
     writes: LineWrites,
     out: &mut O,
 ) -> Result<Vec<&'a str>, Failure<'a>>
@@ -282,6 +294,10 @@ fn carry_out<'a, R: Threads + Wait + Sync, S: Sources, T: Targets, O: Write>(
         }
         Request::Show(words) => {
             show_named(alloc, words, sources, out)?;
+            Ok(Vec::new(alloc))
+        }
+        Request::Import(words) => {
+            import_named(alloc, &words, sources, targets, notes, out)?;
             Ok(Vec::new(alloc))
         }
     }

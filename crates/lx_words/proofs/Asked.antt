@@ -60,7 +60,7 @@ IsKnown s = (words : List Text) → is_some (asked_of (rows_at s words)) ≡ tru
 
 all_known : Each IsKnown (built lx_app).subs
 unfolding lx_app
-all_known = (λ _. refl, (λ _. refl, (λ _. refl, (λ _. refl, (λ _. refl, (λ _. refl, (λ _. refl, tt)))))))
+all_known = (λ _. refl, (λ _. refl, (λ _. refl, (λ _. refl, (λ _. refl, (λ _. refl, (λ _. refl, (λ _. refl, tt))))))))
 
 found_known : (word : Text) (words : List Text) (subs : List Shape) → Each IsKnown subs
     → is_some (option_map (λ s. rows_at s words) (find (λ s. answers_to word (label_of s)) subs)) ≡ true

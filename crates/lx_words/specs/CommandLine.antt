@@ -19,6 +19,7 @@ use Rattle.lx_words.specs.Limits.{most_told}
 use Rattle.lx_words.specs.declared.request.CWords.{CWords}
 use Rattle.lx_words.specs.declared.request.CheckWords.{CheckWords}
 use Rattle.lx_words.specs.declared.request.FormWords.{FormWords}
+use Rattle.lx_words.specs.declared.request.ImportWords.{ImportWords}
 use Rattle.lx_words.specs.declared.request.ListRequest.{ListRequest}
 use Rattle.lx_words.specs.declared.request.ListWords.{ListWords}
 use Rattle.lx_words.specs.declared.request.PrintWords.{PrintWords}
@@ -129,6 +130,15 @@ explain_app = with_rule (new_app (codes "explain")) (new_rule (codes "WORD"))
 abbrev pub show_app : App
 show_app = with_rule (with_rule (new_app (codes "show")) (flag_rule (codes "all"))) (rules_rule (codes "RULES"))
 
+-- `-c FILE`
+abbrev pub actions_rule : Rule
+actions_rule = record (new_rule (codes "actions")) { short = Some 99; value_names = 1 }
+
+-- `[-o FILE] [-c FILE] [--prefix P] [--lossy] FLEX`
+abbrev pub import_app : App
+import_app =
+    with_rule (with_rule (with_rule (with_rule (with_rule (new_app (codes "import")) target_rule) actions_rule) (option_rule (codes "prefix") (codes "prefix"))) (flag_rule (codes "lossy"))) (rules_rule (codes "FLEX"))
+
 -- `[--names] [--only KIND,..] [--no-text] [--format FORMAT]`
 abbrev pub with_form : App → App
 with_form app =
@@ -154,7 +164,7 @@ with_listings app = with_subcommand (with_subcommand (with_subcommand (with_subc
 
 -- the commands that help to write a specification
 abbrev pub with_further : App → App
-with_further app = with_subcommand (with_subcommand (with_subcommand app check_app.top) explain_app.top) show_app.top
+with_further app = with_subcommand (with_subcommand (with_subcommand (with_subcommand app check_app.top) explain_app.top) show_app.top) import_app.top
 
 unfoldable pub lx_app : App
 lx_app = with_further (with_listings bare_app)
@@ -211,6 +221,15 @@ pub record PlainShow : Type 0 where
   pub rules : Text
   pub all : Bool
 
+-- a specification made of one for flex: the name of that, the files that get the specification and the actions, if they are given, what the names of kinds
+-- begin with, if it is given, and whether what can't be brought over is left out
+pub record PlainImport : Type 0 where
+  pub rules : Text
+  pub target : Option Text
+  pub actions : Option Text
+  pub prefix : Option Text
+  pub lossy : Bool
+
 pub data Asked : Type 0 where
   stored : Asked
   run : PlainOrder → Asked
@@ -220,6 +239,7 @@ pub data Asked : Type 0 where
   check : PlainCheck → Asked
   explain : Option Text → Asked
   show : PlainShow → Asked
+  imports : PlainImport → Asked
 
 -- the number of an option, from 1 to `most`, and `default` where it isn't given
 abbrev pub number_in : Text → ℕ → ℕ → List Row → ℕ
@@ -300,12 +320,22 @@ check_in rows = record {
 abbrev pub show_in : List Row → PlainShow
 show_in rows = record { rules = rules_in (codes "RULES") rows; all = flag_in (codes "all") rows }
 
+abbrev pub import_in : List Row → PlainImport
+import_in rows = record {
+  rules = rules_in (codes "FLEX") rows;
+  target = first_of (codes "target") rows;
+  actions = first_of (codes "actions") rows;
+  prefix = first_of (codes "prefix") rows;
+  lossy = flag_in (codes "lossy") rows;
+}
+
 -- what one of the further commands asks for
 abbrev pub further_of : Text × List Row → Option Asked
 further_of p =
     if bytes_eq p.0 (codes "check") then Some (check (check_in p.1))
     else (if bytes_eq p.0 (codes "explain") then Some (explain (first_of (codes "WORD") p.1))
-    else (if bytes_eq p.0 (codes "show") then Some (show (show_in p.1)) else None))
+    else (if bytes_eq p.0 (codes "show") then Some (show (show_in p.1))
+    else (if bytes_eq p.0 (codes "import") then Some (imports (import_in p.1)) else None)))
 
 -- what a subcommand asks for, by the rows of its arguments
 abbrev pub asked_of : Text × List Row → Option Asked
@@ -379,6 +409,15 @@ plain_check c = record {
 abbrev pub plain_show : ShowWords → PlainShow
 plain_show s = record { rules = s.rules.now; all = s.all }
 
+abbrev pub plain_import : ImportWords → PlainImport
+plain_import i = record {
+  rules = i.rules.now;
+  target = option_map (λ name. name.now) i.target;
+  actions = option_map (λ name. name.now) i.actions;
+  prefix = option_map (λ word. word.now) i.prefix;
+  lossy = i.lossy;
+}
+
 -- what a request was asked by; the help and the version are none
 abbrev pub asked_as : Request → Option Asked
 asked_as request.Stored = Some stored
@@ -390,6 +429,7 @@ asked_as (request.Up words) = Some (up (plain_print words))
 asked_as (request.Check words) = Some (check (plain_check words))
 asked_as (request.Explain word) = Some (explain (option_map (λ w. w.now) word))
 asked_as (request.Show words) = Some (show (plain_show words))
+asked_as (request.Import words) = Some (imports (plain_import words))
 
 -- ---- what that comes to, for words that are no flags
 

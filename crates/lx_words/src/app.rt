@@ -3,7 +3,7 @@
 ghost use Rattle.std.specs.Prelude.{◌≡◌, [], ◌∷◌, IfOk, codes, false};
 ghost use Rattle.clap.specs.Words.{app_of, new_rule, rule_of};
 ghost use Rattle.clap.specs.declared.builder.Command.TheViews.{out-Command as fields_of};
-ghost use Rattle.lx_words.specs.CommandLine.{check_app, explain_app, files_rule, first_rule, flag_rule, items_rule, list_app, list_rule, lx_app, most_rule, one_file_app, option_rule, quiet_rule, rules_rule, show_app, target_rule, warnings_rule, with_c, with_form, with_further, with_list, with_listings, workers_rule, zeros_rule};
+ghost use Rattle.lx_words.specs.CommandLine.{actions_rule, check_app, explain_app, files_rule, first_rule, flag_rule, import_app, items_rule, list_app, list_rule, lx_app, most_rule, one_file_app, option_rule, quiet_rule, rules_rule, show_app, target_rule, warnings_rule, with_c, with_form, with_further, with_list, with_listings, workers_rule, zeros_rule};
 
 use crate::request::MOST_TOLD;
 use crate::version::VERSION;
@@ -42,7 +42,8 @@ fn with_further<'a>(alloc: Global, command: Command<'a>) -> Result<Command<'a>, 
     command
         .subcommand(check_command(alloc)?)?
         .subcommand(explain_command(alloc)?)?
-        .subcommand(show_command(alloc)?)
+        .subcommand(show_command(alloc)?)?
+        .subcommand(import_command(alloc)?)
 }
 
 fn gen_command<'a>(alloc: Global) -> Result<Command<'a>, AllocError>
@@ -121,6 +122,19 @@ fn show_command<'a>(alloc: Global) -> Result<Command<'a>, AllocError>
         .about("Prints the automaton as a graph for Graphviz")
         .arg(all(alloc))?
         .arg(either(alloc))
+}
+
+fn import_command<'a>(alloc: Global) -> Result<Command<'a>, AllocError>
+    ensures app { IfOk result (λ command. app_of command ≡ import_app) }
+    ensures local { IfOk result (λ command. (fields_of command).has_globals ≡ false) }
+{
+    Command::new(alloc, "import")
+        .about("Prints a specification made of one for flex")
+        .arg(target(alloc))?
+        .arg(actions(alloc))?
+        .arg(kinds_prefix(alloc))?
+        .arg(lossy(alloc))?
+        .arg(flex(alloc))
 }
 
 // The options on a scanner in C.
@@ -305,6 +319,41 @@ fn target<'a>(alloc: Global) -> Arg<'a>
     Arg::new(alloc, "target").short('o').value_name("FILE").help(
         "The file that gets the text, all of it or nothing, in the place of the output",
     )
+}
+
+fn flex<'a>(alloc: Global) -> Arg<'a>
+    ensures rule { rule_of result ≡ rules_rule (codes "FLEX") }
+    ensures local { result.global ≡ false }
+{
+    Arg::new(alloc, "FLEX")
+        .help("The specification for flex")
+        .required(true)
+}
+
+fn actions<'a>(alloc: Global) -> Arg<'a>
+    ensures rule { rule_of result ≡ actions_rule }
+    ensures local { result.global ≡ false }
+{
+    Arg::new(alloc, "actions")
+        .short('c')
+        .value_name("FILE")
+        .help("The file that gets the actions in C")
+}
+
+fn kinds_prefix<'a>(alloc: Global) -> Arg<'a>
+    ensures rule { rule_of result ≡ option_rule (codes "prefix") (codes "prefix") }
+    ensures local { result.global ≡ false }
+{
+    let help = "What kinds begin with in that file, in small letters, and else lx";
+    option(alloc, "prefix", "prefix", "P", help)
+}
+
+fn lossy<'a>(alloc: Global) -> Arg<'a>
+    ensures rule { rule_of result ≡ flag_rule (codes "lossy") }
+    ensures local { result.global ≡ false }
+{
+    let help = "Leaves out what can't be brought over, in the place of a refusal";
+    flag(alloc, "lossy", help)
 }
 
 fn scanner<'a>(alloc: Global) -> Arg<'a>

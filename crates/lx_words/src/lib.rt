@@ -8,7 +8,7 @@ mod version;
 
 pub use reading::{plain_words_ask, read_words};
 pub use request::{
-    ALONE, CWords, CheckWords, FormWords, ITEMS, ListRequest, ListWords, MOST_TOLD, PrintWords,
-    Refusal, Request, ShowWords, TOLD,
+    ALONE, CWords, CheckWords, FormWords, ITEMS, ImportWords, ListRequest, ListWords, MOST_TOLD,
+    PrintWords, Refusal, Request, ShowWords, TOLD,
 };
 pub use version::VERSION;

@@ -5,12 +5,12 @@ ghost use Rattle.clap.specs.Words.{first_of, found_of, kind_of, rows_of, subcomm
 ghost use Rattle.lx_piece.specs.Plans.{max_items};
 ghost use Rattle.lx_post.specs.Claimed.{max_workers};
 ghost use Rattle.lx_words.specs.Limits.{most_told};
-ghost use Rattle.lx_words.specs.CommandLine.{IsFault, IsTold, PlainWordsAsk, asked_as, asked_by, asked_of, c_in, check_in, first_in, flag_in, form_in, further_of, items_in, list_in, most_in, request_in, plain_c, plain_check, plain_form, plain_list, plain_order, plain_print, plain_show, print_in, rules_in, show_in, values_in, workers_in, words_of};
+ghost use Rattle.lx_words.specs.CommandLine.{IsFault, IsTold, PlainWordsAsk, asked_as, asked_by, asked_of, c_in, check_in, first_in, flag_in, form_in, further_of, import_in, items_in, list_in, most_in, request_in, plain_c, plain_check, plain_form, plain_import, plain_list, plain_order, plain_print, plain_show, print_in, rules_in, show_in, values_in, workers_in, words_of};
 
 use crate::app::command;
 use crate::request::{
-    ALONE, CWords, CheckWords, FormWords, ITEMS, ListRequest, ListWords, MOST_TOLD, PrintWords,
-    Refusal, Request, ShowWords, TOLD,
+    ALONE, CWords, CheckWords, FormWords, ITEMS, ImportWords, ListRequest, ListWords, MOST_TOLD,
+    PrintWords, Refusal, Request, ShowWords, TOLD,
 };
 use clap::error::ErrorKind;
 use clap::{ArgMatches, Error};
@@ -87,7 +87,8 @@ fn further_request_of<'a>(
     match name {
         "check" => Ok(Request::Check(check_words_of(alloc, found)?)),
         "explain" => Ok(Request::Explain(value_of(found, "WORD"))),
-        _ => Ok(Request::Show(show_words_of(found))),
+        "show" => Ok(Request::Show(show_words_of(found))),
+        _ => Ok(Request::Import(import_words_of(found))),
     }
 }
 
@@ -109,6 +110,18 @@ fn show_words_of<'a>(found: &ArgMatches<'a>) -> ShowWords<'a>
     ShowWords {
         rules: rules_of(found, "RULES"),
         all: has_flag(found, "all"),
+    }
+}
+
+fn import_words_of<'a>(found: &ArgMatches<'a>) -> ImportWords<'a>
+    ensures { plain_import result ≡ import_in (rows_of (found_of found.now)) }
+{
+    ImportWords {
+        rules: rules_of(found, "FLEX"),
+        target: value_of(found, "target"),
+        actions: value_of(found, "actions"),
+        prefix: value_of(found, "prefix"),
+        lossy: has_flag(found, "lossy"),
     }
 }
 

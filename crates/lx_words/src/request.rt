@@ -41,6 +41,8 @@ pub enum Request<'a> {
     Explain(Option<&'a str>),
     /// `show`: the automaton as a graph.
     Show(ShowWords<'a>),
+    /// `import`: a specification made of one for flex.
+    Import(ImportWords<'a>),
 }
 
 /// The words of `check`.
@@ -67,6 +69,21 @@ pub struct ShowWords<'a> {
     pub rules: &'a str,
     /// `--all`: whether automata of any number of states are printed.
     pub all: bool,
+}
+
+/// The words of `import`.
+#[derive(Clone, Copy, Debug)]
+pub struct ImportWords<'a> {
+    /// The name of the specification for flex.
+    pub rules: &'a str,
+    /// `-o`: the file that gets the specification in the place of the output.
+    pub target: Option<&'a str>,
+    /// `-c`: the file that gets the actions.
+    pub actions: Option<&'a str>,
+    /// `--prefix`: what the names of kinds begin with there.
+    pub prefix: Option<&'a str>,
+    /// `--lossy`: whether what can't be brought over is left out.
+    pub lossy: bool,
 }
 
 /// The words of `gen` and of `up`.

@@ -34,6 +34,12 @@ returns-in_err-show_named-in-Show-clause-err g c =
     let p = err_from_is_err_and c.from_residual-in_err-show_named-in-Show.result c.from_residual-in_err-show_named-in-Show.ensures.1 in
     rw (p.1, p.2, c.in-Show.is) c.in_err-show_named-in-Show.ensures.err
 
+pub returns-in_err-import_named-in-Import-clause-err :
+    goal.returns-in_err-import_named-in-Import-clause-err
+returns-in_err-import_named-in-Import-clause-err g c =
+    let p = err_from_is_err_and c.from_residual-in_err-import_named-in-Import.result c.from_residual-in_err-import_named-in-Import.ensures.1 in
+    rw (p.1, p.2, c.in-Import.is) c.in_err-import_named-in-Import.ensures.err
+
 pub returns-in-Run-clause-ok : goal.returns-in-Run-clause-ok
 returns-in-Run-clause-ok g c = rw c.in-Run.is c.list_by_rules_of.ensures.ok
 

@@ -1,0 +1,142 @@
+//! What `import` prints: a specification made of one for flex.
+
+ghost use Rattle.std.specs.Prelude.{◌≡◌, ◌<◌, ◌⊎◌, [], IfOk, IfErr, OnOk, Some, option_map};
+ghost use Rattle.std.specs.Io.KnownBytes.{Keeps};
+ghost use Rattle.lx_words.specs.CommandLine.{imports, plain_c, plain_import};
+ghost use Rattle.lx_tool.specs.Commands.{HasDone, HasFailed, HasPlaced};
+ghost use Rattle.lx_tool.specs.Importing.{IsOfFlex, IsUnplaced, kinds_words};
+ghost use Rattle.lx_tool.specs.Printing.{IsPlaced, IsWritten};
+ghost use Rattle.lx_tool.specs.Statuses.{status_of};
+ghost use Rattle.lx_tool.specs.declared.failure.PrintFault.TheVariants.{NotImported};
+
+use crate::failure::{Failure, PrintFault};
+use crate::given::read_whole;
+use crate::output::write_text;
+use crate::printing::{judge_scanner_words, prefix_of};
+use crate::source::Sources;
+use crate::target::Targets;
+use lx_flex::{Fault, Imported, Options, Report, import};
+use lx_words::{CWords, ImportWords};
+use std::alloc::{AllocError, Global};
+use std::io::Write;
+
+// The words of a scanner in C whose kinds begin so.
+fn scanner_words<'a>(words: &ImportWords<'a>) -> CWords<'a>
+    ensures { plain_c result ≡ kinds_words (plain_import words.now) }
+{
+    CWords {
+        scanner: true,
+        header: false,
+        prefix: words.prefix,
+        include: None,
+    }
+}
+
+// A line: where in the file it is, how much it weighs, and what to do.
+fn push_report(notes: &mut Vec<u8>, name: &str, report: &Report) -> Result<(), AllocError> {
+    let weight = if report.fatal { "error" } else { "warning" };
+    let written = if 0 < report.line {
+        writeln!(notes, "{name}:{}: {weight}: {}", report.line, report.cause)
+    } else {
+        writeln!(notes, "{name}: {weight}: {}", report.cause)
+    };
+    // a list refuses a write for want of memory alone
+    written.map_err(|_| AllocError)
+}
+
+fn push_reports(
+    notes: &mut Vec<u8>,
+    name: &str,
+    reports: &[Report],
+) -> Result<(), AllocError> {
+    for report in reports {
+        push_report(notes, name, report)?;
+    }
+    Ok(())
+}
+
+// The specification for lx; what there is to be said of the file goes to `notes`.
+fn imported_of<'a>(
+    alloc: Global,
+    words: &ImportWords<'a>,
+    prefix: &str,
+    text: &[u8],
+    notes: &mut Vec<u8>,
+) -> Result<Imported, Failure<'a>>
+    ensures ok { IfOk result (λ imported. IsOfFlex imported.specification.items) }
+    ensures err { IfErr result (λ failure. (failure ≡ Failure.Memory) ⊎ (failure ≡ Failure.Unprintable NotImported)) }
+{
+    let options = Options {
+        lossy: words.lossy,
+        prefix: prefix.as_bytes(),
+        file: words.rules.as_bytes(),
+    };
+    match import(alloc, text, options) {
+        Ok(imported) => {
+            push_reports(notes, words.rules, &imported.reports)?;
+            Ok(imported)
+        }
+        Err(Fault::Refused(reports)) => {
+            push_reports(notes, words.rules, &reports)?;
+            Err(Failure::Unprintable(PrintFault::NotImported))
+        }
+        Err(Fault::Memory) => Err(Failure::Memory),
+    }
+}
+
+// Puts a text into a file, if there is one.
+fn place_text<'a, T: Targets>(
+    target: Option<&str>,
+    text: &[u8],
+    targets: &mut T,
+) -> Result<(), Failure<'a>>
+    ensures ok { OnOk result (IsPlaced T.places (option_map (λ name. name.now) target.entry) text.now targets.old targets.new) }
+    ensures err { IfErr result (IsUnplaced (option_map (λ name. name.now) target.entry)) }
+{
+    match target {
+        Some(name) => {
+            targets.place(name, text)?;
+            Ok(())
+        }
+        None => Ok(()),
+    }
+}
+
+// Puts a text into a file, or where there is none to the output.
+fn write_or_place<'a, T: Targets, O: Write>(
+    target: Option<&str>,
+    text: &[u8],
+    targets: &mut T,
+    out: &mut O,
+) -> Result<(), Failure<'a>>
+    ensures ok { OnOk result (IsWritten (option_map (λ name. name.now) target.entry) text.now (O.contents out.old) (O.contents out.new)) }
+    ensures placed { OnOk result (IsPlaced T.places (option_map (λ name. name.now) target.entry) text.now targets.old targets.new) }
+    ensures err { IfErr result (IsUnplaced (option_map (λ name. name.now) target.entry)) }
+    ensures kept { IfErr result (λ failure. status_of failure < 4 → Keeps (O.contents out.old) (O.contents out.new)) }
+{
+    match target {
+        Some(_) => place_text(target, text, targets),
+        None => write_text(text, out),
+    }
+}
+
+/// Prints a specification made of one for flex, and puts the actions into a file where one is named. What there is to be said of the file goes to `notes`.
+pub(crate) fn import_named<'a, S: Sources, T: Targets, O: Write>(
+    alloc: Global,
+    words: &ImportWords<'a>,
+    sources: &mut S,
+    targets: &mut T,
+    notes: &mut Vec<u8>,
+    out: &mut O,
+) -> Result<(), Failure<'a>>
+    ensures ok { OnOk result (HasDone S.gives sources.old sources.new (O.contents out.old) (O.contents out.new) [] (imports (plain_import words.now))) }
+    ensures placed { OnOk result (HasPlaced S.gives T.places sources.old targets.old targets.new (Some (imports (plain_import words.now)))) }
+    ensures err { IfErr result (HasFailed S.gives (Some (imports (plain_import words.now))) sources.old (O.contents out.old) (O.contents out.new)) }
+{
+    let kinds = scanner_words(words);
+    judge_scanner_words(alloc, &kinds)?;
+    let text = read_whole(alloc, sources, words.rules)?;
+    let imported = imported_of(alloc, words, prefix_of(&kinds), &text, notes)?;
+    place_text(words.actions, &imported.cases, targets)?;
+    write_or_place(words.target, &imported.specification, targets, out)
+}
