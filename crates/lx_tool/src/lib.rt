@@ -13,6 +13,7 @@ mod planning;
 mod printing;
 mod program;
 mod reading;
+mod remarks;
 mod showing;
 mod source;
 mod tabling;

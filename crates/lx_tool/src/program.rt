@@ -18,9 +18,10 @@ use crate::importing::import_named;
 use crate::output::{Output, write_text};
 use crate::planning::{list_files, listings_are_by_rules};
 use crate::printing::{judge_scanner_words, named_options, print_asked};
+use crate::remarks::{read_tables_named, specification_named, tables_named, tell_size};
 use crate::showing::show_named;
 use crate::source::{Sources, make_input};
-use crate::tabling::{read_tables, specification_of, tables_of, tables_of_text};
+use crate::tabling::{tables_of, tables_of_text};
 use crate::target::{NoTargets, Targets};
 use lx_lines::LineWrites;
 use lx_piece::MAX_FILES;
@@ -158,6 +159,7 @@ fn tell_failure<S: Sources, T: Targets, E: Write>(
         _ => writeln!(err, "{failure}"),
     };
     match failure {
+        Failure::Automaton(fault) => tell_size(*fault, err),
         Failure::NotRead(_) => tell_reason(sources.reason(), err),
         Failure::Output => tell_reason(targets.reason(), err),
         Failure::TooManyFiles => {
@@ -274,14 +276,18 @@ fn carry_out<'a, R: Threads + Wait + Sync, S: Sources, T: Targets, O: Write>(
             write!(out, "{text}").map_err(|_| Failure::Output)?;
             Ok(Vec::new(alloc))
         }
-        Request::Run(order) => list_by_rules_of(rt, alloc, &order, sources, list, writes, out),
-        Request::Scan(order) => list_by_tables_of(rt, alloc, &order, sources, list, writes, out),
+        Request::Run(order) => {
+            list_by_rules_of(rt, alloc, &order, sources, list, notes, writes, out)
+        }
+        Request::Scan(order) => {
+            list_by_tables_of(rt, alloc, &order, sources, list, notes, writes, out)
+        }
         Request::Gen(words) => {
-            generate_named(alloc, words, sources, targets, out)?;
+            generate_named(alloc, words, sources, targets, notes, out)?;
             Ok(Vec::new(alloc))
         }
         Request::Up(words) => {
-            upgrade_named(alloc, words, sources, targets, out)?;
+            upgrade_named(alloc, words, sources, targets, notes, out)?;
             Ok(Vec::new(alloc))
         }
         Request::Check(words) => {
@@ -293,7 +299,7 @@ fn carry_out<'a, R: Threads + Wait + Sync, S: Sources, T: Targets, O: Write>(
             Ok(Vec::new(alloc))
         }
         Request::Show(words) => {
-            show_named(alloc, words, sources, out)?;
+            show_named(alloc, words, sources, notes, out)?;
             Ok(Vec::new(alloc))
         }
         Request::Import(words) => {
@@ -338,6 +344,7 @@ fn list_by_rules_of<'a, R: Threads + Wait + Sync, S: Sources, O: Write>(
     order: &ListRequest<'a>,
     sources: &mut S,
     list: &'a mut Vec<u8>,
+    notes: &mut Vec<u8>,
     writes: LineWrites,
     out: &mut O,
 ) -> Result<Vec<&'a str>, Failure<'a>>
@@ -347,7 +354,7 @@ fn list_by_rules_of<'a, R: Threads + Wait + Sync, S: Sources, O: Write>(
     items_are_by_rules();
     judge_words(order)?;
     let text = read_whole(alloc, sources, order.rules)?;
-    let tables = tables_of_text(alloc, &text)?;
+    let tables = tables_named(alloc, order.rules, &text, notes)?;
     // its contract says what holds of all tables
     let _conditions = tables.conditions();
     list_asked(rt, alloc, tables, order, sources, list, writes, out)
@@ -360,6 +367,7 @@ fn list_by_tables_of<'a, R: Threads + Wait + Sync, S: Sources, O: Write>(
     order: &ListRequest<'a>,
     sources: &mut S,
     list: &'a mut Vec<u8>,
+    notes: &mut Vec<u8>,
     writes: LineWrites,
     out: &mut O,
 ) -> Result<Vec<&'a str>, Failure<'a>>
@@ -368,7 +376,7 @@ fn list_by_tables_of<'a, R: Threads + Wait + Sync, S: Sources, O: Write>(
 {
     judge_words(order)?;
     let text = read_whole(alloc, sources, order.rules)?;
-    let tables = read_tables(alloc, &text)?;
+    let tables = read_tables_named(alloc, &text, notes)?;
     list_asked(rt, alloc, tables, order, sources, list, writes, out)
 }
 
@@ -378,6 +386,7 @@ fn generate_named<'a, S: Sources, T: Targets, O: Write>(
     words: PrintWords<'a>,
     sources: &mut S,
     targets: &mut T,
+    notes: &mut Vec<u8>,
     out: &mut O,
 ) -> Result<(), Failure<'a>>
     ensures ok { OnOk result (HasDone S.gives sources.old sources.new (O.contents out.old) (O.contents out.new) [] (gen-asked (plain_print words.entry))) }
@@ -386,7 +395,7 @@ fn generate_named<'a, S: Sources, T: Targets, O: Write>(
 {
     judge_scanner_words(alloc, &words.c)?;
     let text = read_whole(alloc, sources, words.rules)?;
-    let spec = specification_of(alloc, &text)?;
+    let spec = specification_named(alloc, words.rules, &text, notes)?;
     let tables = tables_of(alloc, &spec)?;
     let options = named_options(alloc, &words.c, &spec)?;
     print_asked(alloc, &words, &options, &tables, targets, out)
@@ -398,6 +407,7 @@ fn upgrade_named<'a, S: Sources, T: Targets, O: Write>(
     words: PrintWords<'a>,
     sources: &mut S,
     targets: &mut T,
+    notes: &mut Vec<u8>,
     out: &mut O,
 ) -> Result<(), Failure<'a>>
     ensures ok { OnOk result (HasDone S.gives sources.old sources.new (O.contents out.old) (O.contents out.new) [] (up-asked (plain_print words.entry))) }
@@ -406,6 +416,6 @@ fn upgrade_named<'a, S: Sources, T: Targets, O: Write>(
 {
     let options = judge_scanner_words(alloc, &words.c)?;
     let text = read_whole(alloc, sources, words.rules)?;
-    let tables = read_tables(alloc, &text)?;
+    let tables = read_tables_named(alloc, &text, notes)?;
     print_asked(alloc, &words, &options, &tables, targets, out)
 }

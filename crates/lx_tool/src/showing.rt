@@ -12,8 +12,9 @@ use crate::failure::{Failure, PrintFault};
 use crate::given::read_whole;
 use crate::output::write_text;
 use crate::printing::names_of;
+use crate::remarks::{read_tables_named, specification_named};
 use crate::source::Sources;
-use crate::tabling::{read_tables, specification_of, tables_of};
+use crate::tabling::tables_of;
 use lx_show::graph_of;
 use lx_tables::Tables;
 use lx_words::ShowWords;
@@ -38,25 +39,35 @@ fn begins_as_tables(text: &[u8]) -> bool
 }
 
 // The tables of a specification, and the names of its conditions.
-fn shown_of_specification<'a>(alloc: Global, text: &[u8]) -> Result<Shown, Failure<'a>>
+fn shown_of_specification<'a>(
+    alloc: Global,
+    name: &str,
+    text: &[u8],
+    notes: &mut Vec<u8>,
+) -> Result<Shown, Failure<'a>>
     requires { begins_as_tables text.now ≡ false }
     ensures ok { IfOk result (λ shown. AreShown text.now shown.tables (names_view shown.names.items)) }
     ensures err { IfErr result (λ failure. HasNoneShown text.now failure) }
 {
-    let spec = specification_of(alloc, text)?;
+    let spec = specification_named(alloc, name, text, notes)?;
     let tables = tables_of(alloc, &spec)?;
     let names = names_of(alloc, &spec.conditions)?;
     Ok(Shown { tables, names })
 }
 
-fn shown_of<'a>(alloc: Global, text: &[u8]) -> Result<Shown, Failure<'a>>
+fn shown_of<'a>(
+    alloc: Global,
+    name: &str,
+    text: &[u8],
+    notes: &mut Vec<u8>,
+) -> Result<Shown, Failure<'a>>
     ensures ok { IfOk result (λ shown. AreShown text.now shown.tables (names_view shown.names.items)) }
     ensures err { IfErr result (λ failure. HasNoneShown text.now failure) }
 {
     if !begins_as_tables(text) {
-        return shown_of_specification(alloc, text);
+        return shown_of_specification(alloc, name, text, notes);
     }
-    let tables = read_tables(alloc, text)?;
+    let tables = read_tables_named(alloc, text, notes)?;
     let names = Vec::new(alloc);
     Ok(Shown { tables, names })
 }
@@ -77,13 +88,14 @@ pub(crate) fn show_named<'a, S: Sources, O: Write>(
     alloc: Global,
     words: ShowWords<'a>,
     sources: &mut S,
+    notes: &mut Vec<u8>,
     out: &mut O,
 ) -> Result<(), Failure<'a>>
     ensures ok { OnOk result (HasDone S.gives sources.old sources.new (O.contents out.old) (O.contents out.new) [] (show-asked (plain_show words.entry))) }
     ensures err { IfErr result (HasFailed S.gives (Some (show-asked (plain_show words.entry))) sources.old (O.contents out.old) (O.contents out.new)) }
 {
     let text = read_whole(alloc, sources, words.rules)?;
-    let shown = shown_of(alloc, &text)?;
+    let shown = shown_of(alloc, words.rules, &text, notes)?;
     judge_size(&words, &shown.tables)?;
     let graph = graph_of(alloc, &shown.tables, &shown.names)?;
     write_text(&graph, out)
