@@ -62,8 +62,14 @@ pub record FilesHave {S : Type 0} (gives : S → List ℕ → PlainInput → S �
   pub named : AreFileNames gives order before after names
   pub have : Have names
 
--- What holds of the names of files that are listed: there is one, standard input is read once at most, and each file has a number.
+-- `--format` isn't given, or is a word that is known
+abbrev pub IsKnownFormat : Option (List ℕ) → Type 0
+IsKnownFormat None = ⊤
+IsKnownFormat (Some word) = (word ≡ codes "json") ⊎ (word ≡ codes "text")
+
+-- What holds of the words and of the names of files that are listed: the form is known, there is a name, standard input is read once at most, and each file has a number.
 pub record AreJudged (order : PlainOrder) (names : List (List ℕ)) : Type 0 where
+  pub format : IsKnownFormat order.form.format
   pub some : 0 < length names
   pub inputs : input_uses order names ≤ 1
   pub numbers : order.form.first + length names ≤ max_number + 1

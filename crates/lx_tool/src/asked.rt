@@ -6,7 +6,7 @@ ghost use Rattle.lx_piece.specs.Plans.{max_files};
 ghost use Rattle.lx_forms.specs.Views.{form_view};
 ghost use Rattle.lx_words.specs.CommandLine.{plain_form, plain_list, plain_order};
 ghost use Rattle.lx_tool.specs.Commands.{AreListedAs, AreWordsRefused};
-ghost use Rattle.lx_tool.specs.Naming.{AreFileNames, AreJudged, AreListNames, AreNamesRefused, AreNamesUnread, IsFormatFault, IsListingRefused, IsListRefused, IsOnly, IsOnlyRefused, format_by, input_count, input_uses, inputs_among, list_input};
+ghost use Rattle.lx_tool.specs.Naming.{AreFileNames, AreJudged, AreListNames, AreNamesRefused, AreNamesUnread, IsFormatFault, IsKnownFormat, IsListingRefused, IsListRefused, IsOnly, IsOnlyRefused, format_by, input_count, input_uses, inputs_among, list_input};
 ghost use Rattle.lx_tool.specs.Sources.{texts_of};
 ghost use Rattle.lx_tool.specs.Statuses.{HidesNoMemory, status_of};
 
@@ -68,6 +68,7 @@ fn is_input_twice(order: &ListRequest<'_>, names: &[&str]) -> bool
 
 // Refuses a format that isn't known.
 fn judge_format<'a>(words: &FormWords<'a>) -> Result<(), RequestFault<'a>>
+    ensures ok { OnOk result (IsKnownFormat (plain_form words.now).format) }
     ensures err { IfErr result (IsFormatFault (plain_form words.now)) }
 {
     match words.format {
@@ -79,6 +80,7 @@ fn judge_format<'a>(words: &FormWords<'a>) -> Result<(), RequestFault<'a>>
 /// Refuses words that ask for too many files, for none, for standard input twice, or for a format that isn't known.
 pub(crate) fn judge_words<'a>(order: &ListRequest<'a>) -> Result<(), Failure<'a>>
     ensures ok { OnOk result (length order.now.files.items ≤ max_files) }
+    ensures format { OnOk result (IsKnownFormat (plain_order order.now).form.format) }
     ensures err { IfErr result (λ failure. AreWordsRefused (plain_order order.now) failure) }
 {
     if order.files.len() > MAX_FILES {
@@ -98,7 +100,8 @@ pub(crate) fn judge_words<'a>(order: &ListRequest<'a>) -> Result<(), Failure<'a>
 
 // Refuses no names at all, standard input named twice, and numbers that are too large.
 fn judge_names<'a>(order: &ListRequest<'a>, names: &[&str]) -> Result<(), Failure<'a>>
-    requires { length names.now ≤ max_files }
+    requires few { length names.now ≤ max_files }
+    requires format { IsKnownFormat (plain_order order.now).form.format }
     ensures ok { OnOk result (AreJudged (plain_order order.now) (texts_of names.now)) }
     ensures err { IfErr result (AreNamesRefused (plain_order order.now) (texts_of names.now)) }
 {
@@ -207,7 +210,8 @@ pub(crate) fn list_asked<'a, R: Threads + Wait + Sync, S: Sources, O: Write>(
     writes: LineWrites,
     out: &mut O,
 ) -> Result<Vec<&'a str>, Failure<'a>>
-    requires { length order.now.files.items ≤ max_files }
+    requires few { length order.now.files.items ≤ max_files }
+    requires format { IsKnownFormat (plain_order order.now).form.format }
     ensures ok { IfOk result (λ cut. AreListedAs S.gives (plain_order order.now) tables sources.old sources.new (O.contents out.old) (O.contents out.new) (texts_of cut.items)) }
     ensures err { IfErr result (λ failure. status_of failure < 4 → IsListingRefused S.gives (plain_order order.now) tables sources.old failure × HidesNoMemory failure × Keeps (O.contents out.old) (O.contents out.new)) }
 {
