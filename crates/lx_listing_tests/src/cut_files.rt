@@ -169,9 +169,15 @@ fn other_faults_come_before_cut_files(rt: HostRuntime) -> Result<(), AllocError>
                 &["a"],
                 1,
                 "",
-                "lx: E10 at line 2\n",
+                "lx: E10 at line 2\nlx: refused:2:2: r/s is not read, but for r/\\n\nlx: lx check refused says more\n",
             ),
-            (&["scan", "S", "a"], &["a"], 1, "", "lx: B01\n"),
+            (
+                &["scan", "S", "a"],
+                &["a"],
+                1,
+                "",
+                "lx: B01\nlx: the text is a specification\n",
+            ),
         ],
     )
 }
