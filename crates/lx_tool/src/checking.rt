@@ -70,6 +70,14 @@ fn is_refused(report: &Report) -> bool
     }
 }
 
+// The number of the version, which is its first word.
+fn version_number() -> &'static str {
+    match VERSION.split(" ").next() {
+        Some(number) => number,
+        None => VERSION,
+    }
+}
+
 // What is to be said of a text, of which this is the report.
 fn said_by(
     alloc: Global,
@@ -87,7 +95,7 @@ fn said_by(
         never_entered: warnings.never_entered,
     };
     if words.json {
-        sarif_of(alloc, &style, VERSION.as_bytes(), text, report)
+        sarif_of(alloc, &style, version_number().as_bytes(), text, report)
     } else {
         report_of(alloc, &style, text, report)
     }
