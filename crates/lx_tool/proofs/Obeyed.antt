@@ -289,6 +289,11 @@ module _ {S : Type 0} (gives : S → List ℕ → PlainInput → S → Type 0) (
   import_unplaced i target asked failure kept (inr (inl h)) = rw h (λ low. absurd (omega (arith, low)))
   import_unplaced i target asked failure kept (inr (inr h)) = rw h.0 (λ low. record { cause = inl (asked h.1); tells = tt; kept = (rw h.0 at kept) low })
 
+  pub import_unwritten : {V : Type 0} (i : PlainImport) (target : Option (List ℕ)) → (target ≢ None → AreImportWordsRefused i NoTargets) → (ended : Result V Failure) →
+      IfErr ended (IsUnplaced target) → IfErr ended (λ failure. status_of failure < 4 → Keeps old new) → IfErr ended (HasFailed gives (Some (imports i)) before old new)
+  import_unwritten i target asked (Ok v) h k = tt
+  import_unwritten i target asked (Err failure) h k = import_unplaced i target asked failure k h
+
   -- the stored specification was refused
   pub stored_refused : (failure : Failure) → (status_of failure < 4 → HasNoTables stored_specification failure × Keeps old new) → HasFailed gives (Some stored) before old new failure
   stored_refused failure h = λ low. rules_refused stored (HasNoTables stored_specification) (λ f r. r) (no_tables_tells stored_specification) (h low).1 (λ r. absurd r) (λ r. absurd r) (λ fault r. absurd r) (λ name r. absurd r) (λ error r. absurd r) failure (h low).0 low
