@@ -1,7 +1,8 @@
-use Rattle.std.proofs.Common.{inl, inr, refl}
+use Rattle.std.proofs.Common.{inl, inr, refl, subst}
 use Rattle.std.proofs.lemmas.Result.{err_from_is_err_and, on_ok_weaker}
-use Rattle.lx_words.specs.CommandLine.{imports, plain_import}
+use Rattle.lx_words.specs.CommandLine.{PlainC, imports, plain_import}
 use Rattle.lx_tool.specs.Importing.{IsOfFlex, kinds_words}
+use Rattle.lx_tool.specs.Printing.{AreScannerWordsRefused}
 use Rattle.lx_tool.proofs.Obeyed.{import_refused, import_unplaced, import_unwritten, keeps_itself, scanner_refused}
 use Rattle.lx_tool.proofs.importing.import_named.Goals as goal
 
@@ -10,7 +11,7 @@ returns-in_err-judge_scanner_words-clause-err g c =
     let p = err_from_is_err_and c.from_residual.result c.from_residual.ensures.1 in
     let i = plain_import c.args.words.now in
     let held = g.O.Write.contents c.args.out.now in
-    rw (p.1, p.2) (scanner_refused g.S.Sources.gives c.args.sources.now held held (imports i) (kinds_words i) (λ fault h. inr h) (keeps_itself held) c.in_err-judge_scanner_words.field-0.0 (rw c.scanner_words-kinds.ensures at c.in_err-judge_scanner_words.ensures.err))
+    rw (p.1, p.2) (scanner_refused g.S.Sources.gives c.args.sources.now held held (imports i) (kinds_words i) (λ fault h. inr h) (keeps_itself held) c.in_err-judge_scanner_words.field-0.0 (subst (λ (words : PlainC). AreScannerWordsRefused words c.in_err-judge_scanner_words.field-0.0) c.scanner_words-kinds.ensures c.in_err-judge_scanner_words.ensures.err))
 
 pub returns-in_err-imported-clause-err : goal.returns-in_err-imported-clause-err
 returns-in_err-imported-clause-err g c =
