@@ -106,6 +106,7 @@ fn read_word<'a>(
     text: &'a [u8],
     options: &mut Options,
     unknown: &mut bool,
+    left_out: &mut bool,
 ) -> Result<&'a [u8], AllocError> {
     let mark = mark_length(text);
     if mark != 0 {
@@ -117,7 +118,9 @@ fn read_word<'a>(
     match changed(*options, word, on) {
         Some(next) => *options = next,
         None => {
-            if !is_harmless(alloc, word)? {
+            if is_harmless(alloc, word)? {
+                *left_out = true;
+            } else {
                 *unknown = true;
             }
         }
@@ -135,15 +138,19 @@ pub(crate) fn read_options(
     let line = cursor.line_rest();
     let mut rest = line;
     let mut unknown = false;
+    let mut left_out = false;
     for _ in line {
         rest = skip(blank_run(rest), rest);
         if rest.is_empty() {
             break;
         }
-        rest = read_word(alloc, rest, options, &mut unknown)?;
+        rest = read_word(alloc, rest, options, &mut unknown, &mut left_out)?;
     }
     if unknown {
         reports.add(cursor.line, Cause::UnknownOption, true)?;
+    }
+    if left_out && !reports.has(Cause::OptionsLeftOut) {
+        reports.add(cursor.line, Cause::OptionsLeftOut, false)?;
     }
     cursor.skip_line();
     Ok(())

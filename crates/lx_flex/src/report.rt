@@ -20,6 +20,8 @@ pub enum Cause {
     TooMany,
     #[error("flex has no such %option; delete the word")]
     UnknownOption,
+    #[error("words of %option that change no token are left out")]
+    OptionsLeftOut,
     #[error("flex reads no rule here; write a pattern, blanks and an action")]
     BadRule,
     #[error("the start condition isn't declared; declare it with %s or %x")]
@@ -122,6 +124,11 @@ pub(crate) struct Reports {
 }
 
 impl Reports {
+    /// Whether there is a report with this cause.
+    pub(crate) fn has(&self, cause: Cause) -> bool {
+        self.list.iter().any(|report| report.cause == cause)
+    }
+
     /// Adds a report; those above the limit count, and aren't kept.
     pub(crate) fn add(&mut self, line: u32, cause: Cause, fatal: bool) -> Result<(), AllocError> {
         self.fatal = self.fatal || fatal;
