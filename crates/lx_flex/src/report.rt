@@ -129,11 +129,23 @@ impl Reports {
         self.list.iter().any(|report| report.cause == cause)
     }
 
-    /// Adds a report; those above the limit count, and aren't kept.
+    /// Behind how many reports one of this line comes.
+    fn place_of(&self, line: u32) -> usize {
+        let mut place: usize = 0;
+        for report in self.list.as_slice() {
+            if report.line <= line {
+                place = place.saturating_add(1);
+            }
+        }
+        place
+    }
+
+    /// Adds a report, behind those of its line and of earlier ones; those above the limit count, and aren't kept.
     pub(crate) fn add(&mut self, line: u32, cause: Cause, fatal: bool) -> Result<(), AllocError> {
         self.fatal = self.fatal || fatal;
         if self.list.len() < MAX_REPORTS {
-            self.list.push(Report { line, cause, fatal })?;
+            let at = self.place_of(line).min(self.list.len());
+            self.list.insert(at, Report { line, cause, fatal })?;
         }
         Ok(())
     }
