@@ -44,11 +44,7 @@ fn push_report(notes: &mut Vec<u8>, name: &str, report: &Report) -> Result<(), A
     written.map_err(|_| AllocError)
 }
 
-fn push_reports(
-    notes: &mut Vec<u8>,
-    name: &str,
-    reports: &[Report],
-) -> Result<(), AllocError> {
+fn push_reports(notes: &mut Vec<u8>, name: &str, reports: &[Report]) -> Result<(), AllocError> {
     for report in reports {
         push_report(notes, name, report)?;
     }

@@ -53,13 +53,7 @@ fn push_table_cause(alloc: Global, text: &[u8], notes: &mut Vec<u8>) -> Result<(
 }
 
 // Adds the cause of a specification's fault. Where memory is refused for it, it is left out.
-fn note_cause(
-    alloc: Global,
-    name: &str,
-    text: &[u8],
-    failure: &Failure<'_>,
-    notes: &mut Vec<u8>,
-) {
+fn note_cause(alloc: Global, name: &str, text: &[u8], failure: &Failure<'_>, notes: &mut Vec<u8>) {
     if let Failure::Specification(fault) = failure {
         if push_cause(alloc, name, text, *fault, notes).is_err() {
             notes.clear();
@@ -126,5 +120,9 @@ pub(crate) fn tell_size<E: Write>(fault: BuildFault, err: &mut E) {
         BuildFault::TooManySets => "E31",
         BuildFault::Memory => return,
     };
-    let _ = writeln!(err, "lx: {}\nlx: lx explain {code} says more", words_of(code));
+    let _ = writeln!(
+        err,
+        "lx: {}\nlx: lx explain {code} says more",
+        words_of(code)
+    );
 }
