@@ -23,13 +23,13 @@ mod pattern_cause;
 pub mod phrases;
 pub mod places;
 mod prefix_cause;
-mod scan;
+pub mod scan;
 mod section_cause;
 mod similar;
 pub mod table_text;
 pub mod topic;
 pub mod wording;
-mod words;
+pub mod words;
 
 pub use crate::causes::Cause;
 pub use crate::diagnosing::{Diagnosis, diagnose};

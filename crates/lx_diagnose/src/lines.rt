@@ -93,7 +93,7 @@ pub(crate) fn line_number(text: &[u8], at: usize) -> u32 {
 }
 
 /// Where a part of the text stands.
-pub(crate) fn place_of(text: &[u8], span: Span) -> Place
+pub fn place_of(text: &[u8], span: Span) -> Place
     ensures { specs.IsInText text.now result }
 {
     place_in(text, line_number(text, span.start), span)

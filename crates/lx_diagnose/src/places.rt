@@ -25,7 +25,7 @@ pub struct Place {
 }
 
 /// The bytes from a place up to another.
-pub(crate) fn between(start: usize, end: usize) -> Span {
+pub fn between(start: usize, end: usize) -> Span {
     Span {
         start,
         len: end.saturating_sub(start),
@@ -33,6 +33,6 @@ pub(crate) fn between(start: usize, end: usize) -> Span {
 }
 
 /// One byte.
-pub(crate) fn one_byte(start: usize) -> Span {
+pub fn one_byte(start: usize) -> Span {
     Span { start, len: 1 }
 }

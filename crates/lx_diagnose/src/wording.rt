@@ -17,7 +17,7 @@ const MAX_NAME_BYTES: usize = 64;
 
 /// What is put into a phrase.
 #[derive(Clone, Copy)]
-pub(crate) struct Fillings<'t> {
+pub struct Fillings<'t> {
     pub name: &'t [u8],
     pub other: &'t [u8],
     pub line: u32,
@@ -137,7 +137,7 @@ pub(crate) fn printed(alloc: Global, bytes: &[u8]) -> Result<Vec<u8>, AllocError
 }
 
 /// A phrase with what is put into it.
-pub(crate) fn filled(
+pub fn filled(
     alloc: Global,
     phrase: &[u8],
     fillings: &Fillings,
@@ -151,7 +151,7 @@ pub(crate) fn filled(
 }
 
 /// The words, or a `?` where there are none.
-pub(crate) fn told(mut words: Vec<u8>) -> Result<Vec<u8>, AllocError>
+pub fn told(mut words: Vec<u8>) -> Result<Vec<u8>, AllocError>
     requires { ArePrinted words.items }
     ensures printed { IfOk result (λ told. ArePrinted told.items) }
     ensures some { IfOk result (λ told. 0 < length told.items) }

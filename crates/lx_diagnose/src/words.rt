@@ -8,7 +8,7 @@ use std::alloc::{AllocError, Global};
 
 /// The words of an action, where each stands, and where the text stops being words, if it does.
 #[derive(Drop)]
-pub(crate) struct PlacedWords<'t> {
+pub struct PlacedWords<'t> {
     pub words: Vec<Word<'t>>,
     pub places: Vec<Span>,
     pub stop: Option<usize>,
@@ -24,7 +24,7 @@ fn behind_return<'t>(text: &[u8], at: usize, rest: &'t [u8]) -> Option<&'t [u8]>
 }
 
 /// The words of an action.
-pub(crate) fn words_of<'t>(
+pub fn words_of<'t>(
     alloc: Global,
     text: &'t [u8],
     action: Span,

@@ -519,4 +519,79 @@ carriage-returns (B01)
 
 cut-tables (B01)
     the text is cut short
-    To do: copy it whole; its last line is end"#;
+    To do: copy it whole; its last line is end
+
+
+warning
+    something is suspicious about a specification that is accepted; lx check says so
+    To do: write what is meant, or switch the warning off: by -W no-NAME, or by a comment on the line before, indented: /* lx: allow NAME */
+
+condition-word (warning)
+    a word behind % begins with s or x, so the line declares conditions
+    To do: write %s or %x where they are meant; such a word of another tool is none of lex
+
+never-entered (warning)
+    no rule that is chosen enters the condition
+    To do: write BEGIN with its name in a rule, or delete the condition and its rules
+
+unused-definition (warning)
+    no rule reaches the definition
+    To do: delete it, or use its name in braces
+
+never-chosen (warning)
+    no text has the rule as its choice: each of its matches gives way to a longer one or to a rule before it, or is empty
+    To do: put it before the rule that takes its texts, or delete it
+
+interval (warning)
+    an interval repeats all that stands before it in its branch, and in flex the last unit alone
+    To do: put what it is to repeat in parentheses: (b{2}) or (ab){2}
+    As in: ab{2} return A;
+
+lazy (warning)
+    a ? behind a repeat is no lazy repeat: the longest text is taken
+    To do: leave the ? out, and say by the pattern where the text ends
+    As in: a*? return A;
+
+letter-escape (warning)
+    a backslash stands before a letter or digit that has no escape of its own, and stands for that letter or digit
+    To do: write brackets where a class is meant: [0-9], or leave the backslash out
+    As in: \d+ return NUM;
+
+long-hex (warning)
+    a number behind \x has three digits or more, which are all of it
+    To do: where two digits are meant, put what stands behind them in quotes of its own
+    As in: \x041 return A;
+
+many-bytes (warning)
+    a character of several bytes stands in brackets, which take one of the bytes, or before a repeat, which repeats the last one
+    To do: write alternatives, as (a|b), and put the character in quotes before a repeat
+    As in: é+ return E;
+
+curly-quotes (warning)
+    a curly quotation mark is three bytes, and quotes nothing
+    To do: write plain quotes
+    As in: “a” return A;
+
+class-outside (warning)
+    a class stands without the brackets round it, and is brackets that take one of its bytes
+    To do: write [[:alpha:]]
+    As in: [:alpha:] return A;
+
+wide-range (warning)
+    a range goes from a capital letter to a small one, or from a digit to a letter, and takes what stands between them
+    To do: write A-Za-z, or 0-9A-Za-z
+    As in: [A-z]+ return ID;
+
+dead-statement (warning)
+    a statement stands behind a return of its action, and is never done
+    To do: put it before the return, or delete it
+    As in: a { return A; ECHO; }
+
+skipped-rule (warning)
+    a line of Rules looks like a rule, and begins with a blank, so it is skipped
+    To do: begin it at the margin
+    As in:  a return A;
+
+skipped-line (warning)
+    a line behind the second %% looks like a rule, and is skipped
+    To do: put it before that line"#;

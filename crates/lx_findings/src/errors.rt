@@ -5,38 +5,14 @@ ghost use Rattle.lx_diagnose.specs.Causes as diagnose;
 ghost use Rattle.lx_diagnose.specs.CodeWords.{word_of};
 ghost use Rattle.lx_findings.specs.Said.{Extends, TellsFault, code_of, line_of};
 
-use crate::pieces::{place_of, push_line, push_note};
+use crate::pieces::{place_of, push_line, push_note, push_source};
 use crate::style::Style;
 use lx_check::Finding;
-use lx_diagnose::{
-    Diagnosis, Place as TextPlace, code_word, diagnose, hint, line_bytes, note_words, sentence,
-};
+use lx_diagnose::{Diagnosis, code_word, diagnose, hint, note_words, sentence};
 use lx_explain::{to_do, words_of};
-use lx_report::{Place, Severity, push_marked};
+use lx_report::{Place, Severity};
 use lx_spec::SpecFault;
 use std::alloc::{AllocError, Global};
-
-// The line of the source, with a mark, where the column is known.
-fn push_source(
-    alloc: Global,
-    text: &mut Vec<u8>,
-    source: &[u8],
-    place: &TextPlace,
-) -> Result<(), AllocError>
-    ensures { OnOk result (Extends text.old.items text.new.items) }
-{
-    if place.line == 0 || place.column == 0 {
-        return Ok(());
-    }
-    push_marked(
-        alloc,
-        text,
-        u64::from(place.line),
-        place.column,
-        place.width,
-        line_bytes(source, place.line),
-    )
-}
 
 // The second place that belongs to a fault.
 fn push_second(

@@ -4,9 +4,9 @@ ghost use Rattle.std.specs.Prelude.{◌≡◌, ◌++◌, OnOk};
 ghost use Rattle.lx_findings.specs.Said.{Extends};
 ghost use Rattle.lx_report.specs.Lines.{finding_line};
 
-use lx_diagnose::Place as TextPlace;
-use lx_report::{Finding, Place, Severity, push_finding, push_number};
-use std::alloc::AllocError;
+use lx_diagnose::{Place as TextPlace, line_bytes};
+use lx_report::{Finding, Place, Severity, push_finding, push_marked, push_number};
+use std::alloc::{AllocError, Global};
 
 /// Bytes behind a text.
 pub(crate) fn push(text: &mut Vec<u8>, bytes: &[u8]) -> Result<(), AllocError>
@@ -75,4 +75,26 @@ pub(crate) fn push_count(
     } else {
         push(text, more)
     }
+}
+
+/// The line of the source, with a mark, where the column is known.
+pub(crate) fn push_source(
+    alloc: Global,
+    text: &mut Vec<u8>,
+    source: &[u8],
+    place: &TextPlace,
+) -> Result<(), AllocError>
+    ensures { OnOk result (Extends text.old.items text.new.items) }
+{
+    if place.line == 0 || place.column == 0 {
+        return Ok(());
+    }
+    push_marked(
+        alloc,
+        text,
+        u64::from(place.line),
+        place.column,
+        place.width,
+        line_bytes(source, place.line),
+    )
 }

@@ -3,12 +3,13 @@
 use crate::pieces::{place_of, push};
 use crate::saying::Said;
 use crate::style::Style;
-use crate::warnings::{Warning, place_of_warning, warnings_of};
+use crate::warnings::warnings_in;
 use lx_check::{Accepted, Finding as Fault, Report};
-use lx_diagnose::{code_word, diagnose, name_of, sentence};
+use lx_diagnose::{code_word, diagnose, name_of as name_of_cause, sentence};
 use lx_explain::words_of;
 use lx_report::{Finding, Place, Severity, push_result, push_sarif_end, push_sarif_start};
 use lx_spec::SpecFault;
+use lx_warnings::{Warning, name_of};
 use std::alloc::{AllocError, Global};
 
 fn push_fault_result(
@@ -25,7 +26,7 @@ fn push_fault_result(
         place: place_of(&diagnosis.place),
         code: code_word(diagnosis.cause).as_bytes(),
         words: &words,
-        name: name_of(diagnosis.cause).as_bytes(),
+        name: name_of_cause(diagnosis.cause).as_bytes(),
     };
     push_result(text, style.file, &finding)
 }
@@ -66,10 +67,10 @@ fn push_warning_result(
 ) -> Result<(), AllocError> {
     let finding = Finding {
         severity: Severity::Warning,
-        place: place_of_warning(warning),
+        place: place_of(&warning.place),
         code: b"",
         words: &warning.words,
-        name: warning.name.as_bytes(),
+        name: name_of(warning.kind).as_bytes(),
     };
     push_result(text, style.file, &finding)
 }
@@ -101,14 +102,15 @@ fn push_warning_results(
     alloc: Global,
     text: &mut Vec<u8>,
     style: &Style<'_>,
+    source: &[u8],
     accepted: &Accepted,
 ) -> Result<usize, AllocError> {
-    let warnings = warnings_of(alloc, style, accepted)?;
-    for i in 0..warnings.len() {
+    let warnings = warnings_in(alloc, style, source, accepted)?;
+    for i in 0..warnings.told.len() {
         push_comma(text, i)?;
-        push_warning_result(text, style, &warnings[i])?;
+        push_warning_result(text, style, &warnings.told[i])?;
     }
-    Ok(warnings.len())
+    Ok(warnings.count)
 }
 
 /// What is said of a text of a specification, of which this is the report, as SARIF 2.1.0 by this version of the program. Err: memory was refused.
@@ -126,7 +128,9 @@ pub fn sarif_of(
             push_error_results(alloc, &mut text, style, source, faults)?;
             0
         }
-        Report::Accepted(accepted) => { push_warning_results(alloc, &mut text, style, accepted)? }
+        Report::Accepted(accepted) => {
+            push_warning_results(alloc, &mut text, style, source, accepted)?
+        }
     };
     push_sarif_end(&mut text)?;
     Ok(Said { text, warnings })

@@ -82,7 +82,7 @@ pub fn report_of(
             push_errors(alloc, &mut text, style, source, findings)?;
             0
         }
-        Report::Accepted(accepted) => push_accepted(alloc, &mut text, style, accepted)?,
+        Report::Accepted(accepted) => push_accepted(alloc, &mut text, style, source, accepted)?,
     };
     Ok(Said { text, warnings })
 }

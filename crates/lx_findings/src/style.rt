@@ -1,5 +1,7 @@
 //! How findings are said.
 
+use lx_warnings::KindSet;
+
 /// How findings are said, and which.
 #[derive(Clone, Copy, Debug, Drop)]
 pub struct Style<'a> {
@@ -7,8 +9,6 @@ pub struct Style<'a> {
     pub file: &'a [u8],
     /// Whether the findings stand alone, without lines of the source, notes and counts.
     pub quiet: bool,
-    /// Whether rules that are never chosen are said.
-    pub never_chosen: bool,
-    /// Whether conditions that are never entered are said.
-    pub never_entered: bool,
+    /// The kinds of warnings that are asked for.
+    pub asked: KindSet,
 }

@@ -1,109 +1,62 @@
 // The warnings and the counts of a specification that is accepted.
 
-use crate::pieces::{push, push_count, push_line};
+use crate::pieces::{place_of, push, push_count, push_line, push_source};
 use crate::style::Style;
 use crate::untaken::{has_untaken, push_untaken};
 use lx_check::{Accepted, Counts};
-use lx_report::{Place, Severity, push_shown};
+use lx_report::{Severity, push_shown};
+use lx_warnings::{Known, Warning, Warnings, name_of, warnings_of};
 use std::alloc::{AllocError, Global};
 
-const NEVER_CHOSEN: &[u8] =
-    b"this rule is never chosen: each of its matches gives way to a longer one or to a rule before it, or is empty";
+// So many warnings are told; those behind them are counted.
+const MOST_TOLD: usize = 100;
 
-/// What is suspicious.
-#[derive(Debug, Drop)]
-pub(crate) struct Warning {
-    /// The line; 0 where the whole text is meant.
-    pub line: u32,
-    /// What it is.
-    pub words: Vec<u8>,
-    /// Its name.
-    pub name: &'static str,
-}
-
-/// The place of a warning.
-pub(crate) fn place_of_warning(warning: &Warning) -> Place {
-    Place {
-        line: u64::from(warning.line),
-        column: u64::from(warning.line.min(1)),
-        width: 1,
-    }
-}
-
-// Conditions that are never entered.
-fn find_never_entered(
-    alloc: Global,
-    warnings: &mut Vec<Warning>,
-    accepted: &Accepted,
-) -> Result<(), AllocError> {
-    for (condition, entered) in accepted.spec.conditions.iter().zip(accepted.entered.iter()) {
-        if !*entered {
-            let mut words = Vec::from_slice(alloc, b"no rule enters the condition ")?;
-            push(&mut words, &condition.name)?;
-            let name = "never-entered";
-            let line = 0;
-            warnings.push(Warning { line, words, name })?;
-        }
-    }
-    Ok(())
-}
-
-// Rules that are never chosen.
-fn find_never_chosen(
-    alloc: Global,
-    warnings: &mut Vec<Warning>,
-    accepted: &Accepted,
-) -> Result<(), AllocError> {
-    for (rule, chosen) in accepted.spec.rules.iter().zip(accepted.chosen.iter()) {
-        if !*chosen {
-            let line = rule.line;
-            let words = Vec::from_slice(alloc, NEVER_CHOSEN)?;
-            let name = "never-chosen";
-            warnings.push(Warning { line, words, name })?;
-        }
-    }
-    Ok(())
-}
-
-/// The warnings that the style asks for, by line.
-pub(crate) fn warnings_of(
+/// The warnings that the style asks for, by their places.
+pub(crate) fn warnings_in(
     alloc: Global,
     style: &Style<'_>,
+    source: &[u8],
     accepted: &Accepted,
-) -> Result<Vec<Warning>, AllocError> {
-    let mut warnings = Vec::new(alloc);
-    if style.never_entered {
-        find_never_entered(alloc, &mut warnings, accepted)?;
-    }
-    if style.never_chosen {
-        find_never_chosen(alloc, &mut warnings, accepted)?;
-    }
-    Ok(warnings)
+) -> Result<Warnings, AllocError> {
+    let known = Known {
+        spec: &accepted.spec,
+        chosen: &accepted.chosen,
+        entered: &accepted.entered,
+    };
+    warnings_of(alloc, source, &known, &style.asked, MOST_TOLD)
 }
 
 fn push_warning(
+    alloc: Global,
     text: &mut Vec<u8>,
     style: &Style<'_>,
+    source: &[u8],
     warning: &Warning,
 ) -> Result<(), AllocError> {
     push_line(
         text,
         style.file,
         Severity::Warning,
-        place_of_warning(warning),
+        place_of(&warning.place),
         b"",
         &warning.words,
-        warning.name.as_bytes(),
-    )
+        name_of(warning.kind).as_bytes(),
+    )?;
+    if style.quiet {
+        return Ok(());
+    }
+    push_source(alloc, text, source, &warning.place)
 }
 
 fn push_warnings(
+    alloc: Global,
     text: &mut Vec<u8>,
     style: &Style<'_>,
+    source: &[u8],
     warnings: &[Warning],
 ) -> Result<(), AllocError> {
     for warning in warnings {
-        push_warning(text, style, warning)?;
+        push_warning(alloc, text, style, source, warning)?;
     }
     Ok(())
 }
@@ -180,16 +133,17 @@ pub(crate) fn push_accepted(
     alloc: Global,
     text: &mut Vec<u8>,
     style: &Style<'_>,
+    source: &[u8],
     accepted: &Accepted,
 ) -> Result<usize, AllocError> {
-    let warnings = warnings_of(alloc, style, accepted)?;
-    push_warnings(text, style, &warnings)?;
+    let warnings = warnings_in(alloc, style, source, accepted)?;
+    push_warnings(alloc, text, style, source, &warnings.told)?;
     if !style.quiet {
         push_shown(text, style.file)?;
         push(text, b": accepted: ")?;
         push_counts(text, &accepted.counts)?;
-        push_count(text, warnings.len(), b" warning\n", b" warnings\n")?;
+        push_count(text, warnings.count, b" warning\n", b" warnings\n")?;
         push_all_echoed(text, style, accepted)?;
     }
-    Ok(warnings.len())
+    Ok(warnings.count)
 }

@@ -13,43 +13,53 @@ use crate::output::write_text;
 use crate::source::Sources;
 use lx_check::{Report, check};
 use lx_findings::{Said, Style, report_of, sarif_of};
+use lx_warnings::{KindSet, kind_named};
 use lx_words::{CheckWords, VERSION};
 use std::alloc::{AllocError, Global};
 use std::io::Write;
 
 // Which warnings are asked for.
 #[derive(Clone, Copy, Debug)]
-struct Warnings {
-    never_chosen: bool,
-    never_entered: bool,
+struct Asked {
+    kinds: KindSet,
     // Whether a warning is an error.
     are_errors: bool,
 }
 
-// The same with one word of `-W` more; none, where that names no warning.
-fn with_word(warnings: Warnings, word: &str) -> Option<Warnings> {
-    let mut new = warnings;
-    match word {
-        "all" => {
-            new.never_chosen = true;
-            new.never_entered = true;
-        }
-        "error" => new.are_errors = true,
-        "never-chosen" => new.never_chosen = true,
-        "no-never-chosen" => new.never_chosen = false,
-        "never-entered" => new.never_entered = true,
-        "no-never-entered" => new.never_entered = false,
-        _ => return None,
-    }
-    Some(new)
+// The same with or without the warning of this name; none, where there is none.
+fn with_named(asked: Asked, name: &str, is_in: bool) -> Option<Asked> {
+    let kind = kind_named(name)?;
+    Some(Asked {
+        kinds: asked.kinds.with(kind, is_in),
+        are_errors: asked.are_errors,
+    })
 }
 
-fn warnings_asked<'a>(words: &CheckWords<'a>) -> Result<Warnings, Failure<'a>>
+// The same with one word of `-W` more; none, where that names no warning.
+fn with_word(asked: Asked, word: &str) -> Option<Asked> {
+    if word == "all" {
+        return Some(Asked {
+            kinds: KindSet::all(),
+            are_errors: asked.are_errors,
+        });
+    }
+    if word == "error" {
+        return Some(Asked {
+            kinds: asked.kinds,
+            are_errors: true,
+        });
+    }
+    match word.strip_prefix("no-") {
+        Some(name) => with_named(asked, name, false),
+        None => with_named(asked, word, true),
+    }
+}
+
+fn warnings_asked<'a>(words: &CheckWords<'a>) -> Result<Asked, Failure<'a>>
     ensures err { IfErr result (λ failure. (fault : RequestFault) × (failure ≡ Failure.Refused fault) × IsWarningFault fault) }
 {
-    let mut warnings = Warnings {
-        never_chosen: true,
-        never_entered: true,
+    let mut warnings = Asked {
+        kinds: KindSet::all(),
         are_errors: false,
     };
     for word in &words.warnings {
@@ -82,7 +92,7 @@ fn version_number() -> &'static str {
 fn said_by(
     alloc: Global,
     words: &CheckWords<'_>,
-    warnings: Warnings,
+    warnings: Asked,
     text: &[u8],
     report: &Report,
 ) -> Result<Said, AllocError>
@@ -91,8 +101,7 @@ fn said_by(
     let style = Style {
         file: words.rules.as_bytes(),
         quiet: words.quiet,
-        never_chosen: warnings.never_chosen,
-        never_entered: warnings.never_entered,
+        asked: warnings.kinds,
     };
     if words.json {
         sarif_of(alloc, &style, version_number().as_bytes(), text, report)
@@ -104,7 +113,7 @@ fn said_by(
 fn said_of<'a>(
     alloc: Global,
     words: &CheckWords<'_>,
-    warnings: Warnings,
+    warnings: Asked,
     text: &[u8],
 ) -> Result<Vec<u8>, Failure<'a>>
     ensures ok { IfOk result (λ _. IsAcceptedText words.now.most text.now) }

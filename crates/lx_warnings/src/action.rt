@@ -1,0 +1,55 @@
+// Actions.
+
+use crate::kinds::{KindSet, WarningKind};
+use crate::suspects::{Suspect, push_suspect, suspect_at};
+use lx_diagnose::Span;
+use lx_diagnose::words::words_of;
+use lx_spec::action::{Statement, Turn, turn_at};
+use lx_spec::word::Word;
+use std::alloc::{AllocError, Global};
+
+// The number of the first word of a statement that does anything and stands behind a return, where there is one.
+fn dead_word(words: &[Word]) -> Option<usize> {
+    let mut at: usize = 0;
+    let mut has_returned = false;
+    for _ in 0..words.len() {
+        if at >= words.len() {
+            return None;
+        }
+        match turn_at(&words[at..]) {
+            Turn::Finished | Turn::NoStatement => return None,
+            Turn::Opens | Turn::Closes => at += 1,
+            Turn::States(statement, n) => {
+                if has_returned && !matches!(statement, Statement::Nothing) {
+                    return Some(at);
+                }
+                has_returned = has_returned || matches!(statement, Statement::Return(_));
+                at = at.saturating_add(n);
+            }
+        }
+    }
+    None
+}
+
+/// Looks at an action that has a form.
+pub(crate) fn look_at_action(
+    alloc: Global,
+    text: &[u8],
+    found: &mut Vec<Suspect>,
+    wanted: &KindSet,
+    action: Span,
+) -> Result<(), AllocError> {
+    let words = words_of(alloc, text, action)?;
+    match dead_word(&words.words) {
+        Some(number) if number < words.places.len() => push_suspect(
+            found,
+            wanted,
+            suspect_at(
+                WarningKind::DeadStatement,
+                words.places[number],
+                "what stands behind a return is never done",
+            ),
+        ),
+        _ => Ok(()),
+    }
+}

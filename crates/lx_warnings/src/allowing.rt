@@ -1,0 +1,55 @@
+// Comments that switch warnings off for what stands on the next line.
+
+use crate::kinds::{KindSet, kind_named};
+use lx_diagnose::Span;
+use lx_diagnose::places::between;
+use lx_diagnose::scan::{begins_at, behind_blanks, find, next_blank, part};
+
+// What is behind a word, and behind blanks, where the word stands there.
+fn behind(text: &[u8], at: usize, end: usize, word: &[u8]) -> Option<usize> {
+    if begins_at(text, at, word) {
+        Some(behind_blanks(text, at.saturating_add(word.len()), end))
+    } else {
+        None
+    }
+}
+
+// Where the names begin in a comment that allows something.
+fn names_start(text: &[u8], line: Span) -> Option<usize> {
+    let end = line.end();
+    let opened = behind(text, behind_blanks(text, line.start, end), end, b"/*")?;
+    let marked = behind(text, opened, end, b"lx:")?;
+    behind(text, marked, end, b"allow")
+}
+
+// The set with the kind of this name, if there is one.
+fn with_named(set: KindSet, name: &[u8]) -> KindSet {
+    match str::from_utf8(name) {
+        Ok(name) => match kind_named(name) {
+            Some(kind) => set.with(kind, true),
+            None => set,
+        },
+        Err(_) => set,
+    }
+}
+
+/// The kinds that a line allows: those that ` /* lx: allow NAME .. */` names.
+pub(crate) fn allowed_by(text: &[u8], line: Span) -> KindSet {
+    let mut allowed = KindSet::none();
+    let Some(start) = names_start(text, line) else {
+        return allowed;
+    };
+    let Some(end) = find(text, start, line.end(), b"*/") else {
+        return allowed;
+    };
+    let mut next = start;
+    for at in start..end {
+        let first = behind_blanks(text, at, end);
+        if at == next && first < end {
+            let behind_name = next_blank(text, first, end);
+            allowed = with_named(allowed, part(text, between(first, behind_name)));
+            next = behind_name;
+        }
+    }
+    allowed
+}

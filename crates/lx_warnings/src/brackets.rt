@@ -1,0 +1,193 @@
+// Bracket expressions that may mean something else to their writer.
+
+use crate::kinds::{KindSet, WarningKind};
+use crate::suspects::{Suspect, push_suspect, suspect_at};
+use lx_diagnose::Span;
+use lx_diagnose::places::between;
+use lx_diagnose::scan::{begins_at, behind_word, find, is_at, part};
+use lx_ere::escape::escape_at;
+use std::alloc::AllocError;
+
+// Whether the byte stands behind the first one of a character of several bytes in UTF-8 (RFC 3629, 3).
+fn is_continuation_at(text: &[u8], at: usize) -> bool {
+    at < text.len() && 0x80 <= text[at] && text[at] < 0xC0
+}
+
+// Whether the first byte of such a character stands there.
+fn is_lead_at(text: &[u8], at: usize) -> bool {
+    at < text.len() && 0xC2 <= text[at] && text[at] < 0xF5
+}
+
+/// The character of several bytes that begins there, if one does; of no more than four bytes.
+pub(crate) fn character_at(text: &[u8], at: usize, end: usize) -> Option<Span> {
+    let mut behind = at.saturating_add(1);
+    if !is_lead_at(text, at) || behind >= end || !is_continuation_at(text, behind) {
+        return None;
+    }
+    for next in behind..end {
+        if next - at < 4 && next == behind && is_continuation_at(text, next) {
+            behind = next + 1;
+        }
+    }
+    Some(between(at, behind))
+}
+
+/// The character of several bytes that ends before a place, if one does.
+pub(crate) fn character_before(text: &[u8], start: usize, end: usize) -> Option<Span> {
+    for at in start.max(end.saturating_sub(4))..end {
+        if let Some(character) = character_at(text, at, end) {
+            if character.end() == end {
+                return Some(character);
+            }
+        }
+    }
+    None
+}
+
+// A character of several bytes in brackets, the first one of them.
+fn look_at_characters(
+    text: &[u8],
+    found: &mut Vec<Suspect>,
+    wanted: &KindSet,
+    brackets: Span,
+) -> Result<(), AllocError> {
+    let phrase =
+        "`@` is several bytes, and brackets take one of them; write alternatives, as (a|@)";
+    for at in brackets.start..brackets.end() {
+        if let Some(character) = character_at(text, at, brackets.end()) {
+            return push_suspect(
+                found,
+                wanted,
+                suspect_at(WarningKind::ManyBytes, character, phrase),
+            );
+        }
+    }
+    Ok(())
+}
+
+// A class without the brackets round it.
+fn look_at_class(
+    text: &[u8],
+    found: &mut Vec<Suspect>,
+    wanted: &KindSet,
+    brackets: Span,
+) -> Result<(), AllocError> {
+    let phrase = "`@` takes one of its bytes; for the class write [@]";
+    let name = brackets.start.saturating_add(2);
+    let behind = behind_word(text, name, brackets.end());
+    if begins_at(text, brackets.start, b"[:")
+        && name < behind
+        && begins_at(text, behind, b":]")
+        && behind.saturating_add(2) == brackets.end()
+    {
+        return push_suspect(
+            found,
+            wanted,
+            suspect_at(WarningKind::ClassOutside, brackets, phrase),
+        );
+    }
+    Ok(())
+}
+
+// A point of brackets, and the place behind it.
+fn point_at(text: &[u8], at: usize, end: usize) -> (u8, usize) {
+    let rest = part(text, between(at, end));
+    if begins_at(text, at, b"[.") && rest.len() >= 5 {
+        return (rest[2], at.saturating_add(5));
+    }
+    let Some((first, more)) = rest.split_first() else {
+        return (0, end);
+    };
+    if *first == b'\\' {
+        if let Some((byte, behind)) = escape_at(more) {
+            return (byte, end.saturating_sub(behind.len()));
+        }
+    }
+    (*first, at.saturating_add(1))
+}
+
+// The place behind a class or an equivalence class that stands there.
+fn behind_class(text: &[u8], at: usize, end: usize) -> Option<usize> {
+    let behind = at.saturating_add(2);
+    if begins_at(text, at, b"[:") {
+        match find(text, behind, end, b":]") {
+            Some(close) => Some(close.saturating_add(2)),
+            None => None,
+        }
+    } else if begins_at(text, at, b"[=") {
+        Some(at.saturating_add(5))
+    } else {
+        None
+    }
+}
+
+// What is said of a range from this byte to that one.
+fn range_phrase(low: u8, high: u8) -> Option<&'static str> {
+    if low.is_ascii_uppercase() && high.is_ascii_lowercase() {
+        Some("`@` takes [ \\ ] ^ _ and the grave accent too; for letters write A-Za-z")
+    } else if low.is_ascii_digit() && high.is_ascii_alphabetic() {
+        Some("`@` takes more than digits and letters; for these write 0-9A-Za-z")
+    } else {
+        None
+    }
+}
+
+// Looks at the member of brackets that begins there; the result is the place behind it.
+fn look_at_member(
+    text: &[u8],
+    found: &mut Vec<Suspect>,
+    wanted: &KindSet,
+    at: usize,
+    end: usize,
+) -> Result<usize, AllocError> {
+    if let Some(behind) = behind_class(text, at, end) {
+        return Ok(behind);
+    }
+    let (low, behind) = point_at(text, at, end);
+    let high_at = behind.saturating_add(1);
+    if !is_at(text, behind, b'-') || high_at >= end {
+        return Ok(behind);
+    }
+    let (high, behind_range) = point_at(text, high_at, end);
+    if let Some(phrase) = range_phrase(low, high) {
+        push_suspect(
+            found,
+            wanted,
+            suspect_at(WarningKind::WideRange, between(at, behind_range), phrase),
+        )?;
+    }
+    Ok(behind_range)
+}
+
+fn look_at_ranges(
+    text: &[u8],
+    found: &mut Vec<Suspect>,
+    wanted: &KindSet,
+    brackets: Span,
+) -> Result<(), AllocError> {
+    let end = brackets.end().saturating_sub(1);
+    let first = brackets.start.saturating_add(1);
+    let mut next = if is_at(text, first, b'^') {
+        first.saturating_add(1)
+    } else {
+        first
+    };
+    for at in first..end {
+        if at == next {
+            next = look_at_member(text, found, wanted, at, end)?;
+        }
+    }
+    Ok(())
+}
+
+/// Looks at a bracket expression.
+pub(crate) fn look_at_brackets(
+    text: &[u8],
+    found: &mut Vec<Suspect>,
+    wanted: &KindSet,
+    brackets: Span,
+) -> Result<(), AllocError> {
+    look_at_class(text, found, wanted, brackets)?;
+    look_at_characters(text, found, wanted, brackets)?;
+    look_at_ranges(text, found, wanted, brackets)
+}

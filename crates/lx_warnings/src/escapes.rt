@@ -1,0 +1,128 @@
+// Escapes that may mean something else to their writer.
+
+use crate::kinds::{KindSet, WarningKind};
+use crate::suspects::{Suspect, push_suspect, suspect_at};
+use lx_diagnose::Span;
+use lx_diagnose::places::between;
+use lx_diagnose::scan::is_at;
+use std::alloc::AllocError;
+
+// From so many hexadecimal digits on a number has more than those of a byte.
+const LONG: usize = 3;
+
+fn is_hexadecimal_at(text: &[u8], at: usize) -> bool {
+    at < text.len() && text[at].is_ascii_hexdigit()
+}
+
+// The first place from one up to another where no hexadecimal digit stands.
+fn behind_hexadecimal(text: &[u8], from: usize, end: usize) -> usize {
+    for at in from..end {
+        if !is_hexadecimal_at(text, at) {
+            return at;
+        }
+    }
+    end
+}
+
+// What is said of a backslash and this byte, where that is a letter or digit that has no escape of its own.
+fn letter_phrase(byte: u8) -> Option<&'static str> {
+    match byte {
+        b'a' | b'b' | b't' | b'n' | b'v' | b'f' | b'r' | b'x' => None,
+        b'd' => Some("`@` is the letter d; for digits write [0-9]"),
+        b'D' => Some("`@` is the letter D; for all but digits write [^0-9]"),
+        b'w' => Some("`@` is the letter w; for letters, digits and _ write [A-Za-z0-9_]"),
+        b'W' => Some("`@` is the letter W; for all but letters, digits and _ write [^A-Za-z0-9_]"),
+        b's' => Some("`@` is the letter s; for blanks write [ \\t\\r\\n\\f\\v]"),
+        b'S' => Some("`@` is the letter S; for all but blanks write [^ \\t\\r\\n\\f\\v]"),
+        b'u' | b'U' => Some(
+            "`@` is the letter alone; write a character by its bytes, as \"\\xC3\\xA9\"",
+        ),
+        b'8' | b'9' => Some("`@` is the digit alone: no octal number begins with it"),
+        _ => if byte.is_ascii_alphabetic() {
+            Some("`@` is the letter alone")
+        } else {
+            None
+        },
+    }
+}
+
+fn look_at_letter(
+    found: &mut Vec<Suspect>,
+    wanted: &KindSet,
+    at: Span,
+    byte: u8,
+) -> Result<(), AllocError> {
+    match letter_phrase(byte) {
+        Some(phrase) => push_suspect(
+            found,
+            wanted,
+            suspect_at(WarningKind::LetterEscape, at, phrase),
+        ),
+        None => Ok(()),
+    }
+}
+
+fn look_at_hexadecimal(
+    found: &mut Vec<Suspect>,
+    wanted: &KindSet,
+    at: Span,
+    digits: usize,
+) -> Result<(), AllocError> {
+    if digits == 0 {
+        let phrase = "`@` is the letter alone: no hexadecimal digit stands behind it";
+        push_suspect(
+            found,
+            wanted,
+            suspect_at(WarningKind::LetterEscape, at, phrase),
+        )
+    } else if digits >= LONG {
+        let phrase =
+            "all digits of `@` are its number; where two are meant, put what stands behind them in quotes of its own";
+        push_suspect(found, wanted, suspect_at(WarningKind::LongHex, at, phrase))
+    } else {
+        Ok(())
+    }
+}
+
+// Looks at the escape whose backslash stands there.
+fn look_at_escape(
+    text: &[u8],
+    found: &mut Vec<Suspect>,
+    wanted: &KindSet,
+    start: usize,
+    end: usize,
+) -> Result<(), AllocError> {
+    let first = start.saturating_add(1);
+    let behind = start.saturating_add(2);
+    if first >= end || first >= text.len() {
+        return Ok(());
+    }
+    if text[first] == b'x' {
+        let last = behind_hexadecimal(text, behind, end);
+        look_at_hexadecimal(
+            found,
+            wanted,
+            between(start, last),
+            last.saturating_sub(behind),
+        )
+    } else {
+        look_at_letter(found, wanted, between(start, behind), text[first])
+    }
+}
+
+/// Looks at the escapes of a lexeme.
+pub(crate) fn look_at_escapes(
+    text: &[u8],
+    found: &mut Vec<Suspect>,
+    wanted: &KindSet,
+    lexeme: Span,
+) -> Result<(), AllocError> {
+    let mut next = lexeme.start;
+    for at in lexeme.start..lexeme.end() {
+        if at >= next && is_at(text, at, b'\\') {
+            look_at_escape(text, found, wanted, at, lexeme.end())?;
+            next = at.saturating_add(2);
+        }
+    }
+    Ok(())
+}

@@ -1,0 +1,134 @@
+// Lexemes of a pattern that may mean something else to their writer.
+
+use crate::brackets::{character_before, look_at_brackets};
+use crate::branches::{Branch, Branches};
+use crate::escapes::look_at_escapes;
+use crate::kinds::{KindSet, WarningKind};
+use crate::suspects::{Suspect, push_suspect, suspect_at};
+use lx_diagnose::Span;
+use lx_diagnose::places::between;
+use lx_diagnose::scan::is_at;
+use lx_ere::lexeme::Lexeme;
+use std::alloc::AllocError;
+
+// Whether an interval repeats a text once.
+fn is_once(low: u8, high: Option<u8>) -> bool {
+    match high {
+        Some(high) => low == 1 && high == 1,
+        None => false,
+    }
+}
+
+// An interval behind several units.
+fn look_at_interval(
+    found: &mut Vec<Suspect>,
+    wanted: &KindSet,
+    branch: Branch,
+    at: Span,
+) -> Result<(), AllocError> {
+    if branch.units < 2 {
+        return Ok(());
+    }
+    let suspect = Suspect {
+        kind: WarningKind::Interval,
+        at,
+        phrase: "the interval repeats all of `@`, and in flex the end alone: write `(~)` for that, or put `@` in parentheses",
+        name: between(branch.start, at.start),
+        other: between(branch.last, at.end()),
+    };
+    push_suspect(found, wanted, suspect)
+}
+
+// A repeat behind a repeat, or behind the last byte of a character of several.
+fn look_at_repeat(
+    text: &[u8],
+    found: &mut Vec<Suspect>,
+    wanted: &KindSet,
+    branches: &Branches,
+    at: Span,
+) -> Result<(), AllocError> {
+    if branches.behind_repeat && is_at(text, at.start, b'?') {
+        let both = between(at.start.saturating_sub(1), at.end());
+        let phrase = "`@` is not lazy: the longest text is taken";
+        return push_suspect(found, wanted, suspect_at(WarningKind::Lazy, both, phrase));
+    }
+    if branches.innermost.last.saturating_add(1) != at.start {
+        return Ok(());
+    }
+    match character_before(text, branches.innermost.start, at.start) {
+        Some(character) => {
+            let suspect = Suspect {
+                kind: WarningKind::ManyBytes,
+                at,
+                phrase: "`@` repeats the last byte of `~` alone; put the character in quotes",
+                name: at,
+                other: character,
+            };
+            push_suspect(found, wanted, suspect)
+        }
+        None => Ok(()),
+    }
+}
+
+// Whether a quotation mark of several bytes begins there: one of U+2018 to U+201F.
+fn is_curly_at(text: &[u8], at: usize) -> bool {
+    let last = at.saturating_add(2);
+    is_at(text, at, 0xE2)
+        && is_at(text, at.saturating_add(1), 0x80)
+        && last < text.len()
+        && 0x98 <= text[last]
+        && text[last] < 0xA0
+}
+
+// Looks at what is spelled by one byte, an escape or brackets.
+fn look_at_set(
+    text: &[u8],
+    found: &mut Vec<Suspect>,
+    wanted: &KindSet,
+    at: Span,
+) -> Result<(), AllocError> {
+    if is_at(text, at.start, b'[') {
+        look_at_brackets(text, found, wanted, at)?;
+        look_at_escapes(text, found, wanted, at)
+    } else if is_at(text, at.start, b'\\') {
+        look_at_escapes(text, found, wanted, at)
+    } else if is_curly_at(text, at.start) {
+        let mark = Span {
+            start: at.start,
+            len: 3,
+        };
+        let phrase = "`@` is three bytes and quotes nothing; write plain quotes";
+        push_suspect(
+            found,
+            wanted,
+            suspect_at(WarningKind::CurlyQuotes, mark, phrase),
+        )
+    } else {
+        Ok(())
+    }
+}
+
+/// Looks at a lexeme that stands there, behind these branches.
+pub(crate) fn look_at_lexeme(
+    text: &[u8],
+    found: &mut Vec<Suspect>,
+    wanted: &KindSet,
+    branches: &Branches,
+    lexeme: &Lexeme,
+    at: Span,
+) -> Result<(), AllocError> {
+    match lexeme {
+        Lexeme::Set(_) => look_at_set(text, found, wanted, at),
+        Lexeme::Quoted(_, _) => look_at_escapes(text, found, wanted, at),
+        Lexeme::Interval(low, high) => {
+            if is_once(*low, *high) {
+                return Ok(());
+            }
+            look_at_interval(found, wanted, branches.innermost, at)
+        }
+        Lexeme::Star | Lexeme::Plus | Lexeme::Question => {
+            look_at_repeat(text, found, wanted, branches, at)
+        }
+        Lexeme::Name(_) | Lexeme::OpenGroup | Lexeme::CloseGroup | Lexeme::Bar => Ok(()),
+    }
+}

@@ -1,0 +1,19 @@
+//! What is suspicious about a specification that is accepted: warnings by their names, each with its place in the text and its words.
+#![tactic(auto)]
+
+mod action;
+mod allowing;
+mod brackets;
+mod branches;
+mod escapes;
+pub mod kinds;
+mod layout;
+mod lexemes;
+mod pattern;
+mod skipped;
+mod suspects;
+mod suspicion;
+pub mod warnings;
+
+pub use crate::kinds::{KindSet, WarningKind, kind_named, name_of};
+pub use crate::warnings::{Known, Warning, Warnings, warnings_of};

@@ -1,0 +1,47 @@
+// Patterns and what stands for names, lexeme by lexeme as they are read.
+
+use crate::branches::{branches_at, take_lexeme};
+use crate::kinds::KindSet;
+use crate::lexemes::look_at_lexeme;
+use crate::suspects::Suspect;
+use lx_diagnose::Span;
+use lx_diagnose::places::between;
+use lx_diagnose::scan::{is_at, part};
+use lx_ere::lexeme::lexeme_at;
+use std::alloc::{AllocError, Global};
+
+// What stands behind the `^` of a pattern.
+fn behind_caret(text: &[u8], pattern: Span) -> usize {
+    if is_at(text, pattern.start, b'^') {
+        pattern.start.saturating_add(1)
+    } else {
+        pattern.start
+    }
+}
+
+/// Looks at a pattern that has a reading.
+pub(crate) fn look_at_pattern(
+    alloc: Global,
+    text: &[u8],
+    found: &mut Vec<Suspect>,
+    wanted: &KindSet,
+    pattern: Span,
+) -> Result<(), AllocError> {
+    let start = behind_caret(text, pattern);
+    let end = pattern.end();
+    let mut branches = branches_at(alloc, start);
+    let mut rest = part(text, between(start, end));
+    for _ in 0..pattern.len {
+        let Some((lexeme, behind)) = lexeme_at(alloc, rest)? else {
+            break;
+        };
+        let at = between(
+            end.saturating_sub(rest.len()),
+            end.saturating_sub(behind.len()),
+        );
+        look_at_lexeme(text, found, wanted, &branches, &lexeme, at)?;
+        take_lexeme(&mut branches, &lexeme, at)?;
+        rest = behind;
+    }
+    Ok(())
+}
