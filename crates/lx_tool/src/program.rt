@@ -33,6 +33,9 @@ use std::io::Write;
 use std::sync::Wait;
 use std::thread::Threads;
 
+// The exit status where a specification or tables are refused.
+const REFUSED: u8 = 1;
+
 // The exit status where all is listed and a file was cut short.
 const CUT_SHORT: u8 = 3;
 
@@ -137,6 +140,8 @@ fn tell<S: Sources, T: Targets, E: Write>(
         Err(failure) => {
             if !(is_closed && matches!(failure, Failure::Output)) {
                 tell_failure(&failure, sources, targets, err);
+            }
+            if failure.status() == REFUSED {
                 let _ = err.write_all(notes);
             }
             failure.status()
