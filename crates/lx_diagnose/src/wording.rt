@@ -137,11 +137,7 @@ pub(crate) fn printed(alloc: Global, bytes: &[u8]) -> Result<Vec<u8>, AllocError
 }
 
 /// A phrase with what is put into it.
-pub fn filled(
-    alloc: Global,
-    phrase: &[u8],
-    fillings: &Fillings,
-) -> Result<Vec<u8>, AllocError>
+pub fn filled(alloc: Global, phrase: &[u8], fillings: &Fillings) -> Result<Vec<u8>, AllocError>
     ensures value { IfOk result (λ words. words.items ≡ specs.filled fillings.now.name.now fillings.now.other.now fillings.now.line phrase.now) }
     ensures printed { IfOk result (λ words. ArePrinted words.items) }
 {
