@@ -1,8 +1,8 @@
 //! Texts that no row can hold, and what is to be written.
 
 use lx_diagnose::{
-    Cause, diagnose, hint, name_of, note_words, sentence, table_cause,
-    table_sentence, table_topic, topic_of,
+    Cause, diagnose, hint, name_of, note_words, sentence, table_cause, table_sentence, table_topic,
+    topic_of,
 };
 use lx_explain::{explain, to_do};
 use lx_spec::{Code, SpecFault, read_spec};
