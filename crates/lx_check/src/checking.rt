@@ -9,6 +9,7 @@ ghost use Rattle.lx_check.specs.Further.{AreFindings, IfRefused};
 
 use crate::further::{findings_from, too_large};
 use crate::report::{Accepted, Counts, Report};
+use crate::takers::takers_in;
 use crate::verdict::{read, tables_of};
 use lx_auto::count_positions;
 use lx_chosen::ruling::chosen_is_by_rules;
@@ -33,8 +34,8 @@ fn counts_of(alloc: Global, spec: &Spec, tables: &Tables) -> Result<Counts, Allo
     })
 }
 
-// A specification that has tables.
-fn accepted(alloc: Global, spec: Spec, tables: Tables) -> Result<Accepted, AllocError>
+// A specification that has tables, and the text that says it.
+fn accepted(alloc: Global, text: &[u8], spec: Spec, tables: Tables) -> Result<Accepted, AllocError>
     requires tables { AreTablesOf (spec_view spec) tables }
     requires few_positions { count_of_spec (spec_view spec) ≤ 16384 }
     ensures spec { IfOk result (λ accepted. spec_view accepted.spec ≡ spec_view spec) }
@@ -46,12 +47,14 @@ fn accepted(alloc: Global, spec: Spec, tables: Tables) -> Result<Accepted, Alloc
     let counts = counts_of(alloc, &spec, &tables)?;
     let chosen = chosen_rules(alloc, &tables)?;
     let entered = entered_conditions(alloc, &tables)?;
+    let takers = takers_in(alloc, text, &tables, &chosen)?;
     Ok(Accepted {
         spec,
         tables,
         counts,
         chosen,
         entered,
+        takers,
     })
 }
 
@@ -67,7 +70,7 @@ pub fn check(alloc: Global, text: &[u8], most: usize) -> Result<Report, AllocErr
         Err(fault) => return Ok(Report::Refused(findings_from(alloc, text, fault, most)?)),
     };
     match tables_of(alloc, &spec)? {
-        Ok(tables) => Ok(Report::Accepted(accepted(alloc, spec, tables)?)),
+        Ok(tables) => Ok(Report::Accepted(accepted(alloc, text, spec, tables)?)),
         Err(finding) => Ok(Report::Refused(too_large(alloc, text, finding, most)?)),
     }
 }

@@ -5,6 +5,7 @@ pub mod checking;
 pub mod finding;
 mod further;
 pub mod report;
+mod takers;
 mod verdict;
 mod without;
 

@@ -1,6 +1,7 @@
 // What is to be said of the text of a specification.
 
 use crate::finding::Finding;
+use lx_chosen::Takers;
 use lx_spec::Spec;
 use lx_tables::Tables;
 
@@ -30,6 +31,8 @@ pub struct Accepted {
     pub chosen: Vec<bool>,
     /// Of each start condition whether it is entered.
     pub entered: Vec<bool>,
+    /// Which rules take the texts of those that are never chosen, for the first 20 of these.
+    pub takers: Vec<Takers>,
 }
 
 /// What is to be said of the text of a specification.

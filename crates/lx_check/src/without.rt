@@ -16,8 +16,8 @@ use lx_spec::section::read_sections;
 use lx_spec::{Code, SpecFault};
 use std::alloc::{AllocError, Global};
 
-// The most bytes of a specification.
-const MAX_SPECIFICATION_BYTES: usize = 1_048_576;
+/// The most bytes of a specification.
+pub(crate) const MAX_SPECIFICATION_BYTES: usize = 1_048_576;
 
 // What stands in the place of a line.
 fn line_instead<'a>(

@@ -28,8 +28,8 @@ fn meet_starts(tables: &Tables, first: u16, end: u16, met: &mut Met) -> Result<(
     Ok(())
 }
 
-// The states to which one steps.
-fn meet_targets(tables: &Tables, met: &mut Met, state: u32) -> Result<(), AllocError>
+/// The states to which one steps.
+pub(crate) fn meet_targets(tables: &Tables, met: &mut Met, state: u32) -> Result<(), AllocError>
     requires met { AreMet met.old.numbers.items met.old.places.items }
     requires long { length met.old.places.items ≡ state_count tables.now.machine }
     requires state { state < state_count tables.now.machine }

@@ -594,4 +594,14 @@ skipped-rule (warning)
 
 skipped-line (warning)
     a line behind the second %% looks like a rule, and is skipped
-    To do: put it before that line"#;
+    To do: put it before that line
+
+far-ahead (warning)
+    a run of one byte is read to its end, and where no match ends with it, again behind each of its bytes; said where it is asked for, by -W far-ahead
+    To do: let a shorter text match too, or bound the repeat
+    As in: (.|\n)*x return A;
+
+unread-bytes (warning)
+    no rule takes some bytes in a condition that is entered, so they are echoed; said where it is asked for, by -W unread-bytes
+    To do: take each other byte by a last rule: .|\n ;
+    As in: [a-z]+ return ID;"#;

@@ -6,7 +6,6 @@ mod pieces;
 mod sarif;
 pub mod saying;
 pub mod style;
-mod untaken;
 mod warnings;
 
 pub use crate::sarif::sarif_of;

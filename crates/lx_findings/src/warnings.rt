@@ -2,10 +2,9 @@
 
 use crate::pieces::{place_of, push, push_count, push_line, push_source};
 use crate::style::Style;
-use crate::untaken::{has_untaken, push_untaken};
 use lx_check::{Accepted, Counts};
 use lx_report::{Severity, push_shown};
-use lx_warnings::{Known, Warning, Warnings, name_of, warnings_of};
+use lx_warnings::{Known, Warning, Warnings, name_of, untaken_bytes, warnings_of};
 use std::alloc::{AllocError, Global};
 
 // So many warnings are told; those behind them are counted.
@@ -20,8 +19,10 @@ pub(crate) fn warnings_in(
 ) -> Result<Warnings, AllocError> {
     let known = Known {
         spec: &accepted.spec,
+        tables: &accepted.tables,
         chosen: &accepted.chosen,
         entered: &accepted.entered,
+        takers: &accepted.takers,
     };
     warnings_of(alloc, source, &known, &style.asked, MOST_TOLD)
 }
@@ -93,6 +94,7 @@ fn push_counts(text: &mut Vec<u8>, counts: &Counts) -> Result<(), AllocError> {
 
 // The bytes that no rule takes in a condition, where there are some.
 fn push_echoed(
+    alloc: Global,
     text: &mut Vec<u8>,
     style: &Style<'_>,
     accepted: &Accepted,
@@ -100,20 +102,24 @@ fn push_echoed(
 ) -> Result<(), AllocError> {
     if condition >= accepted.tables.conditions()
         || usize::from(condition) >= accepted.spec.conditions.len()
-        || !has_untaken(&accepted.tables, condition)
     {
+        return Ok(());
+    }
+    let bytes = untaken_bytes(alloc, &accepted.tables, condition)?;
+    if bytes.is_empty() {
         return Ok(());
     }
     push_shown(text, style.file)?;
     push(text, b": in ")?;
     push_shown(text, &accepted.spec.conditions[usize::from(condition)].name)?;
     push(text, b" no rule takes [")?;
-    push_untaken(text, &accepted.tables, condition)?;
+    push_shown(text, &bytes)?;
     push(text, b"]: such bytes are echoed\n")
 }
 
 // The same of each condition that is entered.
 fn push_all_echoed(
+    alloc: Global,
     text: &mut Vec<u8>,
     style: &Style<'_>,
     accepted: &Accepted,
@@ -122,7 +128,7 @@ fn push_all_echoed(
         if usize::from(condition) < accepted.entered.len()
             && accepted.entered[usize::from(condition)]
         {
-            push_echoed(text, style, accepted, condition)?;
+            push_echoed(alloc, text, style, accepted, condition)?;
         }
     }
     Ok(())
@@ -143,7 +149,7 @@ pub(crate) fn push_accepted(
         push(text, b": accepted: ")?;
         push_counts(text, &accepted.counts)?;
         push_count(text, warnings.count, b" warning\n", b" warnings\n")?;
-        push_all_echoed(text, style, accepted)?;
+        push_all_echoed(alloc, text, style, accepted)?;
     }
     Ok(warnings.count)
 }

@@ -59,7 +59,7 @@ fn warnings_asked<'a>(words: &CheckWords<'a>) -> Result<Asked, Failure<'a>>
     ensures err { IfErr result (λ failure. (fault : RequestFault) × (failure ≡ Failure.Refused fault) × IsWarningFault fault) }
 {
     let mut warnings = Asked {
-        kinds: KindSet::all(),
+        kinds: KindSet::usual(),
         are_errors: false,
     };
     for word in &words.warnings {

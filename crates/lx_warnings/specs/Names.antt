@@ -1,7 +1,7 @@
 -- The names of the kinds of warnings.
 use Rattle.std.specs.Prelude.{ℕ, List, codes}
 use Rattle.lx_warnings.specs.declared.kinds.WarningKind.{WarningKind}
-use Rattle.lx_warnings.specs.declared.kinds.WarningKind.TheVariants.{ConditionWord, NeverEntered, UnusedDefinition, NeverChosen, EofRule, Interval, Lazy, LetterEscape, LongHex, ManyBytes, CurlyQuotes, ClassOutside, WideRange, DeadStatement, SkippedRule, SkippedLine}
+use Rattle.lx_warnings.specs.declared.kinds.WarningKind.TheVariants.{ConditionWord, NeverEntered, UnusedDefinition, NeverChosen, EofRule, Interval, Lazy, LetterEscape, LongHex, ManyBytes, CurlyQuotes, ClassOutside, WideRange, DeadStatement, SkippedRule, SkippedLine, FarAhead, UnreadBytes}
 
 abbrev pub name_text : WarningKind → List ℕ
 name_text ConditionWord = codes "condition-word"
@@ -20,3 +20,5 @@ name_text WideRange = codes "wide-range"
 name_text DeadStatement = codes "dead-statement"
 name_text SkippedRule = codes "skipped-rule"
 name_text SkippedLine = codes "skipped-line"
+name_text FarAhead = codes "far-ahead"
+name_text UnreadBytes = codes "unread-bytes"

@@ -36,14 +36,14 @@ pub(crate) fn look_at_action(
     alloc: Global,
     text: &[u8],
     found: &mut Vec<Suspect>,
-    wanted: &KindSet,
+    allowed: &KindSet,
     action: Span,
 ) -> Result<(), AllocError> {
     let words = words_of(alloc, text, action)?;
     match dead_word(&words.words) {
         Some(number) if number < words.places.len() => push_suspect(
             found,
-            wanted,
+            allowed,
             suspect_at(
                 WarningKind::DeadStatement,
                 words.places[number],

@@ -48,7 +48,7 @@ pub(crate) fn character_before(text: &[u8], start: usize, end: usize) -> Option<
 fn look_at_characters(
     text: &[u8],
     found: &mut Vec<Suspect>,
-    wanted: &KindSet,
+    allowed: &KindSet,
     brackets: Span,
 ) -> Result<(), AllocError> {
     let phrase =
@@ -57,7 +57,7 @@ fn look_at_characters(
         if let Some(character) = character_at(text, at, brackets.end()) {
             return push_suspect(
                 found,
-                wanted,
+                allowed,
                 suspect_at(WarningKind::ManyBytes, character, phrase),
             );
         }
@@ -69,7 +69,7 @@ fn look_at_characters(
 fn look_at_class(
     text: &[u8],
     found: &mut Vec<Suspect>,
-    wanted: &KindSet,
+    allowed: &KindSet,
     brackets: Span,
 ) -> Result<(), AllocError> {
     let phrase = "`@` takes one of its bytes; for the class write [@]";
@@ -82,7 +82,7 @@ fn look_at_class(
     {
         return push_suspect(
             found,
-            wanted,
+            allowed,
             suspect_at(WarningKind::ClassOutside, brackets, phrase),
         );
     }
@@ -136,7 +136,7 @@ fn range_phrase(low: u8, high: u8) -> Option<&'static str> {
 fn look_at_member(
     text: &[u8],
     found: &mut Vec<Suspect>,
-    wanted: &KindSet,
+    allowed: &KindSet,
     at: usize,
     end: usize,
 ) -> Result<usize, AllocError> {
@@ -152,7 +152,7 @@ fn look_at_member(
     if let Some(phrase) = range_phrase(low, high) {
         push_suspect(
             found,
-            wanted,
+            allowed,
             suspect_at(WarningKind::WideRange, between(at, behind_range), phrase),
         )?;
     }
@@ -162,7 +162,7 @@ fn look_at_member(
 fn look_at_ranges(
     text: &[u8],
     found: &mut Vec<Suspect>,
-    wanted: &KindSet,
+    allowed: &KindSet,
     brackets: Span,
 ) -> Result<(), AllocError> {
     let end = brackets.end().saturating_sub(1);
@@ -174,7 +174,7 @@ fn look_at_ranges(
     };
     for at in first..end {
         if at == next {
-            next = look_at_member(text, found, wanted, at, end)?;
+            next = look_at_member(text, found, allowed, at, end)?;
         }
     }
     Ok(())
@@ -184,10 +184,10 @@ fn look_at_ranges(
 pub(crate) fn look_at_brackets(
     text: &[u8],
     found: &mut Vec<Suspect>,
-    wanted: &KindSet,
+    allowed: &KindSet,
     brackets: Span,
 ) -> Result<(), AllocError> {
-    look_at_class(text, found, wanted, brackets)?;
-    look_at_characters(text, found, wanted, brackets)?;
-    look_at_ranges(text, found, wanted, brackets)
+    look_at_class(text, found, allowed, brackets)?;
+    look_at_characters(text, found, allowed, brackets)?;
+    look_at_ranges(text, found, allowed, brackets)
 }

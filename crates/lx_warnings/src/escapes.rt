@@ -48,14 +48,14 @@ fn letter_phrase(byte: u8) -> Option<&'static str> {
 
 fn look_at_letter(
     found: &mut Vec<Suspect>,
-    wanted: &KindSet,
+    allowed: &KindSet,
     at: Span,
     byte: u8,
 ) -> Result<(), AllocError> {
     match letter_phrase(byte) {
         Some(phrase) => push_suspect(
             found,
-            wanted,
+            allowed,
             suspect_at(WarningKind::LetterEscape, at, phrase),
         ),
         None => Ok(()),
@@ -64,7 +64,7 @@ fn look_at_letter(
 
 fn look_at_hexadecimal(
     found: &mut Vec<Suspect>,
-    wanted: &KindSet,
+    allowed: &KindSet,
     at: Span,
     digits: usize,
 ) -> Result<(), AllocError> {
@@ -72,13 +72,13 @@ fn look_at_hexadecimal(
         let phrase = "`@` is the letter alone: no hexadecimal digit stands behind it";
         push_suspect(
             found,
-            wanted,
+            allowed,
             suspect_at(WarningKind::LetterEscape, at, phrase),
         )
     } else if digits >= LONG {
         let phrase =
             "all digits of `@` are its number; where two are meant, put what stands behind them in quotes of its own";
-        push_suspect(found, wanted, suspect_at(WarningKind::LongHex, at, phrase))
+        push_suspect(found, allowed, suspect_at(WarningKind::LongHex, at, phrase))
     } else {
         Ok(())
     }
@@ -88,7 +88,7 @@ fn look_at_hexadecimal(
 fn look_at_escape(
     text: &[u8],
     found: &mut Vec<Suspect>,
-    wanted: &KindSet,
+    allowed: &KindSet,
     start: usize,
     end: usize,
 ) -> Result<(), AllocError> {
@@ -101,12 +101,12 @@ fn look_at_escape(
         let last = behind_hexadecimal(text, behind, end);
         look_at_hexadecimal(
             found,
-            wanted,
+            allowed,
             between(start, last),
             last.saturating_sub(behind),
         )
     } else {
-        look_at_letter(found, wanted, between(start, behind), text[first])
+        look_at_letter(found, allowed, between(start, behind), text[first])
     }
 }
 
@@ -114,13 +114,13 @@ fn look_at_escape(
 pub(crate) fn look_at_escapes(
     text: &[u8],
     found: &mut Vec<Suspect>,
-    wanted: &KindSet,
+    allowed: &KindSet,
     lexeme: Span,
 ) -> Result<(), AllocError> {
     let mut next = lexeme.start;
     for at in lexeme.start..lexeme.end() {
         if at >= next && is_at(text, at, b'\\') {
-            look_at_escape(text, found, wanted, at, lexeme.end())?;
+            look_at_escape(text, found, allowed, at, lexeme.end())?;
             next = at.saturating_add(2);
         }
     }

@@ -1,7 +1,9 @@
 //! The kinds of warnings, and sets of them.
 
-ghost use Rattle.std.specs.Prelude.{◌≡◌, ◌<◌, IfSome};
+ghost use Rattle.std.specs.Prelude.{◌≡◌, ◌<◌, IfSome, nat_eq, if◌then◌else◌, true, false};
 ghost use Rattle.lx_warnings.specs.Names.{name_text};
+ghost use Rattle.lx_warnings.specs.Kinds.{has_kind, is_usual, number};
+ghost use Rattle.lx_warnings.specs.declared.kinds.WarningKind.{WarningKind};
 
 /// What is suspicious. `explain` says of each what it means and what to do.
 #[derive(Clone, Copy, Debug)]
@@ -22,10 +24,12 @@ pub enum WarningKind {
     DeadStatement,
     SkippedRule,
     SkippedLine,
+    FarAhead,
+    UnreadBytes,
 }
 
 // How many kinds there are.
-const KINDS: usize = 16;
+const KINDS: usize = 18;
 
 const ALL: [WarningKind; KINDS] = [
     WarningKind::ConditionWord,
@@ -44,6 +48,8 @@ const ALL: [WarningKind; KINDS] = [
     WarningKind::DeadStatement,
     WarningKind::SkippedRule,
     WarningKind::SkippedLine,
+    WarningKind::FarAhead,
+    WarningKind::UnreadBytes,
 ];
 
 /// The name of a kind, as `-W` and `explain` have it.
@@ -67,6 +73,8 @@ pub fn name_of(kind: WarningKind) -> &'static str
         WarningKind::DeadStatement => "dead-statement",
         WarningKind::SkippedRule => "skipped-rule",
         WarningKind::SkippedLine => "skipped-line",
+        WarningKind::FarAhead => "far-ahead",
+        WarningKind::UnreadBytes => "unread-bytes",
     }
 }
 
@@ -83,7 +91,8 @@ pub fn kind_named(name: &str) -> Option<WarningKind>
 }
 
 fn number_of(kind: WarningKind) -> usize
-    ensures { result < 16 }
+    ensures number { result ≡ number kind }
+    ensures below { result < 18 }
 {
     kind as usize
 }
@@ -96,37 +105,45 @@ pub struct KindSet {
 
 impl KindSet {
     /// No kind.
-    pub fn none() -> KindSet {
+    pub fn none() -> KindSet
+        ensures { (kind : WarningKind) → has_kind result kind ≡ false }
+    {
         KindSet {
             flags: [false; KINDS],
         }
     }
 
     /// All kinds.
-    pub fn all() -> KindSet {
+    pub fn all() -> KindSet
+        ensures { (kind : WarningKind) → has_kind result kind ≡ true }
+    {
         KindSet {
             flags: [true; KINDS],
         }
     }
 
+    /// The kinds that are told unless others are asked for: all but those that say what may well be meant.
+    pub fn usual() -> KindSet
+        ensures { (kind : WarningKind) → has_kind result kind ≡ is_usual kind }
+    {
+        KindSet::all()
+            .with(WarningKind::FarAhead, false)
+            .with(WarningKind::UnreadBytes, false)
+    }
+
     /// Whether a kind is among them.
-    pub fn contains(&self, kind: WarningKind) -> bool {
+    pub fn contains(&self, kind: WarningKind) -> bool
+        ensures { result ≡ has_kind self.now kind }
+    {
         self.flags[number_of(kind)]
     }
 
     /// The same with a kind, or without it.
-    pub fn with(self, kind: WarningKind, is_in: bool) -> KindSet {
+    pub fn with(self, kind: WarningKind, is_in: bool) -> KindSet
+        ensures { (other : WarningKind) → has_kind result other ≡ (if nat_eq (number other) (number kind) then is_in else has_kind self other) }
+    {
         let mut flags = self.flags;
         flags[number_of(kind)] = is_in;
-        KindSet { flags }
-    }
-
-    /// Those of them that are not in the other set.
-    pub fn without(self, other: &KindSet) -> KindSet {
-        let mut flags = self.flags;
-        for i in 0..KINDS {
-            flags[i] = self.flags[i] && !other.flags[i];
-        }
         KindSet { flags }
     }
 }

@@ -42,6 +42,8 @@ pub(crate) struct Layout {
     /// The names of conditions, without INITIAL.
     pub conditions: Vec<Part>,
     pub definitions: Vec<DefinitionPart>,
+    /// The line that begins Rules.
+    pub rules_begin: Option<Part>,
     pub rules: Vec<RulePart>,
     /// The lines of Rules that are skipped, but those of groups and actions.
     pub skipped: Vec<Part>,
@@ -118,7 +120,10 @@ fn take_declaration(layout: &mut Layout, text: &[u8], line: Part) -> Result<Sect
         Line::Skipped | Line::NoForm => Ok(Section::Definitions),
         Line::OpensComment => Ok(Section::Comment),
         Line::OpensGroup => Ok(Section::Group),
-        Line::RulesBegin => Ok(Section::Rules),
+        Line::RulesBegin => {
+            layout.rules_begin = Some(line);
+            Ok(Section::Rules)
+        }
         Line::Conditions { .. } => {
             take_conditions(layout, text, line)?;
             Ok(Section::Definitions)
@@ -251,6 +256,7 @@ fn empty_layout(alloc: Global) -> Layout {
         declarations: Vec::new(alloc),
         conditions: Vec::new(alloc),
         definitions: Vec::new(alloc),
+        rules_begin: None,
         rules: Vec::new(alloc),
         skipped: Vec::new(alloc),
         behind: Vec::new(alloc),

@@ -4,7 +4,7 @@ use crate::brackets::{character_before, look_at_brackets};
 use crate::branches::{Branch, Branches};
 use crate::escapes::look_at_escapes;
 use crate::kinds::{KindSet, WarningKind};
-use crate::suspects::{Suspect, push_suspect, suspect_at};
+use crate::suspects::{Subject, Suspect, push_suspect, suspect_at};
 use lx_diagnose::Span;
 use lx_diagnose::places::between;
 use lx_diagnose::scan::is_at;
@@ -22,7 +22,7 @@ fn is_once(low: u8, high: Option<u8>) -> bool {
 // An interval behind several units.
 fn look_at_interval(
     found: &mut Vec<Suspect>,
-    wanted: &KindSet,
+    allowed: &KindSet,
     branch: Branch,
     at: Span,
 ) -> Result<(), AllocError> {
@@ -33,24 +33,26 @@ fn look_at_interval(
         kind: WarningKind::Interval,
         at,
         phrase: "the interval repeats all of `@`, and in flex the end alone: write `(~)` for that, or put `@` in parentheses",
-        name: between(branch.start, at.start),
-        other: between(branch.last, at.end()),
+        subject: Subject::Parts(
+            between(branch.start, at.start),
+            between(branch.last, at.end()),
+        ),
     };
-    push_suspect(found, wanted, suspect)
+    push_suspect(found, allowed, suspect)
 }
 
 // A repeat behind a repeat, or behind the last byte of a character of several.
 fn look_at_repeat(
     text: &[u8],
     found: &mut Vec<Suspect>,
-    wanted: &KindSet,
+    allowed: &KindSet,
     branches: &Branches,
     at: Span,
 ) -> Result<(), AllocError> {
     if branches.behind_repeat && is_at(text, at.start, b'?') {
         let both = between(at.start.saturating_sub(1), at.end());
         let phrase = "`@` is not lazy: the longest text is taken";
-        return push_suspect(found, wanted, suspect_at(WarningKind::Lazy, both, phrase));
+        return push_suspect(found, allowed, suspect_at(WarningKind::Lazy, both, phrase));
     }
     if branches.innermost.last.saturating_add(1) != at.start {
         return Ok(());
@@ -61,10 +63,9 @@ fn look_at_repeat(
                 kind: WarningKind::ManyBytes,
                 at,
                 phrase: "`@` repeats the last byte of `~` alone; put the character in quotes",
-                name: at,
-                other: character,
+                subject: Subject::Parts(at, character),
             };
-            push_suspect(found, wanted, suspect)
+            push_suspect(found, allowed, suspect)
         }
         None => Ok(()),
     }
@@ -84,14 +85,14 @@ fn is_curly_at(text: &[u8], at: usize) -> bool {
 fn look_at_set(
     text: &[u8],
     found: &mut Vec<Suspect>,
-    wanted: &KindSet,
+    allowed: &KindSet,
     at: Span,
 ) -> Result<(), AllocError> {
     if is_at(text, at.start, b'[') {
-        look_at_brackets(text, found, wanted, at)?;
-        look_at_escapes(text, found, wanted, at)
+        look_at_brackets(text, found, allowed, at)?;
+        look_at_escapes(text, found, allowed, at)
     } else if is_at(text, at.start, b'\\') {
-        look_at_escapes(text, found, wanted, at)
+        look_at_escapes(text, found, allowed, at)
     } else if is_curly_at(text, at.start) {
         let mark = Span {
             start: at.start,
@@ -100,7 +101,7 @@ fn look_at_set(
         let phrase = "`@` is three bytes and quotes nothing; write plain quotes";
         push_suspect(
             found,
-            wanted,
+            allowed,
             suspect_at(WarningKind::CurlyQuotes, mark, phrase),
         )
     } else {
@@ -112,22 +113,22 @@ fn look_at_set(
 pub(crate) fn look_at_lexeme(
     text: &[u8],
     found: &mut Vec<Suspect>,
-    wanted: &KindSet,
+    allowed: &KindSet,
     branches: &Branches,
     lexeme: &Lexeme,
     at: Span,
 ) -> Result<(), AllocError> {
     match lexeme {
-        Lexeme::Set(_) => look_at_set(text, found, wanted, at),
-        Lexeme::Quoted(_, _) => look_at_escapes(text, found, wanted, at),
+        Lexeme::Set(_) => look_at_set(text, found, allowed, at),
+        Lexeme::Quoted(_, _) => look_at_escapes(text, found, allowed, at),
         Lexeme::Interval(low, high) => {
             if is_once(*low, *high) {
                 return Ok(());
             }
-            look_at_interval(found, wanted, branches.innermost, at)
+            look_at_interval(found, allowed, branches.innermost, at)
         }
         Lexeme::Star | Lexeme::Plus | Lexeme::Question => {
-            look_at_repeat(text, found, wanted, branches, at)
+            look_at_repeat(text, found, allowed, branches, at)
         }
         Lexeme::Name(_) | Lexeme::OpenGroup | Lexeme::CloseGroup | Lexeme::Bar => Ok(()),
     }

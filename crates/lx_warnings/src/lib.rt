@@ -9,11 +9,14 @@ mod escapes;
 pub mod kinds;
 mod layout;
 mod lexemes;
+mod never_chosen;
 mod pattern;
 mod skipped;
 mod suspects;
 mod suspicion;
+mod untaken;
 pub mod warnings;
 
 pub use crate::kinds::{KindSet, WarningKind, kind_named, name_of};
+pub use crate::untaken::untaken_bytes;
 pub use crate::warnings::{Known, Warning, Warnings, warnings_of};

@@ -24,7 +24,7 @@ pub(crate) fn look_at_pattern(
     alloc: Global,
     text: &[u8],
     found: &mut Vec<Suspect>,
-    wanted: &KindSet,
+    allowed: &KindSet,
     pattern: Span,
 ) -> Result<(), AllocError> {
     let start = behind_caret(text, pattern);
@@ -39,7 +39,7 @@ pub(crate) fn look_at_pattern(
             end.saturating_sub(rest.len()),
             end.saturating_sub(behind.len()),
         );
-        look_at_lexeme(text, found, wanted, &branches, &lexeme, at)?;
+        look_at_lexeme(text, found, allowed, &branches, &lexeme, at)?;
         take_lexeme(&mut branches, &lexeme, at)?;
         rest = behind;
     }

@@ -57,11 +57,11 @@ fn look_at_line(
     alloc: Global,
     text: &[u8],
     found: &mut Vec<Suspect>,
-    wanted: &KindSet,
+    allowed: &KindSet,
     suspect: Suspect,
 ) -> Result<(), AllocError> {
-    if wanted.contains(suspect.kind) && is_rule(alloc, part(text, suspect.at))? {
-        return push_suspect(found, wanted, suspect);
+    if !allowed.contains(suspect.kind) && is_rule(alloc, part(text, suspect.at))? {
+        return push_suspect(found, allowed, suspect);
     }
     Ok(())
 }
@@ -71,7 +71,6 @@ pub(crate) fn look_at_blank_line(
     alloc: Global,
     text: &[u8],
     found: &mut Vec<Suspect>,
-    asked: &KindSet,
     line: Part,
 ) -> Result<(), AllocError> {
     let start = behind_blanks(text, line.at.start, line.at.end());
@@ -80,7 +79,7 @@ pub(crate) fn look_at_blank_line(
         between(start, line.at.end()),
         "this looks like a rule, and is skipped: a blank begins the line",
     );
-    look_at_line(alloc, text, found, &asked.without(&line.allowed), suspect)
+    look_at_line(alloc, text, found, &line.allowed, suspect)
 }
 
 /// Looks at a line behind Rules.
@@ -88,7 +87,6 @@ pub(crate) fn look_at_line_behind(
     alloc: Global,
     text: &[u8],
     found: &mut Vec<Suspect>,
-    asked: &KindSet,
     line: Span,
 ) -> Result<(), AllocError> {
     let suspect = suspect_at(
@@ -96,5 +94,5 @@ pub(crate) fn look_at_line_behind(
         line,
         "this looks like a rule, and is skipped: it stands behind the second %%",
     );
-    look_at_line(alloc, text, found, asked, suspect)
+    look_at_line(alloc, text, found, &KindSet::none(), suspect)
 }

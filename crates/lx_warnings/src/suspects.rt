@@ -4,14 +4,26 @@ use crate::kinds::{KindSet, WarningKind};
 use lx_diagnose::Span;
 use std::alloc::AllocError;
 
-/// What is suspicious: where it is, and a phrase into which two parts of the text are put, for `@` and for `~`.
+/// What is put into a phrase.
+#[derive(Clone, Copy)]
+pub(crate) enum Subject {
+    /// Two parts of the text, for `@` and for `~`.
+    Parts(Span, Span),
+    /// A byte, for `@`.
+    Byte(u8),
+    /// The bytes that no rule takes in the condition of this number, for `~`, and its name, for `@`.
+    Untaken(u16),
+    /// Nothing: the words are those on the rules that take the texts of the rule of this number.
+    Takers(u16),
+}
+
+/// What is suspicious: where it is, and a phrase with what is put into it.
 #[derive(Clone, Copy)]
 pub(crate) struct Suspect {
     pub kind: WarningKind,
     pub at: Span,
     pub phrase: &'static str,
-    pub name: Span,
-    pub other: Span,
+    pub subject: Subject,
 }
 
 /// A part of the text that is itself the word of the phrase.
@@ -20,18 +32,17 @@ pub(crate) fn suspect_at(kind: WarningKind, at: Span, phrase: &'static str) -> S
         kind,
         at,
         phrase,
-        name: at,
-        other: at,
+        subject: Subject::Parts(at, at),
     }
 }
 
-/// Adds what was found, if it is wanted.
+/// Adds what was found, unless it is allowed.
 pub(crate) fn push_suspect(
     found: &mut Vec<Suspect>,
-    wanted: &KindSet,
+    allowed: &KindSet,
     suspect: Suspect,
 ) -> Result<(), AllocError> {
-    if wanted.contains(suspect.kind) {
+    if !allowed.contains(suspect.kind) {
         found.push(suspect)?;
     }
     Ok(())

@@ -1,21 +1,24 @@
 // All that is suspicious about a text.
 
+ghost use Rattle.std.specs.Prelude.{◌<◌, length};
+
 use crate::action::look_at_action;
 use crate::kinds::{KindSet, WarningKind};
 use crate::layout::{DefinitionPart, Layout, Part, RulePart};
 use crate::pattern::look_at_pattern;
 use crate::skipped::{look_at_blank_line, look_at_line_behind};
-use crate::suspects::{Suspect, push_suspect, suspect_at};
+use crate::suspects::{Subject, Suspect, push_suspect, suspect_at};
+use crate::untaken::untaken_bytes;
 use crate::warnings::Known;
+use lx_chosen::far_ahead;
+use lx_diagnose::Span;
 use lx_diagnose::places::between;
 use lx_diagnose::scan::{behind_word, is_listed, part};
 use lx_ere::{EreFault, read_substitute};
 use lx_spec::Spec;
 use lx_spec::action::{Action, read_action};
+use lx_tables::Tables;
 use std::alloc::{AllocError, Global};
-
-const NEVER_CHOSEN: &str =
-    "this rule is never chosen: each of its matches gives way to a longer one or to a rule before it, or is empty";
 
 // The words behind `%` by which conditions are declared, but for those that only begin so.
 const CONDITION_WORDS: &[u8] = b" s S x X start ";
@@ -23,7 +26,6 @@ const CONDITION_WORDS: &[u8] = b" s S x X start ";
 fn look_at_declaration(
     text: &[u8],
     found: &mut Vec<Suspect>,
-    asked: &KindSet,
     line: Part,
 ) -> Result<(), AllocError> {
     let start = line.at.start.saturating_add(1);
@@ -35,28 +37,26 @@ fn look_at_declaration(
         kind: WarningKind::ConditionWord,
         at: between(line.at.start, word.end()),
         phrase: "`%@` declares conditions, as each word with this first letter does",
-        name: word,
-        other: word,
+        subject: Subject::Parts(word, word),
     };
-    push_suspect(found, &asked.without(&line.allowed), suspect)
+    push_suspect(found, &line.allowed, suspect)
 }
 
 fn look_at_conditions(
     text: &[u8],
     found: &mut Vec<Suspect>,
-    asked: &KindSet,
     layout: &Layout,
     entered: &[bool],
 ) -> Result<(), AllocError> {
     for line in &layout.declarations {
-        look_at_declaration(text, found, asked, *line)?;
+        look_at_declaration(text, found, *line)?;
     }
     // INITIAL is the first condition, and isn't declared.
     for (condition, entered) in layout.conditions.iter().zip(entered.iter().skip(1)) {
         if !*entered {
             let phrase = "no rule enters the condition @";
             let suspect = suspect_at(WarningKind::NeverEntered, condition.at, phrase);
-            push_suspect(found, &asked.without(&condition.allowed), suspect)?;
+            push_suspect(found, &condition.allowed, suspect)?;
         }
     }
     Ok(())
@@ -84,17 +84,16 @@ fn look_at_definition(
     alloc: Global,
     text: &[u8],
     found: &mut Vec<Suspect>,
-    asked: &KindSet,
     spec: &Spec,
     definition: DefinitionPart,
 ) -> Result<(), AllocError> {
-    let wanted = asked.without(&definition.allowed);
+    let allowed = &definition.allowed;
     if is_used(spec, part(text, definition.name)) {
-        return look_at_pattern(alloc, text, found, &wanted, definition.substitute);
+        return look_at_pattern(alloc, text, found, allowed, definition.substitute);
     }
     let phrase = unused_phrase(alloc, part(text, definition.substitute))?;
     let suspect = suspect_at(WarningKind::UnusedDefinition, definition.name, phrase);
-    push_suspect(found, &wanted, suspect)
+    push_suspect(found, allowed, suspect)
 }
 
 fn is_shared(alloc: Global, action: &[u8]) -> Result<bool, AllocError> {
@@ -105,7 +104,7 @@ fn is_shared(alloc: Global, action: &[u8]) -> Result<bool, AllocError> {
 fn look_at_end_rule(
     text: &[u8],
     found: &mut Vec<Suspect>,
-    wanted: &KindSet,
+    allowed: &KindSet,
     rule: RulePart,
     behind_bar: bool,
 ) -> Result<(), AllocError> {
@@ -119,7 +118,7 @@ fn look_at_end_rule(
     };
     push_suspect(
         found,
-        wanted,
+        allowed,
         suspect_at(WarningKind::EofRule, rule.pattern, phrase),
     )
 }
@@ -128,33 +127,41 @@ fn look_at_rule(
     alloc: Global,
     text: &[u8],
     found: &mut Vec<Suspect>,
-    wanted: &KindSet,
+    allowed: &KindSet,
     rule: RulePart,
     behind_bar: bool,
 ) -> Result<(), AllocError> {
-    look_at_end_rule(text, found, wanted, rule, behind_bar)?;
-    look_at_pattern(alloc, text, found, wanted, rule.pattern)?;
-    look_at_action(alloc, text, found, wanted, rule.action)
+    look_at_end_rule(text, found, allowed, rule, behind_bar)?;
+    look_at_pattern(alloc, text, found, allowed, rule.pattern)?;
+    look_at_action(alloc, text, found, allowed, rule.action)
+}
+
+// A rule that is never chosen; no text has more rules than 4,096.
+fn never_chosen(at: Span, number: u16) -> Suspect {
+    Suspect {
+        kind: WarningKind::NeverChosen,
+        at,
+        phrase: "",
+        subject: Subject::Takers(number),
+    }
 }
 
 fn look_at_rules(
     alloc: Global,
     text: &[u8],
     found: &mut Vec<Suspect>,
-    asked: &KindSet,
     layout: &Layout,
     chosen: &[bool],
 ) -> Result<(), AllocError> {
     let mut behind_bar = false;
     for i in 0..layout.rules.len() {
         let rule = layout.rules[i];
-        let wanted = asked.without(&rule.allowed);
+        let allowed = &rule.allowed;
         if i < chosen.len() && !chosen[i] {
             let whole = between(rule.start, rule.pattern.end());
-            let suspect = suspect_at(WarningKind::NeverChosen, whole, NEVER_CHOSEN);
-            push_suspect(found, &wanted, suspect)?;
+            push_suspect(found, allowed, never_chosen(whole, i as u16))?;
         }
-        look_at_rule(alloc, text, found, &wanted, rule, behind_bar)?;
+        look_at_rule(alloc, text, found, allowed, rule, behind_bar)?;
         behind_bar = is_shared(alloc, part(text, rule.action))?;
     }
     Ok(())
@@ -164,19 +171,86 @@ fn look_at_skipped(
     alloc: Global,
     text: &[u8],
     found: &mut Vec<Suspect>,
-    asked: &KindSet,
     layout: &Layout,
 ) -> Result<(), AllocError> {
     for line in &layout.skipped {
-        look_at_blank_line(alloc, text, found, asked, *line)?;
+        look_at_blank_line(alloc, text, found, *line)?;
     }
     for line in &layout.behind {
-        look_at_line_behind(alloc, text, found, asked, line.at)?;
+        look_at_line_behind(alloc, text, found, line.at)?;
     }
     Ok(())
 }
 
-/// What is suspicious about the parts of a text, of those kinds that are asked for.
+// The name of a condition, or for INITIAL the line that begins Rules.
+fn condition_part(layout: &Layout, condition: u16) -> Option<Part> {
+    if condition == 0 {
+        return layout.rules_begin;
+    }
+    layout.conditions.get(usize::from(condition) - 1).copied()
+}
+
+// The bytes that no rule takes in a condition.
+fn look_at_untaken(
+    alloc: Global,
+    found: &mut Vec<Suspect>,
+    layout: &Layout,
+    tables: &Tables,
+    condition: u16,
+) -> Result<(), AllocError>
+    requires { condition < length tables.now.machine.starts }
+{
+    let Some(named) = condition_part(layout, condition) else {
+        return Ok(());
+    };
+    if untaken_bytes(alloc, tables, condition)?.is_empty() {
+        return Ok(());
+    }
+    let suspect = Suspect {
+        kind: WarningKind::UnreadBytes,
+        at: named.at,
+        phrase: "in @ no rule takes [~]: such bytes are echoed",
+        subject: Subject::Untaken(condition),
+    };
+    push_suspect(found, &named.allowed, suspect)
+}
+
+fn look_at_all_untaken(
+    alloc: Global,
+    found: &mut Vec<Suspect>,
+    layout: &Layout,
+    known: &Known<'_>,
+) -> Result<(), AllocError> {
+    for condition in 0..known.tables.conditions() {
+        if usize::from(condition) < known.entered.len() && known.entered[usize::from(condition)] {
+            look_at_untaken(alloc, found, layout, known.tables, condition)?;
+        }
+    }
+    Ok(())
+}
+
+// The rules for which runs of a byte are read to their end in vain.
+fn look_at_runs(
+    alloc: Global,
+    found: &mut Vec<Suspect>,
+    layout: &Layout,
+    known: &Known<'_>,
+) -> Result<(), AllocError> {
+    for far in &far_ahead(alloc, known.tables, known.entered)? {
+        if let Some(rule) = layout.rules.get(usize::from(far.rule)) {
+            let suspect = Suspect {
+                kind: WarningKind::FarAhead,
+                at: between(rule.start, rule.pattern.end()),
+                phrase: "a run of the byte `@` is read to its end, and where no match ends with it, again behind each of its bytes",
+                subject: Subject::Byte(far.byte),
+            };
+            push_suspect(found, &rule.allowed, suspect)?;
+        }
+    }
+    Ok(())
+}
+
+/// What is suspicious about the parts of a text; of runs of a byte only where that is asked for, since it takes long.
 pub(crate) fn suspects_in(
     alloc: Global,
     text: &[u8],
@@ -185,11 +259,15 @@ pub(crate) fn suspects_in(
     known: &Known<'_>,
 ) -> Result<Vec<Suspect>, AllocError> {
     let mut found = Vec::new(alloc);
-    look_at_conditions(text, &mut found, asked, layout, known.entered)?;
+    look_at_conditions(text, &mut found, layout, known.entered)?;
     for definition in &layout.definitions {
-        look_at_definition(alloc, text, &mut found, asked, known.spec, *definition)?;
+        look_at_definition(alloc, text, &mut found, known.spec, *definition)?;
     }
-    look_at_rules(alloc, text, &mut found, asked, layout, known.chosen)?;
-    look_at_skipped(alloc, text, &mut found, asked, layout)?;
+    look_at_rules(alloc, text, &mut found, layout, known.chosen)?;
+    look_at_skipped(alloc, text, &mut found, layout)?;
+    look_at_all_untaken(alloc, &mut found, layout, known)?;
+    if asked.contains(WarningKind::FarAhead) {
+        look_at_runs(alloc, &mut found, layout, known)?;
+    }
     Ok(found)
 }

@@ -1,26 +1,37 @@
 //! Warnings, each with its place and its words.
 
-ghost use Rattle.std.specs.Prelude.{◌<◌, ◌≤◌, All, IfOk, length};
+ghost use Rattle.std.specs.Prelude.{◌≡◌, ◌<◌, ◌≤◌, All, IfOk, length, true};
 ghost use Rattle.lx_diagnose.specs.Printed.{ArePrinted};
+ghost use Rattle.lx_warnings.specs.Kinds.{has_kind};
 ghost use Rattle.lx_warnings.specs.Told.{IsTold};
 
 use crate::kinds::{KindSet, WarningKind};
 use crate::layout::layout_of;
-use crate::suspects::Suspect;
+use crate::never_chosen::phrase_and_example;
+use crate::suspects::{Subject, Suspect};
 use crate::suspicion::suspects_in;
+use crate::untaken::untaken_bytes;
+use lx_chosen::Takers;
 use lx_diagnose::Place;
 use lx_diagnose::lines::place_of;
 use lx_diagnose::scan::part;
 use lx_diagnose::wording::{Fillings, filled, told};
 use lx_spec::Spec;
+use lx_tables::Tables;
 use std::alloc::{AllocError, Global};
 
-/// What is known of a text that is accepted: the specification that it says, of each rule whether it is ever chosen, and of each condition whether it is entered.
+/// What is known of a text that is accepted.
 #[derive(Clone, Copy)]
 pub struct Known<'k> {
+    /// The specification that it says, and its tables.
     pub spec: &'k Spec,
+    pub tables: &'k Tables,
+    /// Of each rule whether it is ever chosen.
     pub chosen: &'k [bool],
+    /// Of each condition whether it is entered.
     pub entered: &'k [bool],
+    /// Which rules take the texts of some that are never chosen.
+    pub takers: &'k [Takers],
 }
 
 /// What is suspicious, where it is, and what is said of it, in one line.
@@ -38,22 +49,85 @@ pub struct Warnings {
     pub count: usize,
 }
 
-fn words_of(alloc: Global, text: &[u8], suspect: &Suspect) -> Result<Vec<u8>, AllocError>
+fn untaken_in(alloc: Global, tables: &Tables, condition: u16) -> Result<Vec<u8>, AllocError> {
+    if condition < tables.conditions() {
+        untaken_bytes(alloc, tables, condition)
+    } else {
+        Ok(Vec::new(alloc))
+    }
+}
+
+fn name_in(spec: &Spec, condition: u16) -> &[u8] {
+    match spec.conditions.get(usize::from(condition)) {
+        Some(condition) => &condition.name,
+        None => b"",
+    }
+}
+
+// A phrase with these two for `@` and `~`.
+fn filled_with(
+    alloc: Global,
+    phrase: &[u8],
+    name: &[u8],
+    other: &[u8],
+) -> Result<Vec<u8>, AllocError>
+    ensures { IfOk result (λ words. ArePrinted words.items) }
+{
+    let fillings = Fillings {
+        name,
+        other,
+        line: 0,
+    };
+    filled(alloc, phrase, &fillings)
+}
+
+fn phrased(
+    alloc: Global,
+    text: &[u8],
+    known: &Known<'_>,
+    suspect: &Suspect,
+) -> Result<Vec<u8>, AllocError>
+    ensures { IfOk result (λ words. ArePrinted words.items) }
+{
+    let phrase = suspect.phrase.as_bytes();
+    match suspect.subject {
+        Subject::Parts(name, other) => {
+            filled_with(alloc, phrase, part(text, name), part(text, other))
+        }
+        Subject::Byte(byte) => filled_with(alloc, phrase, &[byte], b""),
+        Subject::Untaken(condition) => {
+            let bytes = untaken_in(alloc, known.tables, condition)?;
+            filled_with(alloc, phrase, name_in(known.spec, condition), &bytes)
+        }
+        Subject::Takers(rule) => {
+            let (phrase, example) = phrase_and_example(alloc, known, rule)?;
+            filled_with(alloc, &phrase, example, b"")
+        }
+    }
+}
+
+fn words_of(
+    alloc: Global,
+    text: &[u8],
+    known: &Known<'_>,
+    suspect: &Suspect,
+) -> Result<Vec<u8>, AllocError>
     ensures printed { IfOk result (λ words. ArePrinted words.items) }
     ensures some { IfOk result (λ words. 0 < length words.items) }
 {
-    let fillings = Fillings {
-        name: part(text, suspect.name),
-        other: part(text, suspect.other),
-        line: 0,
-    };
-    told(filled(alloc, suspect.phrase.as_bytes(), &fillings)?)
+    told(phrased(alloc, text, known, suspect)?)
 }
 
-fn warning_of(alloc: Global, text: &[u8], suspect: &Suspect) -> Result<Warning, AllocError>
-    ensures { IfOk result (IsTold text.now) }
+fn warning_of(
+    alloc: Global,
+    text: &[u8],
+    known: &Known<'_>,
+    suspect: &Suspect,
+) -> Result<Warning, AllocError>
+    ensures told { IfOk result (IsTold text.now) }
+    ensures kind { IfOk result (λ warning. warning.kind ≡ suspect.now.kind) }
 {
-    let words = words_of(alloc, text, suspect)?;
+    let words = words_of(alloc, text, known, suspect)?;
     Ok(Warning {
         kind: suspect.kind,
         place: place_of(text, suspect.at),
@@ -61,24 +135,31 @@ fn warning_of(alloc: Global, text: &[u8], suspect: &Suspect) -> Result<Warning, 
     })
 }
 
-// The first of what was found, in words.
+// Those of the kinds that are asked for: the first of them in words, and how many there are.
 fn told_of(
     alloc: Global,
     text: &[u8],
+    known: &Known<'_>,
     suspects: &[Suspect],
+    asked: &KindSet,
     most: usize,
-) -> Result<Vec<Warning>, AllocError>
-    ensures told { IfOk result (λ warnings. All (IsTold text.now) warnings.items) }
-    ensures most { IfOk result (λ warnings. length warnings.items ≤ most) }
+) -> Result<Warnings, AllocError>
+    ensures told { IfOk result (λ warnings. All (IsTold text.now) warnings.told.items) }
+    ensures asked { IfOk result (λ warnings. All (λ warning. has_kind asked.now warning.kind ≡ true) warnings.told.items) }
+    ensures most { IfOk result (λ warnings. length warnings.told.items ≤ most) }
 {
-    let mut warnings = Vec::new(alloc);
+    let mut told = Vec::new(alloc);
+    let mut count: usize = 0;
     for suspect in suspects {
-        if warnings.len() >= most {
-            break;
+        if !asked.contains(suspect.kind) {
+            continue;
         }
-        warnings.push(warning_of(alloc, text, suspect)?)?;
+        count = count.saturating_add(1);
+        if told.len() < most {
+            told.push(warning_of(alloc, text, known, suspect)?)?;
+        }
     }
-    Ok(warnings)
+    Ok(Warnings { told, count })
 }
 
 /// The warnings of a text that is accepted, by their places, of those kinds that are asked for: the first of them, and how many there are. Err: memory was refused.
@@ -92,14 +173,11 @@ pub fn warnings_of(
     most: usize,
 ) -> Result<Warnings, AllocError>
     ensures told { IfOk result (λ warnings. All (IsTold text.now) warnings.told.items) }
+    ensures asked { IfOk result (λ warnings. All (λ warning. has_kind asked.now warning.kind ≡ true) warnings.told.items) }
     ensures most { IfOk result (λ warnings. length warnings.told.items ≤ most) }
 {
     let layout = layout_of(alloc, text)?;
     let mut suspects = suspects_in(alloc, text, asked, &layout, known)?;
     suspects.sort_by_key(|suspect| suspect.at.start)?;
-    let count = suspects.len();
-    Ok(Warnings {
-        told: told_of(alloc, text, &suspects, most)?,
-        count,
-    })
+    told_of(alloc, text, known, &suspects, asked, most)
 }

@@ -1,9 +1,11 @@
-use Rattle.std.proofs.Common.{◌≤◌, All, length}
+use Rattle.std.proofs.Common.{◌≡◌, ◌≤◌, All, length, true}
+use Rattle.lx_warnings.specs.Kinds.{has_kind}
 use Rattle.lx_warnings.specs.Told.{IsTold}
 use Rattle.lx_warnings.proofs.warnings.told_of.Given as goal
 
 abbrev pub invariant-loop-suspect : goal.invariant-loop-suspect
 invariant-loop-suspect l = record {
-  told : All (IsTold l.text) l.warnings.items;
-  most : length l.warnings.items ≤ l.most;
+  told : All (IsTold l.text) l.told.items;
+  asked : All (λ warning. has_kind l.asked warning.kind ≡ true) l.told.items;
+  most : length l.told.items ≤ l.most;
 }

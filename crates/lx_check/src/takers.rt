@@ -1,0 +1,111 @@
+// Which rules take the texts of those that are never chosen.
+
+use crate::verdict::{read, tables_of};
+use crate::without::MAX_SPECIFICATION_BYTES;
+use bstr::ByteSlice;
+use lx_chosen::{Takers, takers_of};
+use lx_spec::Code;
+use lx_spec::parsed_sections::RawRule;
+use lx_spec::rule_line::Prefix;
+use lx_spec::section::read_sections;
+use lx_tables::Tables;
+use std::alloc::{AllocError, Global};
+
+// So many rules are looked at, where so many bytes are read at most.
+const MAX_RULES: usize = 20;
+
+const MAX_READ_BYTES: usize = 2_000_000;
+
+fn push_lines_before(made: &mut Vec<u8>, text: &[u8], line: u32) -> Result<(), AllocError> {
+    let mut number: usize = 1;
+    let mut lines = text.lines_with_terminator();
+    while let Some(found) = lines.next() {
+        if number >= line as usize {
+            break;
+        }
+        made.extend_from_slice(found)?;
+        number = number.saturating_add(1);
+    }
+    Ok(())
+}
+
+// The text up to the first rule, and behind it this rule alone, which does nothing.
+fn text_with(
+    alloc: Global,
+    text: &[u8],
+    first: u32,
+    rule: &RawRule<'_>,
+) -> Result<Vec<u8>, AllocError> {
+    let mut made = Vec::new(alloc);
+    push_lines_before(&mut made, text, first)?;
+    if let Prefix::Listed(names) = rule.prefix {
+        made.extend_from_slice(b"<")?;
+        made.extend_from_slice(names)?;
+        made.extend_from_slice(b">")?;
+    }
+    made.extend_from_slice(rule.pattern)?;
+    made.extend_from_slice(b" ;\n")?;
+    Ok(made)
+}
+
+fn tables_of_text(alloc: Global, text: &[u8]) -> Result<Option<Tables>, AllocError> {
+    match read(alloc, text)? {
+        Ok(spec) => Ok(tables_of(alloc, &spec)?.ok()),
+        Err(_) => Ok(None),
+    }
+}
+
+// The same of these rules of a text, by the tables of all of them.
+fn takers_among(
+    alloc: Global,
+    text: &[u8],
+    rules: &[RawRule<'_>],
+    tables: &Tables,
+    chosen: &[bool],
+) -> Result<Vec<Takers>, AllocError> {
+    let mut takers = Vec::new(alloc);
+    let Some(first) = rules.first() else {
+        return Ok(takers);
+    };
+    let mut left = MAX_READ_BYTES;
+    for number in 0..tables.rules() {
+        let place = usize::from(number);
+        if place >= rules.len() || place >= chosen.len() || takers.len() >= MAX_RULES {
+            break;
+        }
+        if chosen[place] {
+            continue;
+        }
+        let alone = text_with(alloc, text, first.line, &rules[place])?;
+        if alone.len() > left {
+            break;
+        }
+        left -= alone.len();
+        if let Some(alone) = tables_of_text(alloc, &alone)? {
+            takers.push(takers_of(alloc, &alone, tables, number)?)?;
+        }
+    }
+    Ok(takers)
+}
+
+/// Which rules take the texts of those that are never chosen, for the first of these: of 20 rules at most, where 2,000,000 bytes are read at most.
+pub(crate) fn takers_in(
+    alloc: Global,
+    text: &[u8],
+    tables: &Tables,
+    chosen: &[bool],
+) -> Result<Vec<Takers>, AllocError> {
+    if text.len() > MAX_SPECIFICATION_BYTES {
+        return Ok(Vec::new(alloc));
+    }
+    match read_sections(alloc, text) {
+        Ok(sections) => takers_among(alloc, text, &sections.rules, tables, chosen),
+        Err(fault) => {
+            if fault.code == Code::Memory {
+                Err(AllocError)
+            } else {
+                Ok(Vec::new(alloc))
+            }
+        }
+    }
+}
