@@ -3,6 +3,7 @@
 
 mod errors;
 mod pieces;
+mod repeated;
 mod sarif;
 pub mod saying;
 pub mod style;

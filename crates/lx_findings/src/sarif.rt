@@ -1,6 +1,7 @@
 // What is said of a specification, as SARIF 2.1.0.
 
 use crate::pieces::{place_of, push};
+use crate::repeated::new_findings;
 use crate::saying::Said;
 use crate::style::Style;
 use crate::warnings::warnings_in;
@@ -91,9 +92,13 @@ fn push_error_results(
     source: &[u8],
     faults: &[Fault],
 ) -> Result<(), AllocError> {
-    for i in 0..faults.len() {
-        push_comma(text, i)?;
-        push_error_result(alloc, text, style, source, faults[i])?;
+    let Some((first, more)) = faults.split_first() else {
+        return Ok(());
+    };
+    push_error_result(alloc, text, style, source, *first)?;
+    for fault in &new_findings(alloc, source, *first, more)? {
+        push(text, b",\n")?;
+        push_error_result(alloc, text, style, source, *fault)?;
     }
     Ok(())
 }

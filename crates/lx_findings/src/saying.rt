@@ -5,6 +5,7 @@ ghost use Rattle.lx_findings.specs.Said.{Extends, TellsFirst, TellsVerdict};
 
 use crate::errors::push_error;
 use crate::pieces::{push, push_count};
+use crate::repeated::new_findings;
 use crate::style::Style;
 use crate::warnings::push_accepted;
 use lx_check::{Finding, Report};
@@ -61,9 +62,10 @@ fn push_errors(
     let Some((first, more)) = findings.split_first() else {
         return Ok(());
     };
+    let new = new_findings(alloc, source, *first, more)?;
     push_error(alloc, text, style, source, *first)?;
-    push_further(alloc, text, style, source, more)?;
-    push_end(text, style, findings.len())
+    push_further(alloc, text, style, source, &new)?;
+    push_end(text, style, new.len().saturating_add(1))
 }
 
 /// What is said of a text of a specification, of which this is the report: its faults, each with the line of the source and what to do, or its warnings, how much

@@ -1,0 +1,72 @@
+// Faults that say again what one before them says.
+
+use lx_check::Finding;
+use lx_diagnose::scan::part;
+use lx_diagnose::{Cause, Diagnosis, Place, diagnose};
+use std::alloc::{AllocError, Global};
+
+fn is_same_place(place: Option<Place>, other: Option<Place>) -> bool {
+    match (place, other) {
+        (Some(place), Some(other)) => place.line == other.line && place.column == other.column,
+        _ => false,
+    }
+}
+
+// Whether both say that the same definition has no reading, or is nested too deep, or that the same name isn't defined or declared.
+fn is_same(source: &[u8], this: &Diagnosis, other: &Diagnosis) -> bool {
+    match (this.cause, other.cause) {
+        (Cause::NoReading(_), Cause::NoReading(_)) | (Cause::TooDeep(_), Cause::TooDeep(_)) => {
+            is_same_place(this.note, other.note)
+        }
+        (Cause::Undefined(_), Cause::Undefined(_))
+        | (Cause::NoCondition(_), Cause::NoCondition(_)) => {
+            part(source, this.name) == part(source, other.name)
+        }
+        _ => false,
+    }
+}
+
+fn is_among(source: &[u8], told: &[Diagnosis], diagnosis: &Diagnosis) -> bool {
+    for other in told {
+        if is_same(source, diagnosis, other) {
+            return true;
+        }
+    }
+    false
+}
+
+// Whether a finding says something that isn't among what was told. That is told from now on.
+fn is_new(
+    alloc: Global,
+    source: &[u8],
+    told: &mut Vec<Diagnosis>,
+    finding: Finding,
+) -> Result<bool, AllocError> {
+    let Finding::Specification(fault) = finding else {
+        return Ok(true);
+    };
+    let diagnosis = diagnose(alloc, source, fault)?;
+    if is_among(source, told, &diagnosis) {
+        return Ok(false);
+    }
+    told.push(diagnosis)?;
+    Ok(true)
+}
+
+/// Those of further findings that say something new: a definition without a reading is told with the first rule that reaches it, and a name that is missing at its first use.
+pub(crate) fn new_findings(
+    alloc: Global,
+    source: &[u8],
+    first: Finding,
+    more: &[Finding],
+) -> Result<Vec<Finding>, AllocError> {
+    let mut told = Vec::new(alloc);
+    is_new(alloc, source, &mut told, first)?;
+    let mut new = Vec::new(alloc);
+    for finding in more {
+        if is_new(alloc, source, &mut told, *finding)? {
+            new.push(*finding)?;
+        }
+    }
+    Ok(new)
+}
