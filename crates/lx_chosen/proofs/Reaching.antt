@@ -7,7 +7,7 @@ use Rattle.lx_automaton.specs.Automata.{Machine, start_of, target_of, state_afte
 use Rattle.lx_chosen.specs.Reached.{AreMet, IsStart, IsTarget, IsReached, AreTargets}
 use Rattle.lx_chosen.proofs.Meeting.{known}
 
-no_bytes : (m : Machine) (s : Option ℕ) → state_after m s [] ≡ s
+pub no_bytes : (m : Machine) (s : Option ℕ) → state_after m s [] ≡ s
 no_bytes m None = refl
 no_bytes m (Some s) = refl
 

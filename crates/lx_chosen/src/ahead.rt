@@ -1,8 +1,7 @@
 //! Rules for which runs of one byte are read to their end in vain.
 
-ghost use Rattle.std.specs.Prelude.{◌<◌, ◌≤◌, All, IfOk, IfSome, OnOk, length};
+ghost use Rattle.std.specs.Prelude.{◌≡◌, ◌<◌, IfSome, OnOk, length};
 ghost use Rattle.lx_automaton.specs.Automata.{state_count};
-ghost use Rattle.lx_chosen.specs.Reached.{AreMet};
 
 use crate::met::{meet, none_met};
 use crate::reached::meet_targets;
@@ -71,6 +70,8 @@ fn earlier(rule: Option<u16>, other: Option<u16>) -> Option<u16> {
 fn first_rule(alloc: Global, tables: &Tables, state: State) -> Result<Option<u16>, AllocError>
     requires { state.0 < state_count tables.now.machine }
 {
+    // its contract says what holds of all tables
+    let _conditions = tables.conditions();
     let mut met = none_met(alloc, tables.states() as usize)?;
     meet(&mut met, state.0)?;
     let mut rule = None;

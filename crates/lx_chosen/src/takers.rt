@@ -1,6 +1,6 @@
 //! Which rules take the texts of a rule that is never chosen.
 
-ghost use Rattle.std.specs.Prelude.{◌≡◌, ◌<◌, ◌≤◌, All, IfOk, IfSome, OnOk, length};
+ghost use Rattle.std.specs.Prelude.{◌≡◌, ◌+◌, ◌<◌, ◌≤◌, All, IfOk, IfSome, OnOk, length};
 ghost use Rattle.lx_chosen.specs.Takers.{IsPair, IsTaker};
 
 use lx_tables::{State, Tables};
@@ -161,11 +161,9 @@ fn taker(alone: &Tables, all: &Tables, pair: Pair) -> Option<u16>
     ensures { IfSome result (IsTaker alone.now.machine all.now.machine) }
 {
     let own = alone.accepts(State(pair.alone))?;
+    let rule = all.accepts(State(pair.all))?;
     let least = if alone.cut(own) { 2 } else { 1 };
-    if pair.level < least {
-        return None;
-    }
-    all.accepts(State(pair.all))
+    if pair.level < least { None } else { Some(rule) }
 }
 
 // The text that leads to the pair at a place.
