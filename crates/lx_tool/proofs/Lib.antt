@@ -3,5 +3,6 @@ pub mod NamesRefused
 pub mod Obeyed
 pub mod Planned
 pub mod ReadOn
+pub mod Reporting
 pub mod SourceLemmas
 pub mod Tabled

@@ -1,5 +1,5 @@
 -- What `check` says of a specification.
-use Rattle.std.specs.Prelude.{◌≡◌, ⊤, ℕ, false, List, Option, Some}
+use Rattle.std.specs.Prelude.{◌≡◌, ⊤, ℕ, false, List, Option, Some, Contains, codes}
 use Rattle.std.specs.Borrow.{Bor}
 use Rattle.std.specs.Io.KnownBytes.{Appends}
 use Rattle.lx_check.specs.Findings.{IfAccepted, IsVerdict, TellsChosen}
@@ -39,10 +39,16 @@ pub record IsChecked {S : Type 0} (gives : S → List ℕ → PlainInput → S �
   pub said : List ℕ
   pub wrote : Appends old new said
 
--- The failure carries what is to be said of the text: that it is refused, or has warnings that are errors. Where that isn't in JSON, it begins with the verdict.
+-- `-W error` is asked for, so that warnings are errors
+abbrev pub HasErrorWord : PlainCheck → Type 0
+HasErrorWord check = Contains check.warnings (codes "error")
+
+-- The failure carries what is to be said of the text: that it is refused, or, where that is asked for, has warnings that are errors. Where that isn't in JSON, it begins with
+-- the verdict.
 pub record IsReported (check : PlainCheck) (text : List ℕ) (failure : Failure) : Type 0 where
   pub report : Report
   pub of_text : IsReportOf check.most text report
+  pub refused : IfAccepted (λ accepted. HasErrorWord check) report
   pub said : List ℕ
   pub carried : report_in failure ≡ Some said
   pub tells : check.json ≡ false → TellsVerdict check.rules report said

@@ -1,10 +1,10 @@
 //! What `check` says of a specification.
 
-ghost use Rattle.std.specs.Prelude.{◌≡◌, ◌⊎◌, ⊤, [], IfOk, IfErr, OnOk, Some, false};
+ghost use Rattle.std.specs.Prelude.{◌≡◌, ◌⊎◌, ⊤, [], IfOk, IfErr, IfSome, OnOk, Some, codes, true, false};
 ghost use Rattle.lx_check.specs.Findings.{IfAccepted, IsVerdict, TellsChosen};
 ghost use Rattle.lx_findings.specs.Said.{TellsVerdict};
 ghost use Rattle.lx_words.specs.CommandLine.{plain_check, check as check-asked};
-ghost use Rattle.lx_tool.specs.Checking.{IsAccepted, IsAcceptedText, IsReported, IsReportOf, IsWarningFault};
+ghost use Rattle.lx_tool.specs.Checking.{HasErrorWord, IsAccepted, IsAcceptedText, IsReported, IsReportOf, IsWarningFault};
 ghost use Rattle.lx_tool.specs.Commands.{HasDone, HasFailed};
 
 use crate::failure::{Failure, PrintFault, RequestFault};
@@ -27,7 +27,9 @@ struct Asked {
 }
 
 // The same with or without the warning of this name; none, where there is none.
-fn with_named(asked: Asked, name: &str, is_in: bool) -> Option<Asked> {
+fn with_named(asked: Asked, name: &str, is_in: bool) -> Option<Asked>
+    ensures { IfSome result (λ new. new.are_errors ≡ asked.are_errors) }
+{
     let kind = kind_named(name)?;
     Some(Asked {
         kinds: asked.kinds.with(kind, is_in),
@@ -36,7 +38,9 @@ fn with_named(asked: Asked, name: &str, is_in: bool) -> Option<Asked> {
 }
 
 // The same with one word of `-W` more; none, where that names no warning.
-fn with_word(asked: Asked, word: &str) -> Option<Asked> {
+fn with_word(asked: Asked, word: &str) -> Option<Asked>
+    ensures { IfSome result (λ new. new.are_errors ≡ true → (asked.are_errors ≡ true) ⊎ (word.now ≡ codes "error")) }
+{
     if word == "all" {
         return Some(Asked {
             kinds: KindSet::all(),
@@ -56,6 +60,7 @@ fn with_word(asked: Asked, word: &str) -> Option<Asked> {
 }
 
 fn warnings_asked<'a>(words: &CheckWords<'a>) -> Result<Asked, Failure<'a>>
+    ensures errors { IfOk result (λ asked. asked.are_errors ≡ true → HasErrorWord (plain_check words.now)) }
     ensures err { IfErr result (λ failure. (fault : RequestFault) × (failure ≡ Failure.Refused fault) × IsWarningFault fault) }
 {
     let mut warnings = Asked {
@@ -72,7 +77,8 @@ fn warnings_asked<'a>(words: &CheckWords<'a>) -> Result<Asked, Failure<'a>>
 }
 
 fn is_refused(report: &Report) -> bool
-    ensures { result ≡ false → IsAccepted report.now }
+    ensures accepted { result ≡ false → IsAccepted report.now }
+    ensures refused { result ≡ true → IfAccepted (λ accepted. ⊥) report.now }
 {
     match report {
         Report::Refused(_) => true,
@@ -116,6 +122,7 @@ fn said_of<'a>(
     warnings: Asked,
     text: &[u8],
 ) -> Result<Vec<u8>, Failure<'a>>
+    requires errors { warnings.are_errors ≡ true → HasErrorWord (plain_check words.now) }
     ensures ok { IfOk result (λ _. IsAcceptedText words.now.most text.now) }
     ensures err { IfErr result (λ failure. (failure ≡ Failure.Memory) ⊎ IsReported (plain_check words.now) text.now failure) }
 {
