@@ -14,9 +14,9 @@ const UNKNOWN: &str =
 const MOST_LINES: usize = 3;
 
 // Which rules take the texts of this one, if that is known.
-fn takers_of<'t>(takers: &'t [Takers], rule: u16) -> Option<&'t Takers> {
+fn takers_of<'t>(takers: &'t [Takers], rule: usize) -> Option<&'t Takers> {
     for known in takers {
-        if known.of == rule {
+        if usize::from(known.of) == rule {
             return Some(known);
         }
     }
@@ -58,7 +58,7 @@ fn push_lines(
         return Ok(());
     }
     phrase.extend_from_slice(b" and ")?;
-    push_number(alloc, phrase, others as u32)?;
+    push_number(alloc, phrase, u32::try_from(others).unwrap_or(u32::MAX))?;
     phrase.extend_from_slice(if others == 1 { b" other" } else { b" others" })
 }
 
@@ -85,7 +85,7 @@ fn phrase_of(alloc: Global, spec: &Spec, takers: &Takers) -> Result<Vec<u8>, All
 pub(crate) fn phrase_and_example<'k>(
     alloc: Global,
     known: &Known<'k>,
-    rule: u16,
+    rule: usize,
 ) -> Result<(Vec<u8>, &'k [u8]), AllocError> {
     let mut phrase = Vec::new(alloc);
     match takers_of(known.takers, rule) {

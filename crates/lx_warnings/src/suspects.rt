@@ -14,7 +14,7 @@ pub(crate) enum Subject {
     /// The bytes that no rule takes in the condition of this number, for `~`, and its name, for `@`.
     Untaken(u16),
     /// Nothing: the words are those on the rules that take the texts of the rule of this number.
-    Takers(u16),
+    Takers(usize),
 }
 
 /// What is suspicious: where it is, and a phrase with what is put into it.

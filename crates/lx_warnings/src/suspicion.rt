@@ -136,8 +136,7 @@ fn look_at_rule(
     look_at_action(alloc, text, found, allowed, rule.action)
 }
 
-// A rule that is never chosen; no text has more rules than 4,096.
-fn never_chosen(at: Span, number: u16) -> Suspect {
+fn never_chosen(at: Span, number: usize) -> Suspect {
     Suspect {
         kind: WarningKind::NeverChosen,
         at,
@@ -159,7 +158,7 @@ fn look_at_rules(
         let allowed = &rule.allowed;
         if i < chosen.len() && !chosen[i] {
             let whole = between(rule.start, rule.pattern.end());
-            push_suspect(found, allowed, never_chosen(whole, i as u16))?;
+            push_suspect(found, allowed, never_chosen(whole, i))?;
         }
         look_at_rule(alloc, text, found, allowed, rule, behind_bar)?;
         behind_bar = is_shared(alloc, part(text, rule.action))?;
