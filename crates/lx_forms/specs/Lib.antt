@@ -6,6 +6,7 @@ pub mod FormListings
 pub mod FormPrinting
 pub mod FormPrintingLaws
 pub mod JsonLines
+pub mod JsonParts
 pub mod JsonValues
 pub mod NameLists
 pub mod TextLines

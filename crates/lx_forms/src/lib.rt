@@ -4,14 +4,17 @@
 mod choosing;
 mod form;
 mod format;
+mod json_draft;
 mod json_laws;
 mod json_lines;
+mod json_prefixes;
 mod laws;
 mod lines;
 mod name_list;
 mod printer;
 mod printing;
 mod selection;
+mod strings;
 mod text_lines;
 
 pub use choosing::{ChoiceFault, choose};
