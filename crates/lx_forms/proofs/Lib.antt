@@ -8,4 +8,5 @@ pub mod JsonNumbers
 pub mod JsonRead
 pub mod JsonStrings
 pub mod Parts
+pub mod PlainStrings
 pub mod NamesRead

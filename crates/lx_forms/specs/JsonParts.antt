@@ -1,13 +1,12 @@
 -- The parts of a line in JSON that are made ready, and those that aren't.
-use Rattle.std.specs.Prelude.{◌≡◌, ◌+◌, ◌<◌, ◌≤◌, ℕ, Bool, true, if◌then◌else◌, List, [], ◌++◌, All, Contains, Option, Some, None, codes, decimal, drop, length, take}
-use Rattle.std.specs.List.{flat_map}
-use Rattle.std.specs.Str.{is_utf8}
+use Rattle.std.specs.Prelude.{◌≡◌, ◌<◌, ◌≤◌, ℕ, List, ◌++◌, All, Contains, Option, Some, None, codes, take}
 use Rattle.lx_rules.specs.declared.rule.Kind.{Kind}
 use Rattle.lx_scan.specs.declared.item.Item.{Item}
 use Rattle.lx_scan.specs.ItemParts.{line_of as line_number, start_of, len_of, text_of}
 use Rattle.lx_piece.specs.Plans.{Planned, bytes_of}
 use Rattle.lx_forms.specs.Forms.{PlainForm}
-use Rattle.lx_forms.specs.JsonLines.{file_members, kind_value, string_escaped, text_member}
+use Rattle.lx_forms.specs.JsonFields.{numbers_text}
+use Rattle.lx_forms.specs.JsonLines.{file_members, kind_value, text_member}
 use Rattle.lx_forms.specs.declared.json_prefixes.Prefix.{Prefix}
 use Rattle.lx_forms.specs.declared.json_prefixes.Prefixes.{Prefixes}
 use Rattle.lx_forms.specs.declared.json_prefixes.Slot.{Slot}
@@ -21,27 +20,9 @@ sort_text plan (Some kind) = codes ",\"kind\":" ++ kind_value plan kind
 abbrev pub json_prefix : PlainForm → Planned → ℕ → Option Kind → List ℕ
 json_prefix form plan file kind = file_members form file ++ sort_text plan kind ++ codes ",\"line\":"
 
--- a text that is UTF-8, where texts are printed
-abbrev pub string_member : Bool → List ℕ → List ℕ
-string_member printed text = if printed then codes ",\"text\":\"" ++ flat_map string_escaped text ++ codes "\"" else []
-
--- the numbers behind the prefix
-abbrev pub numbers_text : ℕ → ℕ → ℕ → List ℕ
-numbers_text line start len = decimal line ++ codes ",\"start\":" ++ decimal start ++ codes ",\"len\":" ++ decimal len
-
--- what stands behind the prefix, where the text is UTF-8
-abbrev pub json_rest : Bool → ℕ → ℕ → ℕ → List ℕ → List ℕ
-json_rest printed line start len bytes = numbers_text line start len ++ string_member printed (take len (drop start bytes)) ++ codes "}\n"
-
 -- what stands behind the prefix of the line of an item
 abbrev pub rest_of_line : PlainForm → Planned → ℕ → Item → List ℕ
 rest_of_line form plan file item = numbers_text (line_number item) (start_of item) (len_of item) ++ text_member form (text_of (bytes_of plan file) item) ++ codes "}\n"
-
--- A text is short, so far before the end of the bytes that 16 can be read behind it, and UTF-8 where it is printed.
-pub record IsShortText (printed : Bool) (start len : ℕ) (bytes : List ℕ) : Type 0 where
-  pub len : len ≤ 96
-  pub within : start + len + 16 ≤ length bytes
-  pub utf8 : printed ≡ true → is_utf8 (take len (drop start bytes)) ≡ true
 
 -- this is the prefix, unless it is empty
 pub record IsPrefixOf (form : PlainForm) (plan : Planned) (file : ℕ) (kind : Option Kind) (prefix : Prefix) : Type 0 where

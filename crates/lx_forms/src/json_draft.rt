@@ -1,106 +1,30 @@
 //! Lines in JSON made behind one another in memory of fixed length.
 
-ghost use Rattle.std.specs.Prelude.{◌≡◌, ◌+◌, ◌*◌, ◌<◌, ◌≤◌, [], ◌∷◌, ◌++◌, ℕ, All, IsTrue, OnOk, codes, decimal, drop, false, length, take, true};
+ghost use Rattle.std.specs.Prelude.{◌≡◌, ◌+◌, ◌<◌, ◌≤◌, [], ◌∷◌, ◌++◌, ℕ, All, IsTrue, OnOk, false, take, true};
 ghost use Rattle.lx_scan.specs.ItemParts.{IsItemOf};
 ghost use Rattle.lx_piece.specs.Plans.{Planned, bytes_of, files_of, kinds_of};
 ghost use Rattle.lx_line.specs.Decimals.{IsNear};
-ghost use Rattle.lx_line.specs.Placed.{Placed};
 ghost use Rattle.lx_forms.specs.Forms.{PlainForm};
 ghost use Rattle.lx_forms.specs.FormListings.{lines_in};
 ghost use Rattle.lx_forms.specs.JsonLines.{json_line};
-ghost use Rattle.lx_forms.specs.JsonParts.{ArePrefixesOf, IsShortText, json_rest, numbers_text, string_member};
+ghost use Rattle.lx_forms.specs.JsonParts.{ArePrefixesOf};
 ghost use Rattle.lx_forms.specs.Views.{form_view};
 ghost use Rattle.lx_forms.specs.declared.format.Format.{Format};
 
 use crate::form::Form;
+use crate::json_fields::{fits, place_numbers, place_text};
 use crate::json_lines::push_rest;
 use crate::json_prefixes::Prefixes;
-use crate::strings::{is_text_at, place_string};
-use lx_line::{KeptDigits, Numbers, kind_of, numbers_of, place_all, place_byte, place_short};
+use lx_line::{KeptDigits, Numbers, kind_of, numbers_of, place_all};
 use lx_piece::Plan;
 use lx_scan::Item;
 use std::alloc::AllocError;
-
-// The longest text that is placed. Its length has two digits.
-const TEXT: usize = 96;
 
 // A line takes so much room at most: a prefix of 256 bytes, and three numbers, a text in which each byte takes six, and what stands between them.
 const LINE: usize = 928;
 
 // So many bytes of lines are made before they go to the block.
 const DRAFT: usize = 4096;
-
-// A number whose digits are kept.
-#[inline(always)]
-fn place_near(buf: &mut [u8], at: usize, digits: &KeptDigits, number: u64) -> usize
-    requires room { at + 20 ≤ length buf.old }
-    requires near { IsNear digits.now.base number }
-    ensures placed { Placed buf.old buf.new at (decimal number) result }
-    ensures short { result ≤ at + 18 }
-{
-    digits.place(buf, at, number) - 1
-}
-
-// A number below 100.
-#[inline(always)]
-fn place_small(buf: &mut [u8], at: usize, number: usize) -> usize
-    requires room { at + 4 ≤ length buf.old }
-    requires number { number < 100 }
-    ensures placed { Placed buf.old buf.new at (decimal number) result }
-    ensures short { result ≤ at + 2 }
-{
-    place_short(buf, at, number) - 1
-}
-
-// Line, start and length.
-#[inline(always)]
-fn place_numbers(
-    buf: &mut [u8],
-    at: usize,
-    line: &KeptDigits,
-    start: &KeptDigits,
-    numbers: Numbers,
-) -> usize
-    requires line { IsNear line.now.base numbers.line }
-    requires start { IsNear start.now.base numbers.start }
-    requires len { numbers.len ≤ 96 }
-    requires room { at + 64 ≤ length buf.old }
-    ensures placed { Placed buf.old buf.new at (numbers_text numbers.line numbers.start numbers.len) result }
-    ensures short { result ≤ at + 54 }
-{
-    let at = place_near(buf, at, line, numbers.line);
-    let at = place_all(buf, at, b",\"start\":");
-    let at = place_near(buf, at, start, numbers.start as u64);
-    let at = place_all(buf, at, b",\"len\":");
-    place_small(buf, at, numbers.len)
-}
-
-// A text that is UTF-8, where texts are printed.
-#[inline(always)]
-fn place_text(buf: &mut [u8], at: usize, is_printed: bool, bytes: &[u8], numbers: Numbers) -> usize
-    requires text { numbers.start + numbers.len + 16 ≤ length bytes.now }
-    requires room { at + 6 * numbers.len + 26 ≤ length buf.old }
-    ensures placed { Placed buf.old buf.new at (string_member is_printed (take numbers.len (drop numbers.start bytes.now))) result }
-    ensures short { result ≤ at + 6 * numbers.len + 10 }
-{
-    if !is_printed {
-        return at;
-    }
-    let at = place_all(buf, at, b",\"text\":\"");
-    let at = place_string(buf, at, bytes, numbers.start, numbers.len);
-    place_byte(buf, at, b'"')
-}
-
-// Whether a text is short enough, and so far before the end of the file that 16 bytes can be read behind it, and UTF-8 where it is printed.
-#[inline(always)]
-fn fits(is_printed: bool, numbers: Numbers, bytes: &[u8]) -> bool
-    requires { numbers.start + numbers.len ≤ length bytes.now }
-    ensures { IsTrue result → IsShortText is_printed numbers.start numbers.len bytes.now }
-{
-    numbers.len <= TEXT
-        && numbers.len + 16 <= bytes.len() - numbers.start
-        && (!is_printed || is_text_at(bytes, numbers.start, numbers.len))
-}
 
 /// Lines of a file that are being made, and what those that follow can use again.
 #[derive(Drop)]

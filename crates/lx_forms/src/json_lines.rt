@@ -5,8 +5,9 @@ ghost use Rattle.std.specs.List.{flat_map};
 ghost use Rattle.lx_scan.specs.ItemParts.{IsItemOf, IsKindAmong, LiesIn};
 ghost use Rattle.lx_piece.specs.Plans.{bytes_of, files_of, kinds_of};
 ghost use Rattle.lx_line.specs.Prefixes.{IsKindOf};
+ghost use Rattle.lx_forms.specs.JsonFields.{numbers_text};
 ghost use Rattle.lx_forms.specs.JsonLines.{bytes_member, file_members, hex_pair, json_cut_line, json_line, kind_value, name_member, string_escaped, string_of, text_member};
-ghost use Rattle.lx_forms.specs.JsonParts.{json_prefix, numbers_text, rest_of_line, sort_text};
+ghost use Rattle.lx_forms.specs.JsonParts.{json_prefix, rest_of_line, sort_text};
 ghost use Rattle.lx_forms.specs.Views.{form_view};
 
 use crate::form::{Form, name_of};

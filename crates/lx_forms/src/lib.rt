@@ -5,6 +5,7 @@ mod choosing;
 mod form;
 mod format;
 mod json_draft;
+mod json_fields;
 mod json_laws;
 mod json_lines;
 mod json_prefixes;

@@ -50,7 +50,7 @@ plain_by : (b : Bool) (n r : ℕ) → suc n ≤ cond (not b) (1 + r) 0 → (b �
 plain_by true n r h = absurd (omega arith)
 plain_by false n r h = (refl, omega arith)
 
-plain_step : (p : ℕ → Bool) (x : ℕ) (xs : List ℕ) (n : ℕ) → suc n ≤ prefix_len (λ y. not (p y)) (x ∷ xs) → (p x ≡ false) × (n ≤ prefix_len (λ y. not (p y)) xs)
+pub plain_step : (p : ℕ → Bool) (x : ℕ) (xs : List ℕ) (n : ℕ) → suc n ≤ prefix_len (λ y. not (p y)) (x ∷ xs) → (p x ≡ false) × (n ≤ prefix_len (λ y. not (p y)) xs)
 plain_step p x xs n h = plain_by (p x) n (prefix_len (λ y. not (p y)) xs) h
 
 -- the first bytes, none of which passes the test, where the others stand as they are
