@@ -22,7 +22,7 @@ pub use choosing::{ChoiceFault, choose};
 pub use form::Form;
 pub use format::Format;
 pub use json_laws::{json_lines_are_objects, strings_are_utf8};
-pub use laws::{bare_listings_are_listings, listings_join};
+pub use laws::{bare_listings_are_listings, listings_join, words_select_by_kind};
 pub use name_list::{NameListFault, push_names};
 pub use printing::list_plan_in;
 pub use selection::Selection;
