@@ -1,6 +1,7 @@
 -- A line in JSON of its parts.
-use Rattle.std.proofs.Common.{◌≡◌, ℕ, ◌+◌, ◌-◌, ◌<◌, Bool, true, false, if◌then◌else◌, List, [], ◌∷◌, ◌++◌, take, drop, refl, sym, ◌∙◌, ap, arith, append_assoc}
+use Rattle.std.proofs.Common.{◌≡◌, ℕ, ◌+◌, ◌-◌, ◌<◌, Bool, true, false, if◌then◌else◌, List, [], ◌∷◌, ◌++◌, take, drop, refl, sym, ◌∙◌, ap, arith, append_assoc, append-nil}
 use Rattle.std.specs.Prelude.{Option, codes, decimal}
+use Rattle.std.specs.List.{flat_map}
 use Rattle.std.specs.Str.{is_utf8}
 use Rattle.lx_rules.specs.declared.rule.Kind.{Kind}
 use Rattle.lx_scan.specs.declared.item.Item.{Item}
@@ -10,15 +11,17 @@ use Rattle.lx_piece.specs.Plans.{Planned, bytes_of}
 use Rattle.lx_line.specs.Placed.{Placed}
 use Rattle.lx_line.specs.Prefixes.{kind_of_item}
 use Rattle.lx_line.proofs.Places.{Placed-then}
-use Rattle.lx_forms.specs.Forms.{PlainForm}
-use Rattle.lx_forms.specs.FormListings.{line_in, lines_in}
+use Rattle.lx_forms.specs.Forms.{PlainForm, passes}
+use Rattle.lx_forms.specs.FormListings.{line_by, line_in, lines_in}
 use Rattle.lx_forms.specs.JsonFields.{numbers_text, string_member}
 use Rattle.lx_forms.specs.JsonLines.{bytes_member, file_members, json_line, kind_value, text_member}
+use Rattle.lx_forms.specs.declared.format.Format.{Format}
+use Rattle.lx_forms.specs.declared.format.Format.TheVariants.{Json}
 use Rattle.lx_forms.specs.JsonParts.{json_prefix, rest_of_line, sort_text}
 
 -- the parts of a line, where its prefix stands by itself
 regrouped : (file sort key line s start n len text end : List ℕ) →
-    ((file ++ sort) ++ key) ++ (((((line ++ s) ++ start) ++ n) ++ len) ++ text) ++ end
+    ((file ++ sort) ++ key) ++ ((((((line ++ s) ++ start) ++ n) ++ len) ++ text) ++ end)
     ≡ (((file ++ sort) ++ (((((key ++ line) ++ s) ++ start) ++ n) ++ len)) ++ text) ++ end
 regrouped file sort key line s start n len text end = simp append_assoc
 
@@ -72,3 +75,15 @@ line_placed {a} {b} {c} {d} {e} {at} form plan file item kind line start len byt
     ∙ ap (λ (k : Option Kind). take at a ++ (json_prefix form plan file k ++ (numbers_text line start len ++ (string_member form.text (take len (drop start bytes)) ++ codes "}\n")))) same
     ∙ ap (λ (rest : List ℕ). take at a ++ (json_prefix form plan file (kind_of_item item) ++ rest)) (rest_is form plan file item line start len bytes utf8 l m n t)
     ∙ ap (λ (bs : List ℕ). take at a ++ bs) (prefix_and_rest form plan file item)
+
+-- the lines of one item that isn't printed, and of one that is
+pub line_none : (form : PlainForm) (plan : Planned) (file : ℕ) (item : Item) → passes form item ≡ false → lines_in form plan file (item ∷ []) ≡ []
+unfolding lines_in
+line_none form plan file item e = rw e refl
+
+pub line_one : (form : PlainForm) (plan : Planned) (file : ℕ) (item : Item) → form.format ≡ Json → passes form item ≡ true → lines_in form plan file (item ∷ []) ≡ json_line form plan file item
+unfolding lines_in
+line_one form plan file item json e =
+    ap (λ (b : Bool). flat_map (line_in form plan file) (if b then item ∷ [] else [])) e
+    ∙ append-nil (line_in form plan file item)
+    ∙ ap (λ (format : Format). line_by format form plan file item) json

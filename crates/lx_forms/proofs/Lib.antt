@@ -6,6 +6,7 @@ pub mod Joining
 pub mod JsonDocuments
 pub mod JsonNumbers
 pub mod JsonPlaced
+pub mod JsonPrefixed
 pub mod JsonRead
 pub mod JsonStrings
 pub mod KindWords
