@@ -1,5 +1,5 @@
 -- A line in JSON of its parts.
-use Rattle.std.proofs.Common.{◌≡◌, ℕ, ◌+◌, ◌-◌, ◌<◌, Bool, true, false, if◌then◌else◌, List, [], ◌∷◌, ◌++◌, take, drop, refl, sym, ◌∙◌, ap, arith, append_assoc, append-nil}
+use Rattle.std.proofs.Common.{◌≡◌, ℕ, ◌+◌, ◌-◌, Bool, true, false, if◌then◌else◌, List, [], ◌∷◌, ◌++◌, take, drop, refl, sym, ◌∙◌, ap, arith, append_assoc, append-nil}
 use Rattle.std.specs.Prelude.{Option, codes, decimal}
 use Rattle.std.specs.List.{flat_map}
 use Rattle.std.specs.Str.{is_utf8}
@@ -17,7 +17,7 @@ use Rattle.lx_forms.specs.JsonFields.{numbers_text, string_member}
 use Rattle.lx_forms.specs.JsonLines.{bytes_member, file_members, json_line, kind_value, text_member}
 use Rattle.lx_forms.specs.declared.format.Format.{Format}
 use Rattle.lx_forms.specs.declared.format.Format.TheVariants.{Json}
-use Rattle.lx_forms.specs.JsonParts.{json_prefix, rest_of_line, sort_text}
+use Rattle.lx_forms.specs.JsonParts.{json_prefix, rest_of_line}
 
 -- the parts of a line, where its prefix stands by itself
 regrouped : (file sort key line s start n len text end : List ℕ) →

@@ -1,5 +1,5 @@
 -- Prefixes that are kept.
-use Rattle.std.proofs.Common.{◌≡◌, ℕ, ◌<◌, ◌≤◌, List, arith, subst, sym}
+use Rattle.std.proofs.Common.{◌≡◌, ℕ, arith, subst, sym}
 use Rattle.std.specs.Prelude.{Option, Some, None, replicate}
 use Rattle.std.proofs.lemmas.List.Elements.{All-contains, All-replicate}
 use Rattle.lx_rules.specs.declared.rule.Kind.{Kind}

@@ -1,5 +1,5 @@
 -- Which bytes of a text stand in a string as they are, and which are ASCII.
-use Rattle.std.proofs.Common.{◌≡◌, ℕ, zero, suc, ◌+◌, ◌%◌, ◌^◌, ◌<◌, ◌≤◌, Bool, true, false, not, cond, ◌||◌, eqb, ltb, List, [], ◌∷◌, ◌++◌, length, take, map, replicate, refl, sym, ap, ◌∙◌, subst, arith, take-take, length-take-le}
+use Rattle.std.proofs.Common.{◌≡◌, ℕ, zero, suc, ◌%◌, ◌^◌, ◌<◌, ◌≤◌, Bool, true, false, not, cond, ◌||◌, eqb, ltb, List, [], ◌∷◌, length, take, map, replicate, refl, ap, ◌∙◌, subst, arith, take-take, length-take-le}
 use Rattle.std.specs.List.{flat_map, prefix_len}
 use Rattle.std.specs.Int.Bits.{bit_or}
 use Rattle.std.specs.Str.{IsAscii, is_utf8}

@@ -2,7 +2,6 @@
 use Rattle.std.specs.Prelude.{◌≡◌, ◌≢◌, ℕ, ◌||◌, Bool, true, false, ⊤, ◌⊎◌, List, [], ◌∷◌, All, Contains, codes, decimal, map}
 use Rattle.std.specs.List.{filter, flat_map, list_any}
 use Rattle.std.specs.Str.{bytes_eq}
-use Rattle.lx_rules.specs.declared.rule.Kind.{Kind}
 use Rattle.lx_rules.specs.declared.rule.Kind.TheVariants.{Name, Number}
 use Rattle.lx_rules.specs.declared.rule.Step.{Step}
 use Rattle.lx_rules.specs.declared.rule.Step.TheVariants.{Echo, Begin, Return}
