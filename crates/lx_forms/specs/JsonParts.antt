@@ -26,7 +26,7 @@ rest_of_line form plan file item = numbers_text (line_number item) (start_of ite
 
 -- this is the prefix, unless it is empty
 pub record IsPrefixOf (form : PlainForm) (plan : Planned) (file : ℕ) (kind : Option Kind) (prefix : Prefix) : Type 0 where
-  pub short : prefix.len ≤ 256
+  pub short : prefix.len ≤ 128
   pub text : 0 < prefix.len → take prefix.len prefix.text ≡ json_prefix form plan file kind
 
 -- what is kept are the prefixes of an Echo and of kinds

@@ -20,21 +20,21 @@ use lx_piece::Plan;
 use lx_scan::Item;
 use std::alloc::AllocError;
 
-// A line takes so much room at most: a prefix of 256 bytes, and three numbers, a text in which each byte takes six, and what stands between them.
-const LINE: usize = 928;
+// A line takes so much room at most: a prefix of 128 bytes, and three numbers, a text in which each byte takes six, and what stands between them.
+const LINE: usize = 800;
 
 // So many bytes of lines are made before they go to the block.
-const DRAFT: usize = 4096;
+const DRAFT: usize = 2048;
 
 /// Lines of a file that are being made, and what those that follow can use again.
 #[derive(Drop)]
 pub(crate) struct Draft {
-    lines: [u8; 4096],
+    lines: [u8; 2048],
     len: usize,
     prefixes: Prefixes,
     line: KeptDigits,
     start: KeptDigits,
-    ghost within: { len ≤ 4096 },
+    ghost within: { len ≤ 2048 },
 }
 
 impl Draft {
@@ -69,7 +69,7 @@ impl Draft {
     // those of texts near the end of the file, behind which no 16 bytes can be read, and those of texts that aren't UTF-8.
     #[inline(always)]
     fn add(&mut self, form: &Form<'_>, plan: &Plan, file: u32, item: &Item) -> bool
-        requires room { self.old.len + 928 ≤ 4096 }
+        requires room { self.old.len + 800 ≤ 2048 }
         requires file { file < files_of plan.now }
         requires item { IsItemOf (kinds_of plan.now) (bytes_of plan.now file) item.now }
         requires prefixes { ArePrefixesOf (form_view form.now) plan.now file self.old.prefixes }
@@ -110,7 +110,7 @@ impl Draft {
     #[inline(always)]
     fn make_room(&mut self, block: &mut Vec<u8>) -> Result<(), AllocError>
         ensures same { OnOk result (block.new.items ++ take self.new.len self.new.lines ≡ block.old.items ++ take self.old.len self.old.lines) }
-        ensures room { OnOk result (self.new.len + 928 ≤ 4096) }
+        ensures room { OnOk result (self.new.len + 800 ≤ 2048) }
         ensures prefixes { self.new.prefixes ≡ self.old.prefixes }
     {
         if self.len <= DRAFT - LINE {

@@ -16,7 +16,7 @@ use lx_rules::rule::Kind;
 use std::alloc::AllocError;
 
 // The longest prefix that is kept.
-const PREFIX: usize = 256;
+const PREFIX: usize = 128;
 
 // So many prefixes of tokens are kept.
 const SLOTS: usize = 32;
@@ -24,7 +24,7 @@ const SLOTS: usize = 32;
 /// The prefix of a line, or none, where it is empty.
 #[derive(Clone, Copy, Drop)]
 pub(crate) struct Prefix {
-    text: [u8; 256],
+    text: [u8; 128],
     len: usize,
 }
 
@@ -47,7 +47,7 @@ impl Prefix {
 
     // This text, unless it is too long.
     fn of(text: &[u8]) -> Prefix
-        ensures short { result.len ≤ 256 }
+        ensures short { result.len ≤ 128 }
         ensures text { 0 < result.len → take result.len result.text ≡ text.now }
     {
         let mut prefix = Prefix::none();
@@ -60,10 +60,10 @@ impl Prefix {
     /// Places it, unless it is empty. Most have at most 64 bytes.
     #[inline(always)]
     pub(crate) fn place(&self, buf: &mut [u8], at: usize) -> Option<usize>
-        requires room { at + 256 ≤ length buf.old }
-        requires short { self.now.len ≤ 256 }
+        requires room { at + 128 ≤ length buf.old }
+        requires short { self.now.len ≤ 128 }
         ensures placed { MatchOption result (buf.new ≡ buf.old) (λ end. (0 < self.now.len) × Placed buf.old buf.new at (take self.now.len self.now.text) end) }
-        ensures short { MatchOption result (Unit {0}) (λ end. end ≤ at + 256) }
+        ensures short { MatchOption result (Unit {0}) (λ end. end ≤ at + 128) }
     {
         if self.len == 0 {
             return None;
@@ -83,12 +83,13 @@ pub(crate) struct Prefixes {
 }
 
 impl Prefixes {
-    /// As yet of no kind.
+    /// As yet of no kind. All its bytes are 0, so that it is made at once.
+    #[inline(always)]
     pub(crate) fn new() -> Prefixes
         ensures { (form : PlainForm) (plan : Planned) (file : ℕ) → ArePrefixesOf form plan file result }
     {
         let slot = Slot {
-            kind: Kind::Number(0),
+            kind: Kind::Name(0),
             prefix: Prefix::none(),
         };
         Prefixes {
