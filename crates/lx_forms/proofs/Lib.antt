@@ -5,7 +5,11 @@ pub mod FormTurning
 pub mod Joining
 pub mod JsonDocuments
 pub mod JsonNumbers
+pub mod JsonPlaced
+pub mod JsonPrefixed
 pub mod JsonRead
 pub mod JsonStrings
+pub mod KindWords
 pub mod Parts
+pub mod PlainStrings
 pub mod NamesRead

@@ -2,11 +2,15 @@
 use Rattle.std.specs.Prelude.{◌≡◌, ◌≢◌, ℕ, ◌||◌, Bool, true, false, ⊤, ◌⊎◌, List, [], ◌∷◌, All, Contains, codes, decimal, map}
 use Rattle.std.specs.List.{filter, flat_map, list_any}
 use Rattle.std.specs.Str.{bytes_eq}
-use Rattle.lx_rules.specs.declared.rule.Kind.{Kind}
 use Rattle.lx_rules.specs.declared.rule.Kind.TheVariants.{Name, Number}
 use Rattle.lx_rules.specs.declared.rule.Step.{Step}
 use Rattle.lx_rules.specs.declared.rule.Step.TheVariants.{Echo, Begin, Return}
 use Rattle.lx_tables.specs.Model.{Table, TableRule}
+use Rattle.lx_scan.specs.ItemParts.{NamesKindAmong}
+use Rattle.lx_scan.specs.declared.item.Item.{Item}
+use Rattle.lx_scan.specs.declared.item.Item.TheVariants.{Token, Echo as Echoed}
+use Rattle.lx_piece.specs.Plans.{Planned}
+use Rattle.lx_line.specs.Lines.{kind_text}
 use Rattle.lx_forms.specs.Forms.{Selected}
 use Rattle.lx_forms.specs.NameLists.{IsListOf, IsNoName}
 use Rattle.lx_forms.specs.declared.choosing.ChoiceFault.{ChoiceFault}
@@ -78,3 +82,18 @@ abbrev pub IsRefusedChoice : Table → List ℕ → ChoiceFault → Type 0
 IsRefusedChoice table text (NoKind word) = IsUnknown table text word.now
 IsRefusedChoice table text NoWord = IsNoChoice text
 IsRefusedChoice table text Memory = ⊤
+
+-- the number of a kind, if an item has one, is returned by an action
+abbrev pub HasReturnedNumber : Table → Item → Type 0
+HasReturnedNumber table (Token (Name place) line start len) = Unit {0}
+HasReturnedNumber table (Token (Number number) line start len) = Contains (numbers_of table) number
+HasReturnedNumber table (Echoed line start len) = Unit {0}
+
+-- what kind an item has, if any, is the tables': a name that is there, or a number that an action returns
+pub record HasKindOf (table : Table) (item : Item) : Type 0 where
+  pub named : NamesKindAmong table.kinds item
+  pub returned : HasReturnedNumber table item
+
+-- the kind of an item stands in the listing by one of these words
+abbrev pub stands_by_one_of : Planned → List (List ℕ) → Item → Bool
+stands_by_one_of plan words item = is_one_of words (kind_text plan item)

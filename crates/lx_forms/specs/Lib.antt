@@ -5,7 +5,9 @@ pub mod FormListed
 pub mod FormListings
 pub mod FormPrinting
 pub mod FormPrintingLaws
+pub mod JsonFields
 pub mod JsonLines
+pub mod JsonParts
 pub mod JsonValues
 pub mod NameLists
 pub mod TextLines

@@ -48,6 +48,7 @@ impl<'a> Form<'a> {
     }
 
     /// Whether an item is printed.
+    #[inline(always)]
     #[tactic(auto, unfolding(crate::specs::Forms::passes))]
     pub(crate) fn passes(&self, item: &Item) -> bool
         ensures { result ≡ passes (form_view self.now) item.now }

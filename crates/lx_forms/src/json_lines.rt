@@ -1,27 +1,26 @@
 //! Lines of a listing in JSON, put behind what a block holds. Where memory is refused a part of a line stands there.
 
-ghost use Rattle.std.specs.Prelude.{◌≡◌, ◌<◌, ◌≤◌, ◌++◌, OnOk, codes, decimal, length, take};
+ghost use Rattle.std.specs.Prelude.{◌≡◌, ◌<◌, ◌≤◌, ◌++◌, OnOk, codes, decimal, length};
 ghost use Rattle.std.specs.List.{flat_map};
-ghost use Rattle.std.specs.Str.{is_utf8};
-ghost use Rattle.lx_scan.specs.ItemParts.{IsItemOf, IsKindAmong, NamesKindAmong};
+ghost use Rattle.lx_scan.specs.ItemParts.{IsItemOf, IsKindAmong, LiesIn};
 ghost use Rattle.lx_piece.specs.Plans.{bytes_of, files_of, kinds_of};
-ghost use Rattle.lx_forms.specs.JsonLines.{bytes_member, file_members, hex_pair, json_cut_line, json_line, kind_value, name_member, place_members, small_digit, sort_member, string_escaped, string_of, text_member};
+ghost use Rattle.lx_line.specs.Prefixes.{IsKindOf};
+ghost use Rattle.lx_forms.specs.JsonFields.{numbers_text};
+ghost use Rattle.lx_forms.specs.JsonLines.{bytes_member, file_members, hex_pair, json_cut_line, json_line, kind_value, name_member, string_escaped, string_of, text_member};
+ghost use Rattle.lx_forms.specs.JsonParts.{json_prefix, rest_of_line, sort_text};
 ghost use Rattle.lx_forms.specs.Views.{form_view};
 
 use crate::form::{Form, name_of};
+use crate::strings::{is_text, place_string, small_digit};
 use crate::text_lines::text_in;
-use lx_line::{numbers_of, push_number};
+use lx_line::{Numbers, kind_of, numbers_of, push_number};
 use lx_piece::Plan;
 use lx_rules::rule::Kind;
 use lx_scan::Item;
 use std::alloc::AllocError;
 
-fn small_digit(n: u8) -> u8
-    requires { n < 16 }
-    ensures { result ≡ small_digit n }
-{
-    if n < 10 { b'0' + n } else { b'a' + (n - 10) }
-}
+// A string is placed so many bytes of it at a time.
+const PART: usize = 32;
 
 // A byte by two digits.
 fn push_hex_pair(block: &mut Vec<u8>, byte: u8) -> Result<(), AllocError>
@@ -39,41 +38,27 @@ fn push_hex(block: &mut Vec<u8>, bytes: &[u8]) -> Result<(), AllocError>
     Ok(())
 }
 
-// A byte of a string.
-fn push_string_byte(block: &mut Vec<u8>, byte: u8) -> Result<(), AllocError>
-    ensures { OnOk result (block.new.items ≡ block.old.items ++ string_escaped byte) }
+// At most 32 bytes of a string. A copy of them has 16 bytes more, which can be read too.
+fn push_part(block: &mut Vec<u8>, bytes: &[u8]) -> Result<(), AllocError>
+    requires { length bytes.now ≤ 32 }
+    ensures { OnOk result (block.new.items ≡ block.old.items ++ flat_map string_escaped bytes.now) }
 {
-    match byte {
-        b'"' => block.extend_from_slice(b"\\\""),
-        b'\\' => block.extend_from_slice(b"\\\\"),
-        0..=31 => {
-            block.extend_from_slice(b"\\u00")?;
-            push_hex_pair(block, byte)
-        }
-        _ => block.extend_from_slice(&[byte]),
-    }
+    let mut text = [0; 48];
+    text[..bytes.len()].copy_from_slice(bytes);
+    let mut placed = [0; 208];
+    let end = place_string(&mut placed, 0, &text, 0, bytes.len());
+    block.extend_from_slice(&placed[..end])
 }
 
-// How many bytes at the front of a text stand in a string as they are.
-fn plain_front(bytes: &[u8]) -> usize
-    ensures within { result ≤ length bytes.now }
-    ensures plain { flat_map string_escaped (take result bytes.now) ≡ take result bytes.now }
-{
-    let mut plain = 0;
-    while plain < bytes.len() && matches!(bytes[plain], b' '..=b'!' | b'#'..=b'[' | b']'..=255) {
-        plain += 1;
-    }
-    plain
-}
-
-// The bytes between the quotes of a string. Most are plain, and are copied at once.
+// The bytes between the quotes of a string.
 fn push_string_bytes(block: &mut Vec<u8>, bytes: &[u8]) -> Result<(), AllocError>
     ensures { OnOk result (block.new.items ≡ block.old.items ++ flat_map string_escaped bytes.now) }
 {
-    let plain = plain_front(bytes);
-    block.extend_from_slice(&bytes[..plain])?;
-    for byte in &bytes[plain..] {
-        push_string_byte(block, *byte)?;
+    let mut done = 0;
+    while done < bytes.len() {
+        let end = done + PART.min(bytes.len() - done);
+        push_part(block, &bytes[done..end])?;
+        done = end;
     }
     Ok(())
 }
@@ -85,15 +70,6 @@ fn push_string(block: &mut Vec<u8>, bytes: &[u8]) -> Result<(), AllocError>
     push_string_bytes(block, bytes)?;
     block.extend_from_slice(b"\"")?;
     Ok(())
-}
-
-fn is_text(bytes: &[u8]) -> bool
-    ensures { result ≡ is_utf8 bytes.now }
-{
-    match str::from_utf8(bytes) {
-        Ok(_) => true,
-        Err(_) => false,
-    }
 }
 
 // Bytes under the first name as a string where they are UTF-8, else under the second by digits.
@@ -154,26 +130,41 @@ fn push_kind_value(block: &mut Vec<u8>, plan: &Plan, kind: Kind) -> Result<(), A
 }
 
 // The kind of a token, or that it is an Echo.
-fn push_sort(block: &mut Vec<u8>, plan: &Plan, item: &Item) -> Result<(), AllocError>
-    requires { NamesKindAmong (kinds_of plan.now) item.now }
-    ensures { OnOk result (block.new.items ≡ block.old.items ++ sort_member plan.now item.now) }
+fn push_sort(block: &mut Vec<u8>, plan: &Plan, kind: Option<Kind>) -> Result<(), AllocError>
+    requires { IsKindOf plan.now kind }
+    ensures { OnOk result (block.new.items ≡ block.old.items ++ sort_text plan.now kind) }
 {
-    match item {
-        Item::Token { kind, .. } => {
+    match kind {
+        Some(kind) => {
             block.extend_from_slice(b",\"kind\":")?;
-            push_kind_value(block, plan, *kind)?;
+            push_kind_value(block, plan, kind)?;
             Ok(())
         }
-        Item::Echo { .. } => block.extend_from_slice(b",\"echo\":true"),
+        None => block.extend_from_slice(b",\"echo\":true"),
     }
 }
 
-// Line, start and length.
-fn push_place(block: &mut Vec<u8>, item: &Item) -> Result<(), AllocError>
-    ensures { OnOk result (block.new.items ≡ block.old.items ++ place_members item.now) }
+/// What stands before the number of the line.
+pub(crate) fn push_prefix(
+    block: &mut Vec<u8>,
+    form: &Form<'_>,
+    plan: &Plan,
+    file: u32,
+    kind: Option<Kind>,
+) -> Result<(), AllocError>
+    requires { IsKindOf plan.now kind }
+    ensures { OnOk result (block.new.items ≡ block.old.items ++ json_prefix (form_view form.now) plan.now file kind) }
 {
-    let numbers = numbers_of(item);
+    push_file(block, form, file)?;
+    push_sort(block, plan, kind)?;
     block.extend_from_slice(b",\"line\":")?;
+    Ok(())
+}
+
+// Line, start and length.
+fn push_numbers(block: &mut Vec<u8>, numbers: Numbers) -> Result<(), AllocError>
+    ensures { OnOk result (block.new.items ≡ block.old.items ++ numbers_text numbers.line numbers.start numbers.len) }
+{
     push_number(block, numbers.line)?;
     block.extend_from_slice(b",\"start\":")?;
     push_number(block, numbers.start as u64)?;
@@ -192,8 +183,25 @@ fn push_text(block: &mut Vec<u8>, form: &Form<'_>, text: &[u8]) -> Result<(), Al
     push_bytes_member(block, b",\"text\":", b",\"hex\":", text)
 }
 
+/// What stands behind the prefix.
+pub(crate) fn push_rest(
+    block: &mut Vec<u8>,
+    form: &Form<'_>,
+    plan: &Plan,
+    file: u32,
+    item: &Item,
+) -> Result<(), AllocError>
+    requires file { file < files_of plan.now }
+    requires item { LiesIn (bytes_of plan.now file) item.now }
+    ensures { OnOk result (block.new.items ≡ block.old.items ++ rest_of_line (form_view form.now) plan.now file item.now) }
+{
+    push_numbers(block, numbers_of(item))?;
+    push_text(block, form, text_in(plan, file, item))?;
+    block.extend_from_slice(b"}\n")?;
+    Ok(())
+}
+
 /// The line of an item of a file.
-#[tactic(auto, unfolding(crate::specs::JsonLines::json_line))]
 pub(crate) fn push_json_line(
     block: &mut Vec<u8>,
     form: &Form<'_>,
@@ -205,11 +213,8 @@ pub(crate) fn push_json_line(
     requires item { IsItemOf (kinds_of plan.now) (bytes_of plan.now file) item.now }
     ensures { OnOk result (block.new.items ≡ block.old.items ++ json_line (form_view form.now) plan.now file item.now) }
 {
-    push_file(block, form, file)?;
-    push_sort(block, plan, item)?;
-    push_place(block, item)?;
-    push_text(block, form, text_in(plan, file, item))?;
-    block.extend_from_slice(b"}\n")?;
+    push_prefix(block, form, plan, file, kind_of(item))?;
+    push_rest(block, form, plan, file, item)?;
     Ok(())
 }
 

@@ -4,21 +4,25 @@
 mod choosing;
 mod form;
 mod format;
+mod json_draft;
+mod json_fields;
 mod json_laws;
 mod json_lines;
+mod json_prefixes;
 mod laws;
 mod lines;
 mod name_list;
 mod printer;
 mod printing;
 mod selection;
+mod strings;
 mod text_lines;
 
 pub use choosing::{ChoiceFault, choose};
 pub use form::Form;
 pub use format::Format;
 pub use json_laws::{json_lines_are_objects, strings_are_utf8};
-pub use laws::{bare_listings_are_listings, listings_join};
+pub use laws::{bare_listings_are_listings, listings_join, words_select_by_kind};
 pub use name_list::{NameListFault, push_names};
 pub use printing::list_plan_in;
 pub use selection::Selection;

@@ -9,11 +9,15 @@ ghost use Rattle.lx_forms.specs.Views.{form_view};
 
 use crate::form::Form;
 use crate::format::Format;
+use crate::json_draft::push_json_lines;
 use crate::json_lines::{push_json_cut_line, push_json_line};
 use crate::text_lines::{push_text_cut_line, push_text_line};
 use lx_piece::{Piece, Plan};
 use lx_scan::Item;
 use std::alloc::AllocError;
+
+// So many lines in JSON are worth what is made ready for them.
+const MANY: usize = 8;
 
 fn push_line(
     block: &mut Vec<u8>,
@@ -61,8 +65,8 @@ fn push_item(
     Ok(())
 }
 
-// The lines of those items that are printed.
-fn push_lines(
+// The lines of those items that are printed, one by one.
+fn push_each(
     block: &mut Vec<u8>,
     form: &Form<'_>,
     plan: &Plan,
@@ -77,6 +81,24 @@ fn push_lines(
         push_item(block, form, plan, file, item)?;
     }
     Ok(())
+}
+
+// The lines of those items that are printed.
+fn push_lines(
+    block: &mut Vec<u8>,
+    form: &Form<'_>,
+    plan: &Plan,
+    file: u32,
+    items: &[Item],
+) -> Result<(), AllocError>
+    requires file { file < files_of plan.now }
+    requires items { All (IsItemOf (kinds_of plan.now) (bytes_of plan.now file)) items.now }
+    ensures { OnOk result (block.new.items ≡ block.old.items ++ lines_in (form_view form.now) plan.now file items.now) }
+{
+    match form.format {
+        Format::Json if items.len() >= MANY => push_json_lines(block, form, plan, file, items),
+        _ => push_each(block, form, plan, file, items),
+    }
 }
 
 // The lines of a piece.

@@ -50,53 +50,62 @@ plain_by : (b : Bool) (n r : ℕ) → suc n ≤ cond (not b) (1 + r) 0 → (b �
 plain_by true n r h = absurd (omega arith)
 plain_by false n r h = (refl, omega arith)
 
-plain_step : (p : ℕ → Bool) (x : ℕ) (xs : List ℕ) (n : ℕ) → suc n ≤ prefix_len (λ y. not (p y)) (x ∷ xs) → (p x ≡ false) × (n ≤ prefix_len (λ y. not (p y)) xs)
+pub plain_step : (p : ℕ → Bool) (x : ℕ) (xs : List ℕ) (n : ℕ) → suc n ≤ prefix_len (λ y. not (p y)) (x ∷ xs) → (p x ≡ false) × (n ≤ prefix_len (λ y. not (p y)) xs)
 plain_step p x xs n h = plain_by (p x) n (prefix_len (λ y. not (p y)) xs) h
 
--- the first bytes, none of which is escaped
-first_plain : (n : ℕ) (xs : List ℕ) → n ≤ prefix_len (λ y. not (is_escaped y)) xs → flat_map escaped (take n xs) ≡ take n xs
-first_plain zero xs h = refl
-first_plain (suc n) [] h = refl
-first_plain (suc n) (x ∷ xs) h =
-    let s = plain_step is_escaped x xs n h in
-    ap (λ (bs : List ℕ). bs ++ flat_map escaped (take n xs)) (as_it_is x s.0) ∙ ap (λ (bs : List ℕ). x ∷ bs) (first_plain n xs s.1)
+-- the first bytes, none of which passes the test, where the others stand as they are
+first_plain : (p : ℕ → Bool) (escape : ℕ → List ℕ) → ((x : ℕ) → p x ≡ false → escape x ≡ x ∷ []) → (n : ℕ) (xs : List ℕ) → n ≤ prefix_len (λ y. not (p y)) xs → flat_map escape (take n xs) ≡ take n xs
+first_plain p escape same zero xs h = refl
+first_plain p escape same (suc n) [] h = refl
+first_plain p escape same (suc n) (x ∷ xs) h =
+    let s = plain_step p x xs n h in
+    ap (λ (bs : List ℕ). bs ++ flat_map escape (take n xs)) (same x s.0) ∙ ap (λ (bs : List ℕ). x ∷ bs) (first_plain p escape same n xs s.1)
 
 below_first : (none : Bool) (n r t : ℕ) → n ≤ 16 → cond none 16 t ≡ r → n ≤ t → n ≤ r
 below_first true n r t few e h = omega arith
 below_first false n r t few e h = omega arith
 
+-- so many of 16 bytes come before the first that passes a test
+pub before_first : (p : ℕ → Bool) (xs : List ℕ) (n : ℕ) → length xs ≡ 16 → n ≤ 16 → n ≤ count_trailing_zeros 64 (mask_l (map p xs)) → n ≤ prefix_len (λ y. not (p y)) xs
+before_first p xs n whole few h =
+    let m = mask_l (map p xs) in
+    below_first (eqb m 0) n (prefix_len (λ y. not (p y)) xs) (count_trailing_zeros 64 m) few (first_set_mask_l p xs 16 whole (lit≤ tt)) h
+
+-- they stand as they are
+pub plain_run : (p : ℕ → Bool) (escape : ℕ → List ℕ) → ((x : ℕ) → p x ≡ false → escape x ≡ x ∷ []) → (xs : List ℕ) (n : ℕ) → 16 ≤ length xs → n ≤ 16 → n ≤ count_trailing_zeros 64 (mask_l (map p (take 16 xs))) → flat_map escape (take n xs) ≡ take n xs
+plain_run p escape as_is xs n long few h =
+    let whole : length (take 16 xs) ≡ 16 = length-take-le 16 xs long in
+    let same = take-take n 16 xs few in
+    ap (flat_map escape) (sym same) ∙ first_plain p escape as_is n (take 16 xs) (before_first p (take 16 xs) n whole few h) ∙ same
+
 pub plain_lanes : (xs : List ℕ) (n : ℕ) → 16 ≤ length xs → n ≤ 16 → n ≤ count_trailing_zeros 64 (mask_l (map (top 7) (compared 16 (take 16 xs))) % 2 ^ 64) → flat_map escaped (take n xs) ≡ take n xs
 plain_lanes xs n long few h =
     let whole : length (take 16 xs) ≡ 16 = length-take-le 16 xs long in
-    let m = mask_l (map is_escaped (take 16 xs)) in
-    let h2 : n ≤ count_trailing_zeros 64 m = subst (λ (k : ℕ). n ≤ count_trailing_zeros 64 k) (mask_of (take 16 xs) whole) h in
-    let first = below_first (eqb m 0) n (prefix_len (λ y. not (is_escaped y)) (take 16 xs)) (count_trailing_zeros 64 m) few (first_set_mask_l is_escaped (take 16 xs) 16 whole (lit≤ tt)) h2 in
-    let same = take-take n 16 xs few in
-    ap (flat_map escaped) (sym same) ∙ first_plain n (take 16 xs) first ∙ same
+    plain_run is_escaped escaped as_it_is xs n long few (subst (λ (k : ℕ). n ≤ count_trailing_zeros 64 k) (mask_of (take 16 xs) whole) h)
 
-text_parts : (bytes : List ℕ) (start done part : ℕ) → flat_map escaped (take done (drop start bytes)) ++ flat_map escaped (take part (drop (start + done) bytes)) ≡ flat_map escaped (take (done + part) (drop start bytes))
-text_parts bytes start done part =
-    ap (λ (xs : List ℕ). flat_map escaped (take done (drop start bytes)) ++ flat_map escaped (take part xs)) (sym (drop-drop done start bytes))
-    ∙ sym (flat_map-append escaped (take done (drop start bytes)) (take part (drop done (drop start bytes))))
-    ∙ ap (flat_map escaped) (sym (take-add done part (drop start bytes)))
+pub text_parts : (escape : ℕ → List ℕ) (bytes : List ℕ) (start done part : ℕ) → flat_map escape (take done (drop start bytes)) ++ flat_map escape (take part (drop (start + done) bytes)) ≡ flat_map escape (take (done + part) (drop start bytes))
+text_parts escape bytes start done part =
+    ap (λ (xs : List ℕ). flat_map escape (take done (drop start bytes)) ++ flat_map escape (take part xs)) (sym (drop-drop done start bytes))
+    ∙ sym (flat_map-append escape (take done (drop start bytes)) (take part (drop done (drop start bytes))))
+    ∙ ap (flat_map escape) (sym (take-add done part (drop start bytes)))
 
 -- A text of which the first bytes are placed, and then further ones.
-pub text_more : {a b c : List ℕ} {at mid end : ℕ} (bytes : List ℕ) (start done part : ℕ) → Placed a b at (flat_map escaped (take done (drop start bytes))) mid → Placed b c mid (flat_map escaped (take part (drop (start + done) bytes))) end → Placed a c at (flat_map escaped (take (done + part) (drop start bytes))) end
-text_more bytes start done part p q = Placed-is (Placed-then p q) (text_parts bytes start done part)
+pub text_more : {a b c : List ℕ} {at mid end : ℕ} (escape : ℕ → List ℕ) (bytes : List ℕ) (start done part : ℕ) → Placed a b at (flat_map escape (take done (drop start bytes))) mid → Placed b c mid (flat_map escape (take part (drop (start + done) bytes))) end → Placed a c at (flat_map escape (take (done + part) (drop start bytes))) end
+text_more escape bytes start done part p q = Placed-is (Placed-then p q) (text_parts escape bytes start done part)
 
 -- some bytes as they are, and one more
-pub plain_and_one : {a b c : List ℕ} {at mid end : ℕ} (bytes : List ℕ) (from count : ℕ) → from + count < length bytes → Placed a b at (take count (drop from bytes)) mid → flat_map escaped (take count (drop from bytes)) ≡ take count (drop from bytes) → Placed b c mid (escaped (get_or bytes (from + count) 0)) end → Placed a c at (flat_map escaped (take (count + 1) (drop from bytes))) end
-plain_and_one bytes from count within p plain q =
-    let one : flat_map escaped (take 1 (drop (from + count) bytes)) ≡ escaped (get_or bytes (from + count) 0) =
-    ap (λ (xs : List ℕ). flat_map escaped (take 1 xs)) (drop_more bytes (from + count) 0 within) ∙ append-nil (escaped (get_or bytes (from + count) 0)) in
-    text_more bytes from count 1 (Placed-is p (sym plain)) (Placed-is q (sym one))
+pub plain_and_one : {a b c : List ℕ} {at mid end : ℕ} (escape : ℕ → List ℕ) (bytes : List ℕ) (from count : ℕ) → from + count < length bytes → Placed a b at (take count (drop from bytes)) mid → flat_map escape (take count (drop from bytes)) ≡ take count (drop from bytes) → Placed b c mid (escape (get_or bytes (from + count) 0)) end → Placed a c at (flat_map escape (take (count + 1) (drop from bytes))) end
+plain_and_one escape bytes from count within p plain q =
+    let one : flat_map escape (take 1 (drop (from + count) bytes)) ≡ escape (get_or bytes (from + count) 0) =
+    ap (λ (xs : List ℕ). flat_map escape (take 1 xs)) (drop_more bytes (from + count) 0 within) ∙ append-nil (escape (get_or bytes (from + count) 0)) in
+    text_more escape bytes from count 1 (Placed-is p (sym plain)) (Placed-is q (sym one))
 
 -- the same behind other bytes
-pub pushed_more : (before mid new text : List ℕ) (done part : ℕ) → mid ≡ before ++ flat_map escaped (take done text) → new ≡ mid ++ flat_map escaped (take (done + part - done) (drop done text)) → new ≡ before ++ flat_map escaped (take (done + part) text)
-pushed_more before mid new text done part p q =
+pub pushed_more : (escape : ℕ → List ℕ) (before mid new text : List ℕ) (done part : ℕ) → mid ≡ before ++ flat_map escape (take done text) → new ≡ mid ++ flat_map escape (take (done + part - done) (drop done text)) → new ≡ before ++ flat_map escape (take (done + part) text)
+pushed_more escape before mid new text done part p q =
     let count : done + part - done ≡ part = omega arith in
     q
-    ∙ ap (λ (bs : List ℕ). bs ++ flat_map escaped (take (done + part - done) (drop done text))) p
-    ∙ ap (λ (k : ℕ). (before ++ flat_map escaped (take done text)) ++ flat_map escaped (take k (drop done text))) count
-    ∙ append_assoc before (flat_map escaped (take done text)) (flat_map escaped (take part (drop done text)))
-    ∙ ap (λ (bs : List ℕ). before ++ bs) (sym (flat_map-append escaped (take done text) (take part (drop done text))) ∙ ap (flat_map escaped) (sym (take-add done part text)))
+    ∙ ap (λ (bs : List ℕ). bs ++ flat_map escape (take (done + part - done) (drop done text))) p
+    ∙ ap (λ (k : ℕ). (before ++ flat_map escape (take done text)) ++ flat_map escape (take k (drop done text))) count
+    ∙ append_assoc before (flat_map escape (take done text)) (flat_map escape (take part (drop done text)))
+    ∙ ap (λ (bs : List ℕ). before ++ bs) (sym (flat_map-append escape (take done text) (take part (drop done text))) ∙ ap (flat_map escape) (sym (take-add done part text)))

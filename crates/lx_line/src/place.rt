@@ -15,6 +15,7 @@ pub fn place_byte(buf: &mut [u8], at: usize, byte: u8) -> usize
 }
 
 /// A whole text.
+#[inline(always)]
 pub fn place_all(buf: &mut [u8], at: usize, text: &[u8]) -> usize
     requires { at + length text.now ≤ length buf.old }
     ensures { Placed buf.old buf.new at text.now result }
@@ -57,5 +58,17 @@ pub fn place_32(buf: &mut [u8], at: usize, src: &[u8], from: usize, len: usize) 
     ensures { Placed buf.old buf.new at (take len (drop from src.now)) result }
 {
     u8x32::from_slice(&src[from..]).copy_to_slice(&mut buf[at..]);
+    at + len
+}
+
+/// The first `len` of 64 bytes from a place of the source.
+#[inline(always)]
+pub fn place_64(buf: &mut [u8], at: usize, src: &[u8], from: usize, len: usize) -> usize
+    requires room { at + 64 ≤ length buf.old }
+    requires source { from + 64 ≤ length src.now }
+    requires part { len ≤ 64 }
+    ensures { Placed buf.old buf.new at (take len (drop from src.now)) result }
+{
+    u8x64::from_slice(&src[from..]).copy_to_slice(&mut buf[at..]);
     at + len
 }

@@ -115,17 +115,17 @@ fn is_name(kind: Kind) -> bool
     matches!(kind, Kind::Name(_))
 }
 
-// Whether two kinds are the same. It takes fewer jumps than a test form by form.
+/// Whether two kinds are the same. It takes fewer jumps than a test form by form.
 #[inline(always)]
-fn are_same(a: Kind, b: Kind) -> bool
+pub fn are_same(a: Kind, b: Kind) -> bool
     ensures { IsTrue result → a ≡ b }
 {
     number_of(a) == number_of(b) && is_name(a) == is_name(b)
 }
 
-// Where the prefix of a kind is kept. Several kinds share the place, and the last has it.
+/// Where the prefix of a kind is kept. Several kinds share the place, and the last has it.
 #[inline(always)]
-fn slot_of(kind: Kind) -> usize
+pub fn slot_of(kind: Kind) -> usize
     ensures { result < 32 }
 {
     number_of(kind) as usize % SLOTS

@@ -1,12 +1,11 @@
-use Rattle.std.proofs.Common.{◌∙◌, arith}
-use Rattle.std.proofs.lemmas.List.{length-drop}
+use Rattle.std.proofs.Common.{arith}
+use Rattle.lx_line.proofs.Unescaped.{pushed_more}
 use Rattle.lx_forms.specs.JsonLines.{string_escaped}
-use Rattle.lx_forms.proofs.Parts.{front_and_rest}
 use Rattle.lx_forms.proofs.json_lines.push_string_bytes.Goals as goal
 
-pub returns : goal.returns
-returns c =
-    let plain = c.plain_front-plain.result in
-    let long = length-drop plain c.args.bytes.now in
-    let end = c.loop-byte.auto.byte-index-end in
-    c.loop-byte.invariant ∙ front_and_rest string_escaped c.args.bytes.now c.args.block.now.items plain c.loop-byte.byte-index c.plain_front-plain.ensures.plain (omega arith)
+pub loop-done-preserved : goal.loop-done-preserved
+loop-done-preserved c =
+    record {
+      within = omega arith;
+      pushed = pushed_more string_escaped c.args.block.now.items c.loop-done.block.items c.push_part.new.block.items c.args.bytes.now c.loop-done.done c.min.result c.loop-done.invariant.pushed c.in_ok-push_part.ensures;
+    }

@@ -1,4 +1,5 @@
 use Rattle.std.proofs.Common.{arith}
+use Rattle.lx_line.specs.Escapes.{escaped}
 use Rattle.lx_line.proofs.Unescaped.{text_more}
 use Rattle.lx_line.proofs.texts.place_long.Goals as goal
 
@@ -7,5 +8,5 @@ loop-done-preserved c =
     record {
       within = omega arith;
       short = omega arith;
-      placed = text_more c.args.bytes.now c.args.start c.loop-done.done c.place_part-part.result.count c.loop-done.invariant.placed c.place_part-part.ensures.placed;
+      placed = text_more escaped c.args.bytes.now c.args.start c.loop-done.done c.place_part-part.result.count c.loop-done.invariant.placed c.place_part-part.ensures.placed;
     }

@@ -5,7 +5,7 @@ use Rattle.lx_rules.specs.declared.rule.Kind.TheVariants.{Name}
 use Rattle.lx_forms.specs.FormListings.{lines_in}
 use Rattle.lx_forms.specs.FormPrintingLaws.{lines_both, lines_none}
 use Rattle.lx_forms.specs.Views.{form_view}
-use Rattle.lx_forms.proofs.lines.push_lines.Goals as goal
+use Rattle.lx_forms.proofs.lines.push_each.Goals as goal
 
 pub loop-item-init : goal.loop-item-init
 loop-item-init c =

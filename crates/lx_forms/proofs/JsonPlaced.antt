@@ -1,0 +1,89 @@
+-- A line in JSON of its parts.
+use Rattle.std.proofs.Common.{◌≡◌, ℕ, ◌+◌, ◌-◌, Bool, true, false, if◌then◌else◌, List, [], ◌∷◌, ◌++◌, take, drop, refl, sym, ◌∙◌, ap, arith, append_assoc, append-nil}
+use Rattle.std.specs.Prelude.{Option, codes, decimal}
+use Rattle.std.specs.List.{flat_map}
+use Rattle.std.specs.Str.{is_utf8}
+use Rattle.lx_rules.specs.declared.rule.Kind.{Kind}
+use Rattle.lx_scan.specs.declared.item.Item.{Item}
+use Rattle.lx_scan.specs.declared.item.Item.TheVariants.{Token, Echo}
+use Rattle.lx_scan.specs.ItemParts.{line_of as line_number, start_of, len_of, text_of}
+use Rattle.lx_piece.specs.Plans.{Planned, bytes_of}
+use Rattle.lx_line.specs.Placed.{Placed}
+use Rattle.lx_line.specs.Prefixes.{kind_of_item}
+use Rattle.lx_line.proofs.Places.{Placed-then}
+use Rattle.lx_forms.specs.Forms.{PlainForm, passes}
+use Rattle.lx_forms.specs.FormListings.{line_by, line_in, lines_in}
+use Rattle.lx_forms.specs.JsonFields.{numbers_text, string_member}
+use Rattle.lx_forms.specs.JsonLines.{bytes_member, file_members, json_line, kind_value, text_member}
+use Rattle.lx_forms.specs.declared.format.Format.{Format}
+use Rattle.lx_forms.specs.declared.format.Format.TheVariants.{Json}
+use Rattle.lx_forms.specs.JsonParts.{json_prefix, rest_of_line}
+
+-- the parts of a line, where its prefix stands by itself
+regrouped : (file sort key line s start n len text end : List ℕ) →
+    ((file ++ sort) ++ key) ++ ((((((line ++ s) ++ start) ++ n) ++ len) ++ text) ++ end)
+    ≡ (((file ++ sort) ++ (((((key ++ line) ++ s) ++ start) ++ n) ++ len)) ++ text) ++ end
+regrouped file sort key line s start n len text end = simp append_assoc
+
+prefix_and_rest : (form : PlainForm) (plan : Planned) (file : ℕ) (item : Item) → json_prefix form plan file (kind_of_item item) ++ rest_of_line form plan file item ≡ json_line form plan file item
+unfolding json_line
+prefix_and_rest form plan file (Token kind line start len) =
+    regrouped (file_members form file) (codes ",\"kind\":" ++ kind_value plan kind) (codes ",\"line\":") (decimal line) (codes ",\"start\":") (decimal start) (codes ",\"len\":") (decimal len)
+    (text_member form (text_of (bytes_of plan file) (Token kind line start len))) (codes "}\n")
+prefix_and_rest form plan file (Echo line start len) =
+    regrouped (file_members form file) (codes ",\"echo\":true") (codes ",\"line\":") (decimal line) (codes ",\"start\":") (decimal start) (codes ",\"len\":") (decimal len)
+    (text_member form (text_of (bytes_of plan file) (Echo line start len))) (codes "}\n")
+
+-- both behind other bytes
+pub line_pushed : (before q new : List ℕ) (form : PlainForm) (plan : Planned) (file : ℕ) (item : Item) → q ≡ before ++ json_prefix form plan file (kind_of_item item) → new ≡ q ++ rest_of_line form plan file item →
+    new ≡ before ++ json_line form plan file item
+line_pushed before q new form plan file item p r =
+    r
+    ∙ ap (λ (bytes : List ℕ). bytes ++ rest_of_line form plan file item) p
+    ∙ append_assoc before (json_prefix form plan file (kind_of_item item)) (rest_of_line form plan file item)
+    ∙ ap (λ (bytes : List ℕ). before ++ bytes) (prefix_and_rest form plan file item)
+
+-- a text that is UTF-8, where texts are printed
+member_is : (printed : Bool) (text : List ℕ) → (printed ≡ true → is_utf8 text ≡ true) → string_member printed text ≡ (if printed then bytes_member (codes ",\"text\":") (codes ",\"hex\":") text else [])
+member_is false text h = refl
+member_is true text h = rw (h refl) refl
+
+text_same : (bytes : List ℕ) (start len : ℕ) → take len (drop start bytes) ≡ take (start + len - start) (drop start bytes)
+text_same bytes start len = ap (λ (n : ℕ). take n (drop start bytes)) (let e : len ≡ start + len - start = omega arith in e)
+
+-- what was placed behind the prefix, by the numbers of the item
+rest_is : (form : PlainForm) (plan : Planned) (file : ℕ) (item : Item) (line start len : ℕ) (bytes : List ℕ) → (form.text ≡ true → is_utf8 (take len (drop start bytes)) ≡ true) → line ≡ line_number item → start ≡ start_of item → len ≡ len_of item → bytes ≡ bytes_of plan file →
+    numbers_text line start len ++ (string_member form.text (take len (drop start bytes)) ++ codes "}\n") ≡ rest_of_line form plan file item
+rest_is form plan file item line start len bytes utf8 l s n t =
+    let text = take len (drop start bytes) in
+    let numbers = numbers_text (line_number item) (start_of item) (len_of item) in
+    let bs = bytes_of plan file in
+    ap (λ (m : List ℕ). numbers_text line start len ++ (m ++ codes "}\n")) (member_is form.text text utf8)
+    ∙ ap (λ (k : ℕ). numbers_text k start len ++ (text_member form text ++ codes "}\n")) l
+    ∙ ap (λ (k : ℕ). numbers_text (line_number item) k len ++ (text_member form (take len (drop k bytes)) ++ codes "}\n")) s
+    ∙ ap (λ (k : ℕ). numbers_text (line_number item) (start_of item) k ++ (text_member form (take k (drop (start_of item) bytes)) ++ codes "}\n")) n
+    ∙ ap (λ (k : List ℕ). numbers ++ (text_member form (take (len_of item) (drop (start_of item) k)) ++ codes "}\n")) t
+    ∙ ap (λ (k : List ℕ). numbers ++ (text_member form k ++ codes "}\n")) (text_same bs (start_of item) (len_of item))
+    ∙ sym (append_assoc numbers (text_member form (text_of bs item)) (codes "}\n"))
+
+pub line_placed : {a b c d e : List ℕ} {at i j k end : ℕ} (form : PlainForm) (plan : Planned) (file : ℕ) (item : Item) (kind : Option Kind) (line start len : ℕ) (bytes : List ℕ) →
+    Placed a b at (json_prefix form plan file kind) i → Placed b c i (numbers_text line start len) j → Placed c d j (string_member form.text (take len (drop start bytes))) k → Placed d e k (codes "}\n") end →
+    (form.text ≡ true → is_utf8 (take len (drop start bytes)) ≡ true) → kind ≡ kind_of_item item → line ≡ line_number item → start ≡ start_of item → len ≡ len_of item → bytes ≡ bytes_of plan file →
+    take end e ≡ take at a ++ json_line form plan file item
+line_placed {a} {b} {c} {d} {e} {at} form plan file item kind line start len bytes p q r s utf8 same l m n t =
+    (Placed-then p (Placed-then q (Placed-then r s))).bytes
+    ∙ ap (λ (k : Option Kind). take at a ++ (json_prefix form plan file k ++ (numbers_text line start len ++ (string_member form.text (take len (drop start bytes)) ++ codes "}\n")))) same
+    ∙ ap (λ (rest : List ℕ). take at a ++ (json_prefix form plan file (kind_of_item item) ++ rest)) (rest_is form plan file item line start len bytes utf8 l m n t)
+    ∙ ap (λ (bs : List ℕ). take at a ++ bs) (prefix_and_rest form plan file item)
+
+-- the lines of one item that isn't printed, and of one that is
+pub line_none : (form : PlainForm) (plan : Planned) (file : ℕ) (item : Item) → passes form item ≡ false → lines_in form plan file (item ∷ []) ≡ []
+unfolding lines_in
+line_none form plan file item e = rw e refl
+
+pub line_one : (form : PlainForm) (plan : Planned) (file : ℕ) (item : Item) → form.format ≡ Json → passes form item ≡ true → lines_in form plan file (item ∷ []) ≡ json_line form plan file item
+unfolding lines_in
+line_one form plan file item json e =
+    ap (λ (b : Bool). flat_map (line_in form plan file) (if b then item ∷ [] else [])) e
+    ∙ append-nil (line_in form plan file item)
+    ∙ ap (λ (format : Format). line_by format form plan file item) json

@@ -1,0 +1,140 @@
+//! The prefixes of lines in JSON, which are the members before the number of the line: each is made once and kept for the lines that follow.
+
+ghost use Rattle.std.specs.Prelude.{◌≡◌, ◌+◌, ◌<◌, ◌≤◌, ◌++◌, ℕ, IfSome, MatchOption, OnOk, length, take};
+ghost use Rattle.lx_piece.specs.Plans.{Planned};
+ghost use Rattle.lx_line.specs.Placed.{Placed};
+ghost use Rattle.lx_line.specs.Prefixes.{IsKindOf};
+ghost use Rattle.lx_forms.specs.Forms.{PlainForm};
+ghost use Rattle.lx_forms.specs.JsonParts.{ArePrefixesOf, IsKept, json_prefix};
+ghost use Rattle.lx_forms.specs.Views.{form_view};
+
+use crate::form::Form;
+use crate::json_lines::push_prefix;
+use lx_line::{are_same, place_64, place_all, slot_of};
+use lx_piece::Plan;
+use lx_rules::rule::Kind;
+use std::alloc::AllocError;
+
+// The longest prefix that is kept.
+const PREFIX: usize = 128;
+
+// So many prefixes of tokens are kept.
+const SLOTS: usize = 32;
+
+/// The prefix of a line, or none, where it is empty.
+#[derive(Clone, Copy, Drop)]
+pub(crate) struct Prefix {
+    text: [u8; 128],
+    len: usize,
+}
+
+/// The prefix of the lines of tokens of a kind.
+#[derive(Clone, Copy, Drop)]
+pub(crate) struct Slot {
+    kind: Kind,
+    prefix: Prefix,
+}
+
+impl Prefix {
+    fn none() -> Prefix
+        ensures { result.len ≡ 0 }
+    {
+        Prefix {
+            text: [0; PREFIX],
+            len: 0,
+        }
+    }
+
+    // This text, unless it is too long.
+    fn of(text: &[u8]) -> Prefix
+        ensures short { result.len ≤ 128 }
+        ensures text { 0 < result.len → take result.len result.text ≡ text.now }
+    {
+        let mut prefix = Prefix::none();
+        if text.len() <= PREFIX {
+            prefix.len = place_all(&mut prefix.text, 0, text);
+        }
+        prefix
+    }
+
+    /// Places it, unless it is empty. Most have at most 64 bytes.
+    #[inline(always)]
+    pub(crate) fn place(&self, buf: &mut [u8], at: usize) -> Option<usize>
+        requires room { at + 128 ≤ length buf.old }
+        requires short { self.now.len ≤ 128 }
+        ensures placed { MatchOption result (buf.new ≡ buf.old) (λ end. (0 < self.now.len) × Placed buf.old buf.new at (take self.now.len self.now.text) end) }
+        ensures short { MatchOption result (Unit {0}) (λ end. end ≤ at + 128) }
+    {
+        if self.len == 0 {
+            return None;
+        }
+        if self.len <= 64 {
+            return Some(place_64(buf, at, &self.text, 0, self.len));
+        }
+        Some(place_all(buf, at, &self.text[..self.len]))
+    }
+}
+
+/// Prefixes of the lines of one file.
+#[derive(Clone, Copy, Drop)]
+pub(crate) struct Prefixes {
+    echo: Prefix,
+    slots: [Slot; 32],
+}
+
+impl Prefixes {
+    /// As yet of no kind. All its bytes are 0, so that it is made at once.
+    #[inline(always)]
+    pub(crate) fn new() -> Prefixes
+        ensures { (form : PlainForm) (plan : Planned) (file : ℕ) → ArePrefixesOf form plan file result }
+    {
+        let slot = Slot {
+            kind: Kind::Name(0),
+            prefix: Prefix::none(),
+        };
+        Prefixes {
+            echo: Prefix::none(),
+            slots: [slot; SLOTS],
+        }
+    }
+
+    /// Pushes the prefix of the line of a token of a kind, or of an Echo, and keeps it.
+    pub(crate) fn push(
+        &mut self,
+        block: &mut Vec<u8>,
+        form: &Form<'_>,
+        plan: &Plan,
+        file: u32,
+        kind: Option<Kind>,
+    ) -> Result<(), AllocError>
+        requires kind { IsKindOf plan.now kind }
+        requires prefixes { ArePrefixesOf (form_view form.now) plan.now file self.old }
+        ensures pushed { OnOk result (block.new.items ≡ block.old.items ++ json_prefix (form_view form.now) plan.now file kind) }
+        ensures prefixes { ArePrefixesOf (form_view form.now) plan.now file self.new }
+    {
+        let begun = block.len();
+        push_prefix(block, form, plan, file, kind)?;
+        let prefix = Prefix::of(&block.as_slice()[begun..]);
+        match kind {
+            Some(kind) => self.slots[slot_of(kind)] = Slot { kind, prefix },
+            None => self.echo = prefix,
+        }
+        Ok(())
+    }
+
+    /// The prefix of the lines of tokens of a kind, or of Echoes, where it is kept.
+    #[inline(always)]
+    pub(crate) fn of(&self, kind: Option<Kind>) -> Option<&Prefix>
+        ensures { IfSome result (λ prefix. IsKept self.now kind prefix.now) }
+    {
+        let Some(kind) = kind else {
+            return Some(&self.echo);
+        };
+        let slot = &self.slots[slot_of(kind)];
+        if are_same(slot.kind, kind) {
+            Some(&slot.prefix)
+        } else {
+            None
+        }
+    }
+}
