@@ -1,12 +1,20 @@
 //! Real files as the program's sources.
 
 use lx_piece::Input;
-use lx_tool::{STANDARD_INPUT, SourceFault, Sources, read_to_end};
+use lx_tool::{STANDARD_INPUT, SourceFault, Sources, read_names, read_to_end};
 use std::alloc::Global;
 use std::fs::File;
 use std::io;
 use std::io::{Error, ErrorKind, Input as StandardInput, Read};
 use std::rt::Files;
+
+// How much of a file is wanted.
+#[derive(Clone, Copy)]
+enum Wanted {
+    All,
+    /// Names with this separator, so many at most.
+    Names { separator: u8, most: usize },
+}
 
 /// The files of the system, by their paths, and standard input.
 #[derive(Drop)]
@@ -22,12 +30,40 @@ impl<'a, R: Files + StandardInput> FileSources<'a, R> {
         FileSources { rt, reason: None }
     }
 
-    // Reads to the end, and keeps why that failed.
-    fn read_all<F: Read + Drop>(&mut self, alloc: Global, file: F) -> Result<Input, SourceFault> {
+    // Reads as much as is wanted, and keeps why that failed.
+    fn read_file<F: Read + Drop>(
+        &mut self,
+        alloc: Global,
+        file: F,
+        wanted: Wanted,
+    ) -> Result<Input, SourceFault> {
         let mut noting = Noting { file, reason: None };
-        let input = read_to_end(alloc, &mut noting);
+        let input = match wanted {
+            Wanted::All => read_to_end(alloc, &mut noting),
+            Wanted::Names { separator, most } => read_names(alloc, &mut noting, separator, most),
+        };
         self.reason = noting.reason;
         input
+    }
+
+    // Reads as much of the file with this name as is wanted.
+    fn read_wanted(
+        &mut self,
+        alloc: Global,
+        name: &str,
+        wanted: Wanted,
+    ) -> Result<Input, SourceFault> {
+        if name == STANDARD_INPUT {
+            let input = self.rt.reader();
+            return self.read_file(alloc, input, wanted);
+        }
+        match File::open(self.rt, name) {
+            Ok(file) => self.read_file(alloc, file, wanted),
+            Err(error) => {
+                self.reason = error.raw_os_error();
+                Err(fault_of(&error))
+            }
+        }
     }
 }
 
@@ -38,17 +74,17 @@ impl<R: Files + StandardInput> Sources for FileSources<'_, R> {
     ghost gives = { λ _ _ _ _. ⊤ };
 
     fn read(&mut self, alloc: Global, name: &str) -> Result<Input, SourceFault> {
-        if name == STANDARD_INPUT {
-            let input = self.rt.reader();
-            return self.read_all(alloc, input);
-        }
-        match File::open(self.rt, name) {
-            Ok(file) => self.read_all(alloc, file),
-            Err(error) => {
-                self.reason = error.raw_os_error();
-                Err(fault_of(&error))
-            }
-        }
+        self.read_wanted(alloc, name, Wanted::All)
+    }
+
+    fn read_names(
+        &mut self,
+        alloc: Global,
+        name: &str,
+        separator: u8,
+        most: usize,
+    ) -> Result<Input, SourceFault> {
+        self.read_wanted(alloc, name, Wanted::Names { separator, most })
     }
 
     fn reason(&self) -> Option<Error> {

@@ -12,4 +12,5 @@ pub mod JsonStrings
 pub mod KindWords
 pub mod Parts
 pub mod PlainStrings
+pub mod NamesFront
 pub mod NamesRead

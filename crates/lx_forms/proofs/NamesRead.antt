@@ -59,6 +59,7 @@ module _ (separator : ℕ) (text : List ℕ) (old new : List (List ℕ)) (rest :
     begins = record { names_are = read.names_are; text_is = before ∙ ap (λ bytes. ended separator read.names ++ bytes) (is ∙ sym (append-nil part)) };
     number_is = let count = ap length read.behind ∙ length-append old read.names in omega (arith, count);
     free = free;
+    ends = inl refl;
     bad = elim bad [
       | inl none ↦ absurd (some (is ∙ none))
       | inr other ↦ inr other
@@ -71,6 +72,7 @@ module _ (separator : ℕ) (text : List ℕ) (old new : List (List ℕ)) (rest :
     begins = record { names_are = read.names_are; text_is = before ∙ ap (λ bytes. ended separator read.names ++ bytes) is };
     number_is = let count = ap length read.behind ∙ length-append old read.names in omega (arith, count);
     free = free;
+    ends = inr (later, refl);
     bad = elim bad [
       | inl none ↦ inl (none, λ e. let nobody = ap length e in absurd (omega (arith, nobody)))
       | inr other ↦ inr other

@@ -1,5 +1,5 @@
 -- Texts that are lists of names: each name with a separator behind it, which may lack behind the last one.
-use Rattle.std.specs.Prelude.{◌≡◌, ◌≢◌, ℕ, ◌+◌, ◌≤◌, true, false, ⊤, List, [], ◌∷◌, ◌++◌, ◌⊎◌, All, Option, Some, None, length}
+use Rattle.std.specs.Prelude.{◌≡◌, ◌≢◌, ℕ, ◌+◌, ◌<◌, ◌≤◌, nat_eq, if◌then◌else◌, true, false, ⊤, List, [], ◌∷◌, ◌++◌, ◌⊎◌, All, Option, Some, None, length}
 use Rattle.std.specs.List.{flat_map}
 use Rattle.std.specs.Str.{is_utf8}
 use Rattle.lx_forms.specs.declared.name_list.NameListFault.{NameListFault}
@@ -29,6 +29,10 @@ pub record BeginsWith (separator : ℕ) (text : List ℕ) (names : List (List �
   pub names_are : All (IsName separator) names
   pub text_is : text ≡ ended separator names ++ rest
 
+-- what stands behind a name: nothing, or its separator first
+abbrev pub EndsName : ℕ → List ℕ → Type 0
+EndsName separator rest = (rest ≡ []) ⊎ ((more : List ℕ) × (rest ≡ separator ∷ more))
+
 -- The text is no list: what stands in the place of the name with this number, counted from 1, is empty or isn't UTF-8.
 pub record IsNoName (separator : ℕ) (text : List ℕ) (number : ℕ) : Type 0 where
   pub names : List (List ℕ)
@@ -37,6 +41,7 @@ pub record IsNoName (separator : ℕ) (text : List ℕ) (number : ℕ) : Type 0 
   pub begins : BeginsWith separator text names (name ++ rest)
   pub number_is : number ≡ length names + 1
   pub free : IsFree separator name
+  pub ends : EndsName separator rest
   pub bad : ((name ≡ []) × (rest ≢ [])) ⊎ (is_utf8 name ≡ false)
 
 -- More names begin there than this many.
@@ -55,9 +60,22 @@ pub record AreNamed (separator : ℕ) (text : List ℕ) (old new : List (List �
 
 -- why a text isn't the list of at most so many names, or that memory was refused
 abbrev pub IsNoList : ℕ → List ℕ → ℕ → NameListFault → Type 0
-IsNoList separator text most (NoName number) = IsNoName separator text number
+IsNoList separator text most (NoName number) = IsNoName separator text number × (number ≤ most)
 IsNoList separator text most TooMany = HasMoreNames separator text most
 IsNoList separator text most Memory = ⊤
+
+-- ---- the front of a text
+
+-- how many separators are among the bytes
+abbrev pub separators : ℕ → List ℕ → ℕ
+separators separator [] = 0
+separators separator (byte ∷ bytes) = (if nat_eq byte separator then 1 else 0) + separators separator bytes
+
+-- This is all of the text, or a front part of it that has more names than so many, each with the separator behind it.
+pub record IsFront (separator most : ℕ) (text front : List ℕ) : Type 0 where
+  pub rest : List ℕ
+  pub text_is : text ≡ front ++ rest
+  pub enough : (rest ≡ []) ⊎ (most < separators separator front)
 
 -- ---- how far a text was read
 

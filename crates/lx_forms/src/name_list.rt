@@ -1,8 +1,8 @@
 //! Lists of names in a text.
 
-ghost use Rattle.std.specs.Prelude.{◌≡◌, ◌≢◌, ◌⊎◌, ◌≤◌, ◌<◌, ◌-◌, ◌++◌, [], ◌∷◌, true, false, OnOk, IfErr, MatchOption, length, map, option_map, vec_len};
+ghost use Rattle.std.specs.Prelude.{ℕ, List, ◌≡◌, ◌≢◌, ◌⊎◌, ◌≤◌, ◌<◌, ◌-◌, ◌++◌, [], ◌∷◌, true, false, OnOk, IfErr, MatchOption, length, map, option_map, vec_len};
 ghost use Rattle.std.specs.Str.{is_utf8};
-ghost use Rattle.lx_forms.specs.NameLists.{AreNamed, AreParts, IsFree, IsNoList};
+ghost use Rattle.lx_forms.specs.NameLists.{AreNamed, AreParts, IsFree, IsFront, IsNoList};
 ghost use Rattle.lx_forms.specs.declared.name_list.NameListFault.{NameListFault};
 
 use memchr::memchr;
@@ -66,7 +66,8 @@ fn name_in(bytes: &[u8]) -> Option<&str>
 }
 
 /// Puts the names of a text, which stand there with a separator behind each that may lack behind the last one, behind those in the list,
-/// which has at most `most` in the end. Behind a fault the front ones stand there.
+/// which has at most `most` in the end. Behind a fault the front ones stand there. Of a front part of a text that has more names than are wanted it says what it would say of the
+/// whole.
 pub fn push_names<'a>(
     names: &mut Vec<&'a str>,
     text: &'a [u8],
@@ -76,6 +77,8 @@ pub fn push_names<'a>(
     ensures ok { OnOk result (AreNamed separator text.now (map (λ name. name.now) names.old.items) (map (λ name. name.now) names.new.items)) }
     ensures few { OnOk result (vec_len names.old ≤ most → vec_len names.new ≤ most) }
     ensures err { IfErr result (IsNoList separator text.now (most - vec_len names.old)) }
+    ensures ok_of_front { OnOk result ((whole : List ℕ) → vec_len names.old ≤ most → IsFront separator (most - vec_len names.old) whole text.now → whole ≡ text.now) }
+    ensures err_of_front { IfErr result (λ fault. (whole : List ℕ) → IsFront separator (most - vec_len names.old) whole text.now → IsNoList separator whole (most - vec_len names.old) fault) }
 {
     let begun = names.len();
     let mut rest = text;

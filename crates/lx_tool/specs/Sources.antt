@@ -3,6 +3,7 @@ use Rattle.std.specs.Prelude.{◌≡◌, ◌≢◌, ℕ, Bool, false, ◌||◌, 
 use Rattle.std.specs.Borrow.{Bor}
 use Rattle.std.specs.Io.KnownBytes.{Consumes}
 use Rattle.std.specs.Str.{bytes_eq}
+use Rattle.lx_forms.specs.NameLists.{IsFront}
 use Rattle.lx_piece.specs.Plans.{PlainInput}
 
 -- names, as texts
@@ -18,6 +19,12 @@ pub data AreGiven {S : Type 0} (gives : S → List ℕ → PlainInput → S → 
   none : {s : S} → AreGiven gives s [] [] s
   first : {s t u : S} {name : List ℕ} {input : PlainInput} {names : List (List ℕ)} {inputs : List PlainInput} →
       gives s name input t → AreGiven gives t names inputs u → AreGiven gives s (name ∷ names) (input ∷ inputs) u
+
+-- Between one state of the sources and a later one a file was given for the name, and this is all of it, or a front part that has more names than so many.
+pub record GivesFront {S : Type 0} (gives : S → List ℕ → PlainInput → S → Type 0) (before : S) (name : List ℕ) (separator most : ℕ) (input : PlainInput) (after : S) : Type 0 where
+  pub text : List ℕ
+  pub given : gives before name (record { bytes = text; cut = input.cut }) after
+  pub front : IsFront separator most text input.bytes
 
 -- of files with these names, the names of those that were cut short
 abbrev pub cut_names : List (List ℕ) → List PlainInput → List (List ℕ)

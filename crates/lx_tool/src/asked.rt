@@ -11,7 +11,7 @@ ghost use Rattle.lx_tool.specs.Sources.{texts_of};
 ghost use Rattle.lx_tool.specs.Statuses.{HidesNoMemory, status_of};
 
 use crate::failure::{Failure, RequestFault};
-use crate::given::{read_given, read_whole};
+use crate::given::{read_given, read_name_list};
 use crate::planning::list_files_in;
 use crate::source::{STANDARD_INPUT, Sources};
 use lx_forms::{Form, Format, NameListFault, Selection, choose, push_names};
@@ -130,7 +130,8 @@ fn push_listed<'a, S: Sources>(
     ensures few { OnOk result (vec_len names.new ≤ max_files) }
     ensures err { IfErr result (IsListRefused S.gives (plain_list list.entry) (texts_of names.old.items) sources.old) }
 {
-    *text = read_whole(alloc, sources, list.name)?;
+    let most = MAX_FILES - names.len();
+    *text = read_name_list(alloc, sources, list.name, list.separator, most)?;
     match push_names(names, text, list.separator, MAX_FILES) {
         Ok(()) => Ok(()),
         Err(NameListFault::NoName(line)) => Err(Failure::Refused(RequestFault::NoName {

@@ -5,7 +5,7 @@ ghost use Rattle.lx_piece.specs.Plans.{input_view, max_files, max_items};
 ghost use Rattle.lx_post.specs.Claimed.{max_workers};
 ghost use Rattle.lx_tool.specs.Given.{AreRead, FailsGiven, IsNoTable, IsUnread, ListsGiven};
 ghost use Rattle.lx_tool.specs.Planning.{AreBytes, ListsBy, ListsPrefixBy, ListsByRules, ListsPrefixByRules, ListsByText, ListsPrefixByText};
-ghost use Rattle.lx_tool.specs.Sources.{AreGiven, cut_names, texts_of, whole};
+ghost use Rattle.lx_tool.specs.Sources.{AreGiven, GivesFront, cut_names, texts_of, whole};
 ghost use Rattle.lx_tool.specs.Tabling.{HasNoTables};
 
 use crate::failure::Failure;
@@ -60,6 +60,29 @@ pub(crate) fn read_whole<'a, S: Sources>(
         return Err(Failure::NotRead(name));
     }
     Ok(input.bytes)
+}
+
+/// The list of names with this name, or a front part of it that has more names than so many. One that is cut counts as not read.
+pub(crate) fn read_name_list<'a, S: Sources>(
+    alloc: Global,
+    sources: &mut S,
+    name: &'a str,
+    separator: u8,
+    most: usize,
+) -> Result<Vec<u8>, Failure<'a>>
+    ensures ok { IfOk result (λ front. GivesFront S.gives sources.old name.now separator most (whole front.items) sources.new) }
+    ensures err { IfErr result (λ failure. IsUnread (name.now ∷ []) failure) }
+{
+    match sources.read_names(alloc, name, separator, most) {
+        Ok(input) => {
+            if input.cut {
+                return Err(Failure::NotRead(name));
+            }
+            Ok(input.bytes)
+        }
+        Err(SourceFault::NotRead) => Err(Failure::NotRead(name)),
+        Err(SourceFault::Memory) => Err(Failure::Memory),
+    }
 }
 
 // The files with these names, in order.

@@ -28,7 +28,7 @@ pub use planning::{
     list_files, list_files_in, listings_are_by_rules, printed_tables_list_by_rules,
 };
 pub use program::{run, run_with};
-pub use reading::read_to_end;
+pub use reading::{read_names, read_to_end};
 pub use source::{ListSources, STANDARD_INPUT, SourceFault, Sources};
 pub use tabling::tables_of_text;
 pub use target::{NoTargets, TargetFault, Targets};

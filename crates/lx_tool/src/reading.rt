@@ -1,7 +1,8 @@
 //! Readers, read to their end.
 
-ghost use Rattle.std.specs.Prelude.{◌≡◌, ◌<◌, ◌++◌, ℕ, List, false, IfOk, IfErr, OnOk, length};
+ghost use Rattle.std.specs.Prelude.{◌≡◌, ◌<◌, ◌⊎◌, ◌++◌, ℕ, List, false, IfOk, IfErr, OnOk, length};
 ghost use Rattle.std.specs.Io.KnownBytes.{Consumes, IsAtEnd};
+ghost use Rattle.lx_forms.specs.NameLists.{separators};
 ghost use Rattle.lx_tool.specs.declared.source.SourceFault.{SourceFault};
 ghost use Rattle.lx_tool.specs.Sources.{ReadsOn};
 
@@ -66,6 +67,49 @@ pub fn read_to_end<R: Read>(alloc: Global, reader: &mut R) -> Result<Input, Sour
             Turn::More => {}
             Turn::End => return Ok(Input { bytes, cut: false }),
             Turn::Failed => break,
+        }
+    }
+    Ok(Input { bytes, cut: true })
+}
+
+// How many of the bytes are the separator.
+fn separators_in(bytes: &[u8], separator: u8) -> usize
+    ensures { result ≡ separators separator bytes.now }
+{
+    let mut count = 0;
+    for byte in bytes {
+        if *byte == separator {
+            count += 1;
+        }
+    }
+    count
+}
+
+/// What a reader gives, as `read_to_end` has it, but no more than is wanted of a list of names: where more names than so many were read, each with the separator behind it, what
+/// stands behind them isn't read.
+pub fn read_names<R: Read>(
+    alloc: Global,
+    reader: &mut R,
+    separator: u8,
+    most: usize,
+) -> Result<Input, SourceFault>
+    ensures bytes { IfOk result (λ input. Consumes (R.remaining reader.old) (R.remaining reader.new) input.bytes.items) }
+    ensures end { IfOk result (λ input. input.cut ≡ false → IsAtEnd (R.remaining reader.new) ⊎ (most < separators separator input.bytes.items)) }
+    ensures memory { IfErr result (λ fault. fault ≡ SourceFault.Memory) }
+{
+    let mut bytes = Vec::new(alloc);
+    let mut chunk = vec![in alloc; 0u8; CHUNK]?;
+    let mut count: usize = 0;
+    for _ in 0..MOST_READS {
+        let begun = bytes.len();
+        match read_on(reader, &mut chunk, &mut bytes)? {
+            Turn::More => {}
+            Turn::End => return Ok(Input { bytes, cut: false }),
+            Turn::Failed => break,
+        }
+        count = count.saturating_add(separators_in(&bytes[begun..], separator));
+        if count > most {
+            return Ok(Input { bytes, cut: false });
         }
     }
     Ok(Input { bytes, cut: true })

@@ -2,7 +2,7 @@
 
 ghost use Rattle.std.specs.Prelude.{◌≡◌, ℕ, List, [], IfOk, map};
 ghost use Rattle.lx_piece.specs.Plans.{PlainInput, input_view};
-ghost use Rattle.lx_tool.specs.Sources.{inputs_of, is_among};
+ghost use Rattle.lx_tool.specs.Sources.{GivesFront, inputs_of, is_among};
 
 use lx_piece::Input;
 use std::alloc::{AllocError, Global};
@@ -43,6 +43,20 @@ pub trait Sources {
     /// The file with this name, as far as it can be read. NotRead is for what can't be opened.
     fn read(&mut self, alloc: Global, name: &str) -> Result<Input, SourceFault>
         ensures { IfOk result (λ input. gives self.old name.now (input_view input) self.new) };
+
+    /// The same of a file that is a list of names with this separator, of which no more than so many are wanted: the file as far as it can be read, or a front part of it
+    /// that has more names, each with the separator behind it.
+    fn read_names(
+        &mut self,
+        alloc: Global,
+        name: &str,
+        separator: u8,
+        most: usize,
+    ) -> Result<Input, SourceFault>
+        ensures { IfOk result (λ input. GivesFront gives self.old name.now separator most (input_view input) self.new) }
+    {
+        self.read(alloc, name)
+    }
 
     /// Why the system couldn't read the last file that was not read, or read to its end, if that is known.
     fn reason(&self) -> Option<io::Error> {

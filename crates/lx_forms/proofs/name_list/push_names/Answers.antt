@@ -20,9 +20,12 @@ returns-in_default-clause-err c =
     let some : c.loop-rest.rest.now ≢ [] = λ e. let none = ap length e in absurd (search rules) in
     let count : length (map text_of names.items) - length (map text_of old.items) + 1 ≡ c.len-in_default.result - c.len-begun.result + 1 =
     omega (arith, length-map names.items text_of, length-map old.items text_of, c.len-in_default.ensures, c.len-begun.ensures, held, was) in
-    subst (IsNoName c.args.separator c.args.text.now) count
-    (no_name c.args.separator c.args.text.now (map text_of old.items) (map text_of names.items) c.loop-rest.rest.now c.loop-rest.invariant.0 some c.first_part.result.0.now c.first_part.ensures.free
-    (option_map text_of c.first_part.result.1) c.first_part.ensures.parts c.in_default.ensures)
+    let few : c.len-in_default.result - c.len-begun.result + 1 ≤ c.args.most - vec_len c.args.names.now = ? in (
+      subst (IsNoName c.args.separator c.args.text.now) count
+          (no_name c.args.separator c.args.text.now (map text_of old.items) (map text_of names.items) c.loop-rest.rest.now c.loop-rest.invariant.0 some c.first_part.result.0.now c.first_part.ensures.free
+          (option_map text_of c.first_part.result.1) c.first_part.ensures.parts c.in_default.ensures),
+      few,
+    )
 
 pub loop-rest-preserved : goal.loop-rest-preserved
 loop-rest-preserved c =
