@@ -49,6 +49,22 @@ fn push_end(text: &mut Vec<u8>, style: &Style<'_>, count: usize) -> Result<(), A
     push_count(text, count, b" error\n", b" errors\n")
 }
 
+// Those of the further findings that say something new, and how many errors there are.
+fn push_rest(
+    alloc: Global,
+    text: &mut Vec<u8>,
+    style: &Style<'_>,
+    source: &[u8],
+    first: Finding,
+    more: &[Finding],
+) -> Result<(), AllocError>
+    ensures { OnOk result (Extends text.old.items text.new.items) }
+{
+    let new = new_findings(alloc, source, first, more)?;
+    push_further(alloc, text, style, source, &new)?;
+    push_end(text, style, new.len().saturating_add(1))
+}
+
 // The findings of a text that is refused.
 fn push_errors(
     alloc: Global,
@@ -62,10 +78,8 @@ fn push_errors(
     let Some((first, more)) = findings.split_first() else {
         return Ok(());
     };
-    let new = new_findings(alloc, source, *first, more)?;
     push_error(alloc, text, style, source, *first)?;
-    push_further(alloc, text, style, source, &new)?;
-    push_end(text, style, new.len().saturating_add(1))
+    push_rest(alloc, text, style, source, *first, more)
 }
 
 /// What is said of a text of a specification, of which this is the report: its faults, each with the line of the source and what to do, or its warnings, how much

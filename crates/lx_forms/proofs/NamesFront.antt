@@ -1,23 +1,23 @@
 -- What is said of a front part of a text that has more names than are wanted.
 use Rattle.std.proofs.Common.{ℕ, ◌≡◌, ◌≢◌, ◌+◌, ◌<◌, ◌≤◌, true, false, List, [], ◌∷◌, ◌++◌, inl, inr, ◌⊎◌, refl, sym, ◌∙◌, ap, subst, length, All, arith, append_assoc, append-nil, nat_eq, if◌then◌else◌}
-use Rattle.std.specs.Prelude.{Bool, tt}
+use Rattle.std.specs.Prelude.{Bool}
 use Rattle.std.proofs.lemmas.Bool.{eq-eqb, ne_eqb}
 use Rattle.std.proofs.lemmas.List.Elements.{All-head, All-tail}
 use Rattle.std.specs.List.{flat_map}
-use Rattle.lx_forms.specs.NameLists.{BeginsWith, EndsName, HasMoreNames, IsFree, IsFront, IsListOf, IsName, IsNoList, IsNoName, ended, separators}
+use Rattle.lx_forms.specs.NameLists.{BeginsWith, EndsName, HasMoreNames, HasRead, IsFree, IsFront, IsListOf, IsName, IsNoList, IsNoName, ended, separators}
 use Rattle.lx_forms.specs.declared.name_list.NameListFault.{NameListFault}
 use Rattle.lx_forms.specs.declared.name_list.NameListFault.TheVariants.{NoName, TooMany, Memory}
 
 -- ---- how many separators a text has
 joined : (s : ℕ) (a b : List ℕ) → separators s (a ++ b) ≡ separators s a + separators s b
-joined s [] b = refl
+joined s [] b = omega arith
 joined s (byte ∷ a) b = let rest = joined s a b in omega (arith, rest)
 
 none_free : (s : ℕ) (a : List ℕ) → IsFree s a → separators s a ≡ 0
 none_free s [] free = refl
 none_free s (byte ∷ a) free =
     let rest = none_free s a (All-tail (λ b. b ≢ s) byte a free) in
-    ap (λ (b : Bool). (if b then 1 else 0) + separators s a) (ne_eqb byte s (All-head (λ b. b ≢ s) byte a free)) ∙ rest
+    ap (λ (b : Bool). (if b then 1 else 0) + separators s a) (ne_eqb byte s (All-head (λ b. b ≢ s) byte a free)) ∙ omega (arith, rest)
 
 one : (s : ℕ) → separators s (s ∷ []) ≡ 1
 one s = ap (λ (b : Bool). (if b then 1 else 0) + 0) (eq-eqb s s refl)
@@ -33,6 +33,19 @@ of_ended s (name ∷ names) are =
     omega (arith, head, both, free, last, rest)
 
 -- ---- a list of at most so many names is the whole
+pub read_all : (s : ℕ) (text : List ℕ) (old new : List (List ℕ)) (rest : List ℕ) (read : HasRead s text old new rest) → length rest ≡ 0 → IsListOf s text read.names
+read_all s text old new rest read none = record {
+  names_are = read.names_are;
+  text_is = elim read.text_is [
+    | inl is ↦ inl (is ∙ ap (λ bytes. ended s read.names ++ bytes) (nothing rest none) ∙ append-nil (ended s read.names))
+    | inr last ↦ inr last.1
+  ];
+}
+  where
+    nothing : (xs : List ℕ) → length xs ≡ 0 → xs ≡ []
+    nothing [] is = refl
+    nothing (x ∷ xs) is = absurd (omega (arith, is))
+
 few_names : (s : ℕ) (front : List ℕ) (names : List (List ℕ)) → IsListOf s front names → separators s front ≤ length names
 few_names s front names list = elim list.text_is [
   | inl is ↦ (let count = ap (separators s) is in let n = of_ended s names list.names_are in omega (arith, count, n))

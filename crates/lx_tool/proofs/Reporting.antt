@@ -1,5 +1,4 @@
 -- Reports of texts that are refused, or accepted.
-use Rattle.std.specs.Prelude.{⊤, tt}
 use Rattle.lx_check.specs.Findings.{IfAccepted}
 use Rattle.lx_check.specs.declared.report.Report.{Report}
 use Rattle.lx_check.specs.declared.report.Report.TheVariants as report
