@@ -1,7 +1,7 @@
 -- Code for each state. In the code of a state its steps to itself are a loop; those to the state to which most classes of bytes lead are one test; and each other
 -- class has a case of its own. Where a step is missing, it goes to the code of the rule that the state accepts. Where it accepts none, the last place counts at
 -- which one was accepted; that is kept only on a step from a state that accepts a rule to one that doesn't.
-use Rattle.std.specs.Prelude.{ℕ, suc, ◌+◌, ◌*◌, ◌/◌, ◌==◌, ◌||◌, nat_lt, Bool, true, false, if◌then◌else◌, List, [], ◌++◌, Option, Some, None, length, codes, slice_index}
+use Rattle.std.specs.Prelude.{ℕ, zero, suc, ◌+◌, ◌*◌, ◌/◌, ◌==◌, ◌||◌, nat_lt, Bool, true, false, if◌then◌else◌, List, [], ◌++◌, Option, Some, None, length, codes, slice_index}
 use Rattle.std.specs.List.{flat_map, range_with_len}
 use Rattle.lx_automaton.specs.Automata.{Machine, state_count, start_of, accepted_by, class_target, target_of}
 use Rattle.lx_tables.specs.Model.{Table}
@@ -10,7 +10,7 @@ use Rattle.lx_c.specs.Options.{Options}
 use Rattle.lx_c.specs.Actions.{array_text}
 use Rattle.lx_c.specs.Rows.{entry_text, rule_word, line_begin_text}
 use Rattle.lx_c.specs.Templates.{filled, number_then}
-use Rattle.lx_c.specs.declared.direct_templates.TheConstants.{MARKS, BEGIN_MATCH, AT_LINE_BEGIN, GOTO_STATE, BEGIN_STATES, STATE_LABEL, LOOP, SWITCH, GO, OTHER, GOTO_RULE, BACK, GOTO_RULE_OF, NO_RULE, RULE_LABEL, MATCHED, END_MATCH}
+use Rattle.lx_c.specs.declared.direct_templates.TheConstants.{MARKS, BEGIN_MATCH, AT_LINE_BEGIN, GOTO_STATE, BEGIN_STATES, STATE_LABEL, LOOP, SWITCH, NEWLINE, GO, OTHER, GOTO_RULE, BACK, GOTO_RULE_OF, NO_RULE, RULE_LABEL, MATCHED, END_MATCH}
 
 -- constant text, a number, and what stands behind it
 abbrev pub numbered : Options → List ℕ → ℕ → List ℕ → List ℕ
@@ -24,10 +24,14 @@ leads wanted None = false
 leads None (Some t) = true
 leads (Some s) (Some t) = t == s
 
+abbrev pub one_if : Bool → ℕ
+one_if true = 1
+one_if false = 0
+
 -- on how many of the first n classes a state has such a step
 abbrev pub steps_of : Machine → ℕ → Option ℕ → ℕ → ℕ
-steps_of m s wanted 0 = 0
-steps_of m s wanted (suc n) = steps_of m s wanted n + (if leads wanted (class_target m s n) then 1 else 0)
+steps_of m s wanted zero = 0
+steps_of m s wanted (suc n) = steps_of m s wanted n + one_if (leads wanted (class_target m s n))
 
 abbrev pub step_count : Machine → ℕ → Option ℕ → ℕ
 step_count m s wanted = steps_of m s wanted m.width
@@ -44,7 +48,7 @@ heavier m s best (Some t) = if t == s then best else if nat_lt (weight m s best)
 
 -- the state to which most of the steps on the first n classes lead
 abbrev pub heaviest : Machine → ℕ → ℕ → Option ℕ
-heaviest m s 0 = None
+heaviest m s zero = None
 heaviest m s (suc n) = heavier m s (heaviest m s n) (class_target m s n)
 
 abbrev pub main_target : Machine → ℕ → Option ℕ
@@ -92,10 +96,14 @@ case_text m class b = if slice_index m.classes b == class then codes "case " ++ 
 abbrev pub case_texts : Machine → ℕ → List ℕ
 case_texts m class = flat_map (case_text m class) (range_with_len 0 256)
 
+-- whether a step on a class may be one on a newline
+abbrev pub newline_text : Options → Machine → ℕ → List ℕ
+newline_text o m class = if slice_index m.classes 10 == class then filled o.prefix NEWLINE.now else []
+
 -- the step on a class, if it leads neither to the state itself nor to the main target
 abbrev pub class_code : Options → Machine → ℕ → Option ℕ → ℕ → Option ℕ → List ℕ
 class_code o m s main class None = []
-class_code o m s main class (Some t) = if t == s || leads main (Some t) then [] else case_texts m class ++ edge_text o m s t
+class_code o m s main class (Some t) = if t == s || leads main (Some t) then [] else case_texts m class ++ newline_text o m class ++ edge_text o m s t
 
 abbrev pub class_codes : Options → Machine → ℕ → Option ℕ → List ℕ
 class_codes o m s main = flat_map (λ class. class_code o m s main class (class_target m s class)) (range_with_len 0 m.width)
@@ -103,7 +111,7 @@ class_codes o m s main = flat_map (λ class. class_code o m s main class (class_
 -- the steps to the main target
 abbrev pub main_code : Options → Machine → ℕ → Option ℕ → List ℕ
 main_code o m s None = codes "default: break;\n}\n"
-main_code o m s (Some t) = numbered o OTHER.now s (codes ") {\n") ++ edge_text o m s t ++ codes "}\n}\n"
+main_code o m s (Some t) = numbered o OTHER.now s (codes ")\n") ++ edge_text o m s t ++ codes "}\n"
 
 abbrev pub loop_code : Options → Machine → ℕ → List ℕ
 loop_code o m s = if step_count m s (Some s) == 0 then [] else numbered o LOOP.now s (codes ")\n")

@@ -1,13 +1,12 @@
 // Code for each state.
 
-ghost use Rattle.lx_automaton.specs.Automata as automata;
 ghost use Rattle.lx_automaton.specs.Automata.{accepted_by, class_target, start_of, state_count, target_of};
 ghost use Rattle.lx_c.specs.DirectCode as direct;
-ghost use Rattle.lx_c.specs.DirectCode.{body_code, case_text, case_texts, class_code, direct_text, edge_text, keep_text, loop_code, main_code, mark_line, marked_text, marks_text, numbered, rule_case, rule_code, rules_text, start_code, state_code, states_text, steps_code};
+ghost use Rattle.lx_c.specs.DirectCode.{body_code, case_text, case_texts, class_code, direct_text, edge_text, keep_text, loop_code, main_code, mark_byte, mark_line, marked_text, marks_text, newline_text, numbered, rule_case, rule_code, rules_text, start_code, state_code, states_text, steps_code};
 ghost use Rattle.lx_c.specs.Rows as rows;
 ghost use Rattle.lx_c.specs.Rows.{entry_text};
 ghost use Rattle.lx_c.specs.Templates.{number_then};
-ghost use Rattle.lx_c.specs.declared.direct_templates.TheConstants.{AT_LINE_BEGIN, GOTO_STATE, OTHER};
+ghost use Rattle.lx_c.specs.declared.direct_templates.TheConstants.{AT_LINE_BEGIN, GOTO_RULE_OF, GOTO_STATE, MATCHED, OTHER, RULE_LABEL};
 ghost use Rattle.lx_tables.specs.Output.{Wrote, WrotePrefix};
 ghost use Rattle.lx_tables.specs.Texts.{number};
 ghost use Rattle.std.specs.List.{flat_map, range_with_len};
@@ -15,7 +14,7 @@ ghost use Rattle.std.specs.Prelude.{IfSome, OnErr, OnOk, codes, length, slice_in
 
 use crate::direct_templates::{
     AT_LINE_BEGIN, BACK, BEGIN_MATCH, BEGIN_STATES, END_MATCH, GO, GOTO_RULE, GOTO_RULE_OF,
-    GOTO_STATE, LOOP, MARKS, MATCHED, NO_RULE, OTHER, RULE_LABEL, STATE_LABEL, SWITCH,
+    GOTO_STATE, LOOP, MARKS, MATCHED, NEWLINE, NO_RULE, OTHER, RULE_LABEL, STATE_LABEL, SWITCH,
 };
 use crate::filling::write_filled;
 use crate::options::Options;
@@ -27,8 +26,7 @@ use std::io::{self, Write};
 /// Where a state steps on a byte.
 fn target_of(tables: &Tables, state: u32, byte: u8) -> Option<u32>
     requires { state < state_count tables.now.machine }
-    ensures target { result ≡ target_of tables.now.machine state byte }
-    ensures below { IfSome result (λ t. t < state_count tables.now.machine) }
+    ensures { result ≡ target_of tables.now.machine state byte }
 {
     match tables.step(State(state), byte) {
         Some(target) => Some(target.0),
@@ -60,6 +58,13 @@ fn leads(wanted: Option<u32>, target: Option<u32>) -> bool
     }
 }
 
+fn one_if(is_one: bool) -> u32
+    ensures one { result ≡ direct.one_if is_one }
+    ensures small { result ≤ 1 }
+{
+    if is_one { 1 } else { 0 }
+}
+
 /// On how many classes a state has such a step.
 fn step_count(tables: &Tables, state: u32, wanted: Option<u32>) -> u32
     requires { state < state_count tables.now.machine }
@@ -67,9 +72,8 @@ fn step_count(tables: &Tables, state: u32, wanted: Option<u32>) -> u32
 {
     let mut count: u32 = 0;
     for class in 0..tables.classes() {
-        if leads(wanted, class_target(tables, state, class as u8)) {
-            count += 1;
-        }
+        let target = class_target(tables, state, class as u8);
+        count += one_if(leads(wanted, target));
     }
     count
 }
@@ -87,15 +91,22 @@ fn weight(tables: &Tables, state: u32, best: Option<u32>) -> u32
 
 /// Of two states that to which more steps lead.
 fn heavier(tables: &Tables, state: u32, best: Option<u32>, target: Option<u32>) -> Option<u32>
-    requires { state < state_count tables.now.machine }
-    ensures { result ≡ direct.heavier tables.now.machine state best target }
+    requires state { state < state_count tables.now.machine }
+    requires best { IfSome best (λ t. t < state_count tables.now.machine) }
+    requires target { IfSome target (λ t. t < state_count tables.now.machine) }
+    ensures heavier { result ≡ direct.heavier tables.now.machine state best target }
+    ensures below { IfSome result (λ t. t < state_count tables.now.machine) }
 {
-    match target {
-        Some(other)
-            if other != state && weight(tables, state, best) < weight(tables, state, target) => {
-            target
-        }
-        _ => best,
+    let Some(other) = target else {
+        return best;
+    };
+    if other == state {
+        return best;
+    }
+    if weight(tables, state, best) < weight(tables, state, target) {
+        target
+    } else {
+        best
     }
 }
 
@@ -137,7 +148,7 @@ fn mark(tables: &Tables, state: u32, byte: u8) -> u64
 
 /// The marks of four states.
 fn mark_byte(tables: &Tables, group: u32, byte: u8) -> u64
-    requires { group ≤ 16512 }
+    requires { group ≤ 1073741823 }
     ensures { result ≡ direct.mark_byte tables.now.machine group byte }
 {
     mark(tables, 4 * group, byte)
@@ -147,14 +158,20 @@ fn mark_byte(tables: &Tables, group: u32, byte: u8) -> u64
 }
 
 /// One more than the number of the rule that a state accepts, or 0.
-fn rule_word(tables: &Tables, state: u32) -> u64
+fn rule_word(tables: &Tables, state: u32) -> u32
     requires { state < state_count tables.now.machine }
     ensures { result ≡ rows.rule_word (accepted_by tables.now.machine state) }
 {
     match tables.accepts(State(state)) {
         None => 0,
-        Some(rule) => u64::from(rule) + 1,
+        Some(rule) => u32::from(rule) + 1,
     }
+}
+
+fn rule_number(rule: u16) -> u32
+    ensures { result ≡ rule + 1 }
+{
+    u32::from(rule) + 1
 }
 
 fn class_of(tables: &Tables, byte: u16) -> u16
@@ -164,19 +181,26 @@ fn class_of(tables: &Tables, byte: u16) -> u16
     u16::from(tables.class(byte as u8))
 }
 
+fn start_number(tables: &Tables, condition: u16, at_line_begin: bool) -> u32
+    requires { condition < length tables.now.machine.starts }
+    ensures { result ≡ start_of tables.now.machine condition at_line_begin }
+{
+    tables.start(condition, at_line_begin).0
+}
+
 /// Writes constant text, a number, and what stands behind it.
 fn write_numbered_text<W: Write>(
     out: &mut W,
     options: &Options,
     template: &[u8],
-    n: u64,
+    n: u32,
     behind: &[u8],
 ) -> Result<(), io::Error>
     ensures ok { OnOk result (Wrote (W.contents out.old) (W.contents out.new) (numbered options.now template.now n behind.now)) }
     ensures err { OnErr result (WrotePrefix (W.contents out.old) (W.contents out.new) (numbered options.now template.now n behind.now)) }
 {
     write_filled(out, options, template)?;
-    write_number_then(out, n, behind)
+    write_number_then(out, u64::from(n), behind)
 }
 
 fn write_mark<W: Write>(
@@ -185,7 +209,7 @@ fn write_mark<W: Write>(
     group: u32,
     byte: u16,
 ) -> Result<(), io::Error>
-    requires group { group ≤ 16512 }
+    requires group { group ≤ 1073741823 }
     requires byte { byte < 256 }
     ensures ok { OnOk result (Wrote (W.contents out.old) (W.contents out.new) (entry_text (direct.mark_byte tables.now.machine group byte))) }
     ensures err { OnErr result (WrotePrefix (W.contents out.old) (W.contents out.new) (entry_text (direct.mark_byte tables.now.machine group byte))) }
@@ -194,9 +218,9 @@ fn write_mark<W: Write>(
 }
 
 fn write_marks_of<W: Write>(out: &mut W, tables: &Tables, group: u32) -> Result<(), io::Error>
-    requires { group ≤ 16512 }
-    ensures ok { OnOk result (Wrote (W.contents out.old) (W.contents out.new) (flat_map (λ b. entry_text (direct.mark_byte tables.now.machine group b)) (range_with_len 0 256))) }
-    ensures err { OnErr result (WrotePrefix (W.contents out.old) (W.contents out.new) (flat_map (λ b. entry_text (direct.mark_byte tables.now.machine group b)) (range_with_len 0 256))) }
+    requires { group ≤ 1073741823 }
+    ensures ok { OnOk result (Wrote (W.contents out.old) (W.contents out.new) (flat_map (λ b. entry_text (mark_byte tables.now.machine group b)) (range_with_len 0 (256)))) }
+    ensures err { OnErr result (WrotePrefix (W.contents out.old) (W.contents out.new) (flat_map (λ b. entry_text (mark_byte tables.now.machine group b)) (range_with_len 0 (256)))) }
 {
     for byte in 0..256 {
         write_mark(out, tables, group, byte)?;
@@ -205,7 +229,7 @@ fn write_marks_of<W: Write>(out: &mut W, tables: &Tables, group: u32) -> Result<
 }
 
 fn write_mark_line<W: Write>(out: &mut W, tables: &Tables, group: u32) -> Result<(), io::Error>
-    requires { group ≤ 16512 }
+    requires { group ≤ 1073741823 }
     ensures ok { OnOk result (Wrote (W.contents out.old) (W.contents out.new) (mark_line tables.now.machine group)) }
     ensures err { OnErr result (WrotePrefix (W.contents out.old) (W.contents out.new) (mark_line tables.now.machine group)) }
 {
@@ -245,15 +269,15 @@ pub(crate) fn write_marked<W: Write>(
     write_marks(out, options, tables)
 }
 
-fn write_kept<W: Write>(out: &mut W, before: u64) -> Result<(), io::Error>
+fn write_kept<W: Write>(out: &mut W, before: u32) -> Result<(), io::Error>
     ensures ok { OnOk result (Wrote (W.contents out.old) (W.contents out.new) (codes "last = p; rule = " ++ number_then before (codes "; "))) }
     ensures err { OnErr result (WrotePrefix (W.contents out.old) (W.contents out.new) (codes "last = p; rule = " ++ number_then before (codes "; "))) }
 {
     write_bytes(out, b"last = p; rule = ")?;
-    write_number_then(out, before, b"; ")
+    write_number_then(out, u64::from(before), b"; ")
 }
 
-fn write_keep<W: Write>(out: &mut W, before: u64, behind: u64) -> Result<(), io::Error>
+fn write_keep<W: Write>(out: &mut W, before: u32, behind: u32) -> Result<(), io::Error>
     ensures ok { OnOk result (Wrote (W.contents out.old) (W.contents out.new) (keep_text before behind)) }
     ensures err { OnErr result (WrotePrefix (W.contents out.old) (W.contents out.new) (keep_text before behind)) }
 {
@@ -280,15 +304,15 @@ fn write_edge<W: Write>(
     ensures err { OnErr result (WrotePrefix (W.contents out.old) (W.contents out.new) (edge_text options.now tables.now.machine state target)) }
 {
     write_keep(out, rule_word(tables, state), rule_word(tables, target))?;
-    write_numbered_text(out, options, GO, u64::from(target), b")\n")
+    write_numbered_text(out, options, GO, target, b")\n")
 }
 
-fn write_case_of<W: Write>(out: &mut W, byte: u64) -> Result<(), io::Error>
+fn write_case_of<W: Write>(out: &mut W, byte: u16) -> Result<(), io::Error>
     ensures ok { OnOk result (Wrote (W.contents out.old) (W.contents out.new) (codes "case " ++ number_then byte (codes ": "))) }
     ensures err { OnErr result (WrotePrefix (W.contents out.old) (W.contents out.new) (codes "case " ++ number_then byte (codes ": "))) }
 {
     write_bytes(out, b"case ")?;
-    write_number_then(out, byte, b": ")
+    write_number_then(out, u64::from(byte), b": ")
 }
 
 fn write_case<W: Write>(out: &mut W, tables: &Tables, class: u8, byte: u16) -> Result<(), io::Error>
@@ -297,20 +321,36 @@ fn write_case<W: Write>(out: &mut W, tables: &Tables, class: u8, byte: u16) -> R
     ensures err { OnErr result (WrotePrefix (W.contents out.old) (W.contents out.new) (case_text tables.now.machine class byte)) }
 {
     if class_of(tables, byte) == u16::from(class) {
-        write_case_of(out, u64::from(byte))
+        write_case_of(out, byte)
     } else {
         Ok(())
     }
 }
 
 fn write_cases<W: Write>(out: &mut W, tables: &Tables, class: u8) -> Result<(), io::Error>
-    ensures ok { OnOk result (Wrote (W.contents out.old) (W.contents out.new) (flat_map (case_text tables.now.machine class) (range_with_len 0 256))) }
-    ensures err { OnErr result (WrotePrefix (W.contents out.old) (W.contents out.new) (flat_map (case_text tables.now.machine class) (range_with_len 0 256))) }
+    ensures ok { OnOk result (Wrote (W.contents out.old) (W.contents out.new) (flat_map (case_text tables.now.machine class) (range_with_len 0 (256)))) }
+    ensures err { OnErr result (WrotePrefix (W.contents out.old) (W.contents out.new) (flat_map (case_text tables.now.machine class) (range_with_len 0 (256)))) }
 {
     for byte in 0..256 {
         write_case(out, tables, class, byte)?;
     }
     Ok(())
+}
+
+fn write_newline<W: Write>(
+    out: &mut W,
+    options: &Options,
+    tables: &Tables,
+    class: u8,
+) -> Result<(), io::Error>
+    ensures ok { OnOk result (Wrote (W.contents out.old) (W.contents out.new) (newline_text options.now tables.now.machine class)) }
+    ensures err { OnErr result (WrotePrefix (W.contents out.old) (W.contents out.new) (newline_text options.now tables.now.machine class)) }
+{
+    if class_of(tables, 10) == u16::from(class) {
+        write_filled(out, options, NEWLINE)
+    } else {
+        Ok(())
+    }
 }
 
 fn write_step<W: Write>(
@@ -323,10 +363,11 @@ fn write_step<W: Write>(
 ) -> Result<(), io::Error>
     requires state { state < state_count tables.now.machine }
     requires target { target < state_count tables.now.machine }
-    ensures ok { OnOk result (Wrote (W.contents out.old) (W.contents out.new) (case_texts tables.now.machine class ++ edge_text options.now tables.now.machine state target)) }
-    ensures err { OnErr result (WrotePrefix (W.contents out.old) (W.contents out.new) (case_texts tables.now.machine class ++ edge_text options.now tables.now.machine state target)) }
+    ensures ok { OnOk result (Wrote (W.contents out.old) (W.contents out.new) (case_texts tables.now.machine class ++ newline_text options.now tables.now.machine class ++ edge_text options.now tables.now.machine state target)) }
+    ensures err { OnErr result (WrotePrefix (W.contents out.old) (W.contents out.new) (case_texts tables.now.machine class ++ newline_text options.now tables.now.machine class ++ edge_text options.now tables.now.machine state target)) }
 {
     write_cases(out, tables, class)?;
+    write_newline(out, options, tables, class)?;
     write_edge(out, options, tables, state, target)
 }
 
@@ -404,12 +445,12 @@ fn write_other<W: Write>(
 ) -> Result<(), io::Error>
     requires state { state < state_count tables.now.machine }
     requires target { target < state_count tables.now.machine }
-    ensures ok { OnOk result (Wrote (W.contents out.old) (W.contents out.new) (numbered options.now OTHER.now state (codes ") {\n") ++ edge_text options.now tables.now.machine state target ++ codes "}\n}\n")) }
-    ensures err { OnErr result (WrotePrefix (W.contents out.old) (W.contents out.new) (numbered options.now OTHER.now state (codes ") {\n") ++ edge_text options.now tables.now.machine state target ++ codes "}\n}\n")) }
+    ensures ok { OnOk result (Wrote (W.contents out.old) (W.contents out.new) (numbered options.now OTHER.now state (codes ")\n") ++ edge_text options.now tables.now.machine state target ++ codes "}\n")) }
+    ensures err { OnErr result (WrotePrefix (W.contents out.old) (W.contents out.new) (numbered options.now OTHER.now state (codes ")\n") ++ edge_text options.now tables.now.machine state target ++ codes "}\n")) }
 {
-    write_numbered_text(out, options, OTHER, u64::from(state), b") {\n")?;
+    write_numbered_text(out, options, OTHER, state, b")\n")?;
     write_edge(out, options, tables, state, target)?;
-    write_bytes(out, b"}\n}\n")
+    write_bytes(out, b"}\n")
 }
 
 fn write_main<W: Write>(
@@ -443,7 +484,7 @@ fn write_loop<W: Write>(
     if step_count(tables, state, Some(state)) == 0 {
         Ok(())
     } else {
-        write_numbered_text(out, options, LOOP, u64::from(state), b")\n")
+        write_numbered_text(out, options, LOOP, state, b")\n")
     }
 }
 
@@ -492,10 +533,10 @@ fn write_state<W: Write>(
     ensures ok { OnOk result (Wrote (W.contents out.old) (W.contents out.new) (state_code options.now tables.now.machine state)) }
     ensures err { OnErr result (WrotePrefix (W.contents out.old) (W.contents out.new) (state_code options.now tables.now.machine state)) }
 {
-    write_numbered_text(out, options, STATE_LABEL, u64::from(state), b":\n")?;
+    write_numbered_text(out, options, STATE_LABEL, state, b":\n")?;
     write_body(out, options, tables, state)?;
     write_numbered_text(out, options, GOTO_RULE, rule_word(tables, state), b";")?;
-    write_numbered_text(out, options, GOTO_STATE, u64::from(state), b";\n")
+    write_numbered_text(out, options, GOTO_STATE, state, b";\n")
 }
 
 fn write_states<W: Write>(out: &mut W, options: &Options, tables: &Tables) -> Result<(), io::Error>
@@ -508,26 +549,26 @@ fn write_states<W: Write>(out: &mut W, options: &Options, tables: &Tables) -> Re
     Ok(())
 }
 
+fn write_case_number<W: Write>(out: &mut W, n: u32) -> Result<(), io::Error>
+    ensures ok { OnOk result (Wrote (W.contents out.old) (W.contents out.new) (codes "case " ++ number n)) }
+    ensures err { OnErr result (WrotePrefix (W.contents out.old) (W.contents out.new) (codes "case " ++ number n)) }
+{
+    write_numbered(out, b"case ", u64::from(n))
+}
+
 fn write_start_of<W: Write>(
     out: &mut W,
     options: &Options,
-    condition: u64,
-    at_line_begin: u64,
-    elsewhere: u64,
+    condition: u32,
+    at_line_begin: u32,
+    elsewhere: u32,
 ) -> Result<(), io::Error>
     ensures ok { OnOk result (Wrote (W.contents out.old) (W.contents out.new) (codes "case " ++ number condition ++ numbered options.now AT_LINE_BEGIN.now at_line_begin (codes ";") ++ numbered options.now GOTO_STATE.now elsewhere (codes ";\n"))) }
     ensures err { OnErr result (WrotePrefix (W.contents out.old) (W.contents out.new) (codes "case " ++ number condition ++ numbered options.now AT_LINE_BEGIN.now at_line_begin (codes ";") ++ numbered options.now GOTO_STATE.now elsewhere (codes ";\n"))) }
 {
-    write_numbered(out, b"case ", condition)?;
+    write_case_number(out, condition)?;
     write_numbered_text(out, options, AT_LINE_BEGIN, at_line_begin, b";")?;
     write_numbered_text(out, options, GOTO_STATE, elsewhere, b";\n")
-}
-
-fn start_number(tables: &Tables, condition: u16, at_line_begin: bool) -> u64
-    requires { condition < length tables.now.machine.starts }
-    ensures { result ≡ start_of tables.now.machine condition at_line_begin }
-{
-    u64::from(tables.start(condition, at_line_begin).0)
 }
 
 fn write_start<W: Write>(
@@ -540,13 +581,9 @@ fn write_start<W: Write>(
     ensures ok { OnOk result (Wrote (W.contents out.old) (W.contents out.new) (start_code options.now tables.now.machine condition)) }
     ensures err { OnErr result (WrotePrefix (W.contents out.old) (W.contents out.new) (start_code options.now tables.now.machine condition)) }
 {
-    write_start_of(
-        out,
-        options,
-        u64::from(condition),
-        start_number(tables, condition, true),
-        start_number(tables, condition, false),
-    )
+    let at_line_begin = start_number(tables, condition, true);
+    let elsewhere = start_number(tables, condition, false);
+    write_start_of(out, options, u32::from(condition), at_line_begin, elsewhere)
 }
 
 fn write_starts<W: Write>(out: &mut W, options: &Options, tables: &Tables) -> Result<(), io::Error>
@@ -559,13 +596,19 @@ fn write_starts<W: Write>(out: &mut W, options: &Options, tables: &Tables) -> Re
     Ok(())
 }
 
-fn write_rule_case<W: Write>(out: &mut W, options: &Options, rule: u64) -> Result<(), io::Error>
-    requires { rule < 4096 }
+fn write_rule_case_of<W: Write>(out: &mut W, options: &Options, word: u32) -> Result<(), io::Error>
+    ensures ok { OnOk result (Wrote (W.contents out.old) (W.contents out.new) (codes "case " ++ number word ++ numbered options.now GOTO_RULE_OF.now word (codes ";\n"))) }
+    ensures err { OnErr result (WrotePrefix (W.contents out.old) (W.contents out.new) (codes "case " ++ number word ++ numbered options.now GOTO_RULE_OF.now word (codes ";\n"))) }
+{
+    write_case_number(out, word)?;
+    write_numbered_text(out, options, GOTO_RULE_OF, word, b";\n")
+}
+
+fn write_rule_case<W: Write>(out: &mut W, options: &Options, rule: u16) -> Result<(), io::Error>
     ensures ok { OnOk result (Wrote (W.contents out.old) (W.contents out.new) (rule_case options.now rule)) }
     ensures err { OnErr result (WrotePrefix (W.contents out.old) (W.contents out.new) (rule_case options.now rule)) }
 {
-    write_numbered(out, b"case ", rule + 1)?;
-    write_numbered_text(out, options, GOTO_RULE_OF, rule + 1, b";\n")
+    write_rule_case_of(out, options, rule_number(rule))
 }
 
 fn write_rule_cases<W: Write>(
@@ -577,18 +620,24 @@ fn write_rule_cases<W: Write>(
     ensures err { OnErr result (WrotePrefix (W.contents out.old) (W.contents out.new) (flat_map (rule_case options.now) (range_with_len 0 (length tables.now.rules)))) }
 {
     for rule in 0..tables.rules() {
-        write_rule_case(out, options, u64::from(rule))?;
+        write_rule_case(out, options, rule)?;
     }
     Ok(())
 }
 
-fn write_rule_code<W: Write>(out: &mut W, options: &Options, rule: u64) -> Result<(), io::Error>
-    requires { rule < 4096 }
+fn write_rule_code_of<W: Write>(out: &mut W, options: &Options, word: u32) -> Result<(), io::Error>
+    ensures ok { OnOk result (Wrote (W.contents out.old) (W.contents out.new) (numbered options.now RULE_LABEL.now word (codes ":\n") ++ numbered options.now MATCHED.now word (codes ")\n"))) }
+    ensures err { OnErr result (WrotePrefix (W.contents out.old) (W.contents out.new) (numbered options.now RULE_LABEL.now word (codes ":\n") ++ numbered options.now MATCHED.now word (codes ")\n"))) }
+{
+    write_numbered_text(out, options, RULE_LABEL, word, b":\n")?;
+    write_numbered_text(out, options, MATCHED, word, b")\n")
+}
+
+fn write_rule_code<W: Write>(out: &mut W, options: &Options, rule: u16) -> Result<(), io::Error>
     ensures ok { OnOk result (Wrote (W.contents out.old) (W.contents out.new) (rule_code options.now rule)) }
     ensures err { OnErr result (WrotePrefix (W.contents out.old) (W.contents out.new) (rule_code options.now rule)) }
 {
-    write_numbered_text(out, options, RULE_LABEL, rule + 1, b":\n")?;
-    write_numbered_text(out, options, MATCHED, rule + 1, b")\n")
+    write_rule_code_of(out, options, rule_number(rule))
 }
 
 fn write_rule_codes<W: Write>(
@@ -600,7 +649,7 @@ fn write_rule_codes<W: Write>(
     ensures err { OnErr result (WrotePrefix (W.contents out.old) (W.contents out.new) (flat_map (rule_code options.now) (range_with_len 0 (length tables.now.rules)))) }
 {
     for rule in 0..tables.rules() {
-        write_rule_code(out, options, u64::from(rule))?;
+        write_rule_code(out, options, rule)?;
     }
     Ok(())
 }

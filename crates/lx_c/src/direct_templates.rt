@@ -29,9 +29,11 @@ pub(crate) const MACROS: &[u8] =
         p += 4; \
     }
 
-/* A step to another state, which is one of few bytes or to the state to which most lead. */
-#define @__GO(state) { @__LINES(newline |= *p == 10;) p++; goto state; }
-#define @__OTHER(state) if (@__STEPS(state, *p, 2))
+/* A step. */
+#define @__GO(state) p++; goto state;
+
+/* What is no case is left where there is no step on it; all others lead to one state. */
+#define @__OTHER(state) if (!@__STEPS(state, *p, 2)) break; @__LINES(newline |= *p == 10;)
 
 /* A match of a rule ends here. It has to be longer than what is left away of it. */
 #define @__MATCHED(rule) \
@@ -87,6 +89,9 @@ pub(crate) const LOOP: &[u8] = br#"@__LOOP("#;
 pub(crate) const SWITCH: &[u8] =
     br#"if (p == end) { if (!s->is_last) goto @__more; } else switch (*p) {
 "#;
+
+/// Where a step may be one on a newline.
+pub(crate) const NEWLINE: &[u8] = br#"@__LINES(newline = 1;) "#;
 
 /// A step; the number of the state to which it leads stands behind.
 pub(crate) const GO: &[u8] = br#"@__GO(@__s"#;
