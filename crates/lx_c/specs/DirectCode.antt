@@ -1,7 +1,7 @@
 -- Code for each state. In the code of a state its steps to itself are a loop; those to the state to which most classes of bytes lead are one test; and each other
 -- class has a case of its own. Where a step is missing, it goes to the code of the rule that the state accepts. Where it accepts none, the last place counts at
 -- which one was accepted; that is kept only on a step from a state that accepts a rule to one that doesn't.
-use Rattle.std.specs.Prelude.{ℕ, zero, suc, ◌+◌, ◌*◌, ◌/◌, ◌==◌, ◌||◌, nat_lt, Bool, true, false, if◌then◌else◌, List, [], ◌++◌, Option, Some, None, length, codes, slice_index}
+use Rattle.std.specs.Prelude.{ℕ, zero, suc, ◌+◌, ◌*◌, ◌/◌, ◌==◌, nat_lt, Bool, true, false, if◌then◌else◌, List, [], ◌++◌, Option, Some, None, length, codes, slice_index}
 use Rattle.std.specs.List.{flat_map, range_with_len}
 use Rattle.lx_automaton.specs.Automata.{Machine, state_count, start_of, accepted_by, class_target, target_of}
 use Rattle.lx_tables.specs.Model.{Table}
@@ -103,7 +103,8 @@ newline_text o m class = if slice_index m.classes 10 == class then filled o.pref
 -- the step on a class, if it leads neither to the state itself nor to the main target
 abbrev pub class_code : Options → Machine → ℕ → Option ℕ → ℕ → Option ℕ → List ℕ
 class_code o m s main class None = []
-class_code o m s main class (Some t) = if t == s || leads main (Some t) then [] else case_texts m class ++ newline_text o m class ++ edge_text o m s t
+class_code o m s main class (Some t) =
+    if t == s then [] else if leads main (Some t) then [] else case_texts m class ++ newline_text o m class ++ edge_text o m s t
 
 abbrev pub class_codes : Options → Machine → ℕ → Option ℕ → List ℕ
 class_codes o m s main = flat_map (λ class. class_code o m s main class (class_target m s class)) (range_with_len 0 m.width)

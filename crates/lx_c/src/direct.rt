@@ -10,7 +10,7 @@ ghost use Rattle.lx_c.specs.declared.direct_templates.TheConstants.{AT_LINE_BEGI
 ghost use Rattle.lx_tables.specs.Output.{Wrote, WrotePrefix};
 ghost use Rattle.lx_tables.specs.Texts.{number};
 ghost use Rattle.std.specs.List.{flat_map, range_with_len};
-ghost use Rattle.std.specs.Prelude.{IfSome, OnErr, OnOk, codes, length, slice_index, ◌++◌, ◌+◌, ◌/◌, ◌<◌, ◌≡◌, ◌≤◌};
+ghost use Rattle.std.specs.Prelude.{IfSome, OnErr, OnOk, Some, codes, length, slice_index, ◌++◌, ◌+◌, ◌/◌, ◌<◌, ◌≡◌, ◌≤◌};
 
 use crate::direct_templates::{
     AT_LINE_BEGIN, BACK, BEGIN_MATCH, BEGIN_STATES, END_MATCH, GO, GOTO_RULE, GOTO_RULE_OF,
@@ -378,6 +378,30 @@ fn write_step_if<W: Write>(
     state: u32,
     main: Option<u32>,
     class: u8,
+    target: u32,
+) -> Result<(), io::Error>
+    requires state { state < state_count tables.now.machine }
+    requires target { target < state_count tables.now.machine }
+    ensures ok { OnOk result (Wrote (W.contents out.old) (W.contents out.new) (class_code options.now tables.now.machine state main class (Some target))) }
+    ensures err { OnErr result (WrotePrefix (W.contents out.old) (W.contents out.new) (class_code options.now tables.now.machine state main class (Some target))) }
+{
+    if leads(Some(state), Some(target)) {
+        return Ok(());
+    }
+    if leads(main, Some(target)) {
+        Ok(())
+    } else {
+        write_step(out, options, tables, state, class, target)
+    }
+}
+
+fn write_class_code<W: Write>(
+    out: &mut W,
+    options: &Options,
+    tables: &Tables,
+    state: u32,
+    main: Option<u32>,
+    class: u8,
     target: Option<u32>,
 ) -> Result<(), io::Error>
     requires state { state < state_count tables.now.machine }
@@ -385,13 +409,9 @@ fn write_step_if<W: Write>(
     ensures ok { OnOk result (Wrote (W.contents out.old) (W.contents out.new) (class_code options.now tables.now.machine state main class target)) }
     ensures err { OnErr result (WrotePrefix (W.contents out.old) (W.contents out.new) (class_code options.now tables.now.machine state main class target)) }
 {
-    let Some(other) = target else {
-        return Ok(());
-    };
-    if other == state || leads(main, target) {
-        Ok(())
-    } else {
-        write_step(out, options, tables, state, class, other)
+    match target {
+        None => Ok(()),
+        Some(target) => write_step_if(out, options, tables, state, main, class, target),
     }
 }
 
@@ -408,7 +428,7 @@ fn write_class<W: Write>(
     ensures ok { OnOk result (Wrote (W.contents out.old) (W.contents out.new) (class_code options.now tables.now.machine state main class (class_target tables.now.machine state class))) }
     ensures err { OnErr result (WrotePrefix (W.contents out.old) (W.contents out.new) (class_code options.now tables.now.machine state main class (class_target tables.now.machine state class))) }
 {
-    write_step_if(
+    write_class_code(
         out,
         options,
         tables,
