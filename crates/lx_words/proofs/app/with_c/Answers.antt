@@ -4,10 +4,11 @@ use Rattle.lx_words.proofs.Globals.{or_false}
 use Rattle.lx_words.proofs.app.with_c.Goals as goal
 
 pub returns-clause-local : goal.returns-clause-local
-returns-clause-local c = IfOk-weaker c.arg-4.result _ _
+returns-clause-local c = IfOk-weaker c.arg-5.result _ _
     (λ new added none.
     let one = c.in_ok-arg.ensures.globals ∙ or_false _ _ none c.scanner.ensures.local in
     let two = c.in_ok-arg-2.ensures.globals ∙ or_false _ _ one c.header.ensures.local in
     let three = c.in_ok-arg-3.ensures.globals ∙ or_false _ _ two c.prefix.ensures.local in
-    added.globals ∙ or_false _ _ three c.include.ensures.local)
-    c.arg-4.ensures
+    let four = c.in_ok-arg-4.ensures.globals ∙ or_false _ _ three c.include.ensures.local in
+    added.globals ∙ or_false _ _ four c.direct.ensures.local)
+    c.arg-5.ensures
