@@ -24,6 +24,11 @@ leads wanted None = false
 leads None (Some t) = true
 leads (Some s) (Some t) = t == s
 
+-- whether it is that state, if one is given
+abbrev pub is_it : Option ℕ → ℕ → Bool
+is_it None t = false
+is_it (Some s) t = t == s
+
 abbrev pub one_if : Bool → ℕ
 one_if true = 1
 one_if false = 0
@@ -104,7 +109,7 @@ newline_text o m class = if slice_index m.classes 10 == class then filled o.pref
 abbrev pub class_code : Options → Machine → ℕ → Option ℕ → ℕ → Option ℕ → List ℕ
 class_code o m s main class None = []
 class_code o m s main class (Some t) =
-    if t == s then [] else if leads main (Some t) then [] else case_texts m class ++ newline_text o m class ++ edge_text o m s t
+    if t == s then [] else if is_it main t then [] else case_texts m class ++ newline_text o m class ++ edge_text o m s t
 
 abbrev pub class_codes : Options → Machine → ℕ → Option ℕ → List ℕ
 class_codes o m s main = flat_map (λ class. class_code o m s main class (class_target m s class)) (range_with_len 0 m.width)

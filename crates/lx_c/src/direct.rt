@@ -58,6 +58,16 @@ fn leads(wanted: Option<u32>, target: Option<u32>) -> bool
     }
 }
 
+/// Whether it is that state, if one is given.
+fn is_it(wanted: Option<u32>, state: u32) -> bool
+    ensures { result ≡ direct.is_it wanted state }
+{
+    match wanted {
+        None => false,
+        Some(wanted) => state == wanted,
+    }
+}
+
 fn one_if(is_one: bool) -> u32
     ensures one { result ≡ direct.one_if is_one }
     ensures small { result ≤ 1 }
@@ -385,10 +395,10 @@ fn write_step_if<W: Write>(
     ensures ok { OnOk result (Wrote (W.contents out.old) (W.contents out.new) (class_code options.now tables.now.machine state main class (Some target))) }
     ensures err { OnErr result (WrotePrefix (W.contents out.old) (W.contents out.new) (class_code options.now tables.now.machine state main class (Some target))) }
 {
-    if leads(Some(state), Some(target)) {
+    if is_it(Some(state), target) {
         return Ok(());
     }
-    if leads(main, Some(target)) {
+    if is_it(main, target) {
         Ok(())
     } else {
         write_step(out, options, tables, state, class, target)
