@@ -1,5 +1,5 @@
 -- Texts that were written in parts.
-use Rattle.std.proofs.Common.{ℕ, ◌≡◌, ◌<◌, ◌≤◌, ◌∷◌, get_or, ◌+◌, ◌-◌, List, [], ◌++◌, length, take, drop, Option, Some, None, sym, ◌∙◌, ap, subst, arith, append_assoc, append-nil, length-drop}
+use Rattle.std.proofs.Common.{ℕ, ◌≡◌, ◌<◌, ◌≤◌, ◌∷◌, get_or, ◌+◌, ◌-◌, List, [], ◌++◌, length, take, drop, Option, Some, None, sym, ◌∙◌, ap, subst, arith, append_assoc, append-nil, length-drop, Bool, true, false, if◌then◌else◌}
 use Rattle.std.specs.Io.KnownBytes.{Appends, Keeps}
 use Rattle.std.proofs.Math.Seq.{take-add}
 use Rattle.std.proofs.lemmas.List.{take_all, take_more, take-append-drop}
@@ -102,3 +102,10 @@ number_prefix text a b c n i l h k =
 
 pub number_end : (text : ℕ → List ℕ) (a b : Option (List ℕ)) (n i : ℕ) → n ≤ i → Wrote a b (flat_map text (take i (range_with_len 0 n))) → Wrote a b (flat_map text (range_with_len 0 n))
 number_end text a b n i l h = wrote_end text a b (range_with_len 0 n) i (omega (arith, length-range_with_len 0 n)) h
+
+-- texts that are left out
+pub wrote_none_if : (o : Option (List ℕ)) (p : Bool) (xs : List ℕ) → p ≡ true → Wrote o o (if p then [] else xs)
+wrote_none_if o p xs e = subst (λ (b : Bool). Wrote o o (if b then [] else xs)) (sym e) (wrote_nothing o)
+
+pub wrote_none_or : (o : Option (List ℕ)) (p q : Bool) (xs : List ℕ) → p ≡ false → q ≡ true → Wrote o o (if p then [] else if q then [] else xs)
+wrote_none_or o p q xs first second = subst (λ (b : Bool). Wrote o o (if b then [] else if q then [] else xs)) (sym first) (wrote_none_if o q xs second)

@@ -4,10 +4,11 @@ use Rattle.std.specs.List.{All, flat_map, starts_with}
 use Rattle.lx_rules.specs.declared.rule.Kind.TheVariants.{Name, Number}
 use Rattle.lx_rules.specs.declared.rule.Step.{Step}
 use Rattle.lx_rules.specs.declared.rule.Step.TheVariants.{Echo, Begin, Return}
+use Rattle.lx_automaton.specs.Automata.{state_count}
 use Rattle.lx_tables.specs.Model.{Table}
-use Rattle.lx_c.specs.Options.{Options, is_small_letter, has_file}
+use Rattle.lx_c.specs.Options.{Options, is_small_letter, has_file, max_direct_states}
 use Rattle.lx_c.specs.declared.fault.KindFault.{KindFault}
-use Rattle.lx_c.specs.declared.fault.KindFault.TheVariants.{Numbers, Reserved, Declared}
+use Rattle.lx_c.specs.declared.fault.KindFault.TheVariants.{Numbers, Reserved, Declared, States}
 use Rattle.lx_c.specs.declared.words.TheConstants.{WORDS}
 
 -- the number that a step returns
@@ -79,9 +80,16 @@ first_name_fault o k (kind ∷ kinds) = or_else (name_fault o k kind) (first_nam
 abbrev pub pass_the_limit : Options → Table → Bool
 pass_the_limit o table = if has_file o.include then false else nat_lt 2147483647 (first_kind table + (length table.kinds - 1))
 
--- what is wrong with the kinds, if anything is
+-- code for each state is asked for, and the states are too many
+abbrev pub are_too_many : Options → ℕ → Bool
+are_too_many o states = if o.direct then nat_lt max_direct_states states else false
+
+-- what is wrong with the states or the kinds, if anything is
 abbrev pub kind_fault : Options → Table → Option KindFault
-kind_fault o table = if pass_the_limit o table then Some Numbers else first_name_fault o 0 table.kinds
+kind_fault o table =
+    if are_too_many o (state_count table.machine) then Some (States (state_count table.machine))
+    else if pass_the_limit o table then Some Numbers
+    else first_name_fault o 0 table.kinds
 
 -- The numbers of kinds are above all bytes, and above all numbers that actions return, so no two meet.
 pub record AreApart (table : Table) : Type 0 where

@@ -1,5 +1,6 @@
 pub mod Actions
 pub mod Declarations
+pub mod DirectCode
 pub mod Kinds
 pub mod Options
 pub mod Reading

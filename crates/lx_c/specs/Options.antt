@@ -1,5 +1,5 @@
 -- What is asked for beside the tables: the prefix of all names, the names of start conditions where they are known, and the file that declares the kinds, if
--- there is one.
+-- there is one; and whether code for each state is to be printed, in the place of rows by classes of bytes.
 use Rattle.std.specs.Prelude.{ℕ, ◌==◌, ◌&&◌, ◌||◌, not, nat_le, if◌then◌else◌, Bool, true, false, IsTrue, List, [], ◌∷◌, Option, Some, None, length}
 use Rattle.std.specs.List.{list_all}
 use Rattle.lx_rules.specs.Identifiers.{is_between, is_digit, is_identifier}
@@ -11,6 +11,7 @@ pub record Options : Type 0 where
   -- of each condition, in order; none where they aren't known
   pub conditions : List (List ℕ)
   pub include : Option (List ℕ)
+  pub direct : Bool
 
 abbrev pub is_small_letter : ℕ → Bool
 is_small_letter c = is_between 97 122 c
@@ -53,6 +54,14 @@ option_fault o =
     else if not (list_all is_identifier o.conditions) then Some Condition
     else if not (is_any_include o.include) then Some Include
     else None
+
+-- with code for each state, or with rows
+abbrev pub directly : Options → Bool → Options
+directly o direct = record o { direct = direct }
+
+-- code is printed of so many states at most, since the time that compilers take grows faster than it
+abbrev pub max_direct_states : ℕ
+max_direct_states = 1000
 
 -- with these names of the conditions, where all are identifiers
 abbrev pub named : Options → List (List ℕ) → Options

@@ -1,7 +1,7 @@
-// The driver: what steps through the arrays of a scanner, the same for all tables, with `@` for the prefix.
+// The driver: the calls of a scanner, the same for all tables, with `@` for the prefix. What looks for the next match differs by the form.
 
-/// The calls, but for `@_name`.
-pub(crate) const DRIVER: &[u8] = br#"
+/// What the calls stand on.
+pub(crate) const HELPERS: &[u8] = br#"
 /* What is there for lines alone. */
 #ifdef @__NO_LINES
 #define @__LINES(statements)
@@ -19,7 +19,11 @@ static int @__perform(@_scanner *s, const int *step)
     return *step;
 }
 
-/* Whether a state has a step, so that a further byte may change the match. */
+"#;
+
+/// The same for the form by classes.
+pub(crate) const HAS_STEP: &[u8] =
+    br#"/* Whether a state has a step, so that a further byte may change the match. */
 static int @__has_step(size_t state)
 {
     unsigned i;
@@ -28,7 +32,10 @@ static int @__has_step(size_t state)
     return 0;
 }
 
-#ifndef @__NO_LINES
+"#;
+
+/// The calls up to where the next match is looked for.
+pub(crate) const CALLS: &[u8] = br#"#ifndef @__NO_LINES
 /* Line and start of line behind these bytes. */
 static void @__count(@_scanner *s, const unsigned char *from, const unsigned char *to)
 {
@@ -85,7 +92,10 @@ static void @__hand_over(@_scanner *s, const void *text, size_t size, int is_las
             line_start = s->from_line_start;
         }
     }
-    while (kind == @_END) {
+"#;
+
+/// The next match in the form by classes.
+pub(crate) const WALK: &[u8] = br#"    while (kind == @_END) {
         size_t state, last;
         unsigned rule;
         @__LINES(int newline = 0;)
@@ -143,7 +153,10 @@ static void @__hand_over(@_scanner *s, const void *text, size_t size, int is_las
             condition = s->condition;
         }
     }
-    s->from = (size_t)(from - text);
+"#;
+
+/// What is done with a match, and the calls behind it.
+pub(crate) const FURTHER_CALLS: &[u8] = br#"    s->from = (size_t)(from - text);
     s->from_line = line;
     s->from_line_start = line_start;
     s->at = (size_t)(p - text);

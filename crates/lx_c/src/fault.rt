@@ -19,7 +19,7 @@ pub enum OptionFault {
     Include,
 }
 
-/// Why the kinds of tables can be no kinds in C. The number of a kind is its place in the tables.
+/// Why no scanner in C is printed of tables. The number of a kind is its place in the tables.
 #[derive(Debug, Clone, Copy, PartialEq, Eq, Error)]
 pub enum KindFault {
     /// The numbers of the kinds would pass 2,147,483,647.
@@ -31,6 +31,9 @@ pub enum KindFault {
     /// The kind with this number would be declared twice, as the scanner's own names begin so.
     #[error("kind {0} would be declared twice")]
     Declared(u32),
+    /// The tables have so many states, which is more than [`MAX_DIRECT_STATES`](crate::MAX_DIRECT_STATES), and code for each is asked for.
+    #[error("E41")]
+    States(u32),
     /// Memory was refused.
     #[error("B90")]
     Memory,

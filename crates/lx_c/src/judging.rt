@@ -1,4 +1,4 @@
-//! Whether the kinds of tables can be kinds in C.
+//! Whether a scanner in C can be printed of tables.
 
 ghost use Rattle.std.specs.Prelude.{◌≡◌, ◌⊎◌, ℕ, List, Some, None, IfOk, IfErr, OnOk, OnErr};
 ghost use Rattle.lx_tables.specs.Output.{Wrote, WrotePrefix};
@@ -14,6 +14,9 @@ use crate::writing::write_bytes;
 use lx_tables::Tables;
 use std::alloc::{AllocError, Global};
 use std::io::{self, Write};
+
+/// Code for each state is printed of so many states at most.
+pub const MAX_DIRECT_STATES: u32 = 1000;
 
 fn has_part(text: &[u8], part: &[u8]) -> bool
     ensures { result ≡ kinds.has_part part.now text.now }
@@ -114,12 +117,24 @@ fn pass_the_limit(tables: &Tables, options: &Options) -> bool
     first_kind(tables) + u64::from(tables.kinds().saturating_sub(1)) > 2_147_483_647
 }
 
-/// Judges whether the kinds of the tables can be kinds in C under these options: their numbers are below 2,147,483,648 (else [`KindFault::Numbers`], E40), and no
-/// name is a word of C or C++, or one that the scanner declares for itself. Of several faults it gives the first one. Want of memory is a fault too.
+/// Whether code for each of so many states is asked for, and they are too many.
+fn are_too_many(options: &Options, states: u32) -> bool
+    ensures { result ≡ kinds.are_too_many options.now states }
+{
+    options.is_direct() && states > MAX_DIRECT_STATES
+}
+
+/// Judges whether a scanner in C can be printed of the tables under these options: where it is code for each state, there are at most 1,000 (else
+/// [`KindFault::States`], E41); the numbers of the kinds are below 2,147,483,648 (else [`KindFault::Numbers`], E40); and no name of a kind is a word of C or C++, or
+/// one that the scanner declares for itself. Of several faults it gives the first one. Want of memory is a fault too.
 pub fn judge(alloc: Global, tables: &Tables, options: &Options) -> Result<(), KindFault>
     ensures ok { IfOk result (λ done. kinds.kind_fault options.now tables.now ≡ None) }
     ensures err { IfErr result (λ fault. (fault ≡ faults.Memory) ⊎ (kinds.kind_fault options.now tables.now ≡ Some fault)) }
 {
+    let states = tables.states();
+    if are_too_many(options, states) {
+        return Err(KindFault::States(states));
+    }
     if pass_the_limit(tables, options) {
         return Err(KindFault::Numbers);
     }

@@ -3,6 +3,8 @@
 
 mod actions;
 mod declarations;
+mod direct;
+mod direct_templates;
 mod driver;
 mod fault;
 mod filling;
@@ -17,6 +19,6 @@ mod words;
 mod writing;
 
 pub use crate::fault::{KindFault, OptionFault};
-pub use crate::judging::judge;
+pub use crate::judging::{MAX_DIRECT_STATES, judge};
 pub use crate::options::Options;
 pub use crate::printing::{print_c, print_header};

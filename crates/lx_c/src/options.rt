@@ -1,6 +1,6 @@
 //! What is asked for beside the tables.
 
-ghost use Rattle.std.specs.Prelude.{◌≡◌, ◌<◌, Some, [], length, slice_index_or, IfOk, IfErr, option_map};
+ghost use Rattle.std.specs.Prelude.{◌≡◌, ◌<◌, Some, [], false, length, slice_index_or, IfOk, IfErr, option_map};
 ghost use Rattle.std.specs.List.{list_all};
 ghost use Rattle.lx_rules.specs.Identifiers as identifiers;
 ghost use Rattle.lx_rules.specs.views.Rules.{names_view};
@@ -10,13 +10,14 @@ use crate::fault::OptionFault;
 use lx_rules::identifier::{is_digit, is_identifier};
 use std::marker::Model;
 
-/// What a scanner in C is to be like: the prefix of its names, the names of the start conditions where they are known, and the file that declares its kinds, if
-/// there is one.
+/// What a scanner in C is to be like: the prefix of its names, the names of the start conditions where they are known, the file that declares its kinds, if
+/// there is one, and whether it is code for each state, in the place of rows by classes of bytes.
 #[derive(Drop)]
 pub struct Options {
     prefix: Vec<u8>,
     conditions: Vec<Vec<u8>>,
     include: Option<Vec<u8>>,
+    direct: bool,
 }
 
 impl Model for Options {
@@ -26,9 +27,9 @@ impl Model for Options {
 
     ghost Value = { Options };
 
-    ghost view = { λ o. record { prefix = o.prefix.items; conditions = names_view o.conditions.items; include = option_map (λ file. file.items) o.include } };
+    ghost view = { λ o. record { prefix = o.prefix.items; conditions = names_view o.conditions.items; include = option_map (λ file. file.items) o.include; direct = o.direct } };
 
-    ghost invariant = { λ o. AreOptions (record { prefix = o.prefix.items; conditions = names_view o.conditions.items; include = option_map (λ file. file.items) o.include }) };
+    ghost invariant = { λ o. AreOptions (record { prefix = o.prefix.items; conditions = names_view o.conditions.items; include = option_map (λ file. file.items) o.include; direct = o.direct }) };
 }
 
 fn is_small_letter(c: u8) -> bool
@@ -99,15 +100,15 @@ fn is_any_include(include: &Option<Vec<u8>>) -> bool
 }
 
 impl Options {
-    /// The options of these parts. The prefix is a small letter with up to 31 small letters, digits or `_` behind it; the names of the conditions, of each in
+    /// The options of these parts, with rows by classes of bytes. The prefix is a small letter with up to 31 small letters, digits or `_` behind it; the names of the conditions, of each in
     /// order, or none where they aren't known, are identifiers; the name of the file is 1 to 255 bytes of 32 to 126 without `"` and `\`.
     pub fn of(
         prefix: Vec<u8>,
         conditions: Vec<Vec<u8>>,
         include: Option<Vec<u8>>,
     ) -> Result<Options, OptionFault>
-        ensures ok { IfOk result (λ o. o ≡ record { prefix = prefix.items; conditions = names_view conditions.items; include = option_map (λ file. file.items) include }) }
-        ensures err { IfErr result (λ e. Some e ≡ specs.option_fault (record { prefix = prefix.items; conditions = names_view conditions.items; include = option_map (λ file. file.items) include })) }
+        ensures ok { IfOk result (λ o. o ≡ record { prefix = prefix.items; conditions = names_view conditions.items; include = option_map (λ file. file.items) include; direct = false }) }
+        ensures err { IfErr result (λ e. Some e ≡ specs.option_fault (record { prefix = prefix.items; conditions = names_view conditions.items; include = option_map (λ file. file.items) include; direct = false })) }
     {
         if !is_prefix(&prefix) {
             return Err(OptionFault::Prefix);
@@ -122,6 +123,7 @@ impl Options {
             prefix,
             conditions,
             include,
+            direct: false,
         })
     }
 
@@ -136,6 +138,7 @@ impl Options {
             prefix: self.prefix,
             conditions,
             include: self.include,
+            direct: self.direct,
         }
     }
 
@@ -166,6 +169,25 @@ impl Options {
         ensures { option_map (λ file. file.now) result ≡ self.now.include }
     {
         self.include.as_ref().map(|file| file.as_slice())
+    }
+
+    /// The same with code for each state, or with rows by classes of bytes.
+    pub fn directly(self, direct: bool) -> Options
+        ensures { result ≡ specs.directly self direct }
+    {
+        Options {
+            prefix: self.prefix,
+            conditions: self.conditions,
+            include: self.include,
+            direct,
+        }
+    }
+
+    /// Whether code for each state is asked for.
+    pub fn is_direct(&self) -> bool
+        ensures { result ≡ self.now.direct }
+    {
+        self.direct
     }
 
     /// Whether a file declares the kinds.

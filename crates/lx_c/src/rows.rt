@@ -195,7 +195,8 @@ fn write_type<W: Write>(out: &mut W, tables: &Tables) -> Result<(), io::Error>
     write_type_of(out, greatest_word(tables))
 }
 
-fn write_line_begin<W: Write>(
+/// Writes whether line begins make a difference.
+pub(crate) fn write_line_begin<W: Write>(
     out: &mut W,
     options: &Options,
     tables: &Tables,

@@ -499,6 +499,11 @@ E40
     As in: a return 2147483647;
 
 
+E41
+    with --direct a scanner in C is code for each state, and the automaton has more than 1,000 of them; a compiler takes ten seconds and more for those
+    To do: leave --direct out
+
+
 B01
     a text is no table's: each table has one text of each version
     To do: make it again by lx gen; lx up takes both versions

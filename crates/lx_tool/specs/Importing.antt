@@ -14,7 +14,7 @@ use Rattle.lx_tool.specs.declared.failure.RequestFault.TheVariants.{NoTargets}
 
 -- the words of a scanner in C whose kinds begin as those of the actions do
 abbrev pub kinds_words : PlainImport → PlainC
-kinds_words i = record { scanner = true; header = false; prefix = i.prefix; include = None }
+kinds_words i = record { scanner = true; header = false; prefix = i.prefix; include = None; direct = false }
 
 -- lx accepts the text, and reads it as rules of flex: as many, in their order, each active in the same conditions, with the same anchors and the same texts
 pub record IsOfFlex (text : List ℕ) : Type 0 where

@@ -20,7 +20,7 @@ use Rattle.lx_words.specs.CommandLine.{PlainC}
 use Rattle.lx_tool.specs.declared.failure.Failure.{Failure}
 use Rattle.lx_tool.specs.declared.failure.Failure.TheVariants.{Unprintable, Memory, Refused}
 use Rattle.lx_tool.specs.declared.failure.PrintFault.{PrintFault}
-use Rattle.lx_tool.specs.declared.failure.PrintFault.TheVariants.{Numbers, Reserved, Declared}
+use Rattle.lx_tool.specs.declared.failure.PrintFault.TheVariants.{Numbers, Reserved, Declared, TooManyForCode}
 use Rattle.lx_tool.specs.declared.failure.RequestFault.{RequestFault}
 use Rattle.lx_tool.specs.declared.failure.RequestFault.TheVariants.{NoScanner, NoTargets, Scanner, ScannerAndHeader}
 
@@ -32,17 +32,17 @@ is_in_c c = c.scanner || c.header
 
 -- what it is to be like, but for the names of its conditions
 abbrev pub options_by : PlainC → Options
-options_by c = record { prefix = unwrap_or c.prefix (codes "lx"); conditions = []; include = c.include }
+options_by c = record { prefix = unwrap_or c.prefix (codes "lx"); conditions = []; include = c.include; direct = c.direct }
 
 -- words that ask for one thing, and say more of it only where they ask for it
 abbrev pub are_scanner_words : PlainC → Bool
-are_scanner_words c = not (c.scanner && c.header) && (is_in_c c || not (is_some c.prefix || is_some c.include))
+are_scanner_words c = not (c.scanner && c.header) && (is_in_c c || not (is_some c.prefix || (is_some c.include || c.direct)))
 
 -- what is wrong with them
 abbrev pub IsScannerFault : PlainC → RequestFault → Type 0
 IsScannerFault c fault =
     ((fault ≡ ScannerAndHeader) × IsTrue (c.scanner && c.header))
-    ⊎ (((fault ≡ NoScanner) × IsTrue (not (is_in_c c) && (is_some c.prefix || is_some c.include)))
+    ⊎ (((fault ≡ NoScanner) × IsTrue (not (is_in_c c) && (is_some c.prefix || (is_some c.include || c.direct))))
     ⊎ ((f : OptionFault) × (fault ≡ Scanner f) × (Some f ≡ option_fault (options_by c))))
 
 -- They are refused, or memory was.
@@ -54,7 +54,7 @@ AreScannerWordsRefused c failure = (failure ≡ Memory) ⊎ ((fault : RequestFau
 abbrev pub printed_text : PlainC → Options → Table → List ℕ
 printed_text c o table = if c.scanner then c_text o table else if c.header then header_text o table else text_2 table
 
--- what is wrong with the kinds of tables, where a scanner in C is printed
+-- what is wrong with the states or the kinds of tables, where a scanner in C is printed
 abbrev pub kinds_fault : PlainC → Options → Table → Option KindFault
 kinds_fault c o table = if is_in_c c then kind_fault o table else None
 
@@ -111,6 +111,7 @@ abbrev pub IsToldAs : Table → KindFault → PrintFault → Type 0
 IsToldAs table kind.Numbers told = told ≡ Numbers
 IsToldAs table (kind.Reserved number) told = (name : Vec ℕ Global) × (told ≡ Reserved name) × (name.items ≡ kind_named table number)
 IsToldAs table (kind.Declared number) told = (name : Vec ℕ Global) × (told ≡ Declared name) × (name.items ≡ kind_named table number)
+IsToldAs table (kind.States states) told = told ≡ TooManyForCode states
 IsToldAs table kind.Memory told = ⊥
 
 pub record AreKindsRefused (c : PlainC) (o : Options) (table : Table) (failure : Failure) : Type 0 where

@@ -18,7 +18,7 @@ use Rattle.lx_tool.specs.declared.failure.Failure.TheVariants.{Specification, Au
 use Rattle.lx_tool.specs.declared.target.TargetFault.{TargetFault}
 use Rattle.lx_tool.specs.declared.target.TargetFault.TheVariants as target
 use Rattle.lx_tool.specs.declared.failure.PrintFault.{PrintFault}
-use Rattle.lx_tool.specs.declared.failure.PrintFault.TheVariants.{Numbers, Reserved, Declared, TooManyStates, Unexplained, NotImported, Reported}
+use Rattle.lx_tool.specs.declared.failure.PrintFault.TheVariants.{Numbers, Reserved, Declared, TooManyForCode, TooManyStates, Unexplained, NotImported, Reported}
 use Rattle.lx_tool.specs.declared.failure.RequestFault.TheVariants.{NoKind, EmptyKind, NoTargets}
 
 -- the exit status of a command that is not done
@@ -40,6 +40,7 @@ abbrev pub report_of_print : PrintFault → Option (List ℕ)
 report_of_print Numbers = None
 report_of_print (Reserved name) = None
 report_of_print (Declared name) = None
+report_of_print (TooManyForCode states) = None
 report_of_print (TooManyStates states) = None
 report_of_print Unexplained = None
 report_of_print NotImported = None

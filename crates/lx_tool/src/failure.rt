@@ -39,8 +39,8 @@ pub enum RequestFault<'a> {
     /// Both `--c` and `--header` are given.
     #[error("--c and --header exclude one another")]
     ScannerAndHeader,
-    /// `--prefix` or `--include` is given, and neither `--c` nor `--header`.
-    #[error("--prefix and --include go with --c or --header")]
+    /// `--prefix`, `--include` or `--direct` is given, and neither `--c` nor `--header`.
+    #[error("--prefix, --include and --direct go with --c or --header")]
     NoScanner,
     /// What `--prefix` or `--include` says is refused.
     #[error("{0}")]
@@ -62,6 +62,8 @@ pub enum PrintFault {
     Reserved(Vec<u8>),
     /// The kind with this name would be declared twice, as the scanner's own names begin so.
     Declared(Vec<u8>),
+    /// Code for each of so many states isn't printed.
+    TooManyForCode(u32),
     /// A graph would have so many states, and not all are asked for.
     TooManyStates(u32),
     /// No code and no cause has the name that is asked for.
@@ -82,6 +84,7 @@ impl PrintFault {
             PrintFault::Numbers
             | PrintFault::Reserved(_)
             | PrintFault::Declared(_)
+            | PrintFault::TooManyForCode(_)
             | PrintFault::TooManyStates(_)
             | PrintFault::Unexplained
             | PrintFault::NotImported => None,
@@ -95,6 +98,7 @@ impl Display for PrintFault {
             PrintFault::Numbers => f.write_str("E40"),
             PrintFault::Reserved(name) => { write!(f, "{} is a word of C or C++", text_of(name)) }
             PrintFault::Declared(name) => { write!(f, "{} would be declared twice", text_of(name)) }
+            PrintFault::TooManyForCode(_) => f.write_str("E41"),
             PrintFault::TooManyStates(states) => {
                 write!(
                     f,

@@ -29,6 +29,7 @@ fn scanner_words<'a>(words: &ImportWords<'a>) -> CWords<'a>
         header: false,
         prefix: words.prefix,
         include: None,
+        direct: false,
     }
 }
 

@@ -56,7 +56,7 @@ fn options_of<'a>(alloc: Global, words: &CWords<'a>) -> Result<Options, Failure<
     let prefix = Vec::from_slice(alloc, prefix_of(words).as_bytes())?;
     let include = bytes_of(alloc, words.include)?;
     match Options::of(prefix, Vec::new(alloc), include) {
-        Ok(options) => Ok(options),
+        Ok(options) => Ok(options.directly(words.direct)),
         Err(fault) => Err(Failure::Refused(RequestFault::Scanner(fault))),
     }
 }
@@ -73,7 +73,7 @@ pub(crate) fn judge_scanner_words<'a>(
     if words.scanner && words.header {
         return Err(Failure::Refused(RequestFault::ScannerAndHeader));
     }
-    if !is_in_c(words) && (words.prefix.is_some() || words.include.is_some()) {
+    if !is_in_c(words) && (words.prefix.is_some() || (words.include.is_some() || words.direct)) {
         return Err(Failure::Refused(RequestFault::NoScanner));
     }
     options_of(alloc, words)
@@ -123,11 +123,12 @@ fn told_of(alloc: Global, tables: &Tables, fault: KindFault) -> Result<PrintFaul
         KindFault::Numbers => Ok(PrintFault::Numbers),
         KindFault::Reserved(number) => Ok(PrintFault::Reserved(kind_named(alloc, tables, number)?)),
         KindFault::Declared(number) => Ok(PrintFault::Declared(kind_named(alloc, tables, number)?)),
+        KindFault::States(states) => Ok(PrintFault::TooManyForCode(states)),
         KindFault::Memory => Err(AllocError),
     }
 }
 
-// Refuses tables with kinds that can be none in C, where a scanner in C is printed.
+// Refuses tables with kinds that can be none in C, or with too many states for code, where a scanner in C is printed.
 fn judge_kinds<'a>(
     alloc: Global,
     words: &CWords<'_>,

@@ -23,6 +23,7 @@ use crate::showing::show_named;
 use crate::source::{Sources, make_input};
 use crate::tabling::{tables_of, tables_of_text};
 use crate::target::{NoTargets, Targets};
+use lx_c::MAX_DIRECT_STATES;
 use lx_lines::LineWrites;
 use lx_piece::MAX_FILES;
 use lx_scan::ruling::items_are_by_rules;
@@ -165,6 +166,7 @@ fn tell_failure<S: Sources, T: Targets, E: Write>(
     };
     match failure {
         Failure::Automaton(fault) => tell_size(*fault, err),
+        Failure::Unprintable(PrintFault::TooManyForCode(states)) => tell_states(*states, err),
         Failure::NotRead(_) => tell_reason(sources.reason(), err),
         Failure::Output => tell_reason(targets.reason(), err),
         Failure::TooManyFiles => {
@@ -175,6 +177,14 @@ fn tell_failure<S: Sources, T: Targets, E: Write>(
         }
         _ => {}
     }
+}
+
+// Tells of how many states code isn't printed, and of how many it is.
+fn tell_states<E: Write>(states: u32, err: &mut E) {
+    let _ = writeln!(
+        err,
+        "lx: the automaton has {states} states, and code is printed of at most {MAX_DIRECT_STATES}; without --direct rows are printed of any number"
+    );
 }
 
 // Why the system couldn't do it, where that is known.

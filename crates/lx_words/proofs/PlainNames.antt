@@ -34,7 +34,7 @@ help = record help_rule { range = Some (record { start_inclusive = 0; end_inclus
 abbrev further_rules : List Rule
 further_rules =
     filled target_rule ∷ filled (flag_rule (codes "c")) ∷ filled (flag_rule (codes "header"))
-    ∷ filled (option_rule (codes "prefix") (codes "prefix")) ∷ filled (option_rule (codes "include") (codes "include")) ∷ []
+    ∷ filled (option_rule (codes "prefix") (codes "prefix")) ∷ filled (option_rule (codes "include") (codes "include")) ∷ filled (flag_rule (codes "direct")) ∷ []
 
 abbrev printing : Bool → Shape
 printing b = record (new_shape (name b)) { rules = further_rules ++ rules b ∷ help ∷ []; disable_help_subcommand = true; is_built = true }

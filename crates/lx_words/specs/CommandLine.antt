@@ -93,10 +93,10 @@ files_rule = record (new_rule (codes "FILE")) {
 abbrev pub target_rule : Rule
 target_rule = record (new_rule (codes "target")) { short = Some 111; value_names = 1 }
 
--- `[--c] [--header] [--prefix P] [--include FILE]`
+-- `[--c] [--header] [--prefix P] [--include FILE] [--direct]`
 abbrev pub with_c : App → App
 with_c app =
-    with_rule (with_rule (with_rule (with_rule app (flag_rule (codes "c"))) (flag_rule (codes "header"))) (option_rule (codes "prefix") (codes "prefix"))) (option_rule (codes "include") (codes "include"))
+    with_rule (with_rule (with_rule (with_rule (with_rule app (flag_rule (codes "c"))) (flag_rule (codes "header"))) (option_rule (codes "prefix") (codes "prefix"))) (option_rule (codes "include") (codes "include"))) (flag_rule (codes "direct"))
 
 -- `gen` and `up`: `[-o FILE]`, the words on a scanner in C, and SPEC or TABLES
 abbrev pub one_file_app : Text → Text → App
@@ -195,12 +195,14 @@ pub record PlainOrder : Type 0 where
   pub list : Option PlainList
   pub form : PlainFormWords
 
--- a scanner in C: whether it is printed, whether its declarations are, what its names begin with, if it is given, and the file that declares its kinds, if it is
+-- a scanner in C: whether it is printed, whether its declarations are, what its names begin with, if it is given, the file that declares its kinds, if it is, and
+-- whether it is code for each state
 pub record PlainC : Type 0 where
   pub scanner : Bool
   pub header : Bool
   pub prefix : Option Text
   pub include : Option Text
+  pub direct : Bool
 
 -- a text that is printed: the name of what it is made of, the file that gets it in the place of the output, if it is given, and whether it is a scanner in C
 pub record PlainPrint : Type 0 where
@@ -298,6 +300,7 @@ c_in rows = record {
   header = flag_in (codes "header") rows;
   prefix = first_of (codes "prefix") rows;
   include = first_of (codes "include") rows;
+  direct = flag_in (codes "direct") rows;
 }
 
 -- a text that is printed
@@ -392,6 +395,7 @@ plain_c c = record {
   header = c.header;
   prefix = option_map (λ word. word.now) c.prefix;
   include = option_map (λ word. word.now) c.include;
+  direct = c.direct;
 }
 
 abbrev pub plain_print : PrintWords → PlainPrint
@@ -482,7 +486,7 @@ plain_listing workers per_piece rules files = record {
 
 -- tables that go to the output
 abbrev pub plain_text : Text → PlainPrint
-plain_text rules = record { rules = rules; target = None; c = record { scanner = false; header = false; prefix = None; include = None } }
+plain_text rules = record { rules = rules; target = None; c = record { scanner = false; header = false; prefix = None; include = None; direct = false } }
 
 -- Such words ask for what they say.
 pub record PlainWordsAsk : Type 0 where

@@ -146,7 +146,8 @@ fn with_c<'a>(alloc: Global, command: Command<'a>) -> Result<Command<'a>, AllocE
         .arg(scanner(alloc))?
         .arg(header(alloc))?
         .arg(prefix(alloc))?
-        .arg(include(alloc))
+        .arg(include(alloc))?
+        .arg(direct(alloc))
 }
 
 // The options on the form of a listing.
@@ -384,6 +385,14 @@ fn include<'a>(alloc: Global) -> Arg<'a>
 {
     let help = "The file that declares the kinds of that scanner, as bison writes one";
     option(alloc, "include", "include", "FILE", help)
+}
+
+fn direct<'a>(alloc: Global) -> Arg<'a>
+    ensures rule { rule_of result ≡ flag_rule (codes "direct") }
+    ensures local { result.global ≡ false }
+{
+    let help = "Makes it of code for each state, which is faster, in the place of rows";
+    flag(alloc, "direct", help)
 }
 
 fn names<'a>(alloc: Global) -> Arg<'a>

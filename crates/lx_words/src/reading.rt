@@ -145,6 +145,7 @@ fn c_words_of<'a>(found: &ArgMatches<'a>) -> CWords<'a>
         header: has_flag(found, "header"),
         prefix: value_of(found, "prefix"),
         include: value_of(found, "include"),
+        direct: has_flag(found, "direct"),
     }
 }
 

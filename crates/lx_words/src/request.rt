@@ -108,6 +108,8 @@ pub struct CWords<'a> {
     pub prefix: Option<&'a str>,
     /// `--include`: the file that declares its kinds.
     pub include: Option<&'a str>,
+    /// `--direct`: whether it is code for each state.
+    pub direct: bool,
 }
 
 /// The words of `run` and of `scan`.

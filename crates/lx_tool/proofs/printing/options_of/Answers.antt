@@ -1,4 +1,4 @@
-use Rattle.std.proofs.Common.{◌≡◌, ◌∙◌, List, [], ℕ, Option, ap, inr, option_map, refl}
+use Rattle.std.proofs.Common.{◌≡◌, ◌∙◌, Bool, List, [], ℕ, Option, ap, false, inr, option_map, refl}
 use Rattle.lx_c.specs.Options.{Options, option_fault}
 use Rattle.lx_rules.specs.views.Rules.{names_view}
 use Rattle.lx_words.specs.CommandLine.{plain_c}
@@ -7,7 +7,7 @@ use Rattle.lx_tool.specs.declared.failure.RequestFault.TheVariants.{Scanner}
 use Rattle.lx_tool.proofs.printing.options_of.Goals as goal
 
 abbrev of_parts : List ℕ → List (List ℕ) → Option (List ℕ) → Options
-of_parts prefix conditions include = record { prefix = prefix; conditions = conditions; include = include }
+of_parts prefix conditions include = record { prefix = prefix; conditions = conditions; include = include; direct = false }
 
 same_parts : (p q : List ℕ) (n : List (List ℕ)) (i j : Option (List ℕ)) → p ≡ q → n ≡ [] → i ≡ j → of_parts p n i ≡ of_parts q [] j
 same_parts p q n i j first second third = cc

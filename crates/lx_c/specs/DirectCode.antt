@@ -1,0 +1,172 @@
+-- Code for each state. In the code of a state its steps to itself are a loop; those to the state to which most classes of bytes lead are one test; and each other
+-- class has a case of its own. Where a step is missing, it goes to the code of the rule that the state accepts. Where it accepts none, the last place counts at
+-- which one was accepted; that is kept only on a step from a state that accepts a rule to one that doesn't.
+use Rattle.std.specs.Prelude.{ℕ, zero, suc, ◌+◌, ◌*◌, ◌/◌, ◌==◌, nat_lt, Bool, true, false, if◌then◌else◌, List, [], ◌++◌, Option, Some, None, length, codes, slice_index}
+use Rattle.std.specs.List.{flat_map, range_with_len}
+use Rattle.lx_automaton.specs.Automata.{Machine, state_count, start_of, accepted_by, class_target, target_of}
+use Rattle.lx_tables.specs.Model.{Table}
+use Rattle.lx_tables.specs.Texts.{number}
+use Rattle.lx_c.specs.Options.{Options}
+use Rattle.lx_c.specs.Actions.{array_text}
+use Rattle.lx_c.specs.Rows.{entry_text, rule_word, line_begin_text}
+use Rattle.lx_c.specs.Templates.{filled, number_then}
+use Rattle.lx_c.specs.declared.direct_templates.TheConstants.{MARKS, BEGIN_MATCH, AT_LINE_BEGIN, GOTO_STATE, BEGIN_STATES, STATE_LABEL, LOOP, SWITCH, NEWLINE, GO, OTHER, GOTO_RULE, BACK, GOTO_RULE_OF, NO_RULE, RULE_LABEL, MATCHED, END_MATCH}
+
+-- constant text, a number, and what stands behind it
+abbrev pub numbered : Options → List ℕ → ℕ → List ℕ → List ℕ
+numbered o template n behind = filled o.prefix template ++ number_then n behind
+
+-- ---- what a state does
+
+-- whether a step is there, and leads to the state that is asked for, if one is
+abbrev pub leads : Option ℕ → Option ℕ → Bool
+leads wanted None = false
+leads None (Some t) = true
+leads (Some s) (Some t) = t == s
+
+-- whether it is that state, if one is given
+abbrev pub is_it : Option ℕ → ℕ → Bool
+is_it None t = false
+is_it (Some s) t = t == s
+
+abbrev pub one_if : Bool → ℕ
+one_if true = 1
+one_if false = 0
+
+-- on how many of the first n classes a state has such a step
+abbrev pub steps_of : Machine → ℕ → Option ℕ → ℕ → ℕ
+steps_of m s wanted zero = 0
+steps_of m s wanted (suc n) = steps_of m s wanted n + one_if (leads wanted (class_target m s n))
+
+abbrev pub step_count : Machine → ℕ → Option ℕ → ℕ
+step_count m s wanted = steps_of m s wanted m.width
+
+-- how many steps lead to a state; two where there is none yet, since fewer than three are tested one by one
+abbrev pub weight : Machine → ℕ → Option ℕ → ℕ
+weight m s None = 2
+weight m s (Some t) = step_count m s (Some t)
+
+-- of two states that to which more steps lead, and of the same number the first; steps to itself don't count
+abbrev pub heavier : Machine → ℕ → Option ℕ → Option ℕ → Option ℕ
+heavier m s best None = best
+heavier m s best (Some t) = if t == s then best else if nat_lt (weight m s best) (weight m s (Some t)) then Some t else best
+
+-- the state to which most of the steps on the first n classes lead
+abbrev pub heaviest : Machine → ℕ → ℕ → Option ℕ
+heaviest m s zero = None
+heaviest m s (suc n) = heavier m s (heaviest m s n) (class_target m s n)
+
+abbrev pub main_target : Machine → ℕ → Option ℕ
+main_target m s = heaviest m s m.width
+
+-- ---- the marks: for four states a byte each, with two bits for each state
+
+abbrev pub how : ℕ → Option ℕ → ℕ
+how s None = 0
+how s (Some t) = if t == s then 1 else 2
+
+abbrev pub mark : Machine → ℕ → ℕ → ℕ
+mark m s b = if nat_lt s (state_count m) then how s (target_of m s b) else 0
+
+abbrev pub mark_byte : Machine → ℕ → ℕ → ℕ
+mark_byte m g b = mark m (4 * g) b + 4 * mark m (4 * g + 1) b + 16 * mark m (4 * g + 2) b + 64 * mark m (4 * g + 3) b
+
+abbrev pub mark_line : Machine → ℕ → List ℕ
+mark_line m g = flat_map (λ b. entry_text (mark_byte m g b)) (range_with_len 0 256) ++ codes "\n"
+
+abbrev pub mark_lines : Machine → List ℕ
+mark_lines m = flat_map (mark_line m) (range_with_len 0 (state_count m / 4 + 1))
+
+abbrev pub marks_text : Options → Table → List ℕ
+marks_text o table = array_text o MARKS.now (mark_lines table.machine)
+
+-- what stands in the place of the arrays of the automaton
+abbrev pub marked_text : Options → Table → List ℕ
+marked_text o table = line_begin_text o table ++ marks_text o table
+
+-- ---- the code of a state
+
+-- the place and the rule are kept where a rule is accepted before a step, and none behind it; rules as their number plus 1, or 0
+abbrev pub keep_text : ℕ → ℕ → List ℕ
+keep_text before behind =
+    if before == 0 then [] else if behind == 0 then codes "last = p; rule = " ++ number_then before (codes "; ") else []
+
+abbrev pub edge_text : Options → Machine → ℕ → ℕ → List ℕ
+edge_text o m s t = keep_text (rule_word (accepted_by m s)) (rule_word (accepted_by m t)) ++ numbered o GO.now t (codes ")\n")
+
+-- the bytes of a class
+abbrev pub case_text : Machine → ℕ → ℕ → List ℕ
+case_text m class b = if slice_index m.classes b == class then codes "case " ++ number_then b (codes ": ") else []
+
+abbrev pub case_texts : Machine → ℕ → List ℕ
+case_texts m class = flat_map (case_text m class) (range_with_len 0 256)
+
+-- whether a step on a class may be one on a newline
+abbrev pub newline_text : Options → Machine → ℕ → List ℕ
+newline_text o m class = if slice_index m.classes 10 == class then filled o.prefix NEWLINE.now else []
+
+-- the step on a class, if it leads neither to the state itself nor to the main target
+abbrev pub class_code : Options → Machine → ℕ → Option ℕ → ℕ → Option ℕ → List ℕ
+class_code o m s main class None = []
+class_code o m s main class (Some t) =
+    if t == s then [] else if is_it main t then [] else case_texts m class ++ newline_text o m class ++ edge_text o m s t
+
+abbrev pub class_codes : Options → Machine → ℕ → Option ℕ → List ℕ
+class_codes o m s main = flat_map (λ class. class_code o m s main class (class_target m s class)) (range_with_len 0 m.width)
+
+-- the steps to the main target
+abbrev pub main_code : Options → Machine → ℕ → Option ℕ → List ℕ
+main_code o m s None = codes "default: break;\n}\n"
+main_code o m s (Some t) = numbered o OTHER.now s (codes ")\n") ++ edge_text o m s t ++ codes "}\n"
+
+abbrev pub loop_code : Options → Machine → ℕ → List ℕ
+loop_code o m s = if step_count m s (Some s) == 0 then [] else numbered o LOOP.now s (codes ")\n")
+
+abbrev pub steps_code : Options → Machine → ℕ → Option ℕ → List ℕ
+steps_code o m s main = loop_code o m s ++ filled o.prefix SWITCH.now ++ class_codes o m s main ++ main_code o m s main
+
+-- all steps of a state, if it has any
+abbrev pub body_code : Options → Machine → ℕ → List ℕ
+body_code o m s = if step_count m s None == 0 then [] else steps_code o m s (main_target m s)
+
+-- its label has one more use behind
+abbrev pub state_code : Options → Machine → ℕ → List ℕ
+state_code o m s =
+    numbered o STATE_LABEL.now s (codes ":\n") ++ body_code o m s ++ numbered o GOTO_RULE.now (rule_word (accepted_by m s)) (codes ";") ++ numbered o GOTO_STATE.now s (codes ";\n")
+
+abbrev pub state_codes : Options → Machine → List ℕ
+state_codes o m = flat_map (state_code o m) (range_with_len 0 (state_count m))
+
+-- ---- all code
+
+-- where a condition starts
+abbrev pub start_code : Options → Machine → ℕ → List ℕ
+start_code o m c =
+    codes "case " ++ number c ++ numbered o AT_LINE_BEGIN.now (start_of m c true) (codes ";") ++ numbered o GOTO_STATE.now (start_of m c false) (codes ";\n")
+
+abbrev pub start_codes : Options → Machine → List ℕ
+start_codes o m = flat_map (start_code o m) (range_with_len 0 (length m.starts))
+
+-- from the number of a rule plus 1 to its code, and that code
+abbrev pub rule_case : Options → ℕ → List ℕ
+rule_case o r = codes "case " ++ number (r + 1) ++ numbered o GOTO_RULE_OF.now (r + 1) (codes ";\n")
+
+abbrev pub rule_code : Options → ℕ → List ℕ
+rule_code o r = numbered o RULE_LABEL.now (r + 1) (codes ":\n") ++ numbered o MATCHED.now (r + 1) (codes ")\n")
+
+abbrev pub rule_cases : Options → Table → List ℕ
+rule_cases o table = flat_map (rule_case o) (range_with_len 0 (length table.rules))
+
+abbrev pub rule_codes : Options → Table → List ℕ
+rule_codes o table = flat_map (rule_code o) (range_with_len 0 (length table.rules))
+
+-- what looks for the next match
+abbrev pub states_text : Options → Machine → List ℕ
+states_text o m = filled o.prefix BEGIN_MATCH.now ++ start_codes o m ++ filled o.prefix BEGIN_STATES.now ++ state_codes o m
+
+abbrev pub rules_text : Options → Table → List ℕ
+rules_text o table =
+    filled o.prefix BACK.now ++ rule_cases o table ++ filled o.prefix NO_RULE.now ++ rule_codes o table ++ filled o.prefix END_MATCH.now
+
+abbrev pub direct_text : Options → Table → List ℕ
+direct_text o table = states_text o table.machine ++ rules_text o table

@@ -1,0 +1,159 @@
+// The constant text of code for each state, with `@` for the prefix.
+
+/// The first line of a scanner in this form.
+pub(crate) const DIRECT_FIRST_LINE: &[u8] =
+    br#"/* @: a scanner printed by lx gen --c; form direct. */
+"#;
+
+/// What each four states do on each byte.
+pub(crate) const MARKS: &[u8] = br#"static const unsigned char @__mark[] = {
+"#;
+
+/// What the code of states and rules stands on.
+pub(crate) const MACROS: &[u8] =
+    br#"/* Whether a state steps on a byte to itself (1), or to another state (2). */
+#define @__STEPS(state, byte, how) (@__mark[(state) / 4 * 256 + (byte)] & ((how) << (state) % 4 * 2))
+
+/* All steps of a state to itself. */
+#define @__LOOP(state) \
+    @__LINES(newline |= @__STEPS(state, 10, 1);) \
+    for (;;) { \
+        if (end - p < 4) { \
+            while (p != end && @__STEPS(state, *p, 1)) p++; \
+            break; \
+        } \
+        if (!@__STEPS(state, p[0], 1)) break; \
+        if (!@__STEPS(state, p[1], 1)) { p += 1; break; } \
+        if (!@__STEPS(state, p[2], 1)) { p += 2; break; } \
+        if (!@__STEPS(state, p[3], 1)) { p += 3; break; } \
+        p += 4; \
+    }
+
+/* A step. */
+#define @__GO(state) p++; goto state;
+
+/* What is no case is left where there is no step on it; all others lead to one state. */
+#define @__OTHER(state) if (!@__STEPS(state, *p, 2)) break; @__LINES(newline |= *p == 10;)
+
+/* A match of a rule ends here. It has to be longer than what is left away of it. */
+#define @__MATCHED(rule) \
+    if ((size_t)(p - from) <= @__CUT(rule)) goto @__echo; \
+    p -= @__CUT(rule); \
+    kind = @__action[rule]; \
+    if (kind == @_END) goto @__skip; \
+    if (kind != -4) goto @__token; \
+    kind = @__perform(s, @__steps[rule]); \
+    goto @__performed;
+
+"#;
+
+/// The next match, up to the starts.
+pub(crate) const BEGIN_MATCH: &[u8] = br#"    (void)@__mark;
+    if (kind == @_END) {
+        /* The last place from which a step led away where a rule is accepted, and that rule. */
+        const unsigned char *last;
+        unsigned rule;
+        @__LINES(int newline;)
+@__begin:
+        from = last = p;
+        rule = 0;
+        @__LINES(newline = 0;)
+        line = s->line;
+        line_start = s->line_start;
+        if (p == end) {
+            if (!s->is_last) goto @__more;
+            goto @__done;
+        }
+        switch (condition) {
+        default:
+"#;
+
+/// Between the number of a condition and that of the state in which it starts at line begin.
+pub(crate) const AT_LINE_BEGIN: &[u8] = br#": if (at_line_begin) goto @__s"#;
+
+/// Behind it the number of a state stands.
+pub(crate) const GOTO_STATE: &[u8] = br#" goto @__s"#;
+
+/// Between the starts and the states. So that no label lacks a use, which compilers warn of, some jumps stand where none comes by.
+pub(crate) const BEGIN_STATES: &[u8] = br#"        }
+        goto @__a0;
+"#;
+
+/// The label of a state; its number stands behind.
+pub(crate) const STATE_LABEL: &[u8] = br#"@__s"#;
+
+/// Where a state steps to itself; its number stands behind.
+pub(crate) const LOOP: &[u8] = br#"@__LOOP("#;
+
+/// Behind it the steps of a state to other ones stand.
+pub(crate) const SWITCH: &[u8] =
+    br#"if (p == end) { if (!s->is_last) goto @__more; } else switch (*p) {
+"#;
+
+/// Where a step may be one on a newline.
+pub(crate) const NEWLINE: &[u8] = br#"@__LINES(newline = 1;) "#;
+
+/// A step; the number of the state to which it leads stands behind.
+pub(crate) const GO: &[u8] = br#"@__GO(@__s"#;
+
+/// The steps to the state to which most lead; the number of that from which they lead stands behind.
+pub(crate) const OTHER: &[u8] = br#"default: @__OTHER("#;
+
+/// What is done where a state has no step; the number of its rule plus 1, or 0, stands behind.
+pub(crate) const GOTO_RULE: &[u8] = br#"goto @__a"#;
+
+/// What is done where the last state accepts no rule.
+pub(crate) const BACK: &[u8] = br#"@__a0:
+        p = last;
+        switch (rule) {
+"#;
+
+/// Between the number of a rule plus 1 and this number again.
+pub(crate) const GOTO_RULE_OF: &[u8] = br#": goto @__a"#;
+
+/// The same where no rule was accepted.
+pub(crate) const NO_RULE: &[u8] = br#"        default: @__MATCHED(0)
+        }
+"#;
+
+/// The label of a rule; its number plus 1 stands behind.
+pub(crate) const RULE_LABEL: &[u8] = br#"@__a"#;
+
+/// What is done with a match of a rule; its number plus 1 stands behind.
+pub(crate) const MATCHED: &[u8] = br#"@__MATCHED("#;
+
+/// What ends a match.
+pub(crate) const END_MATCH: &[u8] = br#"@__skip:
+        @__LINES(if (newline) @__count(s, from, p);)
+        at_line_begin = @__BEGIN(p[-1] == 10);
+        goto @__begin;
+@__more:
+        kind = @_MORE;
+        p = from;
+        goto @__done;
+@__performed:
+        condition = s->condition;
+        if (kind == @_END) goto @__skip;
+        goto @__token;
+@__echo:
+        p = from + 1;
+        kind = @_ECHO;
+        @__LINES(newline = 1;)
+@__token:
+        @__LINES(if (newline) @__count(s, from, p);)
+        at_line_begin = @__BEGIN(p[-1] == 10);
+@__done:;
+    }
+"#;
+
+/// What ends a scanner in this form.
+pub(crate) const DIRECT_LAST_LINES: &[u8] = br#"
+#undef @__BEGIN
+#undef @__CUT
+#undef @__GO
+#undef @__LINES
+#undef @__LOOP
+#undef @__MATCHED
+#undef @__OTHER
+#undef @__STEPS
+"#;
