@@ -1,4 +1,5 @@
 pub mod GivenListed
+pub mod NameListLemmas
 pub mod NamesRefused
 pub mod Obeyed
 pub mod Planned

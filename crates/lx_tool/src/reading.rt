@@ -1,6 +1,6 @@
 //! Readers, read to their end.
 
-ghost use Rattle.std.specs.Prelude.{◌≡◌, ◌<◌, ◌⊎◌, ◌++◌, ℕ, List, false, IfOk, IfErr, OnOk, length};
+ghost use Rattle.std.specs.Prelude.{◌≡◌, ◌<◌, ◌≤◌, ◌⊎◌, ◌++◌, ℕ, List, false, IfOk, IfErr, OnOk, length, take};
 ghost use Rattle.std.specs.Io.KnownBytes.{Consumes, IsAtEnd};
 ghost use Rattle.lx_forms.specs.NameLists.{separators};
 ghost use Rattle.lx_tool.specs.declared.source.SourceFault.{SourceFault};
@@ -85,6 +85,15 @@ fn separators_in(bytes: &[u8], separator: u8) -> usize
     count
 }
 
+// No more than there are separators among some bytes, where no more than so many are among the first of these.
+fn counted(bytes: &[u8], first: usize, separator: u8, count: usize) -> usize
+    requires first { first ≤ length bytes.now }
+    requires count { count ≤ separators separator (take first bytes.now) }
+    ensures { result ≤ separators separator bytes.now }
+{
+    count.saturating_add(separators_in(&bytes[first..], separator))
+}
+
 /// What a reader gives, as `read_to_end` has it, but no more than is wanted of a list of names: where more names than so many were read, each with the separator behind it, what
 /// stands behind them isn't read.
 pub fn read_names<R: Read>(
@@ -101,13 +110,13 @@ pub fn read_names<R: Read>(
     let mut chunk = vec![in alloc; 0u8; CHUNK]?;
     let mut count: usize = 0;
     for _ in 0..MOST_READS {
-        let begun = bytes.len();
+        let first = bytes.len();
         match read_on(reader, &mut chunk, &mut bytes)? {
             Turn::More => {}
             Turn::End => return Ok(Input { bytes, cut: false }),
             Turn::Failed => break,
         }
-        count = count.saturating_add(separators_in(&bytes[begun..], separator));
+        count = counted(&bytes, first, separator, count);
         if count > most {
             return Ok(Input { bytes, cut: false });
         }

@@ -15,7 +15,7 @@ pub returns-then-said-gt0-clause-err : goal.returns-then-said-gt0-clause-err
 returns-then-said-gt0-clause-err c =
     let each : IfRefused (AreFindings c.args.words.now.most c.args.text.now) c.in_ok-report.report = rw c.from.ensures at c.in_ok-report.ensures.each in
     let of_text : IsReportOf c.args.words.now.most c.args.text.now c.in_ok-report.report = record { verdict = c.in_ok-report.ensures.first; each = each; chosen = c.in_ok-report.ensures.chosen } in
-    inr (record { report = c.in_ok-report.report; of_text = of_text; refused = whatever (HasErrorWord (plain_check c.args.words.now)) c.in_ok-report.report (c.requires ?); said = c.in_ok-said.said.text.items; carried = refl; tells = c.in_ok-said.ensures })
+    inr (record { report = c.in_ok-report.report; of_text = of_text; refused = whatever (HasErrorWord (plain_check c.args.words.now)) c.in_ok-report.report (c.requires.errors c.if-warnings.true); said = c.in_ok-said.said.text.items; carried = refl; tells = c.in_ok-said.ensures })
 
 pub returns-clause-ok : goal.returns-clause-ok
 returns-clause-ok c =
