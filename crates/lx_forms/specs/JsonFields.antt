@@ -12,10 +12,6 @@ string_member printed text = if printed then codes ",\"text\":\"" ++ flat_map st
 abbrev pub numbers_text : ℕ → ℕ → ℕ → List ℕ
 numbers_text line start len = decimal line ++ codes ",\"start\":" ++ decimal start ++ codes ",\"len\":" ++ decimal len
 
--- what stands behind the prefix, where the text is UTF-8
-abbrev pub json_rest : Bool → ℕ → ℕ → ℕ → List ℕ → List ℕ
-json_rest printed line start len bytes = numbers_text line start len ++ string_member printed (take len (drop start bytes)) ++ codes "}\n"
-
 -- A text is short, so far before the end of the bytes that 16 can be read behind it, and UTF-8 where it is printed.
 pub record IsShortText (printed : Bool) (start len : ℕ) (bytes : List ℕ) : Type 0 where
   pub short : len ≤ 96
