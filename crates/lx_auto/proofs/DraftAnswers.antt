@@ -69,7 +69,7 @@ module _ (spec : PlainSpec) (leaves : List PlainLeaf) (classes representatives :
       by (Some j) S t = let l = t.1 in omega arith
 
   module _ (m : Machine) (draft : IsDrafted (length spec.conditions) classes (length representatives) matched targets m) where
-    state_count_is : state_count m ≡ start_count spec + length sets
+    pub state_count_is : state_count m ≡ start_count spec + length sets
     state_count_is =
         ap length draft.accepted_are ∙ length-append (replicate (2 * length spec.conditions) None) matched
         ∙ ap (λ n. n + length matched) (length-replicate (2 * length spec.conditions) None) ∙ ap (λ n. start_count spec + n) are.long

@@ -139,7 +139,7 @@ pairs_to : (spec : PlainSpec) (rules : List NumberedRule) (sets : List (List ℕ
 pairs_to spec rules [] reached = no_pairs spec rules
 pairs_to spec rules (set ∷ sets) reached = one_pair spec rules set sets (reached zero (omega arith)) (pairs_to spec rules sets (λ i h. reached (suc i) (omega arith)))
 
-some_member : (S : List ℕ) → S ≢ [] → (q : ℕ) × Contains S q
+pub some_member : (S : List ℕ) → S ≢ [] → (q : ℕ) × Contains S q
 some_member [] h = absurd (h refl)
 some_member (q ∷ S) h = (q, contains_head q S)
 

@@ -99,7 +99,7 @@ no_bytes [] h e = absurd (omega arith)
 no_bytes (b ∷ w) h e = absurd (cc)
 
 -- the expressions of numbered rules
-tree_at : (f : Regex → Unfolded) (base : ℕ) (plain : List PlainRule) (i : ℕ) (r : NumberedRule) → slice_get (numbered f base plain) i ≡ Some r → r.tree ≡ f r.rule.reading.tree
+pub tree_at : (f : Regex → Unfolded) (base : ℕ) (plain : List PlainRule) (i : ℕ) (r : NumberedRule) → slice_get (numbered f base plain) i ≡ Some r → r.tree ≡ f r.rule.reading.tree
 tree_at f base [] zero r h = absurd (cc)
 tree_at f base [] (suc i) r h = absurd (cc)
 tree_at f base (rule ∷ plain) zero r h =

@@ -5,6 +5,7 @@ ghost use Rattle.lx_rules.specs.views.Specs.{spec_view};
 ghost use Rattle.lx_automaton.specs.Automata.{IsMachine};
 ghost use Rattle.lx_auto.specs.Counts.{count_of_spec};
 ghost use Rattle.lx_automaton.specs.Meaning.{IsAutomatonOf};
+ghost use Rattle.lx_auto.specs.Leading.{AreAllLedTo};
 ghost use Rattle.lx_auto.specs.PositionSets.{HasMoreReachedSets};
 
 use crate::drafting::draft_of;
@@ -23,6 +24,7 @@ const MOST_SETS: usize = 16_384;
 fn draft(alloc: Global, spec: &Spec) -> Result<Draft, BuildFault>
     ensures machine { IfOk result (λ a. IsMachine a) }
     ensures automaton { IfOk result (λ a. IsAutomatonOf (spec_view spec.now) a) }
+    ensures led_to { IfOk result (λ a. AreAllLedTo a) }
     ensures few_positions { IfOk result (λ _. count_of_spec (spec_view spec.now) ≤ 16384) }
     ensures few_sets { IfOk result (λ _. HasMoreReachedSets (spec_view spec.now) 16384 → ⊥) }
     ensures positions { IfErr result (λ e. e ≡ BuildFault.TooManyPositions → 16384 < count_of_spec (spec_view spec.now)) }
@@ -37,7 +39,7 @@ fn draft(alloc: Global, spec: &Spec) -> Result<Draft, BuildFault>
 
 /// The automaton of a specification: from each start condition, at line begin or elsewhere, a word of bytes leads to a state that
 /// accepts the earliest rule that fits it so that the rule's reach is the whole word, and to none where there is no such rule.
-/// Each state is a start or a reached set of positions; `merge` makes the fewest of them.
+/// Each state is a start or a reached set of positions, so that some text leads to it; `merge` makes the fewest of them.
 ///
 /// # Errors
 ///
@@ -45,6 +47,7 @@ fn draft(alloc: Global, spec: &Spec) -> Result<Draft, BuildFault>
 /// where there are more than 16,384 reached sets; `Memory`.
 pub fn build(alloc: Global, spec: &Spec) -> Result<Automaton, BuildFault>
     ensures automaton { IfOk result (λ a. IsAutomatonOf (spec_view spec.now) a) }
+    ensures led_to { IfOk result (λ a. AreAllLedTo a) }
     ensures few_positions { IfOk result (λ _. count_of_spec (spec_view spec.now) ≤ 16384) }
     ensures few_sets { IfOk result (λ _. HasMoreReachedSets (spec_view spec.now) 16384 → ⊥) }
     ensures positions { IfErr result (λ e. e ≡ BuildFault.TooManyPositions → 16384 < count_of_spec (spec_view spec.now)) }

@@ -32,6 +32,7 @@ mod set_numbering;
 mod set_steps;
 mod set_table;
 mod spec_positions;
+pub mod spelling;
 mod unfold;
 mod unfolded_rules;
 

@@ -14,11 +14,19 @@ use std::alloc::{AllocError, Global};
 pub struct LineMaker<Y: Spares> {
     alloc: Global,
     spares: Y,
+    // The file that is cut, and how many of its pieces were made.
+    file: u32,
+    sent: u64,
 }
 
 impl<Y: Spares> LineMaker<Y> {
     pub fn new(alloc: Global, spares: Y) -> LineMaker<Y> {
-        LineMaker { alloc, spares }
+        LineMaker {
+            alloc,
+            spares,
+            file: 0,
+            sent: 0,
+        }
     }
 }
 
@@ -36,8 +44,13 @@ impl<Y: Spares> Maker for LineMaker<Y> {
     }
 
     fn make(&mut self, plan: &Plan, file: u32, items: Vec<Item>) -> Shown {
+        if self.file != file {
+            self.file = file;
+            self.sent = 0;
+        }
+        self.sent = self.sent.wrapping_add(1);
         self.spares.send();
-        if !self.spares.are_many() {
+        if !self.spares.are_many(file, self.sent) {
             return Shown::of_items(plan, file, items);
         }
         let mut block = emptied(self.alloc, self.spares.take_block());

@@ -104,7 +104,7 @@ impl<Y: Spares, S: LineSink> Taker<LineMaker<Y>> for Printer<Y, S> {
         ensures follows { OnOk result (PrintsTo S.wrote (printing self.old.plan.value self.old.file self.old.number self.old.sink) (printing self.new.plan.value self.new.file self.new.number self.new.sink)) }
         ensures fails { IfErr result (λ fault. PrintsPart S.wrote (printing self.old.plan.value self.old.file self.old.number self.old.sink) fault (printing self.new.plan.value self.new.file self.new.number self.new.sink)) }
     {
-        self.spares.receive();
+        self.spares.receive(self.file, self.number);
         // what holds of every plan
         let _files = whole.files();
         let closes = piece.is_closing();

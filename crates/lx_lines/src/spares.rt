@@ -25,11 +25,11 @@ pub trait Spares {
     /// One piece more is on its way.
     fn send(&self);
 
-    /// One was printed.
-    fn receive(&self);
+    /// The printer has come to the piece of this number of this file.
+    fn receive(&self, file: u32, number: u64);
 
-    /// Whether those who cut pieces had better make the lines too, since the printer can't keep up.
-    fn are_many(&self) -> bool;
+    /// Whether who cuts a file, and sent so many pieces of it, had better make the lines too, since the printer can't keep up.
+    fn are_many(&self, file: u32, sent: u64) -> bool;
 }
 
 /// An empty list, in memory that was used before where there is some.
@@ -80,9 +80,9 @@ impl Spares for Alone {
 
     fn send(&self) {}
 
-    fn receive(&self) {}
+    fn receive(&self, _file: u32, _number: u64) {}
 
-    fn are_many(&self) -> bool {
+    fn are_many(&self, _file: u32, _sent: u64) -> bool {
         false
     }
 }
@@ -103,7 +103,11 @@ pub struct Shared<'r, R: Wait> {
     rt: &'r R,
     lists: ArrayQueue<Spare>,
     blocks: ArrayQueue<Spare>,
+    // How many pieces are on their way.
     pieces: AtomicU64,
+    // The file that is printed, and how many of its pieces the printer has come to.
+    file: AtomicU64,
+    printed: AtomicU64,
 }
 
 impl<'r, R: Wait> Shared<'r, R> {
@@ -116,6 +120,8 @@ impl<'r, R: Wait> Shared<'r, R> {
             lists: ArrayQueue::new(alloc, most)?,
             blocks: ArrayQueue::new(alloc, most)?,
             pieces: AtomicU64::new(0),
+            file: AtomicU64::new(0),
+            printed: AtomicU64::new(0),
         })
     }
 }
@@ -147,11 +153,17 @@ impl<'r, R: Wait> Spares for Shared<'r, R> {
         self.pieces.fetch_add(1, Ordering::Relaxed);
     }
 
-    fn receive(&self) {
+    fn receive(&self, file: u32, number: u64) {
         self.pieces.fetch_sub(1, Ordering::Relaxed);
+        self.file.store(u64::from(file), Ordering::Relaxed);
+        self.printed.store(number, Ordering::Relaxed);
     }
 
-    fn are_many(&self) -> bool {
+    // Pieces of files behind the one that is printed wait for it, and not for the printer: who cuts that one doesn't count them.
+    fn are_many(&self, file: u32, sent: u64) -> bool {
+        if self.file.load(Ordering::Relaxed) == u64::from(file) {
+            return sent.saturating_sub(self.printed.load(Ordering::Relaxed)) >= MANY;
+        }
         self.pieces.load(Ordering::Relaxed) >= MANY
     }
 }
@@ -177,11 +189,11 @@ impl<'s, Y: Spares> Spares for &'s Y {
         (**self).send();
     }
 
-    fn receive(&self) {
-        (**self).receive();
+    fn receive(&self, file: u32, number: u64) {
+        (**self).receive(file, number);
     }
 
-    fn are_many(&self) -> bool {
-        (**self).are_many()
+    fn are_many(&self, file: u32, sent: u64) -> bool {
+        (**self).are_many(file, sent)
     }
 }

@@ -3,11 +3,14 @@ pub mod ByFits
 pub mod ByRuns
 pub mod Choosing
 pub mod Cursors
+pub mod Deciding
 pub mod Entries
 pub mod Failing
 pub mod Giving
 pub mod OneList
 pub mod Placing
 pub mod Runs
+pub mod SomeChoice
+pub mod SomeItems
 pub mod Stepping
 pub mod Turns

@@ -26,14 +26,14 @@ const ENDS: usize = 128;
 /// Between two items of a text: at a match, with so many steps of its rule's action done, and before the place behind it.
 #[derive(Clone, Copy, Debug, PartialEq, Eq)]
 pub struct Cursor {
-    /// The match; before the first one it is one of no rule.
-    pub found: Match,
-    /// The line on which it begins.
-    pub line: u64,
-    /// How many steps are done where it matches.
-    pub done: usize,
-    /// The place behind it.
-    pub place: Place,
+    // The match; before the first one it is one of no rule.
+    pub(crate) found: Match,
+    // The line on which it begins.
+    pub(crate) line: u64,
+    // How many steps are done where it matches.
+    pub(crate) done: usize,
+    // The place behind it.
+    pub(crate) place: Place,
 }
 
 // What is done where a rule matches, or none: a byte that no rule matches is echoed.

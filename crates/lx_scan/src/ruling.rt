@@ -31,3 +31,10 @@ pub fn items_are_by_rules()
 pub fn one_list_of_items()
     ensures { (spec : PlainSpec) (text : List ℕ) (xs ys : List Item) → AreItemsBy spec text xs → AreItemsBy spec text ys → xs ≡ ys }
 {}
+
+/// A law: by the rules of a specification there is a choice for each text, in each condition, at line begin or not, and each text has a list
+/// of items, whether or not an automaton of the specification is within the limits.
+pub fn some_list_of_items()
+    ensures choice { (spec : PlainSpec) (condition : ℕ) (begin : Bool) (text : List ℕ) → (choice : Option (ℕ × ℕ)) × IsChoice spec condition begin text choice }
+    ensures items { (spec : PlainSpec) (text : List ℕ) → (items : List Item) × AreItemsBy spec text items }
+{}

@@ -1,5 +1,7 @@
-//! Each text is that of one table.
+//! Each text is that of one table, and of one version.
 
+ghost use Rattle.std.specs.Prelude.{◌≢◌};
+ghost use Rattle.lx_tables.specs.Model.{Table};
 ghost use Rattle.lx_tables.specs.Texts.{text_1, text_2};
 ghost use Rattle.lx_tables.specs.Uniqueness.{IsOneToOne};
 
@@ -7,4 +9,9 @@ ghost use Rattle.lx_tables.specs.Uniqueness.{IsOneToOne};
 pub fn texts_are_one_to_one()
     ensures first { IsOneToOne text_1 }
     ensures second { IsOneToOne text_2 }
+{}
+
+/// A law: no text is one of version 1 and one of version 2.
+pub fn versions_are_apart()
+    ensures { (s t : Table) → text_1 s ≢ text_2 t }
 {}

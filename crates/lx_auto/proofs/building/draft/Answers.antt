@@ -6,7 +6,8 @@ use Rattle.lx_rules.specs.views.Specs.{spec_view}
 use Rattle.lx_auto.specs.Drafting.{IsDrafted}
 use Rattle.lx_auto.specs.LeafViews.{leaves_view}
 use Rattle.lx_auto.specs.Simplified.{simplified_pattern}
-use Rattle.lx_auto.proofs.DraftAnswers.{matched_below, targets_below, draft_machine, draft_answers}
+use Rattle.lx_auto.proofs.AllLedTo.{all_led_to}
+use Rattle.lx_auto.proofs.DraftAnswers.{matched_below, targets_below, draft_machine, draft_answers, state_count_is}
 use Rattle.lx_auto.proofs.MoreSets.{more_reached}
 use Rattle.lx_auto.proofs.NoMoreSets.{no_more}
 use Rattle.lx_auto.proofs.RuleAnswers.{sound_patterns}
@@ -82,3 +83,19 @@ returns-clause-few_sets c =
     no_more spec (leaves_view table.leaves.items) table.groups.classes.items table.groups.representatives.items found.table.sets.items found.matched.items found.targets.items c.in_ok-draft.draft
     stands.leaves stands.groups states.steps
     (subst (λ n. IsDrafted n table.groups.classes.items (length table.groups.representatives.items) found.matched.items found.targets.items c.in_ok-draft.draft) conditions c.in_ok-draft.ensures) 16384 c.in_ok-explored.ensures.room
+
+pub returns-clause-led_to : goal.returns-clause-led_to
+returns-clause-led_to c =
+    let spec = spec_view c.args.spec.now in
+    let table = c.in_ok-positions.positions in
+    let found = c.in_ok-explored.explored in
+    let stands = c.in_ok-positions.ensures.stands in
+    let states = c.in_ok-explored.ensures.explored (simplified_pattern spec.definitions) stands in
+    let held = c.args.spec.now.conditions.ok.0 in
+    let seen = length-map c.args.spec.now.conditions.items condition_view in
+    let conditions : c.len.result ≡ length spec.conditions = omega (arith, c.len.ensures) in
+    let drafted = subst (λ n. IsDrafted n table.groups.classes.items (length table.groups.representatives.items) found.matched.items found.targets.items c.in_ok-draft.draft) conditions c.in_ok-draft.ensures in
+    all_led_to spec (leaves_view table.leaves.items) table.groups.classes.items table.groups.representatives.items found.table.sets.items found.matched.items found.targets.items c.in_ok-draft.draft
+    stands.leaves stands.groups states.steps drafted
+    (state_count_is spec (leaves_view table.leaves.items) table.groups.classes.items table.groups.representatives.items found.table.sets.items found.matched.items found.targets.items
+    stands.leaves stands.groups states.steps states.matched c.in_ok-draft.draft drafted)
