@@ -153,7 +153,7 @@ impl Cutter {
         let text = plan.bytes(self.file);
         let mut cursor = self.cursor;
         // few items are left where few bytes are, but for those that are echoed more than once
-        let expected = most.min(text.len() - cursor.place.offset + 1);
+        let expected = most.min(text.len() - cursor.offset() + 1);
         let mut items = maker.room(self.alloc, expected)?;
         let ahead = take_items(
             plan.tables(),

@@ -89,6 +89,13 @@ impl Cursor {
         }
     }
 
+    /// How many bytes of the text stand before what it looks at next.
+    pub fn offset(&self) -> usize
+        ensures within { (table : Table) (text : List ℕ) → IsInText table text self.now → result ≤ length text }
+    {
+        self.place.offset
+    }
+
     // The next item at the match, if a step that is left gives one.
     fn next_at_match(&mut self, tables: &Tables) -> Option<Item>
         requires { ForSome self.old.found.rule (λ i. i < length tables.now.rules) }

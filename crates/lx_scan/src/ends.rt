@@ -43,6 +43,17 @@ fn entry_at(entries: &[u32], row: usize, column: u8) -> u32
     entries[row]
 }
 
+// The columns of all bytes, in memory whose length is known, so that no look-up has to be tested.
+#[inline(always)]
+fn columns_of(joined: &Joined) -> [u8; 256]
+    requires { length joined.now.columns.items ≡ 256 }
+    ensures { result ≡ joined.now.columns.items }
+{
+    let mut columns = [0; 256];
+    columns.copy_from_slice(joined.columns.as_slice());
+    columns
+}
+
 // One for a newline, which has the last column alone. To ask whether it is below takes three instructions less than whether it is the same.
 #[inline(always)]
 fn newline(column: u8, last: u8) -> u64
@@ -81,7 +92,7 @@ pub(crate) fn find_ends(
     ensures within { result.count ≤ length ends.new }
     ensures ends { 0 < result.count → LeadTo tables.now text.now place (take result.count ends.new) (place_behind text.now place (take result.count ends.new) result.condition) }
 {
-    let columns = joined.columns.as_slice();
+    let columns = columns_of(joined);
     let entries = joined.entries.as_slice();
     let first = text[place.offset];
     let class = tables.class(first);

@@ -22,7 +22,7 @@ loop-offset-init c =
     let few = c.newline.ensures.few in
     let small = c.type_inv.text place.offset in
     let newline_is : c.newline.result ≡ (if nat_eq byte 10 then 1 else 0)
-    = c.newline.ensures.value ∙ ap (λ (xs : List ℕ). if nat_le (slice_index xs 10) (slice_index xs byte) then 1 else 0) c.as_slice-columns.ensures.value
+    = c.newline.ensures.value ∙ ap (λ (xs : List ℕ). if nat_le (slice_index xs 10) (slice_index xs byte) then 1 else 0) c.columns_of-columns.ensures
     ∙ last_column table c.requires.table c.args.joined.now.columns.items c.args.joined.now.entries.items c.args.joined.now.given.items c.requires.joined byte (omega arith) in
     let line_few = c.requires.place.line_few in
     record {
@@ -46,10 +46,10 @@ loop-offset-preserved c =
     let room = c.if-count-most.true in
     let most = loop.invariant.room in
     let entry = c.entry_at-entry.result in
-    let columns_are = c.as_slice-columns.ensures.value in
+    let columns_are = c.columns_of-columns.ensures in
     let entries_are = c.as_slice-entries.ensures.value in
     let entry_is : entry ≡ slice_index c.args.joined.now.entries.items (loop.row + slice_index c.args.joined.now.columns.items byte)
-    = c.entry_at-entry.ensures ∙ ap (λ (xs : List ℕ). slice_index xs (loop.row + slice_index c.as_slice-columns.result.now byte)) entries_are
+    = c.entry_at-entry.ensures ∙ ap (λ (xs : List ℕ). slice_index xs (loop.row + slice_index c.columns_of-columns.result byte)) entries_are
     ∙ ap (λ (xs : List ℕ). slice_index c.args.joined.now.entries.items (loop.row + slice_index xs byte)) columns_are in
     let runs = runs_turn table c.requires.table c.args.joined.now.columns.items c.args.joined.now.entries.items c.args.joined.now.given.items c.requires.joined text c.args.place loop.ends loop.count loop.offset loop.line loop.row byte entry c.ending-count.result
     loop.invariant.runs c.loop-offset-test.true refl (omega arith) entry_is (omega arith) c.if-code-eq-UNTOLD.false c.ending-count.ensures.value in
