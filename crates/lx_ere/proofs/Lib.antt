@@ -14,3 +14,5 @@ pub mod EndLemmas
 pub mod LeastEnd
 pub mod ReachLemmas
 pub mod OrderedBounds
+pub mod Deciding
+pub mod SomeReading

@@ -1,6 +1,6 @@
 //! Patterns and substitutes, read from left to right once (POSIX.1-2017, XCU `lex`, "Regular Expressions in lex", "Definitions in lex").
 
-ghost use Rattle.std.specs.Prelude.{◌≡◌, ◌++◌, IfOk, Err, IsTrue, List, length, ℕ};
+ghost use Rattle.std.specs.Prelude.{◌≡◌, ◌++◌, ◌⊎◌, IfOk, Err, IsTrue, List, length, ℕ};
 ghost use Rattle.lx_ere.specs.Regex.{Regex, Reading, regex_of, reading_of};
 ghost use Rattle.lx_ere.specs.Bounds.{has_ordered_bounds};
 ghost use Rattle.lx_ere.specs.Grammar.{Lexeme, IsAlternation};
@@ -124,6 +124,12 @@ pub fn one_reading()
 /// A law: a text has at most one reading as a substitute.
 pub fn one_substitute()
     ensures { (text : List ℕ) (r s : Regex) → IsSubstitute text r → IsSubstitute text s → r ≡ s }
+{}
+
+/// A law: a text has a reading as a pattern, or it has none, and likewise as a substitute: of each text it can be told which of the two is so.
+pub fn some_reading()
+    ensures patterns { (text : List ℕ) → ((r : Reading) × IsPattern text r) ⊎ ((r : Reading) → IsPattern text r → ⊥) }
+    ensures substitutes { (text : List ℕ) → ((tree : Regex) × IsSubstitute text tree) ⊎ ((tree : Regex) → IsSubstitute text tree → ⊥) }
 {}
 
 /// A law: in each interval of what a text reads as, the low bound is at most the high one (XBD 9.4.6).
