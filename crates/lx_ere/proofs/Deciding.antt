@@ -43,7 +43,7 @@ below_or_not zero n = inl (omega arith)
 below_or_not (suc m) zero = inr (omega arith)
 below_or_not (suc m) (suc n) = elim (below_or_not m n) [ inl l ↦ inl (omega (arith, l)) | inr l ↦ inr (omega (arith, l)) ]
 
-under : (k n : ℕ) → k < suc n → (k ≡ n → ⊥) → k < n
+pub under : (k n : ℕ) → k < suc n → (k ≡ n → ⊥) → k < n
 under k n l other = elim (below_or_not n k) as (λ _. k < n) [ inl m ↦ absurd (other (omega (arith, l, m))) | inr m ↦ m ]
 
 -- of a fact about numbers whether it holds of one below a bound

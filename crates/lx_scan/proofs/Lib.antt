@@ -3,7 +3,7 @@ pub mod ByFits
 pub mod ByRuns
 pub mod Choosing
 pub mod Cursors
-pub mod Deciding
+pub mod DecidedMatches
 pub mod Entries
 pub mod Failing
 pub mod Giving

@@ -10,7 +10,8 @@ use Rattle.lx_rules.specs.Limits.{max_name_depth}
 use Rattle.lx_rules.specs.Names.{Defines, DefinedMatches, NameMatches}
 use Rattle.lx_rules.specs.Plain.{PlainDefinition, PlainRule, PlainSpec}
 use Rattle.lx_automaton.proofs.Members.{contains_nil, contains_head, contains_tail, contains_cases}
-use Rattle.lx_scan.proofs.Deciding.{along, both, either, decide_true, below_or_not, decide_at_most, decide_below, decide_same, decide_matches}
+use Rattle.lx_ere.proofs.Deciding.{along, both, either, decide_true, below_or_not, decide_below}
+use Rattle.lx_scan.proofs.DecidedMatches.{decide_at_most, greatest, least, decide_same, decide_matches}
 
 -- ---- names
 

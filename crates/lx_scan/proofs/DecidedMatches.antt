@@ -1,55 +1,16 @@
--- Whether a word is a text of an expression, whatever its names stand for, can be decided.
+-- Whether an expression matches a word is decided, where it is decided what its names match.
 use Rattle.std.proofs.Common.{◌≡◌, ◌∙◌, ℕ, zero, suc, ◌+◌, ◌<◌, ◌≤◌, ◌⊎◌, inl, inr, Bool, true, false, IsTrue, IfSome, List, [], ◌∷◌, ◌++◌, Option, Some, None, length, refl, ap, ap₂, sym, subst, arith, length-append}
 use Rattle.std.specs.FinSet as set
 use Rattle.std.specs.Ordering.{nat_cmp}
 use native.Mathlib.Decide.{ℕ_discrete}
 use Rattle.lx_ere.specs.Regex.{Regex, nil, one_of, then, or, times, named}
 use Rattle.lx_ere.specs.Matching.{Splits, Repeats, RepeatsBetween, Matches}
-
--- ---- facts put together
-
--- facts that come to the same
-pub along : {P Q : Type 0} → (P → Q) → (Q → P) → Dec P → Dec Q
-along f g (yes p) = yes (f p)
-along f g (no n) = no (λ q. n (g q))
-
-pub both : {P Q : Type 0} → Dec P → Dec Q → Dec (P × Q)
-both (yes p) (yes q) = yes (p, q)
-both (yes p) (no n) = no (λ h. n h.1)
-both (no n) d = no (λ h. n h.0)
-
-pub either : {P Q : Type 0} → Dec P → Dec Q → Dec (P ⊎ Q)
-either (yes p) d = yes (inl p)
-either (no n) (yes q) = yes (inr q)
-either (no n) (no m) = no (λ h. elim h [ inl p ↦ n p | inr q ↦ m q ])
-
-pub decide_true : (b : Bool) → Dec (b ≡ true)
-decide_true true = yes refl
-decide_true false = no (λ e. absurd (cc))
+use Rattle.lx_ere.proofs.Deciding.{along, both, either, decide_true, below_or_not, under, decide_below}
 
 -- ---- numbers
 
-pub below_or_not : (m n : ℕ) → (m ≤ n) ⊎ (n < m)
-below_or_not zero n = inl (omega arith)
-below_or_not (suc m) zero = inr (omega arith)
-below_or_not (suc m) (suc n) = elim (below_or_not m n) [ inl l ↦ inl (omega (arith, l)) | inr l ↦ inr (omega (arith, l)) ]
-
 pub decide_at_most : (m n : ℕ) → Dec (m ≤ n)
 decide_at_most m n = elim (below_or_not m n) as (λ _. Dec (m ≤ n)) [ inl l ↦ yes l | inr l ↦ no (λ h. absurd (omega (arith, l, h))) ]
-
-under : (k n : ℕ) → k < suc n → (k ≡ n → ⊥) → k < n
-under k n l other = elim (below_or_not n k) as (λ _. k < n) [ inl m ↦ absurd (other (omega (arith, l, m))) | inr m ↦ m ]
-
--- of a fact about numbers whether it holds of one below a bound
-pub decide_below : (P : ℕ → Type 0) → ((k : ℕ) → Dec (P k)) → (n : ℕ) → Dec ((k : ℕ) × (k < n) × P k)
-decide_below P d zero = no (λ h. let l = h.1 in absurd (omega arith))
-decide_below P d (suc n) = along out (λ h. into h.0 h.1 h.2) (either (d n) (decide_below P d n)) where
-  out : P n ⊎ ((k : ℕ) × (k < n) × P k) → (k : ℕ) × (k < suc n) × P k
-  out (inl p) = (n, (omega arith), p)
-  out (inr h) = (h.0, (let l = h.1 in omega arith), h.2)
-
-  into : (k : ℕ) → k < suc n → P k → P n ⊎ ((k : ℕ) × (k < n) × P k)
-  into k l p = elim (ℕ_discrete k n) as (λ _. P n ⊎ ((k : ℕ) × (k < n) × P k)) [ yes e ↦ inl (subst P e p) | no other ↦ inr (k, under k n l other, p) ]
 
 -- no number below a bound, or the greatest one
 pub greatest : (P : ℕ → Type 0) → ((k : ℕ) → Dec (P k)) → (n : ℕ) → ((k : ℕ) → k < n → P k → ⊥) ⊎ ((k : ℕ) × (k < n) × P k × ((m : ℕ) → m < n → P m → m ≤ k))
