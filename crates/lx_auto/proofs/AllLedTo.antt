@@ -6,7 +6,7 @@ use Rattle.std.proofs.lemmas.List.Elements.{All-head, All-tail, All-nil}
 use Rattle.lx_rules.specs.Plain.{PlainSpec}
 use Rattle.lx_automaton.specs.Automata.{Machine, IsMachine, HasSameSteps, state_count, start_of, target_of, state_after}
 use Rattle.lx_auto.specs.Drafting.{IsDrafted}
-use Rattle.lx_auto.specs.Exploring.{IsExplored, start_count, start_number}
+use Rattle.lx_auto.specs.Exploring.{IsExplored, IsReachedSet, start_count, start_number}
 use Rattle.lx_auto.specs.Leading.{IsLedTo, AreAllLedTo}
 use Rattle.lx_auto.specs.Leaves.{PlainLeaf, AreLeavesOf, AreGroupsOf}
 use Rattle.lx_auto.specs.PositionSets.{numbered, StartAndWord, InPositionSet}
@@ -59,36 +59,39 @@ module _ (spec : PlainSpec) (leaves : List PlainLeaf) (classes representatives :
           same_rising (set_of sets i) (set_of sets j) (explored.reached.reached i hi).rising (explored.reached.reached j hj).rising
           (λ q. ((λ h. (of_j q).1 ((of_i q).0 h)), (λ h. (of_i q).1 ((of_j q).0 h))))
 
+  -- a position that the text of a reached set leads to
+  some_position : (j : ℕ) → (set : IsReachedSet spec (numbered (simplified_pattern spec.definitions) 0 spec.rules) (set_of sets j)) →
+      (q : ℕ) × InPositionSet spec (numbered (simplified_pattern spec.definitions) 0 spec.rules) set.from q
+  some_position j set = let q = some_member (set_of sets j) set.some in (q.0, (set.leads q.0).0 q.1)
+
+  some_text : (x : StartAndWord) (q : ℕ) → InPositionSet spec (numbered (simplified_pattern spec.definitions) 0 spec.rules) x q → x.word ≢ []
+  some_text x q h e =
+      nothing_read spec (simplified_pattern spec.definitions) 0 spec.rules x.condition x.begin q
+      (subst (λ w. InPositionSet spec (numbered (simplified_pattern spec.definitions) 0 spec.rules) (record { condition = x.condition; begin = x.begin; word = w }) q) e h)
+
+  -- where the text of a set leads
+  state_of_set : (x : StartAndWord) (j : ℕ) → j < length sets → IsSetOf spec (numbered (simplified_pattern spec.definitions) 0 spec.rules) x (set_of sets j) →
+      (q : ℕ) → InPositionSet spec (numbered (simplified_pattern spec.definitions) 0 spec.rules) x q → (s : Option ℕ) →
+      IsAfter spec (simplified_pattern spec.definitions) leaves classes representatives sets matched targets m of groups explored draft x s → s ≡ Some (start_count spec + j)
+  state_of_set x j hj leads q h None none = absurd (none q h)
+  state_of_set x j hj leads q h (Some s) is = ap (λ (n : ℕ). Some n) (is.2 ∙ ap (λ (k : ℕ). start_count spec + k) (same_number x is.0 j is.1 hj is.3 leads))
+
   led_to_set : (j : ℕ) → j < length sets → IsLedTo m (start_count spec + j)
-  led_to_set j h = record {
-    condition = x.condition;
-    begin = x.begin;
-    text = x.word;
-    there = let e = draft.conditions_are in let l = set.start in omega arith;
-    bytes = set.bytes;
-    leads =
-        by (state_after m (Some (start_of m x.condition x.begin)) x.word)
-        (read_after spec (simplified_pattern spec.definitions) leaves classes representatives sets matched targets m of groups explored draft x.condition x.begin x.word set.start some_word set.bytes);
-  }
-    where
-      set = explored.reached.reached j h
-
-      x : StartAndWord
-      x = set.from
-
-      member : (q : ℕ) × InPositionSet spec (numbered (simplified_pattern spec.definitions) 0 spec.rules) x q
-      unfolding x
-      member = let q = some_member (set_of sets j) set.some in (q.0, (set.leads q.0).0 q.1)
-
-      some_word : x.word ≢ []
-      some_word e =
-          nothing_read spec (simplified_pattern spec.definitions) 0 spec.rules x.condition x.begin member.0
-          (subst (λ w. InPositionSet spec (numbered (simplified_pattern spec.definitions) 0 spec.rules) (record { condition = x.condition; begin = x.begin; word = w }) member.0) e member.1)
-
-      by : (s : Option ℕ) → IsAfter spec (simplified_pattern spec.definitions) leaves classes representatives sets matched targets m of groups explored draft x s → s ≡ Some (start_count spec + j)
-      unfolding x
-      by None none = absurd (none member.0 member.1)
-      by (Some s) is = ap (λ (n : ℕ). Some n) (is.2 ∙ ap (λ (k : ℕ). start_count spec + k) (same_number x is.0 j is.1 h is.3 set.leads))
+  led_to_set j h =
+      let set = explored.reached.reached j h in
+      let x : StartAndWord = set.from in
+      let member = some_position j set in
+      record {
+        condition = x.condition;
+        begin = x.begin;
+        text = x.word;
+        there = let e = draft.conditions_are in let l = set.start in omega arith;
+        bytes = set.bytes;
+        leads =
+            state_of_set x j h set.leads member.0 member.1 (state_after m (Some (start_of m x.condition x.begin)) x.word)
+            (read_after spec (simplified_pattern spec.definitions) leaves classes representatives sets matched targets m of groups explored draft x.condition x.begin x.word set.start
+            (some_text x member.0 member.1) set.bytes);
+      }
 
   pub all_led_to : state_count m ≡ start_count spec + length sets → AreAllLedTo m
   all_led_to count = record {

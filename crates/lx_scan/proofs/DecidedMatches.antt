@@ -91,23 +91,25 @@ decide_most : (high : Option ℕ) (k : ℕ) → Dec (IfSome high (λ most. k ≤
 decide_most None k = yes tt
 decide_most (Some most) k = decide_at_most k most
 
+-- the body so often, of a number that the bounds let pass
+abbrev RepeatsWithin : (List ℕ → Type 0) → ℕ → Option ℕ → List ℕ → ℕ → Type 0
+RepeatsWithin L low high w k = (low ≤ k) × IfSome high (λ most. k ≤ most) × Repeats L k w
+
+decide_within : (L : List ℕ → Type 0) → ((u : List ℕ) → Dec (L u)) → (low : ℕ) (high : Option ℕ) (w : List ℕ) (k : ℕ) → Dec (RepeatsWithin L low high w k)
+decide_within L d low high w k = along (λ h. (h.0, h.1.0, h.1.1)) (λ h. (h.0, (h.1, h.2))) (both (decide_at_most low k) (both (decide_most high k) (decide_repeats L d k w)))
+
+bounded : (L : List ℕ → Type 0) (low : ℕ) (high : Option ℕ) (w : List ℕ) (k : ℕ) → low ≤ k → IfSome high (λ most. k ≤ most) → Repeats L k w →
+    (j : ℕ) × (j < suc (low + length w)) × RepeatsWithin L low high w j
+bounded L low high w k l m r = elim (below_or_not k (low + length w)) as (λ _. (j : ℕ) × (j < suc (low + length w)) × RepeatsWithin L low high w j) [
+  | inl less ↦ (k, (omega (arith, less)), (l, m, r))
+  | inr more ↦
+      let n = low + length w in
+      (n, (omega arith), ((omega arith), lower_most high n k (omega (arith, more)) m, no_more L k n w (omega arith) (omega (arith, more)) r))
+]
+
 decide_times : (L : List ℕ → Type 0) → ((u : List ℕ) → Dec (L u)) → (low : ℕ) (high : Option ℕ) (w : List ℕ) → Dec (RepeatsBetween L low high w)
-decide_times L d low high w = along (λ h. (h.0, h.2.0, h.2.1, h.2.2)) (λ h. bounded h.0 h.1 h.2 h.3) (decide_below Fits decide (suc (low + length w))) where
-  Fits : ℕ → Type 0
-  Fits k = (low ≤ k) × IfSome high (λ most. k ≤ most) × Repeats L k w
-
-  decide : (k : ℕ) → Dec (Fits k)
-  unfolding Fits
-  decide k = along (λ h. (h.0, h.1.0, h.1.1)) (λ h. (h.0, (h.1, h.2))) (both (decide_at_most low k) (both (decide_most high k) (decide_repeats L d k w)))
-
-  bounded : (k : ℕ) → low ≤ k → IfSome high (λ most. k ≤ most) → Repeats L k w → (j : ℕ) × (j < suc (low + length w)) × Fits j
-  unfolding Fits
-  bounded k l m r = elim (below_or_not k (low + length w)) as (λ _. (j : ℕ) × (j < suc (low + length w)) × Fits j) [
-    | inl less ↦ (k, (omega (arith, less)), (l, m, r))
-    | inr more ↦
-        let n = low + length w in
-        (n, (omega arith), ((omega arith), lower_most high n k (omega (arith, more)) m, no_more L k n w (omega arith) (omega (arith, more)) r))
-  ]
+decide_times L d low high w =
+    along (λ h. (h.0, h.2.0, h.2.1, h.2.2)) (λ h. bounded L low high w h.0 h.1 h.2 h.3) (decide_below (RepeatsWithin L low high w) (decide_within L d low high w) (suc (low + length w)))
 
 -- ---- expressions
 
