@@ -7,25 +7,25 @@ use Rattle.lx_spec.specs.declared.word.Word.{Word as CodeWord}
 use Rattle.lx_spec.specs.views.Words.{words_view}
 use Rattle.lx_spec.proofs.WordSteps.{one_words}
 
-in_finished : (d : ℕ) (ws : List Word) (ss : List Statement) → AreStatements d ws ss → turn_at ws ≡ finished → (d ≡ 0) × (ss ≡ [])
+pub in_finished : (d : ℕ) (ws : List Word) (ss : List Statement) → AreStatements d ws ss → turn_at ws ≡ finished → (d ≡ 0) × (ss ≡ [])
 in_finished _ _ _ (none ws e) h = (refl, refl)
 in_finished _ _ _ (opened d ws rest ss e a) h = let both : opens rest ≡ finished = sym e ∙ h in cc
 in_finished _ _ _ (closed d ws rest ss e a) h = let both : closes rest ≡ finished = sym e ∙ h in cc
 in_finished _ _ _ (stated d ws rest s ss e a) h = let both : states s rest ≡ finished = sym e ∙ h in cc
 
-in_opened : (d : ℕ) (ws behind : List Word) (ss : List Statement) → AreStatements d ws ss → turn_at ws ≡ opens behind → AreStatements (suc d) behind ss
+pub in_opened : (d : ℕ) (ws behind : List Word) (ss : List Statement) → AreStatements d ws ss → turn_at ws ≡ opens behind → AreStatements (suc d) behind ss
 in_opened _ _ behind _ (none ws e) h = let both : finished ≡ opens behind = sym e ∙ h in cc
 in_opened _ _ behind _ (opened d ws rest ss e a) h = let both : opens rest ≡ opens behind = sym e ∙ h in let same : rest ≡ behind = cc in subst (λ (t : List Word). AreStatements (suc d) t ss) same a
 in_opened _ _ behind _ (closed d ws rest ss e a) h = let both : closes rest ≡ opens behind = sym e ∙ h in cc
 in_opened _ _ behind _ (stated d ws rest s ss e a) h = let both : states s rest ≡ opens behind = sym e ∙ h in cc
 
-in_closed : (d : ℕ) (ws behind : List Word) (ss : List Statement) → AreStatements d ws ss → turn_at ws ≡ closes behind → (k : ℕ) × (d ≡ suc k) × AreStatements k behind ss
+pub in_closed : (d : ℕ) (ws behind : List Word) (ss : List Statement) → AreStatements d ws ss → turn_at ws ≡ closes behind → (k : ℕ) × (d ≡ suc k) × AreStatements k behind ss
 in_closed _ _ behind _ (none ws e) h = let both : finished ≡ closes behind = sym e ∙ h in cc
 in_closed _ _ behind _ (opened d ws rest ss e a) h = let both : opens rest ≡ closes behind = sym e ∙ h in cc
 in_closed _ _ behind _ (closed d ws rest ss e a) h = let both : closes rest ≡ closes behind = sym e ∙ h in let same : rest ≡ behind = cc in (d, refl, subst (λ (t : List Word). AreStatements d t ss) same a)
 in_closed _ _ behind _ (stated d ws rest s ss e a) h = let both : states s rest ≡ closes behind = sym e ∙ h in cc
 
-in_stated : (d : ℕ) (ws behind : List Word) (s : Statement) (ss : List Statement) → AreStatements d ws ss → turn_at ws ≡ states s behind → (ts : List Statement) × AreStatements d behind ts × (ss ≡ s ∷ ts)
+pub in_stated : (d : ℕ) (ws behind : List Word) (s : Statement) (ss : List Statement) → AreStatements d ws ss → turn_at ws ≡ states s behind → (ts : List Statement) × AreStatements d behind ts × (ss ≡ s ∷ ts)
 in_stated _ _ behind s _ (none ws e) h = let both : finished ≡ states s behind = sym e ∙ h in cc
 in_stated _ _ behind s _ (opened d ws rest ss e a) h = let both : opens rest ≡ states s behind = sym e ∙ h in cc
 in_stated _ _ behind s _ (closed d ws rest ss e a) h = let both : closes rest ≡ states s behind = sym e ∙ h in cc
@@ -35,7 +35,7 @@ in_stated _ _ behind s _ (stated d ws rest t ss e a) h =
     let first : t ≡ s = cc in
     (ss, subst (λ (u : List Word). AreStatements d u ss) same a, ap (λ (u : Statement). u ∷ ss) first)
 
-in_none : (d : ℕ) (ws : List Word) (ss : List Statement) → AreStatements d ws ss → turn_at ws ≡ no_statement → ⊥
+pub in_none : (d : ℕ) (ws : List Word) (ss : List Statement) → AreStatements d ws ss → turn_at ws ≡ no_statement → ⊥
 in_none _ _ _ (none ws e) h = let both : finished ≡ no_statement = sym e ∙ h in cc
 in_none _ _ _ (opened d ws rest ss e a) h = let both : opens rest ≡ no_statement = sym e ∙ h in cc
 in_none _ _ _ (closed d ws rest ss e a) h = let both : closes rest ≡ no_statement = sym e ∙ h in cc

@@ -6,10 +6,10 @@ use Rattle.lx_ere.specs.Escapes.{is_digit, letter_byte}
 use Rattle.lx_ere.specs.Lexing.{run_len, byte_of, number_at, hexadecimal_at, other_at, letter_or_other, escape_at}
 
 -- what was found leaves n bytes at most
-abbrev LeavesAtMost : ℕ → Option (ℕ × List ℕ) → Type 0
+abbrev pub LeavesAtMost : ℕ → Option (ℕ × List ℕ) → Type 0
 LeavesAtMost n found = IfSome found (λ f. length f.1 ≤ n)
 
-either : (n : ℕ) (b : Bool) (x y : Option (ℕ × List ℕ)) → LeavesAtMost n x → LeavesAtMost n y → LeavesAtMost n (cond b x y)
+pub either : (n : ℕ) (b : Bool) (x y : Option (ℕ × List ℕ)) → LeavesAtMost n x → LeavesAtMost n y → LeavesAtMost n (cond b x y)
 either n true x y h g = h
 either n false x y h g = g
 
@@ -34,7 +34,7 @@ behind-letter : (n c : ℕ) (text : List ℕ) (letter : Option ℕ) → length (
 behind-letter n c text (Some byte) le = omega (arith, le)
 behind-letter n c text None le = behind-other n c text le
 
-behind-escape : (n : ℕ) (text : List ℕ) → length text ≤ n → LeavesAtMost n (escape_at text)
+pub behind-escape : (n : ℕ) (text : List ℕ) → length text ≤ n → LeavesAtMost n (escape_at text)
 behind-escape n [] le = tt
 behind-escape n (c ∷ text) le = behind-letter n c text (letter_byte c) le
 

@@ -3,6 +3,9 @@ pub mod Below
 pub mod Building
 pub mod Checking
 pub mod Conjunctions
+pub mod DecidingActions
+pub mod DecidingCases
+pub mod DecidingWords
 pub mod Declaring
 pub mod Distinct
 pub mod Entering
@@ -24,6 +27,8 @@ pub mod Reading
 pub mod Resolving
 pub mod Returned
 pub mod Rows
+pub mod SomeVerdict
+pub mod Walking
 pub mod WellFormed
 pub mod WordSteps
 pub mod Words

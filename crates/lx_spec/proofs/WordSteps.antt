@@ -3,12 +3,12 @@ use Rattle.std.proofs.Common.{◌≡◌, ◌∙◌, ℕ, List, [], ◌∷◌, �
 use Rattle.std.proofs.lemmas.List.{append-nil}
 use Rattle.lx_spec.specs.ActionWords.{Word, ended, passed, word, no_word, piece_at, AreWords, none, behind_passed, behind_word}
 
-in_passed : (text behind : List ℕ) (ws : List Word) → AreWords text ws → piece_at text ≡ passed behind → AreWords behind ws
+pub in_passed : (text behind : List ℕ) (ws : List Word) → AreWords text ws → piece_at text ≡ passed behind → AreWords behind ws
 in_passed _ behind _ (none text e) h = let both : ended ≡ passed behind = sym e ∙ h in cc
 in_passed _ behind _ (behind_passed text rest ws e a) h = let both : passed rest ≡ passed behind = sym e ∙ h in let same : rest ≡ behind = cc in subst (λ (t : List ℕ). AreWords t ws) same a
 in_passed _ behind _ (behind_word text rest w ws e a) h = let both : word w rest ≡ passed behind = sym e ∙ h in cc
 
-in_word : (text behind : List ℕ) (w : Word) (ws : List Word) → AreWords text ws → piece_at text ≡ word w behind → (vs : List Word) × AreWords behind vs × (ws ≡ w ∷ vs)
+pub in_word : (text behind : List ℕ) (w : Word) (ws : List Word) → AreWords text ws → piece_at text ≡ word w behind → (vs : List Word) × AreWords behind vs × (ws ≡ w ∷ vs)
 in_word _ behind w _ (none text e) h = let both : ended ≡ word w behind = sym e ∙ h in cc
 in_word _ behind w _ (behind_passed text rest ws e a) h = let both : passed rest ≡ word w behind = sym e ∙ h in cc
 in_word _ behind w _ (behind_word text rest v ws e a) h =
@@ -17,7 +17,7 @@ in_word _ behind w _ (behind_word text rest v ws e a) h =
     let first : v ≡ w = cc in
     (ws, subst (λ (t : List ℕ). AreWords t ws) same a, ap (λ (u : Word). u ∷ ws) first)
 
-in_none : (text : List ℕ) (ws : List Word) → AreWords text ws → piece_at text ≡ no_word → ⊥
+pub in_none : (text : List ℕ) (ws : List Word) → AreWords text ws → piece_at text ≡ no_word → ⊥
 in_none _ _ (none text e) h = let both : ended ≡ no_word = sym e ∙ h in cc
 in_none _ _ (behind_passed text rest ws e a) h = let both : passed rest ≡ no_word = sym e ∙ h in cc
 in_none _ _ (behind_word text rest v ws e a) h = let both : word v rest ≡ no_word = sym e ∙ h in cc

@@ -1,5 +1,5 @@
 // Specifications, read whole.
-ghost use Rattle.std.specs.Prelude.{◌≡◌, ◌≢◌, ℕ, List, Option, map, IfOk, IfErr};
+ghost use Rattle.std.specs.Prelude.{◌≡◌, ◌≢◌, ◌⊎◌, ℕ, List, Option, map, IfOk, IfErr};
 ghost use Rattle.lx_ere.specs.PatternEnd.{pattern_end};
 ghost use Rattle.lx_ere.specs.PatternGrammar.{IsPatternEnd};
 ghost use Rattle.lx_ere.specs.Regex.{Regex};
@@ -26,7 +26,7 @@ use crate::resolved_rule::{ResolvedRule, resolve_rules};
 use crate::section::read_sections;
 use crate::symbol_table::SymbolTable;
 use lx_ere::extent::{one_pattern_end, some_pattern_end};
-use lx_ere::read::{one_reading, one_substitute};
+use lx_ere::read::{one_reading, one_substitute, some_reading};
 use lx_rules::spec::Spec;
 use std::alloc::Global;
 
@@ -97,4 +97,12 @@ pub fn one_verdict()
 {
     one_reading();
     one_substitute();
+}
+
+/// A law: every text has a verdict: a first fault, or a specification that it says.
+pub fn some_verdict()
+    ensures { (text : List ℕ) → ((f : SpecFault) × IsFault text f) ⊎ ((spec : PlainSpec) × IsRead text spec) }
+{
+    some_reading();
+    one_reading();
 }
