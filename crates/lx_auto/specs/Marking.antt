@@ -1,4 +1,5 @@
--- Two passes over the nodes of an expression: upwards where a set of its positions can end, downwards which positions can be read next.
+-- A mirror of `marking`: two passes over the nodes of an expression, upwards where a set of its positions can end, downwards which positions can be read next. They
+-- find what `CanEnd` and `CanRead` of Positions say (proofs/Readable), and that paths of these positions spell the pattern is a law, `positions_spell_patterns`.
 use Rattle.std.specs.Prelude.{ℕ, ◌+◌, ◌-◌, Bool, true, false, ◌&&◌, ◌||◌, List, [], ◌∷◌, ◌++◌, length, slice_index_or, slice_set}
 use Rattle.lx_auto.specs.Nodes.{PlainNode, leaf_node, cat_node, alt_node, opt_node, plus_node}
 

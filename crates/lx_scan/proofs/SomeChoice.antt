@@ -27,9 +27,9 @@ module _ (inner : List ℕ → List ℕ → Type 0) (d : (name w : List ℕ) →
   decide_defined [] name w = no (λ h. let at : None ≡ Some h.0 = h.1.at in absurd (cc))
   decide_defined (x ∷ ds) name w =
       along out (λ h. stands_first x ds name w h.0 h.1.place h.1.at h.1.is h.2) (either (both (decide_same x.name name) (decide_matches inner d x.tree w)) (decide_defined ds name w)) where
-    out : ((x.name ≡ name) × Matches inner x.tree w) ⊎ DefinedMatches inner ds name w → DefinedMatches inner (x ∷ ds) name w
-    out (inl h) = (x, record { place = 0; at = refl; is = h.0 }, h.1)
-    out (inr h) = (h.0, record { place = suc h.1.place; at = h.1.at; is = h.1.is }, h.2)
+        out : ((x.name ≡ name) × Matches inner x.tree w) ⊎ DefinedMatches inner ds name w → DefinedMatches inner (x ∷ ds) name w
+        out (inl h) = (x, record { place = 0; at = refl; is = h.0 }, h.1)
+        out (inr h) = (h.0, record { place = suc h.1.place; at = h.1.at; is = h.1.is }, h.2)
 
 decide_names : (ds : List PlainDefinition) (n : ℕ) (name w : List ℕ) → Dec (NameMatches ds n name w)
 decide_names ds zero name w = no (λ h. h)
@@ -89,10 +89,10 @@ module _ (spec : PlainSpec) (condition : ℕ) (begin : Bool) (text : List ℕ) w
     at None e = no (λ h. let there : None ≡ Some h.0 = sym e ∙ h.1 in absurd (cc))
     at (Some rule) e =
         along (λ h. (rule, e, h.0, h.1)) (λ h. same h.0 h.1 h.2 h.3) (both (decide_fits rule n) (ℕ_discrete (reach rule n) r)) where
-      same : (other : PlainRule) → slice_get spec.rules j ≡ Some other → Fits spec other condition begin text n → reach other n ≡ r → Fits spec rule condition begin text n × (reach rule n ≡ r)
-      same other at fits is =
-          let one : other ≡ rule = cc in
-          (subst (λ (x : PlainRule). Fits spec x condition begin text n) one fits, subst (λ (x : PlainRule). reach x n ≡ r) one is)
+          same : (other : PlainRule) → slice_get spec.rules j ≡ Some other → Fits spec other condition begin text n → reach other n ≡ r → Fits spec rule condition begin text n × (reach rule n ≡ r)
+          same other at fits is =
+              let one : other ≡ rule = cc in
+              (subst (λ (x : PlainRule). Fits spec x condition begin text n) one fits, subst (λ (x : PlainRule). reach x n ≡ r) one is)
 
   -- rule j fits bytes that reach so far; some rule does
   OfRule : ℕ → ℕ → Type 0
@@ -130,19 +130,21 @@ module _ (spec : PlainSpec) (condition : ℕ) (begin : Bool) (text : List ℕ) w
     | inl none ↦ absurd (none some.0 some.1 some.2)
     | inr first ↦
         let found = first.2 in
-        let of = found.2 in
-        (Some (first.0, found.0), record {
-          rule = of.0;
-          at = of.1;
-          fits = of.2;
-          longest = λ j other m at fits.
-            let far = most (reach other m) (reaches_within other m fits.within) (is_of_some j other m at fits) in
-            let is = of.3 in
-            elim (ℕ_discrete (reach other m) r) as (λ _. (reach other m < reach of.0 found.0) ⊎ ((reach other m ≡ reach of.0 found.0) × (first.0 ≤ j))) [
-              | yes e ↦ inr (e ∙ sym is, first.3 j (slice_get_within spec.rules j other at) (subst (λ (q : ℕ). OfRule q j) e (is_of_rule j other m at fits)))
-              | no less ↦ inl (elim (below_or_not (reach of.0 found.0) (reach other m)) as (λ _. reach other m < reach of.0 found.0) [ inl l ↦ absurd (less (omega (arith, far, is, l))) | inr l ↦ l ])
-            ];
-        })
+        let of = found.2 in (
+          Some (first.0, found.0),
+          record {
+            rule = of.0;
+            at = of.1;
+            fits = of.2;
+            longest = λ j other m at fits.
+                let far = most (reach other m) (reaches_within other m fits.within) (is_of_some j other m at fits) in
+                let is = of.3 in
+                elim (ℕ_discrete (reach other m) r) as (λ _. (reach other m < reach of.0 found.0) ⊎ ((reach other m ≡ reach of.0 found.0) × (first.0 ≤ j))) [
+                  | yes e ↦ inr (e ∙ sym is, first.3 j (slice_get_within spec.rules j other at) (subst (λ (q : ℕ). OfRule q j) e (is_of_rule j other m at fits)))
+                  | no less ↦ inl (elim (below_or_not (reach of.0 found.0) (reach other m)) as (λ _. reach other m < reach of.0 found.0) [ inl l ↦ absurd (less (omega (arith, far, is, l))) | inr l ↦ l ])
+                ];
+          },
+        )
   ]
 
   pub some_choice : (choice : Option (ℕ × ℕ)) × IsChoice spec condition begin text choice

@@ -1,5 +1,5 @@
--- The items of a text by tables: match after match, the choice by answers at each, and what the chosen rule does (XCU `lex`, "Rules in lex" and "Actions
--- in lex").
+-- A mirror of the scanner: the items of a text by tables, match after match, the choice by answers at each, and what the chosen rule does. That they are the items by the
+-- rules of a specification (XCU `lex`, "Rules in lex" and "Actions in lex") is a law, `items_are_by_rules`.
 use Rattle.std.specs.Prelude.{ℕ, zero, suc, ◌+◌, ◌-◌, true, nat_eq, List, [], ◌∷◌, ◌++◌, Option, Some, None, slice_index, drop, take}
 use Rattle.lx_rules.specs.declared.rule.Step.{Step}
 use Rattle.lx_rules.specs.declared.rule.Step.TheVariants.{Echo}

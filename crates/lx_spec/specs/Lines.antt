@@ -1,4 +1,5 @@
--- What a line of the first section says by itself (XCU `lex`, "Definitions in lex").
+-- A mirror of the reader of lines: what a line of the first section says by itself (XCU `lex`, "Definitions in lex"), by the first form that fits it. The verdict on a text
+-- rests on it, of which there is one, and there is one of each text (laws, `one_verdict` and `some_verdict`).
 use Rattle.std.specs.Prelude.{ℕ, ◌==◌, Bool, true, false, not, ◌&&◌, ◌||◌, nat_eq, if◌then◌else◌, List, [], ◌∷◌, length, drop, codes}
 use Rattle.std.specs.List.{list_all}
 use Rattle.std.specs.Cmp.Lexicographic.{pointwise}

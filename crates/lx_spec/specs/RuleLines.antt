@@ -1,4 +1,5 @@
--- What a line of the second section says by itself (XCU `lex`, "Rules in lex").
+-- A mirror of the reader of lines: what a line of the second section says by itself (XCU `lex`, "Rules in lex"), by the first form that fits it. Where its pattern ends is
+-- what the grammar says (a law, `patterns_end`).
 use Rattle.std.specs.Prelude.{ℕ, Bool, not, nat_eq, if◌then◌else◌, List, [], ◌∷◌, take, drop}
 use Rattle.lx_ere.specs.PatternEnd.{pattern_end}
 use Rattle.lx_spec.specs.Bytes.{is_blank, begins_with, run, behind_run}

@@ -1,5 +1,6 @@
--- What is read at the front of a text, whatever it is: total functions, which give a value and what stands behind it. Words are skipped by their length, and a
--- value that can't be is read as another, so what was read is still to be compared with the text.
+-- A mirror of `lenient`: what is read at the front of a text, whatever it is. Total functions give a value and what stands behind it. Words are skipped by their length,
+-- and a value that can't be is read as another, so what was read is still to be compared with the text: that it is the text's table is the contract of `Tables::read`,
+-- and that there is no other a law, `texts_are_one_to_one`.
 use Rattle.std.specs.Prelude.{ℕ, zero, suc, ◌+◌, ◌*◌, ◌-◌, ◌/◌, ◌==◌, nat_lt, min, if◌then◌else◌, List, [], ◌∷◌, ◌++◌, Option, Some, None, drop, length, map, replicate, slice_index}
 use Rattle.std.specs.List.{flat_map, range_with_len}
 use Rattle.std.specs.Char.{is_ascii_digit}
