@@ -39,7 +39,7 @@ module _ (spec : PlainSpec) (leaves : List PlainLeaf) (classes representatives :
     begin = begin;
     text = [];
     there = let e = draft.conditions_are in omega arith;
-    bytes = All-nil;
+    bytes = All-nil (λ (b : ℕ). b < 256);
     leads = ap (λ (s : ℕ). Some s) (draft.starts_are c begin h);
   }
 
