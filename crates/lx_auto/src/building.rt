@@ -5,7 +5,7 @@ ghost use Rattle.lx_rules.specs.views.Specs.{spec_view};
 ghost use Rattle.lx_automaton.specs.Automata.{IsMachine};
 ghost use Rattle.lx_auto.specs.Counts.{count_of_spec};
 ghost use Rattle.lx_automaton.specs.Meaning.{IsAutomatonOf};
-ghost use Rattle.lx_auto.specs.Leading.{AreAllLedTo};
+ghost use Rattle.lx_automaton.specs.Leading.{AreAllLedTo};
 ghost use Rattle.lx_auto.specs.PositionSets.{HasMoreReachedSets};
 
 use crate::drafting::draft_of;

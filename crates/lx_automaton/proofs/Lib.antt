@@ -4,3 +4,4 @@ pub mod ClassSteps
 pub mod ClassRows
 pub mod Members
 pub mod SameAnswers
+pub mod SameStates

@@ -3,6 +3,7 @@ pub mod Splits
 pub mod Completing
 pub mod QuotientSteps
 pub mod Simulating
+pub mod LedBlocks
 pub mod Quotients
 pub mod Merged
 pub mod Containing

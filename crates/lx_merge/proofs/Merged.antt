@@ -10,6 +10,7 @@ use Rattle.lx_automaton.specs.Equivalence.{AreEquivalentMachines, IsMinimal, Has
 use Rattle.lx_automaton.specs.Automata.{HasByteClasses}
 use Rattle.lx_automaton.specs.Meaning.{IsAnswer, IsAutomatonOf}
 use Rattle.lx_automaton.specs.EncodedOptions.{machine_of}
+use Rattle.lx_automaton.specs.Leading.{AreAllLedTo}
 use Rattle.lx_merge.specs.Completion.{total, IsCompletion}
 use Rattle.lx_merge.specs.Partitions.{block, block_count, member_of, IsSound, IsStable}
 use Rattle.lx_merge.specs.Quotients.{AreStates, AreStarts, HaveNoDeadStart, HasDeadStart, AreRowStates, AreLabels, AreTargets}
@@ -19,7 +20,7 @@ use Rattle.lx_automaton.proofs.EncodedLists.{different}
 use Rattle.lx_automaton.proofs.Members.{below_from_any}
 use Rattle.lx_automaton.proofs.SameAnswers.{same_count, same_answer, same_answers}
 use Rattle.lx_merge.proofs.Splits.{blocks_at_most}
-use Rattle.lx_merge.proofs.Quotients.{q, is_machine, quotient_answers, quotient_distinguishable, quotient_live}
+use Rattle.lx_merge.proofs.Quotients.{q, is_machine, quotient_answers, quotient_distinguishable, quotient_live, quotient_led}
 
 module _ (q r : Machine) (is : IsMachine q) (same_steps : HasSameSteps q r) where
   pub kept_answers : (a : Machine) → length q.starts ≡ length a.starts → AreEquivalentMachines a q → AreEquivalentMachines a r
@@ -138,6 +139,10 @@ module _ (a : Machine) (m : Complete) (p : Partition) (starts : List (ℕ × ℕ
   has_state false f e c true h z = absurd ((f refl).at_begin c h z)
   has_state false f e c false h z = absurd ((f refl).elsewhere c h z)
 
+  has_dead : (d : Bool) → (d ≡ true → HasDeadStart p a.starts) → length rows + (if d then 0 else 1) ≡ block_count p → block_count p ≤ length rows → HasDeadStart p a.starts
+  has_dead true f e l = f refl
+  has_dead false f e l = absurd (omega arith)
+
   abbrev made : Machine
   made = q a m p starts rows labels targets is has completion sound stable are_starts are_rows are_labels are_targets (has_state dead isnt_dead rows_long) (few_rows dead is_dead rows_long)
 
@@ -155,6 +160,9 @@ module _ (a : Machine) (m : Complete) (p : Partition) (starts : List (ℕ × ℕ
 
   pub made_live : HasLiveSteps (machine_of starts classes width labels targets)
   made_live = subst HasLiveSteps is_made (record { live = quotient_live a m p starts rows labels targets is has completion sound stable are_starts are_rows are_labels are_targets (has_state dead isnt_dead rows_long) (few_rows dead is_dead rows_long) })
+
+  pub made_led : AreAllLedTo a → AreAllLedTo (machine_of starts classes width labels targets)
+  made_led all = subst AreAllLedTo is_made (quotient_led a m p starts rows labels targets is has completion sound stable are_starts are_rows are_labels are_targets (has_state dead isnt_dead rows_long) (few_rows dead is_dead rows_long) (has_dead dead is_dead rows_long) all)
 
 -- an equivalent automaton is one of the same specification
 pub equivalent_of : (spec : PlainSpec) (a m : Machine) → IsAutomatonOf spec a → length m.starts ≡ length a.starts → AreEquivalentMachines a m → IsAutomatonOf spec m

@@ -1,20 +1,22 @@
--- The automaton of the blocks answers as the automaton does, has no two states alike, and steps to live states only.
-use Rattle.std.proofs.Common.{◌≡◌, ◌≢◌, ℕ, ◌+◌, ◌-◌, ◌*◌, ◌<◌, ◌≤◌, Bool, true, false, Some, None, List, [], ◌∷◌, length, map, slice_index, All, refl, sym, ◌∙◌, ap, arith, inl, inr, ◌⊎◌}
+-- The automaton of the blocks answers as the automaton does, has no two states alike, steps to live states only, and texts lead to its states as to the automaton's.
+use Rattle.std.proofs.Common.{◌≡◌, ◌≢◌, ℕ, ◌+◌, ◌-◌, ◌*◌, ◌<◌, ◌≤◌, Bool, true, false, Some, None, List, [], ◌∷◌, length, map, slice_index, All, refl, sym, ◌∙◌, ap, subst, arith, inl, inr, ◌⊎◌}
 use Rattle.std.proofs.lemmas.Bool.{cases_lt, cases_eq}
 use Rattle.std.proofs.lemmas.List.{length-map, get_or_past}
 use Rattle.std.proofs.lemmas.List.Elements.{All-head, All-tail}
 use Rattle.lx_automaton.specs.Automata.{Machine, IsMachine, HasByteClasses, state_count, start_of, accepted_by, class_target, target_of, answer_from, answer}
 use Rattle.lx_automaton.specs.EncodedOptions.{decoded_option}
 use Rattle.lx_automaton.specs.Equivalence.{AreDistinguishable, IsLive, AreEquivalentMachines}
+use Rattle.lx_automaton.specs.Leading.{IsLedTo, AreAllLedTo}
 use Rattle.lx_merge.specs.Completion.{total, label_of, step_of, after, IsComplete, IsCompletion}
 use Rattle.lx_merge.specs.Partitions.{block, block_count, IsSound, IsStable}
-use Rattle.lx_merge.specs.Quotients.{number_of, AreStarts, AreRowStates, AreLabels, AreTargets}
+use Rattle.lx_merge.specs.Quotients.{number_of, AreStarts, HasDeadStart, AreRowStates, AreLabels, AreTargets}
 use Rattle.lx_merge.specs.Simulations.{Simulates}
 use Rattle.lx_merge.specs.declared.complete.Complete.{Complete}
 use Rattle.lx_merge.specs.declared.partition.Partition.{Partition}
 use Rattle.lx_automaton.proofs.RowMajor.{in_row}
-use Rattle.lx_automaton.proofs.EncodedLists.{decoded_at, decoded_option-some, different}
+use Rattle.lx_automaton.proofs.EncodedLists.{decoded_at, decoded_option-some}
 use Rattle.lx_automaton.proofs.SameAnswers.{answer_at}
+use Rattle.lx_merge.proofs.LedBlocks.{number_dead, number_live, led_state, led_dead_start}
 use Rattle.lx_merge.proofs.Simulating.{classes_of, answered, decoded_option-same, simulates_itself, spelled}
 
 module _ (a : Machine) (m : Complete) (p : Partition) (starts : List (ℕ × ℕ)) (rows labels targets : List ℕ)
@@ -108,20 +110,14 @@ module _ (a : Machine) (m : Complete) (p : Partition) (starts : List (ℕ × ℕ
   in_total : (s : ℕ) → s < state_count a → s + 1 < total m
   in_total s h = let e = completion.states in omega arith
 
-  number_dead : (b : ℕ) → b ≡ 0 → number_of p b ≡ block_count p - 1
-  number_dead b e = rw e refl
-
-  number_live : (b : ℕ) → b ≢ 0 → number_of p b ≡ b - 1
-  number_live b ne = rw (different b 0 ne) refl
-
   start_below : (c : ℕ) (begin : Bool) → c < length a.starts → start_of q c begin < length rows
   start_below c begin h =
       let b = block p (start_of a c begin + 1) in
       let many = are_rows.many in
       let l = sound.below (start_of a c begin + 1) (in_total (start_of a c begin) (is.starts c begin h)) in
       elim (cases_eq b 0) [
-        | inl e ↦ let n = start_row c begin h ∙ number_dead b e in let g = begins c begin h e in omega (arith, blocks)
-        | inr ne ↦ let n = start_row c begin h ∙ number_live b ne in omega arith
+        | inl e ↦ let n = start_row c begin h ∙ number_dead p b e in let g = begins c begin h e in omega (arith, blocks)
+        | inr ne ↦ let n = start_row c begin h ∙ number_live p b ne in omega arith
       ]
 
   start_answer : (c : ℕ) (begin : Bool) (v : List ℕ) → c < length a.starts → All (λ b. b < 256) v → answer q c begin v ≡ answer a c begin v
@@ -135,14 +131,14 @@ module _ (a : Machine) (m : Complete) (p : Partition) (starts : List (ℕ × ℕ
       let z : answer_at a (decoded_option (s + 1)) v ≡ answer a c begin v =
       ap (λ o. answer_at a o v) (decoded_option-some (s + 1) (omega arith)) ∙ ap (λ k. answer_from a k v) one in
       elim (cases_eq b 0) [
-        | inl e ↦ let n = start_row c begin h ∙ number_dead b e in
+        | inl e ↦ let n = start_row c begin h ∙ number_dead p b e in
             let g = begins c begin h e in
             let f = are_rows.few in
             let i : block_count p - 1 < length rows = omega (arith, blocks) in
             let r = row_block (block_count p - 1) i in
             ap (λ k. answer_from q k v) n ∙ dead_answer (block_count p - 1) i (r.1.1 (omega (arith, blocks))) v all
             ∙ ap (λ k. answer_at q (decoded_option k) v) (sym e) ∙ x ∙ sym y ∙ z
-        | inr ne ↦ let n = start_row c begin h ∙ number_live b ne in
+        | inr ne ↦ let n = start_row c begin h ∙ number_live p b ne in
             ap (λ k. answer_from q k v) n ∙ ap (λ o. answer_at q o v) (sym (decoded_option-some b ne)) ∙ x ∙ sym y ∙ z
       ]
 
@@ -207,6 +203,25 @@ module _ (a : Machine) (m : Complete) (p : Partition) (starts : List (ℕ × ℕ
       after_first : (w : List ℕ) → All (λ c. c < m.width) w → after m 0 w ≡ 0
       after_first [] all = refl
       after_first (c ∷ w) all = ap (λ x. after m x w) (complete.stays c (All-head (λ c. c < m.width) c w all)) ∙ after_first w (All-tail (λ c. c < m.width) c w all)
+
+  pub quotient_led : (block_count p ≤ length rows → HasDeadStart p a.starts) → AreAllLedTo a → AreAllLedTo q
+  quotient_led dead all = record {
+    each = λ i h.
+        let l : i < length rows = omega (arith, count) in
+        let x = slice_index rows i in
+        let r = row_block i l in
+        elim (cases_lt (i + 1) (block_count p)) [
+          | inl k ↦ let e = r.1.0 k in
+              let ne : x ≢ 0 = λ z. (let f = ap (λ y. block p y) z ∙ sound.first in omega arith) in
+              let n = completion.states in
+              let t = r.0 in
+              let at : block p x - 1 ≡ i = omega arith in
+              subst (IsLedTo q) at (led_state a q m p is completion simulates refl are_starts.long start_row x ne (omega arith) (all.each (x - 1) (omega arith)))
+          | inr k ↦ let f = are_rows.few in
+              let at : block_count p - 1 ≡ i = omega arith in
+              subst (IsLedTo q) at (led_dead_start a q m p is completion simulates refl are_starts.long start_row (dead (omega arith)))
+        ];
+  }
 
   pub is_machine : IsMachine q
   is_machine = record {

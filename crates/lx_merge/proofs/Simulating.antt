@@ -1,9 +1,9 @@
--- An automaton that simulates a complete one answers by its labels; words of classes are spelled by bytes.
-use Rattle.std.proofs.Common.{◌≡◌, ℕ, suc, ◌+◌, ◌-◌, ◌<◌, ◌≤◌, ◌==◌, ◌&&◌, nat_lt, Bool, true, false, IsTrue, Some, None, List, [], ◌∷◌, length, map, slice_index, All, refl, sym, ◌∙◌, ap, ap₂, arith, inl, inr}
+-- An automaton that simulates a complete one steps and answers as that does; words of classes are spelled by bytes.
+use Rattle.std.proofs.Common.{◌≡◌, ℕ, suc, ◌+◌, ◌-◌, ◌<◌, ◌≤◌, ◌==◌, ◌&&◌, nat_lt, Bool, true, false, IsTrue, Option, Some, None, List, [], ◌∷◌, length, map, slice_index, All, refl, sym, ◌∙◌, ap, ap₂, arith, inl, inr}
 use Rattle.std.proofs.lemmas.Bool.{cases_eq}
 use Rattle.std.proofs.lemmas.Bool.Decides.{eqb_tells, nat_tests}
 use Rattle.std.proofs.lemmas.List.Elements.{All-head, All-tail, All-cons}
-use Rattle.lx_automaton.specs.Automata.{Machine, IsMachine, HasByteClasses, are_numbered}
+use Rattle.lx_automaton.specs.Automata.{Machine, IsMachine, HasByteClasses, state_after, are_numbered}
 use Rattle.lx_automaton.specs.EncodedOptions.{decoded_option}
 use Rattle.lx_merge.specs.Completion.{total, label_of, step_of, after, IsCompletion}
 use Rattle.lx_merge.specs.Simulations.{Simulates}
@@ -43,6 +43,28 @@ module _ (q : Machine) (m : Complete) (encode : ℕ → ℕ) (like : Simulates q
         let hc = like.classes b (All-head (λ b. b < 256) b v all) in
         ap (λ o. answer_at q o (b ∷ v)) (decoded_option-some (encode x) ne) ∙ ap (λ o. answer_at q o v) (like.steps x (slice_index q.classes b) hx hc ne)
         ∙ answered v (step_of m x (slice_index q.classes b)) (like.closed x (slice_index q.classes b) hx hc) (All-tail (λ b. b < 256) b v all)
+  ]
+
+  no_step_after : (v : List ℕ) (x : ℕ) → x < total m → encode x ≡ 0 → All (λ b. b < 256) v → encode (after m x (classes_of q v)) ≡ 0
+  no_step_after [] x hx e all = e
+  no_step_after (b ∷ v) x hx e all =
+      let hc = like.classes b (All-head (λ b. b < 256) b v all) in
+      no_step_after v (step_of m x (slice_index q.classes b)) (like.closed x (slice_index q.classes b) hx hc)
+      (like.no_step x (slice_index q.classes b) hx hc e) (All-tail (λ b. b < 256) b v all)
+
+  nothing_read : (o : Option ℕ) → state_after q o [] ≡ o
+  nothing_read None = refl
+  nothing_read (Some s) = refl
+
+  -- where a text leads
+  pub stepped : (v : List ℕ) (x : ℕ) → x < total m → All (λ b. b < 256) v → state_after q (decoded_option (encode x)) v ≡ decoded_option (encode (after m x (classes_of q v)))
+  stepped [] x hx all = nothing_read (decoded_option (encode x))
+  stepped (b ∷ v) x hx all = elim (cases_eq (encode x) 0) [
+    | inl e ↦ rw (no_step_after (b ∷ v) x hx e all, e) refl
+    | inr ne ↦
+        let hc = like.classes b (All-head (λ b. b < 256) b v all) in
+        ap (λ o. state_after q o (b ∷ v)) (decoded_option-some (encode x) ne) ∙ ap (λ o. state_after q o v) (like.steps x (slice_index q.classes b) hx hc ne)
+        ∙ stepped v (step_of m x (slice_index q.classes b)) (like.closed x (slice_index q.classes b) hx hc) (All-tail (λ b. b < 256) b v all)
   ]
 
 pub decoded_option-same : (a b : ℕ) → decoded_option a ≡ decoded_option b → a ≡ b

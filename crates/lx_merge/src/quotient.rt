@@ -4,6 +4,7 @@ ghost use Rattle.std.specs.Prelude.{◌≡◌, ◌≢◌, ◌<◌, ◌≤◌, �
 ghost use Rattle.lx_automaton.specs.Automata.{IsMachine, state_count};
 ghost use Rattle.lx_merge.specs.Completion.{total, IsComplete, IsCompletion};
 ghost use Rattle.lx_automaton.specs.Equivalence.{AreEquivalentMachines, IsMinimal, HasLiveSteps};
+ghost use Rattle.lx_automaton.specs.Leading.{AreAllLedTo};
 ghost use Rattle.lx_merge.specs.Partitions.{block, block_count, IsSound, IsStable};
 ghost use Rattle.lx_merge.specs.Quotients.{number_of, AreStates, AreStarts, HaveNoDeadStart, HasDeadStart, AreRowStates, AreLabels, AreTargets};
 
@@ -144,6 +145,7 @@ pub(crate) fn quotient(
     ensures answers { IfOk result (λ q. AreEquivalentMachines automaton.now q) }
     ensures minimal { IfOk result (λ q. IsMinimal q) }
     ensures live { IfOk result (λ q. HasLiveSteps q) }
+    ensures led_to { IfOk result (λ q. AreAllLedTo automaton.now → AreAllLedTo q) }
 {
     let width = automaton.classes() as usize;
     let dead = has_dead_start(m, p, automaton.starts());

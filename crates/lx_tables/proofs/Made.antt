@@ -4,12 +4,13 @@ use Rattle.lx_rules.specs.Plain.{PlainSpec}
 use Rattle.lx_rules.specs.Invariant.{IsWellFormed}
 use Rattle.lx_automaton.specs.Automata.{Machine, IsMachine, HasByteClasses, state_count}
 use Rattle.lx_automaton.specs.Equivalence.{AreEquivalentMachines}
+use Rattle.lx_automaton.specs.Leading.{AreAllLedTo}
 use Rattle.lx_automaton.specs.Meaning.{IsAutomatonOf}
 use Rattle.lx_automaton.specs.EncodedOptions.{machine_of}
 use Rattle.lx_tables.specs.Model.{Table, IsTable, AreTablesOf, table_rule}
 use Rattle.lx_tables.specs.Numbered.{AreAllMet, AreStarts, AreAccepted, AreRows}
 use Rattle.lx_tables.proofs.Kept.{table_kept}
-use Rattle.lx_tables.proofs.Reordered.{reordered_machine, reordered_classes, reordered_automaton, reordered_alike, accepts_below}
+use Rattle.lx_tables.proofs.Reordered.{reordered_machine, reordered_classes, reordered_automaton, reordered_alike, reordered_led, accepts_below}
 
 module _ (m : Machine) (states encoded_options : List ℕ) (starts : List (ℕ × ℕ)) (accepted targets : List ℕ) (rules : ℕ)
     (is : IsMachine m) (has : HasByteClasses m) (all : AreAllMet states encoded_options) (long : length encoded_options ≡ state_count m)
@@ -35,3 +36,6 @@ module _ (m : Machine) (states encoded_options : List ℕ) (starts : List (ℕ �
 
   pub made_alike : AreEquivalentMachines m table.machine
   made_alike = reordered_alike m states encoded_options starts accepted targets rules is has all long are_starts are_accepted are_rows few spec of same
+
+  pub made_led : AreAllLedTo m → AreAllLedTo table.machine
+  made_led = reordered_led m states encoded_options starts accepted targets rules is has all long are_starts are_accepted are_rows few

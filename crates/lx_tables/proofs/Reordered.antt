@@ -1,4 +1,4 @@
--- An automaton with its states in another order answers as it did.
+-- An automaton with its states in another order answers as it did, and texts lead to the same states.
 use Rattle.std.proofs.Common.{◌≡◌, ◌≢◌, ℕ, ◌+◌, ◌-◌, ◌*◌, ◌<◌, ◌≤◌, nat_lt, if◌then◌else◌, Bool, true, false, Option, Some, None, List, [], ◌∷◌, length, slice_index, All, refl, sym, ◌∙◌, ap, subst, arith, inl, inr}
 use Rattle.std.proofs.lemmas.Bool.{cases_lt, ltb-true, lt-ltb}
 use Rattle.std.proofs.lemmas.List.{length-map, get_or_past}
@@ -7,6 +7,7 @@ use Rattle.std.proofs.lemmas.Option.{slice_get_within}
 use Rattle.lx_rules.specs.Plain.{PlainSpec}
 use Rattle.lx_automaton.specs.Automata.{Machine, IsMachine, HasByteClasses, state_count, start_of, accepted_by, class_target, target_of, state_after, accepted_at, answer}
 use Rattle.lx_automaton.specs.Equivalence.{AreEquivalentMachines}
+use Rattle.lx_automaton.specs.Leading.{AreAllLedTo}
 use Rattle.lx_automaton.specs.Meaning.{IsAnswer, IsAutomatonOf}
 use Rattle.lx_automaton.specs.EncodedOptions.{decoded_option, machine_of}
 use Rattle.lx_tables.specs.Numbered.{AreAllMet, AreStarts, AreAccepted, AreRows, encoded_option_of, rule_below}
@@ -106,15 +107,42 @@ module _ (m : Machine) (states encoded_options : List ℕ) (starts : List (ℕ �
   start_encoded_option c true h = are_starts.at_begin c h
   start_encoded_option c false h = are_starts.elsewhere c h
 
+  there_start : (c : ℕ) (begin : Bool) → c < length m.starts → IsThere (Some (start_of m c begin))
+  there_start c begin h t e = let f : start_of m c begin ≡ t = cc in let hs = is.starts c begin h in omega arith
+
+  moved_start : (c : ℕ) (begin : Bool) → c < length m.starts → Some (start_of q c begin) ≡ moved (Some (start_of m c begin))
+  moved_start c begin h =
+      let n : start_of q c begin ≡ slice_index encoded_options (start_of m c begin) - 1 = (let x = start_encoded_option c begin h in omega arith) in
+      ap (λ k. Some k) n ∙ sym (moved_some (start_of m c begin) (is.starts c begin h))
+
+  -- where a text leads from a start
+  after_start : (c : ℕ) (begin : Bool) (w : List ℕ) → c < length m.starts → All (λ b. b < 256) w →
+      state_after q (Some (start_of q c begin)) w ≡ moved (state_after m (Some (start_of m c begin)) w)
+  after_start c begin w h bytes = ap (λ o. state_after q o w) (moved_start c begin h) ∙ moved_after w (Some (start_of m c begin)) (there_start c begin h) bytes
+
   answers_below : (c : ℕ) (begin : Bool) (w : List ℕ) → c < length m.starts → All (λ b. b < 256) w → answer q c begin w ≡ rule_below rules (answer m c begin w)
   answers_below c begin w h bytes =
       let s = start_of m c begin in
-      let hs : s < state_count m = is.starts c begin h in
-      let there : IsThere (Some s) = λ t e. let f : s ≡ t = cc in omega arith in
-      let n : start_of q c begin ≡ slice_index encoded_options s - 1 = (let x = start_encoded_option c begin h in omega arith) in
-      let first : Some (start_of q c begin) ≡ moved (Some s) = ap (λ k. Some k) n ∙ sym (moved_some s hs) in
-      ap (λ o. accepted_at q (state_after q o w)) first ∙ ap (λ o. accepted_at q o) (moved_after w (Some s) there bytes)
-      ∙ accepted_moved (state_after m (Some s) w) (there_after w (Some s) there bytes)
+      ap (λ o. accepted_at q o) (after_start c begin w h bytes)
+      ∙ accepted_moved (state_after m (Some s) w) (there_after w (Some s) (there_start c begin h) bytes)
+
+  pub reordered_led : AreAllLedTo m → AreAllLedTo q
+  reordered_led all_led = record {
+    each = λ i h.
+        let l : i < length states = omega (arith, count, places) in
+        let s = slice_index states i in
+        let hs : s < state_count m = (let b = all.met.below i l in omega (arith, long)) in
+        let place : slice_index encoded_options s - 1 ≡ i = (let e = all.met.placed i l in omega arith) in
+        let led = all_led.each s hs in
+        record {
+          condition = led.condition;
+          begin = led.begin;
+          text = led.text;
+          there = let e = are_starts.long in let t = led.there in omega arith;
+          bytes = led.bytes;
+          leads = after_start led.condition led.begin led.text led.there led.bytes ∙ ap (λ o. moved o) led.leads ∙ moved_some s hs ∙ ap (λ k. Some k) place;
+        };
+  }
 
   pub starts_long : length starts ≡ length m.starts
   starts_long = are_starts.long

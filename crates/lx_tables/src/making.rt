@@ -3,6 +3,7 @@
 ghost use Rattle.std.specs.Prelude.{IfOk};
 ghost use Rattle.lx_rules.specs.views.Specs.{spec_view};
 ghost use Rattle.lx_automaton.specs.Equivalence.{AreEquivalentMachines};
+ghost use Rattle.lx_automaton.specs.Leading.{AreAllLedTo};
 ghost use Rattle.lx_automaton.specs.Meaning.{IsAutomatonOf};
 ghost use Rattle.lx_tables.specs.Model.{AreTablesOf};
 
@@ -23,6 +24,7 @@ impl Tables {
         requires { IsAutomatonOf (spec_view spec.now) automaton.now }
         ensures tables { IfOk result (λ tables. AreTablesOf (spec_view spec.now) tables) }
         ensures answers { IfOk result (λ tables. AreEquivalentMachines automaton.now tables.machine) }
+        ensures led_to { IfOk result (λ tables. AreAllLedTo automaton.now → AreAllLedTo tables.machine) }
     {
         specs_are_well_formed();
         let state_order = state_order_of(alloc, automaton)?;

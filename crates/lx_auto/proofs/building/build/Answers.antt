@@ -1,5 +1,5 @@
 use Rattle.lx_rules.specs.views.Specs.{spec_view}
-use Rattle.lx_auto.proofs.AllLedTo.{same_steps_lead}
+use Rattle.lx_automaton.proofs.SameStates.{same_steps_lead}
 use Rattle.lx_auto.proofs.DraftAnswers.{same_steps_answers}
 use Rattle.lx_auto.proofs.building.build.Goals as goal
 

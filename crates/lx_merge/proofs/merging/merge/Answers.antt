@@ -1,5 +1,6 @@
 use Rattle.std.proofs.lemmas.Result.{IfOk-weaker}
 use Rattle.std.proofs.Common.{length, ap, ◌∙◌}
+use Rattle.lx_automaton.proofs.SameStates.{same_steps_lead}
 use Rattle.lx_merge.proofs.Merged.{equivalent_of, kept_answers, kept_minimal, kept_live}
 use Rattle.lx_merge.proofs.merging.merge.Goals as goal
 
@@ -19,3 +20,7 @@ returns-clause-minimal c = IfOk-weaker c.with_byte_classes.result _ _ (λ r same
 pub returns-clause-live : goal.returns-clause-live
 returns-clause-live c = IfOk-weaker c.with_byte_classes.result _ _ (λ r same_steps.
     kept_live c.in_ok-draft.draft r c.in_ok-draft.ensures.machine same_steps c.in_ok-draft.ensures.live) c.with_byte_classes.ensures.steps
+
+pub returns-clause-led_to : goal.returns-clause-led_to
+returns-clause-led_to c = IfOk-weaker c.with_byte_classes.result _ _ (λ r same_steps all.
+    same_steps_lead c.in_ok-draft.draft r c.in_ok-draft.ensures.machine same_steps (c.in_ok-draft.ensures.led_to all)) c.with_byte_classes.ensures.steps

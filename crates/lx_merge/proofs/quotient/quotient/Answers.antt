@@ -1,5 +1,5 @@
 use Rattle.std.proofs.Common.{◌∙◌}
-use Rattle.lx_merge.proofs.Merged.{start_states, made_machine, made_answers, made_minimal, made_live}
+use Rattle.lx_merge.proofs.Merged.{start_states, made_machine, made_answers, made_minimal, made_live, made_led}
 use Rattle.lx_merge.proofs.quotient.quotient.Goals as goal
 
 pub has_dead_start-dead-requires-clause-states : goal.has_dead_start-dead-requires-clause-states
@@ -45,6 +45,16 @@ returns-clause-live c =
     let a = c.args.automaton.now in
     let has = rw c.starts.ensures at c.has_dead_start-dead.ensures in
     made_live a c.args.m.now c.args.p.now _ _ _ c.in_ok-rows.rows.items _ _ c.has_dead_start-dead.result c.classes-width.ensures.machine c.classes-width.ensures.classes c.requires.completion c.requires.sound c.requires.stable
+    (rw c.starts-2.ensures at c.in_ok-starts.ensures) c.in_ok-rows.ensures.rows (rw c.deref.ensures.value at c.in_ok-labels.ensures) (rw c.deref-2.ensures.value at c.in_ok-targets.ensures)
+    c.in_ok-rows.ensures.count has.dead has.none
+    (c.in_ok-classes.ensures.items ∙ c.byte_classes.ensures) c.classes-width.ensures.count)
+
+pub returns-clause-led_to : goal.returns-clause-led_to
+returns-clause-led_to c =
+    rw c.of.ensures (
+    let a = c.args.automaton.now in
+    let has = rw c.starts.ensures at c.has_dead_start-dead.ensures in
+    made_led a c.args.m.now c.args.p.now _ _ _ c.in_ok-rows.rows.items _ _ c.has_dead_start-dead.result c.classes-width.ensures.machine c.classes-width.ensures.classes c.requires.completion c.requires.sound c.requires.stable
     (rw c.starts-2.ensures at c.in_ok-starts.ensures) c.in_ok-rows.ensures.rows (rw c.deref.ensures.value at c.in_ok-labels.ensures) (rw c.deref-2.ensures.value at c.in_ok-targets.ensures)
     c.in_ok-rows.ensures.count has.dead has.none
     (c.in_ok-classes.ensures.items ∙ c.byte_classes.ensures) c.classes-width.ensures.count)
