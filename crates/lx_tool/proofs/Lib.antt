@@ -1,4 +1,5 @@
 pub mod GivenListed
+pub mod Helped
 pub mod NameListLemmas
 pub mod NamesRefused
 pub mod Obeyed

@@ -343,7 +343,7 @@ has_ended gives asked before after old new items (Ok cut) status obeyed failed t
     inl (is, ended_cut gives before after old new names asked (λ e. let nobody = ap length e in absurd (grind arith)) obeyed)
 has_ended gives asked before after old new items (Err failure) status obeyed failed told other some few = inr (failure, other, failed (omega (arith, few, other)))
 
-some_status : (failure : Failure) → 0 < status_of failure
+pub some_status : (failure : Failure) → 0 < status_of failure
 some_status (Specification fault) = omega arith
 some_status (Automaton fault) = omega arith
 some_status (Tables fault) = omega arith

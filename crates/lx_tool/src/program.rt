@@ -1,9 +1,10 @@
 //! The program `lx`, but for the real files and streams.
 
-ghost use Rattle.std.specs.Prelude.{◌≡◌, ◌<◌, ◌≤◌, [], ◌∷◌, Some, Ok, Err, IfOk, IfErr, OnOk, IfSome, length};
+ghost use Rattle.std.specs.Prelude.{◌≡◌, ◌<◌, ◌≤◌, [], ◌∷◌, Some, None, Ok, Err, IfOk, IfErr, OnOk, IfSome, length};
 ghost use Rattle.std.specs.Io.KnownBytes.{Appends, Keeps};
 ghost use Rattle.lx_words.specs.CommandLine.{asked_as, asked_by, plain_order, plain_print, run as run-asked, scan as scan-asked, gen as gen-asked, up as up-asked, words_of};
 ghost use Rattle.lx_tool.specs.Commands.{HasDone, HasEnded, HasFailed, HasObeyed, HasPlaced, stored_specification, stored_text};
+ghost use Rattle.lx_tool.specs.Helping.{AskForHelp};
 ghost use Rattle.lx_tool.specs.Planning.{ListsByRules};
 ghost use Rattle.lx_tool.specs.Sources.{texts_of, whole};
 ghost use Rattle.lx_tool.specs.Statuses.{HasStatusOfCut, WroteReport, status_of};
@@ -62,6 +63,8 @@ pub fn run<R: Threads + Wait + Sync, S: Sources, O: Write, E: Write>(
     ensures known { result ≤ 5 }
     ensures done { result ≡ 0 →
         IfSome (asked_by (words_of words.now)) (HasDone S.gives sources.old sources.new (O.contents out.old) (O.contents out.new) []) }
+    // Where they ask for nothing else, it was for the help or the version.
+    ensures told { result ≡ 0 → asked_by (words_of words.now) ≡ None → AskForHelp (words_of words.now) }
     // All was listed and a file was cut short; or the words, the specification, the tables or a file were refused, and nothing was written but the report of `check`.
     ensures ended { 0 < result → result < 4 →
         HasEnded S.gives (asked_by (words_of words.now)) sources.old sources.new (O.contents out.old) (O.contents out.new) result }
@@ -98,6 +101,8 @@ pub fn run_with<R: Threads + Wait + Sync, S: Sources, T: Targets, O: Write + Out
     ensures known { result ≤ 5 }
     ensures done { result ≡ 0 →
         IfSome (asked_by (words_of words.now)) (HasDone S.gives sources.old sources.new (O.contents out.old) (O.contents out.new) []) }
+    // Where they ask for nothing else, it was for the help or the version.
+    ensures told { result ≡ 0 → asked_by (words_of words.now) ≡ None → AskForHelp (words_of words.now) }
     // The file of `-o` was made.
     ensures placed { result ≡ 0 → HasPlaced S.gives T.places sources.old targets.old targets.new (asked_by (words_of words.now)) }
     // All was listed and a file was cut short; or the words, the specification, the tables or a file were refused, and nothing was written but the report of `check`.
@@ -218,6 +223,7 @@ fn execute<'a, R: Threads + Wait + Sync, S: Sources, T: Targets, O: Write>(
     out: &mut O,
 ) -> Result<Vec<&'a str>, Failure<'a>>
     ensures ok { IfOk result (λ cut. HasObeyed S.gives sources.old sources.new (O.contents out.old) (O.contents out.new) (texts_of cut.items) (asked_by (words_of words.now))) }
+    ensures told { IfOk result (λ _. asked_by (words_of words.now) ≡ None → AskForHelp (words_of words.now)) }
     ensures placed { IfOk result (λ _. HasPlaced S.gives T.places sources.old targets.old targets.new (asked_by (words_of words.now))) }
     ensures err { IfErr result (HasFailed S.gives (asked_by (words_of words.now)) sources.old (O.contents out.old) (O.contents out.new)) }
 {

@@ -1,7 +1,9 @@
-use Rattle.std.proofs.Common.{map}
+use Rattle.std.proofs.Common.{map, ◌≡◌, None}
 use Rattle.lx_words.specs.CommandLine.{asked_by}
 use Rattle.lx_tool.specs.Commands.{HasObeyed}
 use Rattle.lx_tool.specs.Sources.{texts_of}
+use Rattle.lx_tool.specs.Helping.{AskForHelp}
+use Rattle.lx_tool.proofs.Helped.{at_status_0}
 use Rattle.lx_tool.proofs.Obeyed.{has_done, has_ended, said_err, said_ok}
 use Rattle.lx_tool.proofs.program.run_with.Goals as goal
 
@@ -27,3 +29,13 @@ returns-clause-done g c =
     has_done gives asked c.args.sources.now c.execute-ended.new.sources old new (λ cut. cut.items) c.say-ended.result c.tell.result
     (said_ok old mid new (λ cut held. HasObeyed gives c.args.sources.now c.execute-ended.new.sources old held (texts_of cut.items) asked) c.execute-ended.result c.say-ended.result c.execute-ended.ensures.ok c.say-ended.ensures.ok)
     c.tell.ensures.ok c.tell.ensures.err
+
+pub returns-clause-told : goal.returns-clause-told
+returns-clause-told g c =
+    let words = map (λ word. word.bytes.items) c.args.words.now in
+    let old = g.O.Write.contents c.args.out.now in
+    let mid = g.O.Write.contents c.execute-ended.new.out in
+    let new = g.O.Write.contents c.say-ended.new.out in
+    at_status_0 (asked_by words ≡ None → AskForHelp words) c.say-ended.result c.tell.result
+    (said_ok old mid new (λ cut held. asked_by words ≡ None → AskForHelp words) c.execute-ended.result c.say-ended.result c.execute-ended.ensures.told c.say-ended.ensures.ok)
+    c.tell.ensures.err

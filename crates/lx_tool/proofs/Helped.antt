@@ -1,0 +1,31 @@
+-- Words that ask for nothing and were not refused ask for the help or the version.
+use Rattle.std.proofs.Common.{ℕ, ◌≡◌, List, Option, Some, None, Result, Ok, Err, IfOk, IfErr, refl, sym, ◌∙◌, subst, arith}
+use Rattle.clap.specs.declared.error.Error.{Error}
+use Rattle.clap.specs.Words.{kind_of}
+use Rattle.lx_words.specs.CommandLine.{Asked, IsFault, IsTold, asked_as}
+use Rattle.lx_words.specs.declared.request.Refusal.{Refusal}
+use Rattle.lx_words.specs.declared.request.Request.{Request}
+use Rattle.lx_words.specs.declared.request.Request.TheVariants as request
+use Rattle.lx_tool.specs.Helping.{AskForHelp}
+use Rattle.lx_tool.specs.Statuses.{status_of}
+use Rattle.lx_tool.specs.declared.failure.Failure.{Failure}
+use Rattle.lx_tool.proofs.Obeyed.{some_status}
+
+-- no other request asks for nothing
+pub ask_for_help : (words : List (List ℕ)) (r : Request) (asked : Option Asked) (result : Result Request Refusal) → asked ≡ asked_as r → result ≡ Ok r →
+    ((text : Error) → result ≡ Ok (request.Told text) → IsTold (kind_of text) × IsFault words (kind_of text)) → asked ≡ None → AskForHelp words
+ask_for_help words (request.Told text) asked result is read told none = let t = told text read in record { kind = kind_of text; told = t.0; answer = t.1 }
+ask_for_help words request.Stored asked result is read told none = absurd (let e = sym is ∙ none in cc)
+ask_for_help words (request.Run o) asked result is read told none = absurd (let e = sym is ∙ none in cc)
+ask_for_help words (request.Scan o) asked result is read told none = absurd (let e = sym is ∙ none in cc)
+ask_for_help words (request.Gen w) asked result is read told none = absurd (let e = sym is ∙ none in cc)
+ask_for_help words (request.Up w) asked result is read told none = absurd (let e = sym is ∙ none in cc)
+ask_for_help words (request.Check w) asked result is read told none = absurd (let e = sym is ∙ none in cc)
+ask_for_help words (request.Explain w) asked result is read told none = absurd (let e = sym is ∙ none in cc)
+ask_for_help words (request.Show w) asked result is read told none = absurd (let e = sym is ∙ none in cc)
+ask_for_help words (request.Import w) asked result is read told none = absurd (let e = sym is ∙ none in cc)
+
+-- what is known where it went well is known at status 0
+pub at_status_0 : {V : Type 0} (P : Type 0) (ended : Result V Failure) (status : ℕ) → IfOk ended (λ cut. P) → IfErr ended (λ failure. status ≡ status_of failure) → status ≡ 0 → P
+at_status_0 P (Ok cut) status held other none = held
+at_status_0 P (Err failure) status held other none = let some = some_status failure in absurd (omega (arith, some, other, none))
