@@ -12,18 +12,18 @@ use Rattle.lx_tool.specs.declared.failure.Failure.{Failure}
 use Rattle.lx_tool.proofs.Obeyed.{some_status}
 
 -- no other request asks for nothing
-pub ask_for_help : (words : List (List ℕ)) (r : Request) (asked : Option Asked) (result : Result Request Refusal) → asked ≡ asked_as r → result ≡ Ok r →
-    ((text : Error) → result ≡ Ok (request.Told text) → IsTold (kind_of text) × IsFault words (kind_of text)) → asked ≡ None → AskForHelp words
-ask_for_help words (request.Told text) asked result is read told none = let t = told text read in record { kind = kind_of text; told = t.0; answer = t.1 }
-ask_for_help words request.Stored asked result is read told none = absurd (let e = sym is ∙ none in cc)
-ask_for_help words (request.Run o) asked result is read told none = absurd (let e = sym is ∙ none in cc)
-ask_for_help words (request.Scan o) asked result is read told none = absurd (let e = sym is ∙ none in cc)
-ask_for_help words (request.Gen w) asked result is read told none = absurd (let e = sym is ∙ none in cc)
-ask_for_help words (request.Up w) asked result is read told none = absurd (let e = sym is ∙ none in cc)
-ask_for_help words (request.Check w) asked result is read told none = absurd (let e = sym is ∙ none in cc)
-ask_for_help words (request.Explain w) asked result is read told none = absurd (let e = sym is ∙ none in cc)
-ask_for_help words (request.Show w) asked result is read told none = absurd (let e = sym is ∙ none in cc)
-ask_for_help words (request.Import w) asked result is read told none = absurd (let e = sym is ∙ none in cc)
+pub ask_for_help : (words : List (List ℕ)) (r : Request) (asked : Option Asked) → asked ≡ asked_as r →
+    ((text : Error) → ◌≡◌ {A = Result Request Refusal} (Ok r) (Ok (request.Told text)) → IsTold (kind_of text) × IsFault words (kind_of text)) → asked ≡ None → AskForHelp words
+ask_for_help words (request.Told text) asked is told none = let t = told text refl in record { kind = kind_of text; told = t.0; answer = t.1 }
+ask_for_help words request.Stored asked is told none = absurd (let e = sym is ∙ none in cc)
+ask_for_help words (request.Run o) asked is told none = absurd (let e = sym is ∙ none in cc)
+ask_for_help words (request.Scan o) asked is told none = absurd (let e = sym is ∙ none in cc)
+ask_for_help words (request.Gen w) asked is told none = absurd (let e = sym is ∙ none in cc)
+ask_for_help words (request.Up w) asked is told none = absurd (let e = sym is ∙ none in cc)
+ask_for_help words (request.Check w) asked is told none = absurd (let e = sym is ∙ none in cc)
+ask_for_help words (request.Explain w) asked is told none = absurd (let e = sym is ∙ none in cc)
+ask_for_help words (request.Show w) asked is told none = absurd (let e = sym is ∙ none in cc)
+ask_for_help words (request.Import w) asked is told none = absurd (let e = sym is ∙ none in cc)
 
 -- what is known where it went well is known at status 0
 pub at_status_0 : {V : Type 0} (P : Type 0) (ended : Result V Failure) (status : ℕ) → IfOk ended (λ cut. P) → IfErr ended (λ failure. status ≡ status_of failure) → status ≡ 0 → P

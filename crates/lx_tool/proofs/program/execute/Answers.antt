@@ -12,4 +12,4 @@ returns-clause-ok g c =
 
 pub returns-clause-told : goal.returns-clause-told
 returns-clause-told g c =
-    ask_for_help (map (λ word. word.bytes.items) c.args.words.now) c.in-Ok.order _ _ c.in-Ok.ensures.asked c.in-Ok.is c.in-Ok.ensures.told
+    ask_for_help (map (λ word. word.bytes.items) c.args.words.now) c.in-Ok.order _ c.in-Ok.ensures.asked c.in-Ok.ensures.told
