@@ -20,6 +20,9 @@ const BYTES: usize = 50_000;
 // 32 MB are held of later files, and a piece by each of two workers; 64 pieces are between the threads.
 const MOST_PIECES: u64 = (1 << 25) / (40 * 256) + 2 + 64;
 
+// The bound is reached before the first file is done: a list takes at most twice the memory of its items.
+const LEAST_PIECES: u64 = (1 << 25) / (2 * 40 * 256);
+
 // So many turns without a pass of another worker: it stands still.
 const TURNS: u32 = 200_000;
 
@@ -80,6 +83,9 @@ fn few_pieces_of_later_files_are_held(rt: HostRuntime) -> Result<(), Fail> {
     let ended = scan_over(&rt, alloc, &plan, 2, &gate, &mut out)?;
     assert_eq!(rt; ended, (Ok(()), 0));
     let passed = gate.by_then.load(Ordering::SeqCst);
-    assert!(rt; passed <= MOST_PIECES, "{passed} pieces of later files");
+    assert!(rt;
+        (LEAST_PIECES..=MOST_PIECES).contains(&passed),
+        "{passed} pieces of later files"
+    );
     Ok(())
 }

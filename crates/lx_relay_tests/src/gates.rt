@@ -79,6 +79,7 @@ pub(crate) struct PieceGate {
     held: u32,
     pub(crate) closed: [AtomicBool; 2],
     passes: AtomicU64,
+    has_held: AtomicBool,
     gave_up: AtomicBool,
 }
 
@@ -88,6 +89,7 @@ impl PieceGate {
             held,
             closed: [AtomicBool::new(false), AtomicBool::new(false)],
             passes: AtomicU64::new(0),
+            has_held: AtomicBool::new(false),
             gave_up: AtomicBool::new(false),
         }
     }
@@ -97,17 +99,20 @@ impl PieceGate {
         self.passes.load(Ordering::SeqCst)
     }
 
-    pub(crate) fn gave_up(&self) -> bool {
-        self.gave_up.load(Ordering::SeqCst)
+    /// Whether a pass came to where it is held, and went on when the other file was closed.
+    pub(crate) fn has_held(&self) -> bool {
+        self.has_held.load(Ordering::SeqCst) && !self.gave_up.load(Ordering::SeqCst)
     }
 }
 
 impl Gate for PieceGate {
     fn pass(&self, _worker: u8, file: u32, number: u64) {
         self.passes.fetch_add(1, Ordering::SeqCst);
-        let is_held = (file, number) == (self.held, 1);
-        if is_held && !turns_until_set(self.closed.as_slice(), file as usize) {
-            self.gave_up.store(true, Ordering::SeqCst);
+        if (file, number) == (self.held, 1) {
+            self.has_held.store(true, Ordering::SeqCst);
+            if !turns_until_set(self.closed.as_slice(), file as usize) {
+                self.gave_up.store(true, Ordering::SeqCst);
+            }
         }
     }
 }

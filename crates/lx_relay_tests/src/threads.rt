@@ -46,7 +46,7 @@ fn a_file_is_handed_on_whole_while_a_worker_is_held_in_another(
         let gate = PieceGate::new(held);
         let keeper = telling_keeper(alloc, &plan, gate.closed.as_slice())?;
         let (keeper, ended) = scan_all(&rt, alloc, &plan, 2, &gate, keeper);
-        assert!(rt; !gate.gave_up(), "held in file {held}");
+        assert!(rt; gate.has_held(), "held in file {held}");
         assert_eq!(rt;
             (ended, gate.passes(), keeper.calls),
             (Ok(()), 4, 4),
