@@ -18,7 +18,7 @@ pub(crate) const MACROS: &[u8] =
 #define @__LOOP(state) \
     @__LINES(newline |= @__STEPS(state, 10, 1);) \
     for (;;) { \
-        if (end - p < 4) { \
+        if (p >= by_one) { \
             while (p != end && @__STEPS(state, *p, 1)) p++; \
             break; \
         } \
@@ -50,16 +50,18 @@ pub(crate) const MACROS: &[u8] =
 /// The next match, up to the starts.
 pub(crate) const BEGIN_MATCH: &[u8] = br#"    (void)@__mark;
     if (kind == @_END) {
+        /* From here on there are fewer than four bytes, and loops go on one by one. */
+        const unsigned char *const by_one = s->size < 4 ? text : end - 3;
         /* The last place from which a step led away where a rule is accepted, and that rule. */
         const unsigned char *last;
         unsigned rule;
         @__LINES(int newline;)
+        (void)by_one;
 @__begin:
         from = last = p;
         rule = 0;
         @__LINES(newline = 0;)
-        line = s->line;
-        line_start = s->line_start;
+        @__LINES(line = s->line; line_start = s->line_start;)
         if (p == end) {
             if (!s->is_last) goto @__more;
             goto @__done;

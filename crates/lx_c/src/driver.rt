@@ -82,14 +82,13 @@ static void @__hand_over(@_scanner *s, const void *text, size_t size, int is_las
 {
     const unsigned char *const text = s->text, *const end = text + s->size;
     const unsigned char *from = text + s->from, *p = text + s->at;
-    size_t line = s->line, line_start = s->line_start;
+    @__LINES(size_t line = s->line; size_t line_start = s->line_start;)
     int kind = @_END, at_line_begin = s->at_line_begin, condition = s->condition;
     if (s->pending) {
         kind = @__perform(s, s->pending);
         condition = s->condition;
         if (kind != @_END) {
-            line = s->from_line;
-            line_start = s->from_line_start;
+            @__LINES(line = s->from_line; line_start = s->from_line_start;)
         }
     }
 "#;
@@ -100,8 +99,7 @@ pub(crate) const WALK: &[u8] = br#"    while (kind == @_END) {
         unsigned rule;
         @__LINES(int newline = 0;)
         from = p;
-        line = s->line;
-        line_start = s->line_start;
+        @__LINES(line = s->line; line_start = s->line_start;)
         if (p == end) {
             kind = s->is_last ? @_END : @_MORE;
             break;
@@ -157,16 +155,16 @@ pub(crate) const WALK: &[u8] = br#"    while (kind == @_END) {
 
 /// What is done with a match, and the calls behind it.
 pub(crate) const FURTHER_CALLS: &[u8] = br#"    s->from = (size_t)(from - text);
-    s->from_line = line;
-    s->from_line_start = line_start;
+    @__LINES(s->from_line = line; s->from_line_start = line_start;)
     s->at = (size_t)(p - text);
     s->at_line_begin = at_line_begin;
     t->kind = kind;
     t->text = (const char *)from;
     t->length = (size_t)(p - from);
     t->start = s->before + s->from;
-    t->line = line;
-    t->line_start = line_start;
+    t->line = 1;
+    t->line_start = 0;
+    @__LINES(t->line = line; t->line_start = line_start;)
     return kind;
 }
 
