@@ -1,6 +1,6 @@
 //! Where the program's files come from.
 
-ghost use Rattle.std.specs.Prelude.{◌≡◌, ℕ, List, [], IfOk, map};
+ghost use Rattle.std.specs.Prelude.{◌≡◌, ℕ, List, [], IfOk, map, ⊤, Err};
 ghost use Rattle.lx_piece.specs.Plans.{PlainInput, input_view};
 ghost use Rattle.lx_tool.specs.Sources.{GivesFront, inputs_of, is_among};
 
@@ -40,9 +40,13 @@ pub trait Sources {
     /// Between one state and a later one this input was given for this name.
     ghost gives: { Self → List ℕ → PlainInput → Self → Type 0 };
 
+    /// In this state the file with this name can't be opened. Sources that know nothing of it, as those of a system do, say nothing.
+    ghost lacks: { Self → List ℕ → Type 0 } = { λ _ _. ⊤ };
+
     /// The file with this name, as far as it can be read. NotRead is for what can't be opened.
     fn read(&mut self, alloc: Global, name: &str) -> Result<Input, SourceFault>
-        ensures { IfOk result (λ input. gives self.old name.now (input_view input) self.new) };
+        ensures given { IfOk result (λ input. gives self.old name.now (input_view input) self.new) }
+        ensures lacks { result ≡ Err SourceFault.NotRead → lacks self.old name.now };
 
     /// The same of a file that is a list of names with this separator, of which no more than so many are wanted: the file as far as it can be read, or a front part of it
     /// that has more names, each with the separator behind it.
@@ -53,7 +57,8 @@ pub trait Sources {
         separator: u8,
         most: usize,
     ) -> Result<Input, SourceFault>
-        ensures { IfOk result (λ input. GivesFront gives self.old name.now separator most (input_view input) self.new) }
+        ensures given { IfOk result (λ input. GivesFront gives self.old name.now separator most (input_view input) self.new) }
+        ensures lacks { result ≡ Err SourceFault.NotRead → lacks self.old name.now }
     {
         self.read(alloc, name)
     }
@@ -126,6 +131,8 @@ impl Sources for ListSources<'_> {
     ghost use Rattle.lx_tool.specs.Sources.{IsFirstNamed, NoneIsNamed};
 
     ghost gives = { λ old name input new. (new ≡ old) × IsFirstNamed old name input };
+
+    ghost lacks = { λ old name. NoneIsNamed old name };
 
     /// The first file with this name, and NotRead exactly where there is none.
     fn read(&mut self, alloc: Global, name: &str) -> Result<Input, SourceFault>
