@@ -2,7 +2,7 @@
 
 ghost use Rattle.std.specs.Prelude.{◌≡◌, ◌<◌, ◌≤◌, ◌++◌, OnOk, codes, decimal, length};
 ghost use Rattle.std.specs.List.{flat_map};
-ghost use Rattle.lx_scan.specs.ItemParts.{IsItemOf, IsKindAmong, NamesKindAmong};
+ghost use Rattle.lx_scan.specs.ItemParts.{IsItemOf, IsKindAmong, NamesKindAmong, line_of as line_number, start_of, len_of};
 ghost use Rattle.lx_piece.specs.Plans.{files_of, bytes_of, kinds_of};
 ghost use Rattle.lx_line.specs.Escapes.{escaped};
 ghost use Rattle.lx_line.specs.Lines.{class_text, name_text, kind_text, line_of, cut_line};
@@ -90,12 +90,16 @@ pub fn push_kind(line: &mut Vec<u8>, plan: &Plan, item: &Item) -> Result<(), All
     }
 }
 
-/// Puts the line of an item of a file behind what the block holds. Where memory is refused a part of it stands there.
-#[inline(never)]
-pub fn push_line(block: &mut Vec<u8>, plan: &Plan, file: u32, item: &Item) -> Result<(), AllocError>
-    requires file { file < files_of plan.now }
-    requires item { IsItemOf (kinds_of plan.now) (bytes_of plan.now file) item.now }
-    ensures { OnOk result (block.new.items ≡ block.old.items ++ line_of plan.now file item.now) }
+/// Puts the fields of the line of an item, which stand before its text, behind what the block holds. Where memory is refused a part of
+/// them stands there.
+pub fn push_fields(
+    block: &mut Vec<u8>,
+    plan: &Plan,
+    file: u32,
+    item: &Item,
+) -> Result<(), AllocError>
+    requires { NamesKindAmong (kinds_of plan.now) item.now }
+    ensures { OnOk result (block.new.items ≡ block.old.items ++ (decimal file ++ codes " " ++ class_text item.now ++ codes " " ++ kind_text plan.now item.now ++ codes " " ++ decimal (line_number item.now) ++ codes " " ++ decimal (start_of item.now) ++ codes " " ++ decimal (len_of item.now) ++ codes " ")) }
 {
     let numbers = numbers_of(item);
     push_field(block, u64::from(file))?;
@@ -103,6 +107,17 @@ pub fn push_line(block: &mut Vec<u8>, plan: &Plan, file: u32, item: &Item) -> Re
     push_field(block, numbers.line)?;
     push_field(block, numbers.start as u64)?;
     push_field(block, numbers.len as u64)?;
+    Ok(())
+}
+
+/// Puts the line of an item of a file behind what the block holds. Where memory is refused a part of it stands there.
+#[inline(never)]
+pub fn push_line(block: &mut Vec<u8>, plan: &Plan, file: u32, item: &Item) -> Result<(), AllocError>
+    requires file { file < files_of plan.now }
+    requires item { IsItemOf (kinds_of plan.now) (bytes_of plan.now file) item.now }
+    ensures { OnOk result (block.new.items ≡ block.old.items ++ line_of plan.now file item.now) }
+{
+    push_fields(block, plan, file, item)?;
     push_text(block, item.text(plan.bytes(file)))?;
     block.extend_from_slice(b"\n")
 }

@@ -107,3 +107,29 @@ pub fn place_text(buf: &mut [u8], at: usize, bytes: &[u8], start: usize, len: us
     }
     place_long(buf, at, bytes, start, len)
 }
+
+// A text of at most 16 bytes. A copy of them has 16 bytes more, which can be read too.
+fn place_copied(buf: &mut [u8], at: usize, text: &[u8]) -> usize
+    requires few { length text.now ≤ 16 }
+    requires room { at + 4 * length text.now + 16 ≤ length buf.old }
+    ensures placed { Placed buf.old buf.new at (flat_map escaped text.now) result }
+    ensures short { result ≤ at + 4 * length text.now }
+{
+    let mut bytes = [0; 32];
+    bytes[..text.len()].copy_from_slice(text);
+    place_text(buf, at, &bytes, 0, text.len())
+}
+
+/// A text behind which nothing has to be there to be read: so its last 16 bytes are placed by themselves.
+pub fn place_any_text(buf: &mut [u8], at: usize, text: &[u8]) -> usize
+    requires { at + 4 * length text.now + 16 ≤ length buf.old }
+    ensures placed { Placed buf.old buf.new at (flat_map escaped text.now) result }
+    ensures short { result ≤ at + 4 * length text.now }
+{
+    if text.len() <= 16 {
+        return place_copied(buf, at, text);
+    }
+    let front = text.len() - 16;
+    let end = place_text(buf, at, text, 0, front);
+    place_copied(buf, end, &text[front..])
+}

@@ -1,4 +1,5 @@
 pub mod Appending
+pub mod Parting
 pub mod Stepping
 pub mod Turning
 pub mod WholeLines

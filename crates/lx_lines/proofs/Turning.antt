@@ -3,7 +3,6 @@ use Rattle.std.proofs.Common.{ℕ, ◌≡◌, ◌+◌, ◌<◌, suc, ◌==◌, i
 use Rattle.std.proofs.lemmas.Bool.{cases_eq, eq-eqb, ne_eqb}
 use Rattle.lx_piece.specs.declared.piece.Piece.{Piece}
 use Rattle.lx_piece.specs.declared.reader.ReaderFault.{ReaderFault}
-use Rattle.lx_piece.specs.declared.reader.ReaderFault.TheVariants.{Device, Memory}
 use Rattle.lx_piece.specs.Pieces.{IsPrefix, is_closing, piece_at, piece_by, pieces_of, pieces_to}
 use Rattle.lx_piece.specs.PieceLaws.{marked_last}
 use Rattle.lx_piece.specs.Plans.{Planned, IsPlan, files_of}
@@ -11,7 +10,8 @@ use Rattle.lx_piece.specs.Turns.{HasTurn, Turn, turn_after}
 use Rattle.lx_lines.specs.Lines.{piece_lines}
 use Rattle.lx_lines.specs.Listings.{AreWhole, IsTurnOf, lines_before, listing_of, listing_to, taken_lines}
 use Rattle.lx_lines.specs.ListingLaws.{lines_one, prefix_behind, prefix_then, whole_lines}
-use Rattle.lx_lines.specs.Printing.{PrintsPart, PrintsTo, WrotePrefix, shown_lines}
+use Rattle.lx_lines.specs.Parts.{WrotePart}
+use Rattle.lx_lines.specs.Printing.{PrintsPart, PrintsTo, shown_lines}
 use Rattle.lx_lines.specs.PrintingLaws.{turn_begins}
 use Rattle.lx_lines.specs.Shown.{ShownItems, shown}
 use Rattle.lx_lines.proofs.WholeLines.{piece_whole}
@@ -93,19 +93,16 @@ prints_piece wrote plan turn after old new p bytes is has lines next w =
       due = λ _. ap (λ bs. lines_before plan turn ++ bs) lines ∙ due_next plan turn p is has ∙ ap (λ (t : Turn). lines_before plan t) (sym next);
     }
 
-not_memory : (fault : ReaderFault) → fault ≡ Device → fault ≡ Memory → ⊥
-not_memory fault d m = (cc)
-
 -- one that failed in its lines
-pub prints_in_part : {S : Type 0} (wrote : S → List ℕ → S → Type 0) (plan : Planned) (turn : Turn) (old new : S) (p : Piece ShownItems) (bytes : List ℕ) (fault : ReaderFault) → IsPlan plan → HasTurn shown plan turn p → bytes ≡ shown_lines p → fault ≡ Device → WrotePrefix wrote old bytes new → PrintsPart wrote (record { plan = plan; turn = turn; sink = old }) fault (record { plan = plan; turn = turn; sink = new })
-prints_in_part wrote plan turn old new p bytes fault is has lines device w =
+pub prints_in_part : {S : Type 0} (wrote : S → List ℕ → S → Type 0) (plan : Planned) (turn : Turn) (old new : S) (p : Piece ShownItems) (fault : ReaderFault) → IsPlan plan → HasTurn shown plan turn p → WrotePart wrote old fault (shown_lines p) new → PrintsPart wrote (record { plan = plan; turn = turn; sink = old }) fault (record { plan = plan; turn = turn; sink = new })
+prints_in_part wrote plan turn old new p fault is has part =
     record {
-      bytes = w.0;
-      written = w.2;
-      whole = λ memory. absurd (not_memory fault device memory);
+      bytes = part.front;
+      written = part.written;
+      whole = part.whole;
       prefix = λ _.
-          prefix_then (lines_before plan turn ++ w.0) (lines_before plan turn ++ bytes) (listing_of plan)
-          (prefix_behind (lines_before plan turn) w.0 bytes w.1)
-          (subst (λ (bs : List ℕ). IsPrefix bs (listing_of plan)) (sym (ap (λ bs. lines_before plan turn ++ bs) lines ∙ due_next plan turn p is has))
+          prefix_then (lines_before plan turn ++ part.front) (lines_before plan turn ++ shown_lines p) (listing_of plan)
+          (prefix_behind (lines_before plan turn) part.front (shown_lines p) part.prefix)
+          (subst (λ (bs : List ℕ). IsPrefix bs (listing_of plan)) (sym (due_next plan turn p is has))
           (turn_begins plan (turn_after plan turn) (after_is plan turn p is has)));
     }

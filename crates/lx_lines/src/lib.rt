@@ -3,6 +3,7 @@
 
 mod listing;
 mod maker;
+mod parts;
 mod printer;
 mod printing;
 mod shown;

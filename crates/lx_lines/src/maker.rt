@@ -2,6 +2,7 @@
 
 ghost use Rattle.std.specs.Prelude.{◌≡◌};
 
+use crate::parts::are_long;
 use crate::shown::Shown;
 use crate::spares::{Spares, emptied};
 use lx_line::push_lines;
@@ -9,7 +10,11 @@ use lx_piece::{Maker, Plan};
 use lx_scan::Item;
 use std::alloc::{AllocError, Global};
 
-/// Makes the lines of a piece where many pieces are on their way, and else leaves its items.
+// The texts of a piece of which a worker makes the lines have so many bytes at most. Those of longer ones leave in parts, so that there is no
+// block of them.
+const MOST: usize = 262_144;
+
+/// Makes the lines of a piece where many pieces are on their way and its texts aren't long, and else leaves its items.
 #[derive(Clone, Copy, Drop)]
 pub struct LineMaker<Y: Spares> {
     alloc: Global,
@@ -50,7 +55,7 @@ impl<Y: Spares> Maker for LineMaker<Y> {
         }
         self.sent = self.sent.wrapping_add(1);
         self.spares.send();
-        if !self.spares.are_many(file, self.sent) {
+        if !self.spares.are_many(file, self.sent) || are_long(items.as_slice(), MOST) {
             return Shown::of_items(plan, file, items);
         }
         let mut block = emptied(self.alloc, self.spares.take_block());

@@ -3,20 +3,24 @@
 ghost use Rattle.std.specs.Prelude.{◌≡◌, ◌<◌, IfOk, IfErr, OnOk};
 ghost use Rattle.lx_piece.specs.Plans.{files_of};
 ghost use Rattle.lx_piece.specs.Turns.{HasTurn, turn_after};
+ghost use Rattle.lx_lines.specs.Parts.{WrotePart};
 ghost use Rattle.lx_lines.specs.Printing.{PrintsTo, PrintsPart, printing, shown_lines, turn_of};
 ghost use Rattle.lx_lines.specs.Shown.{shown};
 
 use crate::maker::LineMaker;
+use crate::parts::write_cut;
 use crate::shown::Shown;
 use crate::sink::LineSink;
-use crate::spares::Spares;
+use crate::spares::{Spares, emptied};
 use lx_line::push_cut_line;
 use lx_piece::{Piece, Plan, ReaderFault, Taker};
 use std::alloc::{AllocError, Global};
 use std::snapshot::Snapshot;
 
 /// Writes the lines of a plan's pieces, which it is handed in the plan's order, with the cut line behind those of a file whose
-/// reading failed. The lines of a piece are one block. Where memory is refused for it, nothing of the piece is written.
+/// reading failed. The lines of a piece are one block. Where memory is refused for it, nothing of the piece is written. Where the texts
+/// of a piece are long, and the sink takes parts, its lines leave in parts, of which a block never has more than some: memory that is
+/// refused then is refused between two lines.
 #[derive(Drop)]
 pub struct Printer<Y: Spares, S: LineSink> {
     pub(crate) alloc: Global,
@@ -47,6 +51,72 @@ fn block_of<Y: Spares>(
         push_cut_line(&mut block, file)?;
     }
     Ok(block)
+}
+
+// Writes the lines of a piece as one block.
+fn write_whole<Y: Spares, S: LineSink>(
+    alloc: Global,
+    spares: &Y,
+    plan: &Plan,
+    piece: Piece<Shown>,
+    sink: &mut S,
+) -> Result<(), ReaderFault>
+    requires plan { piece.items.plan ≡ plan.now }
+    requires same_file { piece.items.file ≡ piece.file }
+    requires file { piece.file < files_of plan.now }
+    ensures ok { OnOk result (S.wrote sink.old (shown_lines piece) sink.new) }
+    ensures part { IfErr result (λ fault. WrotePart S.wrote sink.old fault (shown_lines piece) sink.new) }
+{
+    let Ok(block) = block_of(alloc, spares, plan, piece) else {
+        return Err(ReaderFault::Memory);
+    };
+    sink.write_lines(block.as_slice())?;
+    spares.give_block(block);
+    Ok(())
+}
+
+// Writes the lines of a piece in parts.
+fn write_parts<Y: Spares, S: LineSink>(
+    alloc: Global,
+    spares: &Y,
+    plan: &Plan,
+    piece: Piece<Shown>,
+    sink: &mut S,
+) -> Result<(), ReaderFault>
+    requires plan { piece.items.plan ≡ plan.now }
+    requires same_file { piece.items.file ≡ piece.file }
+    requires file { piece.file < files_of plan.now }
+    ensures ok { OnOk result (S.wrote sink.old (shown_lines piece) sink.new) }
+    ensures part { IfErr result (λ fault. WrotePart S.wrote sink.old fault (shown_lines piece) sink.new) }
+{
+    let ends_cut = piece.is_cut_short();
+    let Piece { file, items, .. } = piece;
+    let mut block = emptied(alloc, spares.take_block());
+    items.write_parts(spares, plan, file, &mut block, sink)?;
+    write_cut(sink, &mut block, file, ends_cut)?;
+    spares.give_block(block);
+    Ok(())
+}
+
+// Writes the lines of a piece.
+fn write_piece<Y: Spares, S: LineSink>(
+    alloc: Global,
+    spares: &Y,
+    plan: &Plan,
+    piece: Piece<Shown>,
+    sink: &mut S,
+) -> Result<(), ReaderFault>
+    requires plan { piece.items.plan ≡ plan.now }
+    requires same_file { piece.items.file ≡ piece.file }
+    requires file { piece.file < files_of plan.now }
+    ensures ok { OnOk result (S.wrote sink.old (shown_lines piece) sink.new) }
+    ensures part { IfErr result (λ fault. WrotePart S.wrote sink.old fault (shown_lines piece) sink.new) }
+{
+    if sink.takes_parts() && piece.items.is_long() {
+        write_parts(alloc, spares, plan, piece, sink)
+    } else {
+        write_whole(alloc, spares, plan, piece, sink)
+    }
 }
 
 impl<Y: Spares, S: LineSink> Printer<Y, S> {
@@ -108,11 +178,7 @@ impl<Y: Spares, S: LineSink> Taker<LineMaker<Y>> for Printer<Y, S> {
         // what holds of every plan
         let _files = whole.files();
         let closes = piece.is_closing();
-        let Ok(block) = block_of(self.alloc, &self.spares, whole, piece) else {
-            return Err(ReaderFault::Memory);
-        };
-        self.sink.write_lines(block.as_slice())?;
-        self.spares.give_block(block);
+        write_piece(self.alloc, &self.spares, whole, piece, &mut self.sink)?;
         if closes {
             self.file += 1;
             self.number = 0;

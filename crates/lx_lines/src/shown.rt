@@ -1,12 +1,15 @@
-ghost use Rattle.std.specs.Prelude.{◌≡◌, ◌<◌, All, IfOk};
+ghost use Rattle.std.specs.Prelude.{◌≡◌, ◌<◌, All, IfErr, IfOk, OnOk};
 ghost use Rattle.lx_scan.specs.ItemParts.{IsItemOf};
 ghost use Rattle.lx_piece.specs.Plans.{bytes_of, files_of, kinds_of};
 ghost use Rattle.lx_lines.specs.Lines.{lines_of};
+ghost use Rattle.lx_lines.specs.Parts.{WrotePart};
 ghost use Rattle.lx_lines.specs.Shown.{shown};
 
+use crate::parts::{LONG, are_long, write_items};
+use crate::sink::LineSink;
 use crate::spares::{Spares, emptied};
 use lx_line::push_lines;
-use lx_piece::Plan;
+use lx_piece::{Plan, ReaderFault};
 use lx_scan::Item;
 use std::alloc::{AllocError, Global};
 use std::marker::Model;
@@ -99,6 +102,48 @@ impl Shown {
                 Ok(block)
             }
             Form::Lines(block) => Ok(block),
+        }
+    }
+
+    /// Whether it carries items whose texts are long.
+    pub(crate) fn is_long(&self) -> bool {
+        match &self.form {
+            Form::Bare(items) => are_long(items.as_slice(), LONG),
+            Form::Lines(_) => false,
+        }
+    }
+
+    /// Writes the lines of the items in parts, of which each is made in the block. Those that it carries are written at once.
+    pub(crate) fn write_parts<Y: Spares, S: LineSink>(
+        self,
+        spares: &Y,
+        plan: &Plan,
+        file: u32,
+        block: &mut Vec<u8>,
+        sink: &mut S,
+    ) -> Result<(), ReaderFault>
+        requires plan { self.plan ≡ plan.now }
+        requires same_file { self.file ≡ file }
+        requires file { file < files_of plan.now }
+        ensures ok { OnOk result (S.wrote sink.old (lines_of plan.now file self.items) sink.new) }
+        ensures part { IfErr result (λ fault. WrotePart S.wrote sink.old fault (lines_of plan.now file self.items) sink.new) }
+    {
+        let Shown {
+            form,
+            file: _file,
+            plan: _plan,
+            items: _items,
+        } = self;
+        match form {
+            Form::Bare(items) => {
+                write_items(sink, block, plan, file, items.as_slice())?;
+                spares.give_list(items);
+                Ok(())
+            }
+            Form::Lines(lines) => {
+                sink.write_lines(lines.as_slice())?;
+                Ok(())
+            }
         }
     }
 

@@ -18,6 +18,11 @@ pub trait LineSink {
         ensures err { OnErr result (WrotePrefix wrote self.old block.now self.new) }
         ensures device { IfErr result (λ fault. fault ≡ ReaderFault.Device) };
 
+    /// Whether it may be handed lines, and parts of lines, as they come, since no line has to be a write of its own.
+    fn takes_parts(&self) -> bool {
+        false
+    }
+
     ghost wrote_nothing: { (s : Self) → wrote s [] s };
 
     ghost wrote_on: { (s t u : Self) (xs ys : List ℕ) → wrote s xs t → wrote t ys u → wrote s (xs ++ ys) u };
@@ -38,6 +43,10 @@ impl<W: Write> LineSink for Owned<W> {
 
     fn write_lines(&mut self, block: &[u8]) -> Result<(), ReaderFault> {
         write_block(&mut self.out, self.writes, block)
+    }
+
+    fn takes_parts(&self) -> bool {
+        self.writes == LineWrites::Whole
     }
 
     ghost wrote_nothing = { λ s. appends_nothing (W.contents s.out) };
@@ -63,6 +72,10 @@ impl<'w, W: Write> LineSink for Lent<'w, W> {
 
     fn write_lines(&mut self, block: &[u8]) -> Result<(), ReaderFault> {
         write_block(self.out, self.writes, block)
+    }
+
+    fn takes_parts(&self) -> bool {
+        self.writes == LineWrites::Whole
     }
 
     ghost wrote_nothing = { λ s. (appends_nothing (W.contents s.out.now), refl) };

@@ -8,7 +8,7 @@ use lx_fixtures::{
 use lx_piece::{ListArrivals, Plan, Reader, ReaderFault, relay};
 use lx_post::RunFault;
 use lx_tool::{LineWrites, Listing, list_files, list_plan, print_listing};
-use std::alloc::Global;
+use std::alloc::{AllocError, Global};
 use std::io::Write;
 use std::process::Abort;
 use std::test::Fail;
@@ -69,6 +69,42 @@ fn writes_each_line_or_each_block_by_itself(rt: HostRuntime) -> Result<(), Fail>
                 MIXED_LISTING.as_bytes(),
                 "{writes:?}, {workers} workers"
             );
+            assert_eq!(rt; out.calls, calls, "{writes:?}, {workers} workers");
+        }
+    }
+    Ok(())
+}
+
+// Puts these bytes behind the others so many times.
+fn push_times(text: &mut Vec<u8>, bytes: &[u8], times: u32) -> Result<(), AllocError> {
+    for _ in 0..times {
+        text.extend_from_slice(bytes)?;
+    }
+    Ok(())
+}
+
+/// An Echo and a token have the same text of 80,002 bytes, which is escaped. Its line is written in 22 parts: its fields, 20 parts of the text,
+/// and its end. The lines before and behind these and the cut line are a block each.
+#[test]
+fn writes_long_texts_in_parts(rt: HostRuntime) -> Result<(), Fail> {
+    let alloc = rt.alloc();
+    let mut text = Vec::new(alloc);
+    text.extend_from_slice(b"ab <")?;
+    push_times(&mut text, b"\x01a", 40_000)?;
+    text.extend_from_slice(b"> cd")?;
+    let mut wanted = Vec::new(alloc);
+    wanted.extend_from_slice(b"0 T ID 1 0 2 ab\n0 E - 1 3 80002 <")?;
+    push_times(&mut wanted, b"\\x01a", 40_000)?;
+    wanted.extend_from_slice(b">\n0 T 65 1 3 80002 <")?;
+    push_times(&mut wanted, b"\\x01a", 40_000)?;
+    wanted.extend_from_slice(b">\n0 T ID 1 80006 2 cd\n0 ! cut\n")?;
+    let plan = plan_of(alloc, MIXED_RULES, &[(text.as_slice(), true)], 256)?;
+    for (writes, calls) in [(LineWrites::EachLine, 5), (LineWrites::Whole, 47)] {
+        for workers in [0, 2] {
+            let mut out = failing_writer(alloc, 1_000_000, 0, false);
+            list_plan(&rt, alloc, &plan, workers, writes, &mut out)?;
+            let is_whole = out.held.as_slice() == wanted.as_slice();
+            assert!(rt; is_whole, "{writes:?}, {workers} workers");
             assert_eq!(rt; out.calls, calls, "{writes:?}, {workers} workers");
         }
     }

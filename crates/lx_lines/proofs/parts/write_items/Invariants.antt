@@ -1,0 +1,13 @@
+use Rattle.std.proofs.Common.{◌≤◌, ◌-◌, length, take}
+use Rattle.lx_lines.specs.Lines.{lines_of}
+use Rattle.lx_lines.proofs.parts.write_items.Given as goal
+
+abbrev pub invariant-loop-done : goal.invariant-loop-done
+invariant-loop-done g l =
+    record {
+      within : l.done ≤ length l.items;
+      wrote : g.S.LineSink.wrote l.fn.sink (lines_of l.plan l.file (take l.done l.items)) l.sink;
+    }
+
+abbrev pub decreases-loop-done : goal.decreases-loop-done
+decreases-loop-done g l = length l.items - l.done
