@@ -1,8 +1,9 @@
 -- The digits of numbers by the table of pairs.
-use Rattle.std.proofs.Common.{◌≡◌, ℕ, zero, suc, ◌+◌, ◌-◌, ◌*◌, ◌/◌, ◌%◌, ◌^◌, ◌<◌, ◌≤◌, Bool, true, ◌&&◌, T, eqb, List, [], ◌∷◌, ◌++◌, length, take, drop, get_or, refl, sym, ap, ◌∙◌, inl, inr, subst, arith, eq-zero-or-pos, eqb→eq, append_assoc}
+use Rattle.std.proofs.Common.{◌≡◌, ℕ, zero, suc, ◌+◌, ◌-◌, ◌*◌, ◌/◌, ◌%◌, ◌^◌, ◌<◌, ◌≤◌, Bool, true, ◌&&◌, T, eqb, List, [], ◌∷◌, ◌++◌, length, take, drop, get_or, refl, sym, ap, ◌∙◌, inl, inr, subst, arith, eq-zero-or-pos, eqb→eq, append_assoc, length-append, length-drop, take-take}
 use Rattle.std.proofs.lemmas.Bool.{cases_lt, ne_eqb}
 use Rattle.std.proofs.lemmas.Fmt.{decimal_digit, decimal_step}
-use Rattle.std.proofs.lemmas.List.{drop_more, take_at}
+use Rattle.std.proofs.lemmas.List.{drop-set-add, drop_more, length-take-le, take_at, take_more_set}
+use Rattle.std.specs.Prelude.{slice_set}
 use Rattle.std.specs.Fmt.{decimal}
 use lib.Ieee.Fits.{and_l, and_r}
 use Rattle.lx_line.specs.Decimals.{leading, pair}
@@ -128,3 +129,42 @@ kept_text high end from digits rest start written some =
     ∙ take_at (decimal high) rest (end - from) (omega arith)
     ∙ sym (leading_some high some)
     ∙ ap (λ (k : ℕ). leading k) (sym same)
+
+-- the last of some digits is written over
+last_over : (front : List ℕ) (last digit from m : ℕ) (digits : List ℕ) → from + m ≡ 19 → length digits ≡ 36 → take (m + 1) (drop from digits) ≡ front ++ last ∷ [] → take (m + 1) (drop from (slice_set digits 19 digit)) ≡ front ++ digit ∷ []
+last_over front last digit from m digits place long is =
+    let rest = length-drop from digits in
+    let all = length-take-le (m + 1) (drop from digits) (omega arith) in
+    let both : length (take (m + 1) (drop from digits)) ≡ length (front ++ last ∷ []) = ap length is in
+    let parts = length-append front (last ∷ []) in
+    let front_is : take m (drop from digits) ≡ front =
+    sym (take-take m (m + 1) (drop from digits) (omega arith)) ∙ ap (λ (xs : List ℕ). take m xs) is ∙ take_at front (last ∷ []) m (omega arith) in
+    ap (λ (k : ℕ). take (m + 1) (drop from (slice_set digits k digit))) (sym place)
+    ∙ ap (λ (xs : List ℕ). take (m + 1) xs) (drop-set-add from digits m digit)
+    ∙ take_more_set (drop from digits) m digit (omega arith)
+    ∙ ap (λ (xs : List ℕ). xs ++ digit ∷ []) front_is
+
+-- the digits of the next number, where the last one alone changes
+pub next_digits : (high from : ℕ) (digits : List ℕ) → 0 < high → high % 10 < 9 → high < 2 ^ 60 → from ≤ 20 → length digits ≡ 36 → take (20 - from) (drop from digits) ≡ leading high →
+    take (20 - from) (drop from (slice_set digits 19 (48 + (high + 1) % 10))) ≡ leading (high + 1)
+next_digits high from digits some low small within long is = elim (cases_lt high 10) [
+  | inl one ↦
+      let same : (high + 1) % 10 ≡ high + 1 = omega arith in
+      by_parts [] (48 + high) (decimal_digit high one) (decimal_digit (high + 1) (omega arith) ∙ ap (λ (n : ℕ). (48 + n) ∷ []) (sym same))
+  | inr two ↦
+      let same : (high + 1) / 10 ≡ high / 10 = omega arith in
+      by_parts (decimal (high / 10)) (48 + high % 10) (decimal_step high two (omega arith)) (decimal_step (high + 1) (omega arith) (omega arith) ∙ ap (λ (n : ℕ). decimal n ++ (48 + (high + 1) % 10) ∷ []) same)
+]
+  where
+    by_parts : (front : List ℕ) (last : ℕ) → decimal high ≡ front ++ last ∷ [] → decimal (high + 1) ≡ front ++ (48 + (high + 1) % 10) ∷ [] → take (20 - from) (drop from (slice_set digits 19 (48 + (high + 1) % 10))) ≡ leading (high + 1)
+    by_parts front last old new =
+        let whole : take (20 - from) (drop from digits) ≡ front ++ last ∷ [] = is ∙ leading_some high some ∙ old in
+        let count : length (take (20 - from) (drop from digits)) ≡ length (front ++ last ∷ []) = ap length whole in
+        let rest = length-drop from digits in
+        let all = length-take-le (20 - from) (drop from digits) (omega arith) in
+        let parts = length-append front (last ∷ []) in
+        let one : 20 - from ≡ 19 - from + 1 = omega arith in
+        ap (λ (n : ℕ). take n (drop from (slice_set digits 19 (48 + (high + 1) % 10)))) one
+        ∙ last_over front last (48 + (high + 1) % 10) from (19 - from) digits (omega arith) long (ap (λ (n : ℕ). take n (drop from digits)) (sym one) ∙ whole)
+        ∙ sym new
+        ∙ sym (leading_some (high + 1) (omega arith))

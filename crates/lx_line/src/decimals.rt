@@ -23,6 +23,15 @@ fn place_pair(buf: &mut [u8], at: usize, number: usize, skip: usize) -> usize
     place_4(buf, at, &PAIRS, number * 4 + skip, 3 - skip)
 }
 
+// How many of the two digits aren't of the number: one where it is below 10.
+#[inline(always)]
+fn skipped(number: usize) -> usize
+    ensures one { number < 10 → result ≡ 1 }
+    ensures two { 10 ≤ number → result ≡ 0 }
+{
+    if number < 10 { 1 } else { 0 }
+}
+
 /// A number below 100, and a space.
 #[inline(always)]
 pub fn place_short(buf: &mut [u8], at: usize, number: usize) -> usize
@@ -31,17 +40,8 @@ pub fn place_short(buf: &mut [u8], at: usize, number: usize) -> usize
     ensures placed { Placed buf.old buf.new at (decimal number ++ codes " ") result }
     ensures short { result ≤ at + 3 }
 {
-    let skip = skipped(number as u64, 10);
+    let skip = skipped(number);
     place_pair(buf, at, number, skip)
-}
-
-// How many of the last two digits aren't of the number: one where they make a number below this.
-#[inline(always)]
-fn skipped(low: u64, ones: u64) -> usize
-    ensures one { low < ones → result ≡ 1 }
-    ensures two { ones ≤ low → result ≡ 0 }
-{
-    if low < ones { 1 } else { 0 }
 }
 
 // Where the digits end that are kept: so many a number of 64 bits has at most.
@@ -55,15 +55,11 @@ const MOST: u64 = 999_999_999_999_999_999;
 pub struct KeptDigits {
     // The number, with zeros for its last two digits.
     base: u64,
-    // 10 where the number may have one digit, else 0.
-    ones: u64,
     // They end at END. Sixteen bytes can be read wherever they begin.
     digits: [u8; 36],
     from: usize,
     ghost small: { base < 10 ^ 18 },
     ghost hundreds: { base % 100 ≡ 0 },
-    ghost one: { base ≡ 0 → ones ≡ 10 },
-    ghost more: { 0 < base → ones ≡ 0 },
     ghost within: { from ≤ 20 },
     ghost few: { 20 ≤ from + 16 },
     ghost kept: { take (20 - from) (drop from digits) ≡ leading (base / 100) },
@@ -76,7 +72,6 @@ impl KeptDigits {
     {
         KeptDigits {
             base: 0,
-            ones: 10,
             digits: [0; 36],
             from: END,
         }
@@ -96,10 +91,23 @@ impl KeptDigits {
         let from = write_digits(high, &mut digits, END);
         KeptDigits {
             base: high * 100,
-            ones: 0,
             digits,
             from,
         }
+    }
+
+    // Goes on by a hundred, where that changes the last digit alone; whether the number is near then.
+    #[inline(always)]
+    fn step(&mut self, number: u64) -> bool
+        ensures { IsTrue result → IsNear self.new.base number }
+    {
+        let high = self.base / 100;
+        if high == 0 || high % 10 == 9 {
+            return false;
+        }
+        self.digits[END - 1] = b'0' + ((high + 1) % 10) as u8;
+        self.base += 100;
+        number.wrapping_sub(self.base) < 100
     }
 
     #[cold]
@@ -109,6 +117,9 @@ impl KeptDigits {
     {
         if number > MOST {
             return false;
+        }
+        if self.step(number) {
+            return true;
         }
         *self = KeptDigits::near(number);
         true
@@ -133,10 +144,12 @@ impl KeptDigits {
         ensures placed { Placed buf.old buf.new at (decimal number ++ codes " ") result }
         ensures short { result ≤ at + 19 }
     {
+        if self.base == 0 {
+            return place_short(buf, at, number as usize);
+        }
         let low = number - self.base;
-        let skip = skipped(low, self.ones);
         let end = place_16(buf, at, &self.digits, self.from, END - self.from);
-        place_pair(buf, end, low as usize, skip)
+        place_pair(buf, end, low as usize, 0)
     }
 }
 

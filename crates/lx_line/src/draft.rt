@@ -45,6 +45,25 @@ impl Draft {
         }
     }
 
+    /// Forgets its lines, and keeps what those that follow can use again.
+    #[inline(always)]
+    pub fn clear(&mut self)
+        ensures empty { self.new.len ≡ 0 }
+        ensures same { self.new.lines ≡ self.old.lines }
+        ensures prefixes { self.new.prefixes ≡ self.old.prefixes }
+    {
+        self.len = 0;
+    }
+
+    /// Makes ready for the lines of another file.
+    #[cold]
+    #[inline(never)]
+    pub fn begin(&mut self, plan: &Plan, file: u32)
+        ensures prefixes { ArePrefixesOf plan.now file self.new.prefixes }
+    {
+        self.prefixes = Prefixes::new(plan, file);
+    }
+
     // Puts the line of an item behind the others. Some lines have to be made the plain way: the long ones, and those of texts near the
     // end of the file, behind which no 16 bytes can be read.
     #[inline(always)]
@@ -79,7 +98,7 @@ impl Draft {
         ensures prefixes { self.new.prefixes ≡ self.old.prefixes }
     {
         block.extend_from_slice(&self.lines[..self.len])?;
-        self.len = 0;
+        self.clear();
         Ok(())
     }
 

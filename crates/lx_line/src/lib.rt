@@ -12,7 +12,7 @@ mod texts;
 
 pub use decimals::{KeptDigits, place_short};
 pub use fields::{Numbers, kind_of, numbers_of};
-pub use lines::push_lines;
+pub use lines::{PlanDraft, push_lines};
 pub use place::{place_16, place_64, place_all, place_byte};
 pub use plain::{push_cut_line, push_field, push_fields, push_kind, push_number, push_text};
 pub use prefixes::{are_same, slot_of};

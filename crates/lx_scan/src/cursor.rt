@@ -11,7 +11,6 @@ ghost use Rattle.lx_scan.specs.Matching.{choice_in};
 ghost use Rattle.lx_scan.specs.Steps.{items_of_steps};
 
 use crate::appending::append_runs;
-use crate::ends::End;
 use crate::item::Item;
 use crate::memory::ScanMemory;
 use crate::place::{Match, Place};
@@ -19,9 +18,6 @@ use crate::scanner::{next_match, next_match_by};
 use lx_rules::rule::Step;
 use lx_tables::Tables;
 use std::alloc::AllocError;
-
-// So many ends of matches are found at once.
-const ENDS: usize = 128;
 
 /// Between two items of a text: at a match, with so many steps of its rule's action done, and before the place behind it.
 #[derive(Clone, Copy, Debug, PartialEq, Eq)]
@@ -173,7 +169,6 @@ impl Cursor {
         text: &[u8],
         memory: &mut ScanMemory,
         most: usize,
-        ends: &mut [End],
         items: &mut Vec<Item>,
     ) -> Result<(), AllocError>
         requires in_text { IsInText tables.now text.now self.old }
@@ -189,7 +184,7 @@ impl Cursor {
         if self.place.offset < memory.stop || self.done < steps_of_match(tables, self.found).len() {
             return Ok(());
         }
-        let reached = append_runs(tables, text, self.place, most, ends, items)?;
+        let reached = append_runs(tables, text, self.place, most, &mut memory.ends, items)?;
         *self = Cursor::at(reached.place);
         memory.stop = reached.stop;
         Ok(())
@@ -236,7 +231,6 @@ impl Cursor {
         ensures end { OnOk result (length items.new.items < most → items_left tables.now text.now self.new ≡ []) }
         ensures err { OnErr result (self.new ≡ self.old) }
     {
-        let mut ends = [End::NONE; ENDS];
         let mut cursor = *self;
         'further: while items.len() < most {
             let Some(item) = cursor.next_item_by(tables, text, memory) else {
@@ -244,7 +238,7 @@ impl Cursor {
                 return Ok(());
             };
             items.push(item)?;
-            cursor.run_on(tables, text, memory, most, &mut ends, items)?;
+            cursor.run_on(tables, text, memory, most, items)?;
         }
         *self = cursor;
         Ok(())

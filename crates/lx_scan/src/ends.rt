@@ -43,17 +43,6 @@ fn entry_at(entries: &[u32], row: usize, column: u8) -> u32
     entries[row]
 }
 
-// The columns of all bytes, in memory whose length is known, so that no look-up has to be tested.
-#[inline(always)]
-fn columns_of(joined: &Joined) -> [u8; 256]
-    requires { length joined.now.columns.items ≡ 256 }
-    ensures { result ≡ joined.now.columns.items }
-{
-    let mut columns = [0; 256];
-    columns.copy_from_slice(joined.columns.as_slice());
-    columns
-}
-
 // One for a newline, which has the last column alone. To ask whether it is below takes three instructions less than whether it is the same.
 #[inline(always)]
 fn newline(column: u8, last: u8) -> u64
@@ -92,7 +81,7 @@ pub(crate) fn find_ends(
     ensures within { result.count ≤ length ends.new }
     ensures ends { 0 < result.count → LeadTo tables.now text.now place (take result.count ends.new) (place_behind text.now place (take result.count ends.new) result.condition) }
 {
-    let columns = columns_of(joined);
+    let columns = joined.columns.as_slice();
     let entries = joined.entries.as_slice();
     let first = text[place.offset];
     let class = tables.class(first);
@@ -102,18 +91,23 @@ pub(crate) fn find_ends(
     let mut line = place.line + newline(columns[first as usize], last);
     let mut count = 0;
     let mut offset = place.offset + 1;
-    while offset < text.len() && count < most {
-        let column = columns[text[offset] as usize];
-        let entry = entry_at(entries, row, column);
-        let code = (entry % 8192) as usize;
-        if code == UNTOLD {
-            break;
+    let mut until = offset;
+    // Each byte writes one end at most: so before as many bytes as there is room, it isn't asked whether there is.
+    'rounds: while offset == until && offset < text.len() && count < most {
+        until = offset + (most - count).min(text.len() - offset);
+        while offset < until {
+            let column = columns[text[offset] as usize];
+            let entry = entry_at(entries, row, column);
+            let code = (entry % 8192) as usize;
+            if code == UNTOLD {
+                break;
+            }
+            ends[count] = End { code, offset, line };
+            count += ending(code);
+            line += newline(column, last);
+            row = (entry / 8192) as usize;
+            offset += 1;
         }
-        ends[count] = End { code, offset, line };
-        count += ending(code);
-        line += newline(column, last);
-        row = (entry / 8192) as usize;
-        offset += 1;
     }
     Run {
         count,

@@ -4,6 +4,7 @@ ghost use Rattle.std.specs.Prelude.{◌≡◌, ℕ, ◌+◌, ◌*◌, ◌/◌, �
 ghost use Rattle.lx_tables.specs.Model.{Table};
 ghost use Rattle.lx_scan.specs.Failing.{IsAmong, IsFailed, IsMarked, IsMemoryOf};
 
+use crate::ends::End;
 use lx_tables::State;
 use std::alloc::Global;
 
@@ -12,6 +13,9 @@ const SPACING: usize = 32;
 
 // So many are kept of a place.
 const STATES: usize = 4;
+
+// So many ends of matches are found at once.
+const ENDS: usize = 128;
 
 // Of those that find no room there so many are kept, of all places together.
 const OTHERS: usize = 65_536;
@@ -32,6 +36,8 @@ pub struct ScanMemory {
     others: Vec<Option<FailedState>>,
     // Before which byte the last run over the joined table stopped.
     pub(crate) stop: usize,
+    // Where a run finds the ends of matches. They stand here, so that the room isn't cleared for each call; what it holds between two means nothing.
+    pub(crate) ends: [End; 128],
 }
 
 // A number that is kept; 0 where none is.
@@ -108,6 +114,7 @@ impl ScanMemory {
             marks: Vec::new(alloc),
             others: Vec::new(alloc),
             stop: 0,
+            ends: [End::NONE; ENDS],
         }
     }
 

@@ -7,8 +7,8 @@ use Rattle.lx_scan.specs.declared.ends.End.{End}
 use Rattle.lx_scan.proofs.Runs.{Runs, last_column, runs_begun, runs_behind, runs_turn}
 use Rattle.lx_scan.proofs.ends.find_ends.Goals as goal
 
-pub loop-offset-init : goal.loop-offset-init
-loop-offset-init c =
+pub rounds-init : goal.rounds-init
+rounds-init c =
     let table = c.args.tables.now in
     let text = c.args.text.now in
     let place = c.args.place in
@@ -22,7 +22,7 @@ loop-offset-init c =
     let few = c.newline.ensures.few in
     let small = c.type_inv.text place.offset in
     let newline_is : c.newline.result ≡ (if nat_eq byte 10 then 1 else 0)
-    = c.newline.ensures.value ∙ ap (λ (xs : List ℕ). if nat_le (slice_index xs 10) (slice_index xs byte) then 1 else 0) c.columns_of-columns.ensures
+    = c.newline.ensures.value ∙ ap (λ (xs : List ℕ). if nat_le (slice_index xs 10) (slice_index xs byte) then 1 else 0) c.as_slice-columns.ensures.value
     ∙ last_column table c.requires.table c.args.joined.now.columns.items c.args.joined.now.entries.items c.args.joined.now.given.items c.requires.joined byte (omega arith) in
     let line_few = c.requires.place.line_few in
     record {
@@ -32,6 +32,8 @@ loop-offset-init c =
           (ap (λ n. place.line + n) newline_is);
       count = omega arith;
       room = omega arith;
+      later = omega arith;
+      within = omega arith;
       row = omega arith;
       line = omega arith;
     }
@@ -43,16 +45,18 @@ loop-offset-preserved c =
     let loop = c.loop-offset in
     let byte = slice_index text loop.offset in
     let small = c.type_inv.text loop.offset in
-    let room = c.if-count-most.true in
     let most = loop.invariant.room in
+    let few = loop.invariant.few in
+    let within = loop.invariant.within in
+    let more = c.loop-offset-test.true in
     let entry = c.entry_at-entry.result in
-    let columns_are = c.columns_of-columns.ensures in
+    let columns_are = c.as_slice-columns.ensures.value in
     let entries_are = c.as_slice-entries.ensures.value in
     let entry_is : entry ≡ slice_index c.args.joined.now.entries.items (loop.row + slice_index c.args.joined.now.columns.items byte)
-    = c.entry_at-entry.ensures ∙ ap (λ (xs : List ℕ). slice_index xs (loop.row + slice_index c.columns_of-columns.result byte)) entries_are
+    = c.entry_at-entry.ensures ∙ ap (λ (xs : List ℕ). slice_index xs (loop.row + slice_index c.as_slice-columns.result.now byte)) entries_are
     ∙ ap (λ (xs : List ℕ). slice_index c.args.joined.now.entries.items (loop.row + slice_index xs byte)) columns_are in
     let runs = runs_turn table c.requires.table c.args.joined.now.columns.items c.args.joined.now.entries.items c.args.joined.now.given.items c.requires.joined text c.args.place loop.ends loop.count loop.offset loop.line loop.row byte entry c.ending-count.result
-    loop.invariant.runs c.loop-offset-test.true refl (omega arith) entry_is (omega arith) c.if-code-eq-UNTOLD.false c.ending-count.ensures.value in
+    loop.invariant.runs (omega arith) refl (omega arith) entry_is (omega arith) c.if-code-eq-UNTOLD.false c.ending-count.ensures.value in
     let row : slice_index c.args.joined.now.entries.items (loop.row + slice_index c.args.joined.now.columns.items byte) / 8192 + joined_width table ≤ length c.args.joined.now.entries.items
     = c.requires.joined.rows (loop.row + slice_index c.args.joined.now.columns.items byte) in
     let same : length c.as_slice-entries.result.now ≡ length c.args.joined.now.entries.items = ap length entries_are in
@@ -66,15 +70,17 @@ loop-offset-preserved c =
     let line_few = loop.invariant.line in
     record {
       runs = subst (λ (n : ℕ). Runs table text c.args.place (take (loop.count + c.ending-count.result) (slice_set loop.ends loop.count (record { code = entry % 8192; offset = loop.offset; line = loop.line }))) (loop.offset + 1) (loop.line + n) (entry / 8192)) (sym newline_is) runs;
-      count = omega arith;
+      few = omega arith;
       room = omega arith;
+      later = omega arith;
+      within = omega arith;
       row = omega arith;
       line = omega arith;
     }
 
 pub returns-clause-ends : goal.returns-clause-ends
 returns-clause-ends c = λ some.
-    let count = c.loop-offset.invariant.count in
-    let room = c.loop-offset.invariant.room in
-    runs_behind c.args.tables.now c.args.text.now c.args.place c.loop-offset.ends c.loop-offset.count c.loop-offset.offset c.loop-offset.line c.loop-offset.row c.condition_of_row.result
-    c.loop-offset.invariant.runs (omega arith) c.condition_of_row.ensures some
+    let count = c.rounds.invariant.count in
+    let room = c.rounds.invariant.room in
+    runs_behind c.args.tables.now c.args.text.now c.args.place c.rounds.ends c.rounds.count c.rounds.offset c.rounds.line c.rounds.row c.condition_of_row.result
+    c.rounds.invariant.runs (omega arith) c.condition_of_row.ensures some
