@@ -60,7 +60,7 @@ impl<'a, W: Write> Model for Listing<'a, W> {
 
     ghost view = { λ s. printed (record { plan = s.plan.now; counts = s.queue.counts; faults = s.queue.faults; failed = s.queue.failed }) (W.contents s.queue.taker.sink.out) };
 
-    ghost invariant = { λ s. IsInStep s.plan.now s.queue.taker.plan.value (turn_of s.queue.taker.file s.queue.taker.number) s.queue.counts s.queue.failed };
+    ghost invariant = { λ s. IsInStep s.plan.now s.queue.taker.draft (turn_of s.queue.taker.file s.queue.taker.number) s.queue.counts s.queue.failed };
 }
 
 impl<'a, W: Write> Listing<'a, W> {

@@ -12,10 +12,9 @@ use crate::parts::write_cut;
 use crate::shown::Shown;
 use crate::sink::LineSink;
 use crate::spares::{Spares, emptied};
-use lx_line::push_cut_line;
+use lx_line::{PlanDraft, push_cut_line};
 use lx_piece::{Piece, Plan, ReaderFault, Taker};
 use std::alloc::{AllocError, Global};
-use std::snapshot::Snapshot;
 
 /// Writes the lines of a plan's pieces, which it is handed in the plan's order, with the cut line behind those of a file whose
 /// reading failed. The lines of a piece are one block. Where memory is refused for it, nothing of the piece is written. Where the texts
@@ -24,9 +23,10 @@ use std::snapshot::Snapshot;
 #[derive(Drop)]
 pub struct Printer<Y: Spares, S: LineSink> {
     pub(crate) alloc: Global,
-    pub(crate) plan: Snapshot<Plan>,
     pub(crate) spares: Y,
     pub(crate) sink: S,
+    // What the lines of the plan are made of. By it clauses see the plan.
+    pub(crate) draft: PlanDraft,
     // The piece that comes next.
     pub(crate) file: u32,
     pub(crate) number: u64,
@@ -36,17 +36,20 @@ pub struct Printer<Y: Spares, S: LineSink> {
 fn block_of<Y: Spares>(
     alloc: Global,
     spares: &Y,
+    draft: &mut PlanDraft,
     plan: &Plan,
     piece: Piece<Shown>,
 ) -> Result<Vec<u8>, AllocError>
+    requires draft { draft.old ≡ plan.now }
     requires plan { piece.items.plan ≡ plan.now }
     requires same_file { piece.items.file ≡ piece.file }
     requires file { piece.file < files_of plan.now }
-    ensures { IfOk result (λ block. block.items ≡ shown_lines piece) }
+    ensures draft { draft.new ≡ draft.old }
+    ensures block { IfOk result (λ block. block.items ≡ shown_lines piece) }
 {
     let cut = piece.is_cut_short();
     let Piece { file, items, .. } = piece;
-    let mut block = items.into_block(alloc, spares, plan, file)?;
+    let mut block = items.into_block(alloc, spares, draft, plan, file)?;
     if cut {
         push_cut_line(&mut block, file)?;
     }
@@ -57,17 +60,20 @@ fn block_of<Y: Spares>(
 fn write_whole<Y: Spares, S: LineSink>(
     alloc: Global,
     spares: &Y,
+    draft: &mut PlanDraft,
     plan: &Plan,
     piece: Piece<Shown>,
     sink: &mut S,
 ) -> Result<(), ReaderFault>
+    requires draft { draft.old ≡ plan.now }
     requires plan { piece.items.plan ≡ plan.now }
     requires same_file { piece.items.file ≡ piece.file }
     requires file { piece.file < files_of plan.now }
+    ensures draft { draft.new ≡ draft.old }
     ensures ok { OnOk result (S.wrote sink.old (shown_lines piece) sink.new) }
     ensures part { IfErr result (λ fault. WrotePart S.wrote sink.old fault (shown_lines piece) sink.new) }
 {
-    let Ok(block) = block_of(alloc, spares, plan, piece) else {
+    let Ok(block) = block_of(alloc, spares, draft, plan, piece) else {
         return Err(ReaderFault::Memory);
     };
     sink.write_lines(block.as_slice())?;
@@ -102,36 +108,39 @@ fn write_parts<Y: Spares, S: LineSink>(
 fn write_piece<Y: Spares, S: LineSink>(
     alloc: Global,
     spares: &Y,
+    draft: &mut PlanDraft,
     plan: &Plan,
     piece: Piece<Shown>,
     sink: &mut S,
 ) -> Result<(), ReaderFault>
+    requires draft { draft.old ≡ plan.now }
     requires plan { piece.items.plan ≡ plan.now }
     requires same_file { piece.items.file ≡ piece.file }
     requires file { piece.file < files_of plan.now }
+    ensures draft { draft.new ≡ draft.old }
     ensures ok { OnOk result (S.wrote sink.old (shown_lines piece) sink.new) }
     ensures part { IfErr result (λ fault. WrotePart S.wrote sink.old fault (shown_lines piece) sink.new) }
 {
     if sink.takes_parts() && piece.items.is_long() {
         write_parts(alloc, spares, plan, piece, sink)
     } else {
-        write_whole(alloc, spares, plan, piece, sink)
+        write_whole(alloc, spares, draft, plan, piece, sink)
     }
 }
 
 impl<Y: Spares, S: LineSink> Printer<Y, S> {
     /// A printer that has written nothing.
     pub fn new(alloc: Global, plan: &Plan, spares: Y, sink: S) -> Printer<Y, S>
-        ensures plan { result.plan.value ≡ plan.now }
+        ensures plan { result.draft ≡ plan.now }
         ensures file { result.file ≡ 0 }
         ensures number { result.number ≡ 0 }
         ensures sink { result.sink ≡ sink }
     {
         Printer {
             alloc,
-            plan: Snapshot::of(plan),
             spares,
             sink,
+            draft: PlanDraft::new(plan),
             file: 0,
             number: 0,
         }
@@ -145,9 +154,9 @@ impl<Y: Spares, S: LineSink> Printer<Y, S> {
     {
         let Printer {
             alloc: _alloc,
-            plan: _plan,
             spares: _spares,
             sink,
+            draft: _draft,
             file: _file,
             number: _number,
         } = self;
@@ -158,27 +167,34 @@ impl<Y: Spares, S: LineSink> Printer<Y, S> {
 impl<Y: Spares, S: LineSink> Taker<LineMaker<Y>> for Printer<Y, S> {
     ghost use Rattle.lx_lines.specs.PrintingLaws.{prints_itself, prints_then, prints_no_more, part_behind};
 
-    ghost plan = { λ s. s.plan.value };
+    ghost plan = { λ s. s.draft };
 
     ghost turn = { λ s. turn_of s.file s.number };
 
-    ghost follows = { λ s t. PrintsTo S.wrote (printing s.plan.value s.file s.number s.sink) (printing t.plan.value t.file t.number t.sink) };
+    ghost follows = { λ s t. PrintsTo S.wrote (printing s.draft s.file s.number s.sink) (printing t.draft t.file t.number t.sink) };
 
-    ghost fails = { λ s fault t. PrintsPart S.wrote (printing s.plan.value s.file s.number s.sink) fault (printing t.plan.value t.file t.number t.sink) };
+    ghost fails = { λ s fault t. PrintsPart S.wrote (printing s.draft s.file s.number s.sink) fault (printing t.draft t.file t.number t.sink) };
 
     fn take(&mut self, whole: &Plan, piece: Piece<Shown>) -> Result<(), ReaderFault>
-        requires same { whole.now ≡ self.old.plan.value }
-        requires turn { HasTurn shown self.old.plan.value (turn_of self.old.file self.old.number) piece }
-        ensures plan { self.new.plan.value ≡ self.old.plan.value }
-        ensures turn { OnOk result (turn_of self.new.file self.new.number ≡ turn_after self.old.plan.value (turn_of self.old.file self.old.number)) }
-        ensures follows { OnOk result (PrintsTo S.wrote (printing self.old.plan.value self.old.file self.old.number self.old.sink) (printing self.new.plan.value self.new.file self.new.number self.new.sink)) }
-        ensures fails { IfErr result (λ fault. PrintsPart S.wrote (printing self.old.plan.value self.old.file self.old.number self.old.sink) fault (printing self.new.plan.value self.new.file self.new.number self.new.sink)) }
+        requires same { whole.now ≡ self.old.draft }
+        requires turn { HasTurn shown self.old.draft (turn_of self.old.file self.old.number) piece }
+        ensures plan { self.new.draft ≡ self.old.draft }
+        ensures turn { OnOk result (turn_of self.new.file self.new.number ≡ turn_after self.old.draft (turn_of self.old.file self.old.number)) }
+        ensures follows { OnOk result (PrintsTo S.wrote (printing self.old.draft self.old.file self.old.number self.old.sink) (printing self.new.draft self.new.file self.new.number self.new.sink)) }
+        ensures fails { IfErr result (λ fault. PrintsPart S.wrote (printing self.old.draft self.old.file self.old.number self.old.sink) fault (printing self.new.draft self.new.file self.new.number self.new.sink)) }
     {
         self.spares.receive(self.file, self.number);
         // what holds of every plan
         let _files = whole.files();
         let closes = piece.is_closing();
-        write_piece(self.alloc, &self.spares, whole, piece, &mut self.sink)?;
+        write_piece(
+            self.alloc,
+            &self.spares,
+            &mut self.draft,
+            whole,
+            piece,
+            &mut self.sink,
+        )?;
         if closes {
             self.file += 1;
             self.number = 0;
@@ -188,11 +204,11 @@ impl<Y: Spares, S: LineSink> Taker<LineMaker<Y>> for Printer<Y, S> {
         Ok(())
     }
 
-    ghost follows_itself = { λ s. prints_itself S.wrote S.wrote_nothing (printing s.plan.value s.file s.number s.sink) };
+    ghost follows_itself = { λ s. prints_itself S.wrote S.wrote_nothing (printing s.draft s.file s.number s.sink) };
 
-    ghost follows_on = { λ s t u f h. prints_then S.wrote S.wrote_on (printing s.plan.value s.file s.number s.sink) (printing t.plan.value t.file t.number t.sink) (printing u.plan.value u.file u.number u.sink) f h };
+    ghost follows_on = { λ s t u f h. prints_then S.wrote S.wrote_on (printing s.draft s.file s.number s.sink) (printing t.draft t.file t.number t.sink) (printing u.draft u.file u.number u.sink) f h };
 
-    ghost fails_behind = { λ s t u fault f h. part_behind S.wrote S.wrote_on (printing s.plan.value s.file s.number s.sink) (printing t.plan.value t.file t.number t.sink) (printing u.plan.value u.file u.number u.sink) fault f h };
+    ghost fails_behind = { λ s t u fault f h. part_behind S.wrote S.wrote_on (printing s.draft s.file s.number s.sink) (printing t.draft t.file t.number t.sink) (printing u.draft u.file u.number u.sink) fault f h };
 
-    ghost fails_at_once = { λ s. prints_no_more S.wrote S.wrote_nothing (printing s.plan.value s.file s.number s.sink) };
+    ghost fails_at_once = { λ s. prints_no_more S.wrote S.wrote_nothing (printing s.draft s.file s.number s.sink) };
 }

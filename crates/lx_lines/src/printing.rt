@@ -30,7 +30,7 @@ fn print_all<Y: Spares + Drop, S: LineSink + Drop>(
     printer: Printer<Y, S>,
 ) -> (Printer<Y, S>, Result<(), RelayFault>)
     requires valid { IsPlan plan.now }
-    requires plan { printer.plan.value ≡ plan.now }
+    requires plan { printer.draft ≡ plan.now }
     requires file { printer.file ≡ 0 }
     requires number { printer.number ≡ 0 }
     ensures ok { OnOk result.1 (S.wrote printer.sink (listing_of plan.now) result.0.sink) }
@@ -79,7 +79,7 @@ fn scan_all_to<T: Threads + Wait + Sync, Y: Spares + Copy + Drop + Sync, S: Line
     requires some_workers { 0 < workers }
     requires few_workers { workers ≤ max_workers }
     requires valid { IsPlan plan.now }
-    requires plan { printer.plan.value ≡ plan.now }
+    requires plan { printer.draft ≡ plan.now }
     requires file { printer.file ≡ 0 }
     requires number { printer.number ≡ 0 }
     ensures ok { OnOk result.1 (S.wrote printer.sink (listing_of plan.now) result.0.sink) }

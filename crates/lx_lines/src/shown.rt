@@ -8,7 +8,7 @@ ghost use Rattle.lx_lines.specs.Shown.{shown};
 use crate::parts::{LONG, are_long, write_items};
 use crate::sink::LineSink;
 use crate::spares::{Spares, emptied};
-use lx_line::push_lines;
+use lx_line::PlanDraft;
 use lx_piece::{Plan, ReaderFault};
 use lx_scan::Item;
 use std::alloc::{AllocError, Global};
@@ -80,13 +80,16 @@ impl Shown {
         self,
         alloc: Global,
         spares: &Y,
+        draft: &mut PlanDraft,
         plan: &Plan,
         file: u32,
     ) -> Result<Vec<u8>, AllocError>
+        requires draft { draft.old ≡ plan.now }
         requires plan { self.plan ≡ plan.now }
         requires same_file { self.file ≡ file }
         requires file { file < files_of plan.now }
-        ensures { IfOk result (λ block. block.items ≡ lines_of plan.now file self.items) }
+        ensures draft { draft.new ≡ draft.old }
+        ensures block { IfOk result (λ block. block.items ≡ lines_of plan.now file self.items) }
     {
         let Shown {
             form,
@@ -97,7 +100,7 @@ impl Shown {
         match form {
             Form::Bare(items) => {
                 let mut block = emptied(alloc, spares.take_block());
-                push_lines(&mut block, plan, file, items.as_slice())?;
+                draft.push_lines(&mut block, plan, file, items.as_slice())?;
                 spares.give_list(items);
                 Ok(block)
             }

@@ -9,11 +9,11 @@ use Rattle.lx_lines.proofs.listing.ListingReader.take.Goals as goal
 pub invariant_of-self : goal.invariant_of-self
 invariant_of-self g c =
     let s = c.self.inside in
-    in_step s.plan.now s.queue c.take.new.self (λ t. printing t.plan.value t.file t.number t.sink) (λ a bytes b. Appends (g.W.Write.contents a.out) (g.W.Write.contents b.out) bytes) c.self.invariant c.take.ensures.follows
+    in_step s.plan.now s.queue c.take.new.self (λ t. printing t.draft t.file t.number t.sink) (λ a bytes b. Appends (g.W.Write.contents a.out) (g.W.Write.contents b.out) bytes) c.self.invariant c.take.ensures.follows
 
 pub returns-clause-follows : goal.returns-clause-follows
 returns-clause-follows g c =
     let s = c.self.inside in
     let new = c.take.new.self in
     subst (λ (old : Printed). Prints old (printed (progress_of s.plan.now new) (g.W.Write.contents new.taker.sink.out))) c.self.view_is
-    (prints_passed s.plan.now s.queue new (λ t. printing t.plan.value t.file t.number t.sink) (λ a bytes b. Appends (g.W.Write.contents a.out) (g.W.Write.contents b.out) bytes) (λ a. g.W.Write.contents a.out) (λ _ _ _ h. h) c.self.invariant.plan_is c.self.invariant.same c.self.invariant.turn_is c.take.ensures.follows)
+    (prints_passed s.plan.now s.queue new (λ t. printing t.draft t.file t.number t.sink) (λ a bytes b. Appends (g.W.Write.contents a.out) (g.W.Write.contents b.out) bytes) (λ a. g.W.Write.contents a.out) (λ _ _ _ h. h) c.self.invariant.plan_is c.self.invariant.same c.self.invariant.turn_is c.take.ensures.follows)
