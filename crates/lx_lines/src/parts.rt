@@ -17,8 +17,8 @@ use lx_scan::Item;
 pub(crate) const LONG: usize = 65_536;
 
 // Where they can't have more than these together, since each has at most as many as lie between the first and the last one, they aren't
-// summed: so it costs pieces of short texts nothing.
-const SURELY_FEW: usize = 393_216;
+// summed: so it costs pieces of short texts nothing. That more than LONG of them are in one block takes items that share a text.
+const SURELY_FEW: usize = 1_310_720;
 
 // Lines of which the texts, and so many bytes more for each, come to no more than that are made in one block. It is up to four times as
 // long, where each byte is escaped.

@@ -18,8 +18,8 @@ use std::alloc::{AllocError, Global};
 
 /// Writes the lines of a plan's pieces, which it is handed in the plan's order, with the cut line behind those of a file whose
 /// reading failed. The lines of a piece are one block. Where memory is refused for it, nothing of the piece is written. Where the texts
-/// of a piece are long, and the sink takes parts, its lines leave in parts, of which a block never has more than some: memory that is
-/// refused then is refused between two lines.
+/// of a piece are long, and the sink takes parts, its lines leave in parts, so that no block holds them all: memory is then refused between
+/// two lines.
 #[derive(Drop)]
 pub struct Printer<Y: Spares, S: LineSink> {
     pub(crate) alloc: Global,
