@@ -1,6 +1,6 @@
 //! Rules for which runs of one byte are read to their end in vain.
 
-ghost use Rattle.std.specs.Prelude.{◌≡◌, ◌<◌, IfSome, OnOk, length};
+ghost use Rattle.std.specs.Prelude.{◌≡◌, ◌<◌, ◌≤◌, ◌⊎◌, IfNone, IfSome, None, OnOk, Some, length};
 ghost use Rattle.lx_automaton.specs.Automata.{state_count};
 
 use crate::met::{meet, none_met};
@@ -58,7 +58,12 @@ fn round_in_vain(tables: &Tables, start: State, byte: u8) -> Option<State>
 }
 
 // The less of two rules.
-fn earlier(rule: Option<u16>, other: Option<u16>) -> Option<u16> {
+fn earlier(rule: Option<u16>, other: Option<u16>) -> Option<u16>
+    ensures among { IfSome result (λ n. (rule ≡ Some n) ⊎ (other ≡ Some n)) }
+    ensures first { IfSome result (λ n. IfSome rule (λ r. n ≤ r)) }
+    ensures second { IfSome result (λ n. IfSome other (λ r. n ≤ r)) }
+    ensures none { IfNone result ((rule ≡ None) × (other ≡ None)) }
+{
     match (rule, other) {
         (Some(rule), Some(other)) => Some(rule.min(other)),
         (Some(rule), None) => Some(rule),

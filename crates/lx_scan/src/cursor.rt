@@ -87,6 +87,7 @@ impl Cursor {
 
     /// How many bytes of the text stand before what it looks at next.
     pub fn offset(&self) -> usize
+        ensures place { result ≡ self.now.place.offset }
         ensures within { (table : Table) (text : List ℕ) → IsInText table text self.now → result ≤ length text }
     {
         self.place.offset
