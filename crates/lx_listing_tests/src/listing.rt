@@ -72,6 +72,9 @@ fn writes_each_line_or_each_block_by_itself(rt: HostRuntime) -> Result<(), Fail>
             assert_eq!(rt; out.calls, calls, "{writes:?}, {workers} workers");
         }
     }
+    let mut out = failing_writer(alloc, 4_096, 0, false);
+    print_listing(alloc, &plan, &mut out)?;
+    assert_eq!(rt; out.calls, 14, "print_listing");
     Ok(())
 }
 
