@@ -13,18 +13,77 @@ use crate::marking::{has_flag, set_flag};
 use crate::rule_part::RulePart;
 use std::alloc::{AllocError, Global};
 
+// How many flags are looked at together: in most sets few are set.
+const STRETCH: usize = 64;
+
+// No more flags than these are gone over for all rules at once.
+const MOST_POSITIONS: usize = 65_536;
+
+/// Positions of which none is marked: from one on, and before another.
+#[derive(Clone, Copy)]
+struct Bare {
+    from: usize,
+    until: usize,
+}
+
+// Before which position none is marked, from this one on: where a stretch begins in which one is, or the end.
+fn bare_until(marks: &[bool], from: usize) -> usize
+    ensures { (q : ℕ) → from ≤ q → q < result → plain.flag marks.now q ≡ false }
+{
+    let mut until = from;
+    'stretches: while until < marks.len() && until < MOST_POSITIONS {
+        let count = (marks.len() - until).min(STRETCH);
+        if has_flag(marks, until, count) {
+            return until;
+        }
+        until += count;
+    }
+    until
+}
+
+// These positions where this one is among them, else those from this one on. So all marks are gone over once, and not rule by rule.
+fn bare_at(marks: &[bool], bare: Bare, position: usize) -> Bare
+    requires { (q : ℕ) → bare.from ≤ q → q < bare.until → plain.flag marks.now q ≡ false }
+    ensures bare { (q : ℕ) → result.from ≤ q → q < result.until → plain.flag marks.now q ≡ false }
+    ensures from { result.from ≤ position }
+{
+    if bare.from <= position && position < bare.until {
+        return bare;
+    }
+    let until = bare_until(marks, position);
+    Bare {
+        from: position,
+        until,
+    }
+}
+
+// Whether none of the positions of a rule is marked.
+fn is_untouched(part: &RulePart, marks: &[bool], bare: Bare) -> bool
+    requires bare { (q : ℕ) → bare.from ≤ q → q < bare.until → plain.flag marks.now q ≡ false }
+    requires from { bare.from ≤ part.now.base }
+    ensures { result ≡ true → (q : ℕ) → part.now.base ≤ q → q < part.now.base + part.now.count + 1 → plain.flag marks.now q ≡ false }
+{
+    if part.base + part.count < bare.until {
+        return true;
+    }
+    !part.is_touched(marks)
+}
+
 // One rule: nothing is to be done where none of its positions is marked.
 fn step_rule(
     alloc: Global,
     part: &RulePart,
     marks: &[bool],
+    bare: Bare,
     reads: &mut Vec<bool>,
 ) -> Result<bool, AllocError>
+    requires bare { (q : ℕ) → bare.from ≤ q → q < bare.until → plain.flag marks.now q ≡ false }
+    requires from { bare.from ≤ part.now.base }
     ensures long { OnOk result (length reads.new.items ≡ length reads.old.items) }
     ensures matched { (r : NumberedRule) → IsPartOf part.now r → IfOk result (λ matched. (matched ≡ true) ↔ EndsMarked marks.now r) }
     ensures reads { (r : NumberedRule) → IsPartOf part.now r → part.now.base + (part.now.count + newline_count part.now.line_end) ≤ length reads.old.items → IsClear reads.old.items part.now.base (part.now.base + part.now.count) → OnOk result (ReadsOrStays (FollowsMarked marks.now) r reads.old.items reads.new.items) }
 {
-    if !part.is_touched(marks) {
+    if is_untouched(part, marks, bare) {
         return Ok(false);
     }
     let matched = part.step(alloc, marks, reads)?;
@@ -55,8 +114,11 @@ pub(crate) fn step_rules(
     ensures long { OnOk result (length reads.new.items ≡ length reads.old.items) }
 {
     let mut found = None;
+    let mut bare = Bare { from: 0, until: 0 };
     for i in 0..parts.len() {
-        let matched = step_rule(alloc, &parts[i], marks, reads)?;
+        let part = &parts[i];
+        bare = bare_at(marks, bare, part.base);
+        let matched = step_rule(alloc, part, marks, bare, reads)?;
         found = first_matched(found, matched, i);
     }
     Ok(found)
@@ -90,9 +152,6 @@ pub(crate) fn marks_of(alloc: Global, total: usize, set: &[u16]) -> Result<Vec<b
     }
     Ok(marks)
 }
-
-// How many flags are looked at together: in most sets few are set.
-const STRETCH: usize = 64;
 
 // Puts the places of the flags that are set, from one place on up to another, behind others.
 fn push_places(

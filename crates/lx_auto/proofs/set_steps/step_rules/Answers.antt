@@ -21,6 +21,7 @@ loop-i-preserved c =
           subst (λ f. IsFirstMatchedBelow rules c.args.marks.now (i + 1) f) (sym c.first_matched-found.ensures)
           (matched_all c.args.marks.now rules parts total i part c.loop-i.found c.in_ok-matched.matched are inside at
           (λ r is. c.in_ok-matched.ensures.matched r is) (c.loop-i.invariant.matched spec rules numbered are));
+      bare = c.bare_at-bare.ensures.bare;
     }
 
 pub returns-clause-matched : goal.returns-clause-matched

@@ -1,4 +1,4 @@
-use Rattle.std.proofs.Common.{◌≡◌, ℕ, List, false, length}
+use Rattle.std.proofs.Common.{◌≡◌, ◌≤◌, ◌<◌, ℕ, List, false, length}
 use Rattle.lx_rules.specs.Plain.{PlainSpec}
 use Rattle.lx_auto.specs.Marking.{flag}
 use Rattle.lx_auto.specs.PositionSets.{NumberedRule}
@@ -13,4 +13,5 @@ invariant-loop-i l = record {
       ((q : ℕ) → flag l.fn.reads.items q ≡ false) → AreReadBelow (FollowsMarked l.marks) rules l.i l.reads.items;
   matched : (spec : PlainSpec) (rules : List NumberedRule) → AreNumbered spec rules → ArePartsOf l.parts rules (length l.fn.reads.items) →
       IsFirstMatchedBelow rules l.marks l.i l.found;
+  bare : (q : ℕ) → l.bare.from ≤ q → q < l.bare.until → flag l.marks q ≡ false;
 }
