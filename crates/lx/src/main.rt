@@ -19,8 +19,8 @@ use std::sync::Wait;
 use std::thread::Threads;
 use std::{env, io};
 
-// How many bytes of the listing are written at once.
-const BUFFER: usize = 262_144;
+// So many bytes of output are gathered. What is longer, as most blocks of lines are, goes to the stream as it is, without a copy.
+const BUFFER: usize = 4_096;
 
 // The exit statuses where the program's own work doesn't begin: the words can't be had, or memory is refused.
 const NO_WORDS: u8 = 2;

@@ -165,14 +165,18 @@ fn relay_last_file_first<W: Write + Drop>(alloc: Global, plan: &Plan, out: W) ->
     Ok(listing.faults())
 }
 
+/// It writes each line by itself, also where a piece has several.
 #[test]
 fn holds_the_pieces_of_later_files(rt: HostRuntime) -> Result<(), Fail> {
     let alloc = rt.alloc();
-    let plan = mixed_plan(alloc, 1)?;
-    let mut out = Vec::new(alloc);
-    let faults = relay_last_file_first(alloc, &plan, &mut out)?;
-    assert_eq!(rt; faults, 0);
-    assert_eq!(rt; out.as_slice(), MIXED_LISTING.as_bytes());
+    for per_piece in [1, 256] {
+        let plan = mixed_plan(alloc, per_piece)?;
+        let mut out = failing_writer(alloc, 4_096, 0, false);
+        let faults = relay_last_file_first(alloc, &plan, &mut out)?;
+        assert_eq!(rt; faults, 0);
+        assert_eq!(rt; out.held.as_slice(), MIXED_LISTING.as_bytes());
+        assert_eq!(rt; out.calls, 14, "with {per_piece} items a piece");
+    }
     Ok(())
 }
 
