@@ -8,3 +8,4 @@ pub mod Quotients
 pub mod Merged
 pub mod Containing
 pub mod MovedStates
+pub mod Lanes

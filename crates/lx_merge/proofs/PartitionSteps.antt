@@ -1,43 +1,11 @@
--- One state more: given a block by its label, found to be moved, given a number.
-use Rattle.std.proofs.Common.{◌≡◌, ◌≢◌, ℕ, ◌+◌, ◌<◌, Bool, List, [], ◌∷◌, ◌++◌, length, slice_index, slice_set, refl, sym, ◌∙◌, ap, subst, arith, inl, inr}
+-- One state more: given a block by its label, given a number.
+use Rattle.std.proofs.Common.{◌≡◌, ◌≢◌, ℕ, ◌+◌, ◌<◌, List, length, slice_index, slice_set, sym, ◌∙◌, ap, arith, inl, inr}
 use Rattle.std.proofs.lemmas.Bool.{cases_lt, cases_eq}
-use Rattle.std.proofs.lemmas.List.{get_or_append_left, get_or_push, length_push, length-set, get_or-set_same, get_or-set_other}
+use Rattle.std.proofs.lemmas.List.{length-set, get_or-set_same, get_or-set_other}
 use Rattle.lx_merge.specs.Completion.{total, step_of}
-use Rattle.lx_merge.specs.Partitions.{block, member_of, IsStable, IsMoved, AreMovedStates, AreRenumbered, StepsLikeRepresentative}
+use Rattle.lx_merge.specs.Partitions.{block, member_of, IsStable, AreRenumbered, StepsLikeRepresentative}
 use Rattle.lx_merge.specs.declared.complete.Complete.{Complete}
 use Rattle.lx_merge.specs.declared.partition.Partition.{Partition}
-
-pub moved_push : (m : Complete) (bs : List ℕ) (inside : List Bool) (from class : ℕ) (wanted : Bool) (n : ℕ) (ms : List ℕ) →
-    AreMovedStates m bs inside from class wanted n ms → IsMoved m bs inside from class wanted n → AreMovedStates m bs inside from class wanted (n + 1) (ms ++ n ∷ [])
-moved_push m bs inside from class wanted n ms are is =
-    let long : length (ms ++ n ∷ []) ≡ length ms + 1 = length_push ms n in
-    let kept : (j : ℕ) → j < length ms → slice_index (ms ++ n ∷ []) j ≡ slice_index ms j = λ j h. get_or_append_left ms (n ∷ []) 0 j h in
-    let last : slice_index (ms ++ n ∷ []) (length ms) ≡ n = get_or_push ms n 0 (length ms) refl in
-    record {
-      below = λ j h. elim (cases_lt j (length ms)) [
-        | inl k ↦ rw (kept j k) (let g = are.below j k in omega arith)
-        | inr k ↦ let i : j ≡ length ms = omega arith in rw (i, last) (omega arith)
-      ];
-      each = λ j h. elim (cases_lt j (length ms)) [
-        | inl k ↦ rw (kept j k) (are.each j k)
-        | inr k ↦ let i : j ≡ length ms = omega arith in rw (i, last) is
-      ];
-      all = λ s h e. elim (cases_lt s n) [
-        | inl k ↦ let w = are.all s k e in (w.0, omega arith, kept w.0 w.1 ∙ w.2)
-        | inr k ↦ let i : s ≡ n = omega arith in (length ms, omega arith, last ∙ sym i)
-      ];
-    }
-
-pub moved_skip : (m : Complete) (bs : List ℕ) (inside : List Bool) (from class : ℕ) (wanted : Bool) (n : ℕ) (ms : List ℕ) →
-    AreMovedStates m bs inside from class wanted n ms → (IsMoved m bs inside from class wanted n → ⊥) → AreMovedStates m bs inside from class wanted (n + 1) ms
-moved_skip m bs inside from class wanted n ms are isnt = record {
-  below = λ j h. let g = are.below j h in omega arith;
-  each = are.each;
-  all = λ s h e. elim (cases_lt s n) [
-    | inl k ↦ are.all s k e
-    | inr k ↦ let i : s ≡ n = omega arith in absurd (isnt (subst (λ x. IsMoved m bs inside from class wanted x) i e))
-  ];
-}
 
 pub renumber_more : (old new ms : List ℕ) (fresh n : ℕ) → AreRenumbered old new ms fresh n → slice_index ms n < length old →
     AreRenumbered old (slice_set new (slice_index ms n) fresh) ms fresh (n + 1)

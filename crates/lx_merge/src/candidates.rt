@@ -21,20 +21,6 @@ pub(crate) fn all_states(alloc: Global, count: usize) -> Result<Vec<u16>, AllocE
     Ok(states)
 }
 
-/// The states of a set that is kept as flags.
-pub(crate) fn members_of(alloc: Global, inside: &[bool]) -> Result<Vec<u16>, AllocError>
-    requires { length inside.now ≤ 16513 }
-    ensures { IfOk result (λ members. (s : ℕ) → s < length inside.now → flag inside.now s ≡ true → Contains members.items s) }
-{
-    let mut members = Vec::new(alloc);
-    for state in 0..inside.len() {
-        if inside[state] {
-            members.push(state as u16)?;
-        }
-    }
-    Ok(members)
-}
-
 // Adds those of the states that are below the count.
 fn add_below(states: &[u16], count: usize, all: &mut Vec<u16>) -> Result<(), AllocError>
     ensures { OnOk result (AddsBelow states.now count all.old.items all.new.items) }

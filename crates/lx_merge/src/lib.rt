@@ -3,6 +3,7 @@
 
 mod candidates;
 mod complete;
+mod members;
 pub mod merging;
 mod partition;
 mod predecessors;

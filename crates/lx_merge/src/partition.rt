@@ -6,6 +6,7 @@ ghost use Rattle.lx_merge.specs.Partitions.{block, block_count, member_of, flag,
 ghost use Rattle.lx_merge.specs.Sources.{AreMovedStatesAmong, ContainPreimage};
 
 use crate::complete::{Complete, step};
+use crate::members::next_of_block;
 use std::alloc::{AllocError, Global};
 
 /// A division of the states into blocks: the block of each state, and a state of each block.
@@ -68,17 +69,6 @@ pub(crate) fn by_labels(alloc: Global, m: &Complete) -> Result<Partition, AllocE
     })
 }
 
-/// The flags of the states of a block.
-pub(crate) fn flags_of(alloc: Global, blocks: &[u16], number: u16) -> Result<Vec<bool>, AllocError>
-    ensures { IfOk result (λ inside. AreFlags blocks.now number (length blocks.now) inside.items) }
-{
-    let mut inside = vec![in alloc; false; blocks.len()]?;
-    for state in 0..blocks.len() {
-        inside[state] = blocks[state] == number;
-    }
-    Ok(inside)
-}
-
 /// Whether the state steps into the set.
 #[inline]
 pub(crate) fn steps_into(m: &Complete, inside: &[bool], state: usize, class: usize) -> bool
@@ -112,7 +102,7 @@ fn is_moved(
     blocks[state] == from && steps_into(m, inside, state, class) == wanted
 }
 
-// The states of a block that step into the set, or where `wanted` is false, out of it: all states are gone through.
+// The states of a block that step into the set, or where `wanted` is false, out of it: all states of the block are gone through.
 fn moved_states_of_all(
     alloc: Global,
     m: &Complete,
@@ -129,10 +119,12 @@ fn moved_states_of_all(
     ensures { IfOk result (λ moved_states. AreMovedStates m.now blocks.now inside.now from class wanted (total m.now) moved_states.items) }
 {
     let mut moved_states = Vec::new(alloc);
-    for state in 0..blocks.len() {
+    let mut behind = 0;
+    while let Some(state) = next_of_block(blocks, behind, from) {
         if is_moved(m, blocks, inside, from, class, wanted, state) {
             moved_states.push(state as u16)?;
         }
+        behind = state + 1;
     }
     Ok(moved_states)
 }
@@ -231,10 +223,12 @@ fn first_remaining_state(
     ensures remaining_state { IfSome result (λ s. IsRemaining m.now blocks.now inside.now from class wanted s) }
     ensures none { IfNone result ((s : ℕ) → s < total m.now → IsRemaining m.now blocks.now inside.now from class wanted s → ⊥) }
 {
-    for state in 0..blocks.len() {
-        if blocks[state] == from && steps_into(m, inside, state, class) != wanted {
+    let mut behind = 0;
+    while let Some(state) = next_of_block(blocks, behind, from) {
+        if steps_into(m, inside, state, class) != wanted {
             return Some(state as u16);
         }
+        behind = state + 1;
     }
     None
 }

@@ -7,8 +7,9 @@ ghost use Rattle.lx_merge.specs.Partitions.{block, block_count, member_of, flag,
 
 use crate::candidates::all_states;
 use crate::complete::{Complete, step};
+use crate::members::members_of;
 use crate::partition::{
-    Partition, first_unstable, flags_of, moved_states_of, remaining_state_of, renumber, steps_into,
+    Partition, first_unstable, moved_states_of, remaining_state_of, renumber, steps_into,
 };
 use crate::worklist::refine_by_worklist;
 use std::alloc::{AllocError, Global};
@@ -149,9 +150,9 @@ fn split_at(
     ensures more { OnOk result (block_count p.new ≡ block_count p.old + 1) }
 {
     let into = p.block_of[step(m, s, class)];
-    let inside = flags_of(alloc, &p.block_of, into)?;
+    let members = members_of(alloc, &p.block_of, into)?;
     let from = p.block_of[s] as usize;
-    let _split = split_slowly(alloc, m, p, &inside, from, class, true)?;
+    let _split = split_slowly(alloc, m, p, &members.inside, from, class, true)?;
     Ok(())
 }
 

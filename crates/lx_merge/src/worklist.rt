@@ -7,9 +7,10 @@ ghost use Rattle.lx_merge.specs.Partitions.{block_count, IsSound, IsSplitter};
 ghost use Rattle.lx_merge.specs.SplitMeasure.{splits_left};
 ghost use Rattle.lx_merge.specs.Sources.{AreAllListed, ContainPreimage};
 
-use crate::candidates::{members_of, sources_into};
+use crate::candidates::sources_into;
 use crate::complete::Complete;
-use crate::partition::{Partition, flags_of};
+use crate::members::{Members, members_of};
+use crate::partition::Partition;
 use crate::predecessors::Predecessors;
 use crate::split::{side_of, split};
 use std::alloc::{AllocError, Global};
@@ -203,10 +204,9 @@ fn split_all(
     ensures sound { OnOk result (IsSound m.now p.new) }
     ensures splits_left { OnOk result (splits_left m.now p.new worklist.new ≤ splits_left m.now p.old worklist.old) }
 {
-    let inside = flags_of(alloc, &p.block_of, block)?;
-    let members = members_of(alloc, &inside)?;
+    let Members { inside, states } = members_of(alloc, &p.block_of, block)?;
     for class in 0..m.width {
-        let sources = sources_into(alloc, m, predecessors, listed, &inside, &members, class)?;
+        let sources = sources_into(alloc, m, predecessors, listed, &inside, &states, class)?;
         split_by(alloc, m, p, worklist, &inside, &sources, class)?;
     }
     Ok(())

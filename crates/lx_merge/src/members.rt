@@ -1,0 +1,72 @@
+// The states of blocks, looked for eight at a time.
+
+ghost use Rattle.std.specs.Prelude.{◌≡◌, ◌≢◌, ◌<◌, ◌≤◌, ◌+◌, ℕ, true, false, IfOk, IfSome, IfNone, Contains, length, slice_index};
+ghost use Rattle.lx_merge.specs.Partitions.{AreFlags, flag};
+
+use std::alloc::{AllocError, Global};
+use std::simd::prelude::*;
+
+// So many states are looked at at once.
+const LANES: usize = 8;
+
+// How many of the next eight states come before the first one of the block.
+#[inline(always)]
+fn lanes_before(blocks: &[u16], from: usize, number: u16) -> usize
+    requires { from + 8 ≤ length blocks.now }
+    ensures few { result ≤ 8 }
+    ensures before { (s : ℕ) → from ≤ s → s < from + result → slice_index blocks.now s ≢ number }
+    ensures found { result < 8 → slice_index blocks.now (from + result) ≡ number }
+{
+    let lanes = u16x8::from_slice(&blocks[from..]);
+    let mask = lanes.simd_eq(u16x8::splat(number)).to_bitmask();
+    LANES.min(mask.trailing_zeros() as usize)
+}
+
+/// The first state of a block from a place on.
+pub(crate) fn next_of_block(blocks: &[u16], from: usize, number: u16) -> Option<usize>
+    requires { from ≤ length blocks.now }
+    ensures state { IfSome result (λ s. s < length blocks.now) }
+    ensures behind { IfSome result (λ s. from ≤ s) }
+    ensures within { IfSome result (λ s. slice_index blocks.now s ≡ number) }
+    ensures first { IfSome result (λ s. (t : ℕ) → from ≤ t → t < s → slice_index blocks.now t ≢ number) }
+    ensures none { IfNone result ((t : ℕ) → from ≤ t → t < length blocks.now → slice_index blocks.now t ≢ number) }
+{
+    let mut done = from;
+    while LANES <= blocks.len() - done {
+        let before = lanes_before(blocks, done, number);
+        if before < LANES {
+            return Some(done + before);
+        }
+        done += LANES;
+    }
+    for state in done..blocks.len() {
+        if blocks[state] == number {
+            return Some(state);
+        }
+    }
+    None
+}
+
+/// The states of a block: as flags of all states, and in a list.
+#[derive(Drop)]
+pub(crate) struct Members {
+    pub(crate) inside: Vec<bool>,
+    pub(crate) states: Vec<u16>,
+}
+
+/// The states of a block.
+pub(crate) fn members_of(alloc: Global, blocks: &[u16], number: u16) -> Result<Members, AllocError>
+    requires { length blocks.now ≤ 16513 }
+    ensures flags { IfOk result (λ members. AreFlags blocks.now number (length blocks.now) members.inside.items) }
+    ensures listed { IfOk result (λ members. (s : ℕ) → s < length blocks.now → flag members.inside.items s ≡ true → Contains members.states.items s) }
+{
+    let mut inside = vec![in alloc; false; blocks.len()]?;
+    let mut states = Vec::new(alloc);
+    let mut from = 0;
+    while let Some(state) = next_of_block(blocks, from, number) {
+        inside[state] = true;
+        states.push(state as u16)?;
+        from = state + 1;
+    }
+    Ok(Members { inside, states })
+}
