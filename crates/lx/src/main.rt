@@ -9,7 +9,7 @@ mod words;
 use crate::files::FileSources;
 use crate::output::PipeOutput;
 use crate::targets::FileTargets;
-use crate::words::tell_refused_word;
+use crate::words::{tell_refused_word, want_workers};
 use lx_tool::run_with;
 use std::io::{BufWriter, ErrorKind, Input, Print, Write};
 use std::process::ExitCode;
@@ -19,8 +19,11 @@ use std::sync::Wait;
 use std::thread::Threads;
 use std::{env, io};
 
-// So many bytes of output are gathered. What is longer, as most blocks of lines are, goes to the stream as it is, without a copy.
-const BUFFER: usize = 4_096;
+// So many bytes of output are gathered where one thread does all the work: so there are few calls of the system.
+const GATHERED: usize = 262_144;
+
+// And so many where workers make the lines: a block of lines is longer, as a rule, and goes to the stream without a copy.
+const GATHERED_OF_WORKERS: usize = 4_096;
 
 // The exit statuses where the program's own work doesn't begin: the words can't be had, or memory is refused.
 const NO_WORDS: u8 = 2;
@@ -50,7 +53,12 @@ fn start<
 >(rt: &R, err: &mut E) -> io::Result<u8> {
     let alloc = rt.alloc();
     let words: Vec<String> = env::args(rt)?.collect(alloc)?;
-    let mut out = PipeOutput::new(BufWriter::with_capacity(alloc, BUFFER, io::writer(rt))?);
+    let gathered = if want_workers(&words) {
+        GATHERED_OF_WORKERS
+    } else {
+        GATHERED
+    };
+    let mut out = PipeOutput::new(BufWriter::with_capacity(alloc, gathered, io::writer(rt))?);
     let mut sources = FileSources::new(rt);
     let mut targets = FileTargets::new(rt);
     let status = run_with(rt, alloc, &words, &mut sources, &mut targets, &mut out, err);

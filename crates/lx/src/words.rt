@@ -1,4 +1,4 @@
-//! Words of the command line that can't be served.
+//! What the program itself looks at in the words of the command line.
 
 ghost use Rattle.std.specs.Prelude.{◌≤◌, length};
 
@@ -35,4 +35,9 @@ pub fn tell_refused_word<R: Env, E: Write>(rt: &R, err: &mut E) -> io::Result<()
         }
     }
     Ok(())
+}
+
+/// Whether words ask for workers. What is gathered of the output goes by it, and nothing else: a file may have such a name.
+pub fn want_workers(words: &[String]) -> bool {
+    words.iter().any(|word| word.as_str() == "scan" || word.as_str().starts_with("-j"))
 }

@@ -20,7 +20,7 @@ use std::sync::Wait;
 use std::thread::Threads;
 
 // So many lists of items and blocks of lines are kept to be used again: about as many as are on their way at once.
-const SPARES: usize = 128;
+const SPARES: usize = 512;
 
 // Hands a new printer all pieces of the plan. It comes back, so that what a lent writer holds in the end is known.
 fn print_all<Y: Spares + Drop, S: LineSink + Drop>(

@@ -5,23 +5,30 @@ use lx_fixtures::{NO_RULES, tables_of};
 use lx_piece::{Input, Plan};
 use lx_post::Gate;
 use std::alloc::{AllocError, Global};
+use std::process::Abort;
+use std::sync::Wait;
 use std::sync::atomic::{AtomicU64, Ordering};
 use std::test::Fail;
 use std::thread;
+use std::thread::Threads;
 
 // A piece has so many items.
 const ITEMS: u32 = 256;
 
-// There are so many files of so many bytes, of which each is an item of 40 bytes.
-const FILES: usize = 41;
-
+// Bytes of which each is an item of 40 bytes.
 const BYTES: usize = 50_000;
 
-// 32 MB are held of later files, and a piece by each of two workers; 64 pieces are between the threads.
-const MOST_PIECES: u64 = (1 << 25) / (40 * 256) + 2 + 64;
+// With many files a worker draws no further one where 16 MB are held, or 8 MB where it is the second. The file that it cut, a piece by each of two
+// workers and 256 between the threads come on top.
+const MOST_OF_MANY: u64 = (1 << 24) / (40 * 256) + 196 + 2 + 256;
 
 // The bound is reached before the first file is done: a list takes at most twice the memory of its items.
-const LEAST_PIECES: u64 = (1 << 25) / (2 * 40 * 256);
+const LEAST_OF_MANY: u64 = (1 << 23) / (2 * 40 * 256);
+
+// Within a file 32 MB are held.
+const MOST_OF_ONE: u64 = (1 << 25) / (40 * 256) + 2 + 256;
+
+const LEAST_OF_ONE: u64 = (1 << 25) / (2 * 40 * 256);
 
 // So many turns without a pass of another worker: it stands still.
 const TURNS: u32 = 200_000;
@@ -60,32 +67,56 @@ impl Gate for StillGate {
     }
 }
 
-fn files_of_echoes(alloc: Global) -> Result<Vec<Input>, AllocError> {
+// A file of few bytes, and these behind it.
+fn files_of_echoes(alloc: Global, later: usize, bytes: usize) -> Result<Vec<Input>, AllocError>
+    requires { later < 100 }
+{
     let mut files = Vec::new(alloc);
-    for _file in 0..FILES {
-        let bytes = vec![in alloc; b'x'; BYTES]?;
+    files.push(Input {
+        bytes: vec![in alloc; b'x'; 1]?,
+        cut: false,
+    })?;
+    for _file in 0..later {
+        let bytes = vec![in alloc; b'x'; bytes]?;
         files.push(Input { bytes, cut: false })?;
     }
     Ok(files)
 }
 
-#[test]
-fn few_pieces_of_later_files_are_held(rt: HostRuntime) -> Result<(), Fail> {
-    let alloc = rt.alloc();
-    let files = files_of_echoes(alloc)?;
-    assert!(rt; !files.is_empty() && files.len() < 100);
+// How many pieces of these later files come while the first file stands still.
+fn held_pieces<T: Threads + Wait + Sync + Abort>(
+    rt: &T,
+    alloc: Global,
+    later: usize,
+    bytes: usize,
+) -> Result<u64, Fail>
+    requires { later < 100 }
+{
+    let files = files_of_echoes(alloc, later, bytes)?;
+    assert!(rt; !files.is_empty() && files.len() <= 100);
     let plan = Plan::new(tables_of(alloc, NO_RULES)?, files, ITEMS, 1);
     let gate = StillGate {
         others: AtomicU64::new(0),
         by_then: AtomicU64::new(0),
     };
     let mut out = Vec::new(alloc);
-    let ended = scan_over(&rt, alloc, &plan, 2, &gate, &mut out)?;
+    let ended = scan_over(rt, alloc, &plan, 2, &gate, &mut out)?;
     assert_eq!(rt; ended, (Ok(()), 0));
-    let passed = gate.by_then.load(Ordering::SeqCst);
+    Ok(gate.by_then.load(Ordering::SeqCst))
+}
+
+#[test]
+fn few_pieces_of_later_files_are_held(rt: HostRuntime) -> Result<(), Fail> {
+    let alloc = rt.alloc();
+    let many = held_pieces(&rt, alloc, 40, BYTES)?;
     assert!(rt;
-        (LEAST_PIECES..=MOST_PIECES).contains(&passed),
-        "{passed} pieces of later files"
+        (LEAST_OF_MANY..=MOST_OF_MANY).contains(&many),
+        "{many} pieces of many files"
+    );
+    let one = held_pieces(&rt, alloc, 1, 40 * BYTES)?;
+    assert!(rt;
+        (LEAST_OF_ONE..=MOST_OF_ONE).contains(&one),
+        "{one} pieces of one file"
     );
     Ok(())
 }

@@ -8,7 +8,7 @@ use std::time::Duration;
 // So often the processor is yielded before the first sleep.
 const YIELDS: u32 = 8;
 
-// How long a sleep is, in microseconds.
+// How long a sleep is else, in microseconds.
 const NAP: u64 = 50;
 
 /// The turns of a call that found no room, or no note. First it yields the processor, and then it sleeps for short times: a
@@ -16,6 +16,8 @@ const NAP: u64 = 50;
 #[derive(Drop)]
 pub struct Backoff {
     turns: u32,
+    // How long a sleep is, in microseconds.
+    nap: u64,
     // Nobody wakes a sleep on this word: it ends by its time.
     never: AtomicU64,
 }
@@ -25,6 +27,16 @@ impl Backoff {
     pub fn new() -> Backoff {
         Backoff {
             turns: 0,
+            nap: NAP,
+            never: AtomicU64::new(0),
+        }
+    }
+
+    /// That of a thread that has time: it sleeps so many microseconds at each turn.
+    pub fn of_naps(nap: u64) -> Backoff {
+        Backoff {
+            turns: YIELDS,
+            nap,
             never: AtomicU64::new(0),
         }
     }
@@ -37,7 +49,8 @@ impl Backoff {
             self.turns += 1;
             thread::yield_now();
         } else {
-            self.never.park_timeout(rt, 0, Duration::from_micros(NAP));
+            self.never
+                .park_timeout(rt, 0, Duration::from_micros(self.nap));
         }
     }
 }

@@ -1,6 +1,7 @@
 //! What the reader holds, and workers that wait where it holds much.
 
 use crate::backoff::Backoff;
+use crate::passes::MAX_WORKERS;
 use lx_piece::Held;
 use std::sync::Wait;
 use std::sync::atomic::{AtomicBool, AtomicU64, Ordering};
@@ -8,9 +9,16 @@ use std::sync::atomic::{AtomicBool, AtomicU64, Ordering};
 // So many bytes a reader may hold of files behind the one that it waits for before workers wait.
 const MOST_HELD: u64 = 1 << 25;
 
+// So many bytes before the first worker draws no further file; half as many before the second one doesn't, and so on.
+const ENOUGH_HELD: u64 = MOST_HELD / 2;
+
+// How long a worker sleeps that draws no file, in microseconds: what is held lasts longer.
+const NAP: u64 = 500;
+
 /// What a reader holds. One that needs the files in order holds what it takes of files behind the one that it waits for, which is nearly
 /// everything where that file is slow. So a worker that cuts such a file waits while much is held. The worker of the file that is waited for
-/// never waits, and files are drawn in order, so that it gets on. No contract speaks of this: it only takes time.
+/// never waits, and files are drawn in order, so that it gets on. Where workers are faster than the reader, the last ones draw no further file
+/// for a while: threads that aren't needed take the processor of the thread that reads. No contract speaks of this: it only takes time.
 #[derive(Drop)]
 pub struct Pace {
     // The file that is waited for.
@@ -55,8 +63,23 @@ impl Pace {
     }
 
     fn is_far_ahead(&self, file: u32) -> bool {
-        self.bytes.load(Ordering::SeqCst) >= MOST_HELD
-            && self.file.load(Ordering::SeqCst) < u64::from(file)
-            && !self.is_over.load(Ordering::SeqCst)
+        self.holds(MOST_HELD) && self.file.load(Ordering::SeqCst) < u64::from(file)
+    }
+
+    /// Has a worker wait before it draws a file, while enough is held: the reader waits for no file of its.
+    pub fn wait_to_draw<W: Wait>(&self, rt: &W, worker: u8) {
+        let mut backoff = Backoff::of_naps(NAP);
+        for _ in rt.forever() {
+            if !self.holds(ENOUGH_HELD >> worker.min(MAX_WORKERS)) {
+                return;
+            }
+            backoff.turn(rt);
+        }
+        unreachable!()
+    }
+
+    // Whether so much is held, and workers wait.
+    fn holds(&self, bytes: u64) -> bool {
+        self.bytes.load(Ordering::SeqCst) >= bytes && !self.is_over.load(Ordering::SeqCst)
     }
 }

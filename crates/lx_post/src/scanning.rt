@@ -26,8 +26,9 @@ use std::sync::Wait;
 use std::thread;
 use std::thread::{Scope, Threads};
 
-// For so many notes the post has room: more of them only take memory, and with few the workers wait.
-const ROOM: usize = 64;
+// For so many notes the post has room: more of them only take memory, and with few the workers wait while the pieces of a file that was held are handed
+// on at once.
+const ROOM: usize = 256;
 
 /// What a run does where a worker can't be started.
 #[derive(Clone, Copy, PartialEq, Eq)]

@@ -65,6 +65,7 @@ impl<'a, W: Wait, G: Gate, M: Maker + Copy> RunContext<'a, W, G, M> {
         let mut maker = self.maker;
         let mut files = 0;
         for _ in self.rt.forever() {
+            self.signals.pace.wait_to_draw(self.rt, pass.worker());
             let Some(file) = self.claims.draw(seat) else {
                 return (files, None);
             };
