@@ -1,5 +1,7 @@
 //! How much of later files a run holds while an earlier one stands still.
 
+ghost use Rattle.std.specs.Prelude.{◌<◌};
+
 use crate::thread_listings::scan_over;
 use lx_fixtures::{NO_RULES, tables_of};
 use lx_piece::{Input, Plan};
