@@ -157,5 +157,6 @@ pub(crate) const DIRECT_LAST_LINES: &[u8] = br#"
 #undef @__LOOP
 #undef @__MATCHED
 #undef @__OTHER
+#undef @__PENDING
 #undef @__STEPS
 "#;
