@@ -1,8 +1,8 @@
 -- Code for each state. In the code of a state its steps to itself are a loop; those to the state to which most classes of bytes lead are one test; and each other
 -- class has a case of its own. Where a step is missing, it goes to the code of the rule that the state accepts. Where it accepts none, the last place counts at
 -- which one was accepted; that is kept only on a step from a state that accepts a rule to one that doesn't.
-use Rattle.std.specs.Prelude.{ℕ, zero, suc, ◌+◌, ◌*◌, ◌/◌, ◌==◌, nat_lt, Bool, true, false, if◌then◌else◌, List, [], ◌++◌, Option, Some, None, length, codes, slice_index}
-use Rattle.std.specs.List.{flat_map, range_with_len}
+use Rattle.std.specs.Prelude.{ℕ, zero, suc, ◌+◌, ◌*◌, ◌/◌, ◌==◌, ◌||◌, nat_lt, not, Bool, true, false, if◌then◌else◌, List, [], ◌++◌, Option, Some, None, length, codes, slice_index}
+use Rattle.std.specs.List.{flat_map, list_any, range_with_len}
 use Rattle.lx_automaton.specs.Automata.{Machine, state_count, start_of, accepted_by, class_target, target_of}
 use Rattle.lx_tables.specs.Model.{Table}
 use Rattle.lx_tables.specs.Texts.{number}
@@ -10,7 +10,7 @@ use Rattle.lx_c.specs.Options.{Options}
 use Rattle.lx_c.specs.Actions.{array_text}
 use Rattle.lx_c.specs.Rows.{entry_text, rule_word, line_begin_text}
 use Rattle.lx_c.specs.Templates.{filled, number_then}
-use Rattle.lx_c.specs.declared.direct_templates.TheConstants.{MARKS, BEGIN_MATCH, AT_LINE_BEGIN, GOTO_STATE, BEGIN_STATES, STATE_LABEL, LOOP, SWITCH, NEWLINE, GO, OTHER, GOTO_RULE, BACK, GOTO_RULE_OF, NO_RULE, RULE_LABEL, MATCHED, END_MATCH}
+use Rattle.lx_c.specs.declared.direct_templates.TheConstants.{MARKS, MAY_BE_EMPTY, NONE_IS_EMPTY, BEGIN_MATCH, AT_LINE_BEGIN, GOTO_STATE, BEGIN_STATES, STATE_LABEL, LOOP, SWITCH, NEWLINE, GO, OTHER, GOTO_RULE, BACK, GOTO_RULE_OF, NO_RULE, RULE_LABEL, MATCHED, END_MATCH}
 
 -- constant text, a number, and what stands behind it
 abbrev pub numbered : Options → List ℕ → ℕ → List ℕ → List ℕ
@@ -80,9 +80,19 @@ mark_lines m = flat_map (mark_line m) (range_with_len 0 (state_count m / 4 + 1))
 abbrev pub marks_text : Options → Table → List ℕ
 marks_text o table = array_text o MARKS.now (mark_lines table.machine)
 
+-- ---- whether a match may be empty
+
+-- whether a condition starts in a state that accepts a rule
+abbrev pub accepts_at_once : Machine → ℕ × ℕ → Bool
+accepts_at_once m start = not (rule_word (accepted_by m start.0) == 0) || not (rule_word (accepted_by m start.1) == 0)
+
+abbrev pub emptiness_text : Options → Table → List ℕ
+emptiness_text o table =
+    if list_any (accepts_at_once table.machine) table.machine.starts then filled o.prefix MAY_BE_EMPTY.now else filled o.prefix NONE_IS_EMPTY.now
+
 -- what stands in the place of the arrays of the automaton
 abbrev pub marked_text : Options → Table → List ℕ
-marked_text o table = line_begin_text o table ++ marks_text o table
+marked_text o table = line_begin_text o table ++ emptiness_text o table ++ marks_text o table
 
 -- ---- the code of a state
 

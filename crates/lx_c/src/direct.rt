@@ -2,19 +2,20 @@
 
 ghost use Rattle.lx_automaton.specs.Automata.{accepted_by, class_target, start_of, state_count, target_of};
 ghost use Rattle.lx_c.specs.DirectCode as direct;
-ghost use Rattle.lx_c.specs.DirectCode.{body_code, case_text, case_texts, class_code, direct_text, edge_text, keep_text, loop_code, main_code, mark_byte, mark_line, marked_text, marks_text, newline_text, numbered, rule_case, rule_code, rules_text, start_code, state_code, states_text, steps_code};
+ghost use Rattle.lx_c.specs.DirectCode.{body_code, case_text, case_texts, class_code, direct_text, edge_text, keep_text, loop_code, main_code, mark_byte, mark_line, emptiness_text, marked_text, marks_text, newline_text, numbered, rule_case, rule_code, rules_text, start_code, state_code, states_text, steps_code};
 ghost use Rattle.lx_c.specs.Rows as rows;
 ghost use Rattle.lx_c.specs.Rows.{entry_text};
 ghost use Rattle.lx_c.specs.Templates.{number_then};
 ghost use Rattle.lx_c.specs.declared.direct_templates.TheConstants.{AT_LINE_BEGIN, GOTO_RULE_OF, GOTO_STATE, MATCHED, OTHER, RULE_LABEL};
 ghost use Rattle.lx_tables.specs.Output.{Wrote, WrotePrefix};
 ghost use Rattle.lx_tables.specs.Texts.{number};
-ghost use Rattle.std.specs.List.{flat_map, range_with_len};
-ghost use Rattle.std.specs.Prelude.{IfSome, OnErr, OnOk, Some, codes, length, slice_index, ◌++◌, ◌+◌, ◌/◌, ◌<◌, ◌≡◌, ◌≤◌};
+ghost use Rattle.std.specs.List.{flat_map, list_any, range_with_len};
+ghost use Rattle.std.specs.Prelude.{IfSome, OnErr, OnOk, Some, codes, length, slice_index, slice_index_or, not, ◌==◌, ◌++◌, ◌+◌, ◌/◌, ◌<◌, ◌≡◌, ◌≤◌};
 
 use crate::direct_templates::{
     AT_LINE_BEGIN, BACK, BEGIN_MATCH, BEGIN_STATES, END_MATCH, GO, GOTO_RULE, GOTO_RULE_OF,
-    GOTO_STATE, LOOP, MARKS, MATCHED, NEWLINE, NO_RULE, OTHER, RULE_LABEL, STATE_LABEL, SWITCH,
+    GOTO_STATE, LOOP, MARKS, MATCHED, MAY_BE_EMPTY, NEWLINE, NO_RULE, NONE_IS_EMPTY, OTHER,
+    RULE_LABEL, STATE_LABEL, SWITCH,
 };
 use crate::filling::write_filled;
 use crate::options::Options;
@@ -267,6 +268,50 @@ fn write_marks<W: Write>(out: &mut W, options: &Options, tables: &Tables) -> Res
 }
 
 /// Writes the marks of the states, and whether line begins make a difference.
+/// Whether a state accepts a rule.
+fn accepts(tables: &Tables, state: u32) -> bool
+    requires { state < state_count tables.now.machine }
+    ensures { result ≡ not (rows.rule_word (accepted_by tables.now.machine state) == 0) }
+{
+    rule_word(tables, state) != 0
+}
+
+/// Whether a condition starts in a state that accepts a rule.
+fn accepts_at_once(tables: &Tables, condition: u16) -> bool
+    requires { condition < length tables.now.machine.starts }
+    ensures { result ≡ direct.accepts_at_once tables.now.machine (slice_index_or tables.now.machine.starts condition (0, 0)) }
+{
+    accepts(tables, tables.start(condition, false).0)
+        || accepts(tables, tables.start(condition, true).0)
+}
+
+/// Whether some condition does, so that a match may be empty.
+fn may_be_empty(tables: &Tables) -> bool
+    ensures { result ≡ list_any (direct.accepts_at_once tables.now.machine) tables.now.machine.starts }
+{
+    for condition in 0..tables.conditions() {
+        if accepts_at_once(tables, condition) {
+            return true;
+        }
+    }
+    false
+}
+
+fn write_emptiness<W: Write>(
+    out: &mut W,
+    options: &Options,
+    tables: &Tables,
+) -> Result<(), io::Error>
+    ensures ok { OnOk result (Wrote (W.contents out.old) (W.contents out.new) (emptiness_text options.now tables.now)) }
+    ensures err { OnErr result (WrotePrefix (W.contents out.old) (W.contents out.new) (emptiness_text options.now tables.now)) }
+{
+    if may_be_empty(tables) {
+        write_filled(out, options, MAY_BE_EMPTY)
+    } else {
+        write_filled(out, options, NONE_IS_EMPTY)
+    }
+}
+
 pub(crate) fn write_marked<W: Write>(
     out: &mut W,
     options: &Options,
@@ -276,6 +321,7 @@ pub(crate) fn write_marked<W: Write>(
     ensures err { OnErr result (WrotePrefix (W.contents out.old) (W.contents out.new) (marked_text options.now tables.now)) }
 {
     write_line_begin(out, options, tables)?;
+    write_emptiness(out, options, tables)?;
     write_marks(out, options, tables)
 }
 

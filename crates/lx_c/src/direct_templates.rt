@@ -9,6 +9,14 @@ pub(crate) const DIRECT_FIRST_LINE: &[u8] =
 pub(crate) const MARKS: &[u8] = br#"static const unsigned char @__mark[] = {
 "#;
 
+/// Whether a match may be empty, which is none.
+pub(crate) const MAY_BE_EMPTY: &[u8] = br#"#define @__EMPTY 1
+"#;
+
+/// The same where no start accepts a rule.
+pub(crate) const NONE_IS_EMPTY: &[u8] = br#"#define @__EMPTY 0
+"#;
+
 /// What the code of states and rules stands on.
 pub(crate) const MACROS: &[u8] =
     br#"/* Whether a state steps on a byte to itself (1), or to another state (2). */
@@ -37,7 +45,7 @@ pub(crate) const MACROS: &[u8] =
 
 /* A match of a rule ends here. It has to be longer than what is left away of it. */
 #define @__MATCHED(rule) \
-    if ((size_t)(p - from) <= @__CUT(rule)) goto @__echo; \
+    if ((@__EMPTY || @__CUT(rule) || !(rule)) && (size_t)(p - from) <= @__CUT(rule)) goto @__echo; \
     p -= @__CUT(rule); \
     kind = @__action[rule]; \
     if (kind == @_END) goto @__skip; \
@@ -152,6 +160,7 @@ pub(crate) const END_MATCH: &[u8] = br#"@__skip:
 pub(crate) const DIRECT_LAST_LINES: &[u8] = br#"
 #undef @__BEGIN
 #undef @__CUT
+#undef @__EMPTY
 #undef @__GO
 #undef @__LINES
 #undef @__LOOP
