@@ -10,7 +10,7 @@ use Rattle.lx_tables.specs.Model.{Table, rule_at, kind_at}
 use Rattle.lx_c.specs.Options.{Options, has_file}
 use Rattle.lx_c.specs.Kinds.{first_kind}
 use Rattle.lx_c.specs.Templates.{filled, number_then}
-use Rattle.lx_c.specs.declared.templates.TheConstants.{STEP_ARRAY, STEPS_OF, STEPS, ACTIONS, CUTS, NAMES, KINDS, CUT, NO_CUT}
+use Rattle.lx_c.specs.declared.templates.TheConstants.{STEP_ARRAY, STEPS_OF, STEPS, ACTIONS, CUTS, NAMES, KINDS, CUT, NO_CUT, PENDING, NOTHING_PENDING}
 
 -- a kind: its number, where the first kind has this one, and its name where a file declares the kinds
 abbrev pub kind_word : Options → ℕ → Table → ℕ → List ℕ
@@ -83,6 +83,21 @@ cut_entries table = of_rules table (λ r. cut_entry (rule_at table r).line_end)
 abbrev pub cuts_text : Options → Table → List ℕ
 cuts_text o table = if has_cuts table then filled o.prefix CUT.now ++ array_text o CUTS.now (cut_entries table) else filled o.prefix NO_CUT.now
 
+-- whether some action has an ECHO, behind whose token it goes on; behind a return none goes on
+abbrev pub is_echo : Step → Bool
+is_echo Echo = true
+is_echo (Begin c) = false
+is_echo (Return kind) = false
+
+abbrev pub has_echo : List Step → Bool
+has_echo steps = list_any is_echo steps
+
+abbrev pub has_echoes : Table → Bool
+has_echoes table = list_any (λ rule. has_echo rule.steps) table.rules
+
+abbrev pub pending_text : Options → Table → List ℕ
+pending_text o table = if has_echoes table then filled o.prefix PENDING.now else filled o.prefix NOTHING_PENDING.now
+
 -- the kinds that a file declares, in the order of their names
 abbrev pub kinds_array : Options → Table → List ℕ
 kinds_array o table = if has_file o.include then array_text o KINDS.now (of_kinds table kind_entry) else []
@@ -100,7 +115,7 @@ action_entries o first table = of_rules table (λ r. action_entry o first table 
 abbrev pub actions_from : Options → ℕ → Table → List ℕ
 actions_from o first table =
     steps_arrays o first table ++ steps_text o table ++ array_text o ACTIONS.now (action_entries o first table)
-    ++ cuts_text o table ++ array_text o NAMES.now (of_kinds table name_entry) ++ kinds_array o table
+    ++ cuts_text o table ++ pending_text o table ++ array_text o NAMES.now (of_kinds table name_entry) ++ kinds_array o table
 
 abbrev pub actions_text : Options → Table → List ℕ
 actions_text o table = actions_from o (first_kind table) table

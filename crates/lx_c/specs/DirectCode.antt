@@ -1,8 +1,8 @@
 -- Code for each state. In the code of a state its steps to itself are a loop; those to the state to which most classes of bytes lead are one test; and each other
--- class has a case of its own. Where a step is missing, it goes to the code of the rule that the state accepts. Where it accepts none, the last place counts at
+-- class has a case of its own. A state in which matches begin asks before all others for one step to a state that goes on by the same bytes, as blanks do. Where a step is missing, it goes to the code of the rule that the state accepts. Where it accepts none, the last place counts at
 -- which one was accepted; that is kept only on a step from a state that accepts a rule to one that doesn't.
-use Rattle.std.specs.Prelude.{ℕ, zero, suc, ◌+◌, ◌*◌, ◌/◌, ◌==◌, nat_lt, Bool, true, false, if◌then◌else◌, List, [], ◌++◌, Option, Some, None, length, codes, slice_index}
-use Rattle.std.specs.List.{flat_map, range_with_len}
+use Rattle.std.specs.Prelude.{ℕ, zero, suc, ◌+◌, ◌-◌, ◌*◌, ◌/◌, ◌==◌, ◌&&◌, ◌||◌, nat_lt, not, Bool, true, false, if◌then◌else◌, List, [], ◌++◌, Option, Some, None, length, codes, slice_index}
+use Rattle.std.specs.List.{flat_map, list_any, range_with_len}
 use Rattle.lx_automaton.specs.Automata.{Machine, state_count, start_of, accepted_by, class_target, target_of}
 use Rattle.lx_tables.specs.Model.{Table}
 use Rattle.lx_tables.specs.Texts.{number}
@@ -10,7 +10,7 @@ use Rattle.lx_c.specs.Options.{Options}
 use Rattle.lx_c.specs.Actions.{array_text}
 use Rattle.lx_c.specs.Rows.{entry_text, rule_word, line_begin_text}
 use Rattle.lx_c.specs.Templates.{filled, number_then}
-use Rattle.lx_c.specs.declared.direct_templates.TheConstants.{MARKS, BEGIN_MATCH, AT_LINE_BEGIN, GOTO_STATE, BEGIN_STATES, STATE_LABEL, LOOP, SWITCH, NEWLINE, GO, OTHER, GOTO_RULE, BACK, GOTO_RULE_OF, NO_RULE, RULE_LABEL, MATCHED, END_MATCH}
+use Rattle.lx_c.specs.declared.direct_templates.TheConstants.{MARKS, MAY_BE_EMPTY, NONE_IS_EMPTY, BEGIN_MATCH, AT_LINE_BEGIN, BEHIND_LINE_END, GOTO_STATE, BEGIN_STATES, STATE_LABEL, LOOP, STAYS, LOOP_RULE, AT_END, FIRST, NEWLINE, GO, OTHER, GOTO_RULE, BACK, GOTO_RULE_OF, NO_RULE, RULE_LABEL, MATCHED, SKIPPED, END_MATCH}
 
 -- constant text, a number, and what stands behind it
 abbrev pub numbered : Options → List ℕ → ℕ → List ℕ → List ℕ
@@ -59,6 +59,82 @@ heaviest m s (suc n) = heavier m s (heaviest m s n) (class_target m s n)
 abbrev pub main_target : Machine → ℕ → Option ℕ
 main_target m s = heaviest m s m.width
 
+-- ---- the loop of a state
+
+-- whether a state steps to itself on a byte, or whether it doesn't
+abbrev pub stays : Machine → ℕ → Bool → ℕ → Bool
+stays m s true b = leads (Some s) (target_of m s b)
+stays m s false b = not (leads (Some s) (target_of m s b))
+
+-- whether a range of such bytes begins with a byte, or ends with it
+abbrev pub begins : Machine → ℕ → Bool → ℕ → Bool
+begins m s staying b = stays m s staying b && (b == 0 || not (stays m s staying (b - 1)))
+
+abbrev pub ends : Machine → ℕ → Bool → ℕ → Bool
+ends m s staying b = stays m s staying b && (b == 255 || not (stays m s staying (b + 1)))
+
+-- how many such ranges begin with one of the first n bytes, and how many there are
+abbrev pub ranges_of : Machine → ℕ → Bool → ℕ → ℕ
+ranges_of m s staying zero = 0
+ranges_of m s staying (suc n) = ranges_of m s staying n + one_if (begins m s staying n)
+
+unfoldable pub range_count : Machine → ℕ → Bool → ℕ
+range_count m s staying = ranges_of m s staying 256
+
+-- a range, as a test of the byte c
+abbrev pub low_text : Machine → ℕ → Bool → ℕ → List ℕ
+low_text m s staying b = if begins m s staying b then codes "(c >= " ++ number b else []
+
+abbrev pub high_text : Machine → ℕ → Bool → ℕ → List ℕ
+high_text m s staying b = if ends m s staying b then codes " && c <= " ++ number_then b (codes ") || ") else []
+
+abbrev pub range_text : Machine → ℕ → Bool → ℕ → List ℕ
+range_text m s staying b = low_text m s staying b ++ high_text m s staying b
+
+abbrev pub ranges_text : Machine → ℕ → Bool → List ℕ
+ranges_text m s staying = flat_map (range_text m s staying) (range_with_len 0 256) ++ codes "0"
+
+abbrev pub other_ranges_text : Machine → ℕ → List ℕ
+other_ranges_text m s = codes "!(" ++ ranges_text m s false ++ codes ")"
+
+-- on which bytes a state steps to itself: by comparisons where these are, or all others are, one range or two, and else by the marks
+abbrev pub stays_text : Options → Machine → ℕ → List ℕ
+stays_text o m s =
+    if nat_lt (range_count m s true) 3 then ranges_text m s true
+    else if nat_lt (range_count m s false) 3 then other_ranges_text m s
+    else numbered o STAYS.now s (codes ", c, 1)")
+
+-- ---- the step that is asked for first
+
+-- whether one state steps to itself on a class on which the other one doesn't lead there, and on how many of the first n classes
+abbrev pub is_stray : Machine → ℕ → ℕ → ℕ → Bool
+is_stray m s t n = leads (Some t) (class_target m t n) && not (leads (Some t) (class_target m s n))
+
+abbrev pub strays_of : Machine → ℕ → ℕ → ℕ → ℕ
+strays_of m s t zero = 0
+strays_of m s t (suc n) = strays_of m s t n + one_if (is_stray m s t n)
+
+-- whether a state steps to itself, and the first one leads there on all of those bytes
+abbrev pub goes_on : Machine → ℕ → ℕ → Bool
+goes_on m s t = not (t == s) && (not (step_count m t (Some t) == 0) && strays_of m s t m.width == 0)
+
+abbrev pub picked : Machine → ℕ → Option ℕ → Option ℕ → Option ℕ
+picked m s (Some t) target = Some t
+picked m s None None = None
+picked m s None (Some t) = if goes_on m s t then Some t else None
+
+-- the first such state to which the first n classes lead
+abbrev pub first_of : Machine → ℕ → ℕ → Option ℕ
+first_of m s zero = None
+first_of m s (suc n) = picked m s (first_of m s n) (class_target m s n)
+
+-- whether a match begins in a state
+abbrev pub starts_in : ℕ → ℕ × ℕ → Bool
+starts_in s start = start.0 == s || start.1 == s
+
+abbrev pub first_target : Machine → ℕ → Option ℕ
+first_target m s = if list_any (starts_in s) m.starts then first_of m s m.width else None
+
 -- ---- the marks: for four states a byte each, with two bits for each state
 
 abbrev pub how : ℕ → Option ℕ → ℕ
@@ -80,9 +156,19 @@ mark_lines m = flat_map (mark_line m) (range_with_len 0 (state_count m / 4 + 1))
 abbrev pub marks_text : Options → Table → List ℕ
 marks_text o table = array_text o MARKS.now (mark_lines table.machine)
 
+-- ---- whether a match may be empty
+
+-- whether a condition starts in a state that accepts a rule
+abbrev pub accepts_at_once : Machine → ℕ × ℕ → Bool
+accepts_at_once m start = not (rule_word (accepted_by m start.0) == 0) || not (rule_word (accepted_by m start.1) == 0)
+
+abbrev pub emptiness_text : Options → Table → List ℕ
+emptiness_text o table =
+    if list_any (accepts_at_once table.machine) table.machine.starts then filled o.prefix MAY_BE_EMPTY.now else filled o.prefix NONE_IS_EMPTY.now
+
 -- what stands in the place of the arrays of the automaton
 abbrev pub marked_text : Options → Table → List ℕ
-marked_text o table = line_begin_text o table ++ marks_text o table
+marked_text o table = line_begin_text o table ++ emptiness_text o table ++ marks_text o table
 
 -- ---- the code of a state
 
@@ -120,10 +206,19 @@ main_code o m s None = codes "default: break;\n}\n"
 main_code o m s (Some t) = numbered o OTHER.now s (codes ")\n") ++ edge_text o m s t ++ codes "}\n"
 
 abbrev pub loop_code : Options → Machine → ℕ → List ℕ
-loop_code o m s = if step_count m s (Some s) == 0 then [] else numbered o LOOP.now s (codes ")\n")
+loop_code o m s = numbered o LOOP.now s (codes ", ") ++ stays_text o m s ++ numbered o LOOP_RULE.now (rule_word (accepted_by m s)) (codes ")\n")
+
+-- the loop of a state, or else the test whether the text is at its end
+abbrev pub begin_code : Options → Machine → ℕ → List ℕ
+begin_code o m s = if step_count m s (Some s) == 0 then numbered o AT_END.now (rule_word (accepted_by m s)) (codes ")\n") else loop_code o m s
+
+abbrev pub first_code : Options → Machine → ℕ → Option ℕ → List ℕ
+first_code o m s None = []
+first_code o m s (Some t) = numbered o FIRST.now t (codes ", *p, 1)) { ") ++ edge_text o m s t ++ codes "}\n"
 
 abbrev pub steps_code : Options → Machine → ℕ → Option ℕ → List ℕ
-steps_code o m s main = loop_code o m s ++ filled o.prefix SWITCH.now ++ class_codes o m s main ++ main_code o m s main
+steps_code o m s main =
+    begin_code o m s ++ first_code o m s (first_target m s) ++ codes "switch (*p) {\n" ++ class_codes o m s main ++ main_code o m s main
 
 -- all steps of a state, if it has any
 abbrev pub body_code : Options → Machine → ℕ → List ℕ
@@ -139,13 +234,13 @@ state_codes o m = flat_map (state_code o m) (range_with_len 0 (state_count m))
 
 -- ---- all code
 
--- where a condition starts
-abbrev pub start_code : Options → Machine → ℕ → List ℕ
-start_code o m c =
-    codes "case " ++ number c ++ numbered o AT_LINE_BEGIN.now (start_of m c true) (codes ";") ++ numbered o GOTO_STATE.now (start_of m c false) (codes ";\n")
+-- where a condition starts, by a test whether the match begins at line begin
+abbrev pub start_code : Options → List ℕ → Machine → ℕ → List ℕ
+start_code o test m c =
+    codes "case " ++ number c ++ numbered o test (start_of m c true) (codes ";") ++ numbered o GOTO_STATE.now (start_of m c false) (codes ";\n")
 
-abbrev pub start_codes : Options → Machine → List ℕ
-start_codes o m = flat_map (start_code o m) (range_with_len 0 (length m.starts))
+abbrev pub start_codes : Options → List ℕ → Machine → List ℕ
+start_codes o test m = flat_map (start_code o test m) (range_with_len 0 (length m.starts))
 
 -- from the number of a rule plus 1 to its code, and that code
 abbrev pub rule_case : Options → ℕ → List ℕ
@@ -162,11 +257,15 @@ rule_codes o table = flat_map (rule_code o) (range_with_len 0 (length table.rule
 
 -- what looks for the next match
 abbrev pub states_text : Options → Machine → List ℕ
-states_text o m = filled o.prefix BEGIN_MATCH.now ++ start_codes o m ++ filled o.prefix BEGIN_STATES.now ++ state_codes o m
+states_text o m = filled o.prefix BEGIN_MATCH.now ++ start_codes o AT_LINE_BEGIN.now m ++ filled o.prefix BEGIN_STATES.now ++ state_codes o m
 
 abbrev pub rules_text : Options → Table → List ℕ
 rules_text o table =
-    filled o.prefix BACK.now ++ rule_cases o table ++ filled o.prefix NO_RULE.now ++ rule_codes o table ++ filled o.prefix END_MATCH.now
+    filled o.prefix BACK.now ++ rule_cases o table ++ filled o.prefix NO_RULE.now ++ rule_codes o table ++ filled o.prefix SKIPPED.now
+
+-- behind a match that is skipped the next one begins
+abbrev pub ends_text : Options → Machine → List ℕ
+ends_text o m = start_codes o BEHIND_LINE_END.now m ++ filled o.prefix END_MATCH.now
 
 abbrev pub direct_text : Options → Table → List ℕ
-direct_text o table = states_text o table.machine ++ rules_text o table
+direct_text o table = states_text o table.machine ++ rules_text o table ++ ends_text o table.machine

@@ -49,6 +49,7 @@ driver_text o table = calls_text o ++ walk_text o table ++ further_text o
 abbrev pub c_from : Options → ℕ → Table → List ℕ
 c_from o first table = first_line_text o ++ header_from o first table ++ actions_from o first table ++ arrays_text o table ++ driver_text o table
 
--- The scanner: its declarations, what its rules do, its automaton or the marks of its states, and the calls.
-abbrev pub c_text : Options → Table → List ℕ
+-- The scanner: its declarations, what its rules do, its automaton or the marks of its states, and the calls. Who prints it sees it as a whole, so that proofs
+-- about the words that ask for it don't go through its parts.
+unfoldable pub c_text : Options → Table → List ℕ
 c_text o table = c_from o (first_kind table) table

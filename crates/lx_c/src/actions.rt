@@ -1,7 +1,7 @@
 // The arrays of what rules do.
 
 ghost use Rattle.lx_c.specs.Actions as actions;
-ghost use Rattle.lx_c.specs.Actions.{action_entries, action_entry, action_word, actions_from, array_text, cut_entries, cut_entry, cuts_text, kind_entry, kind_word, kinds_array, name_entry, of_kinds, step_entry, step_word, steps_array, steps_entry, steps_text};
+ghost use Rattle.lx_c.specs.Actions.{action_entries, action_entry, action_word, actions_from, array_text, cut_entries, cut_entry, cuts_text, kind_entry, kind_word, kinds_array, name_entry, of_kinds, pending_text, step_entry, step_word, steps_array, steps_entry, steps_text};
 ghost use Rattle.lx_c.specs.Templates.{filled, number_then};
 ghost use Rattle.lx_c.specs.declared.templates.TheConstants.{ACTIONS, CUT, CUTS, KINDS, NAMES, STEPS_OF, STEP_ARRAY};
 ghost use Rattle.lx_tables.specs.Model.{kind_at, rule_at};
@@ -13,7 +13,9 @@ ghost use Rattle.std.specs.Prelude.{OnErr, OnOk, [], codes, length, ◌++◌, �
 use crate::filling::write_filled;
 use crate::numbering::kind_name;
 use crate::options::Options;
-use crate::templates::{ACTIONS, CUT, CUTS, KINDS, NAMES, NO_CUT, STEP_ARRAY, STEPS, STEPS_OF};
+use crate::templates::{
+    ACTIONS, CUT, CUTS, KINDS, NAMES, NO_CUT, NOTHING_PENDING, PENDING, STEP_ARRAY, STEPS, STEPS_OF,
+};
 use crate::writing::{write_bytes, write_number, write_number_then, write_numbered, write_parts};
 use lx_rules::rule::{Kind, Step};
 use lx_tables::Tables;
@@ -390,6 +392,49 @@ fn write_cuts<W: Write>(out: &mut W, options: &Options, tables: &Tables) -> Resu
     }
 }
 
+fn is_echo(step: Step) -> bool
+    ensures { result ≡ actions.is_echo step }
+{
+    match step {
+        Step::Echo => true,
+        Step::Begin(_) | Step::Return(_) => false,
+    }
+}
+
+fn has_echo(steps: &[Step]) -> bool
+    ensures { result ≡ actions.has_echo steps.now }
+{
+    for step in steps {
+        if is_echo(*step) {
+            return true;
+        }
+    }
+    false
+}
+
+/// Whether some action has an ECHO.
+fn has_echoes(tables: &Tables) -> bool
+    ensures { result ≡ actions.has_echoes tables.now }
+{
+    for rule in 0..tables.rules() {
+        if has_echo(tables.steps(rule)) {
+            return true;
+        }
+    }
+    false
+}
+
+fn write_pending<W: Write>(out: &mut W, options: &Options, tables: &Tables) -> Result<(), io::Error>
+    ensures ok { OnOk result (Wrote (W.contents out.old) (W.contents out.new) (pending_text options.now tables.now)) }
+    ensures err { OnErr result (WrotePrefix (W.contents out.old) (W.contents out.new) (pending_text options.now tables.now)) }
+{
+    if has_echoes(tables) {
+        write_filled(out, options, PENDING)
+    } else {
+        write_filled(out, options, NOTHING_PENDING)
+    }
+}
+
 fn write_names<W: Write>(out: &mut W, options: &Options, tables: &Tables) -> Result<(), io::Error>
     ensures ok { OnOk result (Wrote (W.contents out.old) (W.contents out.new) (array_text options.now NAMES.now (of_kinds tables.now name_entry))) }
     ensures err { OnErr result (WrotePrefix (W.contents out.old) (W.contents out.new) (array_text options.now NAMES.now (of_kinds tables.now name_entry))) }
@@ -442,6 +487,7 @@ pub(crate) fn write_actions<W: Write>(
     write_steps(out, options, tables)?;
     write_actions_array(out, options, first, tables)?;
     write_cuts(out, options, tables)?;
+    write_pending(out, options, tables)?;
     write_names(out, options, tables)?;
     write_kinds_array(out, options, tables)
 }

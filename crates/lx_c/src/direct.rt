@@ -2,61 +2,29 @@
 
 ghost use Rattle.lx_automaton.specs.Automata.{accepted_by, class_target, start_of, state_count, target_of};
 ghost use Rattle.lx_c.specs.DirectCode as direct;
-ghost use Rattle.lx_c.specs.DirectCode.{body_code, case_text, case_texts, class_code, direct_text, edge_text, keep_text, loop_code, main_code, mark_byte, mark_line, marked_text, marks_text, newline_text, numbered, rule_case, rule_code, rules_text, start_code, state_code, states_text, steps_code};
+ghost use Rattle.lx_c.specs.DirectCode.{body_code, case_text, case_texts, class_code, direct_text, edge_text, emptiness_text, ends_text, first_code, keep_text, main_code, mark_byte, mark_line, marked_text, marks_text, newline_text, numbered, rule_case, rule_code, rules_text, start_code, state_code, states_text, steps_code};
 ghost use Rattle.lx_c.specs.Rows as rows;
 ghost use Rattle.lx_c.specs.Rows.{entry_text};
 ghost use Rattle.lx_c.specs.Templates.{number_then};
-ghost use Rattle.lx_c.specs.declared.direct_templates.TheConstants.{AT_LINE_BEGIN, GOTO_RULE_OF, GOTO_STATE, MATCHED, OTHER, RULE_LABEL};
+ghost use Rattle.lx_c.specs.declared.direct_templates.TheConstants.{FIRST, GOTO_RULE_OF, GOTO_STATE, MATCHED, OTHER, RULE_LABEL};
 ghost use Rattle.lx_tables.specs.Output.{Wrote, WrotePrefix};
 ghost use Rattle.lx_tables.specs.Texts.{number};
-ghost use Rattle.std.specs.List.{flat_map, range_with_len};
-ghost use Rattle.std.specs.Prelude.{IfSome, OnErr, OnOk, Some, codes, length, slice_index, ◌++◌, ◌+◌, ◌/◌, ◌<◌, ◌≡◌, ◌≤◌};
+ghost use Rattle.std.specs.List.{flat_map, list_any, range_with_len};
+ghost use Rattle.std.specs.Prelude.{IfSome, None, OnErr, OnOk, Some, codes, length, slice_index, slice_index_or, not, ◌==◌, ◌++◌, ◌+◌, ◌/◌, ◌<◌, ◌≡◌, ◌≤◌};
 
 use crate::direct_templates::{
-    AT_LINE_BEGIN, BACK, BEGIN_MATCH, BEGIN_STATES, END_MATCH, GO, GOTO_RULE, GOTO_RULE_OF,
-    GOTO_STATE, LOOP, MARKS, MATCHED, NEWLINE, NO_RULE, OTHER, RULE_LABEL, STATE_LABEL, SWITCH,
+    AT_LINE_BEGIN, BACK, BEGIN_MATCH, BEGIN_STATES, BEHIND_LINE_END, END_MATCH, FIRST, GO,
+    GOTO_RULE, GOTO_RULE_OF, GOTO_STATE, MARKS, MATCHED, MAY_BE_EMPTY, NEWLINE, NO_RULE,
+    NONE_IS_EMPTY, OTHER, RULE_LABEL, SKIPPED, STATE_LABEL,
 };
 use crate::filling::write_filled;
+use crate::looping::{first_target, write_begin};
 use crate::options::Options;
 use crate::rows::write_line_begin;
+use crate::stepping::{class_target, rule_word, step_count, target_of, write_numbered_text};
 use crate::writing::{write_bytes, write_number_then, write_numbered};
-use lx_tables::{State, Tables};
+use lx_tables::Tables;
 use std::io::{self, Write};
-
-/// Where a state steps on a byte.
-fn target_of(tables: &Tables, state: u32, byte: u8) -> Option<u32>
-    requires { state < state_count tables.now.machine }
-    ensures { result ≡ target_of tables.now.machine state byte }
-{
-    match tables.step(State(state), byte) {
-        Some(target) => Some(target.0),
-        None => None,
-    }
-}
-
-/// Where a state steps on a class.
-fn class_target(tables: &Tables, state: u32, class: u8) -> Option<u32>
-    requires state { state < state_count tables.now.machine }
-    requires class { class < tables.now.machine.width }
-    ensures target { result ≡ class_target tables.now.machine state class }
-    ensures below { IfSome result (λ t. t < state_count tables.now.machine) }
-{
-    match tables.class_step(State(state), class) {
-        Some(target) => Some(target.0),
-        None => None,
-    }
-}
-
-/// Whether a step is there, and leads to the state that is asked for, if one is.
-fn leads(wanted: Option<u32>, target: Option<u32>) -> bool
-    ensures { result ≡ direct.leads wanted target }
-{
-    match (wanted, target) {
-        (_, None) => false,
-        (None, Some(_)) => true,
-        (Some(state), Some(target)) => target == state,
-    }
-}
 
 /// Whether it is that state, if one is given.
 fn is_it(wanted: Option<u32>, state: u32) -> bool
@@ -66,26 +34,6 @@ fn is_it(wanted: Option<u32>, state: u32) -> bool
         None => false,
         Some(wanted) => state == wanted,
     }
-}
-
-fn one_if(is_one: bool) -> u32
-    ensures one { result ≡ direct.one_if is_one }
-    ensures small { result ≤ 1 }
-{
-    if is_one { 1 } else { 0 }
-}
-
-/// On how many classes a state has such a step.
-fn step_count(tables: &Tables, state: u32, wanted: Option<u32>) -> u32
-    requires { state < state_count tables.now.machine }
-    ensures { result ≡ direct.step_count tables.now.machine state wanted }
-{
-    let mut count: u32 = 0;
-    for class in 0..tables.classes() {
-        let target = class_target(tables, state, class as u8);
-        count += one_if(leads(wanted, target));
-    }
-    count
 }
 
 /// How many steps lead to a state, or two.
@@ -167,17 +115,6 @@ fn mark_byte(tables: &Tables, group: u32, byte: u8) -> u64
         + 64 * mark(tables, 4 * group + 3, byte)
 }
 
-/// One more than the number of the rule that a state accepts, or 0.
-fn rule_word(tables: &Tables, state: u32) -> u32
-    requires { state < state_count tables.now.machine }
-    ensures { result ≡ rows.rule_word (accepted_by tables.now.machine state) }
-{
-    match tables.accepts(State(state)) {
-        None => 0,
-        Some(rule) => u32::from(rule) + 1,
-    }
-}
-
 fn rule_number(rule: u16) -> u32
     ensures { result ≡ rule + 1 }
 {
@@ -196,21 +133,6 @@ fn start_number(tables: &Tables, condition: u16, at_line_begin: bool) -> u32
     ensures { result ≡ start_of tables.now.machine condition at_line_begin }
 {
     tables.start(condition, at_line_begin).0
-}
-
-/// Writes constant text, a number, and what stands behind it.
-fn write_numbered_text<W: Write>(
-    out: &mut W,
-    options: &Options,
-    template: &[u8],
-    n: u32,
-    behind: &[u8],
-) -> Result<(), io::Error>
-    ensures ok { OnOk result (Wrote (W.contents out.old) (W.contents out.new) (numbered options.now template.now n behind.now)) }
-    ensures err { OnErr result (WrotePrefix (W.contents out.old) (W.contents out.new) (numbered options.now template.now n behind.now)) }
-{
-    write_filled(out, options, template)?;
-    write_number_then(out, u64::from(n), behind)
 }
 
 fn write_mark<W: Write>(
@@ -266,7 +188,51 @@ fn write_marks<W: Write>(out: &mut W, options: &Options, tables: &Tables) -> Res
     write_bytes(out, b"0};\n")
 }
 
-/// Writes the marks of the states, and whether line begins make a difference.
+/// Whether a state accepts a rule.
+fn accepts(tables: &Tables, state: u32) -> bool
+    requires { state < state_count tables.now.machine }
+    ensures { result ≡ not (rows.rule_word (accepted_by tables.now.machine state) == 0) }
+{
+    rule_word(tables, state) != 0
+}
+
+/// Whether a condition starts in a state that accepts a rule.
+fn accepts_at_once(tables: &Tables, condition: u16) -> bool
+    requires { condition < length tables.now.machine.starts }
+    ensures { result ≡ direct.accepts_at_once tables.now.machine (slice_index_or tables.now.machine.starts condition (0, 0)) }
+{
+    accepts(tables, tables.start(condition, false).0)
+        || accepts(tables, tables.start(condition, true).0)
+}
+
+/// Whether some condition does, so that a match may be empty.
+fn may_be_empty(tables: &Tables) -> bool
+    ensures { result ≡ list_any (direct.accepts_at_once tables.now.machine) tables.now.machine.starts }
+{
+    for condition in 0..tables.conditions() {
+        if accepts_at_once(tables, condition) {
+            return true;
+        }
+    }
+    false
+}
+
+fn write_emptiness<W: Write>(
+    out: &mut W,
+    options: &Options,
+    tables: &Tables,
+) -> Result<(), io::Error>
+    ensures ok { OnOk result (Wrote (W.contents out.old) (W.contents out.new) (emptiness_text options.now tables.now)) }
+    ensures err { OnErr result (WrotePrefix (W.contents out.old) (W.contents out.new) (emptiness_text options.now tables.now)) }
+{
+    if may_be_empty(tables) {
+        write_filled(out, options, MAY_BE_EMPTY)
+    } else {
+        write_filled(out, options, NONE_IS_EMPTY)
+    }
+}
+
+/// Writes the marks of the states, whether line begins make a difference, and whether a match may be empty.
 pub(crate) fn write_marked<W: Write>(
     out: &mut W,
     options: &Options,
@@ -276,6 +242,7 @@ pub(crate) fn write_marked<W: Write>(
     ensures err { OnErr result (WrotePrefix (W.contents out.old) (W.contents out.new) (marked_text options.now tables.now)) }
 {
     write_line_begin(out, options, tables)?;
+    write_emptiness(out, options, tables)?;
     write_marks(out, options, tables)
 }
 
@@ -501,21 +468,52 @@ fn write_main<W: Write>(
     }
 }
 
-fn write_loop<W: Write>(
+fn write_first_of<W: Write>(
+    out: &mut W,
+    options: &Options,
+    tables: &Tables,
+    state: u32,
+    target: u32,
+) -> Result<(), io::Error>
+    requires state { state < state_count tables.now.machine }
+    requires target { target < state_count tables.now.machine }
+    ensures ok { OnOk result (Wrote (W.contents out.old) (W.contents out.new) (numbered options.now FIRST.now target (codes ", *p, 1)) { ") ++ edge_text options.now tables.now.machine state target ++ codes "}\n")) }
+    ensures err { OnErr result (WrotePrefix (W.contents out.old) (W.contents out.new) (numbered options.now FIRST.now target (codes ", *p, 1)) { ") ++ edge_text options.now tables.now.machine state target ++ codes "}\n")) }
+{
+    write_numbered_text(out, options, FIRST, target, b", *p, 1)) { ")?;
+    write_edge(out, options, tables, state, target)?;
+    write_bytes(out, b"}\n")
+}
+
+fn write_first<W: Write>(
+    out: &mut W,
+    options: &Options,
+    tables: &Tables,
+    state: u32,
+    target: Option<u32>,
+) -> Result<(), io::Error>
+    requires state { state < state_count tables.now.machine }
+    requires target { IfSome target (λ t. t < state_count tables.now.machine) }
+    ensures ok { OnOk result (Wrote (W.contents out.old) (W.contents out.new) (first_code options.now tables.now.machine state target)) }
+    ensures err { OnErr result (WrotePrefix (W.contents out.old) (W.contents out.new) (first_code options.now tables.now.machine state target)) }
+{
+    match target {
+        None => Ok(()),
+        Some(target) => write_first_of(out, options, tables, state, target),
+    }
+}
+
+fn write_first_step<W: Write>(
     out: &mut W,
     options: &Options,
     tables: &Tables,
     state: u32,
 ) -> Result<(), io::Error>
     requires { state < state_count tables.now.machine }
-    ensures ok { OnOk result (Wrote (W.contents out.old) (W.contents out.new) (loop_code options.now tables.now.machine state)) }
-    ensures err { OnErr result (WrotePrefix (W.contents out.old) (W.contents out.new) (loop_code options.now tables.now.machine state)) }
+    ensures ok { OnOk result (Wrote (W.contents out.old) (W.contents out.new) (first_code options.now tables.now.machine state (direct.first_target tables.now.machine state))) }
+    ensures err { OnErr result (WrotePrefix (W.contents out.old) (W.contents out.new) (first_code options.now tables.now.machine state (direct.first_target tables.now.machine state))) }
 {
-    if step_count(tables, state, Some(state)) == 0 {
-        Ok(())
-    } else {
-        write_numbered_text(out, options, LOOP, state, b")\n")
-    }
+    write_first(out, options, tables, state, first_target(tables, state))
 }
 
 fn write_steps<W: Write>(
@@ -530,10 +528,19 @@ fn write_steps<W: Write>(
     ensures ok { OnOk result (Wrote (W.contents out.old) (W.contents out.new) (steps_code options.now tables.now.machine state main)) }
     ensures err { OnErr result (WrotePrefix (W.contents out.old) (W.contents out.new) (steps_code options.now tables.now.machine state main)) }
 {
-    write_loop(out, options, tables, state)?;
-    write_filled(out, options, SWITCH)?;
+    write_begin(out, options, tables, state)?;
+    write_first_step(out, options, tables, state)?;
+    write_bytes(out, b"switch (*p) {\n")?;
     write_classes(out, options, tables, state, main)?;
     write_main(out, options, tables, state, main)
+}
+
+/// Whether a state has no step at all.
+fn has_no_step(tables: &Tables, state: u32) -> bool
+    requires { state < state_count tables.now.machine }
+    ensures { result ≡ (direct.step_count tables.now.machine state None == 0) }
+{
+    step_count(tables, state, None) == 0
 }
 
 fn write_body<W: Write>(
@@ -546,7 +553,7 @@ fn write_body<W: Write>(
     ensures ok { OnOk result (Wrote (W.contents out.old) (W.contents out.new) (body_code options.now tables.now.machine state)) }
     ensures err { OnErr result (WrotePrefix (W.contents out.old) (W.contents out.new) (body_code options.now tables.now.machine state)) }
 {
-    if step_count(tables, state, None) == 0 {
+    if has_no_step(tables, state) {
         Ok(())
     } else {
         write_steps(out, options, tables, state, main_target(tables, state))
@@ -589,39 +596,53 @@ fn write_case_number<W: Write>(out: &mut W, n: u32) -> Result<(), io::Error>
 fn write_start_of<W: Write>(
     out: &mut W,
     options: &Options,
+    test: &[u8],
     condition: u32,
     at_line_begin: u32,
     elsewhere: u32,
 ) -> Result<(), io::Error>
-    ensures ok { OnOk result (Wrote (W.contents out.old) (W.contents out.new) (codes "case " ++ number condition ++ numbered options.now AT_LINE_BEGIN.now at_line_begin (codes ";") ++ numbered options.now GOTO_STATE.now elsewhere (codes ";\n"))) }
-    ensures err { OnErr result (WrotePrefix (W.contents out.old) (W.contents out.new) (codes "case " ++ number condition ++ numbered options.now AT_LINE_BEGIN.now at_line_begin (codes ";") ++ numbered options.now GOTO_STATE.now elsewhere (codes ";\n"))) }
+    ensures ok { OnOk result (Wrote (W.contents out.old) (W.contents out.new) (codes "case " ++ number condition ++ numbered options.now test.now at_line_begin (codes ";") ++ numbered options.now GOTO_STATE.now elsewhere (codes ";\n"))) }
+    ensures err { OnErr result (WrotePrefix (W.contents out.old) (W.contents out.new) (codes "case " ++ number condition ++ numbered options.now test.now at_line_begin (codes ";") ++ numbered options.now GOTO_STATE.now elsewhere (codes ";\n"))) }
 {
     write_case_number(out, condition)?;
-    write_numbered_text(out, options, AT_LINE_BEGIN, at_line_begin, b";")?;
+    write_numbered_text(out, options, test, at_line_begin, b";")?;
     write_numbered_text(out, options, GOTO_STATE, elsewhere, b";\n")
 }
 
 fn write_start<W: Write>(
     out: &mut W,
     options: &Options,
+    test: &[u8],
     tables: &Tables,
     condition: u16,
 ) -> Result<(), io::Error>
     requires { condition < length tables.now.machine.starts }
-    ensures ok { OnOk result (Wrote (W.contents out.old) (W.contents out.new) (start_code options.now tables.now.machine condition)) }
-    ensures err { OnErr result (WrotePrefix (W.contents out.old) (W.contents out.new) (start_code options.now tables.now.machine condition)) }
+    ensures ok { OnOk result (Wrote (W.contents out.old) (W.contents out.new) (start_code options.now test.now tables.now.machine condition)) }
+    ensures err { OnErr result (WrotePrefix (W.contents out.old) (W.contents out.new) (start_code options.now test.now tables.now.machine condition)) }
 {
     let at_line_begin = start_number(tables, condition, true);
     let elsewhere = start_number(tables, condition, false);
-    write_start_of(out, options, u32::from(condition), at_line_begin, elsewhere)
+    write_start_of(
+        out,
+        options,
+        test,
+        u32::from(condition),
+        at_line_begin,
+        elsewhere,
+    )
 }
 
-fn write_starts<W: Write>(out: &mut W, options: &Options, tables: &Tables) -> Result<(), io::Error>
-    ensures ok { OnOk result (Wrote (W.contents out.old) (W.contents out.new) (flat_map (start_code options.now tables.now.machine) (range_with_len 0 (length tables.now.machine.starts)))) }
-    ensures err { OnErr result (WrotePrefix (W.contents out.old) (W.contents out.new) (flat_map (start_code options.now tables.now.machine) (range_with_len 0 (length tables.now.machine.starts)))) }
+fn write_starts<W: Write>(
+    out: &mut W,
+    options: &Options,
+    test: &[u8],
+    tables: &Tables,
+) -> Result<(), io::Error>
+    ensures ok { OnOk result (Wrote (W.contents out.old) (W.contents out.new) (flat_map (start_code options.now test.now tables.now.machine) (range_with_len 0 (length tables.now.machine.starts)))) }
+    ensures err { OnErr result (WrotePrefix (W.contents out.old) (W.contents out.new) (flat_map (start_code options.now test.now tables.now.machine) (range_with_len 0 (length tables.now.machine.starts)))) }
 {
     for condition in 0..tables.conditions() {
-        write_start(out, options, tables, condition)?;
+        write_start(out, options, test, tables, condition)?;
     }
     Ok(())
 }
@@ -693,7 +714,7 @@ fn write_all_states<W: Write>(
     ensures err { OnErr result (WrotePrefix (W.contents out.old) (W.contents out.new) (states_text options.now tables.now.machine)) }
 {
     write_filled(out, options, BEGIN_MATCH)?;
-    write_starts(out, options, tables)?;
+    write_starts(out, options, AT_LINE_BEGIN, tables)?;
     write_filled(out, options, BEGIN_STATES)?;
     write_states(out, options, tables)
 }
@@ -710,6 +731,14 @@ fn write_all_rules<W: Write>(
     write_rule_cases(out, options, tables)?;
     write_filled(out, options, NO_RULE)?;
     write_rule_codes(out, options, tables)?;
+    write_filled(out, options, SKIPPED)
+}
+
+fn write_ends<W: Write>(out: &mut W, options: &Options, tables: &Tables) -> Result<(), io::Error>
+    ensures ok { OnOk result (Wrote (W.contents out.old) (W.contents out.new) (ends_text options.now tables.now.machine)) }
+    ensures err { OnErr result (WrotePrefix (W.contents out.old) (W.contents out.new) (ends_text options.now tables.now.machine)) }
+{
+    write_starts(out, options, BEHIND_LINE_END, tables)?;
     write_filled(out, options, END_MATCH)
 }
 
@@ -723,5 +752,6 @@ pub(crate) fn write_direct<W: Write>(
     ensures err { OnErr result (WrotePrefix (W.contents out.old) (W.contents out.new) (direct_text options.now tables.now)) }
 {
     write_all_states(out, options, tables)?;
-    write_all_rules(out, options, tables)
+    write_all_rules(out, options, tables)?;
+    write_ends(out, options, tables)
 }

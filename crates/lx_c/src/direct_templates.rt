@@ -9,23 +9,35 @@ pub(crate) const DIRECT_FIRST_LINE: &[u8] =
 pub(crate) const MARKS: &[u8] = br#"static const unsigned char @__mark[] = {
 "#;
 
+/// Whether a match may be empty, which is none.
+pub(crate) const MAY_BE_EMPTY: &[u8] = br#"#define @__EMPTY 1
+"#;
+
+/// The same where no start accepts a rule.
+pub(crate) const NONE_IS_EMPTY: &[u8] = br#"#define @__EMPTY 0
+"#;
+
 /// What the code of states and rules stands on.
 pub(crate) const MACROS: &[u8] =
     br#"/* Whether a state steps on a byte to itself (1), or to another state (2). */
 #define @__STEPS(state, byte, how) (@__mark[(state) / 4 * 256 + (byte)] & ((how) << (state) % 4 * 2))
 
-/* All steps of a state to itself. */
-#define @__LOOP(state) \
+/* At the end of a part: what a state does where it has no step, unless more of the text may come. */
+#define @__AT_END(rule) { if (s->is_last) goto rule; goto @__more; }
+
+/* All steps of a state to itself: `stays` says of the byte c whether there is one. */
+#define @__LOOP(state, stays, rule) \
     @__LINES(newline |= @__STEPS(state, 10, 1);) \
     for (;;) { \
         if (p >= by_one) { \
-            while (p != end && @__STEPS(state, *p, 1)) p++; \
+            while (p != end && (c = *p, stays)) p++; \
+            if (p == end) @__AT_END(rule) \
             break; \
         } \
-        if (!@__STEPS(state, p[0], 1)) break; \
-        if (!@__STEPS(state, p[1], 1)) { p += 1; break; } \
-        if (!@__STEPS(state, p[2], 1)) { p += 2; break; } \
-        if (!@__STEPS(state, p[3], 1)) { p += 3; break; } \
+        c = p[0]; if (!(stays)) break; \
+        c = p[1]; if (!(stays)) { p += 1; break; } \
+        c = p[2]; if (!(stays)) { p += 2; break; } \
+        c = p[3]; if (!(stays)) { p += 3; break; } \
         p += 4; \
     }
 
@@ -37,7 +49,7 @@ pub(crate) const MACROS: &[u8] =
 
 /* A match of a rule ends here. It has to be longer than what is left away of it. */
 #define @__MATCHED(rule) \
-    if ((size_t)(p - from) <= @__CUT(rule)) goto @__echo; \
+    if ((@__EMPTY || @__CUT(rule) || !(rule)) && (size_t)(p - from) <= @__CUT(rule)) goto @__echo; \
     p -= @__CUT(rule); \
     kind = @__action[rule]; \
     if (kind == @_END) goto @__skip; \
@@ -55,9 +67,10 @@ pub(crate) const BEGIN_MATCH: &[u8] = br#"    (void)@__mark;
         /* The last place from which a step led away where a rule is accepted, and that rule. */
         const unsigned char *last;
         unsigned rule;
+        int c = 0;
         @__LINES(int newline;)
         (void)by_one;
-@__begin:
+        (void)c;
         from = last = p;
         rule = 0;
         @__LINES(newline = 0;)
@@ -73,6 +86,9 @@ pub(crate) const BEGIN_MATCH: &[u8] = br#"    (void)@__mark;
 /// Between the number of a condition and that of the state in which it starts at line begin.
 pub(crate) const AT_LINE_BEGIN: &[u8] = br#": if (at_line_begin) goto @__s"#;
 
+/// The same behind a match that is skipped.
+pub(crate) const BEHIND_LINE_END: &[u8] = br#": if (@__BEGIN(p[-1] == 10)) goto @__s"#;
+
 /// Behind it the number of a state stands.
 pub(crate) const GOTO_STATE: &[u8] = br#" goto @__s"#;
 
@@ -87,10 +103,17 @@ pub(crate) const STATE_LABEL: &[u8] = br#"@__s"#;
 /// Where a state steps to itself; its number stands behind.
 pub(crate) const LOOP: &[u8] = br#"@__LOOP("#;
 
-/// Behind it the steps of a state to other ones stand.
-pub(crate) const SWITCH: &[u8] =
-    br#"if (p == end) { if (!s->is_last) goto @__more; } else switch (*p) {
-"#;
+/// On which bytes, by the marks; the number of the state stands behind.
+pub(crate) const STAYS: &[u8] = br#"@__STEPS("#;
+
+/// Between these bytes and the number of the rule plus 1, or 0, that the state accepts.
+pub(crate) const LOOP_RULE: &[u8] = br#", @__a"#;
+
+/// A state that doesn't step to itself; the number of its rule plus 1, or 0, stands behind.
+pub(crate) const AT_END: &[u8] = br#"if (p == end) @__AT_END(@__a"#;
+
+/// The step to a state that steps to itself on the same bytes, before all others; its number stands behind.
+pub(crate) const FIRST: &[u8] = br#"if (@__STEPS("#;
 
 /// Where a step may be one on a newline.
 pub(crate) const NEWLINE: &[u8] = br#"@__LINES(newline = 1;) "#;
@@ -124,12 +147,27 @@ pub(crate) const RULE_LABEL: &[u8] = br#"@__a"#;
 /// What is done with a match of a rule; its number plus 1 stands behind.
 pub(crate) const MATCHED: &[u8] = br#"@__MATCHED("#;
 
-/// What ends a match.
-pub(crate) const END_MATCH: &[u8] = br#"@__skip:
+/// What is done behind a match that is skipped. What has to be known of the next one is known here, so that it begins by a `switch` of its own.
+pub(crate) const SKIPPED: &[u8] = br#"@__skip:
         @__LINES(if (newline) @__count(s, from, p);)
-        at_line_begin = @__BEGIN(p[-1] == 10);
-        goto @__begin;
+        from = last = p;
+        rule = 0;
+        @__LINES(newline = 0;)
+        @__LINES(line = s->line; line_start = s->line_start;)
+        if (p == end) {
+            at_line_begin = @__BEGIN(p[-1] == 10);
+            if (!s->is_last) goto @__more;
+            goto @__done;
+        }
+        switch (condition) {
+        default:
+"#;
+
+/// What ends a match.
+pub(crate) const END_MATCH: &[u8] = br#"        }
 @__more:
+        /* Something may have been skipped. */
+        if (from != text + s->at) at_line_begin = @__BEGIN(from[-1] == 10);
         kind = @_MORE;
         p = from;
         goto @__done;
@@ -150,12 +188,15 @@ pub(crate) const END_MATCH: &[u8] = br#"@__skip:
 
 /// What ends a scanner in this form.
 pub(crate) const DIRECT_LAST_LINES: &[u8] = br#"
+#undef @__AT_END
 #undef @__BEGIN
 #undef @__CUT
+#undef @__EMPTY
 #undef @__GO
 #undef @__LINES
 #undef @__LOOP
 #undef @__MATCHED
 #undef @__OTHER
+#undef @__PENDING
 #undef @__STEPS
 "#;

@@ -84,7 +84,7 @@ static void @__hand_over(@_scanner *s, const void *text, size_t size, int is_las
     const unsigned char *from = text + s->from, *p = text + s->at;
     @__LINES(size_t line = s->line; size_t line_start = s->line_start;)
     int kind = @_END, at_line_begin = s->at_line_begin, condition = s->condition;
-    if (s->pending) {
+    if (@__PENDING) {
         kind = @__perform(s, s->pending);
         condition = s->condition;
         if (kind != @_END) {

@@ -129,6 +129,14 @@ pub(crate) const CUTS: &[u8] = br#"static const unsigned char @__cut[] = {
 0,
 "#;
 
+/// Whether a further token of an action is left.
+pub(crate) const PENDING: &[u8] = br#"#define @__PENDING s->pending
+"#;
+
+/// The same where no action goes on behind a token.
+pub(crate) const NOTHING_PENDING: &[u8] = br#"#define @__PENDING 0
+"#;
+
 /// The names of kinds.
 pub(crate) const NAMES: &[u8] = br#"static const char *const @__names[] = {
 "#;
@@ -165,5 +173,6 @@ pub(crate) const LAST_LINES: &[u8] = br#"
 #undef @__BEGIN
 #undef @__CUT
 #undef @__LINES
+#undef @__PENDING
 #undef @__WIDTH
 "#;

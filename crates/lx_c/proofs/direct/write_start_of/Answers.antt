@@ -2,13 +2,13 @@ use Rattle.std.proofs.lemmas.Result.{err_from_is_err_and, on_err_weaker, on_ok_w
 use Rattle.lx_c.proofs.Written.{wrote_both, prefix_more, prefix_then}
 use Rattle.std.proofs.Common.{codes}
 use Rattle.lx_c.specs.DirectCode.{numbered}
-use Rattle.lx_c.specs.declared.direct_templates.TheConstants.{AT_LINE_BEGIN, GOTO_STATE}
+use Rattle.lx_c.specs.declared.direct_templates.TheConstants.{GOTO_STATE}
 use Rattle.lx_c.proofs.direct.write_start_of.Goals as goal
 
 pub returns-in_err-write_case_number-clause-err : goal.returns-in_err-write_case_number-clause-err
 returns-in_err-write_case_number-clause-err g c =
     let p = err_from_is_err_and c.from_residual.result c.from_residual.ensures.1 in
-    rw p.1 (prefix_more (numbered c.args.options.now GOTO_STATE.now c.args.elsewhere (codes ";\n")) (prefix_more (numbered c.args.options.now AT_LINE_BEGIN.now c.args.at_line_begin (codes ";")) c.in_err-write_case_number.ensures.err))
+    rw p.1 (prefix_more (numbered c.args.options.now GOTO_STATE.now c.args.elsewhere (codes ";\n")) (prefix_more (numbered c.args.options.now c.args.test.now c.args.at_line_begin (codes ";")) c.in_err-write_case_number.ensures.err))
 
 pub returns-in_err-write_numbered_text-clause-err : goal.returns-in_err-write_numbered_text-clause-err
 returns-in_err-write_numbered_text-clause-err g c =

@@ -5,4 +5,4 @@ use Rattle.std.specs.List.{flat_map, range_with_len}
 use Rattle.lx_c.proofs.direct.write_starts.Given as goal
 
 abbrev pub invariant-loop-condition : goal.invariant-loop-condition
-invariant-loop-condition g l = Wrote (g.W.Write.contents l.fn.out) (g.W.Write.contents l.out) (flat_map (start_code l.options l.tables.machine) (take l.condition (range_with_len 0 (length l.tables.machine.starts))))
+invariant-loop-condition g l = Wrote (g.W.Write.contents l.fn.out) (g.W.Write.contents l.out) (flat_map (start_code l.options l.test l.tables.machine) (take l.condition (range_with_len 0 (length l.tables.machine.starts))))

@@ -1,6 +1,6 @@
 use Rattle.std.proofs.lemmas.Result.{err_from_is_err_and, on_err_weaker, on_ok_weaker}
 use Rattle.lx_c.proofs.Written.{wrote_both, prefix_more, prefix_then}
-use Rattle.lx_c.proofs.direct.write_numbered_text.Goals as goal
+use Rattle.lx_c.proofs.stepping.write_numbered_text.Goals as goal
 
 pub returns-in_err-write_filled-clause-err : goal.returns-in_err-write_filled-clause-err
 returns-in_err-write_filled-clause-err g c =

@@ -1,6 +1,6 @@
 use Rattle.std.proofs.Common.{◌≡◌, ◌≤◌}
 use Rattle.lx_c.specs.DirectCode.{steps_of}
-use Rattle.lx_c.proofs.direct.step_count.Given as goal
+use Rattle.lx_c.proofs.stepping.step_count.Given as goal
 
 abbrev pub invariant-loop-class : goal.invariant-loop-class
 invariant-loop-class l = record {
