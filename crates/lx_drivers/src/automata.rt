@@ -1,109 +1,144 @@
 //! Specifications, automata, tables and items.
 
+ghost use Rattle.std.specs.Prelude.{◌<◌, length};
+
 use crate::rows::{tables_of, three_rules};
-use crate::stop::Stop;
+use crate::stop::{Stop, printed, say, say_fault, unless_refused};
 use lx_auto::{Automaton, BuildFault, build, merge};
 use lx_fixtures::{THREE_RULES, THREE_RULES_TEXTS, TWO_WORDS};
 use lx_scan::{Item, scan};
-use lx_spec::{Code, Spec, SpecFault, read_spec};
+use lx_spec::{Code, Rule, Spec, SpecFault, read_spec};
 use lx_tables::{TableFault, Tables};
 use std::alloc::{AllocError, Global};
 use std::io;
 
-fn print_spec(rt: &impl Print, spec: &Spec) -> io::Result<()> {
+fn print_rule(rt: &impl Print, rule: &Rule) -> Result<(), Stop> {
+    let (line, action) = (rule.line, rule.action.as_slice());
+    printed(println!(rt; "line {line} {action:?}"))
+}
+
+fn print_counts(rt: &impl Print, spec: &Spec) -> Result<(), Stop> {
     let (conditions, definitions) = (spec.conditions.len(), spec.definitions.len());
     let kinds = spec.kinds.len();
-    println!(rt; "{conditions} conditions, {definitions} definitions, {kinds} kinds")?;
+    printed(println!(rt; "{conditions} conditions, {definitions} definitions, {kinds} kinds"))
+}
+
+fn print_spec(rt: &impl Print, spec: &Spec) -> Result<(), Stop> {
+    print_counts(rt, spec)?;
     for rule in &spec.rules {
-        let (line, action) = (rule.line, rule.action.as_slice());
-        println!(rt; "line {line} {action:?}")?;
+        print_rule(rt, rule)?;
     }
     Ok(())
 }
 
-/// `read_spec` of the three rules.
-pub(crate) fn reads_spec(rt: &impl Print, alloc: Global) -> Result<(), Stop> {
-    let text = THREE_RULES.as_bytes();
-    let read = match read_spec(alloc, text) {
-        Err(
-            SpecFault {
-                code: Code::Memory,
-                line: 0,
-            },
-        ) => {
-            println!(rt; "refused")?;
-            read_spec(alloc, text)
-        }
-        read => read,
-    };
-    match read {
-        Ok(spec) => Ok(print_spec(rt, &spec)?),
+fn read_three_rules(rt: &impl Print, alloc: Global) -> Result<(), Stop> {
+    match read_spec(alloc, THREE_RULES.as_bytes()) {
+        Ok(spec) => print_spec(rt, &spec),
         Err(
             SpecFault {
                 code: Code::Memory,
                 line: 0,
             },
         ) => Err(Stop::Refused),
-        Err(fault) => Ok(println!(rt; "{fault}")?),
+        Err(fault) => say_fault(rt, &fault),
+    }
+}
+
+/// `read_spec` of the three rules.
+pub(crate) fn reads_spec(rt: &impl Print, alloc: Global) -> Result<(), Stop> {
+    match unless_refused(rt, read_three_rules(rt, alloc)) {
+        Some(ended) => ended,
+        None => read_three_rules(rt, alloc),
+    }
+}
+
+fn print_accepted(rt: &impl Print, byte: u8, rule: Option<u16>) -> Result<(), Stop> {
+    printed(println!(rt; "behind {byte}: rule {rule:?}"))
+}
+
+fn print_no_step(rt: &impl Print, byte: u8) -> Result<(), Stop> {
+    printed(println!(rt; "no step on {byte}"))
+}
+
+/// Prints what is accepted behind one byte.
+fn print_step(rt: &impl Print, automaton: &Automaton, byte: u8) -> Result<(), Stop>
+    requires { 0 < length automaton.now.starts }
+{
+    let start = automaton.start(0, true);
+    match automaton.step(start, byte) {
+        Some(state) => print_accepted(rt, byte, automaton.accepts(state)),
+        None => print_no_step(rt, byte),
     }
 }
 
 /// Prints how many states there are, and what is accepted behind one byte.
-pub(crate) fn print_automaton(rt: &impl Print, automaton: &Automaton) -> io::Result<()> {
+pub(crate) fn print_automaton(rt: &impl Print, automaton: &Automaton) -> Result<(), Stop> {
     let (conditions, states) = (automaton.conditions(), automaton.states());
-    println!(rt; "{conditions} conditions, {states} states")?;
+    printed(println!(rt; "{conditions} conditions, {states} states"))?;
     if conditions == 0 {
         return Ok(());
     }
-    let start = automaton.start(0, true);
-    for byte in *b"a1 \n#" {
-        match automaton.step(start, byte) {
-            Some(state) => {
-                let rule = automaton.accepts(state);
-                println!(rt; "behind {byte}: rule {rule:?}")?;
-            }
-            None => println!(rt; "no step on {byte}")?,
-        }
+    for byte in b"a1 \n#" {
+        print_step(rt, automaton, *byte)?;
     }
     Ok(())
+}
+
+fn build_once(rt: &impl Print, alloc: Global, spec: &Spec) -> Result<(), Stop> {
+    match build(alloc, spec) {
+        Ok(automaton) => print_automaton(rt, &automaton),
+        Err(BuildFault::Memory) => Err(Stop::Refused),
+        Err(fault) => say_fault(rt, &fault),
+    }
 }
 
 /// `build` of the three rules.
 pub(crate) fn builds(rt: &impl Print, alloc: Global) -> Result<(), Stop> {
     let spec = three_rules(alloc)?;
-    let built = match build(alloc, &spec) {
-        Err(BuildFault::Memory) => {
-            println!(rt; "refused")?;
-            build(alloc, &spec)
-        }
-        built => built,
-    };
-    match built {
-        Ok(automaton) => Ok(print_automaton(rt, &automaton)?),
-        Err(BuildFault::Memory) => Err(Stop::Refused),
-        Err(fault) => Ok(println!(rt; "{fault}")?),
+    match unless_refused(rt, build_once(rt, alloc, &spec)) {
+        Some(ended) => ended,
+        None => build_once(rt, alloc, &spec),
+    }
+}
+
+/// The automaton of a specification.
+pub(crate) fn automaton_of(alloc: Global, spec: &Spec) -> Result<Automaton, Stop> {
+    match build(alloc, spec) {
+        Ok(automaton) => Ok(automaton),
+        Err(_) => Err(Stop::NotBegun),
+    }
+}
+
+fn merge_once(rt: &impl Print, alloc: Global, automaton: &Automaton) -> Result<(), Stop> {
+    match merge(alloc, automaton) {
+        Ok(merged) => print_automaton(rt, &merged),
+        Err(AllocError) => Err(Stop::Refused),
     }
 }
 
 /// `merge` of their automaton.
 pub(crate) fn merges(rt: &impl Print, alloc: Global) -> Result<(), Stop> {
     let spec = three_rules(alloc)?;
-    let Ok(automaton) = build(alloc, &spec) else {
-        return Err(Stop::NotBegun);
-    };
-    let merged = match merge(alloc, &automaton) {
-        Err(AllocError) => {
-            println!(rt; "refused")?;
-            merge(alloc, &automaton)
-        }
-        merged => merged,
-    };
-    match merged {
-        Ok(merged) => Ok(print_automaton(rt, &merged)?),
+    let automaton = automaton_of(alloc, &spec)?;
+    match unless_refused(rt, merge_once(rt, alloc, &automaton)) {
+        Some(ended) => ended,
+        None => merge_once(rt, alloc, &automaton),
+    }
+}
+
+/// Prints tables in their second text.
+pub(crate) fn print_tables(rt: &impl Print, tables: &Tables) -> Result<(), Stop> {
+    printed(tables.print(&mut io::writer(rt)))
+}
+
+fn print_made(rt: &impl Print, made: Result<Tables, AllocError>) -> Result<(), Stop> {
+    match made {
+        Ok(tables) => print_tables(rt, &tables),
         Err(AllocError) => Err(Stop::Refused),
     }
 }
 
+// That the automaton is the specification's is known here alone, so both calls stand here.
 /// `Tables::of` of their merged automaton.
 pub(crate) fn makes_tables(rt: &impl Print, alloc: Global) -> Result<(), Stop> {
     let spec = three_rules(alloc)?;
@@ -113,55 +148,54 @@ pub(crate) fn makes_tables(rt: &impl Print, alloc: Global) -> Result<(), Stop> {
     let Ok(automaton) = merge(alloc, &built) else {
         return Err(Stop::NotBegun);
     };
-    let tables = match Tables::of(alloc, &spec, &automaton) {
-        Err(AllocError) => {
-            println!(rt; "refused")?;
-            Tables::of(alloc, &spec, &automaton)
-        }
-        tables => tables,
-    };
-    match tables {
-        Ok(tables) => Ok(tables.print(&mut io::writer(rt))?),
-        Err(AllocError) => Err(Stop::Refused),
+    match Tables::of(alloc, &spec, &automaton) {
+        Err(AllocError) => match say(rt, "refused") {
+            Ok(()) => print_made(rt, Tables::of(alloc, &spec, &automaton)),
+            stopped => stopped,
+        },
+        made => print_made(rt, made),
+    }
+}
+
+fn read_tables_once(rt: &impl Print, alloc: Global) -> Result<(), Stop> {
+    match Tables::read(alloc, THREE_RULES_TEXTS.0.as_bytes()) {
+        Ok(tables) => print_tables(rt, &tables),
+        Err(TableFault::Memory) => Err(Stop::Refused),
+        Err(fault) => say_fault(rt, &fault),
     }
 }
 
 /// `Tables::read` of version 1 of their text.
 pub(crate) fn reads_tables(rt: &impl Print, alloc: Global) -> Result<(), Stop> {
-    let text = THREE_RULES_TEXTS.0.as_bytes();
-    let read = match Tables::read(alloc, text) {
-        Err(TableFault::Memory) => {
-            println!(rt; "refused")?;
-            Tables::read(alloc, text)
-        }
-        read => read,
-    };
-    match read {
-        Ok(tables) => Ok(tables.print(&mut io::writer(rt))?),
-        Err(TableFault::Memory) => Err(Stop::Refused),
-        Err(fault) => Ok(println!(rt; "{fault}")?),
+    match unless_refused(rt, read_tables_once(rt, alloc)) {
+        Some(ended) => ended,
+        None => read_tables_once(rt, alloc),
     }
 }
 
-fn print_items(rt: &impl Print, items: &[Item]) -> io::Result<()> {
+fn print_item(rt: &impl Print, item: &Item) -> Result<(), Stop> {
+    printed(println!(rt; "{item:?}"))
+}
+
+fn print_items(rt: &impl Print, items: &[Item]) -> Result<(), Stop> {
     for item in items {
-        println!(rt; "{item:?}")?;
+        print_item(rt, item)?;
     }
     Ok(())
+}
+
+fn scan_once(rt: &impl Print, alloc: Global, tables: &Tables) -> Result<(), Stop> {
+    match scan(alloc, tables, TWO_WORDS) {
+        Ok(items) => print_items(rt, &items),
+        Err(AllocError) => Err(Stop::Refused),
+    }
 }
 
 /// `scan` of two words by the three rules.
 pub(crate) fn scans(rt: &impl Print, alloc: Global) -> Result<(), Stop> {
     let tables = tables_of(alloc, THREE_RULES)?;
-    let scanned = match scan(alloc, &tables, TWO_WORDS) {
-        Err(AllocError) => {
-            println!(rt; "refused")?;
-            scan(alloc, &tables, TWO_WORDS)
-        }
-        scanned => scanned,
-    };
-    match scanned {
-        Ok(items) => Ok(print_items(rt, &items)?),
-        Err(AllocError) => Err(Stop::Refused),
+    match unless_refused(rt, scan_once(rt, alloc, &tables)) {
+        Some(ended) => ended,
+        None => scan_once(rt, alloc, &tables),
     }
 }

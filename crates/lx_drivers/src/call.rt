@@ -52,93 +52,49 @@ pub(crate) enum Call {
     MeetingGate,
 }
 
-/// All of them, those that take memory first.
-pub(crate) const ALL: [Call; 38] = [
-    Call::ReadPattern,
-    Call::ReadSubstitute,
-    Call::ReadSpec,
-    Call::Build,
-    Call::Merge,
-    Call::TablesOf,
-    Call::TablesRead,
-    Call::Scan,
-    Call::NextPiece,
-    Call::CollectorNew,
-    Call::Offer,
-    Call::Relay,
-    Call::ClaimsNew,
-    Call::PostNew,
-    Call::ScanAllByOne,
-    Call::ScanAllByTwo,
-    Call::ScanAllByEight,
-    Call::PrintListing,
-    Call::ListingNew,
-    Call::ListingTake,
-    Call::SourcesRead,
-    Call::Has,
-    Call::PatternEnd,
-    Call::Automaton,
-    Call::Tables,
-    Call::Print,
-    Call::PrintFirst,
-    Call::NextMatch,
-    Call::Text,
-    Call::Plan,
-    Call::ListArrivals,
-    Call::Deliver,
-    Call::Faults,
-    Call::Draw,
-    Call::Send,
-    Call::PostArrivals,
-    Call::OpenGate,
-    Call::MeetingGate,
+/// All of them, those that take memory first, each with the sign that stands before its name, `==` where it takes memory and else `--`, and its name.
+pub(crate) const ALL: &[(Call, &str, &str)] = &[
+    (Call::ReadPattern, "==", "read_pattern"),
+    (Call::ReadSubstitute, "==", "read_substitute"),
+    (Call::ReadSpec, "==", "read_spec"),
+    (Call::Build, "==", "build"),
+    (Call::Merge, "==", "merge"),
+    (Call::TablesOf, "==", "Tables::of"),
+    (Call::TablesRead, "==", "Tables::read"),
+    (Call::Scan, "==", "scan"),
+    (Call::NextPiece, "==", "next_piece"),
+    (Call::CollectorNew, "==", "Collector::new"),
+    (Call::Offer, "==", "offer"),
+    (Call::Relay, "==", "relay"),
+    (Call::ClaimsNew, "==", "Claims::new"),
+    (Call::PostNew, "==", "Post::new"),
+    (Call::ScanAllByOne, "==", "scan_all by 1"),
+    (Call::ScanAllByTwo, "==", "scan_all by 2"),
+    (Call::ScanAllByEight, "==", "scan_all by 8"),
+    (Call::PrintListing, "==", "print_listing"),
+    (Call::ListingNew, "==", "Listing::new"),
+    (Call::ListingTake, "==", "Listing::take"),
+    (Call::SourcesRead, "==", "Sources::read"),
+    (Call::Has, "--", "has"),
+    (Call::PatternEnd, "--", "pattern_end"),
+    (Call::Automaton, "--", "automaton"),
+    (Call::Tables, "--", "tables"),
+    (Call::Print, "--", "print"),
+    (Call::PrintFirst, "--", "print_first"),
+    (Call::NextMatch, "--", "next_match"),
+    (Call::Text, "--", "text"),
+    (Call::Plan, "--", "plan"),
+    (Call::ListArrivals, "--", "list_arrivals"),
+    (Call::Deliver, "--", "deliver"),
+    (Call::Faults, "--", "faults"),
+    (Call::Draw, "--", "draw"),
+    (Call::Send, "--", "send"),
+    (Call::PostArrivals, "--", "post_arrivals"),
+    (Call::OpenGate, "--", "open_gate"),
+    (Call::MeetingGate, "--", "meeting_gate"),
 ];
 
 impl Call {
-    /// The sign that stands before its name: `==` where it takes memory, and else `--`.
-    pub(crate) fn heading(self) -> (&'static str, &'static str) {
-        match self {
-            Call::ReadPattern => ("==", "read_pattern"),
-            Call::ReadSubstitute => ("==", "read_substitute"),
-            Call::ReadSpec => ("==", "read_spec"),
-            Call::Build => ("==", "build"),
-            Call::Merge => ("==", "merge"),
-            Call::TablesOf => ("==", "Tables::of"),
-            Call::TablesRead => ("==", "Tables::read"),
-            Call::Scan => ("==", "scan"),
-            Call::NextPiece => ("==", "next_piece"),
-            Call::CollectorNew => ("==", "Collector::new"),
-            Call::Offer => ("==", "offer"),
-            Call::Relay => ("==", "relay"),
-            Call::ClaimsNew => ("==", "Claims::new"),
-            Call::PostNew => ("==", "Post::new"),
-            Call::ScanAllByOne => ("==", "scan_all by 1"),
-            Call::ScanAllByTwo => ("==", "scan_all by 2"),
-            Call::ScanAllByEight => ("==", "scan_all by 8"),
-            Call::PrintListing => ("==", "print_listing"),
-            Call::ListingNew => ("==", "Listing::new"),
-            Call::ListingTake => ("==", "Listing::take"),
-            Call::SourcesRead => ("==", "Sources::read"),
-            Call::Has => ("--", "has"),
-            Call::PatternEnd => ("--", "pattern_end"),
-            Call::Automaton => ("--", "automaton"),
-            Call::Tables => ("--", "tables"),
-            Call::Print => ("--", "print"),
-            Call::PrintFirst => ("--", "print_first"),
-            Call::NextMatch => ("--", "next_match"),
-            Call::Plan => ("--", "plan"),
-            Call::ListArrivals => ("--", "list_arrivals"),
-            Call::Deliver => ("--", "deliver"),
-            Call::Faults => ("--", "faults"),
-            Call::Draw => ("--", "draw"),
-            Call::Send => ("--", "send"),
-            Call::PostArrivals => ("--", "post_arrivals"),
-            Call::Text => ("--", "text"),
-            Call::OpenGate => ("--", "open_gate"),
-            Call::MeetingGate => ("--", "meeting_gate"),
-        }
-    }
-
     fn make<R: Print + Threads + Wait + Sync>(self, rt: &R, alloc: Global) -> Result<(), Stop> {
         match self {
             Call::ReadPattern => expressions::reads_patterns(rt, alloc),
@@ -197,22 +153,30 @@ fn drive<R: Print + Threads + Wait + Sync>(rt: &R, alloc: Global, call: Call) ->
 pub(crate) fn drive_named<R: Print + Threads + Wait + Sync>(
     rt: &R,
     alloc: Global,
-    name: &str,
+    wanted: &str,
 ) -> io::Result<()> {
-    for call in ALL {
-        if call.heading().1 == name {
-            return drive(rt, alloc, call);
+    for (call, _, name) in ALL {
+        if *name == wanted {
+            return drive(rt, alloc, *call);
         }
     }
     Err(io::Error::from(io::ErrorKind::NotFound))
 }
 
+/// Makes a call, with its name before what it answers.
+fn drive_with_name<R: Print + Threads + Wait + Sync>(
+    rt: &R,
+    alloc: Global,
+    (call, sign, name): (Call, &str, &str),
+) -> io::Result<()> {
+    println!(rt; "{sign} {name}")?;
+    drive(rt, alloc, call)
+}
+
 /// Makes each call, with its name before what it answers.
 pub(crate) fn drive_all<R: Print + Threads + Wait + Sync>(rt: &R, alloc: Global) -> io::Result<()> {
-    for call in ALL {
-        let (sign, name) = call.heading();
-        println!(rt; "{sign} {name}")?;
-        drive(rt, alloc, call)?;
+    for row in ALL {
+        drive_with_name(rt, alloc, *row)?;
     }
     Ok(())
 }

@@ -4,16 +4,26 @@ ghost use Rattle.std.specs.Prelude.{◌≡◌, ◌<◌, ◌≤◌, IfOk, length}
 ghost use Rattle.lx_piece.specs.Cutting.{IsCutterOf};
 
 use crate::rows::{FILE_OF_TWO_WORDS, plan_of};
-use crate::stop::{Stop, refuse_from_here};
-use lx_fixtures::{NO_RULES, THREE_RULES};
-use lx_piece::{Collector, Cutter, Items, Mark, Piece, Plan, Refused, Why};
+use crate::stop::{Stop, printed, refuse_from_here, say, say_fault, unless_refused};
+use lx_fixtures::{NO_RULES, THREE_RULES, piece};
+use lx_piece::{Collector, Cutter, Mark, Piece, Plan, Refused, Why};
 use std::alloc::{AllocError, Global};
-use std::io;
 
-pub(crate) fn print_piece(rt: &impl Print, piece: &Piece) -> io::Result<()> {
+pub(crate) fn print_piece(rt: &impl Print, piece: &Piece) -> Result<(), Stop> {
     let (file, number, mark) = (piece.file, piece.number, piece.mark);
     let len = piece.items.as_slice().len();
-    println!(rt; "file {file} piece {number} {mark:?} {len} items")
+    printed(println!(rt; "file {file} piece {number} {mark:?} {len} items"))
+}
+
+fn print_next_once(rt: &impl Print, plan: &Plan, cutter: &mut Cutter) -> Result<(), Stop>
+    requires { IsCutterOf plan.now cutter.old }
+    ensures { IsCutterOf plan.now cutter.new }
+{
+    match cutter.next_piece(plan) {
+        Ok(Some(piece)) => print_piece(rt, &piece),
+        Ok(None) => say(rt, "no piece"),
+        Err(AllocError) => Err(Stop::Refused),
+    }
 }
 
 /// Prints a cutter's next piece.
@@ -21,17 +31,9 @@ fn print_next(rt: &impl Print, plan: &Plan, cutter: &mut Cutter) -> Result<(), S
     requires { IsCutterOf plan.now cutter.old }
     ensures { IsCutterOf plan.now cutter.new }
 {
-    let next = match cutter.next_piece(plan) {
-        Err(AllocError) => {
-            println!(rt; "refused")?;
-            cutter.next_piece(plan)
-        }
-        next => next,
-    };
-    match next {
-        Ok(Some(piece)) => Ok(print_piece(rt, &piece)?),
-        Ok(None) => Ok(println!(rt; "no piece")?),
-        Err(AllocError) => Err(Stop::Refused),
+    match unless_refused(rt, print_next_once(rt, plan, cutter)) {
+        Some(ended) => ended,
+        None => print_next_once(rt, plan, cutter),
     }
 }
 
@@ -52,96 +54,107 @@ fn echo_plan(alloc: Global, len: usize) -> Result<Plan, Stop>
     plan_of(alloc, NO_RULES, &[(&bytes[..len], false)], 256)
 }
 
+/// Prints the first pieces of two plans.
+fn print_two(rt: &impl Print, alloc: Global, first: &Plan, second: &Plan) -> Result<(), Stop> {
+    print_first_pieces(rt, alloc, first)?;
+    print_first_pieces(rt, alloc, second)
+}
+
+/// Makes two plans more, and prints the first pieces of all.
+fn cuts_with(rt: &impl Print, alloc: Global, full: &Plan, one_more: &Plan) -> Result<(), Stop> {
+    let two = echo_plan(alloc, 512)?;
+    let words = plan_of(alloc, THREE_RULES, FILE_OF_TWO_WORDS, 1)?;
+    match print_two(rt, alloc, full, one_more) {
+        Ok(()) => print_two(rt, alloc, &two, &words),
+        stopped => stopped,
+    }
+}
+
 /// `next_piece` of files of 256, 257 and 512 bytes, and of two words one by one.
 pub(crate) fn cuts(rt: &impl Print, alloc: Global) -> Result<(), Stop> {
     let full = echo_plan(alloc, 256)?;
     let one_more = echo_plan(alloc, 257)?;
-    let two = echo_plan(alloc, 512)?;
-    let words = plan_of(alloc, THREE_RULES, FILE_OF_TWO_WORDS, 1)?;
-    print_first_pieces(rt, alloc, &full)?;
-    print_first_pieces(rt, alloc, &one_more)?;
-    print_first_pieces(rt, alloc, &two)?;
-    print_first_pieces(rt, alloc, &words)
+    cuts_with(rt, alloc, &full, &one_more)
 }
 
 /// Prints whether a collector's first file is closed and cut, and whether all files are closed.
-fn print_collector(rt: &impl Print, collector: &Collector) -> io::Result<()>
+fn print_collector(rt: &impl Print, collector: &Collector) -> Result<(), Stop>
     requires { 0 < length collector.now.buffers }
 {
     let (closed, cut) = (collector.is_closed(0), collector.is_cut(0));
     let all = collector.all_closed();
-    println!(rt; "closed {closed}, cut {cut}, all closed {all}")
+    printed(println!(rt; "closed {closed}, cut {cut}, all closed {all}"))
 }
 
-/// `Collector::new` of three files.
-pub(crate) fn makes_collector(rt: &impl Print, alloc: Global) -> Result<(), Stop> {
-    let made = match Collector::new(alloc, 1, 3) {
-        Err(AllocError) => {
-            println!(rt; "refused")?;
-            Collector::new(alloc, 1, 3)
-        }
-        made => made,
-    };
-    match made {
-        Ok(collector) => Ok(print_collector(rt, &collector)?),
+fn make_collector_once(rt: &impl Print, alloc: Global) -> Result<(), Stop> {
+    match Collector::new(alloc, 1, 3) {
+        Ok(collector) => print_collector(rt, &collector),
         Err(AllocError) => Err(Stop::Refused),
     }
 }
 
-/// A piece of run 1 without items.
-fn empty_piece(alloc: Global, number: u64, mark: Mark) -> Piece {
-    Piece {
-        run: 1,
-        file: 0,
-        number,
-        mark,
-        items: Items::from_vec(Vec::new(alloc)),
+/// `Collector::new` of three files.
+pub(crate) fn makes_collector(rt: &impl Print, alloc: Global) -> Result<(), Stop> {
+    match unless_refused(rt, make_collector_once(rt, alloc)) {
+        Some(ended) => ended,
+        None => make_collector_once(rt, alloc),
     }
 }
 
-/// Offers a piece, and prints the reply.
-fn print_reply(rt: &impl Print, collector: &mut Collector, piece: Piece) -> Result<(), Stop>
-    ensures { length collector.new.buffers ≡ length collector.old.buffers }
-{
-    let replied = match collector.offer(piece) {
-        Err(
-            Refused {
-                why: Why::Memory,
-                piece,
-            },
-        ) => {
-            println!(rt; "refused")?;
-            collector.offer(piece)
-        }
-        replied => replied,
-    };
-    match replied {
-        Ok(()) => Ok(println!(rt; "accepted")?),
+fn print_reply(rt: &impl Print, reply: Result<(), Refused>) -> Result<(), Stop> {
+    match reply {
+        Ok(()) => say(rt, "accepted"),
         Err(
             Refused {
                 why: Why::Memory,
                 piece: _,
             },
         ) => Err(Stop::Refused),
-        Err(refused) => Ok(println!(rt; "{refused}")?),
+        Err(refused) => say_fault(rt, &refused),
+    }
+}
+
+/// Offers a piece, and prints the reply.
+fn offer(rt: &impl Print, collector: &mut Collector, piece: Piece) -> Result<(), Stop>
+    ensures { length collector.new.buffers ≡ length collector.old.buffers }
+{
+    match collector.offer(piece) {
+        Err(
+            Refused {
+                why: Why::Memory,
+                piece,
+            },
+        ) => {
+            say(rt, "refused")?;
+            print_reply(rt, collector.offer(piece))
+        }
+        reply => print_reply(rt, reply),
+    }
+}
+
+/// Prints a piece that is delivered, if there is one.
+fn deliver(rt: &impl Print, collector: &mut Collector) -> Result<(), Stop>
+    ensures { length collector.new.buffers ≡ length collector.old.buffers }
+{
+    match collector.deliver() {
+        Some(piece) => print_piece(rt, &piece),
+        None => Ok(()),
     }
 }
 
 /// Prints what is delivered, four pieces at most.
-fn print_delivered(rt: &impl Print, collector: &mut Collector) -> io::Result<()>
+fn print_delivered(rt: &impl Print, collector: &mut Collector) -> Result<(), Stop>
     requires { 0 < length collector.old.buffers }
     ensures { length collector.new.buffers ≡ length collector.old.buffers }
 {
     for _piece in 0..4 {
-        if let Some(piece) = collector.deliver() {
-            print_piece(rt, &piece)?;
-        }
+        deliver(rt, collector)?;
     }
     print_collector(rt, collector)
 }
 
 /// The pieces of a file in another order, with one again and one behind the last.
-const TURNS: [(u64, Mark); 5] = [
+const TURNS: &[(u64, Mark)] = &[
     (2, Mark::Whole),
     (0, Mark::More),
     (0, Mark::More),
@@ -149,17 +162,27 @@ const TURNS: [(u64, Mark); 5] = [
     (3, Mark::More),
 ];
 
-/// `offer` of pieces in another order, and what is delivered behind each.
-pub(crate) fn offers(rt: &impl Print, alloc: Global) -> Result<(), Stop> {
-    let Ok(mut collector) = Collector::new(alloc, 1, 1) else {
-        return Err(Stop::NotBegun);
-    };
+/// Offers pieces in another order, and prints what is delivered behind each.
+fn offer_turns(rt: &impl Print, alloc: Global, collector: &mut Collector) -> Result<(), Stop>
+    requires { 0 < length collector.old.buffers }
+{
     for (number, mark) in TURNS {
-        print_reply(rt, &mut collector, empty_piece(alloc, number, mark))?;
-        print_delivered(rt, &mut collector)?;
+        offer(rt, collector, piece(alloc, 1, 0, *number, *mark))?;
+        print_delivered(rt, collector)?;
     }
     Ok(())
 }
+
+/// `offer` of pieces in another order, and what is delivered behind each.
+pub(crate) fn offers(rt: &impl Print, alloc: Global) -> Result<(), Stop> {
+    match Collector::new(alloc, 1, 1) {
+        Ok(mut collector) => offer_turns(rt, alloc, &mut collector),
+        Err(AllocError) => Err(Stop::NotBegun),
+    }
+}
+
+/// The three pieces of a cut file.
+const CUT_FILE: &[(u64, Mark)] = &[(2, Mark::Cut), (0, Mark::More), (1, Mark::More)];
 
 fn prepared(alloc: Global) -> Result<Collector, Stop>
     ensures { IfOk result (λ collector. length collector.buffers ≡ 1) }
@@ -167,8 +190,8 @@ fn prepared(alloc: Global) -> Result<Collector, Stop>
     let Ok(mut collector) = Collector::new(alloc, 1, 1) else {
         return Err(Stop::NotBegun);
     };
-    for (number, mark) in [(2, Mark::Cut), (0, Mark::More), (1, Mark::More)] {
-        if collector.offer(empty_piece(alloc, number, mark)).is_err() {
+    for (number, mark) in CUT_FILE {
+        if collector.offer(piece(alloc, 1, 0, *number, *mark)).is_err() {
             return Err(Stop::NotBegun);
         }
     }
@@ -179,6 +202,8 @@ fn prepared(alloc: Global) -> Result<Collector, Stop>
 pub(crate) fn delivers(rt: &impl Print, alloc: Global) -> Result<(), Stop> {
     let mut collector = prepared(alloc)?;
     refuse_from_here(alloc);
-    print_collector(rt, &collector)?;
-    Ok(print_delivered(rt, &mut collector)?)
+    match print_collector(rt, &collector) {
+        Ok(()) => print_delivered(rt, &mut collector),
+        stopped => stopped,
+    }
 }

@@ -1,74 +1,95 @@
 //! Patterns and substitutes, read and printed in full: `(a b)` is a and then b, and an interval stands behind what it repeats.
 
-use crate::stop::{Stop, refuse_from_here};
+use crate::stop::{Stop, printed, refuse_from_here, say, say_fault, unless_refused};
 use lx_ere::{ByteSet, EreFault, Expr, Pattern, pattern_end, read_pattern, read_substitute};
 use std::alloc::Global;
-use std::io;
 
 /// Intervals, names and escapes.
-const TEXTS: [&str; 4] = ["ab{2}", "a({D}{1,2})", "\"\\01\"\"1\"", "\\x41*"];
+const TEXTS: &[&str] = &["ab{2}", "a({D}{1,2})", "\"\\01\"\"1\"", "\\x41*"];
 
-fn print_set(rt: &impl Print, set: &ByteSet) -> io::Result<()> {
-    print!(rt; "[")?;
-    for byte in 0..=255_u8 {
-        if set.has(byte) {
-            print!(rt; "{byte:02x}")?;
-        }
-    }
-    print!(rt; "]")
+fn print_text(rt: &impl Print, text: &str) -> Result<(), Stop> {
+    printed(print!(rt; "{text}"))
 }
 
-fn print_expr(rt: &impl Print, expr: &Expr) -> io::Result<()> {
+fn print_byte(rt: &impl Print, byte: u8) -> Result<(), Stop> {
+    printed(print!(rt; "{byte:02x}"))
+}
+
+fn print_set(rt: &impl Print, set: &ByteSet) -> Result<(), Stop> {
+    print_text(rt, "[")?;
+    for byte in 0..=255_u8 {
+        if set.has(byte) {
+            print_byte(rt, byte)?;
+        }
+    }
+    print_text(rt, "]")
+}
+
+fn print_interval(rt: &impl Print, low: u8, high: Option<u8>) -> Result<(), Stop> {
+    printed(print!(rt; "{{{low},{high:?}}}"))
+}
+
+fn print_name(rt: &impl Print, name: &[u8]) -> Result<(), Stop> {
+    print_text(rt, "name")?;
+    for byte in name {
+        printed(print!(rt; " {byte:02x}"))?;
+    }
+    Ok(())
+}
+
+fn print_expr(rt: &impl Print, expr: &Expr) -> Result<(), Stop> {
     match expr {
-        Expr::Nil => print!(rt; "nothing"),
+        Expr::Nil => print_text(rt, "nothing"),
         Expr::Set(set) => print_set(rt, set),
         Expr::Then(first, second) => {
-            print!(rt; "(")?;
+            print_text(rt, "(")?;
             print_expr(rt, first)?;
-            print!(rt; " ")?;
+            print_text(rt, " ")?;
             print_expr(rt, second)?;
-            print!(rt; ")")
+            print_text(rt, ")")
         }
         Expr::Or(first, second) => {
-            print!(rt; "(")?;
+            print_text(rt, "(")?;
             print_expr(rt, first)?;
-            print!(rt; "|")?;
+            print_text(rt, "|")?;
             print_expr(rt, second)?;
-            print!(rt; ")")
+            print_text(rt, ")")
         }
         Expr::Times { body, low, high } => {
             print_expr(rt, body)?;
-            print!(rt; "{{{low},{high:?}}}")
+            print_interval(rt, *low, *high)
         }
-        Expr::Name(name) => {
-            print!(rt; "name")?;
-            for byte in name {
-                print!(rt; " {byte:02x}")?;
-            }
-            Ok(())
-        }
+        Expr::Name(name) => print_name(rt, name),
     }
 }
 
-fn print_pattern(rt: &impl Print, pattern: &Pattern) -> io::Result<()> {
-    let (begin, end) = (pattern.line_begin, pattern.line_end);
-    print!(rt; "{begin} {end} ")?;
-    print_expr(rt, &pattern.expr)?;
-    println!(rt; "")
+fn print_anchors(rt: &impl Print, begin: bool, end: bool) -> Result<(), Stop> {
+    printed(print!(rt; "{begin} {end} "))
+}
+
+/// Prints an expression and ends the line.
+fn print_expr_line(rt: &impl Print, expr: &Expr) -> Result<(), Stop> {
+    print_expr(rt, expr)?;
+    say(rt, "")
+}
+
+fn print_pattern(rt: &impl Print, pattern: &Pattern) -> Result<(), Stop> {
+    print_anchors(rt, pattern.line_begin, pattern.line_end)?;
+    print_expr_line(rt, &pattern.expr)
+}
+
+fn read_pattern_once(rt: &impl Print, alloc: Global, text: &str) -> Result<(), Stop> {
+    match read_pattern(alloc, text.as_bytes()) {
+        Ok(pattern) => print_pattern(rt, &pattern),
+        Err(EreFault::Memory) => Err(Stop::Refused),
+        Err(fault) => say_fault(rt, &fault),
+    }
 }
 
 fn print_read(rt: &impl Print, alloc: Global, text: &str) -> Result<(), Stop> {
-    let read = match read_pattern(alloc, text.as_bytes()) {
-        Err(EreFault::Memory) => {
-            println!(rt; "refused")?;
-            read_pattern(alloc, text.as_bytes())
-        }
-        read => read,
-    };
-    match read {
-        Ok(pattern) => Ok(print_pattern(rt, &pattern)?),
-        Err(EreFault::Memory) => Err(Stop::Refused),
-        Err(fault) => Ok(println!(rt; "{fault}")?),
+    match unless_refused(rt, read_pattern_once(rt, alloc, text)) {
+        Some(ended) => ended,
+        None => read_pattern_once(rt, alloc, text),
     }
 }
 
@@ -80,21 +101,18 @@ pub(crate) fn reads_patterns(rt: &impl Print, alloc: Global) -> Result<(), Stop>
     Ok(())
 }
 
-fn print_substitute(rt: &impl Print, alloc: Global, text: &str) -> Result<(), Stop> {
-    let read = match read_substitute(alloc, text.as_bytes()) {
-        Err(EreFault::Memory) => {
-            println!(rt; "refused")?;
-            read_substitute(alloc, text.as_bytes())
-        }
-        read => read,
-    };
-    match read {
-        Ok(expr) => {
-            print_expr(rt, &expr)?;
-            Ok(println!(rt; "")?)
-        }
+fn read_substitute_once(rt: &impl Print, alloc: Global, text: &str) -> Result<(), Stop> {
+    match read_substitute(alloc, text.as_bytes()) {
+        Ok(expr) => print_expr_line(rt, &expr),
         Err(EreFault::Memory) => Err(Stop::Refused),
-        Err(fault) => Ok(println!(rt; "{fault}")?),
+        Err(fault) => say_fault(rt, &fault),
+    }
+}
+
+fn print_substitute(rt: &impl Print, alloc: Global, text: &str) -> Result<(), Stop> {
+    match unless_refused(rt, read_substitute_once(rt, alloc, text)) {
+        Some(ended) => ended,
+        None => read_substitute_once(rt, alloc, text),
     }
 }
 
@@ -106,11 +124,14 @@ pub(crate) fn reads_substitutes(rt: &impl Print, alloc: Global) -> Result<(), St
     Ok(())
 }
 
-fn print_members(rt: &impl Print, expr: &Expr) -> io::Result<()> {
+fn print_member(rt: &impl Print, byte: u8, has: bool) -> Result<(), Stop> {
+    printed(println!(rt; "{byte} {has}"))
+}
+
+fn print_members(rt: &impl Print, expr: &Expr) -> Result<(), Stop> {
     if let Expr::Set(set) = expr {
-        for byte in *b"/09:" {
-            let has = set.has(byte);
-            println!(rt; "{byte} {has}")?;
+        for byte in b"/09:" {
+            print_member(rt, *byte, set.has(*byte))?;
         }
     }
     Ok(())
@@ -122,15 +143,21 @@ pub(crate) fn has(rt: &impl Print, alloc: Global) -> Result<(), Stop> {
         return Err(Stop::NotBegun);
     };
     refuse_from_here(alloc);
-    Ok(print_members(rt, &digits)?)
+    print_members(rt, &digits)
+}
+
+/// Lines with quotes, brackets and escapes.
+const LINES: &[&str] = &["a b", "\"a b\" c", "[ ]\\ x\ty", "abc"];
+
+fn print_end(rt: &impl Print, end: usize) -> Result<(), Stop> {
+    printed(println!(rt; "{end}"))
 }
 
 /// `pattern_end` behind quotes, brackets and escapes.
 pub(crate) fn ends_patterns(rt: &impl Print, alloc: Global) -> Result<(), Stop> {
     refuse_from_here(alloc);
-    for text in ["a b", "\"a b\" c", "[ ]\\ x\ty", "abc"] {
-        let end = pattern_end(text.as_bytes());
-        println!(rt; "{end}")?;
+    for text in LINES {
+        print_end(rt, pattern_end(text.as_bytes()))?;
     }
     Ok(())
 }

@@ -1,7 +1,7 @@
 //! Listings.
 
 use crate::rows::{FILE_OF_TWO_WORDS, plan_of};
-use crate::stop::{Stop, refuse_from_here};
+use crate::stop::{Stop, printed, refuse_from_here, say_fault, unless_refused};
 use lx_fixtures::{THREE_RULES, take_first};
 use lx_piece::{Plan, Reader, ReaderFault};
 use lx_post::RunFault;
@@ -13,8 +13,7 @@ use std::io::Write;
 /// More bytes than any listing here has.
 pub(crate) const ROOM: usize = 256;
 
-/// Prints what was written before memory was refused.
-pub(crate) fn print_part(rt: &impl Print, written: &[u8]) -> io::Result<()> {
+fn print_part_to(rt: &impl Print, written: &[u8]) -> io::Result<()> {
     let mut out = io::writer(rt);
     let mut begins = true;
     for byte in written {
@@ -27,49 +26,82 @@ pub(crate) fn print_part(rt: &impl Print, written: &[u8]) -> io::Result<()> {
     out.write_all(b"refused\n")
 }
 
+/// Prints what was written before memory was refused.
+pub(crate) fn print_part(rt: &impl Print, written: &[u8]) -> Result<(), Stop> {
+    printed(print_part_to(rt, written))
+}
+
+/// Memory for a listing.
+pub(crate) fn room_for_listing(alloc: Global) -> Result<Vec<u8>, Stop> {
+    match Vec::with_capacity(alloc, ROOM) {
+        Ok(room) => Ok(room),
+        Err(AllocError) => Err(Stop::NotBegun),
+    }
+}
+
+/// Prints what was written by a run that ended so.
+pub(crate) fn print_written(
+    rt: &impl Print,
+    written: &[u8],
+    ended: Result<(), RunFault>,
+) -> Result<(), Stop> {
+    match ended {
+        Ok(()) => printed(io::writer(rt).write_all(written)),
+        Err(RunFault::Memory) => Err(Stop::Refused),
+        Err(fault) => say_fault(rt, &fault),
+    }
+}
+
+fn print_listing_into(
+    rt: &impl Print,
+    alloc: Global,
+    plan: &Plan,
+    written: &mut Vec<u8>,
+) -> Result<(), Stop> {
+    let ended = print_listing(alloc, plan, written);
+    if ended != Err(RunFault::Memory) {
+        return print_written(rt, written, ended);
+    }
+    print_part(rt, written)?;
+    written.clear();
+    let ended = print_listing(alloc, plan, written);
+    print_written(rt, written, ended)
+}
+
 /// `print_listing` of two words by the three rules.
 pub(crate) fn prints_listing(rt: &impl Print, alloc: Global) -> Result<(), Stop> {
     let plan = plan_of(alloc, THREE_RULES, FILE_OF_TWO_WORDS, 1)?;
-    let Ok(mut written) = Vec::with_capacity(alloc, ROOM) else {
-        return Err(Stop::NotBegun);
-    };
-    let mut printed = print_listing(alloc, &plan, &mut written);
-    if printed == Err(RunFault::Memory) {
-        print_part(rt, &written)?;
-        written.clear();
-        printed = print_listing(alloc, &plan, &mut written);
-    }
-    match printed {
-        Ok(()) => Ok(io::writer(rt).write_all(&written)?),
-        Err(RunFault::Memory) => Err(Stop::Refused),
-        Err(fault) => Ok(println!(rt; "{fault}")?),
-    }
+    let mut written = room_for_listing(alloc)?;
+    print_listing_into(rt, alloc, &plan, &mut written)
 }
 
 // The writer's type is a parameter here and below, since a listing that is made over a lent local isn't covered by the prover.
-fn faults_over<W: Write + Drop>(alloc: Global, plan: &Plan, out: W) -> Result<u64, AllocError> {
-    let listing = Listing::new(alloc, plan, out)?;
-    Ok(listing.faults())
+fn faults_over<W: Write + Drop>(alloc: Global, plan: &Plan, out: W) -> Result<u64, Stop> {
+    match Listing::new(alloc, plan, out) {
+        Ok(listing) => Ok(listing.faults()),
+        Err(AllocError) => Err(Stop::Refused),
+    }
 }
 
-/// Makes a listing over the output: how many faults it has.
-fn faults_of_new(rt: &impl Print, alloc: Global, plan: &Plan) -> Result<u64, AllocError> {
-    faults_over(alloc, plan, io::writer(rt))
+fn print_faults(rt: &impl Print, faults: Result<u64, Stop>) -> Result<(), Stop> {
+    match faults {
+        Ok(faults) => printed(println!(rt; "{faults} faults")),
+        Err(stop) => Err(stop),
+    }
+}
+
+/// Makes a listing over the output, and prints how many faults it has.
+fn make_listing_once(rt: &impl Print, alloc: Global, plan: &Plan) -> Result<(), Stop> {
+    let faults = faults_over(alloc, plan, io::writer(rt));
+    print_faults(rt, faults)
 }
 
 /// `Listing::new` over the output.
 pub(crate) fn makes_listing(rt: &impl Print, alloc: Global) -> Result<(), Stop> {
     let plan = plan_of(alloc, THREE_RULES, FILE_OF_TWO_WORDS, 1)?;
-    let made = match faults_of_new(rt, alloc, &plan) {
-        Err(AllocError) => {
-            println!(rt; "refused")?;
-            faults_of_new(rt, alloc, &plan)
-        }
-        made => made,
-    };
-    match made {
-        Ok(faults) => Ok(println!(rt; "{faults} faults")?),
-        Err(AllocError) => Err(Stop::Refused),
+    match unless_refused(rt, make_listing_once(rt, alloc, &plan)) {
+        Some(ended) => ended,
+        None => make_listing_once(rt, alloc, &plan),
     }
 }
 
@@ -88,23 +120,31 @@ fn take_once<W: Write + Drop>(
     }
 }
 
+/// Prints what was written of a piece that was taken so.
+fn print_taken(
+    rt: &impl Print,
+    written: &[u8],
+    taken: Result<(), ReaderFault>,
+) -> Result<(), Stop> {
+    match taken {
+        Ok(()) => printed(io::writer(rt).write_all(written)),
+        Err(ReaderFault::Memory) => Err(Stop::Refused),
+        Err(fault) => say_fault(rt, &fault),
+    }
+}
+
 /// `Listing::take` of a piece with two words.
 pub(crate) fn takes(rt: &impl Print, alloc: Global) -> Result<(), Stop> {
     let plan = plan_of(alloc, THREE_RULES, FILE_OF_TWO_WORDS, 256)?;
-    let Ok(mut written) = Vec::with_capacity(alloc, ROOM) else {
-        return Err(Stop::NotBegun);
-    };
-    let mut taken = take_once(alloc, &plan, &mut written)?;
-    if taken == Err(ReaderFault::Memory) {
-        print_part(rt, &written)?;
-        written.clear();
-        taken = take_once(alloc, &plan, &mut written)?;
+    let mut written = room_for_listing(alloc)?;
+    let taken = take_once(alloc, &plan, &mut written)?;
+    if taken != Err(ReaderFault::Memory) {
+        return print_taken(rt, &written, taken);
     }
-    match taken {
-        Ok(()) => Ok(io::writer(rt).write_all(&written)?),
-        Err(ReaderFault::Memory) => Err(Stop::Refused),
-        Err(fault) => Ok(println!(rt; "{fault}")?),
-    }
+    print_part(rt, &written)?;
+    written.clear();
+    let taken = take_once(alloc, &plan, &mut written)?;
+    print_taken(rt, &written, taken)
 }
 
 fn faults_unfed<W: Write + Drop>(alloc: Global, plan: &Plan, out: W) -> Result<u64, Stop> {
@@ -118,6 +158,6 @@ fn faults_unfed<W: Write + Drop>(alloc: Global, plan: &Plan, out: W) -> Result<u
 /// `faults` of a listing.
 pub(crate) fn counts_faults(rt: &impl Print, alloc: Global) -> Result<(), Stop> {
     let plan = plan_of(alloc, THREE_RULES, FILE_OF_TWO_WORDS, 1)?;
-    let faults = faults_unfed(alloc, &plan, io::writer(rt))?;
-    Ok(println!(rt; "{faults} faults")?)
+    let faults = faults_unfed(alloc, &plan, io::writer(rt));
+    print_faults(rt, faults)
 }

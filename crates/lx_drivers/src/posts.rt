@@ -1,35 +1,41 @@
 //! Claims and posts.
 
-ghost use Rattle.std.specs.Prelude.{◌≡◌, ◌≤◌, [], All, vec_capacity};
+ghost use Rattle.std.specs.Prelude.{◌≡◌, ◌≤◌, [], All, IfOk, vec_capacity};
 ghost use Rattle.lx_piece.specs.Pieces.{IsPieceOf};
 ghost use Rattle.lx_post.specs.Claimed.{IsSeatOf};
-ghost use Rattle.lx_post.specs.Posted.{IsTakePassOf, fresh_send};
+ghost use Rattle.lx_post.specs.Posted.{IsSendPassOf, IsTakePassOf, fresh_send};
 
 use crate::collecting::print_piece;
-use crate::relays::first_piece;
 use crate::rows::{FILE_OF_TWO_WORDS, plan_of};
-use crate::stop::{Stop, refuse_from_here};
-use lx_fixtures::{THREE_FILES, THREE_RULES};
+use crate::stop::{Stop, printed, refuse_from_here, say, unless_refused};
+use lx_fixtures::{THREE_FILES, THREE_RULES, first_piece};
 use lx_piece::{Arrivals, Piece, Plan};
 use lx_post::{ClaimSeat, Claims, Note, Post, PostArrivals, SendPass, TakePass, finish};
 use std::alloc::{AllocError, Global};
-use std::io;
 use std::sync::Wait;
+
+fn make_claims_once(rt: &impl Print, alloc: Global) -> Result<(), Stop> {
+    match Claims::new(alloc, 3, 2) {
+        Ok((_claims, seats)) => print_count(rt, seats.len(), "seats"),
+        Err(AllocError) => Err(Stop::Refused),
+    }
+}
+
+fn print_count(rt: &impl Print, count: usize, what: &str) -> Result<(), Stop> {
+    printed(println!(rt; "{count} {what}"))
+}
 
 /// `Claims::new` of three files and two workers.
 pub(crate) fn makes_claims(rt: &impl Print, alloc: Global) -> Result<(), Stop> {
-    let made = match Claims::new(alloc, 3, 2) {
-        Err(AllocError) => {
-            println!(rt; "refused")?;
-            Claims::new(alloc, 3, 2)
-        }
-        made => made,
-    };
-    match made {
-        Ok((_claims, seats)) => {
-            let count = seats.len();
-            Ok(println!(rt; "{count} seats")?)
-        }
+    match unless_refused(rt, make_claims_once(rt, alloc)) {
+        Some(ended) => ended,
+        None => make_claims_once(rt, alloc),
+    }
+}
+
+fn make_post_once<R: Print + Wait>(rt: &R, alloc: Global, plan: &Plan) -> Result<(), Stop> {
+    match Post::new(rt, alloc, plan, 2, 64) {
+        Ok((_post, passes, _take)) => print_count(rt, passes.len(), "passes"),
         Err(AllocError) => Err(Stop::Refused),
     }
 }
@@ -37,28 +43,61 @@ pub(crate) fn makes_claims(rt: &impl Print, alloc: Global) -> Result<(), Stop> {
 /// `Post::new` for two workers.
 pub(crate) fn makes_post<R: Print + Wait>(rt: &R, alloc: Global) -> Result<(), Stop> {
     let plan = plan_of(alloc, THREE_RULES, THREE_FILES.as_slice(), 1)?;
-    let made = match Post::new(rt, alloc, &plan, 2, 64) {
-        Err(AllocError) => {
-            println!(rt; "refused")?;
-            Post::new(rt, alloc, &plan, 2, 64)
-        }
-        made => made,
-    };
-    match made {
-        Ok((_post, passes, _take)) => {
-            let count = passes.len();
-            Ok(println!(rt; "{count} passes")?)
-        }
-        Err(AllocError) => Err(Stop::Refused),
+    match unless_refused(rt, make_post_once(rt, alloc, &plan)) {
+        Some(ended) => ended,
+        None => make_post_once(rt, alloc, &plan),
     }
 }
 
-fn print_drawn(rt: &impl Print, claims: &Claims, seat: &mut ClaimSeat) -> io::Result<()>
+fn print_drawn(rt: &impl Print, claims: &Claims, seat: &mut ClaimSeat) -> Result<(), Stop>
     requires { IsSeatOf claims.now seat.old }
     ensures { IsSeatOf claims.now seat.new }
 {
     let drawn = claims.draw(seat);
-    println!(rt; "{drawn:?}")
+    printed(println!(rt; "{drawn:?}"))
+}
+
+/// Draws once by each of two seats.
+fn draw_by_each(
+    rt: &impl Print,
+    claims: &Claims,
+    first: &mut ClaimSeat,
+    second: &mut ClaimSeat,
+) -> Result<(), Stop>
+    requires first { IsSeatOf claims.now first.old }
+    requires second { IsSeatOf claims.now second.old }
+    ensures first { IsSeatOf claims.now first.new }
+    ensures second { IsSeatOf claims.now second.new }
+{
+    print_drawn(rt, claims, first)?;
+    print_drawn(rt, claims, second)
+}
+
+/// Draws three times by each of two seats.
+fn draw_six_times(
+    rt: &impl Print,
+    claims: &Claims,
+    first: &mut ClaimSeat,
+    second: &mut ClaimSeat,
+) -> Result<(), Stop>
+    requires first { IsSeatOf claims.now first.old }
+    requires second { IsSeatOf claims.now second.old }
+    ensures first { IsSeatOf claims.now first.new }
+    ensures second { IsSeatOf claims.now second.new }
+{
+    draw_by_each(rt, claims, first, second)?;
+    draw_by_each(rt, claims, first, second)?;
+    draw_by_each(rt, claims, first, second)
+}
+
+/// Settles, and prints of how many files.
+fn settle(rt: &impl Print, claims: Claims, seats: Vec<ClaimSeat>) -> Result<(), Stop>
+    requires { All (λ seat. IsSeatOf claims seat) seats.items }
+{
+    match claims.settle(seats) {
+        Ok(files) => printed(println!(rt; "{files} files")),
+        Err(_) => say(rt, "unsettled"),
+    }
 }
 
 /// Draws by two seats in turn, until both were answered that no file is left, and settles.
@@ -68,24 +107,16 @@ fn draw_in_turn(
     mut first: ClaimSeat,
     mut second: ClaimSeat,
     mut seats: Vec<ClaimSeat>,
-) -> io::Result<()>
+) -> Result<(), Stop>
     requires first { IsSeatOf claims first }
     requires second { IsSeatOf claims second }
     requires none { seats.items ≡ [] }
     requires room { 2 ≤ vec_capacity seats }
 {
-    print_drawn(rt, &claims, &mut first)?;
-    print_drawn(rt, &claims, &mut second)?;
-    print_drawn(rt, &claims, &mut first)?;
-    print_drawn(rt, &claims, &mut second)?;
-    print_drawn(rt, &claims, &mut first)?;
-    print_drawn(rt, &claims, &mut second)?;
+    draw_six_times(rt, &claims, &mut first, &mut second)?;
     seats.push_reserved(first);
     seats.push_reserved(second);
-    match claims.settle(seats) {
-        Ok(files) => println!(rt; "{files} files"),
-        Err(_) => println!(rt; "unsettled"),
-    }
+    settle(rt, claims, seats)
 }
 
 fn draw_by_two(
@@ -106,7 +137,7 @@ fn draw_by_two(
         return Ok(());
     };
     refuse_from_here(alloc);
-    Ok(draw_in_turn(rt, claims, first, second, done)?)
+    draw_in_turn(rt, claims, first, second, done)
 }
 
 /// `draw` and `settle` of three files and two seats.
@@ -117,20 +148,19 @@ pub(crate) fn draws(rt: &impl Print, alloc: Global) -> Result<(), Stop> {
     }
 }
 
-fn print_note(rt: &impl Print, note: Option<Note>) -> io::Result<()> {
+fn print_sent(rt: &impl Print, worker: u8, piece: &Piece) -> Result<(), Stop> {
+    printed(println!(rt; "of worker {worker}"))?;
+    print_piece(rt, piece)
+}
+
+fn print_note(rt: &impl Print, note: &Note) -> Result<(), Stop> {
     match note {
-        Some(Note::Piece { worker, piece }) => {
-            println!(rt; "of worker {worker}")?;
-            print_piece(rt, &piece)
-        }
-        Some(
-            Note::End {
-                worker,
-                files,
-                fault,
-            },
-        ) => { println!(rt; "end of worker {worker} behind {files} files, {fault:?}") }
-        None => println!(rt; "no note"),
+        Note::Piece { worker, piece } => print_sent(rt, *worker, piece),
+        Note::End {
+            worker,
+            files,
+            fault,
+        } => { printed(println!(rt; "end of worker {worker} behind {files} files, {fault:?}")) }
     }
 }
 
@@ -150,6 +180,43 @@ fn send_two<R: Wait>(rt: &R, plan: &Plan, post: &Post, pass: &mut SendPass, piec
     post.send(rt, pass, end);
 }
 
+/// Receives a note, and prints it.
+fn print_received<R: Print + Wait>(rt: &R, post: &Post, take: &mut TakePass) -> Result<(), Stop>
+    requires { IsTakePassOf post.now take.old }
+    ensures { IsTakePassOf post.now take.new }
+{
+    match post.receive(rt, take) {
+        Some(note) => print_note(rt, &note),
+        None => say(rt, "no note"),
+    }
+}
+
+/// Receives three times.
+fn receive_three<R: Print + Wait>(rt: &R, post: &Post, take: &mut TakePass) -> Result<(), Stop>
+    requires { IsTakePassOf post.now take.old }
+    ensures { IsTakePassOf post.now take.new }
+{
+    print_received(rt, post, take)?;
+    print_received(rt, post, take)?;
+    print_received(rt, post, take)
+}
+
+/// Finishes, and prints whether it did.
+fn finish_and_say<R: Print + Wait>(
+    rt: &R,
+    post: Post,
+    take: TakePass,
+    passes: Vec<SendPass>,
+) -> Result<(), Stop>
+    requires take { IsTakePassOf post take }
+    requires passes { All (λ pass. IsSendPassOf post pass) passes.items }
+{
+    match finish(rt, post, take, passes) {
+        Ok(()) => say(rt, "finished"),
+        Err(_) => say(rt, "unfinished"),
+    }
+}
+
 /// Sends a piece and an end, receives them, and finishes.
 fn send_and_receive<R: Print + Wait>(
     rt: &R,
@@ -159,7 +226,7 @@ fn send_and_receive<R: Print + Wait>(
     mut take: TakePass,
     piece: Piece,
     mut passes: Vec<SendPass>,
-) -> io::Result<()>
+) -> Result<(), Stop>
     requires piece { IsPieceOf plan.now piece }
     requires pass { pass ≡ fresh_send post plan.now 0 }
     requires take { IsTakePassOf post take }
@@ -168,14 +235,9 @@ fn send_and_receive<R: Print + Wait>(
     requires room { 1 ≤ vec_capacity passes }
 {
     send_two(rt, plan, &post, &mut pass, piece);
-    print_note(rt, post.receive(rt, &mut take))?;
-    print_note(rt, post.receive(rt, &mut take))?;
-    print_note(rt, post.receive(rt, &mut take))?;
+    receive_three(rt, &post, &mut take)?;
     passes.push_reserved(pass);
-    match finish(rt, post, take, passes) {
-        Ok(()) => println!(rt; "finished"),
-        Err(_) => println!(rt; "unfinished"),
-    }
+    finish_and_say(rt, post, take, passes)
 }
 
 /// `send`, `receive` and `finish` of one worker.
@@ -188,14 +250,20 @@ pub(crate) fn sends<R: Print + Wait>(rt: &R, alloc: Global) -> Result<(), Stop> 
     let Ok(room) = Vec::with_capacity(alloc, 1) else {
         return Err(Stop::NotBegun);
     };
-    let Ok((post, mut passes, take)) = Post::new(rt, alloc, &plan, 1, 4) else {
-        return Err(Stop::NotBegun);
-    };
-    let Some(pass) = passes.pop() else {
-        return Err(Stop::NotBegun);
-    };
+    let (post, pass, take) = post_of_one(rt, alloc, &plan)?;
     refuse_from_here(alloc);
-    Ok(send_and_receive(rt, &plan, post, pass, take, piece, room)?)
+    send_and_receive(rt, &plan, post, pass, take, piece, room)
+}
+
+/// Prints the piece that arrives first, and then whether none arrives.
+fn print_arrivals<R: Print + Wait>(
+    rt: &R,
+    arrivals: &mut PostArrivals<'_, R>,
+) -> Result<bool, Stop> {
+    if let Some(piece) = arrivals.next() {
+        print_piece(rt, &piece)?;
+    }
+    Ok(arrivals.next().is_none())
 }
 
 /// Sends a piece and an end, and prints what arrives.
@@ -206,19 +274,35 @@ fn send_and_arrive<R: Print + Wait>(
     mut pass: SendPass,
     take: TakePass,
     piece: Piece,
-) -> io::Result<()>
+) -> Result<(), Stop>
     requires piece { IsPieceOf plan.now piece }
     requires pass { pass ≡ fresh_send post.now plan.now 0 }
     requires take { IsTakePassOf post.now take }
 {
     send_two(rt, plan, post, &mut pass, piece);
     let mut arrivals = PostArrivals::new(rt, post, take);
-    if let Some(piece) = arrivals.next() {
-        print_piece(rt, &piece)?;
-    }
-    let is_last = arrivals.next().is_none();
+    let is_last = print_arrivals(rt, &mut arrivals)?;
     let (_take, fault) = arrivals.into_pass();
-    println!(rt; "no arrival behind it {is_last}, {fault:?}")
+    printed(println!(rt; "no arrival behind it {is_last}, {fault:?}"))
+}
+
+/// A post of one worker with a send pass, and the pass that takes.
+fn post_of_one<R: Wait>(
+    rt: &R,
+    alloc: Global,
+    plan: &Plan,
+) -> Result<(Post, SendPass, TakePass), Stop>
+    ensures post { IfOk result (λ made. made.0.workers ≡ 1) }
+    ensures pass { IfOk result (λ made. made.1 ≡ fresh_send made.0 plan.now 0) }
+    ensures take { IfOk result (λ made. IsTakePassOf made.0 made.2) }
+{
+    let Ok((post, mut passes, take)) = Post::new(rt, alloc, plan, 1, 4) else {
+        return Err(Stop::NotBegun);
+    };
+    match passes.pop() {
+        Some(pass) => Ok((post, pass, take)),
+        None => Err(Stop::NotBegun),
+    }
 }
 
 /// `PostArrivals::new`, `next` and `into_pass` of one worker.
@@ -228,12 +312,7 @@ pub(crate) fn arrives<R: Print + Wait>(rt: &R, alloc: Global) -> Result<(), Stop
     let Ok(piece) = first_piece(alloc, &plan, 0) else {
         return Err(Stop::NotBegun);
     };
-    let Ok((post, mut passes, take)) = Post::new(rt, alloc, &plan, 1, 4) else {
-        return Err(Stop::NotBegun);
-    };
-    let Some(pass) = passes.pop() else {
-        return Err(Stop::NotBegun);
-    };
+    let (post, pass, take) = post_of_one(rt, alloc, &plan)?;
     refuse_from_here(alloc);
-    Ok(send_and_arrive(rt, &plan, &post, pass, take, piece)?)
+    send_and_arrive(rt, &plan, &post, pass, take, piece)
 }

@@ -1,95 +1,149 @@
 //! Readers, printers, makers and the scanner's step, which take no memory.
 
-use crate::automata::print_automaton;
+ghost use Rattle.std.specs.Prelude.{◌≡◌, ◌<◌, IfOk, length, vec_len};
+ghost use Rattle.lx_piece.specs.Plans.{files_of, kinds_of};
+
+use crate::automata::{automaton_of, print_automaton, print_tables};
 use crate::collecting::print_piece;
-use crate::relays::among_strangers;
 use crate::rows::{plan_of, tables_of, three_rules};
-use crate::stop::{Stop, refuse_from_here};
-use lx_auto::build;
-use lx_fixtures::{NO_RULES, THREE_RULES, TWO_WORDS};
+use crate::stop::{Stop, printed, refuse_from_here, say};
+use lx_fixtures::{NO_RULES, THREE_RULES, TWO_WORDS, among_strangers};
 use lx_piece::{Arrivals, Cutter, Input, ListArrivals, Plan};
 use lx_scan::{Item, Place, next_match};
-use lx_spec::Kind;
+use lx_spec::{Kind, Step};
 use lx_tables::Tables;
-use std::alloc::Global;
+use std::alloc::{AllocError, Global};
 use std::io;
 
 /// The readers of an automaton.
 pub(crate) fn reads_automaton(rt: &impl Print, alloc: Global) -> Result<(), Stop> {
     let spec = three_rules(alloc)?;
-    let Ok(automaton) = build(alloc, &spec) else {
-        return Err(Stop::NotBegun);
-    };
+    let automaton = automaton_of(alloc, &spec)?;
     refuse_from_here(alloc);
-    Ok(print_automaton(rt, &automaton)?)
+    print_automaton(rt, &automaton)
 }
 
-fn print_rules(rt: &impl Print, tables: &Tables) -> io::Result<()> {
+fn print_rule(rt: &impl Print, cut: bool, steps: &[Step]) -> Result<(), Stop> {
+    printed(println!(rt; "{cut} {steps:?}"))
+}
+
+fn print_rules(rt: &impl Print, tables: &Tables) -> Result<(), Stop> {
     let rules = tables.rules();
-    println!(rt; "{rules} rules")?;
+    printed(println!(rt; "{rules} rules"))?;
     for rule in 0..rules {
-        let (cut, steps) = (tables.cut(rule), tables.steps(rule));
-        println!(rt; "{cut} {steps:?}")?;
-    }
-    let kinds = tables.kinds();
-    println!(rt; "{kinds} kinds")?;
-    for number in 0..kinds {
-        let kind = tables.kind(number);
-        println!(rt; "{kind:?}")?;
+        print_rule(rt, tables.cut(rule), tables.steps(rule))?;
     }
     Ok(())
 }
 
-fn print_steps(rt: &impl Print, tables: &Tables) -> io::Result<()> {
+fn print_kind(rt: &impl Print, kind: &[u8]) -> Result<(), Stop> {
+    printed(println!(rt; "{kind:?}"))
+}
+
+fn print_kinds(rt: &impl Print, tables: &Tables) -> Result<(), Stop> {
+    let kinds = tables.kinds();
+    printed(println!(rt; "{kinds} kinds"))?;
+    for number in 0..kinds {
+        print_kind(rt, tables.kind(number))?;
+    }
+    Ok(())
+}
+
+fn print_class(rt: &impl Print, byte: u8, class: u8) -> Result<(), Stop> {
+    printed(println!(rt; "{byte} is of class {class}"))
+}
+
+fn print_state(rt: &impl Print, number: u32, rule: Option<u16>) -> Result<(), Stop> {
+    printed(println!(rt; "leads to {number}, which accepts {rule:?}"))
+}
+
+/// Prints the class of a byte, and where it leads from the start.
+fn print_step(rt: &impl Print, tables: &Tables, byte: u8) -> Result<(), Stop>
+    requires { 0 < length tables.now.machine.starts }
+{
+    print_class(rt, byte, tables.class(byte))?;
+    match tables.step(tables.start(0, true), byte) {
+        Some(state) => print_state(rt, state.0, tables.accepts(state)),
+        None => Ok(()),
+    }
+}
+
+fn print_steps(rt: &impl Print, tables: &Tables) -> Result<(), Stop> {
     let (conditions, states) = (tables.conditions(), tables.states());
     let classes = tables.classes();
-    println!(rt; "{conditions} conditions, {states} states, {classes} classes")?;
+    printed(println!(rt; "{conditions} conditions, {states} states, {classes} classes"))?;
     if conditions == 0 {
         return Ok(());
     }
-    let start = tables.start(0, true);
-    for byte in *b"a1 \n#" {
-        let class = tables.class(byte);
-        println!(rt; "{byte} is of class {class}")?;
-        if let Some(state) = tables.step(start, byte) {
-            let (number, rule) = (state.0, tables.accepts(state));
-            println!(rt; "leads to {number}, which accepts {rule:?}")?;
-        }
+    for byte in b"a1 \n#" {
+        print_step(rt, tables, *byte)?;
     }
     Ok(())
+}
+
+fn print_all(rt: &impl Print, tables: &Tables) -> Result<(), Stop> {
+    print_steps(rt, tables)?;
+    print_rules(rt, tables)?;
+    print_kinds(rt, tables)
 }
 
 /// The readers of tables.
 pub(crate) fn reads_tables(rt: &impl Print, alloc: Global) -> Result<(), Stop> {
     let tables = tables_of(alloc, THREE_RULES)?;
     refuse_from_here(alloc);
-    print_steps(rt, &tables)?;
-    Ok(print_rules(rt, &tables)?)
+    print_all(rt, &tables)
 }
 
 /// `print`.
 pub(crate) fn prints(rt: &impl Print, alloc: Global) -> Result<(), Stop> {
     let tables = tables_of(alloc, THREE_RULES)?;
     refuse_from_here(alloc);
-    Ok(tables.print(&mut io::writer(rt))?)
+    print_tables(rt, &tables)
 }
 
 /// `print_first`.
 pub(crate) fn prints_first(rt: &impl Print, alloc: Global) -> Result<(), Stop> {
     let tables = tables_of(alloc, THREE_RULES)?;
     refuse_from_here(alloc);
-    Ok(tables.print_first(&mut io::writer(rt))?)
+    printed(tables.print_first(&mut io::writer(rt)))
+}
+
+/// Prints the first match of a text.
+fn print_match(rt: &impl Print, tables: &Tables, text: &[u8]) -> Result<(), Stop> {
+    let _conditions = tables.conditions();
+    let found = next_match(tables, text, Place::begin());
+    printed(println!(rt; "{found:?}"))
 }
 
 /// `next_match` from `Place::begin` on, the first match alone.
 pub(crate) fn matches(rt: &impl Print, alloc: Global) -> Result<(), Stop> {
     let tables = tables_of(alloc, THREE_RULES)?;
     refuse_from_here(alloc);
-    let _conditions = tables.conditions();
-    let found = next_match(&tables, TWO_WORDS, Place::begin());
-    println!(rt; "{found:?}")?;
-    let none = next_match(&tables, b"", Place::begin());
-    Ok(println!(rt; "{none:?}")?)
+    match print_match(rt, &tables, TWO_WORDS) {
+        Ok(()) => print_match(rt, &tables, b""),
+        stopped => stopped,
+    }
+}
+
+/// A file of two words.
+fn files_of_two_words(alloc: Global) -> Result<Vec<Input>, AllocError>
+    ensures { IfOk result (λ files. vec_len files ≡ 1) }
+{
+    let bytes = Vec::from_slice(alloc, TWO_WORDS)?;
+    match vec![in alloc; Input { bytes, cut: false }] {
+        Ok(files) => Ok(files),
+        Err(_) => Err(AllocError),
+    }
+}
+
+/// Prints what a plan of one file and some kinds says of itself.
+fn print_plan(rt: &impl Print, plan: &Plan) -> Result<(), Stop>
+    requires file { 0 < files_of plan.now }
+    requires kind { 0 < length (kinds_of plan.now) }
+{
+    let count = plan.files();
+    let (bytes, kind) = (plan.bytes(0), plan.kind(0));
+    printed(println!(rt; "{count} file, {bytes:?}, {kind:?}"))
 }
 
 /// `Plan::new`, its readers, and `Cutter::new`.
@@ -98,19 +152,22 @@ pub(crate) fn plans(rt: &impl Print, alloc: Global) -> Result<(), Stop> {
     if tables.kinds() == 0 {
         return Err(Stop::NotBegun);
     }
-    let Ok(bytes) = Vec::from_slice(alloc, TWO_WORDS) else {
-        return Err(Stop::NotBegun);
-    };
-    let Ok(files) = vec![in alloc; Input { bytes, cut: false }] else {
+    let Ok(files) = files_of_two_words(alloc) else {
         return Err(Stop::NotBegun);
     };
     refuse_from_here(alloc);
     let plan = Plan::new(tables, files, 1, 1);
-    let count = plan.files();
-    let (bytes, kind) = (plan.bytes(0), plan.kind(0));
-    println!(rt; "{count} file, {bytes:?}, {kind:?}")?;
+    let ended = print_plan(rt, &plan);
     let _cutter = Cutter::new(alloc, &plan, 0);
-    Ok(())
+    ended
+}
+
+/// Prints what arrives next.
+fn print_arrival(rt: &impl Print, arrivals: &mut ListArrivals<'_>) -> Result<(), Stop> {
+    match arrivals.next() {
+        Some(piece) => print_piece(rt, &piece),
+        None => say(rt, "no arrival"),
+    }
 }
 
 /// `ListArrivals::new` and `next`, of the pieces of two files and two strangers.
@@ -125,10 +182,7 @@ pub(crate) fn arrives(rt: &impl Print, alloc: Global) -> Result<(), Stop> {
     refuse_from_here(alloc);
     let mut arrivals = ListArrivals::new(&plan, pieces);
     for _arrival in 0..5 {
-        match arrivals.next() {
-            Some(piece) => print_piece(rt, &piece)?,
-            None => println!(rt; "no arrival")?,
-        }
+        print_arrival(rt, &mut arrivals)?;
     }
     Ok(())
 }
@@ -143,5 +197,5 @@ pub(crate) fn lends(rt: &impl Print, alloc: Global) -> Result<(), Stop> {
     };
     refuse_from_here(alloc);
     let text = token.text(TWO_WORDS);
-    Ok(println!(rt; "{text:?}")?)
+    printed(println!(rt; "{text:?}"))
 }

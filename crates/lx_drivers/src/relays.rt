@@ -1,57 +1,13 @@
 //! A relay of two files, with strangers among their pieces.
 
-ghost use Rattle.std.specs.Prelude.{◌≡◌, ◌<◌, IfOk, length, replicate};
-ghost use Rattle.lx_piece.specs.Arrivals.{AreHonest};
-ghost use Rattle.lx_piece.specs.Pieces.{IsPieceOf};
+ghost use Rattle.std.specs.Prelude.{◌≡◌, IfOk, length, replicate};
 ghost use Rattle.lx_piece.specs.Plans.{files_of};
 
 use crate::rows::plan_of;
-use crate::stop::Stop;
-use lx_fixtures::NO_RULES;
-use lx_piece::{
-    Cutter, Items, ListArrivals, Mark, Piece, Plan, Reader, ReaderFault, RelayFault, Reply, relay,
-};
+use crate::stop::{Stop, printed, say_fault, unless_refused};
+use lx_fixtures::{NO_RULES, among_strangers};
+use lx_piece::{ListArrivals, Piece, Plan, Reader, ReaderFault, RelayFault, Reply, relay};
 use std::alloc::{AllocError, Global};
-use std::io;
-
-/// The first piece of a file.
-pub(crate) fn first_piece(alloc: Global, plan: &Plan, file: u32) -> Result<Piece, AllocError>
-    requires { file < files_of plan.now }
-    ensures { IfOk result (IsPieceOf plan.now) }
-{
-    match Cutter::new(alloc, plan, file).next_piece(plan)? {
-        Some(piece) => Ok(piece),
-        None => unreachable!(),
-    }
-}
-
-/// A piece without items.
-fn empty_piece(alloc: Global, run: u64, file: u32) -> Piece
-    ensures run { result.run ≡ run }
-    ensures file { result.file ≡ file }
-{
-    Piece {
-        run,
-        file,
-        number: 0,
-        mark: Mark::Whole,
-        items: Items::from_vec(Vec::new(alloc)),
-    }
-}
-
-/// The pieces of two files of one piece each, with a piece of another run and one of another file between.
-pub(crate) fn among_strangers(alloc: Global, plan: &Plan) -> Result<Vec<Piece>, AllocError>
-    requires run { plan.now.run ≡ 1 }
-    requires files { files_of plan.now ≡ 2 }
-    ensures { IfOk result (λ pieces. AreHonest plan.now pieces.items) }
-{
-    let mut pieces = Vec::new(alloc);
-    pieces.push(first_piece(alloc, plan, 1)?)?;
-    pieces.push(empty_piece(alloc, 2, 0))?;
-    pieces.push(empty_piece(alloc, 1, 9))?;
-    pieces.push(first_piece(alloc, plan, 0)?)?;
-    Ok(pieces)
-}
 
 /// A reader that counts the pieces of each file.
 #[derive(Drop)]
@@ -120,8 +76,35 @@ fn relay_once(alloc: Global, plan: &Plan) -> Result<Relayed, Stop>
     Ok(Relayed { answer, counts })
 }
 
-fn print_counts(rt: &impl Print, counts: &[u64]) -> io::Result<()> {
-    println!(rt; "taken {counts:?}")
+fn print_counts(rt: &impl Print, counts: &[u64]) -> Result<(), Stop> {
+    printed(println!(rt; "taken {counts:?}"))
+}
+
+fn print_reply(rt: &impl Print, reply: Reply) -> Result<(), Stop> {
+    printed(println!(rt; "{reply:?}"))
+}
+
+fn print_replies(rt: &impl Print, replies: &[Reply]) -> Result<(), Stop> {
+    for reply in replies {
+        print_reply(rt, *reply)?;
+    }
+    Ok(())
+}
+
+/// Relays the pieces, and prints the replies and how many pieces were handed on.
+fn relay_and_print(rt: &impl Print, alloc: Global, plan: &Plan) -> Result<(), Stop>
+    requires run { plan.now.run ≡ 1 }
+    requires files { files_of plan.now ≡ 2 }
+{
+    let relayed = relay_once(alloc, plan)?;
+    match &relayed.answer {
+        Ok(replies) => {
+            print_replies(rt, replies)?;
+            print_counts(rt, &relayed.counts)
+        }
+        Err(RelayFault::Memory) => Err(Stop::Refused),
+        Err(fault) => say_fault(rt, fault),
+    }
 }
 
 /// `relay` of two empty files among strangers.
@@ -130,19 +113,8 @@ pub(crate) fn relays(rt: &impl Print, alloc: Global) -> Result<(), Stop> {
     if plan.files() != 2 {
         return Err(Stop::NotBegun);
     }
-    let mut relayed = relay_once(alloc, &plan)?;
-    if matches!(relayed.answer, Err(RelayFault::Memory)) {
-        println!(rt; "refused")?;
-        relayed = relay_once(alloc, &plan)?;
-    }
-    match &relayed.answer {
-        Ok(replies) => {
-            for reply in replies {
-                println!(rt; "{reply:?}")?;
-            }
-            Ok(print_counts(rt, &relayed.counts)?)
-        }
-        Err(RelayFault::Memory) => Err(Stop::Refused),
-        Err(fault) => Ok(println!(rt; "{fault}")?),
+    match unless_refused(rt, relay_and_print(rt, alloc, &plan)) {
+        Some(ended) => ended,
+        None => relay_and_print(rt, alloc, &plan),
     }
 }

@@ -1,27 +1,29 @@
 //! Sources of files.
 
-use crate::stop::Stop;
+use crate::stop::{Stop, printed, say_fault, unless_refused};
 use lx_fixtures::TWO_WORDS;
 use lx_tool::{ListSources, SourceFault, Sources};
 use std::alloc::Global;
 
-/// `read` of the second file of a list.
-pub(crate) fn reads_source(rt: &impl Print, alloc: Global) -> Result<(), Stop> {
-    let files: [(&str, &[u8]); 2] = [("a", b"a"), ("words", TWO_WORDS)];
-    let mut sources = ListSources::new(files.as_slice());
-    let read = match sources.read(alloc, "words") {
-        Err(SourceFault::Memory) => {
-            println!(rt; "refused")?;
-            sources.read(alloc, "words")
-        }
-        read => read,
-    };
-    match read {
+/// Two files by their names.
+const FILES: &[(&str, &[u8])] = &[("a", b"a"), ("words", TWO_WORDS)];
+
+fn read_second(rt: &impl Print, alloc: Global, sources: &mut ListSources<'_>) -> Result<(), Stop> {
+    match sources.read(alloc, "words") {
         Ok(input) => {
             let (bytes, cut) = (input.bytes.as_slice(), input.cut);
-            Ok(println!(rt; "{bytes:?}, cut {cut}")?)
+            printed(println!(rt; "{bytes:?}, cut {cut}"))
         }
         Err(SourceFault::Memory) => Err(Stop::Refused),
-        Err(fault) => Ok(println!(rt; "{fault}")?),
+        Err(fault) => say_fault(rt, &fault),
+    }
+}
+
+/// `read` of the second file of a list.
+pub(crate) fn reads_source(rt: &impl Print, alloc: Global) -> Result<(), Stop> {
+    let mut sources = ListSources::new(FILES);
+    match unless_refused(rt, read_second(rt, alloc, &mut sources)) {
+        Some(ended) => ended,
+        None => read_second(rt, alloc, &mut sources),
     }
 }

@@ -2,9 +2,9 @@
 
 ghost use Rattle.std.specs.Prelude.{◌<◌, ◌≤◌};
 
-use crate::listings::{ROOM, print_part};
+use crate::listings::{print_part, print_written, room_for_listing};
 use crate::rows::plan_of;
-use crate::stop::{Stop, refuse_from_here};
+use crate::stop::{Stop, printed, refuse_from_here, say};
 use lx_fixtures::{THREE_FILES, THREE_RULES};
 use lx_piece::Plan;
 use lx_post::{Gate, MeetingGate, OpenGate, RunFault, scan_all};
@@ -12,8 +12,8 @@ use lx_tool::Listing;
 use std::alloc::Global;
 use std::io::Write;
 use std::sync::Wait;
+use std::thread;
 use std::thread::Threads;
-use std::{io, thread};
 
 /// Lists the files of a plan by so many workers.
 fn list_once<R: Threads + Wait + Sync, W: Write + Drop>(
@@ -43,27 +43,22 @@ pub(crate) fn scans_all<R: Print + Threads + Wait + Sync>(
     requires few_workers { workers ≤ 8 }
 {
     let plan = plan_of(alloc, THREE_RULES, THREE_FILES.as_slice(), 1)?;
-    let Ok(mut written) = Vec::with_capacity(alloc, ROOM) else {
-        return Err(Stop::NotBegun);
-    };
-    let mut ended = list_once(rt, alloc, &plan, workers, &mut written)?;
-    if ended == Err(RunFault::Memory) {
-        print_part(rt, &written)?;
-        written.clear();
-        ended = list_once(rt, alloc, &plan, workers, &mut written)?;
+    let mut written = room_for_listing(alloc)?;
+    let ended = list_once(rt, alloc, &plan, workers, &mut written)?;
+    if ended != Err(RunFault::Memory) {
+        return print_written(rt, &written, ended);
     }
-    match ended {
-        Ok(()) => Ok(io::writer(rt).write_all(&written)?),
-        Err(RunFault::Memory) => Err(Stop::Refused),
-        Err(fault) => Ok(println!(rt; "{fault}")?),
-    }
+    print_part(rt, &written)?;
+    written.clear();
+    let ended = list_once(rt, alloc, &plan, workers, &mut written)?;
+    print_written(rt, &written, ended)
 }
 
 /// `pass` of an open gate.
 pub(crate) fn passes_open(rt: &impl Print, alloc: Global) -> Result<(), Stop> {
     refuse_from_here(alloc);
     OpenGate.pass(0, 0, 0);
-    Ok(println!(rt; "passed")?)
+    say(rt, "passed")
 }
 
 /// `pass` of a meeting gate by two threads, and `met`.
@@ -78,5 +73,5 @@ pub(crate) fn meets<R: Print + Threads>(rt: &R, alloc: Global) -> Result<(), Sto
         },
     );
     let met = gate.met();
-    Ok(println!(rt; "met {met}")?)
+    printed(println!(rt; "met {met}"))
 }

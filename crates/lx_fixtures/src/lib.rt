@@ -2,11 +2,13 @@
 #![tactic(auto)]
 
 mod items;
+mod pieces;
 mod plans;
 mod readers;
 mod rules;
 
 pub use items::{echo, token};
+pub use pieces::{among_strangers, first_piece, piece};
 pub use plans::{NoPlan, inputs, last_file_first, mixed_plan, plan_of, tables_of};
 pub use readers::take_first;
 pub use rules::{
