@@ -1,9 +1,8 @@
 -- What is said of a front part of a text that has more names than are wanted.
-use Rattle.std.proofs.Common.{ℕ, ◌≡◌, ◌≢◌, ◌+◌, ◌<◌, ◌≤◌, true, false, List, [], ◌∷◌, ◌++◌, inl, inr, ◌⊎◌, refl, sym, ◌∙◌, ap, subst, length, All, arith, append_assoc, append-nil, nat_eq, if◌then◌else◌}
+use Rattle.std.proofs.Common.{ℕ, ◌≡◌, ◌≢◌, ◌+◌, ◌<◌, ◌≤◌, List, [], ◌∷◌, ◌++◌, inl, inr, refl, sym, ◌∙◌, ap, subst, length, All, arith, append_assoc, append-nil, if◌then◌else◌}
 use Rattle.std.specs.Prelude.{Bool}
 use Rattle.std.proofs.lemmas.Bool.{eq-eqb, ne_eqb}
 use Rattle.std.proofs.lemmas.List.Elements.{All-head, All-tail}
-use Rattle.std.specs.List.{flat_map}
 use Rattle.lx_forms.specs.NameLists.{BeginsWith, EndsName, HasMoreNames, HasRead, IsFree, IsFront, IsListOf, IsName, IsNoList, IsNoName, ended, separators}
 use Rattle.lx_forms.specs.declared.name_list.NameListFault.{NameListFault}
 use Rattle.lx_forms.specs.declared.name_list.NameListFault.TheVariants.{NoName, TooMany, Memory}

@@ -1,4 +1,4 @@
-use Rattle.std.proofs.Common.{◌≡◌, ◌∙◌, true, List, ℕ, Bor, All, map, length, subst, sym, ap, arith, rules, []}
+use Rattle.std.proofs.Common.{◌≡◌, ◌∙◌, true, List, ℕ, Bor, All, map, subst, ap, arith, rules, []}
 use Rattle.std.proofs.lemmas.List.{get_or-map, length-map, take_all}
 use Rattle.std.proofs.lemmas.List.Elements.{All-more}
 use Rattle.lx_forms.specs.Choosing.{is_kind_word}
