@@ -58,3 +58,11 @@ pub record AreNodes (nodes : List PlainNode) : Type 0 where
   pub tree : Unfolded
   pub of : nodes ≡ nodes_of tree
   pub simplified : IsSimplified tree
+
+-- the last of the first n parts ends before this position
+pub record EndBefore (parts : List RulePart) (n until : ℕ) : Type 0 where
+  pub place : ℕ
+  pub last : RulePart
+  pub behind : n ≡ place + 1
+  pub at : slice_get parts place ≡ Some last
+  pub below : last.base + last.count < until

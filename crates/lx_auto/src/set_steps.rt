@@ -6,7 +6,7 @@ ghost use Rattle.lx_auto.specs.Counts.{newline_count};
 ghost use Rattle.lx_auto.specs.Marking as plain;
 ghost use Rattle.lx_auto.specs.Members.{has_member, places_from};
 ghost use Rattle.lx_auto.specs.PositionSets.{NumberedRule};
-ghost use Rattle.lx_auto.specs.RuleParts.{IsPartOf, ArePartsOf};
+ghost use Rattle.lx_auto.specs.RuleParts.{IsPartOf, ArePartsOf, EndBefore};
 ghost use Rattle.lx_auto.specs.Following.{AreNumbered, FollowsMarked, EndsMarked, ReadsOrStays, AreReadBelow, IsFirstMatchedBelow, first_or};
 
 use crate::marking::{has_flag, set_flag};
@@ -54,6 +54,24 @@ fn bare_at(marks: &[bool], bare: Bare, position: usize) -> Bare
     Bare {
         from: position,
         until,
+    }
+}
+
+// So many rules are left out together where none of their positions is marked.
+const RULES: usize = 32;
+
+// How many rules from this one on are left out together, or none.
+fn untouched_count(parts: &[RulePart], from: usize, bare: Bare) -> usize
+    requires within { from < length parts.now }
+    ensures within { from + result ≤ length parts.now }
+    ensures bare { 0 < result → EndBefore parts.now (from + result) bare.until }
+{
+    let count = (parts.len() - from).min(RULES);
+    let last = &parts[from + count - 1];
+    if last.base + last.count < bare.until {
+        count
+    } else {
+        0
     }
 }
 
@@ -115,11 +133,18 @@ pub(crate) fn step_rules(
 {
     let mut found = None;
     let mut bare = Bare { from: 0, until: 0 };
-    for i in 0..parts.len() {
+    let mut i = 0;
+    'rules: while i < parts.len() {
         let part = &parts[i];
         bare = bare_at(marks, bare, part.base);
+        let untouched = untouched_count(parts, i, bare);
+        if untouched > 0 {
+            i += untouched;
+            continue;
+        }
         let matched = step_rule(alloc, part, marks, bare, reads)?;
         found = first_matched(found, matched, i);
+        i += 1;
     }
     Ok(found)
 }

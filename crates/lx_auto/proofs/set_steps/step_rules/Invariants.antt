@@ -1,4 +1,4 @@
-use Rattle.std.proofs.Common.{◌≡◌, ◌≤◌, ◌<◌, ℕ, List, false, length}
+use Rattle.std.proofs.Common.{◌≡◌, ◌≤◌, ◌<◌, ◌-◌, ℕ, List, false, length}
 use Rattle.lx_rules.specs.Plain.{PlainSpec}
 use Rattle.lx_auto.specs.Marking.{flag}
 use Rattle.lx_auto.specs.PositionSets.{NumberedRule}
@@ -6,8 +6,9 @@ use Rattle.lx_auto.specs.RuleParts.{ArePartsOf}
 use Rattle.lx_auto.specs.Following.{AreNumbered, FollowsMarked, AreReadBelow, IsFirstMatchedBelow}
 use Rattle.lx_auto.proofs.set_steps.step_rules.Given as goal
 
-abbrev pub invariant-loop-i : goal.invariant-loop-i
-invariant-loop-i l = record {
+abbrev pub invariant-rules : goal.invariant-rules
+invariant-rules l = record {
+  within : l.i ≤ length l.parts;
   long : length l.reads.items ≡ length l.fn.reads.items;
   reads : (spec : PlainSpec) (rules : List NumberedRule) → AreNumbered spec rules → ArePartsOf l.parts rules (length l.fn.reads.items) →
       ((q : ℕ) → flag l.fn.reads.items q ≡ false) → AreReadBelow (FollowsMarked l.marks) rules l.i l.reads.items;
@@ -15,3 +16,6 @@ invariant-loop-i l = record {
       IsFirstMatchedBelow rules l.marks l.i l.found;
   bare : (q : ℕ) → l.bare.from ≤ q → q < l.bare.until → flag l.marks q ≡ false;
 }
+
+abbrev pub decreases-rules : goal.decreases-rules
+decreases-rules l = length l.parts - l.i
