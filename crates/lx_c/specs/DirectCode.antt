@@ -135,6 +135,17 @@ starts_in s start = start.0 == s || start.1 == s
 abbrev pub first_target : Machine → ℕ → Option ℕ
 first_target m s = if list_any (starts_in s) m.starts then first_of m s m.width else None
 
+-- ---- the end of the text
+
+-- whether one of the first n states has a step to a state
+abbrev pub is_entered_by : Machine → ℕ → ℕ → Bool
+is_entered_by m s zero = false
+is_entered_by m s (suc n) = is_entered_by m s n || not (step_count m n (Some s) == 0)
+
+-- whether matches begin in a state to which no step leads: before these the text isn't at its end
+abbrev pub only_starts : Machine → ℕ → Bool
+only_starts m s = list_any (starts_in s) m.starts && not (is_entered_by m s (state_count m))
+
 -- ---- the marks: for four states a byte each, with two bits for each state
 
 abbrev pub how : ℕ → Option ℕ → ℕ
@@ -208,9 +219,13 @@ main_code o m s (Some t) = numbered o OTHER.now s (codes ")\n") ++ edge_text o m
 abbrev pub loop_code : Options → Machine → ℕ → List ℕ
 loop_code o m s = numbered o LOOP.now s (codes ", ") ++ stays_text o m s ++ numbered o LOOP_RULE.now (rule_word (accepted_by m s)) (codes ")\n")
 
--- the loop of a state, or else the test whether the text is at its end
+-- the test whether the text is at its end, where it may be
+abbrev pub end_code : Options → Machine → ℕ → List ℕ
+end_code o m s = if only_starts m s then [] else numbered o AT_END.now (rule_word (accepted_by m s)) (codes ")\n")
+
+-- the loop of a state, or else that test
 abbrev pub begin_code : Options → Machine → ℕ → List ℕ
-begin_code o m s = if step_count m s (Some s) == 0 then numbered o AT_END.now (rule_word (accepted_by m s)) (codes ")\n") else loop_code o m s
+begin_code o m s = if step_count m s (Some s) == 0 then end_code o m s else loop_code o m s
 
 abbrev pub first_code : Options → Machine → ℕ → Option ℕ → List ℕ
 first_code o m s None = []

@@ -2,14 +2,14 @@
 
 ghost use Rattle.lx_automaton.specs.Automata.{accepted_by, state_count};
 ghost use Rattle.lx_c.specs.DirectCode as direct;
-ghost use Rattle.lx_c.specs.DirectCode.{begin_code, high_text, loop_code, low_text, numbered, other_ranges_text, range_text, ranges_text, stays_text};
+ghost use Rattle.lx_c.specs.DirectCode.{begin_code, end_code, high_text, loop_code, low_text, numbered, other_ranges_text, range_text, ranges_text, stays_text};
 ghost use Rattle.lx_c.specs.Rows as rows;
 ghost use Rattle.lx_c.specs.Templates.{number_then};
 ghost use Rattle.lx_c.specs.declared.direct_templates.TheConstants.{AT_END};
 ghost use Rattle.lx_tables.specs.Output.{Wrote, WrotePrefix};
 ghost use Rattle.lx_tables.specs.Texts.{number};
 ghost use Rattle.std.specs.List.{flat_map, list_any, range_with_len};
-ghost use Rattle.std.specs.Prelude.{IfSome, OnErr, OnOk, Some, codes, length, slice_index_or, ◌==◌, ◌++◌, ◌<◌, ◌≡◌};
+ghost use Rattle.std.specs.Prelude.{IfSome, OnErr, OnOk, Some, codes, length, not, slice_index_or, ◌==◌, ◌++◌, ◌<◌, ◌≡◌};
 
 use crate::direct_templates::{AT_END, LOOP, LOOP_RULE, STAYS};
 use crate::options::Options;
@@ -161,6 +161,32 @@ pub(crate) fn first_target(tables: &Tables, state: u32) -> Option<u32>
     } else {
         None
     }
+}
+
+/// Whether a state has a step to another one.
+fn enters(tables: &Tables, state: u32, target: u32) -> bool
+    requires { state < state_count tables.now.machine }
+    ensures { result ≡ not (direct.step_count tables.now.machine state (Some target) == 0) }
+{
+    step_count(tables, state, Some(target)) != 0
+}
+
+/// Whether some state has a step to a state.
+fn is_entered(tables: &Tables, state: u32) -> bool
+    ensures { result ≡ direct.is_entered_by tables.now.machine state (state_count tables.now.machine) }
+{
+    let mut is_entered = false;
+    for other in 0..tables.states() {
+        is_entered = is_entered || enters(tables, other, state);
+    }
+    is_entered
+}
+
+/// Whether matches begin in a state to which no step leads.
+fn only_starts(tables: &Tables, state: u32) -> bool
+    ensures { result ≡ direct.only_starts tables.now.machine state }
+{
+    is_start(tables, state) && !is_entered(tables, state)
 }
 
 fn write_low_of<W: Write>(out: &mut W, byte: u16) -> Result<(), io::Error>
@@ -320,6 +346,24 @@ fn write_at_end<W: Write>(
     write_numbered_text(out, options, AT_END, rule_word(tables, state), b")\n")
 }
 
+/// Writes the test whether the text is at its end, where it may be.
+fn write_end<W: Write>(
+    out: &mut W,
+    options: &Options,
+    tables: &Tables,
+    state: u32,
+) -> Result<(), io::Error>
+    requires { state < state_count tables.now.machine }
+    ensures ok { OnOk result (Wrote (W.contents out.old) (W.contents out.new) (end_code options.now tables.now.machine state)) }
+    ensures err { OnErr result (WrotePrefix (W.contents out.old) (W.contents out.new) (end_code options.now tables.now.machine state)) }
+{
+    if only_starts(tables, state) {
+        Ok(())
+    } else {
+        write_at_end(out, options, tables, state)
+    }
+}
+
 /// Whether a state never steps to itself.
 fn has_no_loop(tables: &Tables, state: u32) -> bool
     requires { state < state_count tables.now.machine }
@@ -340,7 +384,7 @@ pub(crate) fn write_begin<W: Write>(
     ensures err { OnErr result (WrotePrefix (W.contents out.old) (W.contents out.new) (begin_code options.now tables.now.machine state)) }
 {
     if has_no_loop(tables, state) {
-        write_at_end(out, options, tables, state)
+        write_end(out, options, tables, state)
     } else {
         write_loop(out, options, tables, state)
     }
