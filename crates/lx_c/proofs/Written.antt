@@ -7,6 +7,7 @@ use Rattle.std.proofs.lemmas.List.FromFn.{length-range_with_len, get_or-range_wi
 use Rattle.std.proofs.lemmas.Grind.{flat_map-append}
 use Rattle.std.specs.List.{flat_map, range_with_len}
 use Rattle.lx_tables.specs.Output.{Wrote, WrotePrefix}
+use Rattle.lx_numbering.proofs.Numbers.{texts_more}
 
 appends_both : (a b c : Option (List ℕ)) (xs ys : List ℕ) → Appends a b xs → Appends b c ys → Appends a c (xs ++ ys)
 appends_both None b c xs ys h k = tt
@@ -73,10 +74,6 @@ wrote_kept a b c xs h k = subst (λ (ys : List ℕ). Wrote a c ys) (append-nil x
 
 pub prefix_of : (a b : Option (List ℕ)) (bs : List ℕ) (n : ℕ) → Wrote a b (take n bs) → WrotePrefix a b bs
 prefix_of a b bs n h = record { prefix = take n bs; rest = drop n bs; whole = take-append-drop n bs; appends = h.appends }
-
--- the texts of the first elements, and then that of the next
-pub texts_more : {X : Type 0} (text : X → List ℕ) (xs : List X) (i : ℕ) (d : X) → i < length xs → flat_map text (take (i + 1) xs) ≡ flat_map text (take i xs) ++ text (get_or xs i d)
-texts_more text xs i d l = ap (λ ys. flat_map text ys) (take_more xs i d l) ∙ (flat_map-append text (take i xs) (get_or xs i d ∷ []) ∙ ap (λ ys. flat_map text (take i xs) ++ ys) (append-nil (text (get_or xs i d))))
 
 -- the texts of the first elements were written, and a part of that of the next
 pub prefix_next : {X : Type 0} (text : X → List ℕ) (a b c : Option (List ℕ)) (xs : List X) (i : ℕ) (d : X) → i < length xs → Wrote a b (flat_map text (take i xs)) → WrotePrefix b c (text (get_or xs i d)) → WrotePrefix a c (flat_map text xs)

@@ -1,34 +1,13 @@
--- The kinds in C: their names and their numbers.
+-- The kinds in C: their names, and what is wrong with them.
 use Rattle.std.specs.Prelude.{ℕ, ◌<◌, ◌≤◌, ◌+◌, ◌-◌, ◌==◌, max, nat_eq, nat_lt, ◌&&◌, ◌||◌, Bool, false, if◌then◌else◌, List, [], ◌∷◌, ◌++◌, Option, Some, None, length, codes, slice_index}
-use Rattle.std.specs.List.{All, flat_map, starts_with}
-use Rattle.lx_rules.specs.declared.rule.Kind.TheVariants.{Name, Number}
-use Rattle.lx_rules.specs.declared.rule.Step.{Step}
-use Rattle.lx_rules.specs.declared.rule.Step.TheVariants.{Echo, Begin, Return}
+use Rattle.std.specs.List.{flat_map, starts_with}
 use Rattle.lx_automaton.specs.Automata.{state_count}
 use Rattle.lx_tables.specs.Model.{Table}
+use Rattle.lx_numbering.specs.Numbers.{first_kind}
 use Rattle.lx_c.specs.Options.{Options, is_small_letter, has_file, max_direct_states}
 use Rattle.lx_c.specs.declared.fault.KindFault.{KindFault}
 use Rattle.lx_c.specs.declared.fault.KindFault.TheVariants.{Numbers, Reserved, Declared, States}
 use Rattle.lx_c.specs.declared.words.TheConstants.{WORDS}
-
--- the number that a step returns
-abbrev pub returned_number : Step → List ℕ
-returned_number Echo = []
-returned_number (Begin c) = []
-returned_number (Return (Name k)) = []
-returned_number (Return (Number n)) = n ∷ []
-
-abbrev pub returned_by : List Step → List ℕ
-returned_by steps = flat_map returned_number steps
-
--- n, or one above the greatest of the numbers
-abbrev pub above : ℕ → List ℕ → ℕ
-above n [] = n
-above n (m ∷ numbers) = above (max n (m + 1)) numbers
-
--- the number of the first kind: 256, or one above the greatest number that an action returns
-abbrev pub first_kind : Table → ℕ
-first_kind table = above 256 (flat_map (λ rule. returned_by rule.steps) table.rules)
 
 abbrev pub capital : ℕ → ℕ
 capital c = if is_small_letter c then c - 32 else c
@@ -90,8 +69,3 @@ kind_fault o table =
     if are_too_many o (state_count table.machine) then Some (States (state_count table.machine))
     else if pass_the_limit o table then Some Numbers
     else first_name_fault o 0 table.kinds
-
--- The numbers of kinds are above all bytes, and above all numbers that actions return, so no two meet.
-pub record AreApart (table : Table) : Type 0 where
-  pub bytes : 256 ≤ first_kind table
-  pub numbers : All (λ n. n < first_kind table) (flat_map (λ rule. returned_by rule.steps) table.rules)

@@ -4,26 +4,11 @@ use Rattle.std.specs.Prelude.{ℕ, ◌+◌, ◌*◌, ◌==◌, max, not, nat_lt,
 use Rattle.std.specs.List.{flat_map, list_any, range_with_len}
 use Rattle.lx_automaton.specs.Automata.{Machine, state_count, start_of, accepted_by, class_target}
 use Rattle.lx_tables.specs.Model.{Table}
+use Rattle.lx_numbering.specs.Words.{row_width, row_of, target_word, rule_word, greatest_word}
 use Rattle.lx_c.specs.Options.{Options}
 use Rattle.lx_c.specs.Actions.{array_text}
 use Rattle.lx_c.specs.Templates.{filled, number_then}
 use Rattle.lx_c.specs.declared.templates.TheConstants.{WIDTH, CLASSES, ROWS, STARTS, LINE_BEGIN, NO_LINE_BEGIN}
-
--- how many words a row has
-abbrev pub row_width : Machine → ℕ
-row_width m = m.width + 1
-
--- where the row of a state begins
-abbrev pub row_of : Machine → ℕ → ℕ
-row_of m s = (s + 1) * row_width m
-
-abbrev pub target_word : Machine → Option ℕ → ℕ
-target_word m None = 0
-target_word m (Some s) = row_of m s
-
-abbrev pub rule_word : Option ℕ → ℕ
-rule_word None = 0
-rule_word (Some r) = r + 1
 
 -- a number of an initializer, and its comma
 abbrev pub entry_text : ℕ → List ℕ
@@ -57,10 +42,6 @@ start_lines m = flat_map (start_line m) (range_with_len 0 (length m.starts))
 -- the smallest type that holds all words up to this one
 abbrev pub type_text : ℕ → List ℕ
 type_text most = if nat_lt most 256 then codes "unsigned char" else if nat_lt most 65536 then codes "unsigned short" else codes "unsigned int"
-
--- no word of a row is greater
-abbrev pub greatest_word : Table → ℕ
-greatest_word table = max (row_width table.machine * state_count table.machine) (length table.rules)
 
 -- an array of words of the table, behind its type
 abbrev pub word_array : Options → Table → List ℕ → List ℕ → List ℕ

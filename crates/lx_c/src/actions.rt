@@ -11,12 +11,12 @@ ghost use Rattle.std.specs.List.{flat_map, range_with_len};
 ghost use Rattle.std.specs.Prelude.{OnErr, OnOk, [], codes, length, ◌++◌, ◌+◌, ◌≡◌, ◌≤◌};
 
 use crate::filling::write_filled;
-use crate::numbering::kind_name;
 use crate::options::Options;
 use crate::templates::{
     ACTIONS, CUT, CUTS, KINDS, NAMES, NO_CUT, NOTHING_PENDING, PENDING, STEP_ARRAY, STEPS, STEPS_OF,
 };
 use crate::writing::{write_bytes, write_number, write_number_then, write_numbered, write_parts};
+use lx_numbering::kind_name;
 use lx_rules::rule::{Kind, Step};
 use lx_tables::Tables;
 use std::io::{self, Write};

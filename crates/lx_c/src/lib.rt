@@ -11,7 +11,6 @@ mod filling;
 pub mod judging;
 pub mod laws;
 mod looping;
-mod numbering;
 pub mod options;
 pub mod printing;
 mod rows;

@@ -2,7 +2,9 @@
 
 ghost use Rattle.lx_automaton.specs.Automata.{accepted_by, class_target, start_of, state_count};
 ghost use Rattle.lx_c.specs.Rows as rows;
-ghost use Rattle.lx_c.specs.Rows.{automaton_text, classes_text, entry_text, line_begin_text, row_text, row_width, rows_text, start_line, start_lines, type_text, width_text, word_array};
+ghost use Rattle.lx_c.specs.Rows.{automaton_text, classes_text, entry_text, line_begin_text, row_text, rows_text, start_line, start_lines, type_text, width_text, word_array};
+ghost use Rattle.lx_numbering.specs.Words as words;
+ghost use Rattle.lx_numbering.specs.Words.{row_width};
 ghost use Rattle.lx_c.specs.declared.templates.TheConstants.{ROWS, STARTS};
 ghost use Rattle.lx_tables.specs.Output.{Wrote, WrotePrefix};
 ghost use Rattle.std.specs.List.{list_any, flat_map, range_with_len};
@@ -12,60 +14,15 @@ use crate::filling::write_filled;
 use crate::options::Options;
 use crate::templates::{CLASSES, LINE_BEGIN, NO_LINE_BEGIN, ROWS, STARTS, WIDTH};
 use crate::writing::{write_bytes, write_number_then};
-use lx_tables::{State, Tables};
+use lx_numbering::{greatest_word, rule_word, start_word, target_word};
+use lx_tables::Tables;
 use std::io::{self, Write};
-
-/// Where the row of a state begins.
-fn row_of(tables: &Tables, state: State) -> u64
-    ensures { result ≡ rows.row_of tables.now.machine state.0 }
-{
-    (u64::from(state.0) + 1) * (u64::from(tables.classes()) + 1)
-}
-
-/// Where the row begins to which a state steps on a class, or 0.
-fn target_word(tables: &Tables, state: u32, class: u8) -> u64
-    requires state { state < state_count tables.now.machine }
-    requires class { class < tables.now.machine.width }
-    ensures { result ≡ rows.target_word tables.now.machine (class_target tables.now.machine state class) }
-{
-    match tables.class_step(State(state), class) {
-        None => 0,
-        Some(target) => row_of(tables, target),
-    }
-}
-
-/// One more than the number of the rule that a state accepts, or 0.
-fn rule_word(tables: &Tables, state: u32) -> u64
-    requires { state < state_count tables.now.machine }
-    ensures { result ≡ rows.rule_word (accepted_by tables.now.machine state) }
-{
-    match tables.accepts(State(state)) {
-        None => 0,
-        Some(rule) => u64::from(rule) + 1,
-    }
-}
 
 fn class_word(tables: &Tables, byte: u16) -> u64
     requires { byte < 256 }
     ensures { result ≡ slice_index tables.now.machine.classes byte }
 {
     u64::from(tables.class(byte as u8))
-}
-
-/// Where the row of the state begins in which a condition starts.
-fn start_word(tables: &Tables, condition: u16, at_line_begin: bool) -> u64
-    requires { condition < length tables.now.machine.starts }
-    ensures { result ≡ rows.row_of tables.now.machine (start_of tables.now.machine condition at_line_begin) }
-{
-    row_of(tables, tables.start(condition, at_line_begin))
-}
-
-/// What no word of a row is above.
-fn greatest_word(tables: &Tables) -> u64
-    ensures { result ≡ rows.greatest_word tables.now }
-{
-    let words = (u64::from(tables.classes()) + 1) * u64::from(tables.states());
-    words.max(u64::from(tables.rules()))
 }
 
 /// Whether a condition has another start at line begin.
@@ -107,8 +64,8 @@ fn write_zero_entries<W: Write>(out: &mut W, tables: &Tables) -> Result<(), io::
 
 fn write_step_entries<W: Write>(out: &mut W, tables: &Tables, state: u32) -> Result<(), io::Error>
     requires { state < state_count tables.now.machine }
-    ensures ok { OnOk result (Wrote (W.contents out.old) (W.contents out.new) (flat_map (λ k. entry_text (rows.target_word tables.now.machine (class_target tables.now.machine state k))) (range_with_len 0 (tables.now.machine.width)))) }
-    ensures err { OnErr result (WrotePrefix (W.contents out.old) (W.contents out.new) (flat_map (λ k. entry_text (rows.target_word tables.now.machine (class_target tables.now.machine state k))) (range_with_len 0 (tables.now.machine.width)))) }
+    ensures ok { OnOk result (Wrote (W.contents out.old) (W.contents out.new) (flat_map (λ k. entry_text (words.target_word tables.now.machine (class_target tables.now.machine state k))) (range_with_len 0 (tables.now.machine.width)))) }
+    ensures err { OnErr result (WrotePrefix (W.contents out.old) (W.contents out.new) (flat_map (λ k. entry_text (words.target_word tables.now.machine (class_target tables.now.machine state k))) (range_with_len 0 (tables.now.machine.width)))) }
 {
     for class in 0..tables.classes() {
         write_entry(out, target_word(tables, state, class as u8))?;
@@ -122,7 +79,7 @@ fn write_row<W: Write>(out: &mut W, tables: &Tables, state: u32) -> Result<(), i
     ensures err { OnErr result (WrotePrefix (W.contents out.old) (W.contents out.new) (row_text tables.now.machine state)) }
 {
     write_step_entries(out, tables, state)?;
-    write_entry(out, rule_word(tables, state))?;
+    write_entry(out, u64::from(rule_word(tables, state)))?;
     write_bytes(out, b"\n")
 }
 
@@ -189,8 +146,8 @@ fn write_type_of<W: Write>(out: &mut W, most: u64) -> Result<(), io::Error>
 }
 
 fn write_type<W: Write>(out: &mut W, tables: &Tables) -> Result<(), io::Error>
-    ensures ok { OnOk result (Wrote (W.contents out.old) (W.contents out.new) (type_text (rows.greatest_word tables.now))) }
-    ensures err { OnErr result (WrotePrefix (W.contents out.old) (W.contents out.new) (type_text (rows.greatest_word tables.now))) }
+    ensures ok { OnOk result (Wrote (W.contents out.old) (W.contents out.new) (type_text (words.greatest_word tables.now))) }
+    ensures err { OnErr result (WrotePrefix (W.contents out.old) (W.contents out.new) (type_text (words.greatest_word tables.now))) }
 {
     write_type_of(out, greatest_word(tables))
 }

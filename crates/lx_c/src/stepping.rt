@@ -1,9 +1,8 @@
 // What code for each state asks of the states.
 
-ghost use Rattle.lx_automaton.specs.Automata.{accepted_by, class_target, state_count, target_of};
+ghost use Rattle.lx_automaton.specs.Automata.{class_target, state_count, target_of};
 ghost use Rattle.lx_c.specs.DirectCode as direct;
 ghost use Rattle.lx_c.specs.DirectCode.{numbered};
-ghost use Rattle.lx_c.specs.Rows as rows;
 ghost use Rattle.lx_tables.specs.Output.{Wrote, WrotePrefix};
 ghost use Rattle.std.specs.Prelude.{IfSome, OnErr, OnOk, ◌<◌, ◌≡◌, ◌≤◌};
 
@@ -66,17 +65,6 @@ pub(crate) fn step_count(tables: &Tables, state: u32, wanted: Option<u32>) -> u3
         count += one_if(leads(wanted, target));
     }
     count
-}
-
-/// One more than the number of the rule that a state accepts, or 0.
-pub(crate) fn rule_word(tables: &Tables, state: u32) -> u32
-    requires { state < state_count tables.now.machine }
-    ensures { result ≡ rows.rule_word (accepted_by tables.now.machine state) }
-{
-    match tables.accepts(State(state)) {
-        None => 0,
-        Some(rule) => u32::from(rule) + 1,
-    }
 }
 
 /// Writes constant text, a number, and what stands behind it.

@@ -1,8 +1,8 @@
-// The numbers of kinds.
+//! The numbers of kinds.
 
 ghost use Rattle.std.specs.Prelude.{◌≡◌, ◌≤◌, ◌<◌, length};
 ghost use Rattle.lx_tables.specs.Model.{rule_at, kind_at};
-ghost use Rattle.lx_c.specs.Kinds as kinds;
+ghost use Rattle.lx_numbering.specs.Numbers as kinds;
 
 use lx_rules::rule::{Kind, Step};
 use lx_tables::Tables;
@@ -33,7 +33,7 @@ fn above_steps(number: u64, steps: &[Step]) -> u64
 }
 
 /// The number of the first kind: 256, or one more than the greatest number that an action returns.
-pub(crate) fn first_kind(tables: &Tables) -> u64
+pub fn first_kind(tables: &Tables) -> u64
     ensures number { result ≡ kinds.first_kind tables.now }
     ensures small { result ≤ 4294967296 }
 {
@@ -45,7 +45,7 @@ pub(crate) fn first_kind(tables: &Tables) -> u64
 }
 
 /// The name of the kind with this number; where there is none, nothing.
-pub(crate) fn kind_name(tables: &Tables, kind: u32) -> &[u8]
+pub fn kind_name(tables: &Tables, kind: u32) -> &[u8]
     ensures { result.now ≡ kind_at tables.now kind }
 {
     if kind < tables.kinds() {

@@ -1,12 +1,16 @@
--- The number above several lists of numbers.
-use Rattle.std.proofs.Common.{ℕ, ◌≡◌, ◌<◌, ◌≤◌, ◌+◌, arith, List, [], ◌∷◌, ◌++◌, length, take, get_or, max, refl, ap, ◌∙◌}
-use Rattle.std.specs.List.{flat_map}
-use Rattle.std.specs.List.{All}
+-- The number above several lists of numbers, and the lists that elements give.
+use Rattle.std.proofs.Common.{ℕ, ◌≡◌, ◌<◌, ◌≤◌, ◌+◌, arith, List, [], ◌∷◌, ◌++◌, length, take, get_or, max, refl, ap, ◌∙◌, append-nil}
+use Rattle.std.specs.List.{All, flat_map}
+use Rattle.std.proofs.lemmas.List.{take_more}
+use Rattle.std.proofs.lemmas.Grind.{flat_map-append}
 use Rattle.std.proofs.Math.Nat.{le-max_left, le-max_right}
 use Rattle.std.proofs.lemmas.List.Elements.{All-nil, All-cons}
 use Rattle.lx_tables.specs.Model.{Table}
-use Rattle.lx_c.specs.Kinds.{above, returned_by, first_kind, AreApart}
-use Rattle.lx_c.proofs.Written.{texts_more}
+use Rattle.lx_numbering.specs.Numbers.{above, returned_by, first_kind, AreApart}
+
+-- those of the first elements, and then that of the next
+pub texts_more : {X : Type 0} (text : X → List ℕ) (xs : List X) (i : ℕ) (d : X) → i < length xs → flat_map text (take (i + 1) xs) ≡ flat_map text (take i xs) ++ text (get_or xs i d)
+texts_more text xs i d l = ap (λ ys. flat_map text ys) (take_more xs i d l) ∙ (flat_map-append text (take i xs) (get_or xs i d ∷ []) ∙ ap (λ ys. flat_map text (take i xs) ++ ys) (append-nil (text (get_or xs i d))))
 
 pub above-append : (n : ℕ) (xs ys : List ℕ) → above n (xs ++ ys) ≡ above (above n xs) ys
 above-append n [] ys = refl
