@@ -193,6 +193,27 @@ fn steps_of(
     Ok(None)
 }
 
+/// What lx can't do, by the functions of flex's that do it.
+const PROBLEMS: &[(&[u8], Cause)] = &[
+    (b"yymore", Cause::More),
+    (b"yyless", Cause::Less),
+    (b"unput", Cause::Unput),
+    (b"yyunput", Cause::Unput),
+    (b"input", Cause::Input),
+    (b"yyinput", Cause::Input),
+    (b"yyterminate", Cause::Terminate),
+    (b"yy_push_state", Cause::StateStack),
+    (b"yy_pop_state", Cause::StateStack),
+    (b"yy_top_state", Cause::StateStack),
+    (b"yyrestart", Cause::OtherBuffer),
+    (b"yy_switch_to_buffer", Cause::OtherBuffer),
+    (b"yypush_buffer_state", Cause::OtherBuffer),
+    (b"yypop_buffer_state", Cause::OtherBuffer),
+    (b"yy_scan_string", Cause::OtherBuffer),
+    (b"yy_scan_bytes", Cause::OtherBuffer),
+    (b"yy_scan_buffer", Cause::OtherBuffer),
+];
+
 /// What lx can't do in the place of a word of flex's; `called` says that a parenthesis follows.
 fn problem_of(word: &[u8], called: bool) -> Option<Cause> {
     if word == b"REJECT".as_slice() {
@@ -201,58 +222,33 @@ fn problem_of(word: &[u8], called: bool) -> Option<Cause> {
     if !called {
         return None;
     }
-    if word == b"yymore".as_slice() {
-        Some(Cause::More)
-    } else if word == b"yyless".as_slice() {
-        Some(Cause::Less)
-    } else if word == b"unput".as_slice() || word == b"yyunput".as_slice() {
-        Some(Cause::Unput)
-    } else if word == b"input".as_slice() || word == b"yyinput".as_slice() {
-        Some(Cause::Input)
-    } else if word == b"yyterminate".as_slice() {
-        Some(Cause::Terminate)
-    } else {
-        other_problem_of(word)
-    }
-}
-
-fn other_problem_of(word: &[u8]) -> Option<Cause> {
-    if word == b"yy_push_state".as_slice()
-        || word == b"yy_pop_state".as_slice()
-        || word == b"yy_top_state".as_slice()
-    {
-        return Some(Cause::StateStack);
-    }
-    if word == b"yyrestart".as_slice()
-        || word == b"yy_switch_to_buffer".as_slice()
-        || word == b"yypush_buffer_state".as_slice()
-        || word == b"yypop_buffer_state".as_slice()
-    {
-        return Some(Cause::OtherBuffer);
-    }
-    if word == b"yy_scan_string".as_slice()
-        || word == b"yy_scan_bytes".as_slice()
-        || word == b"yy_scan_buffer".as_slice()
-    {
-        return Some(Cause::OtherBuffer);
+    for (name, problem) in PROBLEMS {
+        if word == *name {
+            return Some(*problem);
+        }
     }
     None
 }
 
+/// The words behind which C text may be left out.
+const BRANCHING: &[&[u8]] = &[
+    b"if",
+    b"else",
+    b"while",
+    b"for",
+    b"do",
+    b"switch",
+    b"case",
+    b"default",
+    b"goto",
+    b"break",
+    b"continue",
+    b"return",
+];
+
 /// Whether what stands behind the word may be left out.
 fn is_branching(word: &[u8]) -> bool {
-    word == b"if".as_slice()
-        || word == b"else".as_slice()
-        || word == b"while".as_slice()
-        || word == b"for".as_slice()
-        || word == b"do".as_slice()
-        || word == b"switch".as_slice()
-        || word == b"case".as_slice()
-        || word == b"default".as_slice()
-        || word == b"goto".as_slice()
-        || word == b"break".as_slice()
-        || word == b"continue".as_slice()
-        || word == b"return".as_slice()
+    BRANCHING.contains(&word)
 }
 
 /// Whether a mark may leave out what stands behind it: `?`, `&`, `|`, or a line for the preprocessor.

@@ -29,7 +29,12 @@ pub(crate) fn place_of(conditions: &[StartCondition], name: &[u8]) -> Option<u16
 }
 
 fn is_lx_name(conditions: &[StartCondition], name: &[u8]) -> bool {
-    conditions.iter().any(|c| c.lx_name.as_slice() == name)
+    for condition in conditions {
+        if condition.lx_name.as_slice() == name {
+            return true;
+        }
+    }
+    false
 }
 
 /// The name with `_` for each hyphen.
@@ -85,7 +90,7 @@ pub(crate) fn joined(
 ) -> Result<Vec<u16>, AllocError> {
     let mut numbers = Vec::new(alloc);
     for number in 0..count {
-        if one.iter().any(|n| *n == number) || other.iter().any(|n| *n == number) {
+        if one.contains(&number) || other.contains(&number) {
             numbers.push(number)?;
         }
     }

@@ -1,7 +1,7 @@
 //! The definitions section (flex's manual, "Format of the Definitions Section").
 
 use crate::c_code::{skip_block, skip_braces, skip_comment};
-use crate::conditions::{StartCondition, name_at, new_name};
+use crate::conditions::{StartCondition, name_at, new_name, place_of};
 use crate::cursor::{Cursor, front, is_blank, skip, trimmed};
 use crate::options::read_options;
 use crate::report::{Cause, Reports, Stop, stopped};
@@ -50,17 +50,16 @@ pub(crate) fn nothing_declared(alloc: Global) -> Result<Declared, AllocError> {
 }
 
 fn is_condition(declared: &Declared, name: &[u8]) -> bool {
-    declared
-        .conditions
-        .iter()
-        .any(|c| c.name.as_slice() == name)
+    place_of(declared.conditions.as_slice(), name).is_some()
 }
 
 fn is_definition(declared: &Declared, name: &[u8]) -> bool {
-    declared
-        .definitions
-        .iter()
-        .any(|d| d.name.as_slice() == name)
+    for definition in declared.definitions.as_slice() {
+        if definition.name.as_slice() == name {
+            return true;
+        }
+    }
+    false
 }
 
 fn add_condition(
@@ -177,12 +176,8 @@ fn read_directive(
         return Ok(());
     }
     let letter = cursor.peek_at(1);
-    if letter == Some(b's')
-        || letter == Some(b'S')
-        || letter == Some(b'x')
-        || letter == Some(b'X')
-    {
-        let exclusive = letter == Some(b'x') || letter == Some(b'X');
+    if matches!(letter, Some(b's' | b'S' | b'x' | b'X')) {
+        let exclusive = matches!(letter, Some(b'x' | b'X'));
         let length = directive_length(cursor.line_rest());
         cursor.advance(length);
         return read_conditions(alloc, cursor, declared, reports, exclusive);

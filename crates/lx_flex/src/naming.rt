@@ -31,7 +31,12 @@ fn is_anchored(text: &[u8]) -> bool {
 }
 
 fn has_name(names: &[Vec<u8>], name: &[u8]) -> bool {
-    names.iter().any(|n| n.as_slice() == name)
+    for known in names {
+        if known.as_slice() == name {
+            return true;
+        }
+    }
+    false
 }
 
 /// A name for lx that none of these has.
@@ -56,9 +61,23 @@ fn lx_names(alloc: Global, definitions: &[RawDefinition]) -> Result<Vec<Vec<u8>>
     Ok(names)
 }
 
-/// Whether the place is one of those.
-fn has_place(places: &[usize], place: usize) -> bool {
-    places.iter().any(|p| *p == place)
+/// Adds a definition, which stands for itself where it has no name in lx.
+fn add_definition(
+    alloc: Global,
+    names: &mut Names,
+    definition: &RawDefinition,
+    lx: Option<&Vec<u8>>,
+) -> Result<(), AllocError> {
+    let lx_name = match lx {
+        Some(name) => Some(name.clone()?),
+        None => None,
+    };
+    names.add(
+        alloc,
+        definition.name.as_slice(),
+        definition.text.as_slice(),
+        lx_name,
+    )
 }
 
 /// The definitions, of which those at these places stand for themselves.
@@ -71,18 +90,12 @@ fn names_of(
     let mut names = Names::new(alloc);
     let mut place: usize = 0;
     for definition in definitions {
-        let mut lx_name = None;
-        if !has_place(inlined, place) {
-            if let Some(name) = lx.get(place) {
-                lx_name = Some(name.clone()?);
-            }
-        }
-        names.add(
-            alloc,
-            definition.name.as_slice(),
-            definition.text.as_slice(),
-            lx_name,
-        )?;
+        let lx_name = if inlined.contains(&place) {
+            None
+        } else {
+            lx.get(place)
+        };
+        add_definition(alloc, &mut names, definition, lx_name)?;
         place = place.saturating_add(1);
     }
     Ok(names)
@@ -134,7 +147,7 @@ fn pass(
     let mut more = false;
     let mut place: usize = 0;
     for definition in declared.definitions.as_slice() {
-        if !has_place(inlined.as_slice(), place) {
+        if !inlined.as_slice().contains(&place) {
             match imported(alloc, declared, names, definition)? {
                 Some((tree, text)) => {
                     let name = match lx.get(place) {

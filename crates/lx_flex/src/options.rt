@@ -43,32 +43,57 @@ fn is_harmless(alloc: Global, word: &[u8]) -> Result<bool, AllocError> {
     Ok(!word.is_empty() && place_of(HARMLESS, wanted.as_slice()).is_some())
 }
 
-/// What a word changes of how patterns are read; none where it changes nothing there.
-fn changed(options: Options, word: &[u8], on: bool) -> Option<Options> {
-    if word == b"case-insensitive".as_slice() || word == b"caseless".as_slice() {
-        return Some(Options {
+/// What a word changes of how patterns are read.
+#[derive(Clone, Copy)]
+enum Change {
+    /// Small letters and capitals are the same.
+    Folds,
+    /// They differ.
+    Differs,
+    /// Intervals bind as in POSIX.
+    Posix,
+    /// So they do, and names stand without parentheses.
+    Lex,
+}
+
+const CHANGES: &[(&[u8], Change)] = &[
+    (b"case-insensitive", Change::Folds),
+    (b"caseless", Change::Folds),
+    (b"case-sensitive", Change::Differs),
+    (b"caseful", Change::Differs),
+    (b"posix-compat", Change::Posix),
+    (b"posix", Change::Posix),
+    (b"lex-compat", Change::Lex),
+];
+
+fn with_change(options: Options, change: Change, on: bool) -> Options {
+    match change {
+        Change::Folds => Options {
             fold: on,
             ..options
-        });
-    }
-    if word == b"case-sensitive".as_slice() || word == b"caseful".as_slice() {
-        return Some(Options {
+        },
+        Change::Differs => Options {
             fold: !on,
             ..options
-        });
-    }
-    if word == b"posix-compat".as_slice() || word == b"posix".as_slice() {
-        return Some(Options {
+        },
+        Change::Posix => Options {
             posix: on,
             ..options
-        });
-    }
-    if word == b"lex-compat".as_slice() {
-        return Some(Options {
+        },
+        Change::Lex => Options {
             posix: on,
             bare_names: on,
             ..options
-        });
+        },
+    }
+}
+
+/// The options with what a word changes of them; none where it changes nothing there.
+fn changed(options: Options, word: &[u8], on: bool) -> Option<Options> {
+    for (name, change) in CHANGES {
+        if word == *name {
+            return Some(with_change(options, *change, on));
+        }
     }
     None
 }

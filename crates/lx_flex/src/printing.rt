@@ -13,9 +13,11 @@ fn push(text: &mut Vec<u8>, bytes: &[u8]) -> Result<(), AllocError> {
     text.extend_from_slice(bytes)
 }
 
-fn push_number(text: &mut Vec<u8>, number: u32) -> Result<(), AllocError> {
-    let mut digits = Buffer::new();
-    text.extend_from_slice(digits.format(number).as_bytes())
+fn push_all(text: &mut Vec<u8>, parts: &[&[u8]]) -> Result<(), AllocError> {
+    for part in parts {
+        push(text, part)?;
+    }
+    Ok(())
 }
 
 /// `%s` or `%x` and a name, on a line; `INITIAL` has none.
@@ -23,9 +25,14 @@ fn push_conditions(text: &mut Vec<u8>, conditions: &[StartCondition]) -> Result<
     let mut first = true;
     for condition in conditions {
         if !first {
-            push(text, if condition.exclusive { b"%x " } else { b"%s " })?;
-            push(text, condition.lx_name.as_slice())?;
-            push(text, b"\n")?;
+            push_all(
+                text,
+                &[
+                    if condition.exclusive { b"%x " } else { b"%s " },
+                    condition.lx_name.as_slice(),
+                    b"\n",
+                ],
+            )?;
         }
         first = false;
     }
@@ -37,22 +44,24 @@ fn push_definitions(
     definitions: &[ImportedDefinition],
 ) -> Result<(), AllocError> {
     for definition in definitions {
-        push(text, definition.name.as_slice())?;
-        push(text, b"  ")?;
-        push(text, definition.text.as_slice())?;
-        push(text, b"\n")?;
+        push_all(
+            text,
+            &[
+                definition.name.as_slice(),
+                b"  ",
+                definition.text.as_slice(),
+                b"\n",
+            ],
+        )?;
     }
     Ok(())
 }
 
-fn push_condition(
-    text: &mut Vec<u8>,
-    conditions: &[StartCondition],
-    number: u16,
-) -> Result<(), AllocError> {
+/// The name of a condition in lx.
+fn condition_name(conditions: &[StartCondition], number: u16) -> &[u8] {
     match conditions.get(usize::from(number)) {
-        Some(condition) => push(text, condition.lx_name.as_slice()),
-        None => Ok(()),
+        Some(condition) => condition.lx_name.as_slice(),
+        None => b"",
     }
 }
 
@@ -64,8 +73,7 @@ fn push_list(
 ) -> Result<(), AllocError> {
     let mut mark: &[u8] = b"<";
     for number in numbers {
-        push(text, mark)?;
-        push_condition(text, conditions, *number)?;
+        push_all(text, &[mark, condition_name(conditions, *number)])?;
         mark = b",";
     }
     push(text, b">")
@@ -79,15 +87,12 @@ fn push_step(
     match step {
         Step::Echo => push(text, b"ECHO;"),
         Step::Begin(number) => {
-            push(text, b"BEGIN ")?;
-            push_condition(text, conditions, *number)?;
-            push(text, b";")
+            push_all(
+                text,
+                &[b"BEGIN ", condition_name(conditions, *number), b";"],
+            )
         }
-        Step::Return(kind) => {
-            push(text, b"return ")?;
-            push(text, kind.as_slice())?;
-            push(text, b";")
-        }
+        Step::Return(kind) => push_all(text, &[b"return ", kind.as_slice(), b";"]),
     }
 }
 
@@ -131,18 +136,14 @@ fn push_code(
     begins: &[Step],
     number: u32,
 ) -> Result<(), AllocError> {
-    if !begins.is_empty() {
-        push(text, b"{ ")?;
-        push_steps(text, conditions, begins)?;
-        push(text, b" ")?;
+    let mut digits = Buffer::new();
+    let number = digits.format(number).as_bytes();
+    if begins.is_empty() {
+        return push_all(text, &[b"return RULE_", number, b";"]);
     }
-    push(text, b"return RULE_")?;
-    push_number(text, number)?;
-    push(text, b";")?;
-    if !begins.is_empty() {
-        push(text, b" }")?;
-    }
-    Ok(())
+    push(text, b"{ ")?;
+    push_steps(text, conditions, begins)?;
+    push_all(text, &[b" return RULE_", number, b"; }"])
 }
 
 fn push_action(
@@ -172,8 +173,7 @@ fn push_rule(
     if let Some(numbers) = &judged.rule.conditions {
         push_list(text, conditions, numbers.as_slice())?;
     }
-    push(text, judged.text.as_slice())?;
-    push(text, b"  ")?;
+    push_all(text, &[judged.text.as_slice(), b"  "])?;
     push_action(text, conditions, &judged.action, number)?;
     push(text, b"\n")
 }
@@ -223,6 +223,22 @@ fn push_file(text: &mut Vec<u8>, file: &[u8]) -> Result<(), AllocError> {
     Ok(())
 }
 
+/// The label of a rule's case.
+fn push_label(text: &mut Vec<u8>, options: Options, number: u32) -> Result<(), AllocError> {
+    let mut digits = Buffer::new();
+    push(text, b"case ")?;
+    push_prefix(text, options.prefix)?;
+    push_all(text, &[b"_RULE_", digits.format(number).as_bytes(), b":\n"])
+}
+
+/// On which line of which file C text stands.
+fn push_place(text: &mut Vec<u8>, options: Options, line: u32) -> Result<(), AllocError> {
+    let mut digits = Buffer::new();
+    push_all(text, &[b"#line ", digits.format(line).as_bytes(), b" "])?;
+    push_file(text, options.file)?;
+    push(text, b"\n")
+}
+
 /// One case: the C text of a rule, with the line on which it stands.
 fn push_case(
     text: &mut Vec<u8>,
@@ -231,17 +247,9 @@ fn push_case(
     line: u32,
     code: &[u8],
 ) -> Result<(), AllocError> {
-    push(text, b"case ")?;
-    push_prefix(text, options.prefix)?;
-    push(text, b"_RULE_")?;
-    push_number(text, number)?;
-    push(text, b":\n#line ")?;
-    push_number(text, line)?;
-    push(text, b" ")?;
-    push_file(text, options.file)?;
-    push(text, b"\n")?;
-    push(text, code)?;
-    push(text, b"\n    break;\n")
+    push_label(text, options, number)?;
+    push_place(text, options, line)?;
+    push_all(text, &[code, b"\n    break;\n"])
 }
 
 /// The cases of a switch over kinds: the C text of each rule that returns its number.

@@ -126,7 +126,12 @@ pub(crate) struct Reports {
 impl Reports {
     /// Whether there is a report with this cause.
     pub(crate) fn has(&self, cause: Cause) -> bool {
-        self.list.iter().any(|report| report.cause == cause)
+        for report in self.list.as_slice() {
+            if report.cause == cause {
+                return true;
+            }
+        }
+        false
     }
 
     /// Behind how many reports one of this line comes.
