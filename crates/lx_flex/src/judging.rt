@@ -26,20 +26,11 @@ pub(crate) struct JudgedRule {
     pub(crate) action: Action,
 }
 
-/// A rule that isn't one for `<<EOF>>`.
-#[derive(Drop)]
-pub(crate) struct KeptRule {
-    rule: ImportedRule,
-    /// Whether something has to stand behind what it matches.
-    trailing: bool,
-    action: Action,
-}
-
 /// The rules without those for `<<EOF>>`, from the last to the first; a rule whose action is that of such a one gets it.
 pub(crate) fn without_ends(
     alloc: Global,
     rules: Vec<RawRule>,
-) -> Result<Vec<KeptRule>, AllocError> {
+) -> Result<Vec<(ImportedRule, bool, Action)>, AllocError> {
     let mut left = rules;
     let mut kept = Vec::new(alloc);
     let mut carried: Option<Action> = None;
@@ -75,11 +66,7 @@ pub(crate) fn without_ends(
                     conditions,
                     pattern,
                 };
-                kept.push(KeptRule {
-                    rule,
-                    trailing,
-                    action,
-                })?;
+                kept.push((rule, trailing, action))?;
             }
         }
     }
@@ -179,29 +166,6 @@ fn text_of(
     }
 }
 
-/// Adds a rule as lx has it, with all that is to be said of it.
-fn judge(
-    alloc: Global,
-    kept: KeptRule,
-    behind_bar: bool,
-    last: bool,
-    reports: &mut Reports,
-    lossy: bool,
-    judged: &mut Vec<JudgedRule>,
-) -> Result<(), Stop> {
-    let KeptRule {
-        rule,
-        trailing,
-        action,
-    } = kept;
-    judge_pattern(reports, &rule, trailing, behind_bar, lossy)?;
-    let action = judge_action(alloc, reports, rule.line, action, last, lossy)?;
-    if let Some(text) = text_of(alloc, reports, &rule)? {
-        judged.push(JudgedRule { rule, text, action })?;
-    }
-    Ok(())
-}
-
 /// The rules as lx has them, with all that is to be said of them.
 pub(crate) fn judged(
     alloc: Global,
@@ -214,19 +178,14 @@ pub(crate) fn judged(
     let mut judged = Vec::new(alloc);
     let mut behind_bar = false;
     let mut number: usize = 0;
-    for rule in kept {
+    for (rule, trailing, action) in kept {
         number = number.saturating_add(1);
-        let is_bar = matches!(rule.action, Action::Bar);
-        judge(
-            alloc,
-            rule,
-            behind_bar,
-            number == count,
-            reports,
-            lossy,
-            &mut judged,
-        )?;
-        behind_bar = is_bar;
+        judge_pattern(reports, &rule, trailing, behind_bar, lossy)?;
+        behind_bar = matches!(action, Action::Bar);
+        let action = judge_action(alloc, reports, rule.line, action, number == count, lossy)?;
+        if let Some(text) = text_of(alloc, reports, &rule)? {
+            judged.push(JudgedRule { rule, text, action })?;
+        }
     }
     Ok(judged)
 }

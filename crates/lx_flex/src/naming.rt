@@ -61,6 +61,15 @@ fn lx_names(alloc: Global, definitions: &[RawDefinition]) -> Result<Vec<Vec<u8>>
     Ok(names)
 }
 
+/// The name in lx of the definition at a place; none where it stands for itself.
+fn lx_name_at<'a>(lx: &'a [Vec<u8>], inlined: &[usize], place: usize) -> Option<&'a Vec<u8>> {
+    if inlined.contains(&place) {
+        None
+    } else {
+        lx.get(place)
+    }
+}
+
 /// Adds a definition, which stands for itself where it has no name in lx.
 fn add_definition(
     alloc: Global,
@@ -90,12 +99,12 @@ fn names_of(
     let mut names = Names::new(alloc);
     let mut place: usize = 0;
     for definition in definitions {
-        let lx_name = if inlined.contains(&place) {
-            None
-        } else {
-            lx.get(place)
-        };
-        add_definition(alloc, &mut names, definition, lx_name)?;
+        add_definition(
+            alloc,
+            &mut names,
+            definition,
+            lx_name_at(lx, inlined, place),
+        )?;
         place = place.saturating_add(1);
     }
     Ok(names)

@@ -224,18 +224,18 @@ fn push_file(text: &mut Vec<u8>, file: &[u8]) -> Result<(), AllocError> {
 }
 
 /// The label of a rule's case.
-fn push_label(text: &mut Vec<u8>, options: Options, number: u32) -> Result<(), AllocError> {
+fn push_label(text: &mut Vec<u8>, prefix: &[u8], number: u32) -> Result<(), AllocError> {
     let mut digits = Buffer::new();
     push(text, b"case ")?;
-    push_prefix(text, options.prefix)?;
+    push_prefix(text, prefix)?;
     push_all(text, &[b"_RULE_", digits.format(number).as_bytes(), b":\n"])
 }
 
 /// On which line of which file C text stands.
-fn push_place(text: &mut Vec<u8>, options: Options, line: u32) -> Result<(), AllocError> {
+fn push_place(text: &mut Vec<u8>, file: &[u8], line: u32) -> Result<(), AllocError> {
     let mut digits = Buffer::new();
     push_all(text, &[b"#line ", digits.format(line).as_bytes(), b" "])?;
-    push_file(text, options.file)?;
+    push_file(text, file)?;
     push(text, b"\n")
 }
 
@@ -247,8 +247,8 @@ fn push_case(
     line: u32,
     code: &[u8],
 ) -> Result<(), AllocError> {
-    push_label(text, options, number)?;
-    push_place(text, options, line)?;
+    push_label(text, options.prefix, number)?;
+    push_place(text, options.file, line)?;
     push_all(text, &[code, b"\n    break;\n"])
 }
 

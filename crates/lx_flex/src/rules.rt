@@ -203,7 +203,6 @@ fn read_rule(
     if rules.list.len() >= MAX_RULES {
         return stopped(line, Cause::TooMany);
     }
-    let conditions = conditions_of(alloc, rules, declared, own)?;
     let end_of_file = cursor.begins_with(b"<<EOF>>");
     let reading = if end_of_file {
         cursor.advance(7);
@@ -217,6 +216,7 @@ fn read_rule(
     } else if reading.is_none() {
         return Ok(());
     }
+    let conditions = conditions_of(alloc, rules, declared, own)?;
     rules.list.push(RawRule {
         line,
         conditions,

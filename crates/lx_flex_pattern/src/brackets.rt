@@ -8,41 +8,30 @@ use crate::source::{MAX_FLEX_PATTERN_BYTES, Source, front, skip};
 use crate::trees::{Member, Tree};
 use std::alloc::{AllocError, Global};
 
+/// The classes by their names.
+const CLASSES: &[(&[u8], Class)] = &[
+    (b"alnum", Class::Alnum),
+    (b"alpha", Class::Alpha),
+    (b"blank", Class::Blank),
+    (b"cntrl", Class::Cntrl),
+    (b"digit", Class::Digit),
+    (b"graph", Class::Graph),
+    (b"lower", Class::Lower),
+    (b"print", Class::Print),
+    (b"punct", Class::Punct),
+    (b"space", Class::Space),
+    (b"upper", Class::Upper),
+    (b"xdigit", Class::Xdigit),
+];
+
 /// A class by its name.
 fn class_of(name: &[u8]) -> Option<Class> {
-    if name == b"alnum".as_slice() {
-        Some(Class::Alnum)
-    } else if name == b"alpha".as_slice() {
-        Some(Class::Alpha)
-    } else if name == b"blank".as_slice() {
-        Some(Class::Blank)
-    } else if name == b"cntrl".as_slice() {
-        Some(Class::Cntrl)
-    } else if name == b"digit".as_slice() {
-        Some(Class::Digit)
-    } else if name == b"graph".as_slice() {
-        Some(Class::Graph)
-    } else {
-        other_class_of(name)
+    for (known, class) in CLASSES {
+        if name == *known {
+            return Some(*class);
+        }
     }
-}
-
-fn other_class_of(name: &[u8]) -> Option<Class> {
-    if name == b"lower".as_slice() {
-        Some(Class::Lower)
-    } else if name == b"print".as_slice() {
-        Some(Class::Print)
-    } else if name == b"punct".as_slice() {
-        Some(Class::Punct)
-    } else if name == b"space".as_slice() {
-        Some(Class::Space)
-    } else if name == b"upper".as_slice() {
-        Some(Class::Upper)
-    } else if name == b"xdigit".as_slice() {
-        Some(Class::Xdigit)
-    } else {
-        None
-    }
+    None
 }
 
 /// How many letters stand at the front.
