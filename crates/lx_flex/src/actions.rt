@@ -7,7 +7,7 @@ use crate::tokens::{Token, Tokens};
 use std::alloc::{AllocError, Global};
 
 /// A step of an action.
-#[derive(Debug, Drop)]
+#[derive(Drop)]
 pub(crate) enum Step {
     /// `ECHO`.
     Echo,
@@ -18,7 +18,7 @@ pub(crate) enum Step {
 }
 
 /// An action.
-#[derive(Debug, Drop)]
+#[derive(Drop)]
 pub(crate) enum Action {
     /// `|`, that of the next rule.
     Bar,

@@ -4,7 +4,7 @@ use crate::cursor::{Cursor, between, front, place_of, skip};
 use crate::report::{Cause, Stop, stopped};
 
 /// Where in C text a byte stands.
-#[derive(Clone, Copy, PartialEq, Eq, Debug)]
+#[derive(Clone, Copy, PartialEq, Eq)]
 enum Place {
     Code,
     String,

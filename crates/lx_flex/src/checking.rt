@@ -15,7 +15,7 @@ use lx_spec::{SpecFault, read_spec};
 use std::alloc::Global;
 
 /// Why what was printed doesn't do.
-#[derive(Debug, Clone, Copy, PartialEq, Eq)]
+#[derive(Clone, Copy)]
 pub(crate) enum CheckFault {
     /// lx refuses it.
     Refused(SpecFault),

@@ -4,7 +4,7 @@ use crate::cursor::front;
 use std::alloc::{AllocError, Global};
 
 /// A start condition.
-#[derive(Debug, Drop)]
+#[derive(Drop)]
 pub(crate) struct StartCondition {
     /// Its name in flex, which may have hyphens.
     pub(crate) name: Vec<u8>,

@@ -14,7 +14,7 @@ const MAX_DEFINITIONS: usize = 1024;
 const MAX_CONDITIONS: usize = 64;
 
 /// A definition as it is written.
-#[derive(Debug, Drop)]
+#[derive(Drop)]
 pub(crate) struct RawDefinition {
     pub(crate) line: u32,
     pub(crate) name: Vec<u8>,

@@ -74,7 +74,7 @@ pub struct Report {
 }
 
 /// Why reading stops.
-#[derive(Debug, Clone, Copy, PartialEq, Eq)]
+#[derive(Clone, Copy)]
 pub(crate) enum Stop {
     At(Report),
     Memory,

@@ -16,7 +16,7 @@ const MAX_RULES: usize = 4096;
 const MAX_SCOPES: usize = 64;
 
 /// A rule as it is written.
-#[derive(Debug, Drop)]
+#[derive(Drop)]
 pub(crate) struct RawRule {
     pub(crate) line: u32,
     /// The conditions that it names, with those of the scopes around it; none where there are none.

@@ -3,7 +3,7 @@
 use crate::cursor::{between, front, skip};
 
 /// A word or a mark of C.
-#[derive(Debug, Clone, Copy, PartialEq, Eq)]
+#[derive(Clone, Copy, PartialEq, Eq)]
 pub(crate) enum Token<'a> {
     /// A longest run of letters, digits and `_`.
     Word(&'a [u8]),
