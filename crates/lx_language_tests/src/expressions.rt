@@ -95,13 +95,24 @@ fn reading(alloc: Global, text: &[u8]) -> Result<String, AllocError> {
     }
 }
 
+/// Asserts what a pattern reads as.
+fn expect_pattern(
+    rt: &impl Abort,
+    alloc: Global,
+    pattern: &str,
+    want: &str,
+) -> Result<(), AllocError> {
+    let got = reading(alloc, pattern.as_bytes())?;
+    assert_eq!(rt; got.as_str(), want, "pattern {pattern}");
+    Ok(())
+}
+
 /// Each line of the table has a pattern, and behind ` => ` what it reads as.
 fn expect_table(rt: &impl Abort, alloc: Global, table: &str) -> Result<usize, AllocError> {
     let mut count = 0usize;
     for line in table.lines() {
         if let Some((pattern, want)) = line.split_once(" => ") {
-            let got = reading(alloc, pattern.as_bytes())?;
-            assert_eq!(rt; got.as_str(), want, "pattern {pattern}");
+            expect_pattern(rt, alloc, pattern, want)?;
             count = count.saturating_add(1);
         }
     }
@@ -453,63 +464,97 @@ const BRACKETED: &str = r#"
 [a[:] => E10
 "#;
 
+/// The tables, and how many rows each has.
+const TABLES: &[(&str, usize)] = &[
+    (ESCAPES, 50),
+    (LEXEMES, 53),
+    (GRAMMAR, 70),
+    (ANCHORS, 31),
+    (BRACKETS, 72),
+    (BRACKETED, 51),
+];
+
+/// Asserts what a table's patterns read as, and how many it has.
+fn expect_rows(rt: &impl Abort, alloc: Global, table: &str, rows: usize) -> Result<(), AllocError> {
+    let count = expect_table(rt, alloc, table)?;
+    assert_eq!(rt; count, rows);
+    Ok(())
+}
+
 #[test]
 fn patterns_read_as_the_grammar_says(rt: HostRuntime) -> Result<(), AllocError> {
-    let tables = [
-        (ESCAPES, 50),
-        (LEXEMES, 53),
-        (GRAMMAR, 70),
-        (ANCHORS, 31),
-        (BRACKETS, 72),
-        (BRACKETED, 51),
-    ];
-    for (table, rows) in tables {
-        assert_eq!(rt; expect_table(&rt, rt.alloc(), table)?, rows);
+    for (table, rows) in TABLES {
+        expect_rows(&rt, rt.alloc(), table, *rows)?;
     }
+    Ok(())
+}
+
+const NO_TEXT: &[(&[u8], &str)] = &[
+    (b"\x00", "[0]"),
+    (b"\xff", "[255]"),
+    (b"[\x80-\xff]", "[128-255]"),
+    (b"\"\x00\"", "[0]"),
+    (b"\x01\x7f", "([1] [127])"),
+    (b"", "E10"),
+    (b"a\tb", "E10"),
+    (b"a\nb", "E10"),
+    (b"[\n]", "E10"),
+    (b"\"\n\"", "E10"),
+    (b"\\\n", "E10"),
+];
+
+/// Asserts what bytes read as.
+fn expect_bytes(rt: &impl Abort, alloc: Global, text: &[u8], want: &str) -> Result<(), AllocError> {
+    let got = reading(alloc, text)?;
+    assert_eq!(rt; got.as_str(), want);
     Ok(())
 }
 
 #[test]
 fn bytes_outside_of_text_are_read(rt: HostRuntime) -> Result<(), AllocError> {
-    let rows: [(&[u8], &str); 11] = [
-        (b"\x00", "[0]"),
-        (b"\xff", "[255]"),
-        (b"[\x80-\xff]", "[128-255]"),
-        (b"\"\x00\"", "[0]"),
-        (b"\x01\x7f", "([1] [127])"),
-        (b"", "E10"),
-        (b"a\tb", "E10"),
-        (b"a\nb", "E10"),
-        (b"[\n]", "E10"),
-        (b"\"\n\"", "E10"),
-        (b"\\\n", "E10"),
-    ];
-    for (text, want) in rows {
-        let got = reading(rt.alloc(), text)?;
-        assert_eq!(rt; got.as_str(), want);
+    for (text, want) in NO_TEXT {
+        expect_bytes(&rt, rt.alloc(), text, want)?;
     }
+    Ok(())
+}
+
+const SUBSTITUTES: &[(&str, &str)] = &[
+    ("ab", "([97] [98])"),
+    ("a|b", "([97]|[98])"),
+    ("{D}", "<D>"),
+    ("^a", "E10"),
+    ("a$", "E10"),
+    ("a/\\n", "E10"),
+    ("", "E10"),
+    ("(", "E10"),
+];
+
+/// What a text reads as where no anchors may stand, or the fault's code.
+fn substitute(alloc: Global, text: &str) -> Result<String, AllocError> {
+    let mut got = String::new(alloc);
+    match read_substitute(alloc, text.as_bytes()) {
+        Ok(expr) => show(&mut got, &expr)?,
+        Err(fault) => write!(&mut got, "{fault}")?,
+    }
+    Ok(got)
+}
+
+/// Asserts it.
+fn expect_substitute(
+    rt: &impl Abort,
+    alloc: Global,
+    text: &str,
+    want: &str,
+) -> Result<(), AllocError> {
+    let got = substitute(alloc, text)?;
+    assert_eq!(rt; got.as_str(), want);
     Ok(())
 }
 
 #[test]
 fn substitutes_have_no_anchors(rt: HostRuntime) -> Result<(), AllocError> {
-    let rows = [
-        ("ab", "([97] [98])"),
-        ("a|b", "([97]|[98])"),
-        ("{D}", "<D>"),
-        ("^a", "E10"),
-        ("a$", "E10"),
-        ("a/\\n", "E10"),
-        ("", "E10"),
-        ("(", "E10"),
-    ];
-    for (text, want) in rows {
-        let mut got = String::new(rt.alloc());
-        match read_substitute(rt.alloc(), text.as_bytes()) {
-            Ok(expr) => show(&mut got, &expr)?,
-            Err(fault) => write!(&mut got, "{fault}")?,
-        }
-        assert_eq!(rt; got.as_str(), want);
+    for (text, want) in SUBSTITUTES {
+        expect_substitute(&rt, rt.alloc(), text, want)?;
     }
     Ok(())
 }
@@ -533,70 +578,99 @@ fn nested(
     Ok(text)
 }
 
-#[test]
-fn deep_trees_are_read_and_dropped(rt: HostRuntime) -> Result<(), AllocError> {
-    let rows = [
-        ("a", 1024, "", "", true),
-        ("a", 1025, "", "", false),
-        ("(", 511, "a", ")", true),
-        ("(", 512, "a", ")", false),
-        ("a(", 341, "a", ")", true),
-        ("a|", 511, "a", "", true),
-        ("a|(", 255, "a", ")", true),
-        ("", 1023, "a", "*", true),
-        ("(", 341, "a", "*)", true),
-        ("", 255, "aa", "{1}", true),
-        ("\\xa", 341, "", "", true),
-    ];
-    for (front, times, middle, back, reads) in rows {
-        let text = nested(rt.alloc(), front, times, middle, back)?;
-        let pattern = read_pattern(rt.alloc(), text.as_bytes());
-        let substitute = read_substitute(rt.alloc(), text.as_bytes());
-        assert_eq!(rt;
-            (pattern.is_ok(), substitute.is_ok()),
-            (reads, reads),
-            "{front}"
-        );
-    }
+/// A front, how often it stands, a middle, a back, and whether the text is read.
+type Deep = (&'static str, usize, &'static str, &'static str, bool);
+
+const DEEP: &[Deep] = &[
+    ("a", 1024, "", "", true),
+    ("a", 1025, "", "", false),
+    ("(", 511, "a", ")", true),
+    ("(", 512, "a", ")", false),
+    ("a(", 341, "a", ")", true),
+    ("a|", 511, "a", "", true),
+    ("a|(", 255, "a", ")", true),
+    ("", 1023, "a", "*", true),
+    ("(", 341, "a", "*)", true),
+    ("", 255, "aa", "{1}", true),
+    ("\\xa", 341, "", "", true),
+];
+
+/// Asserts whether a text is read.
+fn expect_read(rt: &impl Abort, alloc: Global, text: &[u8], reads: bool, front: &str) {
+    let pattern = read_pattern(alloc, text);
+    let substitute = read_substitute(alloc, text);
+    assert!(rt;
+        pattern.is_ok() == reads && substitute.is_ok() == reads,
+        "{front}"
+    );
+}
+
+/// Asserts it of a deep text.
+fn expect_deep(rt: &impl Abort, alloc: Global, deep: &Deep) -> Result<(), AllocError> {
+    let (front, times, middle, back, reads) = *deep;
+    let text = nested(alloc, front, times, middle, back)?;
+    expect_read(rt, alloc, text.as_bytes(), reads, front);
     Ok(())
 }
 
 #[test]
+fn deep_trees_are_read_and_dropped(rt: HostRuntime) -> Result<(), AllocError> {
+    for deep in DEEP {
+        expect_deep(&rt, rt.alloc(), deep)?;
+    }
+    Ok(())
+}
+
+/// Texts, and where the pattern ends that they begin with.
+const ENDS: &[(&str, usize)] = &[
+    ("", 0),
+    ("a", 1),
+    (" a", 0),
+    ("a b", 1),
+    ("a\tb", 1),
+    ("\\ b c", 3),
+    ("a\\", 2),
+    ("\\\\ b", 2),
+    ("\"a b\" c", 5),
+    ("\"a\\\" b\" c", 7),
+    ("\"a b", 4),
+    ("\"a\\", 3),
+    ("[ ] x", 3),
+    ("[]] x", 3),
+    ("[] ] x", 4),
+    ("[^] ] x", 5),
+    ("[\\] ] x", 5),
+    ("[[: :] ] x", 8),
+    ("[[:digit:] ] x", 12),
+    ("[[.].] ] x", 8),
+    ("[[===] ] x", 8),
+    ("[[::] :] ] x", 10),
+    ("[[:a b", 6),
+    ("[a b", 4),
+    ("[\\", 2),
+    ("[", 1),
+    ("[ \" ] x", 5),
+    ("\" [\" x", 4),
+    ("(a|b) c", 5),
+    ("a{1, 2}", 4),
+];
+
+/// Asserts where a pattern ends.
+fn expect_end(rt: &impl Abort, text: &str, want: usize) {
+    assert_eq!(rt; pattern_end(text.as_bytes()), want, "{text:?}");
+}
+
+#[test]
 fn patterns_end_at_the_first_blank_outside(rt: HostRuntime) {
-    let rows = [
-        ("", 0),
-        ("a", 1),
-        (" a", 0),
-        ("a b", 1),
-        ("a\tb", 1),
-        ("\\ b c", 3),
-        ("a\\", 2),
-        ("\\\\ b", 2),
-        ("\"a b\" c", 5),
-        ("\"a\\\" b\" c", 7),
-        ("\"a b", 4),
-        ("\"a\\", 3),
-        ("[ ] x", 3),
-        ("[]] x", 3),
-        ("[] ] x", 4),
-        ("[^] ] x", 5),
-        ("[\\] ] x", 5),
-        ("[[: :] ] x", 8),
-        ("[[:digit:] ] x", 12),
-        ("[[.].] ] x", 8),
-        ("[[===] ] x", 8),
-        ("[[::] :] ] x", 10),
-        ("[[:a b", 6),
-        ("[a b", 4),
-        ("[\\", 2),
-        ("[", 1),
-        ("[ \" ] x", 5),
-        ("\" [\" x", 4),
-        ("(a|b) c", 5),
-        ("a{1, 2}", 4),
-    ];
-    for (text, want) in rows {
-        assert_eq!(rt; pattern_end(text.as_bytes()), want, "{text:?}");
+    for (text, want) in ENDS {
+        expect_end(&rt, text, *want);
+    }
+}
+
+/// Asserts that a pattern is shown so, where there is memory for it.
+fn expect_shown(rt: &impl Abort, alloc: Global, pattern: &Pattern, want: &str) {
+    if let Ok(got) = show_pattern(alloc, pattern) {
+        assert_eq!(rt; got.as_str(), want);
     }
 }
 
@@ -606,11 +680,7 @@ fn refused_memory_is_answered_as_such(rt: HostRuntime) {
     let want =
         "^ ((((([97] ([98]|([99] [100]))) <Digit>) [101-102]{0,}) [120]){2,2}|([121] [122])) $";
     match read_pattern(rt.alloc(), text) {
-        Ok(pattern) => {
-            if let Ok(got) = show_pattern(rt.alloc(), &pattern) {
-                assert_eq!(rt; got.as_str(), want);
-            }
-        }
+        Ok(pattern) => expect_shown(&rt, rt.alloc(), &pattern, want),
         Err(fault) => assert!(rt; matches!(fault, EreFault::Memory)),
     }
 }

@@ -1,60 +1,114 @@
 //! The scanner over tables: items with their lines, matches and places, and tables that are of no specification.
 
-use lx_fixtures::{echo, tables_of, token};
+use lx_fixtures::tables_of;
 use lx_scan::{Item, Match, Place, next_match, scan};
 use lx_spec::Kind;
 use lx_tables::Tables;
+use std::alloc::{AllocError, Global};
+use std::process::Abort;
 use std::test::Fail;
 
 const LINE_END: &str = "%%\nfoo return F;\nfoo$ return E;\n";
 
-#[test]
-fn items_have_the_lines_on_which_they_begin(rt: HostRuntime) -> Result<(), Fail> {
-    let after = |line, start, len| Item::Token {
+/// Runs of `a` and newlines, and single ones of `b`.
+const TWO_LINES: &str = "%%\n[a\\n]+ return T;\nb return B;\n";
+
+/// The items of `a`, a newline and `b`.
+const TWO_TOKENS: &[Item] = &[
+    Item::Token {
+        kind: Kind::Name(0),
+        line: 1,
+        start: 0,
+        len: 2,
+    },
+    Item::Token {
         kind: Kind::Name(1),
-        line,
-        start,
-        len,
-    };
-    let last = Item::Token {
+        line: 2,
+        start: 2,
+        len: 1,
+    },
+];
+
+/// The items of two lines of `foo`, the second without a newline.
+const TWO_ENDS: &[Item] = &[
+    Item::Token {
+        kind: Kind::Name(1),
+        line: 1,
+        start: 0,
+        len: 3,
+    },
+    Item::Echo {
+        line: 1,
+        start: 3,
+        len: 1,
+    },
+    Item::Token {
         kind: Kind::Name(0),
         line: 2,
         start: 4,
         len: 3,
-    };
-    let rows: [(&str, &[u8], &[Item]); 2] = [
-        (
-            "%%\n[a\\n]+ return T;\nb return B;\n",
-            b"a\nb",
-            &[token(0, 0, 2), after(2, 2, 1)],
-        ),
-        (LINE_END, b"foo\nfoo", &[after(1, 0, 3), echo(1, 3), last]),
-    ];
-    for (spec, text, wanted) in rows {
-        let items = scan(rt.alloc(), &tables_of(rt.alloc(), spec)?, text)?;
-        assert_eq!(rt; items.as_slice(), wanted, "{spec}");
-    }
+    },
+];
+
+/// Asserts that a text has these items by the tables.
+fn scans(
+    rt: &impl Abort,
+    alloc: Global,
+    tables: &Tables,
+    text: &[u8],
+    wanted: &[Item],
+) -> Result<(), AllocError> {
+    let items = scan(alloc, tables, text)?;
+    assert_eq!(rt; items.as_slice(), wanted);
     Ok(())
+}
+
+/// Asserts that a text has these items by the tables of a specification.
+fn scans_by(
+    rt: &impl Abort,
+    alloc: Global,
+    spec: &str,
+    text: &[u8],
+    wanted: &[Item],
+) -> Result<(), Fail> {
+    let tables = tables_of(alloc, spec)?;
+    scans(rt, alloc, &tables, text, wanted)?;
+    Ok(())
+}
+
+#[test]
+fn items_have_the_lines_on_which_they_begin(rt: HostRuntime) -> Result<(), Fail> {
+    scans_by(&rt, rt.alloc(), TWO_LINES, b"a\nb", TWO_TOKENS)?;
+    scans_by(&rt, rt.alloc(), LINE_END, b"foo\nfoo", TWO_ENDS)
+}
+
+/// The first match of two lines of `foo`.
+const FOUND: Match = Match {
+    rule: Some(1),
+    start: 0,
+    len: 3,
+};
+
+/// The place behind it.
+const BEHIND: Place = Place {
+    offset: 3,
+    condition: 0,
+    at_line_begin: false,
+    line: 1,
+};
+
+/// Asserts what the first match of two lines of `foo` is, and that an empty text has none.
+fn matches_first(rt: &impl Abort, tables: &Tables) {
+    let _conditions = tables.conditions();
+    let next = next_match(tables, b"foo\nfoo", Place::begin());
+    assert_eq!(rt; next, Some((FOUND, BEHIND)));
+    assert!(rt; next_match(tables, b"", Place::begin()).is_none());
 }
 
 #[test]
 fn a_match_leads_to_the_place_behind_it(rt: HostRuntime) -> Result<(), Fail> {
     let tables = tables_of(rt.alloc(), LINE_END)?;
-    let _conditions = tables.conditions();
-    let found = Match {
-        rule: Some(1),
-        start: 0,
-        len: 3,
-    };
-    let behind = Place {
-        offset: 3,
-        condition: 0,
-        at_line_begin: false,
-        line: 1,
-    };
-    let next = next_match(&tables, b"foo\nfoo", Place::begin());
-    assert_eq!(rt; next, Some((found, behind)));
-    assert_eq!(rt; next_match(&tables, b"", Place::begin()), None);
+    matches_first(&rt, &tables);
     Ok(())
 }
 
@@ -62,10 +116,23 @@ fn a_match_leads_to_the_place_behind_it(rt: HostRuntime) -> Result<(), Fail> {
 const MADE_UP: &str =
     "lx-tables 1\nconditions 1\nstart 0 0\nkinds 1\nkind E\nrules 1\nrule 1 k0\nstates 2\nstate - 97-97:1\nstate 0\nend\n";
 
+/// Two bytes that no rule matches.
+const TWO_ECHOES: &[Item] = &[
+    Item::Echo {
+        line: 1,
+        start: 0,
+        len: 1,
+    },
+    Item::Echo {
+        line: 1,
+        start: 1,
+        len: 1,
+    },
+];
+
 #[test]
 fn tables_of_no_specification_are_scanned_by_to_the_end(rt: HostRuntime) -> Result<(), Fail> {
     let tables = Tables::read(rt.alloc(), MADE_UP.as_bytes())?;
-    let items = scan(rt.alloc(), &tables, b"aa")?;
-    assert_eq!(rt; items.as_slice(), [echo(1, 0), echo(1, 1)].as_slice());
+    scans(&rt, rt.alloc(), &tables, b"aa", TWO_ECHOES)?;
     Ok(())
 }

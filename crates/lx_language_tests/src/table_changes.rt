@@ -212,26 +212,35 @@ fn changed(alloc: Global, text: &str, old: &str, new: &str) -> Result<String, Fa
     Ok(format!(in alloc; "{front}{new}{back}")?)
 }
 
+/// Asserts of a changed text whether it is a table's.
+fn reads_change<R: Abort + AllocGlobal>(rt: &R, text: &str, change: &Change) -> Result<(), Fail> {
+    let (old, new, accepted) = *change;
+    let text = changed(rt.alloc(), text, old, new)?;
+    expect_read(rt, text.as_str(), accepted)
+}
+
 /// Asserts of each changed text whether it is a table's.
 fn reads_changes<R: Abort + AllocGlobal>(
     rt: &R,
     text: &str,
     changes: &[Change],
 ) -> Result<(), Fail> {
-    for (old, new, accepted) in changes {
-        let text = changed(rt.alloc(), text, old, new)?;
-        expect_read(rt, text.as_str(), *accepted)?;
+    for change in changes {
+        reads_change(rt, text, change)?;
     }
     Ok(())
+}
+
+/// Asserts it of the changes of both versions, and of these.
+fn reads_all<R: Abort + AllocGlobal>(rt: &R, text: &str, own: &[Change]) -> Result<(), Fail> {
+    reads_changes(rt, text, NAMES)?;
+    reads_changes(rt, text, RULES)?;
+    reads_changes(rt, text, own)
 }
 
 #[test]
 fn a_changed_text_is_read_where_it_is_a_tables_text(rt: HostRuntime) -> Result<(), Fail> {
     let (first, second) = THREE_RULES_TEXTS;
-    for (text, own) in [(first, RANGES), (second, CLASSES)] {
-        for changes in [NAMES, RULES, own] {
-            reads_changes(&rt, text, changes)?;
-        }
-    }
-    Ok(())
+    reads_all(&rt, first, RANGES)?;
+    reads_all(&rt, second, CLASSES)
 }

@@ -3,6 +3,7 @@
 use crate::table_texts::expect_read;
 use std::alloc::{AllocError, Global};
 use std::fmt::Write;
+use std::process::Abort;
 use std::test::Fail;
 
 /// Adds a line in which each `#` is a number.
@@ -32,6 +33,23 @@ type Lines = [&'static str; 4];
 /// How many conditions, kinds, rules and states there are.
 type Counts = [u32; 4];
 
+/// Adds all lines behind the first.
+fn add_all(
+    text: &mut String,
+    classes: &str,
+    counts: Counts,
+    lines: Lines,
+) -> Result<(), AllocError> {
+    let [conditions, kinds, rules, states] = counts;
+    let [start, kind, rule, state] = lines;
+    add_lines(text, "conditions #\n", conditions, start)?;
+    add_lines(text, "kinds #\n", kinds, kind)?;
+    add_lines(text, "rules #\n", rules, rule)?;
+    text.push_str(classes)?;
+    add_lines(text, "states #\n", states, state)?;
+    text.push_str("end\n")
+}
+
 /// A text of tables: of version 1 where no lines of classes are given, else of version 2.
 fn made(alloc: Global, classes: &str, counts: Counts, lines: Lines) -> Result<String, AllocError> {
     let head = if classes.is_empty() {
@@ -39,15 +57,8 @@ fn made(alloc: Global, classes: &str, counts: Counts, lines: Lines) -> Result<St
     } else {
         "lx-tables 2\n"
     };
-    let [conditions, kinds, rules, states] = counts;
-    let [start, kind, rule, state] = lines;
     let mut text = String::from_str(alloc, head)?;
-    add_lines(&mut text, "conditions #\n", conditions, start)?;
-    add_lines(&mut text, "kinds #\n", kinds, kind)?;
-    add_lines(&mut text, "rules #\n", rules, rule)?;
-    text.push_str(classes)?;
-    add_lines(&mut text, "states #\n", states, state)?;
-    text.push_str("end\n")?;
+    add_all(&mut text, classes, counts, lines)?;
     Ok(text)
 }
 
@@ -55,7 +66,7 @@ fn made(alloc: Global, classes: &str, counts: Counts, lines: Lines) -> Result<St
 const ONE_CLASS: &str = "classes 1\nclass 0-255:0\n";
 
 /// Counts and lines that are written in both versions alike, and whether there are such tables.
-const BOTH: [(Counts, Lines, bool); 15] = [
+const BOTH: &[(Counts, Lines, bool)] = &[
     (
         [64, 0, 1, 1],
         ["start 0 0\n", "", "rule 0 b63\n", "state 0\n"],
@@ -122,27 +133,47 @@ const BOTH: [(Counts, Lines, bool); 15] = [
 ];
 
 /// The lines of 16,512 states, their classes, and whether there are such tables.
-const STATES: [(&str, &str, bool); 4] = [
+const STATES: &[(&'static str, &'static str, bool)] = &[
     ("", "state - 0-255:16511\n", true),
     ("", "state - 0-255:16512\n", false),
     (ONE_CLASS, "state - 0:16511\n", true),
     (ONE_CLASS, "state - 0:16512\n", false),
 ];
 
-#[test]
-fn counts_and_numbers_are_read_up_to_their_limits(rt: HostRuntime) -> Result<(), Fail> {
+/// Asserts whether such a text is read.
+fn expect_made<R: Abort + AllocGlobal>(
+    rt: &R,
+    classes: &str,
+    counts: Counts,
+    lines: Lines,
+    accepted: bool,
+) -> Result<(), Fail> {
+    let text = made(rt.alloc(), classes, counts, lines)?;
+    expect_read(rt, text.as_str(), accepted)
+}
+
+/// Asserts it of the texts in both versions.
+fn reads_both<R: Abort + AllocGlobal>(rt: &R) -> Result<(), Fail> {
     for (counts, lines, accepted) in BOTH {
-        for classes in ["", ONE_CLASS] {
-            let text = made(rt.alloc(), classes, counts, lines)?;
-            expect_read(&rt, text.as_str(), accepted)?;
-        }
-    }
-    for (classes, state, accepted) in STATES {
-        let lines = ["start 16511 0\n", "", "", state];
-        let text = made(rt.alloc(), classes, [1, 0, 0, 16_512], lines)?;
-        expect_read(&rt, text.as_str(), accepted)?;
+        expect_made(rt, "", *counts, *lines, *accepted)?;
+        expect_made(rt, ONE_CLASS, *counts, *lines, *accepted)?;
     }
     Ok(())
+}
+
+/// Asserts it of the texts of 16,512 states.
+fn reads_states<R: Abort + AllocGlobal>(rt: &R) -> Result<(), Fail> {
+    for (classes, state, accepted) in STATES {
+        let lines = ["start 16511 0\n", "", "", *state];
+        expect_made(rt, classes, [1, 0, 0, 16_512], lines, *accepted)?;
+    }
+    Ok(())
+}
+
+#[test]
+fn counts_and_numbers_are_read_up_to_their_limits(rt: HostRuntime) -> Result<(), Fail> {
+    reads_both(&rt)?;
+    reads_states(&rt)
 }
 
 /// Tables with a class for each byte: on each byte the first state steps to the state of its number.
@@ -166,17 +197,20 @@ fn full_classes(alloc: Global, first: bool) -> Result<String, AllocError> {
     Ok(text)
 }
 
+/// Asserts that such tables are read.
+fn reads_full<R: Abort + AllocGlobal>(rt: &R, first: bool) -> Result<(), Fail> {
+    let text = full_classes(rt.alloc(), first)?;
+    expect_read(rt, text.as_str(), true)
+}
+
 #[test]
 fn each_byte_may_have_a_class_of_its_own(rt: HostRuntime) -> Result<(), Fail> {
-    for first in [true, false] {
-        let text = full_classes(rt.alloc(), first)?;
-        expect_read(&rt, text.as_str(), true)?;
-    }
-    Ok(())
+    reads_full(&rt, true)?;
+    reads_full(&rt, false)
 }
 
 /// Counts behind which the text ends.
-const PROMISES: [&str; 12] = [
+const PROMISES: &[&str] = &[
     "conditions 64\n",
     "conditions 4294967295\n",
     "conditions 1\nstart 0 0\nkinds 4096\n",
@@ -191,16 +225,21 @@ const PROMISES: [&str; 12] = [
     "conditions 1\nstart 0 0\nkinds 0\nrules 0\nclasses 1\nclass 0-255:0\nstates 99999999999999999999\n",
 ];
 
+/// Asserts twenty times that a text with such a count is refused.
+fn refuses_promise<R: Abort + AllocGlobal>(rt: &R, head: &str, promise: &str) -> Result<(), Fail> {
+    let text = format!(in rt.alloc(); "{head}{promise}")?;
+    for _time in 0..20 {
+        expect_read(rt, text.as_str(), false)?;
+    }
+    Ok(())
+}
+
 /// Each is read many times: a count costs no more than a text with as much.
 #[test]
 fn counts_that_promise_too_much_are_refused_at_once(rt: HostRuntime) -> Result<(), Fail> {
-    for head in ["lx-tables 1\n", "lx-tables 2\n"] {
-        for promise in PROMISES {
-            let text = format!(in rt.alloc(); "{head}{promise}")?;
-            for _time in 0..20 {
-                expect_read(&rt, text.as_str(), false)?;
-            }
-        }
+    for promise in PROMISES {
+        refuses_promise(&rt, "lx-tables 1\n", promise)?;
+        refuses_promise(&rt, "lx-tables 2\n", promise)?;
     }
     Ok(())
 }

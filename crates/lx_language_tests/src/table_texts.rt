@@ -17,7 +17,7 @@ const AT_LINE_BEGIN: Texts = (
 );
 
 /// Specifications and the texts of their tables.
-pub(crate) const SAMPLES: [(&str, Texts); 4] = [
+pub(crate) const SAMPLES: &[(&str, Texts)] = &[
     (THREE_RULES, THREE_RULES_TEXTS),
     ("%%\na$ return E;\n", AT_LINE_END),
     ("%%\n^# return H;\n# return S;\n", AT_LINE_BEGIN),
@@ -58,28 +58,51 @@ pub(crate) fn expect_read<R: Abort + AllocGlobal>(
     Ok(())
 }
 
+/// Asserts that this is the text of version 1, or of version 2.
+fn has_text<R: Abort + AllocGlobal>(
+    rt: &R,
+    tables: &Tables,
+    first: bool,
+    wanted: &str,
+) -> Result<(), Fail> {
+    let printed = text_of(rt.alloc(), tables, first)?;
+    assert_eq!(rt; printed.as_slice(), wanted.as_bytes());
+    Ok(())
+}
+
 /// Asserts that tables have these texts.
 fn has_texts<R: Abort + AllocGlobal>(
     rt: &R,
     tables: &Tables,
-    first: &str,
-    second: &str,
+    (first, second): Texts,
 ) -> Result<(), Fail> {
-    let printed = text_of(rt.alloc(), tables, true)?;
-    assert_eq!(rt; printed.as_slice(), first.as_bytes());
-    let printed = text_of(rt.alloc(), tables, false)?;
-    assert_eq!(rt; printed.as_slice(), second.as_bytes());
-    Ok(())
+    has_text(rt, tables, true, first)?;
+    has_text(rt, tables, false, second)
+}
+
+/// Asserts that the tables which a text reads as have these texts.
+fn reads_to<R: Abort + AllocGlobal>(rt: &R, text: &str, texts: Texts) -> Result<(), Fail> {
+    let tables = Tables::read(rt.alloc(), text.as_bytes())?;
+    has_texts(rt, &tables, texts)
+}
+
+/// Asserts that the tables of a specification have these texts.
+fn makes<R: Abort + AllocGlobal>(rt: &R, spec: &str, texts: Texts) -> Result<(), Fail> {
+    let tables = tables_of(rt.alloc(), spec)?;
+    has_texts(rt, &tables, texts)
+}
+
+/// Asserts it of a specification and of both texts.
+fn makes_and_reads<R: Abort + AllocGlobal>(rt: &R, spec: &str, texts: Texts) -> Result<(), Fail> {
+    makes(rt, spec, texts)?;
+    reads_to(rt, texts.0, texts)?;
+    reads_to(rt, texts.1, texts)
 }
 
 #[test]
 fn both_texts_are_printed_and_read_byte_for_byte(rt: HostRuntime) -> Result<(), Fail> {
-    for (spec, (first, second)) in SAMPLES {
-        has_texts(&rt, &tables_of(rt.alloc(), spec)?, first, second)?;
-        for text in [first, second] {
-            let tables = Tables::read(rt.alloc(), text.as_bytes())?;
-            has_texts(&rt, &tables, first, second)?;
-        }
+    for (spec, texts) in SAMPLES {
+        makes_and_reads(&rt, spec, *texts)?;
     }
     Ok(())
 }

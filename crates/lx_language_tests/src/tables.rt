@@ -4,12 +4,13 @@ use lx_auto::build;
 use lx_spec::read_spec;
 use lx_tables::Tables;
 use std::alloc::Global;
+use std::process::Abort;
 use std::test::Fail;
 
 /// A specification, and the first and the second text of its tables.
 type Row = (&'static str, &'static str, &'static str);
 
-const ROWS: [Row; 3] = [
+const ROWS: &[Row] = &[
     (
         "%%\n",
         "lx-tables 1\nconditions 1\nstart 0 1\nkinds 0\nrules 0\nstates 2\nstate -\nstate -\nend\n",
@@ -34,16 +35,34 @@ fn unmerged_tables_of(alloc: Global, spec: &str) -> Result<Tables, Fail> {
     Ok(Tables::of(alloc, &spec, &automaton)?)
 }
 
+/// Asserts that this is the text of version 1.
+fn prints_first(rt: &impl Abort, alloc: Global, tables: &Tables, wanted: &str) -> Result<(), Fail> {
+    let mut out = Vec::new(alloc);
+    tables.print_first(&mut out)?;
+    assert_eq!(rt; out.as_slice(), wanted.as_bytes());
+    Ok(())
+}
+
+/// Asserts that this is the text of version 2.
+fn prints(rt: &impl Abort, alloc: Global, tables: &Tables, wanted: &str) -> Result<(), Fail> {
+    let mut out = Vec::new(alloc);
+    tables.print(&mut out)?;
+    assert_eq!(rt; out.as_slice(), wanted.as_bytes());
+    Ok(())
+}
+
+/// Asserts which texts the tables of a specification print.
+fn prints_both(rt: &impl Abort, alloc: Global, row: &Row) -> Result<(), Fail> {
+    let (spec, first, second) = *row;
+    let tables = unmerged_tables_of(alloc, spec)?;
+    prints_first(rt, alloc, &tables, first)?;
+    prints(rt, alloc, &tables, second)
+}
+
 #[test]
 fn tables_print_their_two_texts(rt: HostRuntime) -> Result<(), Fail> {
-    for (spec, first, second) in ROWS {
-        let tables = unmerged_tables_of(rt.alloc(), spec)?;
-        let mut out = Vec::new(rt.alloc());
-        tables.print_first(&mut out)?;
-        assert_eq!(rt; out.as_slice(), first.as_bytes());
-        let mut out = Vec::new(rt.alloc());
-        tables.print(&mut out)?;
-        assert_eq!(rt; out.as_slice(), second.as_bytes());
+    for row in ROWS {
+        prints_both(&rt, rt.alloc(), row)?;
     }
     Ok(())
 }

@@ -1,13 +1,14 @@
 //! A collector: what it answers to arrivals, in which order it delivers, and which files it then counts as closed and as cut.
 
-ghost use Rattle.std.specs.Prelude.{◌≡◌, length};
+ghost use Rattle.std.specs.Prelude.{◌≡◌, ◌<◌, ◌≤◌, length};
 
-use crate::plans::piece;
+use lx_fixtures::piece;
 use lx_piece::{Collector, Mark, Piece, Reply, Why};
 use std::alloc::{AllocError, Global};
 use std::process::Abort;
 
-pub(crate) fn reply_of(collector: &mut Collector, piece: Piece) -> Reply
+/// The reply to a piece.
+fn reply_of(collector: &mut Collector, piece: Piece) -> Reply
     ensures { length collector.new.buffers ≡ length collector.old.buffers }
 {
     match collector.offer(piece) {
@@ -16,40 +17,59 @@ pub(crate) fn reply_of(collector: &mut Collector, piece: Piece) -> Reply
     }
 }
 
-pub(crate) fn delivered(collector: &mut Collector) -> Option<(u32, u64)>
+/// The file and the number of the piece that is delivered next.
+fn delivered(collector: &mut Collector) -> Option<(u32, u64)>
     ensures { length collector.new.buffers ≡ length collector.old.buffers }
 {
-    collector.deliver().map(|piece| (piece.file, piece.number))
+    match collector.deliver() {
+        Some(piece) => Some((piece.file, piece.number)),
+        None => None,
+    }
 }
 
-/// An arrival at a collector of run 1, the reply to it, and what is delivered then, where that is asked for.
-#[derive(Clone, Copy)]
-struct Turn {
-    run: u64,
-    file: u32,
-    number: u64,
-    mark: Mark,
-    reply: Reply,
-    delivers: Option<&'static [(u32, u64)]>,
+/// Asserts that this is the reply to a piece.
+pub(crate) fn expect_reply(
+    rt: &impl Abort,
+    collector: &mut Collector,
+    offered: Piece,
+    wanted: Reply,
+)
+    ensures { length collector.new.buffers ≡ length collector.old.buffers }
+{
+    assert_eq!(rt; reply_of(collector, offered), wanted);
 }
+
+/// Asserts that this is delivered next.
+pub(crate) fn expect_delivery(
+    rt: &impl Abort,
+    collector: &mut Collector,
+    wanted: Option<(u32, u64)>,
+)
+    ensures { length collector.new.buffers ≡ length collector.old.buffers }
+{
+    assert_eq!(rt; delivered(collector), wanted);
+}
+
+/// The run, file, number and mark of an arrival at a collector of run 1, the reply to it, and what is delivered then, where that is asked for.
+type Turn = (u64, u32, u64, Mark, Reply, Option<&'static [(u32, u64)]>);
 
 /// Asserts that these are delivered, and then nothing.
 fn expect_deliveries(rt: &impl Abort, collector: &mut Collector, wanted: &[(u32, u64)])
     ensures { length collector.new.buffers ≡ length collector.old.buffers }
 {
     for next in wanted {
-        assert_eq!(rt; delivered(collector), Some(*next));
+        expect_delivery(rt, collector, Some(*next));
     }
-    assert_eq!(rt; delivered(collector), None);
+    expect_delivery(rt, collector, None);
 }
 
 /// Asserts that a turn goes so.
-fn expect_turn(rt: &impl Abort, alloc: Global, collector: &mut Collector, turn: Turn)
+fn expect_turn(rt: &impl Abort, alloc: Global, collector: &mut Collector, turn: &Turn)
     ensures { length collector.new.buffers ≡ length collector.old.buffers }
 {
-    let offered = piece(alloc, turn.run, turn.file, turn.number, turn.mark);
-    assert_eq!(rt; reply_of(collector, offered), turn.reply);
-    if let Some(wanted) = turn.delivers {
+    let (run, file, number, mark, reply, delivers) = *turn;
+    expect_reply(rt, collector, piece(alloc, run, file, number, mark), reply);
+    if let Some(wanted) = delivers {
         expect_deliveries(rt, collector, wanted);
     }
 }
@@ -57,88 +77,96 @@ fn expect_turn(rt: &impl Abort, alloc: Global, collector: &mut Collector, turn: 
 /// Asserts that the turns go so.
 fn expect_turns(rt: &impl Abort, alloc: Global, collector: &mut Collector, turns: &[Turn]) {
     for turn in turns {
-        expect_turn(rt, alloc, collector, *turn);
+        expect_turn(rt, alloc, collector, turn);
     }
 }
 
-fn turn_of(
-    file: u32,
-    number: u64,
-    mark: Mark,
-    reply: Reply,
-    delivers: Option<&'static [(u32, u64)]>,
-) -> Turn {
-    Turn {
-        run: 1,
-        file,
-        number,
-        mark,
-        reply,
-        delivers,
-    }
-}
+const ACCEPTED: Reply = Reply::Accepted;
+
+const DOUBLE: Reply = Reply::Refused(Why::Double);
+
+const BEHIND: Reply = Reply::Refused(Why::AfterLast);
+
+const CONTRADICTS: Reply = Reply::Refused(Why::Contradicts);
+
+const WRONG_RUN: Reply = Reply::Refused(Why::WrongRun);
+
+/// The pieces of a file in another order, with one again and one behind the last.
+const ONE_FILE: &[Turn] = &[
+    (1, 0, 2, Mark::Whole, ACCEPTED, Some(&[])),
+    (1, 0, 0, Mark::More, ACCEPTED, Some(&[(0, 0)])),
+    (1, 0, 0, Mark::More, DOUBLE, Some(&[])),
+    (1, 0, 1, Mark::More, ACCEPTED, Some(&[(0, 1), (0, 2)])),
+    (1, 0, 3, Mark::More, BEHIND, Some(&[])),
+];
 
 #[test]
 fn orders_the_pieces_of_a_file(rt: HostRuntime) -> Result<(), AllocError> {
     let mut collector = Collector::new(rt.alloc(), 1, 1)?;
-    let double = Reply::Refused(Why::Double);
-    let behind = Reply::Refused(Why::AfterLast);
-    let turns = [
-        turn_of(0, 2, Mark::Whole, Reply::Accepted, Some(&[])),
-        turn_of(0, 0, Mark::More, Reply::Accepted, Some(&[(0, 0)])),
-        turn_of(0, 0, Mark::More, double, Some(&[])),
-        turn_of(0, 1, Mark::More, Reply::Accepted, Some(&[(0, 1), (0, 2)])),
-        turn_of(0, 3, Mark::More, behind, Some(&[])),
-    ];
-    expect_turns(&rt, rt.alloc(), &mut collector, turns.as_slice());
+    expect_turns(&rt, rt.alloc(), &mut collector, ONE_FILE);
     assert!(rt; collector.all_closed());
     Ok(())
 }
 
-#[test]
-fn refuses_a_marked_piece_before_an_accepted_one(rt: HostRuntime) -> Result<(), AllocError> {
-    for mark in [Mark::Whole, Mark::Cut] {
-        let mut collector = Collector::new(rt.alloc(), 1, 1)?;
-        let turns = [
-            turn_of(0, 2, Mark::More, Reply::Accepted, None),
-            turn_of(0, 0, mark, Reply::Refused(Why::Contradicts), None),
-            turn_of(0, 0, Mark::More, Reply::Accepted, None),
-        ];
-        expect_turns(&rt, rt.alloc(), &mut collector, turns.as_slice());
-    }
+/// Asserts that the turns go so in a collector of so many files to which nothing came.
+fn expect_fresh(
+    rt: &impl Abort,
+    alloc: Global,
+    files: u32,
+    turns: &[Turn],
+) -> Result<(), AllocError>
+    requires some { 0 < files }
+    requires few { files ≤ 65536 }
+{
+    let mut collector = Collector::new(alloc, 1, files)?;
+    expect_turns(rt, alloc, &mut collector, turns);
     Ok(())
 }
+
+const WHOLE_BEFORE: &[Turn] = &[
+    (1, 0, 2, Mark::More, ACCEPTED, None),
+    (1, 0, 0, Mark::Whole, CONTRADICTS, None),
+    (1, 0, 0, Mark::More, ACCEPTED, None),
+];
+
+const CUT_BEFORE: &[Turn] = &[
+    (1, 0, 2, Mark::More, ACCEPTED, None),
+    (1, 0, 0, Mark::Cut, CONTRADICTS, None),
+    (1, 0, 0, Mark::More, ACCEPTED, None),
+];
+
+#[test]
+fn refuses_a_marked_piece_before_an_accepted_one(rt: HostRuntime) -> Result<(), AllocError> {
+    expect_fresh(&rt, rt.alloc(), 1, WHOLE_BEFORE)?;
+    expect_fresh(&rt, rt.alloc(), 1, CUT_BEFORE)
+}
+
+const TWO_FILES: &[Turn] = &[
+    (1, 1, 0, Mark::Whole, ACCEPTED, None),
+    (1, 0, 0, Mark::Whole, ACCEPTED, Some(&[(0, 0), (1, 0)])),
+];
 
 #[test]
 fn delivers_the_lowest_file_first(rt: HostRuntime) -> Result<(), AllocError> {
-    let mut collector = Collector::new(rt.alloc(), 1, 2)?;
-    let turns = [
-        turn_of(1, 0, Mark::Whole, Reply::Accepted, None),
-        turn_of(0, 0, Mark::Whole, Reply::Accepted, Some(&[(0, 0), (1, 0)])),
-    ];
-    expect_turns(&rt, rt.alloc(), &mut collector, turns.as_slice());
-    Ok(())
+    expect_fresh(&rt, rt.alloc(), 2, TWO_FILES)
 }
+
+const GREATEST: &[Turn] = &[
+    (1, 0, u64::MAX, Mark::More, BEHIND, None),
+    (1, 0, u64::MAX, Mark::Cut, BEHIND, None),
+    (2, 0, u64::MAX, Mark::More, WRONG_RUN, None),
+];
 
 #[test]
 fn refuses_the_greatest_number(rt: HostRuntime) -> Result<(), AllocError> {
-    let mut collector = Collector::new(rt.alloc(), 1, 1)?;
-    let behind = Reply::Refused(Why::AfterLast);
-    let stranger = Turn {
-        run: 2,
-        ..turn_of(0, u64::MAX, Mark::More, Reply::Refused(Why::WrongRun), None)
-    };
-    let turns = [
-        turn_of(0, u64::MAX, Mark::More, behind, None),
-        turn_of(0, u64::MAX, Mark::Cut, behind, None),
-        stranger,
-    ];
-    expect_turns(&rt, rt.alloc(), &mut collector, turns.as_slice());
-    Ok(())
+    expect_fresh(&rt, rt.alloc(), 1, GREATEST)
 }
 
-/// Asserts of each of three files whether it is closed, and whether it is cut.
-fn expect_ends(rt: &impl Abort, collector: &Collector, wanted: [(bool, bool); 3])
+/// Of each of three files whether it is closed, and whether it is cut.
+type Ends = [(bool, bool); 3];
+
+/// Asserts these of three files.
+fn expect_ends(rt: &impl Abort, collector: &Collector, wanted: &Ends)
     requires { length collector.now.buffers ≡ 3 }
 {
     let found = [
@@ -146,7 +174,7 @@ fn expect_ends(rt: &impl Abort, collector: &Collector, wanted: [(bool, bool); 3]
         (collector.is_closed(1), collector.is_cut(1)),
         (collector.is_closed(2), collector.is_cut(2)),
     ];
-    assert_eq!(rt; found, wanted);
+    assert_eq!(rt; found, *wanted);
 }
 
 const OPEN: (bool, bool) = (false, false);
@@ -155,34 +183,30 @@ const WHOLE: (bool, bool) = (true, false);
 
 const CUT: (bool, bool) = (true, true);
 
+/// Turns, and the ends of the three files behind each.
+const THREE_FILES: &[(Turn, Ends)] = &[
+    ((1, 0, 0, Mark::Cut, ACCEPTED, None), [OPEN, OPEN, OPEN]),
+    (
+        (1, 1, 1, Mark::Cut, ACCEPTED, Some(&[(0, 0)])),
+        [CUT, OPEN, OPEN],
+    ),
+    (
+        (1, 2, 0, Mark::Whole, ACCEPTED, Some(&[(2, 0)])),
+        [CUT, OPEN, WHOLE],
+    ),
+    ((1, 2, 0, Mark::Cut, DOUBLE, Some(&[])), [CUT, OPEN, WHOLE]),
+    (
+        (1, 1, 0, Mark::More, ACCEPTED, Some(&[(1, 0), (1, 1)])),
+        [CUT, CUT, WHOLE],
+    ),
+];
+
 #[test]
 fn a_file_is_cut_once_its_piece_that_says_so_was_delivered(
     rt: HostRuntime,
 ) -> Result<(), AllocError> {
     let mut collector = Collector::new(rt.alloc(), 1, 3)?;
-    let steps = [
-        (
-            turn_of(0, 0, Mark::Cut, Reply::Accepted, None),
-            [OPEN, OPEN, OPEN],
-        ),
-        (
-            turn_of(1, 1, Mark::Cut, Reply::Accepted, Some(&[(0, 0)])),
-            [CUT, OPEN, OPEN],
-        ),
-        (
-            turn_of(2, 0, Mark::Whole, Reply::Accepted, Some(&[(2, 0)])),
-            [CUT, OPEN, WHOLE],
-        ),
-        (
-            turn_of(2, 0, Mark::Cut, Reply::Refused(Why::Double), Some(&[])),
-            [CUT, OPEN, WHOLE],
-        ),
-        (
-            turn_of(1, 0, Mark::More, Reply::Accepted, Some(&[(1, 0), (1, 1)])),
-            [CUT, CUT, WHOLE],
-        ),
-    ];
-    for (turn, ends) in steps {
+    for (turn, ends) in THREE_FILES {
         expect_turn(&rt, rt.alloc(), &mut collector, turn);
         expect_ends(&rt, &collector, ends);
     }
@@ -212,22 +236,57 @@ fn arrival(symbol: u32, turn: u32) -> (u64, Accepted) {
     (run, Accepted { file, number, mark })
 }
 
+/// Whether a piece of the file with this number was accepted.
+fn is_accepted(accepted: &[Accepted], file: u32, number: u64) -> bool {
+    for q in accepted {
+        if q.file == file && q.number == number {
+            return true;
+        }
+    }
+    false
+}
+
+/// Whether a marked piece of the file below this number was accepted.
+fn is_marked_below(accepted: &[Accepted], file: u32, number: u64) -> bool {
+    for q in accepted {
+        if q.file == file && q.mark != Mark::More && q.number < number {
+            return true;
+        }
+    }
+    false
+}
+
+/// Whether a piece of the file below this number was accepted that says it is cut.
+fn is_cut_below(accepted: &[Accepted], file: u32, number: u64) -> bool {
+    for q in accepted {
+        if q.file == file && q.mark == Mark::Cut && q.number < number {
+            return true;
+        }
+    }
+    false
+}
+
+/// Whether a piece of the file above this number was accepted.
+fn is_any_above(accepted: &[Accepted], file: u32, number: u64) -> bool {
+    for q in accepted {
+        if q.file == file && q.number > number {
+            return true;
+        }
+    }
+    false
+}
+
 /// The first cause that holds against an arrival, in a collector of run 1 and two files.
 fn plain_reply(before: &[Accepted], run: u64, p: Accepted) -> Reply {
-    let of_file = |q: &Accepted| q.file == p.file;
-    let is_marked = |q: &Accepted| q.mark != Mark::More;
     if run != 1 {
         Reply::Refused(Why::WrongRun)
     } else if p.file >= 2 {
         Reply::Refused(Why::UnknownFile)
-    } else if before.iter().any(|q| of_file(q) && q.number == p.number) {
+    } else if is_accepted(before, p.file, p.number) {
         Reply::Refused(Why::Double)
-    } else if before
-        .iter()
-        .any(|q| of_file(q) && is_marked(q) && q.number < p.number)
-    {
+    } else if is_marked_below(before, p.file, p.number) {
         Reply::Refused(Why::AfterLast)
-    } else if is_marked(&p) && before.iter().any(|q| of_file(q) && q.number > p.number) {
+    } else if p.mark != Mark::More && is_any_above(before, p.file, p.number) {
         Reply::Refused(Why::Contradicts)
     } else {
         Reply::Accepted
@@ -236,9 +295,9 @@ fn plain_reply(before: &[Accepted], run: u64, p: Accepted) -> Reply {
 
 /// The next delivery, where so many pieces of each of two files were delivered.
 fn plain_delivery(accepted: &[Accepted], counts: (u64, u64)) -> Option<(u32, u64)> {
-    if accepted.iter().any(|q| q.file == 0 && q.number == counts.0) {
+    if is_accepted(accepted, 0, counts.0) {
         Some((0, counts.0))
-    } else if accepted.iter().any(|q| q.file == 1 && q.number == counts.1) {
+    } else if is_accepted(accepted, 1, counts.1) {
         Some((1, counts.1))
     } else {
         None
@@ -247,14 +306,10 @@ fn plain_delivery(accepted: &[Accepted], counts: (u64, u64)) -> Option<(u32, u64
 
 /// Whether the file is closed and whether it is cut, where so many of its pieces were delivered.
 fn plain_end(accepted: &[Accepted], file: u32, count: u64) -> (bool, bool) {
-    let is_delivered = |q: &Accepted| q.file == file && q.number < count;
-    let is_closed = accepted
-        .iter()
-        .any(|q| is_delivered(q) && q.mark != Mark::More);
-    let is_cut = accepted
-        .iter()
-        .any(|q| is_delivered(q) && q.mark == Mark::Cut);
-    (is_closed, is_cut)
+    (
+        is_marked_below(accepted, file, count),
+        is_cut_below(accepted, file, count),
+    )
 }
 
 fn raised(counts: (u64, u64), file: u32) -> (u64, u64) {
@@ -286,6 +341,11 @@ fn delivers_as_defined<R: Abort>(
     counts
 }
 
+/// Asserts this of the end of a file.
+fn expect_end(rt: &impl Abort, found: (bool, bool), wanted: (bool, bool), list: u32) {
+    assert_eq!(rt; found, wanted, "in {list}");
+}
+
 /// Asserts of both files whether they are closed and whether they are cut, where so many of their pieces were delivered.
 fn ends_as_defined<R: Abort>(
     rt: &R,
@@ -297,12 +357,58 @@ fn ends_as_defined<R: Abort>(
     requires { length collector.now.buffers ≡ 2 }
 {
     let first = (collector.is_closed(0), collector.is_cut(0));
-    assert_eq!(rt; first, plain_end(accepted, 0, counts.0), "in {list}");
+    expect_end(rt, first, plain_end(accepted, 0, counts.0), list);
     let second = (collector.is_closed(1), collector.is_cut(1));
-    assert_eq!(rt; second, plain_end(accepted, 1, counts.1), "in {list}");
+    expect_end(rt, second, plain_end(accepted, 1, counts.1), list);
+}
+
+/// Asserts that an arrival is answered as defined, and adds it to those that are accepted if it is.
+fn answers_as_defined<R: Abort>(
+    rt: &R,
+    alloc: Global,
+    collector: &mut Collector,
+    accepted: &mut Vec<Accepted>,
+    arrived: (u64, Accepted),
+    list: u32,
+) -> Result<(), AllocError>
+    ensures { length collector.new.buffers ≡ length collector.old.buffers }
+{
+    let (run, next) = arrived;
+    let wanted = plain_reply(accepted, run, next);
+    let offered = piece(alloc, run, next.file, next.number, next.mark);
+    assert_eq!(rt; reply_of(collector, offered), wanted, "in {list}");
+    if wanted == Reply::Accepted {
+        accepted.push(next)?;
+    }
+    Ok(())
 }
 
 /// Offers the six arrivals that a number spells, and delivers all after each, or only after the last.
+fn six_turns<R: Abort>(
+    rt: &R,
+    alloc: Global,
+    collector: &mut Collector,
+    list: u32,
+    delivers_at_once: bool,
+) -> Result<(), AllocError>
+    requires { length collector.old.buffers ≡ 2 }
+{
+    let mut accepted = Vec::new(alloc);
+    let mut counts = (0, 0);
+    let mut rest = list;
+    for turn in 0..6 {
+        let next = arrival(rest % 5, turn);
+        rest /= 5;
+        answers_as_defined(rt, alloc, collector, &mut accepted, next, list)?;
+        if delivers_at_once || turn == 5 {
+            counts = delivers_as_defined(rt, collector, &accepted, counts, list);
+        }
+        ends_as_defined(rt, collector, &accepted, counts, list);
+    }
+    Ok(())
+}
+
+/// Offers them to a collector of two files to which nothing came.
 fn compares_with_the_plain_program<R: Abort>(
     rt: &R,
     alloc: Global,
@@ -310,28 +416,7 @@ fn compares_with_the_plain_program<R: Abort>(
     delivers_at_once: bool,
 ) -> Result<(), AllocError> {
     let mut collector = Collector::new(alloc, 1, 2)?;
-    let mut accepted = Vec::new(alloc);
-    let mut counts = (0, 0);
-    let mut rest = list;
-    for turn in 0..6 {
-        let (run, next) = arrival(rest % 5, turn);
-        rest /= 5;
-        let reply = plain_reply(&accepted, run, next);
-        if reply == Reply::Accepted {
-            accepted.push(next)?;
-        }
-        let offered = piece(alloc, run, next.file, next.number, next.mark);
-        assert_eq!(rt;
-            reply_of(&mut collector, offered),
-            reply,
-            "at {turn} of {list}"
-        );
-        if delivers_at_once || turn == 5 {
-            counts = delivers_as_defined(rt, &mut collector, &accepted, counts, list);
-        }
-        ends_as_defined(rt, &collector, &accepted, counts, list);
-    }
-    Ok(())
+    six_turns(rt, alloc, &mut collector, list, delivers_at_once)
 }
 
 #[test]

@@ -1,16 +1,15 @@
 //! Memory refused: the answer says so, what was handed in comes back, and the next try goes on as if nothing had been. With ample memory each
 //! call succeeds; `rt try --test --fail-alloc N` refuses the Nth allocation of each test. A test whose own memory is refused ends there.
 
+ghost use Rattle.std.specs.Prelude.{◌<◌};
 ghost use Rattle.lx_piece.specs.Cutting.{IsCutterOf};
 
-use crate::collector::{delivered, reply_of};
+use crate::collector::{expect_delivery, expect_reply};
 use crate::plans::echo_plan;
-use crate::relay::fresh_tally;
+use crate::relay::{fresh_tally, relay_list};
+use crate::thread_pieces::head;
 use lx_fixtures::{echo, last_file_first};
-use lx_piece::{
-    Collector, Cutter, Items, ListArrivals, Mark, Piece, Plan, Refused, RelayFault, Reply, Why,
-    relay,
-};
+use lx_piece::{Collector, Cutter, Items, Mark, Piece, Plan, Refused, RelayFault, Reply, Why};
 use std::alloc::{AllocError, Global};
 use std::process::Abort;
 
@@ -30,28 +29,32 @@ fn with_item(alloc: Global, file: u32, number: u32, mark: Mark) -> Result<Piece,
     })
 }
 
-/// Offers a piece of `with_item`. Where it comes back, it is for want of memory, and whole.
-fn offer_again<R: Abort>(rt: &R, collector: &mut Collector, offered: Piece) -> Option<Piece> {
-    let (file, number, mark) = (offered.file, offered.number, offered.mark);
-    let Err(Refused { why, piece }) = collector.offer(offered) else {
-        return None;
-    };
-    assert_eq!(rt; why, Why::Memory);
-    assert_eq!(rt;
-        (piece.run, piece.file, piece.number, piece.mark),
-        (1, file, number, mark)
-    );
+/// Asserts that a piece is that of `with_item`.
+fn expect_with_item(rt: &impl Abort, piece: &Piece, file: u32, number: u64, mark: Mark) {
+    assert_eq!(rt; head(piece), (1, file, number, mark));
     let item = echo(1, number as usize);
     assert_eq!(rt; piece.items.as_slice(), [item].as_slice());
-    Some(piece)
+}
+
+/// Offers a piece of `with_item`. Where it comes back, it is for want of memory, and whole.
+fn offer_again(rt: &impl Abort, collector: &mut Collector, offered: Piece) -> Option<Piece> {
+    let (file, number, mark) = (offered.file, offered.number, offered.mark);
+    match collector.offer(offered) {
+        Ok(()) => None,
+        Err(Refused { why, piece }) => {
+            assert!(rt; why == Why::Memory);
+            expect_with_item(rt, &piece, file, number, mark);
+            Some(piece)
+        }
+    }
 }
 
 /// Delivers the first pieces of the files from one up to another, and then nothing.
-fn expect_files<R: Abort>(rt: &R, collector: &mut Collector, from: u32, to: u32) {
+fn expect_files(rt: &impl Abort, collector: &mut Collector, from: u32, to: u32) {
     for file in from..to {
-        assert_eq!(rt; delivered(collector), Some((file, 0)));
+        expect_delivery(rt, collector, Some((file, 0)));
     }
-    assert_eq!(rt; delivered(collector), None);
+    expect_delivery(rt, collector, None);
 }
 
 #[test]
@@ -61,52 +64,101 @@ fn a_collector_is_made_or_memory_was_refused(rt: HostRuntime) {
     }
 }
 
-#[test]
-fn a_file_whose_piece_came_back_has_none_to_deliver(rt: HostRuntime) {
-    let alloc = rt.alloc();
-    let Ok(mut collector) = Collector::new(alloc, 1, MANY) else {
-        return;
-    };
-    let mut end = MANY;
-    for index in 0..MANY {
-        let file = MANY - 1 - index;
-        let Ok(offered) = with_item(alloc, file, 0, Mark::Whole) else {
-            return;
-        };
-        if let Some(piece) = offer_again(&rt, &mut collector, offered) {
-            expect_files(&rt, &mut collector, file + 1, end);
-            end = file + 1;
+/// Offers a file's piece, where the files up to an end wait behind it. Where it comes back, these are delivered before it is offered again. The end of
+/// those that then wait; `Err` where the test has no memory.
+fn offer_file(
+    rt: &impl Abort,
+    alloc: Global,
+    collector: &mut Collector,
+    file: u32,
+    end: u32,
+) -> Result<u32, AllocError>
+    requires { file < 40 }
+{
+    let offered = with_item(alloc, file, 0, Mark::Whole)?;
+    match offer_again(rt, collector, offered) {
+        None => Ok(end),
+        Some(piece) => {
+            expect_files(rt, collector, file + 1, end);
             assert!(rt; !collector.all_closed());
-            assert_eq!(rt; reply_of(&mut collector, piece), Reply::Accepted);
+            expect_reply(rt, collector, piece, Reply::Accepted);
+            Ok(file + 1)
         }
     }
-    expect_files(&rt, &mut collector, 0, end);
+}
+
+/// Offers the pieces of all files, the last file first, and gives the end of those that then wait.
+fn offer_files(
+    rt: &impl Abort,
+    alloc: Global,
+    collector: &mut Collector,
+) -> Result<u32, AllocError> {
+    let mut end = MANY;
+    for index in 0..MANY {
+        end = offer_file(rt, alloc, collector, MANY - 1 - index, end)?;
+    }
+    Ok(end)
+}
+
+#[test]
+fn a_file_whose_piece_came_back_has_none_to_deliver(rt: HostRuntime) {
+    let Ok(mut collector) = Collector::new(rt.alloc(), 1, MANY) else {
+        return;
+    };
+    if let Ok(end) = offer_files(&rt, rt.alloc(), &mut collector) {
+        expect_files(&rt, &mut collector, 0, end);
+        assert!(rt; collector.all_closed());
+    }
+}
+
+/// Offers the piece of a number, behind which nothing is delivered unless it is the first. `Err` where the test has no memory.
+fn offer_number(
+    rt: &impl Abort,
+    alloc: Global,
+    collector: &mut Collector,
+    number: u32,
+    mark: Mark,
+) -> Result<(), AllocError> {
+    let offered = with_item(alloc, 0, number, mark)?;
+    if let Some(piece) = offer_again(rt, collector, offered) {
+        expect_delivery(rt, collector, None);
+        expect_reply(rt, collector, piece, Reply::Accepted);
+    }
+    let first = if number == 0 { Some((0, 0)) } else { None };
+    expect_delivery(rt, collector, first);
+    Ok(())
+}
+
+/// Offers the pieces of a file, the last one first.
+fn offer_numbers(
+    rt: &impl Abort,
+    alloc: Global,
+    collector: &mut Collector,
+) -> Result<(), AllocError> {
+    for index in 0..MANY {
+        let mark = if index == 0 { Mark::Cut } else { Mark::More };
+        offer_number(rt, alloc, collector, MANY - 1 - index, mark)?;
+    }
+    Ok(())
+}
+
+/// Delivers the pieces of a file behind its first, which closes it.
+fn expect_numbers(rt: &impl Abort, collector: &mut Collector) {
+    for number in 1..MANY {
+        expect_delivery(rt, collector, Some((0, u64::from(number))));
+    }
+    expect_delivery(rt, collector, None);
     assert!(rt; collector.all_closed());
 }
 
 #[test]
 fn a_number_that_came_back_is_not_held(rt: HostRuntime) {
-    let alloc = rt.alloc();
-    let Ok(mut collector) = Collector::new(alloc, 1, 1) else {
+    let Ok(mut collector) = Collector::new(rt.alloc(), 1, 1) else {
         return;
     };
-    for index in 0..MANY {
-        let number = MANY - 1 - index;
-        let mark = if index == 0 { Mark::Cut } else { Mark::More };
-        let Ok(offered) = with_item(alloc, 0, number, mark) else {
-            return;
-        };
-        if let Some(piece) = offer_again(&rt, &mut collector, offered) {
-            assert_eq!(rt; delivered(&mut collector), None);
-            assert_eq!(rt; reply_of(&mut collector, piece), Reply::Accepted);
-        }
-        assert_eq!(rt; delivered(&mut collector).is_some(), number == 0);
+    if offer_numbers(&rt, rt.alloc(), &mut collector).is_ok() {
+        expect_numbers(&rt, &mut collector);
     }
-    for number in 1..MANY {
-        assert_eq!(rt; delivered(&mut collector), Some((0, u64::from(number))));
-    }
-    assert_eq!(rt; delivered(&mut collector), None);
-    assert!(rt; collector.all_closed());
 }
 
 /// The cutter's next piece, at the second try where memory was refused at the first.
@@ -134,17 +186,21 @@ fn expect_piece<R: Abort>(
     }
 }
 
+/// Asserts that these are the pieces of a file of 600 items.
+fn expect_three(rt: &impl Abort, alloc: Global, plan: &Plan) {
+    let _files = plan.files();
+    let mut cutter = Cutter::new(alloc, plan, 0);
+    expect_piece(rt, &mut cutter, plan, 0, 256, Mark::More);
+    expect_piece(rt, &mut cutter, plan, 1, 256, Mark::More);
+    expect_piece(rt, &mut cutter, plan, 2, 88, Mark::Whole);
+    assert!(rt; matches!(cutter.next_piece(plan), Ok(None)));
+}
+
 #[test]
 fn a_cutter_gives_the_piece_that_was_refused(rt: HostRuntime) {
-    let alloc = rt.alloc();
-    let Ok(plan) = echo_plan(alloc, &[600], 256) else {
-        return;
-    };
-    let mut cutter = Cutter::new(alloc, &plan, 0);
-    expect_piece(&rt, &mut cutter, &plan, 0, 256, Mark::More);
-    expect_piece(&rt, &mut cutter, &plan, 1, 256, Mark::More);
-    expect_piece(&rt, &mut cutter, &plan, 2, 88, Mark::Whole);
-    assert!(rt; matches!(cutter.next_piece(&plan), Ok(None)));
+    if let Ok(plan) = echo_plan(rt.alloc(), &[600], 256) {
+        expect_three(&rt, rt.alloc(), &plan);
+    }
 }
 
 /// What became of a relay.
@@ -158,46 +214,71 @@ enum Outcome {
     Untried,
 }
 
-/// Relays the pieces of a plan of three files of 3, 1 and 2 pieces, the last file first.
-fn relay_three<R: Abort>(rt: &R, alloc: Global, plan: &Plan) -> Outcome {
-    let Ok(pieces) = last_file_first(alloc, plan) else {
-        return Outcome::Untried;
-    };
-    let Ok(mut tally) = fresh_tally(alloc, plan, u64::MAX) else {
-        return Outcome::Untried;
-    };
-    let mut arrivals = ListArrivals::new(plan, pieces);
-    let relayed = relay(alloc, plan, &mut arrivals, &mut tally);
-    let taken = tally.counts.as_slice();
+/// How many pieces of each of three files were taken, after each but the last.
+const FRONTS: &[[u64; 3]] = &[
+    [0, 0, 0],
+    [0, 0, 1],
+    [0, 0, 2],
+    [0, 1, 2],
+    [1, 1, 2],
+    [2, 1, 2],
+];
+
+fn is_front(taken: &[u64]) -> bool {
+    for front in FRONTS {
+        if taken == front.as_slice() {
+            return true;
+        }
+    }
+    false
+}
+
+/// Asserts that a relay of all six pieces accepted and took each.
+fn expect_whole(rt: &impl Abort, replies: &[Reply], taken: &[u64]) {
+    assert_eq!(rt; replies, [Reply::Accepted; 6].as_slice());
+    assert_eq!(rt; taken, [3, 1, 2].as_slice());
+}
+
+/// Asserts that a relay took all, or a part for want of memory.
+fn expect_relayed(
+    rt: &impl Abort,
+    relayed: Result<Vec<Reply>, RelayFault>,
+    taken: &[u64],
+) -> Outcome {
     match relayed {
         Ok(replies) => {
-            assert_eq!(rt; replies.as_slice(), [Reply::Accepted; 6].as_slice());
-            assert_eq!(rt; taken, [3, 1, 2].as_slice());
+            expect_whole(rt, &replies, taken);
             Outcome::Whole
         }
         Err(fault) => {
-            assert_eq!(rt; fault, RelayFault::Memory);
-            let fronts: [[u64; 3]; 6] = [
-                [0, 0, 0],
-                [0, 0, 1],
-                [0, 0, 2],
-                [0, 1, 2],
-                [1, 1, 2],
-                [2, 1, 2],
-            ];
-            assert!(rt; fronts.iter().any(|front| taken == front.as_slice()));
+            assert!(rt; fault == RelayFault::Memory && is_front(taken));
             Outcome::Part
         }
     }
 }
 
+/// Relays the pieces of a plan of three files of 3, 1 and 2 pieces, the last file first.
+fn relay_three(rt: &impl Abort, alloc: Global, plan: &Plan) -> Outcome {
+    let Ok(mut tally) = fresh_tally(alloc, plan, u64::MAX) else {
+        return Outcome::Untried;
+    };
+    let Ok(pieces) = last_file_first(alloc, plan) else {
+        return Outcome::Untried;
+    };
+    let relayed = relay_list(alloc, plan, pieces, &mut tally);
+    expect_relayed(rt, relayed, &tally.counts)
+}
+
+/// Relays them, and all again where only a part was taken.
+fn relay_again(rt: &impl Abort, alloc: Global, plan: &Plan) {
+    if relay_three(rt, alloc, plan) == Outcome::Part {
+        assert_eq!(rt; relay_three(rt, alloc, plan), Outcome::Whole);
+    }
+}
+
 #[test]
 fn a_relay_takes_a_part_where_memory_is_refused(rt: HostRuntime) {
-    let alloc = rt.alloc();
-    let Ok(plan) = echo_plan(alloc, &[600, 3, 512], 256) else {
-        return;
-    };
-    if relay_three(&rt, alloc, &plan) == Outcome::Part {
-        assert_eq!(rt; relay_three(&rt, alloc, &plan), Outcome::Whole);
+    if let Ok(plan) = echo_plan(rt.alloc(), &[600, 3, 512], 256) {
+        relay_again(&rt, rt.alloc(), &plan);
     }
 }

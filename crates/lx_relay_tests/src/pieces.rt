@@ -1,22 +1,44 @@
 //! A file's pieces: full ones, and a last one that is marked.
 
+ghost use Rattle.std.specs.Prelude.{◌<◌, ◌≤◌, length};
 ghost use Rattle.lx_piece.specs.Cutting.{IsCutterOf};
 
-use crate::plans::echo_plan;
-use lx_fixtures::{THREE_RULES, echo, last_file_first, mixed_plan, plan_of, token};
+use crate::plans::{echo_plan, plan_of};
+use lx_fixtures::{MIXED_FILES, MIXED_RULES, THREE_RULES, TWO_WORDS, last_file_first};
 use lx_piece::{Cutter, Mark, Piece, Plan};
 use lx_scan::Item;
 use lx_spec::Kind;
 use std::alloc::{AllocError, Global};
 use std::process::Abort;
-use std::test::Fail;
+
+/// An item's kind, `None` for an Echo, its line, its first byte and how many bytes it has.
+type Spot = (Option<Kind>, u64, usize, usize);
 
 /// A piece's file, number and mark, how many items it has, and the first and the last of them.
-type Shape = (u32, u64, Mark, usize, Option<Item>, Option<Item>);
+type Shape = (u32, u64, Mark, usize, Option<Spot>, Option<Spot>);
+
+fn spot(item: Item) -> Spot {
+    match item {
+        Item::Token {
+            kind,
+            line,
+            start,
+            len,
+        } => (Some(kind), line, start, len),
+        Item::Echo { line, start, len } => (None, line, start, len),
+    }
+}
+
+fn spot_of(item: Option<&Item>) -> Option<Spot> {
+    match item {
+        Some(item) => Some(spot(*item)),
+        None => None,
+    }
+}
 
 fn shape(piece: &Piece) -> Shape {
     let items = piece.items.as_slice();
-    let (first, last) = (items.first().copied(), items.last().copied());
+    let (first, last) = (spot_of(items.first()), spot_of(items.last()));
     (
         piece.file,
         piece.number,
@@ -27,114 +49,275 @@ fn shape(piece: &Piece) -> Shape {
     )
 }
 
-/// A piece of one item.
-fn single(file: u32, number: u64, mark: Mark, item: Item) -> Shape {
-    (file, number, mark, 1, Some(item), Some(item))
-}
-
-/// A piece of so many items.
-fn several(file: u32, number: u64, mark: Mark, len: usize, first: Item, last: Item) -> Shape {
-    (file, number, mark, len, Some(first), Some(last))
-}
-
-/// A piece without items.
-fn empty(file: u32, mark: Mark) -> Shape {
-    (file, 0, mark, 0, None, None)
+fn shapes(alloc: Global, pieces: &[Piece]) -> Result<Vec<Shape>, AllocError> {
+    let mut found = Vec::new(alloc);
+    for piece in pieces {
+        found.push(shape(piece))?;
+    }
+    Ok(found)
 }
 
 /// Asserts that the pieces of a plan, the last file first, have these shapes.
 fn expect(rt: &impl Abort, alloc: Global, plan: &Plan, wanted: &[Shape]) -> Result<(), AllocError> {
-    let mut found = Vec::new(alloc);
-    for piece in &last_file_first(alloc, plan)? {
-        found.push(shape(piece))?;
-    }
+    let pieces = last_file_first(alloc, plan)?;
+    let found = shapes(alloc, &pieces)?;
     assert_eq!(rt; found.as_slice(), wanted);
     Ok(())
 }
 
-/// The Echo and the token of the text between `<` and `>` in the files of `mixed_plan`.
-fn echoed_token() -> (Item, Item) {
-    let (line, start, len) = (2, 5, 5);
-    let kind = Kind::Number(65);
+/// Asserts it of the plan of such files by the tables of a specification.
+fn expect_of(
+    rt: &impl Abort,
+    alloc: Global,
+    spec: &str,
+    files: &[(&[u8], bool)],
+    per_piece: u32,
+    wanted: &[Shape],
+) -> Result<(), AllocError>
+    requires some_files { 0 < length files.now }
+    requires few_files { length files.now ≤ 65536 }
+    requires some_items { 0 < per_piece }
+    requires few_items { per_piece ≤ 4096 }
+{
+    let plan = plan_of(alloc, spec, files, per_piece)?;
+    expect(rt, alloc, &plan, wanted)
+}
+
+const ECHO: Option<Kind> = None;
+
+const FIRST: Option<Kind> = Some(Kind::Name(0));
+
+const SECOND: Option<Kind> = Some(Kind::Name(1));
+
+const NUMBER: Option<Kind> = Some(Kind::Number(65));
+
+/// The pieces of the mixed files, of two items at most. The text between `<` and `>` gives an Echo and a token, which lie in two pieces.
+const MIXED: &[Shape] = &[
     (
-        Item::Echo { line, start, len },
-        Item::Token {
-            kind,
-            line,
-            start,
-            len,
-        },
+        4,
+        0,
+        Mark::Cut,
+        1,
+        Some((SECOND, 1, 0, 1)),
+        Some((SECOND, 1, 0, 1)),
+    ),
+    (3, 0, Mark::Cut, 0, None, None),
+    (
+        2,
+        0,
+        Mark::More,
+        2,
+        Some((ECHO, 1, 0, 1)),
+        Some((ECHO, 1, 1, 1)),
+    ),
+    (
+        2,
+        1,
+        Mark::More,
+        2,
+        Some((ECHO, 2, 2, 1)),
+        Some((ECHO, 2, 3, 1)),
+    ),
+    (
+        2,
+        2,
+        Mark::More,
+        2,
+        Some((ECHO, 2, 4, 1)),
+        Some((ECHO, 2, 5, 5)),
+    ),
+    (
+        2,
+        3,
+        Mark::More,
+        2,
+        Some((NUMBER, 2, 5, 5)),
+        Some((ECHO, 3, 10, 1)),
+    ),
+    (
+        2,
+        4,
+        Mark::Whole,
+        1,
+        Some((FIRST, 4, 11, 1)),
+        Some((FIRST, 4, 11, 1)),
+    ),
+    (1, 0, Mark::Whole, 0, None, None),
+    (
+        0,
+        0,
+        Mark::Whole,
+        2,
+        Some((FIRST, 1, 0, 2)),
+        Some((SECOND, 1, 3, 2)),
+    ),
+];
+
+#[test]
+fn the_last_piece_of_a_file_is_marked(rt: HostRuntime) -> Result<(), AllocError> {
+    let files = MIXED_FILES.as_slice();
+    expect_of(&rt, rt.alloc(), MIXED_RULES, files, 2, MIXED)
+}
+
+/// The pieces of files of 256, 257, 512 and no Echoes.
+const FULL: &[Shape] = &[
+    (3, 0, Mark::Whole, 0, None, None),
+    (
+        2,
+        0,
+        Mark::More,
+        256,
+        Some((ECHO, 1, 0, 1)),
+        Some((ECHO, 1, 255, 1)),
+    ),
+    (
+        2,
+        1,
+        Mark::Whole,
+        256,
+        Some((ECHO, 1, 256, 1)),
+        Some((ECHO, 1, 511, 1)),
+    ),
+    (
+        1,
+        0,
+        Mark::More,
+        256,
+        Some((ECHO, 1, 0, 1)),
+        Some((ECHO, 1, 255, 1)),
+    ),
+    (
+        1,
+        1,
+        Mark::Whole,
+        1,
+        Some((ECHO, 1, 256, 1)),
+        Some((ECHO, 1, 256, 1)),
+    ),
+    (
+        0,
+        0,
+        Mark::Whole,
+        256,
+        Some((ECHO, 1, 0, 1)),
+        Some((ECHO, 1, 255, 1)),
+    ),
+];
+
+#[test]
+fn cuts_files_into_full_pieces_and_a_rest(rt: HostRuntime) -> Result<(), AllocError> {
+    let plan = echo_plan(rt.alloc(), &[256, 257, 512, 0], 256)?;
+    expect(&rt, rt.alloc(), &plan, FULL)
+}
+
+/// Two words in a file with skipped text behind them, which was read to its end.
+const WHOLE_WORDS: &[Shape] = &[
+    (
+        0,
+        0,
+        Mark::More,
+        1,
+        Some((FIRST, 1, 0, 2)),
+        Some((FIRST, 1, 0, 2)),
+    ),
+    (
+        0,
+        1,
+        Mark::Whole,
+        1,
+        Some((SECOND, 1, 3, 2)),
+        Some((SECOND, 1, 3, 2)),
+    ),
+];
+
+/// The same, where its reading failed.
+const CUT_WORDS: &[Shape] = &[
+    (
+        0,
+        0,
+        Mark::More,
+        1,
+        Some((FIRST, 1, 0, 2)),
+        Some((FIRST, 1, 0, 2)),
+    ),
+    (
+        0,
+        1,
+        Mark::Cut,
+        1,
+        Some((SECOND, 1, 3, 2)),
+        Some((SECOND, 1, 3, 2)),
+    ),
+];
+
+#[test]
+fn the_last_piece_is_marked_though_skipped_text_follows(rt: HostRuntime) -> Result<(), AllocError> {
+    let alloc = rt.alloc();
+    expect_of(
+        &rt,
+        alloc,
+        THREE_RULES,
+        &[(TWO_WORDS, false)],
+        1,
+        WHOLE_WORDS,
+    )?;
+    expect_of(&rt, alloc, THREE_RULES, &[(TWO_WORDS, true)], 1, CUT_WORDS)
+}
+
+/// A rule whose action gives three items.
+const THREE_ITEMS: &str = "%%\na { ECHO; ECHO; return A; }\n";
+
+const TWO_MATCHES: &[Shape] = &[
+    (
+        0,
+        0,
+        Mark::More,
+        2,
+        Some((ECHO, 1, 0, 1)),
+        Some((ECHO, 1, 0, 1)),
+    ),
+    (
+        0,
+        1,
+        Mark::More,
+        2,
+        Some((FIRST, 1, 0, 1)),
+        Some((ECHO, 1, 1, 1)),
+    ),
+    (
+        0,
+        2,
+        Mark::Whole,
+        2,
+        Some((ECHO, 1, 1, 1)),
+        Some((FIRST, 1, 1, 1)),
+    ),
+];
+
+#[test]
+fn the_items_of_one_action_lie_in_two_pieces(rt: HostRuntime) -> Result<(), AllocError> {
+    expect_of(
+        &rt,
+        rt.alloc(),
+        THREE_ITEMS,
+        &[(b"aa", false)],
+        2,
+        TWO_MATCHES,
     )
 }
 
-#[test]
-fn the_last_piece_of_a_file_is_marked(rt: HostRuntime) -> Result<(), Fail> {
-    let alloc = rt.alloc();
-    let (echoed, returned) = echoed_token();
-    let z = Item::Token {
-        kind: Kind::Name(0),
-        line: 4,
-        start: 11,
-        len: 1,
-    };
-    let wanted = [
-        single(4, 0, Mark::Cut, token(1, 0, 1)),
-        empty(3, Mark::Cut),
-        several(2, 0, Mark::More, 2, echo(1, 0), echo(1, 1)),
-        several(2, 1, Mark::More, 2, echo(2, 2), echo(2, 3)),
-        several(2, 2, Mark::More, 2, echo(2, 4), echoed),
-        several(2, 3, Mark::More, 2, returned, echo(3, 10)),
-        single(2, 4, Mark::Whole, z),
-        empty(1, Mark::Whole),
-        several(0, 0, Mark::Whole, 2, token(0, 0, 2), token(1, 3, 2)),
-    ];
-    expect(&rt, alloc, &mixed_plan(alloc, 2)?, wanted.as_slice())?;
-    Ok(())
-}
-
-#[test]
-fn cuts_files_into_full_pieces_and_a_rest(rt: HostRuntime) -> Result<(), Fail> {
-    let alloc = rt.alloc();
-    let plan = echo_plan(alloc, &[256, 257, 512, 0], 256)?;
-    let wanted = [
-        empty(3, Mark::Whole),
-        several(2, 0, Mark::More, 256, echo(1, 0), echo(1, 255)),
-        several(2, 1, Mark::Whole, 256, echo(1, 256), echo(1, 511)),
-        several(1, 0, Mark::More, 256, echo(1, 0), echo(1, 255)),
-        single(1, 1, Mark::Whole, echo(1, 256)),
-        several(0, 0, Mark::Whole, 256, echo(1, 0), echo(1, 255)),
-    ];
-    expect(&rt, alloc, &plan, wanted.as_slice())?;
-    Ok(())
-}
-
-#[test]
-fn the_last_piece_is_marked_though_skipped_text_follows(rt: HostRuntime) -> Result<(), Fail> {
-    let alloc = rt.alloc();
-    for (cut, mark) in [(false, Mark::Whole), (true, Mark::Cut)] {
-        let plan = plan_of(alloc, THREE_RULES, &[(b"ab 12\n", cut)], 1)?;
-        let wanted = [
-            single(0, 0, Mark::More, token(0, 0, 2)),
-            single(0, 1, mark, token(1, 3, 2)),
-        ];
-        expect(&rt, alloc, &plan, wanted.as_slice())?;
+/// Asserts whether a cutter gives a piece.
+fn gives<R: Abort>(rt: &R, plan: &Plan, cutter: &mut Cutter, wanted: bool) -> Result<(), AllocError>
+    requires { IsCutterOf plan.now cutter.old }
+    ensures { IsCutterOf plan.now cutter.new }
+{
+    match cutter.next_piece(plan) {
+        Ok(piece) => {
+            assert!(rt; piece.is_some() == wanted);
+            Ok(())
+        }
+        Err(AllocError) => Err(AllocError),
     }
-    Ok(())
-}
-
-#[test]
-fn the_items_of_one_action_lie_in_two_pieces(rt: HostRuntime) -> Result<(), Fail> {
-    let alloc = rt.alloc();
-    let spec = "%%\na { ECHO; ECHO; return A; }\n";
-    let plan = plan_of(alloc, spec, &[(b"aa", false)], 2)?;
-    let (first, second) = (echo(1, 0), echo(1, 1));
-    let wanted = [
-        several(0, 0, Mark::More, 2, first, first),
-        several(0, 1, Mark::More, 2, token(0, 0, 1), second),
-        several(0, 2, Mark::Whole, 2, second, token(0, 1, 1)),
-    ];
-    expect(&rt, alloc, &plan, wanted.as_slice())?;
-    Ok(())
 }
 
 /// Asserts that a cutter gives this many pieces, and then none, however often it is asked.
@@ -147,24 +330,46 @@ fn ends_behind<R: Abort>(
     requires { IsCutterOf plan.now cutter.old }
 {
     for _piece in 0..pieces {
-        assert!(rt; cutter.next_piece(plan)?.is_some());
+        gives(rt, plan, cutter, true)?;
     }
     for _time in 0..3 {
-        assert!(rt; cutter.next_piece(plan)?.is_none());
+        gives(rt, plan, cutter, false)?;
     }
     Ok(())
 }
 
+/// Asserts it of the cutter of a plan's first file.
+fn first_ends_behind(
+    rt: &impl Abort,
+    alloc: Global,
+    plan: &Plan,
+    pieces: u32,
+) -> Result<(), AllocError> {
+    let _files = plan.files();
+    let mut cutter = Cutter::new(alloc, plan, 0);
+    ends_behind(rt, plan, &mut cutter, pieces)
+}
+
+/// Asserts it of a file of these bytes by the three rules, in pieces of one item.
+fn file_ends_behind(
+    rt: &impl Abort,
+    alloc: Global,
+    bytes: &[u8],
+    cut: bool,
+    pieces: u32,
+) -> Result<(), AllocError> {
+    let plan = plan_of(alloc, THREE_RULES, &[(bytes, cut)], 1)?;
+    first_ends_behind(rt, alloc, &plan, pieces)
+}
+
+/// Files, and how many pieces of one item each has.
+const COUNTED: &[(&[u8], u32)] = &[(b"", 1), (b"a1a", 3), (b"a1a ", 3)];
+
 #[test]
-fn behind_the_last_piece_a_cutter_gives_none(rt: HostRuntime) -> Result<(), Fail> {
-    let alloc = rt.alloc();
-    for (bytes, pieces) in [(b"".as_slice(), 1), (b"a1a", 3), (b"a1a ", 3)] {
-        for cut in [false, true] {
-            let plan = plan_of(alloc, THREE_RULES, &[(bytes, cut)], 1)?;
-            let _files = plan.files();
-            let mut cutter = Cutter::new(alloc, &plan, 0);
-            ends_behind(&rt, &plan, &mut cutter, pieces)?;
-        }
+fn behind_the_last_piece_a_cutter_gives_none(rt: HostRuntime) -> Result<(), AllocError> {
+    for (bytes, pieces) in COUNTED {
+        file_ends_behind(&rt, rt.alloc(), bytes, false, *pieces)?;
+        file_ends_behind(&rt, rt.alloc(), bytes, true, *pieces)?;
     }
     Ok(())
 }

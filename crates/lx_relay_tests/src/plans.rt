@@ -1,10 +1,29 @@
-//! Plans of files by the tables of small specifications, and their pieces.
+//! Plans for the tests. Only want of memory may keep one from being made, so that is what a test is told.
 
 ghost use Rattle.std.specs.Prelude.{◌≡◌, ◌<◌, ◌≤◌, IfOk, length, vec_len};
 
-use lx_fixtures::{NO_RULES, NoPlan, tables_of};
-use lx_piece::{Input, Items, Mark, Piece, Plan};
+use lx_fixtures::{NO_RULES, inputs, tables_of};
+use lx_piece::{Input, Plan};
 use std::alloc::{AllocError, Global};
+
+/// The plan of run 1 of these files by the tables of a specification.
+pub(crate) fn plan_by(
+    alloc: Global,
+    spec: &str,
+    files: Vec<Input>,
+    per_piece: u32,
+) -> Result<Plan, AllocError>
+    requires some_files { 0 < vec_len files }
+    requires few_files { vec_len files ≤ 65536 }
+    requires some_items { 0 < per_piece }
+    requires few_items { per_piece ≤ 4096 }
+    ensures { IfOk result (λ plan. plan.run ≡ 1) }
+{
+    match tables_of(alloc, spec) {
+        Ok(tables) => Ok(Plan::new(tables, files, per_piece, 1)),
+        Err(_) => Err(AllocError),
+    }
+}
 
 /// Files of so many bytes.
 fn inputs_of_lens(alloc: Global, lens: &[usize]) -> Result<Vec<Input>, AllocError>
@@ -19,27 +38,30 @@ fn inputs_of_lens(alloc: Global, lens: &[usize]) -> Result<Vec<Input>, AllocErro
 }
 
 /// The plan of run 1 of files of so many bytes, each of which is an Echo.
-pub(crate) fn echo_plan(alloc: Global, lens: &[usize], per_piece: u32) -> Result<Plan, NoPlan>
+pub(crate) fn echo_plan(alloc: Global, lens: &[usize], per_piece: u32) -> Result<Plan, AllocError>
     requires some_files { 0 < length lens.now }
     requires few_files { length lens.now ≤ 65536 }
     requires some_items { 0 < per_piece }
     requires few_items { per_piece ≤ 4096 }
     ensures { IfOk result (λ plan. plan.run ≡ 1) }
 {
-    let tables = tables_of(alloc, NO_RULES)?;
-    Ok(Plan::new(tables, inputs_of_lens(alloc, lens)?, per_piece, 1))
+    let files = inputs_of_lens(alloc, lens)?;
+    plan_by(alloc, NO_RULES, files, per_piece)
 }
 
-/// A piece without items.
-pub(crate) fn piece(alloc: Global, run: u64, file: u32, number: u64, mark: Mark) -> Piece
-    ensures run { result.run ≡ run }
-    ensures file { result.file ≡ file }
+/// The plan of run 1 of such files by the tables of a specification.
+pub(crate) fn plan_of(
+    alloc: Global,
+    spec: &str,
+    files: &[(&[u8], bool)],
+    per_piece: u32,
+) -> Result<Plan, AllocError>
+    requires some_files { 0 < length files.now }
+    requires few_files { length files.now ≤ 65536 }
+    requires some_items { 0 < per_piece }
+    requires few_items { per_piece ≤ 4096 }
+    ensures { IfOk result (λ plan. plan.run ≡ 1) }
 {
-    Piece {
-        run,
-        file,
-        number,
-        mark,
-        items: Items::from_vec(Vec::new(alloc)),
-    }
+    let files = inputs(alloc, files)?;
+    plan_by(alloc, spec, files, per_piece)
 }

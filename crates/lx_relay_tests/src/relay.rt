@@ -1,44 +1,16 @@
 //! Whole runs of a relay: strangers among the pieces, as many files as there may be, a reader that fails.
 
-ghost use Rattle.std.specs.Prelude.{◌≡◌, ◌<◌, IfOk, length, replicate};
+ghost use Rattle.std.specs.Prelude.{◌≡◌, IfOk, length, replicate};
 ghost use Rattle.lx_piece.specs.Plans.{files_of};
-ghost use Rattle.lx_piece.specs.Pieces.{IsPieceOf};
 ghost use Rattle.lx_piece.specs.Arrivals.{AreHonest};
 
-use crate::plans::{echo_plan, piece};
-use lx_fixtures::{NO_RULES, last_file_first, plan_of};
+use crate::plans::{echo_plan, plan_of};
+use lx_fixtures::{NO_RULES, among_strangers, last_file_first};
 use lx_piece::{
-    Arrivals, Cutter, ListArrivals, Mark, Piece, Plan, Reader, ReaderFault, RelayFault, Reply, Why,
-    relay,
+    Arrivals, ListArrivals, Mark, Piece, Plan, Reader, ReaderFault, RelayFault, Reply, Why, relay,
 };
 use std::alloc::{AllocError, Global};
 use std::process::Abort;
-use std::test::Fail;
-
-/// The first piece of a file.
-pub(crate) fn first_piece(alloc: Global, plan: &Plan, file: u32) -> Result<Piece, AllocError>
-    requires { file < files_of plan.now }
-    ensures { IfOk result (IsPieceOf plan.now) }
-{
-    match Cutter::new(alloc, plan, file).next_piece(plan)? {
-        Some(piece) => Ok(piece),
-        None => unreachable!(),
-    }
-}
-
-/// The pieces of two files of one piece each, with a piece of another run and one of another file between.
-fn among_strangers(alloc: Global, plan: &Plan) -> Result<Vec<Piece>, AllocError>
-    requires run { plan.now.run ≡ 1 }
-    requires files { files_of plan.now ≡ 2 }
-    ensures { IfOk result (λ pieces. AreHonest plan.now pieces.items) }
-{
-    let mut pieces = Vec::new(alloc);
-    pieces.push(first_piece(alloc, plan, 1)?)?;
-    pieces.push(piece(alloc, 2, 0, 0, Mark::Whole))?;
-    pieces.push(piece(alloc, 1, 9, 0, Mark::Whole))?;
-    pieces.push(first_piece(alloc, plan, 0)?)?;
-    Ok(pieces)
-}
 
 /// A reader that counts the pieces of each file, keeps the last one's mark, and fails once it has taken so many.
 #[derive(Drop)]
@@ -98,57 +70,168 @@ impl<'a> Reader for Tally<'a> {
     ghost follows_on = { λ _ _ _ _ _. tt };
 }
 
-/// Relays the pieces of two empty files among strangers, the second of which is cut or not.
-fn relay_among_strangers<R: Abort>(rt: &R, alloc: Global, cut: bool) -> Result<(), Fail> {
+/// What a relay of these pieces, as they lie, answers.
+pub(crate) fn relay_list(
+    alloc: Global,
+    plan: &Plan,
+    pieces: Vec<Piece>,
+    tally: &mut Tally<'_>,
+) -> Result<Vec<Reply>, RelayFault>
+    requires honest { AreHonest plan.now pieces.items }
+    requires plan { tally.old.plan.now ≡ plan.now }
+    requires counts { tally.old.counts.items ≡ replicate (files_of plan.now) 0 }
+    requires faults { tally.old.faults ≡ 0 }
+{
+    let mut arrivals = ListArrivals::new(plan, pieces);
+    relay(alloc, plan, &mut arrivals, tally)
+}
+
+/// The replies to the pieces among strangers.
+const AMONG_STRANGERS: &[Reply] = &[
+    Reply::Accepted,
+    Reply::Refused(Why::WrongRun),
+    Reply::Refused(Why::UnknownFile),
+    Reply::Accepted,
+];
+
+/// Asserts that a relay answers these.
+fn expect_replies(rt: &impl Abort, found: Result<Vec<Reply>, RelayFault>, wanted: &[Reply]) {
+    match found {
+        Ok(replies) => assert_eq!(rt; replies.as_slice(), wanted),
+        Err(fault) => assert!(rt; false, "{fault}"),
+    }
+}
+
+/// Asserts that one piece of each of two files was taken, the first file's whole, and the second's with this mark.
+fn expect_two(rt: &impl Abort, tally: &Tally<'_>, second: Mark) {
+    assert_eq!(rt; tally.counts.as_slice(), [1, 1].as_slice());
+    assert_eq!(rt; tally.marks.as_slice(), [Mark::Whole, second].as_slice());
+}
+
+/// Relays the pieces of two empty files among strangers, the second of which has this mark.
+fn relay_among_strangers(
+    rt: &impl Abort,
+    alloc: Global,
+    plan: &Plan,
+    second: Mark,
+) -> Result<(), AllocError>
+    requires run { plan.now.run ≡ 1 }
+    requires files { files_of plan.now ≡ 2 }
+{
+    let mut tally = fresh_tally(alloc, plan, u64::MAX)?;
+    let pieces = among_strangers(alloc, plan)?;
+    let found = relay_list(alloc, plan, pieces, &mut tally);
+    expect_replies(rt, found, AMONG_STRANGERS);
+    expect_two(rt, &tally, second);
+    Ok(())
+}
+
+/// Relays two empty files among strangers, the second of which is cut or not.
+fn relay_two(rt: &impl Abort, alloc: Global, cut: bool, second: Mark) -> Result<(), AllocError> {
     let plan = plan_of(alloc, NO_RULES, &[(b"", false), (b"", cut)], 256)?;
     assert!(rt; plan.files() == 2);
-    let mut tally = fresh_tally(alloc, &plan, u64::MAX)?;
-    let mut arrivals = ListArrivals::new(&plan, among_strangers(alloc, &plan)?);
-    let replies = relay(alloc, &plan, &mut arrivals, &mut tally)?;
-    let wanted = [
-        Reply::Accepted,
-        Reply::Refused(Why::WrongRun),
-        Reply::Refused(Why::UnknownFile),
-        Reply::Accepted,
-    ];
-    assert_eq!(rt;
-        (replies.as_slice(), tally.counts.as_slice()),
-        (wanted.as_slice(), [1, 1].as_slice())
-    );
-    let second = if cut { Mark::Cut } else { Mark::Whole };
-    assert_eq!(rt; tally.marks.as_slice(), [Mark::Whole, second].as_slice());
-    Ok(())
+    relay_among_strangers(rt, alloc, &plan, second)
 }
 
 #[test]
-fn relays_whole_and_cut_files_among_strangers(rt: HostRuntime) -> Result<(), Fail> {
-    relay_among_strangers(&rt, rt.alloc(), false)?;
-    relay_among_strangers(&rt, rt.alloc(), true)
+fn relays_whole_and_cut_files_among_strangers(rt: HostRuntime) -> Result<(), AllocError> {
+    relay_two(&rt, rt.alloc(), false, Mark::Whole)?;
+    relay_two(&rt, rt.alloc(), true, Mark::Cut)
 }
 
-#[test]
-fn relays_as_many_files_as_there_may_be(rt: HostRuntime) -> Result<(), Fail> {
-    let alloc = rt.alloc();
+/// The plan of as many files as there may be, which are empty.
+fn plan_of_most(alloc: Global) -> Result<Plan, AllocError>
+    ensures { IfOk result (λ plan. plan.run ≡ 1) }
+{
     let lens = vec![in alloc; 0; 65_536]?;
-    let plan = echo_plan(alloc, &lens, 1)?;
-    let mut tally = fresh_tally(alloc, &plan, u64::MAX)?;
-    let mut arrivals = ListArrivals::new(&plan, last_file_first(alloc, &plan)?);
-    let replies = relay(alloc, &plan, &mut arrivals, &mut tally)?;
-    assert_eq!(rt; replies.len(), 65_536);
-    assert!(rt; tally.counts.iter().all(|count| *count == 1));
-    assert!(rt; tally.marks.iter().all(|mark| *mark == Mark::Whole));
+    echo_plan(alloc, &lens, 1)
+}
+
+/// Whether each file was counted once.
+fn are_counted_once(counts: &[u64]) -> bool {
+    for count in counts {
+        if *count != 1 {
+            return false;
+        }
+    }
+    true
+}
+
+/// Whether each file's last mark says that it is whole.
+fn are_whole(marks: &[Mark]) -> bool {
+    for mark in marks {
+        if *mark != Mark::Whole {
+            return false;
+        }
+    }
+    true
+}
+
+/// Asserts that a relay answers so many pieces.
+fn expect_count(rt: &impl Abort, found: Result<Vec<Reply>, RelayFault>, wanted: usize) {
+    match found {
+        Ok(replies) => assert!(rt; replies.len() == wanted),
+        Err(fault) => assert!(rt; false, "{fault}"),
+    }
+}
+
+/// Relays as many empty files as there may be.
+fn relay_most(rt: &impl Abort, alloc: Global, plan: &Plan) -> Result<(), AllocError> {
+    let mut tally = fresh_tally(alloc, plan, u64::MAX)?;
+    let pieces = last_file_first(alloc, plan)?;
+    let found = relay_list(alloc, plan, pieces, &mut tally);
+    expect_count(rt, found, 65_536);
+    assert!(rt; tally.counts.len() == 65_536 && are_counted_once(&tally.counts));
+    assert!(rt; tally.marks.len() == 65_536 && are_whole(&tally.marks));
     Ok(())
 }
 
 #[test]
-fn a_reader_that_fails_ends_the_relay_before_the_next_arrival(rt: HostRuntime) -> Result<(), Fail> {
-    let alloc = rt.alloc();
-    let plan = echo_plan(alloc, &[4], 1)?;
-    let mut tally = fresh_tally(alloc, &plan, 1)?;
-    let mut arrivals = ListArrivals::new(&plan, last_file_first(alloc, &plan)?);
-    let ended = relay(alloc, &plan, &mut arrivals, &mut tally);
-    let next = arrivals.next().map(|piece| piece.number);
-    assert!(rt; matches!(&ended, Err(RelayFault::Reader)) && tally.faults() == 1);
-    assert_eq!(rt; (tally.counts.as_slice(), next), ([1].as_slice(), Some(2)));
+fn relays_as_many_files_as_there_may_be(rt: HostRuntime) -> Result<(), AllocError> {
+    let plan = plan_of_most(rt.alloc())?;
+    relay_most(&rt, rt.alloc(), &plan)
+}
+
+/// The number of the piece that arrives next.
+fn next_number(arrivals: &mut ListArrivals<'_>) -> Option<u64> {
+    match arrivals.next() {
+        Some(piece) => Some(piece.number),
+        None => None,
+    }
+}
+
+/// Asserts that a relay whose reader takes one piece fails at the second, before the third arrives.
+fn fails_at_second(
+    rt: &impl Abort,
+    alloc: Global,
+    plan: &Plan,
+    pieces: Vec<Piece>,
+    tally: &mut Tally<'_>,
+)
+    requires honest { AreHonest plan.now pieces.items }
+    requires plan { tally.old.plan.now ≡ plan.now }
+    requires counts { tally.old.counts.items ≡ replicate (files_of plan.now) 0 }
+    requires faults { tally.old.faults ≡ 0 }
+{
+    let mut arrivals = ListArrivals::new(plan, pieces);
+    let ended = relay(alloc, plan, &mut arrivals, tally).err();
+    assert!(rt; ended == Some(RelayFault::Reader) && tally.faults() == 1);
+    assert_eq!(rt; tally.counts.as_slice(), [1].as_slice());
+    assert_eq!(rt; next_number(&mut arrivals), Some(2));
+}
+
+/// Relays a file of four pieces to a reader that takes one.
+fn relay_to_one(rt: &impl Abort, alloc: Global, plan: &Plan) -> Result<(), AllocError> {
+    let mut tally = fresh_tally(alloc, plan, 1)?;
+    let pieces = last_file_first(alloc, plan)?;
+    fails_at_second(rt, alloc, plan, pieces, &mut tally);
     Ok(())
+}
+
+#[test]
+fn a_reader_that_fails_ends_the_relay_before_the_next_arrival(
+    rt: HostRuntime,
+) -> Result<(), AllocError> {
+    let plan = echo_plan(rt.alloc(), &[4], 1)?;
+    relay_to_one(&rt, rt.alloc(), &plan)
 }
