@@ -1,13 +1,13 @@
 -- Rules that are left out together, since none of their positions is marked.
-use Rattle.std.proofs.Common.{◌≡◌, ℕ, ◌+◌, ◌≤◌, ◌<◌, ◌⊎◌, inl, inr, Bool, true, false, List, Option, Some, None, length, refl, sym, ◌∙◌, ap, subst, arith}
+use Rattle.std.proofs.Common.{◌≡◌, ℕ, ◌+◌, ◌≤◌, ◌<◌, inl, inr, Bool, false, List, Option, Some, None, length, sym, ◌∙◌, ap, arith}
 use Rattle.std.proofs.lemmas.Bool.{cases_lt}
 use Rattle.std.specs.Prelude.{slice_get}
 use Rattle.lx_rules.specs.Plain.{PlainSpec}
 use Rattle.lx_auto.specs.Unfolded.{position_count}
 use Rattle.lx_auto.specs.Marking.{flag}
-use Rattle.lx_auto.specs.PositionSets.{NumberedRule, size_of}
-use Rattle.lx_auto.specs.RuleParts.{IsPartOf, ArePartsOf, EndBefore}
-use Rattle.lx_auto.specs.Following.{AreNumbered, FollowsMarked, EndsMarked, AreReadBelow, IsFirstMatchedBelow}
+use Rattle.lx_auto.specs.PositionSets.{NumberedRule}
+use Rattle.lx_auto.specs.RuleParts.{ArePartsOf, EndBefore}
+use Rattle.lx_auto.specs.Following.{AreNumbered, FollowsMarked, AreReadBelow, IsFirstMatchedBelow}
 use Rattle.lx_auto.specs.declared.rule_part.RulePart.{RulePart}
 use Rattle.lx_auto.proofs.Followed.{untouched_reads, untouched_ends}
 use Rattle.lx_auto.proofs.StepAll.{some_at}

@@ -1,5 +1,5 @@
 -- The kinds in C: their names, and what is wrong with them.
-use Rattle.std.specs.Prelude.{ℕ, ◌<◌, ◌≤◌, ◌+◌, ◌-◌, ◌==◌, max, nat_eq, nat_lt, ◌&&◌, ◌||◌, Bool, false, if◌then◌else◌, List, [], ◌∷◌, ◌++◌, Option, Some, None, length, codes, slice_index}
+use Rattle.std.specs.Prelude.{ℕ, ◌+◌, ◌-◌, ◌==◌, nat_eq, nat_lt, ◌&&◌, ◌||◌, Bool, false, if◌then◌else◌, List, [], ◌∷◌, ◌++◌, Option, Some, None, length, codes, slice_index}
 use Rattle.std.specs.List.{flat_map, starts_with}
 use Rattle.lx_automaton.specs.Automata.{state_count}
 use Rattle.lx_tables.specs.Model.{Table}

@@ -1,15 +1,12 @@
 -- What mirrors a tree of flex has its texts.
-use Rattle.std.proofs.Common.{ℕ, zero, suc, ◌≡◌, ◌<◌, ◌≤◌, ◌⊎◌, inl, inr, arith, Bool, true, IsTrue, List, [], ◌∷◌, ◌++◌, Option, Some, sym, subst, refl, ◌∙◌}
+use Rattle.std.proofs.Common.{ℕ, zero, suc, ◌≡◌, ◌<◌, ◌≤◌, inl, inr, arith, Bool, List, [], ◌∷◌, ◌++◌, Option, sym, subst, ◌∙◌}
 use Rattle.std.specs.List.{All}
-use Rattle.std.specs.Ordering.{nat_cmp}
-use Rattle.std.specs.FinSet as set
 use Rattle.std.proofs.lemmas.List.Elements.{All-nil, All-cons, All-head, All-tail}
 use Rattle.lx_ere.specs.Regex as lx
 use Rattle.lx_ere.specs.Matching.{Splits, Repeats, RepeatsBetween, Matches}
-use Rattle.lx_flex_pattern.specs.Sets.{set_has}
 use Rattle.lx_flex_pattern.specs.Tree as flex
 use Rattle.lx_flex_pattern.specs.Texts.{Texts}
-use Rattle.lx_flex_pattern.specs.Mirror.{HasBytes, Mirrors, empties, sets, thens, ors, repeats, names}
+use Rattle.lx_flex_pattern.specs.Mirror.{Mirrors, empties, sets, thens, ors, repeats, names}
 use Rattle.lx_flex_pattern.specs.Translation.{passes, HaveSameTexts}
 
 abbrev Bytes : List ℕ → Type 0

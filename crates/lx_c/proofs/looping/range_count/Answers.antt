@@ -1,4 +1,4 @@
-use Rattle.std.proofs.Common.{ℕ, ◌≡◌, arith, ap, ◌∙◌}
+use Rattle.std.proofs.Common.{◌≡◌, arith, ap, ◌∙◌}
 use Rattle.lx_c.specs.DirectCode.{ranges_of, range_count}
 use Rattle.lx_c.proofs.looping.range_count.Goals as goal
 

@@ -1,8 +1,6 @@
-use Rattle.std.proofs.Common.{rules, ◌≡◌, ◌∙◌, true, false, not, Bool, sym, refl, Option, Some}
-use Rattle.lx_ere.specs.Regex.{regex_of}
-use Rattle.lx_flex_pattern.specs.Mirror.{Mirrors, empties, sets, thens, ors, repeats, names}
+use Rattle.std.proofs.Common.{refl}
+use Rattle.lx_flex_pattern.specs.Mirror.{sets, thens, ors}
 use Rattle.lx_flex_pattern.proofs.Mirroring.{empty_as, times_as, name_as}
-use Rattle.lx_flex_pattern.specs.views.{tree_of}
 use Rattle.lx_flex_pattern.proofs.mirror.+mirrors.Goals as goal
 
 pub returns-in-Set : goal.returns-in-Set

@@ -1,4 +1,4 @@
-use Rattle.std.proofs.Common.{◌+◌, ◌-◌, ◌≤◌, List, arith, length, length-drop, subst, sym, take}
+use Rattle.std.proofs.Common.{◌-◌, ◌≤◌, List, arith, length, length-drop, subst, sym, take}
 use Rattle.std.proofs.lemmas.Result.{err_from_is_err_and}
 use Rattle.lx_scan.specs.declared.item.Item.{Item}
 use Rattle.lx_piece.specs.declared.reader.ReaderFault.{ReaderFault}

@@ -1,4 +1,4 @@
-use Rattle.std.proofs.Common.{◌+◌, ◌-◌, ◌<◌, ◌≡◌, ◌∷◌, [], List, ℕ, ◌∙◌, refl, ap, ◌++◌, drop, arith}
+use Rattle.std.proofs.Common.{◌+◌, ◌-◌, ◌<◌, ◌≡◌, ◌∷◌, [], List, ℕ, ◌∙◌, refl, ap, ◌++◌, arith}
 use Rattle.lx_line.specs.Decimals.{pair}
 use Rattle.lx_line.proofs.Digits.{near_text}
 use Rattle.lx_line.proofs.Places.{Placed-is, Placed-then}
