@@ -4,10 +4,10 @@ use crate::verdict::{read, tables_of};
 use crate::without::MAX_SPECIFICATION_BYTES;
 use bstr::ByteSlice;
 use lx_chosen::{Takers, takers_of};
+use lx_sections::parsed_sections::RawRule;
+use lx_sections::rule_line::Prefix;
+use lx_sections::section::read_sections;
 use lx_spec::Code;
-use lx_spec::parsed_sections::RawRule;
-use lx_spec::rule_line::Prefix;
-use lx_spec::section::read_sections;
 use lx_tables::Tables;
 use std::alloc::{AllocError, Global};
 

@@ -8,7 +8,7 @@ use crate::places::{Span, between};
 use crate::scan::{is_at, part};
 use crate::similar::most_similar;
 use crate::words::{PlacedWords, words_of};
-use lx_spec::word::Word;
+use lx_sections::word::Word;
 use std::alloc::{AllocError, Global};
 
 fn is_known(outline: &Outline, text: &[u8], name: Span) -> bool {

@@ -6,7 +6,7 @@ use crate::line_cause::is_rule;
 use crate::outline::{Outline, RuleExtent};
 use crate::places::{Span, between, one_byte};
 use crate::scan::{begins_at, behind_blanks, is_at};
-use lx_spec::block::{Mode, behind_line, counts, next_mode};
+use lx_sections::block::{Mode, behind_line, counts, next_mode};
 use std::alloc::{AllocError, Global};
 
 // What an action has left open, up to a place.

@@ -8,7 +8,7 @@ use crate::scan::{
     before_blanks, begins_at, behind_blanks, behind_word, is_at, is_blank_at, is_digit_at,
     is_word_at, part,
 };
-use lx_spec::action::read_action;
+use lx_sections::action::read_action;
 use std::alloc::{AllocError, Global};
 
 // What no pattern is, and a rule of flex for the end of a file begins with.

@@ -2,8 +2,8 @@
 
 ghost use Rattle.std.specs.Prelude.{◌≡◌, ◌<◌, IfOk};
 ghost use Rattle.lx_piece.specs.Arrivals.{AreHonest};
-ghost use Rattle.lx_piece.specs.Pieces.{IsPieceOf};
-ghost use Rattle.lx_piece.specs.Plans.{files_of};
+ghost use Rattle.lx_plan.specs.Pieces.{IsPieceOf};
+ghost use Rattle.lx_plan.specs.Plans.{files_of};
 
 use lx_piece::{Cutter, Items, Mark, Piece, Plan};
 use std::alloc::{AllocError, Global};

@@ -5,7 +5,7 @@ use Rattle.lx_rules.specs.declared.rule.Kind.TheVariants.{Name, Number}
 use Rattle.lx_scan.specs.declared.item.Item.{Item}
 use Rattle.lx_scan.specs.declared.item.Item.TheVariants.{Token, Echo}
 use Rattle.lx_scan.specs.ItemParts.{IsKindAmong}
-use Rattle.lx_piece.specs.Plans.{Planned, kinds_of}
+use Rattle.lx_plan.specs.Plans.{Planned, kinds_of}
 use Rattle.lx_line.specs.Lines.{name_text}
 use Rattle.lx_line.specs.declared.prefixes.Prefix.{Prefix}
 use Rattle.lx_line.specs.declared.prefixes.Prefixes.{Prefixes}

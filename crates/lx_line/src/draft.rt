@@ -2,14 +2,14 @@
 
 ghost use Rattle.std.specs.Prelude.{◌≡◌, ◌+◌, ◌<◌, ◌≤◌, ◌++◌, OnOk, false, take, true};
 ghost use Rattle.lx_scan.specs.ItemParts.{IsItemOf};
-ghost use Rattle.lx_piece.specs.Plans.{files_of, bytes_of, kinds_of};
+ghost use Rattle.lx_plan.specs.Plans.{files_of, bytes_of, kinds_of};
 ghost use Rattle.lx_line.specs.Prefixes.{ArePrefixesOf};
 ghost use Rattle.lx_line.specs.Lines.{line_of};
 
 use crate::fields::{Digits, fits, kind_of, numbers_of, place_rest};
 use crate::plain::push_line;
 use crate::prefixes::Prefixes;
-use lx_piece::Plan;
+use lx_plan::Plan;
 use lx_scan::Item;
 use std::alloc::AllocError;
 

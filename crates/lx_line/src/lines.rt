@@ -2,13 +2,13 @@
 
 ghost use Rattle.std.specs.Prelude.{◌≡◌, ◌<◌, ◌++◌, All, OnOk};
 ghost use Rattle.lx_scan.specs.ItemParts.{IsItemOf};
-ghost use Rattle.lx_piece.specs.Plans.{files_of, bytes_of, kinds_of};
+ghost use Rattle.lx_plan.specs.Plans.{files_of, bytes_of, kinds_of};
 ghost use Rattle.lx_line.specs.Lines.{lines_of};
 ghost use Rattle.lx_line.specs.Prefixes.{ArePrefixesOf};
 
 use crate::draft::Draft;
 use crate::plain::push_line;
-use lx_piece::Plan;
+use lx_plan::Plan;
 use lx_scan::Item;
 use std::alloc::AllocError;
 use std::marker::Model;
@@ -82,7 +82,7 @@ pub struct PlanDraft {
 }
 
 impl Model for PlanDraft {
-    ghost use Rattle.lx_piece.specs.Plans.{Planned};
+    ghost use Rattle.lx_plan.specs.Plans.{Planned};
     ghost use Rattle.lx_line.specs.Prefixes.{ArePrefixesOf};
 
     ghost Value = { Planned };

@@ -2,14 +2,14 @@
 
 ghost use Rattle.std.specs.Prelude.{◌≡◌, ◌+◌, ◌<◌, ◌≤◌, ◌++◌, IsTrue, Some, MatchOption, codes, decimal, length, take};
 ghost use Rattle.lx_scan.specs.ItemParts.{IsKindAmong};
-ghost use Rattle.lx_piece.specs.Plans.{kinds_of};
+ghost use Rattle.lx_plan.specs.Plans.{kinds_of};
 ghost use Rattle.lx_line.specs.Prefixes.{ArePrefixesOf, IsPrefixOf, IsKindOf, prefix_text, is_name, number_in};
 ghost use Rattle.lx_line.specs.Lines.{name_text};
 ghost use Rattle.lx_line.specs.Placed.{Placed};
 
 use crate::decimals::place_number;
 use crate::place::{place_32, place_all, place_byte};
-use lx_piece::Plan;
+use lx_plan::Plan;
 use lx_rules::rule::Kind;
 use std::simd::prelude::*;
 

@@ -2,9 +2,9 @@
 use Rattle.std.specs.Prelude.{ℕ, ◌≡◌, Bool, false, List, ◌++◌}
 use Rattle.lx_piece.specs.declared.reader.ReaderFault.{ReaderFault}
 use Rattle.lx_piece.specs.declared.reader.ReaderFault.TheVariants.{Memory}
-use Rattle.lx_piece.specs.Plans.{Planned, IsPlan}
-use Rattle.lx_piece.specs.declared.piece.Piece.{Piece}
-use Rattle.lx_piece.specs.Pieces.{IsPrefix, ItemPiece, is_cut_short}
+use Rattle.lx_plan.specs.Plans.{Planned, IsPlan}
+use Rattle.lx_plan.specs.declared.piece.Piece.{Piece}
+use Rattle.lx_plan.specs.Pieces.{IsPrefix, ItemPiece, is_cut_short}
 use Rattle.lx_piece.specs.Turns.{Turn, IsTurnBy}
 use Rattle.lx_lines.specs.Lines.{cut_lines, lines_of}
 use Rattle.lx_lines.specs.Shown.{ShownItems, shown}

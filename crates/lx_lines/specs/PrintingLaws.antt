@@ -2,8 +2,8 @@ use Rattle.std.proofs.Common.{ℕ, ◌≡◌, inl, inr, List, [], ◌∷◌, ◌
 use Rattle.std.proofs.lemmas.Bool.{cases_lt}
 use Rattle.lx_piece.specs.declared.reader.ReaderFault.{ReaderFault}
 use Rattle.lx_piece.specs.declared.reader.ReaderFault.TheVariants.{Memory}
-use Rattle.lx_piece.specs.Plans.{Planned, files_of}
-use Rattle.lx_piece.specs.Pieces.{IsPrefix}
+use Rattle.lx_plan.specs.Plans.{Planned, files_of}
+use Rattle.lx_plan.specs.Pieces.{IsPrefix}
 use Rattle.lx_piece.specs.Turns.{Turn}
 use Rattle.lx_lines.specs.Listings.{AreWhole, IsTurnOf, lines_before, listing_of, listing_to, taken_lines}
 use Rattle.lx_lines.specs.ListingLaws.{lines_begin, prefix_all}

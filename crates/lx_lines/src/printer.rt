@@ -1,7 +1,7 @@
 //! The printer of a listing.
 
 ghost use Rattle.std.specs.Prelude.{◌≡◌, ◌<◌, IfOk, IfErr, OnOk};
-ghost use Rattle.lx_piece.specs.Plans.{files_of};
+ghost use Rattle.lx_plan.specs.Plans.{files_of};
 ghost use Rattle.lx_piece.specs.Turns.{HasTurn, turn_after};
 ghost use Rattle.lx_lines.specs.Parts.{WrotePart};
 ghost use Rattle.lx_lines.specs.Printing.{PrintsTo, PrintsPart, printing, shown_lines, turn_of};

@@ -2,8 +2,8 @@
 
 ghost use Rattle.std.specs.Prelude.{◌≡◌, ◌<◌, ◌≤◌, OnOk, OnErr};
 ghost use Rattle.std.specs.Io.KnownBytes.{Appends};
-ghost use Rattle.lx_piece.specs.Plans.{IsPlan};
-ghost use Rattle.lx_post.specs.Claimed.{max_workers};
+ghost use Rattle.lx_plan.specs.Plans.{IsPlan};
+ghost use Rattle.lx_claims.specs.Claimed.{max_workers};
 ghost use Rattle.lx_lines.specs.Listings.{AppendsPrefix, listing_of};
 ghost use Rattle.lx_lines.specs.Printing.{WrotePrefix};
 

@@ -2,10 +2,10 @@
 use Rattle.std.proofs.Common.{◌≡◌, ℕ, zero, suc, ◌+◌, ◌<◌, ◌≤◌, ◌⊎◌, inl, inr, Bool, true, List, [], ◌∷◌, ◌++◌, length, get_or, take, sym, ◌∙◌, subst, arith}
 use Rattle.std.specs.Prelude.{Contains}
 use Rattle.std.proofs.lemmas.Bool.{cases_lt}
-use Rattle.lx_merge.specs.Completion.{total, step_of, IsComplete}
-use Rattle.lx_merge.specs.Partitions.{flag}
+use Rattle.lx_partition.specs.Completion.{total, step_of, IsComplete}
+use Rattle.lx_partition.specs.Partitions.{flag}
 use Rattle.lx_merge.specs.Sources.{AddsBelow, AreSourcesOf, AreStatesBelow, ContainPreimage}
-use Rattle.lx_merge.specs.declared.complete.Complete.{Complete}
+use Rattle.lx_partition.specs.declared.complete.Complete.{Complete}
 use Rattle.lx_automaton.proofs.Members.{contains_nil, contains_head, contains_tail, contains_cases}
 
 pub push_keeps : (xs : List ℕ) (y q : ℕ) → Contains xs q → Contains (xs ++ y ∷ []) q

@@ -4,12 +4,12 @@ use Rattle.std.proofs.lemmas.List.Elements.{All-nil}
 use Rattle.lx_automaton.specs.Automata.{Machine, IsMachine, start_of, state_after}
 use Rattle.lx_automaton.specs.EncodedOptions.{decoded_option}
 use Rattle.lx_automaton.specs.Leading.{IsLedTo}
-use Rattle.lx_merge.specs.Completion.{total, after, IsCompletion}
-use Rattle.lx_merge.specs.Partitions.{block, block_count}
+use Rattle.lx_partition.specs.Completion.{total, after, IsCompletion}
+use Rattle.lx_partition.specs.Partitions.{block, block_count}
 use Rattle.lx_merge.specs.Quotients.{number_of, HasDeadStart}
 use Rattle.lx_merge.specs.Simulations.{Simulates}
-use Rattle.lx_merge.specs.declared.complete.Complete.{Complete}
-use Rattle.lx_merge.specs.declared.partition.Partition.{Partition}
+use Rattle.lx_partition.specs.declared.complete.Complete.{Complete}
+use Rattle.lx_partition.specs.declared.partition.Partition.{Partition}
 use Rattle.lx_automaton.proofs.EncodedLists.{decoded_option-some, different}
 use Rattle.lx_merge.proofs.Simulating.{classes_of, decoded_option-same, simulates_itself, stepped}
 

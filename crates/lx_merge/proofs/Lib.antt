@@ -1,6 +1,5 @@
 pub mod PartitionSteps
 pub mod Splits
-pub mod Completing
 pub mod QuotientSteps
 pub mod Simulating
 pub mod LedBlocks

@@ -11,11 +11,11 @@ use Rattle.lx_automaton.specs.Automata.{HasByteClasses}
 use Rattle.lx_automaton.specs.Meaning.{IsAnswer, IsAutomatonOf}
 use Rattle.lx_automaton.specs.EncodedOptions.{machine_of}
 use Rattle.lx_automaton.specs.Leading.{AreAllLedTo}
-use Rattle.lx_merge.specs.Completion.{total, IsCompletion}
-use Rattle.lx_merge.specs.Partitions.{block, block_count, member_of, IsSound, IsStable}
+use Rattle.lx_partition.specs.Completion.{total, IsCompletion}
+use Rattle.lx_partition.specs.Partitions.{block, block_count, member_of, IsSound, IsStable}
 use Rattle.lx_merge.specs.Quotients.{AreStates, AreStarts, HaveNoDeadStart, HasDeadStart, AreRowStates, AreLabels, AreTargets}
-use Rattle.lx_merge.specs.declared.complete.Complete.{Complete}
-use Rattle.lx_merge.specs.declared.partition.Partition.{Partition}
+use Rattle.lx_partition.specs.declared.complete.Complete.{Complete}
+use Rattle.lx_partition.specs.declared.partition.Partition.{Partition}
 use Rattle.lx_automaton.proofs.EncodedLists.{different}
 use Rattle.lx_automaton.proofs.Members.{below_from_any}
 use Rattle.lx_automaton.proofs.SameAnswers.{same_count, same_answer, same_answers}

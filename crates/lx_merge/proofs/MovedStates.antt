@@ -2,10 +2,10 @@
 use Rattle.std.proofs.Common.{ℕ, zero, suc, ◌<◌, inl, inr, Bool, true, List, [], ◌∷◌, ◌++◌, length, get_or, take, sym, ◌∙◌, subst, arith}
 use Rattle.std.specs.Prelude.{Contains, slice_index}
 use Rattle.std.proofs.lemmas.List.{get_or_default}
-use Rattle.lx_merge.specs.Completion.{total}
-use Rattle.lx_merge.specs.Partitions.{IsMoved, AreMovedStates}
+use Rattle.lx_partition.specs.Completion.{total}
+use Rattle.lx_partition.specs.Partitions.{IsMoved, AreMovedStates}
 use Rattle.lx_merge.specs.Sources.{AreMovedStatesAmong, ContainPreimage}
-use Rattle.lx_merge.specs.declared.complete.Complete.{Complete}
+use Rattle.lx_partition.specs.declared.complete.Complete.{Complete}
 use Rattle.lx_merge.proofs.Containing.{push_keeps, push_has, push_cases, take_cases}
 use Rattle.lx_automaton.proofs.Members.{contains_nil, contains_head, contains_tail, contains_cases, contains_at}
 

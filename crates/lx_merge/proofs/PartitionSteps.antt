@@ -2,10 +2,10 @@
 use Rattle.std.proofs.Common.{◌≡◌, ◌≢◌, ℕ, ◌+◌, ◌<◌, List, length, slice_index, slice_set, sym, ◌∙◌, ap, arith, inl, inr}
 use Rattle.std.proofs.lemmas.Bool.{cases_lt, cases_eq}
 use Rattle.std.proofs.lemmas.List.{length-set, get_or-set_same, get_or-set_other}
-use Rattle.lx_merge.specs.Completion.{total, step_of}
-use Rattle.lx_merge.specs.Partitions.{block, member_of, IsStable, AreRenumbered, StepsLikeRepresentative}
-use Rattle.lx_merge.specs.declared.complete.Complete.{Complete}
-use Rattle.lx_merge.specs.declared.partition.Partition.{Partition}
+use Rattle.lx_partition.specs.Completion.{total, step_of}
+use Rattle.lx_partition.specs.Partitions.{block, member_of, IsStable, AreRenumbered, StepsLikeRepresentative}
+use Rattle.lx_partition.specs.declared.complete.Complete.{Complete}
+use Rattle.lx_partition.specs.declared.partition.Partition.{Partition}
 
 pub renumber_more : (old new ms : List ℕ) (fresh n : ℕ) → AreRenumbered old new ms fresh n → slice_index ms n < length old →
     AreRenumbered old (slice_set new (slice_index ms n) fresh) ms fresh (n + 1)

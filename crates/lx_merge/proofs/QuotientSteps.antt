@@ -2,11 +2,11 @@
 use Rattle.std.proofs.Common.{◌≡◌, ℕ, ◌+◌, ◌*◌, ◌<◌, List, [], ◌∷◌, ◌++◌, slice_index, slice_index_or, sym, ◌∙◌, ap, arith, inl, inr}
 use Rattle.std.proofs.lemmas.Bool.{cases_lt}
 use Rattle.std.proofs.lemmas.List.{get_or_append_left, get_or_push, length_push}
-use Rattle.lx_merge.specs.Completion.{step_of}
-use Rattle.lx_merge.specs.Partitions.{block}
+use Rattle.lx_partition.specs.Completion.{step_of}
+use Rattle.lx_partition.specs.Partitions.{block}
 use Rattle.lx_merge.specs.Quotients.{number_of, AreStarts, AreTargets}
-use Rattle.lx_merge.specs.declared.complete.Complete.{Complete}
-use Rattle.lx_merge.specs.declared.partition.Partition.{Partition}
+use Rattle.lx_partition.specs.declared.complete.Complete.{Complete}
+use Rattle.lx_partition.specs.declared.partition.Partition.{Partition}
 use Rattle.lx_automaton.proofs.RowMajor.{same_row}
 
 pub target_push : (m : Complete) (p : Partition) (rows targets : List ℕ) (i c x : ℕ) → AreTargets m p rows targets (i * m.width + c) → c < m.width →

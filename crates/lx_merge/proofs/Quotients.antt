@@ -7,12 +7,12 @@ use Rattle.lx_automaton.specs.Automata.{Machine, IsMachine, HasByteClasses, stat
 use Rattle.lx_automaton.specs.EncodedOptions.{decoded_option}
 use Rattle.lx_automaton.specs.Equivalence.{AreDistinguishable, IsLive, AreEquivalentMachines}
 use Rattle.lx_automaton.specs.Leading.{IsLedTo, AreAllLedTo}
-use Rattle.lx_merge.specs.Completion.{total, label_of, step_of, after, IsComplete, IsCompletion}
-use Rattle.lx_merge.specs.Partitions.{block, block_count, IsSound, IsStable}
+use Rattle.lx_partition.specs.Completion.{total, label_of, step_of, after, IsComplete, IsCompletion}
+use Rattle.lx_partition.specs.Partitions.{block, block_count, IsSound, IsStable}
 use Rattle.lx_merge.specs.Quotients.{number_of, AreStarts, HasDeadStart, AreRowStates, AreLabels, AreTargets}
 use Rattle.lx_merge.specs.Simulations.{Simulates}
-use Rattle.lx_merge.specs.declared.complete.Complete.{Complete}
-use Rattle.lx_merge.specs.declared.partition.Partition.{Partition}
+use Rattle.lx_partition.specs.declared.complete.Complete.{Complete}
+use Rattle.lx_partition.specs.declared.partition.Partition.{Partition}
 use Rattle.lx_automaton.proofs.RowMajor.{in_row}
 use Rattle.lx_automaton.proofs.EncodedLists.{decoded_at, decoded_option-some}
 use Rattle.lx_automaton.proofs.SameAnswers.{answer_at}

@@ -5,9 +5,9 @@ use Rattle.std.proofs.lemmas.Bool.Decides.{eqb_tells, nat_tests}
 use Rattle.std.proofs.lemmas.List.Elements.{All-head, All-tail, All-cons}
 use Rattle.lx_automaton.specs.Automata.{Machine, IsMachine, HasByteClasses, state_after, are_numbered}
 use Rattle.lx_automaton.specs.EncodedOptions.{decoded_option}
-use Rattle.lx_merge.specs.Completion.{total, label_of, step_of, after, IsCompletion}
+use Rattle.lx_partition.specs.Completion.{total, label_of, step_of, after, IsCompletion}
 use Rattle.lx_merge.specs.Simulations.{Simulates}
-use Rattle.lx_merge.specs.declared.complete.Complete.{Complete}
+use Rattle.lx_partition.specs.declared.complete.Complete.{Complete}
 use Rattle.lx_automaton.proofs.EncodedLists.{decoded_option-some}
 use Rattle.lx_automaton.proofs.SameAnswers.{answer_at}
 

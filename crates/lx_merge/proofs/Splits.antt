@@ -8,10 +8,10 @@ use Rattle.std.proofs.lemmas.Map.Keys.{IsDistinct-from_apart}
 use Rattle.std.proofs.Common.{eqb}
 use Rattle.lx_automaton.proofs.EncodedLists.{different}
 use Rattle.lx_automaton.proofs.Members.{below_from_any}
-use Rattle.lx_merge.specs.Completion.{total, step_of, IsComplete, AreDistinguishableByClasses}
-use Rattle.lx_merge.specs.Partitions.{block, block_count, member_of, flag, IsSound, IsSplitter, IsMoved, IsRemaining, AreMovedStates, AreRenumbered, AreFlags, IsStableBlock}
-use Rattle.lx_merge.specs.declared.complete.Complete.{Complete}
-use Rattle.lx_merge.specs.declared.partition.Partition.{Partition}
+use Rattle.lx_partition.specs.Completion.{total, step_of, IsComplete, AreDistinguishableByClasses}
+use Rattle.lx_partition.specs.Partitions.{block, block_count, member_of, flag, IsSound, IsSplitter, IsMoved, IsRemaining, AreMovedStates, AreRenumbered, AreFlags, IsStableBlock}
+use Rattle.lx_partition.specs.declared.complete.Complete.{Complete}
+use Rattle.lx_partition.specs.declared.partition.Partition.{Partition}
 
 -- a word that tells the targets apart, behind the class
 pub distinguishable_before : (m : Complete) (s t c : ℕ) → c < m.width → AreDistinguishableByClasses m (step_of m s c) (step_of m t c) → AreDistinguishableByClasses m s t

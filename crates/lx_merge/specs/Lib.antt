@@ -1,5 +1,3 @@
-pub mod Completion
-pub mod Partitions
 pub mod Sources
 pub mod Quotients
 pub mod Simulations

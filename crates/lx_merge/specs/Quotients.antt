@@ -1,9 +1,9 @@
 -- The automaton of the blocks: block 0, which has the missing step, has a state only where a start is in it, and that stands last.
 use Rattle.std.specs.Prelude.{◌≡◌, ◌≢◌, ℕ, ◌+◌, ◌-◌, ◌*◌, ◌<◌, ◌≤◌, ◌==◌, if◌then◌else◌, List, length, slice_index, slice_index_or, ◌⊎◌}
-use Rattle.lx_merge.specs.Completion.{total, label_of, step_of}
-use Rattle.lx_merge.specs.Partitions.{block, block_count, member_of}
-use Rattle.lx_merge.specs.declared.complete.Complete.{Complete}
-use Rattle.lx_merge.specs.declared.partition.Partition.{Partition}
+use Rattle.lx_partition.specs.Completion.{total, label_of, step_of}
+use Rattle.lx_partition.specs.Partitions.{block, block_count, member_of}
+use Rattle.lx_partition.specs.declared.complete.Complete.{Complete}
+use Rattle.lx_partition.specs.declared.partition.Partition.{Partition}
 
 -- the number of a block's state
 abbrev pub number_of : Partition → ℕ → ℕ

@@ -2,8 +2,8 @@
 use Rattle.std.specs.Prelude.{◌≡◌, ◌≢◌, ℕ, ◌-◌, ◌<◌, slice_index}
 use Rattle.lx_automaton.specs.Automata.{Machine, accepted_by, class_target}
 use Rattle.lx_automaton.specs.EncodedOptions.{decoded_option}
-use Rattle.lx_merge.specs.Completion.{total, label_of, step_of}
-use Rattle.lx_merge.specs.declared.complete.Complete.{Complete}
+use Rattle.lx_partition.specs.Completion.{total, label_of, step_of}
+use Rattle.lx_partition.specs.declared.complete.Complete.{Complete}
 
 pub record Simulates (q : Machine) (m : Complete) (encode : ℕ → ℕ) : Type 0 where
   pub classes : (b : ℕ) → b < 256 → slice_index q.classes b < m.width

@@ -1,9 +1,9 @@
 -- How much splitting is left, which falls with each turn of the worklist: each split makes a block more, and a pending one more.
 use Rattle.std.specs.Prelude.{ℕ, ◌+◌, ◌-◌, ◌*◌, vec_len}
-use Rattle.lx_merge.specs.Completion.{total}
-use Rattle.lx_merge.specs.Partitions.{block_count}
-use Rattle.lx_merge.specs.declared.complete.Complete.{Complete}
-use Rattle.lx_merge.specs.declared.partition.Partition.{Partition}
+use Rattle.lx_partition.specs.Completion.{total}
+use Rattle.lx_partition.specs.Partitions.{block_count}
+use Rattle.lx_partition.specs.declared.complete.Complete.{Complete}
+use Rattle.lx_partition.specs.declared.partition.Partition.{Partition}
 use Rattle.lx_merge.specs.declared.worklist.Worklist.{Worklist}
 
 abbrev pub splits_left : Complete → Partition → Worklist → ℕ

@@ -1,12 +1,12 @@
 // The states among which those are that step into a set.
 
 ghost use Rattle.std.specs.Prelude.{◌≡◌, ◌<◌, ◌≤◌, ℕ, true, IfOk, OnOk, Contains, length};
-ghost use Rattle.lx_merge.specs.Completion.{total, IsComplete};
-ghost use Rattle.lx_merge.specs.Partitions.{flag};
+ghost use Rattle.lx_partition.specs.Completion.{total, IsComplete};
+ghost use Rattle.lx_partition.specs.Partitions.{flag};
 ghost use Rattle.lx_merge.specs.Sources.{AddsBelow, AreAllListed, AreSourcesOf, AreStatesBelow, ContainPreimage};
 
-use crate::complete::Complete;
 use crate::predecessors::Predecessors;
+use lx_partition::Complete;
 use std::alloc::{AllocError, Global};
 
 /// All states.

@@ -2,10 +2,9 @@
 #![tactic(auto)]
 
 mod candidates;
-mod complete;
 mod members;
 pub mod merging;
-mod partition;
+mod moving;
 mod predecessors;
 mod quotient;
 mod split;

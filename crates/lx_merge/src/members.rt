@@ -1,7 +1,7 @@
 // The states of blocks, looked for eight at a time.
 
 ghost use Rattle.std.specs.Prelude.{◌≡◌, ◌≢◌, ◌<◌, ◌≤◌, ◌+◌, ℕ, true, false, IfOk, IfSome, IfNone, Contains, length, slice_index};
-ghost use Rattle.lx_merge.specs.Partitions.{AreFlags, flag};
+ghost use Rattle.lx_partition.specs.Partitions.{AreFlags, flag};
 
 use std::alloc::{AllocError, Global};
 use std::simd::prelude::*;

@@ -6,11 +6,10 @@ ghost use Rattle.lx_automaton.specs.Equivalence.{AreEquivalentMachines, IsMinima
 ghost use Rattle.lx_automaton.specs.Leading.{AreAllLedTo};
 ghost use Rattle.lx_automaton.specs.Meaning.{IsAutomatonOf};
 
-use crate::complete::completion_of;
-use crate::partition::by_labels;
 use crate::quotient::quotient;
 use crate::split::refined;
 use lx_automaton::{Automaton, with_byte_classes};
+use lx_partition::{by_labels, completion_of};
 use std::alloc::{AllocError, Global};
 
 /// The minimal automaton with the same answers, so one of the same specification: no two of its states are equivalent, and each

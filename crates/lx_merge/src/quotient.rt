@@ -2,15 +2,14 @@
 
 ghost use Rattle.std.specs.Prelude.{◌≡◌, ◌≢◌, ◌<◌, ◌≤◌, ◌+◌, ◌*◌, ℕ, Bool, true, false, if◌then◌else◌, IfOk, OnOk, length, slice_index};
 ghost use Rattle.lx_automaton.specs.Automata.{IsMachine, state_count};
-ghost use Rattle.lx_merge.specs.Completion.{total, IsComplete, IsCompletion};
+ghost use Rattle.lx_partition.specs.Completion.{total, IsComplete, IsCompletion};
 ghost use Rattle.lx_automaton.specs.Equivalence.{AreEquivalentMachines, IsMinimal, HasLiveSteps};
 ghost use Rattle.lx_automaton.specs.Leading.{AreAllLedTo};
-ghost use Rattle.lx_merge.specs.Partitions.{block, block_count, IsSound, IsStable};
+ghost use Rattle.lx_partition.specs.Partitions.{block, block_count, IsSound, IsStable};
 ghost use Rattle.lx_merge.specs.Quotients.{number_of, AreStates, AreStarts, HaveNoDeadStart, HasDeadStart, AreRowStates, AreLabels, AreTargets};
 
-use crate::complete::{Complete, step};
-use crate::partition::Partition;
 use lx_automaton::{Automaton, Draft};
+use lx_partition::{Complete, Partition, step};
 use std::alloc::{AllocError, Global};
 
 /// The state of the quotient for a state of the automaton.

@@ -1,17 +1,15 @@
 // Splitting blocks until states of one block step to the same blocks.
 
 ghost use Rattle.std.specs.Prelude.{◌≡◌, ◌≢◌, ◌<◌, ◌+◌, ◌^◌, ◌++◌, ◌∷◌, [], ℕ, Bool, true, false, if◌then◌else◌, IfOk, OnOk, length, slice_index, slice_set};
-ghost use Rattle.lx_merge.specs.Completion.{total, step_of, IsComplete};
+ghost use Rattle.lx_partition.specs.Completion.{total, step_of, IsComplete};
 ghost use Rattle.lx_merge.specs.Sources.{ContainPreimage};
-ghost use Rattle.lx_merge.specs.Partitions.{block, block_count, member_of, flag, IsSound, IsStable, IsSplitter, IsRemaining, AreMovedStates, AreRenumbered, IsStableBlock};
+ghost use Rattle.lx_partition.specs.Partitions.{block, block_count, member_of, flag, IsSound, IsStable, IsSplitter, IsRemaining, AreMovedStates, AreRenumbered, IsStableBlock};
 
 use crate::candidates::all_states;
-use crate::complete::{Complete, step};
 use crate::members::members_of;
-use crate::partition::{
-    Partition, first_unstable, moved_states_of, remaining_state_of, renumber, steps_into,
-};
+use crate::moving::{first_unstable, moved_states_of, remaining_state_of, renumber, steps_into};
 use crate::worklist::refine_by_worklist;
+use lx_partition::{Complete, Partition, step};
 use std::alloc::{AllocError, Global};
 
 /// Which states are to move: of block 0 those that don't step as state 0 does, of other blocks those that are wanted.

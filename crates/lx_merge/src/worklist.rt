@@ -2,17 +2,16 @@
 // parts the smaller one gets the new number and is used. What is proved of the partition doesn't rest on their order.
 
 ghost use Rattle.std.specs.Prelude.{◌≡◌, ◌<◌, ◌≤◌, ◌+◌, ◌-◌, ◌*◌, ℕ, true, IfOk, OnOk, length, vec_len};
-ghost use Rattle.lx_merge.specs.Completion.{total, IsComplete};
-ghost use Rattle.lx_merge.specs.Partitions.{block_count, IsSound, IsSplitter};
+ghost use Rattle.lx_partition.specs.Completion.{total, IsComplete};
+ghost use Rattle.lx_partition.specs.Partitions.{block_count, IsSound, IsSplitter};
 ghost use Rattle.lx_merge.specs.SplitMeasure.{splits_left};
 ghost use Rattle.lx_merge.specs.Sources.{AreAllListed, ContainPreimage};
 
 use crate::candidates::sources_into;
-use crate::complete::Complete;
 use crate::members::{Members, members_of};
-use crate::partition::Partition;
 use crate::predecessors::Predecessors;
 use crate::split::{side_of, split};
+use lx_partition::{Complete, Partition};
 use std::alloc::{AllocError, Global};
 
 /// The blocks that are still to be used as splitters, and what the choice of splits goes by.

@@ -1,9 +1,9 @@
 use Rattle.std.proofs.Common.{ℕ, ◌≡◌, ◌<◌, ◌≤◌, true, false, ◌&&◌, ◌||◌, nat_lt, nat_eq, is_some, List, Option, Some, None, refl, sym, ◌∙◌, ap, subst, arith}
 use Rattle.std.specs.List.{list_any}
 use Rattle.std.proofs.lemmas.Bool.{both_ways, or_right, and_parts, and_from, eqb-true, eq-eqb, ltb-true, lt-ltb, le-ltb, false_from_ne_true, ltb-false, or_parts}
-use Rattle.lx_piece.specs.declared.piece.Piece.{Piece}
+use Rattle.lx_plan.specs.declared.piece.Piece.{Piece}
 use Rattle.lx_piece.specs.declared.reply.Why.TheVariants.{AfterLast, Contradicts}
-use Rattle.lx_piece.specs.Pieces.{is_closing, top_number}
+use Rattle.lx_plan.specs.Pieces.{is_closing, top_number}
 use Rattle.lx_piece.specs.Arrivals.{closes_before, is_later, is_numbered, cause_among}
 use Rattle.lx_piece.specs.Kept.{Buffered, BufferStandsFor, held_at, has_number, is_number, closed_before}
 use Rattle.lx_piece.proofs.AnyOf.{same_tests, any_witness}

@@ -4,7 +4,7 @@ use Rattle.std.proofs.lemmas.Bool.{ltb-true, lt-ltb}
 use Rattle.std.proofs.lemmas.List.{get_or_default}
 use Rattle.std.proofs.lemmas.List.Elements.{All-get_or}
 use Rattle.std.proofs.lemmas.Option.{slice_get-get_or}
-use Rattle.lx_piece.specs.declared.piece.Piece.{Piece}
+use Rattle.lx_plan.specs.declared.piece.Piece.{Piece}
 use Rattle.lx_piece.specs.Arrivals.{accepted_of, IsClosedBelow, IsTruncatedBelow}
 use Rattle.lx_piece.specs.Kept.{Buffered, Kept, BufferStandsFor, StandsFor, shape_of_kept, delivered_counts, fresh_buffer, is_buffer_closed, is_buffer_truncated}
 use Rattle.lx_piece.proofs.Buffers.{number_closes, closing_number}

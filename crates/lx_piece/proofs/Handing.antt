@@ -6,11 +6,11 @@ use Rattle.std.proofs.lemmas.Bool.{both_ways, cases_eq, cases_lt, eqb-true, eqb-
 use Rattle.std.proofs.lemmas.List.{get_or-map, map-set, length-map, length_push, length-append, length-replicate, get_or-replicate, get_or-set_other, get_or-set_same, get_or_past, get_or_append_left, get_or_default}
 use Rattle.std.proofs.Math.ListN.{length-set}
 use Rattle.std.proofs.Math.Seq.{get_or-append_seam}
-use Rattle.lx_piece.specs.declared.piece.Piece.{Piece}
+use Rattle.lx_plan.specs.declared.piece.Piece.{Piece}
 use Rattle.lx_piece.specs.declared.reader.ReaderFault.{ReaderFault}
-use Rattle.lx_piece.specs.Plans.{Planned, files_of}
-use Rattle.lx_piece.specs.Pieces.{Making, is_closing, piece_by, pieces_by, pieces_of}
-use Rattle.lx_piece.specs.PieceLaws.{marked_last}
+use Rattle.lx_plan.specs.Plans.{Planned, files_of}
+use Rattle.lx_plan.specs.Pieces.{Making, is_closing, piece_by, pieces_by, pieces_of}
+use Rattle.lx_plan.specs.PieceLaws.{marked_last}
 use Rattle.lx_piece.specs.Relayed.{IsNextPieceBy}
 use Rattle.lx_piece.specs.Turns.{Turn, HasTurn, IsFirstOpen, IsTurnBy, turn_after, turn_at}
 use Rattle.lx_piece.specs.Passing.{AreFirstPieces, KeepsUp, PassesOn, TookWaiting, Waits, counted, queued, waiting_of}

@@ -7,7 +7,6 @@ pub mod Standing
 pub mod Relays
 pub mod Deliveries
 pub mod Closed
-pub mod Cutting
 pub mod Arrived
 pub mod Whole
 pub mod Turned

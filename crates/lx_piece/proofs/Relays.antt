@@ -6,10 +6,10 @@ use Rattle.std.proofs.lemmas.List.{map-set, get_or-map, get_or-set_same, get_or-
 use Rattle.std.proofs.lemmas.List.Sums.{sum_by-set}
 use Rattle.std.proofs.Math.ListN.{length-set}
 use Rattle.std.proofs.Math.Seq.{map-set_same}
-use Rattle.lx_piece.specs.declared.piece.Piece.{Piece}
-use Rattle.lx_piece.specs.Pieces.{Making}
-use Rattle.lx_piece.specs.PieceLaws.{takes_in_order}
-use Rattle.lx_piece.specs.Plans.{Planned}
+use Rattle.lx_plan.specs.declared.piece.Piece.{Piece}
+use Rattle.lx_plan.specs.Pieces.{Making}
+use Rattle.lx_plan.specs.PieceLaws.{takes_in_order}
+use Rattle.lx_plan.specs.Plans.{Planned}
 use Rattle.lx_piece.specs.Kept.{Buffered, Delivers, KeepsIn, held_at, held_total}
 use Rattle.lx_piece.specs.Relayed.{HoldsPlanned, IsNextPieceBy, AreAtMost}
 use Rattle.lx_piece.proofs.Readies.{get_set_same, get_set_other}

@@ -1,8 +1,8 @@
 use Rattle.std.specs.Prelude.{◌≡◌, List}
-use Rattle.lx_piece.specs.declared.piece.Piece.{Piece}
+use Rattle.lx_plan.specs.declared.piece.Piece.{Piece}
 use Rattle.lx_piece.specs.declared.reply.Reply.{Reply}
-use Rattle.lx_piece.specs.Plans.{Planned}
-use Rattle.lx_piece.specs.Pieces.{Making}
+use Rattle.lx_plan.specs.Plans.{Planned}
+use Rattle.lx_plan.specs.Pieces.{Making}
 use Rattle.lx_piece.specs.Arrivals.{shape_of, AreHonestBy, replies_of}
 use Rattle.lx_piece.specs.Kept.{Kept, StandsFor}
 

@@ -3,11 +3,11 @@ use Rattle.std.specs.Prelude.{if◌then◌else◌, Contains}
 use Rattle.std.specs.List.{list_any}
 use Rattle.std.proofs.lemmas.Bool.{both_ways, or_left, or_right, or_from, and_parts, and_from, and_left, and_right, eqb-true, eq-eqb, ne_eqb, ltb-true, lt-ltb, cases_eq, cases_order, cases_Bool, or_parts, false_from_ne_true}
 use Rattle.std.proofs.lemmas.List.Elements.{Contains-append_left, Contains-append_right}
-use Rattle.lx_piece.specs.declared.piece.Piece.{Piece}
+use Rattle.lx_plan.specs.declared.piece.Piece.{Piece}
 use Rattle.lx_piece.specs.declared.reply.Why.TheVariants.{Double, AfterLast, Contradicts}
-use Rattle.lx_piece.specs.declared.piece.Mark.{Mark}
-use Rattle.lx_piece.specs.declared.piece.Mark.TheVariants.{More, Whole, Cut}
-use Rattle.lx_piece.specs.Pieces.{is_closing, is_closing_mark, is_cut_mark, is_cut_short, top_number}
+use Rattle.lx_plan.specs.declared.piece.Mark.{Mark}
+use Rattle.lx_plan.specs.declared.piece.Mark.TheVariants.{More, Whole, Cut}
+use Rattle.lx_plan.specs.Pieces.{is_closing, is_closing_mark, is_cut_mark, is_cut_short, top_number}
 use Rattle.lx_piece.specs.Arrivals.{has_piece, has_closing, has_truncated, closes_before, is_later, is_numbered, cause_among}
 use Rattle.lx_piece.specs.Kept.{Buffered, BufferStandsFor, KeepsPiece, Advances, is_ready, held_at, is_number}
 use Rattle.lx_piece.proofs.AnyOf.{same_tests, any_witness, any_last, choice_none, or_none}

@@ -1,8 +1,8 @@
 -- The turn of a piece, and the one behind it.
 use Rattle.std.proofs.Common.{ℕ, ◌≡◌, ◌+◌, ◌<◌, if◌then◌else◌, ap, arith}
 use Rattle.std.proofs.lemmas.Bool.{eq-eqb, ne_eqb}
-use Rattle.lx_piece.specs.Plans.{Planned}
-use Rattle.lx_piece.specs.Pieces.{pieces_of}
+use Rattle.lx_plan.specs.Plans.{Planned}
+use Rattle.lx_plan.specs.Pieces.{pieces_of}
 use Rattle.lx_piece.specs.Turns.{turn_at}
 
 -- where pieces of the file are left it is the turn of the next one

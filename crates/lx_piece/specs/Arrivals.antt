@@ -1,12 +1,12 @@
 use Rattle.std.specs.Prelude.{ℕ, ◌≡◌, ◌<◌, ◌==◌, Bool, true, false, not, ◌&&◌, ◌||◌, if◌then◌else◌, nat_lt, List, [], ◌∷◌, ◌++◌, Option, Some, None, All}
 use Rattle.std.specs.List.{list_any}
-use Rattle.lx_piece.specs.declared.piece.Piece.{Piece}
+use Rattle.lx_plan.specs.declared.piece.Piece.{Piece}
 use Rattle.lx_piece.specs.declared.reply.Why.{Why}
 use Rattle.lx_piece.specs.declared.reply.Why.TheVariants.{WrongRun, UnknownFile, Double, AfterLast, Contradicts}
 use Rattle.lx_piece.specs.declared.reply.Reply.{Reply}
 use Rattle.lx_piece.specs.declared.reply.Reply.TheVariants.{Accepted, Refused}
-use Rattle.lx_piece.specs.Plans.{Planned, files_of}
-use Rattle.lx_piece.specs.Pieces.{ItemPiece, Making, bare, is_closing, is_cut_short, IsPieceBy, top_number}
+use Rattle.lx_plan.specs.Plans.{Planned, files_of}
+use Rattle.lx_plan.specs.Pieces.{ItemPiece, Making, bare, is_closing, is_cut_short, IsPieceBy, top_number}
 
 -- the run that pieces are of: its number, and how many files it has
 pub record RunShape : Type 0 where

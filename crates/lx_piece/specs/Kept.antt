@@ -4,10 +4,10 @@ use Rattle.std.specs.BTreeMap.{is_at}
 use Rattle.std.specs.BTreeSet.{BTreeSet, contains}
 use Rattle.std.specs.List.{list_any}
 use Rattle.std.specs.Map.{lookup}
-use Rattle.lx_piece.specs.declared.piece.Piece.{Piece}
+use Rattle.lx_plan.specs.declared.piece.Piece.{Piece}
 use Rattle.lx_piece.specs.declared.reply.Why.{Why}
-use Rattle.lx_piece.specs.Plans.{max_files}
-use Rattle.lx_piece.specs.Pieces.{is_closing, is_cut_short}
+use Rattle.lx_plan.specs.Plans.{max_files}
+use Rattle.lx_plan.specs.Pieces.{is_closing, is_cut_short}
 use Rattle.lx_piece.specs.Arrivals.{RunShape, accepted_of, cause_against, has_piece, has_closing, has_truncated}
 
 -- What a collector keeps of one file: how many pieces were delivered, the number of the closing piece, the same where that piece is marked

@@ -2,10 +2,10 @@
 use Rattle.std.specs.Prelude.{ℕ, ◌≡◌, ◌+◌, ◌<◌, ◌≤◌, Bool, true, false, List, [], length, slice_index, slice_index_or, slice_set, map}
 use Rattle.std.specs.declared.alloc.Global.{Global}
 use Rattle.std.specs.declared.collections.VecDeque.{VecDeque}
-use Rattle.lx_piece.specs.declared.piece.Piece.{Piece}
+use Rattle.lx_plan.specs.declared.piece.Piece.{Piece}
 use Rattle.lx_piece.specs.declared.reader.ReaderFault.{ReaderFault}
-use Rattle.lx_piece.specs.Plans.{Planned, IsPlan, files_of}
-use Rattle.lx_piece.specs.Pieces.{Making, pieces_by, pieces_of, top_number}
+use Rattle.lx_plan.specs.Plans.{Planned, IsPlan, files_of}
+use Rattle.lx_plan.specs.Pieces.{Making, pieces_by, pieces_of, top_number}
 use Rattle.lx_piece.specs.Relayed.{HasOpenFile}
 use Rattle.lx_piece.specs.Turns.{Turn, IsFirstOpen, IsTurnBy}
 

@@ -3,7 +3,7 @@ use Rattle.std.specs.Prelude.{List, ℕ, refl}
 use Rattle.std.proofs.Common.{inl, inr, sym, ◌∙◌, subst}
 use Rattle.std.proofs.lemmas.Bool.{both_ways, cases_Bool}
 use Rattle.lx_piece.specs.declared.reader.ReaderFault.{ReaderFault}
-use Rattle.lx_piece.specs.Plans.{Planned}
+use Rattle.lx_plan.specs.Plans.{Planned}
 use Rattle.lx_piece.specs.Relayed.{HasOpenFile}
 use Rattle.lx_piece.specs.Turns.{Turn}
 use Rattle.lx_piece.specs.Passing.{Passing, PassesOn}

@@ -1,8 +1,8 @@
 -- The pieces of a plan in its order: file after file, and of each file one after the other.
 use Rattle.std.specs.Prelude.{ℕ, ◌≡◌, ◌≢◌, ◌+◌, ◌<◌, ◌≤◌, ◌==◌, if◌then◌else◌, List, length, slice_index}
-use Rattle.lx_piece.specs.declared.piece.Piece.{Piece}
-use Rattle.lx_piece.specs.Plans.{Planned, files_of}
-use Rattle.lx_piece.specs.Pieces.{Making, IsPieceBy, pieces_of}
+use Rattle.lx_plan.specs.declared.piece.Piece.{Piece}
+use Rattle.lx_plan.specs.Plans.{Planned, files_of}
+use Rattle.lx_plan.specs.Pieces.{Making, IsPieceBy, pieces_of}
 
 -- before a piece: its file, and its number
 pub record Turn : Type 0 where

@@ -1,15 +1,14 @@
 ghost use Rattle.std.specs.Prelude.{◌≡◌, ◌<◌, ◌≤◌, ◌⊎◌, ℕ, List, [], ◌∷◌, ◌++◌, length, MatchOption, MatchResult, OnOk, IfErr, IfOk, IfNone, IsTrue, slice_get, slice_index, false, true, All, replicate, ◌↔◌, Some, None};
-ghost use Rattle.lx_piece.specs.declared.piece.Piece.{Piece};
+ghost use Rattle.lx_plan.specs.declared.piece.Piece.{Piece};
 ghost use Rattle.lx_piece.specs.Arrivals.{IsClosedBelow, IsTruncatedBelow};
-ghost use Rattle.lx_piece.specs.Pieces.{top_number};
-ghost use Rattle.lx_piece.specs.Plans.{max_files};
+ghost use Rattle.lx_plan.specs.Pieces.{top_number};
+ghost use Rattle.lx_plan.specs.Plans.{max_files};
 ghost use Rattle.lx_piece.specs.Kept.{Buffered, StandsFor, Delivers, NoneReady, KeepsIn, IsReadySet, fresh_buffer, has_number, is_buffer_closed, is_buffer_truncated, delivered_counts, accepted_by, cause_by};
 
-use crate::items::Items;
-use crate::piece::Piece;
 use crate::ready_files::ReadyFiles;
 use crate::reorder_buffer::ReorderBuffer;
 use crate::reply::{Refused, Why};
+use lx_plan::{Items, Piece};
 use std::alloc::{AllocError, Global};
 use std::marker::Model;
 

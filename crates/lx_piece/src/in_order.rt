@@ -2,19 +2,17 @@
 
 ghost use Rattle.std.specs.Prelude.{◌≡◌, ◌+◌, ◌<◌, Err, OnOk, OnErr, IfOk, IfErr, replicate, true, false};
 ghost use Rattle.lx_piece.specs.Passing.{PassesOn, counted};
-ghost use Rattle.lx_piece.specs.Pieces.{top_number};
-ghost use Rattle.lx_piece.specs.Plans.{files_of};
+ghost use Rattle.lx_plan.specs.Pieces.{top_number};
+ghost use Rattle.lx_plan.specs.Plans.{files_of};
 ghost use Rattle.lx_piece.specs.Relayed.{IsNextPieceBy};
 ghost use Rattle.lx_piece.specs.Turns.{first_turn};
 ghost use Rattle.lx_piece.specs.declared.reader.ReaderFault.{ReaderFault};
 
-use crate::maker::Maker;
-use crate::piece::Piece;
-use crate::plan::Plan;
 use crate::reader::{Held, ReaderFault};
 use crate::reader_of::ReaderOf;
 use crate::taker::Taker;
 use crate::turn_queue::TurnQueue;
+use lx_plan::{Maker, Piece, Plan};
 use std::alloc::{AllocFailed, Global};
 use std::marker::Model;
 

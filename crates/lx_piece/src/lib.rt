@@ -1,18 +1,11 @@
-//! Pieces of the items of files, the collector that puts arriving pieces in order, and the relay that
-//! hands them to a reader.
+//! The collector that puts arriving pieces of files in order, and the relay that hands them to a reader.
 #![tactic(auto)]
 
 mod arrivals;
 mod arrivals_of;
 mod collector;
-mod cutter;
 mod in_order;
-mod input;
-mod items;
 mod list_arrivals;
-mod maker;
-mod piece;
-mod plan;
 mod plan_pieces;
 mod reader;
 mod reader_of;
@@ -26,14 +19,11 @@ mod turn_queue;
 pub use arrivals::Arrivals;
 pub use arrivals_of::ArrivalsOf;
 pub use collector::Collector;
-pub use cutter::Cutter;
 pub use in_order::InOrder;
-pub use input::Input;
-pub use items::Items;
 pub use list_arrivals::ListArrivals;
-pub use maker::{KeepItems, Maker};
-pub use piece::{Mark, Piece};
-pub use plan::{MAX_FILES, MAX_ITEMS, Plan};
+pub use lx_plan::{
+    Cutter, Input, Items, KeepItems, MAX_FILES, MAX_ITEMS, Maker, Mark, Piece, Plan,
+};
 pub use plan_pieces::relay_plan;
 pub use reader::{Held, Reader, ReaderFault};
 pub use reader_of::ReaderOf;

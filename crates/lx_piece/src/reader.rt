@@ -1,9 +1,9 @@
 ghost use Rattle.std.specs.Prelude.{◌≡◌, ◌+◌, ◌<◌, ℕ, List, OnOk, OnErr, slice_set, slice_index};
-ghost use Rattle.lx_piece.specs.Plans.{Planned};
-ghost use Rattle.lx_piece.specs.Pieces.{top_number};
+ghost use Rattle.lx_plan.specs.Plans.{Planned};
+ghost use Rattle.lx_plan.specs.Pieces.{top_number};
 ghost use Rattle.lx_piece.specs.Relayed.{IsNextPiece};
 
-use crate::piece::Piece;
+use lx_plan::Piece;
 use thiserror::Error;
 
 /// Why a reader didn't take a piece.

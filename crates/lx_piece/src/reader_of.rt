@@ -1,14 +1,12 @@
 //! Readers of pieces that carry what a maker made of their items.
 
 ghost use Rattle.std.specs.Prelude.{◌≡◌, ◌+◌, ◌<◌, ℕ, List, OnOk, OnErr, Err, slice_set, slice_index};
-ghost use Rattle.lx_piece.specs.Plans.{Planned};
-ghost use Rattle.lx_piece.specs.Pieces.{top_number};
+ghost use Rattle.lx_plan.specs.Plans.{Planned};
+ghost use Rattle.lx_plan.specs.Pieces.{top_number};
 ghost use Rattle.lx_piece.specs.Relayed.{IsNextPiece, IsNextPieceBy};
 
-use crate::items::Items;
-use crate::maker::{KeepItems, Maker};
-use crate::piece::Piece;
 use crate::reader::{Held, Reader, ReaderFault};
+use lx_plan::{Items, KeepItems, Maker, Piece};
 
 /// A reader of pieces that carry what a maker made of their items.
 pub trait ReaderOf<M: Maker> {

@@ -1,7 +1,7 @@
 ghost use Rattle.std.specs.Prelude.{◌≡◌, ◌<◌, List, [], ◌∷◌, ◌++◌, length, replicate, OnOk, OnErr, IfOk, IfErr, Ok, Err};
-ghost use Rattle.lx_piece.specs.declared.piece.Piece.{Piece};
-ghost use Rattle.lx_piece.specs.Plans.{files_of};
-ghost use Rattle.lx_piece.specs.Pieces.{top_number};
+ghost use Rattle.lx_plan.specs.declared.piece.Piece.{Piece};
+ghost use Rattle.lx_plan.specs.Plans.{files_of};
+ghost use Rattle.lx_plan.specs.Pieces.{top_number};
 ghost use Rattle.lx_piece.specs.Arrivals.{accepted_of, replies_of, reply_to};
 ghost use Rattle.lx_piece.specs.Kept.{StandsFor, NoneReady, shape_of_kept, delivered_counts};
 ghost use Rattle.lx_piece.specs.Relayed.{Relayed, RelayedBy, RelayedInPart, RelayedInPartBy, HoldsPlanned, AreAtMost};
@@ -9,12 +9,10 @@ ghost use Rattle.lx_piece.specs.Relayed.{Relayed, RelayedBy, RelayedInPart, Rela
 use crate::arrivals::Arrivals;
 use crate::arrivals_of::ArrivalsOf;
 use crate::collector::Collector;
-use crate::maker::{KeepItems, Maker};
-use crate::piece::Piece;
-use crate::plan::Plan;
 use crate::reader::{Reader, ReaderFault};
 use crate::reader_of::ReaderOf;
 use crate::reply::{Reply, Why};
+use lx_plan::{KeepItems, Maker, Piece, Plan};
 use std::alloc::{AllocError, AllocFailed, Global};
 use thiserror::Error;
 

@@ -1,11 +1,11 @@
 ghost use Rattle.std.specs.Prelude.{◌≡◌, ◌<◌, ◌≤◌, ℕ, List, OnOk, IfErr, IfNone, IfSome, IsTrue, IsSome, None, false};
-ghost use Rattle.lx_piece.specs.declared.piece.Piece.{Piece};
+ghost use Rattle.lx_plan.specs.declared.piece.Piece.{Piece};
 ghost use Rattle.lx_piece.specs.Arrivals.{cause_among};
-ghost use Rattle.lx_piece.specs.Pieces.{top_number};
+ghost use Rattle.lx_plan.specs.Pieces.{top_number};
 ghost use Rattle.lx_piece.specs.Kept.{BufferStandsFor, held_at, has_number, is_ready, Advances, HoldsPiece, KeepsPiece, closed_before, is_buffer_closed, is_buffer_truncated, fresh_buffer};
 
-use crate::piece::Piece;
 use crate::reply::Why;
+use lx_plan::Piece;
 use std::alloc::Global;
 use std::collections::BTreeMap;
 use std::marker::Model;
@@ -39,7 +39,7 @@ impl<C> Model for ReorderBuffer<C> {
     ghost use Rattle.std.specs.Prelude.{ℕ, ◌<◌, ◌≡◌, IsSome, None};
     ghost use Rattle.std.specs.Ordering.{nat_cmp};
     ghost use Rattle.std.specs.BTreeMap.{get};
-    ghost use Rattle.lx_piece.specs.Pieces.{top_number};
+    ghost use Rattle.lx_plan.specs.Pieces.{top_number};
     ghost use Rattle.lx_piece.specs.Kept.{Buffered, with_next};
 
     ghost Value = { Buffered C };

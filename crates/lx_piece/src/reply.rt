@@ -1,5 +1,4 @@
-use crate::items::Items;
-use crate::piece::Piece;
+use lx_plan::{Items, Piece};
 use thiserror::Error;
 
 /// Why a collector refuses a piece. The first cause that holds, in this order, is answered.

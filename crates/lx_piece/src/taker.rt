@@ -2,13 +2,11 @@
 
 ghost use Rattle.std.specs.Prelude.{◌≡◌, OnOk, IfErr};
 ghost use Rattle.lx_piece.specs.declared.reader.ReaderFault.{ReaderFault};
-ghost use Rattle.lx_piece.specs.Plans.{Planned};
+ghost use Rattle.lx_plan.specs.Plans.{Planned};
 ghost use Rattle.lx_piece.specs.Turns.{HasTurn, Turn, turn_after};
 
-use crate::maker::Maker;
-use crate::piece::Piece;
-use crate::plan::Plan;
 use crate::reader::ReaderFault;
+use lx_plan::{Maker, Piece, Plan};
 
 /// What takes the pieces of a plan in the plan's order, with what a maker made of their items. It holds none back.
 pub trait Taker<M: Maker> {

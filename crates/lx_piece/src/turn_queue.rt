@@ -2,17 +2,15 @@
 
 ghost use Rattle.std.specs.Prelude.{◌≡◌, ◌≢◌, ◌+◌, ◌<◌, ◌≤◌, ◌==◌, ◌∷◌, [], ◌++◌, ℕ, Err, OnOk, OnErr, IfOk, IfErr, IfSome, IfNone, List, length, replicate, slice_set, slice_index, true, false};
 ghost use Rattle.lx_piece.specs.Passing.{AreFirstPieces, KeepsUp, counted, PassesOn, TookWaiting, Waits, queued, waiting_of};
-ghost use Rattle.lx_piece.specs.Pieces.{pieces_of, top_number};
-ghost use Rattle.lx_piece.specs.Plans.{IsPlan, files_of};
+ghost use Rattle.lx_plan.specs.Pieces.{pieces_of, top_number};
+ghost use Rattle.lx_plan.specs.Plans.{IsPlan, files_of};
 ghost use Rattle.lx_piece.specs.Relayed.{IsNextPieceBy};
 ghost use Rattle.lx_piece.specs.Turns.{first_turn, turn_at};
 ghost use Rattle.lx_piece.specs.declared.reader.ReaderFault.{ReaderFault};
 
-use crate::maker::Maker;
-use crate::piece::Piece;
-use crate::plan::Plan;
 use crate::reader::{Held, ReaderFault};
 use crate::taker::Taker;
+use lx_plan::{Maker, Piece, Plan};
 use std::alloc::{AllocError, AllocFailed, Global};
 use std::collections::VecDeque;
 use std::marker::Model;

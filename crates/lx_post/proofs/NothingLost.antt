@@ -7,19 +7,19 @@ use Rattle.std.specs.List.{sum_by}
 use Rattle.std.specs.Option.{option_or}
 use Rattle.std.proofs.lemmas.List.Sums.{sum_by-cons}
 use Rattle.std.proofs.lemmas.List.Elements.{All-append, Contains-append_left, Contains-append_right, Contains-append_cases, Contains-push, All-nil, All-cons, All-map, All-same, All-get_or, All-contains}
-use Rattle.lx_piece.specs.declared.piece.Piece.{Piece}
-use Rattle.lx_piece.specs.Plans.{Planned, files_of}
-use Rattle.lx_piece.specs.Pieces.{Making, piece_by}
+use Rattle.lx_plan.specs.declared.piece.Piece.{Piece}
+use Rattle.lx_plan.specs.Plans.{Planned, files_of}
+use Rattle.lx_plan.specs.Pieces.{Making, piece_by}
 use Rattle.lx_piece.specs.Relayed.{AreAllAmongBy}
 use Rattle.lx_post.specs.declared.job.Job.{Job}
-use Rattle.lx_post.specs.declared.note.Note.{Note}
-use Rattle.lx_post.specs.declared.note.Note.TheVariants.{Piece as note_piece, End as note_end}
-use Rattle.lx_post.specs.Claimed.{Claimed, Drawn, IsSeatOf, times, times_drawn, once_below}
+use Rattle.lx_notes.specs.declared.note.Note.{Note}
+use Rattle.lx_notes.specs.declared.note.Note.TheVariants.{Piece as note_piece, End as note_end}
+use Rattle.lx_claims.specs.Claimed.{Claimed, Drawn, IsSeatOf, times, times_drawn, once_below}
 use Rattle.lx_post.specs.Collected.{AreAllReceived}
-use Rattle.lx_post.specs.Notes.{worker_of, has_end, first_fault, notes_of, pieces_among}
-use Rattle.lx_post.specs.Posted.{Posted, Sent, Taken, IsAllReceived, IsSendPassOf}
+use Rattle.lx_notes.specs.Notes.{worker_of, has_end, first_fault, notes_of, pieces_among}
+use Rattle.lx_notes.specs.Posted.{Posted, Sent, Taken, IsAllReceived, IsSendPassOf}
 use Rattle.lx_post.specs.Working.{HasSent, IsReady, HasWorked, IsDone, IsIdle}
-use Rattle.lx_post.proofs.Comings.{fault_push}
+use Rattle.lx_notes.proofs.Comings.{fault_push}
 
 keeps_piece : {C : Type 0} (b : Bool) (n : Note C) (xs ns : List (Note C)) (p : Piece C) → (Contains (pieces_among xs) p → Contains (pieces_among ns) p) → Contains (pieces_among (cond b (n ∷ xs) xs)) p → Contains (pieces_among (n ∷ ns)) p
 keeps_piece true (note_piece w q) xs ns p more c =

@@ -2,13 +2,13 @@
 use Rattle.std.proofs.Common.{◌≡◌, ℕ, ◌<◌, false, List, [], ◌++◌, Option, None, Some, is_some, slice_index, replicate, refl, sym, ap, ◌∙◌, subst, arith}
 use Rattle.std.proofs.lemmas.List.{get_or-replicate}
 use Rattle.lx_piece.specs.declared.reply.Reply.{Reply}
-use Rattle.lx_piece.specs.Plans.{Planned, files_of, items_of}
-use Rattle.lx_piece.specs.Pieces.{Making, pieces_of, TakesInOrder}
+use Rattle.lx_plan.specs.Plans.{Planned, files_of, items_of}
+use Rattle.lx_plan.specs.Pieces.{Making, pieces_of, TakesInOrder}
 use Rattle.lx_piece.specs.Relayed.{AreAllAmongBy, RelayedBy, TakesAllInOrder}
-use Rattle.lx_post.specs.declared.note.WorkerFault.{WorkerFault}
+use Rattle.lx_notes.specs.declared.note.WorkerFault.{WorkerFault}
 use Rattle.lx_post.specs.Collected.{AreAllReceived, IsCollected, IsWhole}
-use Rattle.lx_post.specs.Notes.{first_fault, pieces_among}
-use Rattle.lx_post.specs.Posted.{Arriving, CameBetween, Posted, Taken, fresh_take}
+use Rattle.lx_notes.specs.Notes.{first_fault, pieces_among}
+use Rattle.lx_notes.specs.Posted.{Arriving, CameBetween, Posted, Taken, fresh_take}
 
 none_of : (fault : Option WorkerFault) → is_some fault ≡ false → fault ≡ None
 none_of None e = refl

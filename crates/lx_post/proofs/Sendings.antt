@@ -5,21 +5,21 @@ use native.Mathlib.Decide.{dec_lt}
 use Rattle.std.proofs.lemmas.List.{length_push}
 use Rattle.std.proofs.lemmas.List.Elements.{All-contains, Contains-push, Contains-append_left}
 use Rattle.std.proofs.lemmas.Bool.Decides.{nat_tests}
-use Rattle.lx_piece.specs.declared.piece.Piece.{Piece}
-use Rattle.lx_piece.specs.Plans.{Planned}
-use Rattle.lx_piece.specs.Pieces.{Making, IsPieceBy, is_closing, piece_by, pieces_of}
-use Rattle.lx_piece.specs.PieceLaws.{marked_last}
-use Rattle.lx_post.specs.declared.note.Note.{Note}
-use Rattle.lx_post.specs.declared.note.Note.TheVariants.{Piece as note_piece, End as note_end}
-use Rattle.lx_post.specs.declared.note.WorkerFault.{WorkerFault}
+use Rattle.lx_plan.specs.declared.piece.Piece.{Piece}
+use Rattle.lx_plan.specs.Plans.{Planned}
+use Rattle.lx_plan.specs.Pieces.{Making, IsPieceBy, is_closing, piece_by, pieces_of}
+use Rattle.lx_plan.specs.PieceLaws.{marked_last}
+use Rattle.lx_notes.specs.declared.note.Note.{Note}
+use Rattle.lx_notes.specs.declared.note.Note.TheVariants.{Piece as note_piece, End as note_end}
+use Rattle.lx_notes.specs.declared.note.WorkerFault.{WorkerFault}
 use Rattle.lx_post.specs.declared.job.Job.{Job}
-use Rattle.lx_post.specs.Arrived.{pieces_of_both}
-use Rattle.lx_post.specs.Claimed.{Claimed, Drawn, IsSeatOf, times}
-use Rattle.lx_post.specs.Notes.{has_end, pieces_among}
-use Rattle.lx_post.specs.Posted.{Posted, Sent, MaySend, with_sent}
+use Rattle.lx_notes.specs.Arrived.{pieces_of_both}
+use Rattle.lx_claims.specs.Claimed.{Claimed, Drawn, IsSeatOf, times}
+use Rattle.lx_notes.specs.Notes.{has_end, pieces_among}
+use Rattle.lx_notes.specs.Posted.{Posted, Sent, MaySend, with_sent}
 use Rattle.lx_post.specs.Working.{IsGoing, HasSent, HasSentTo, SendsPieces, IsSparse, HasDrawn, IsReady, HasWorked}
-use Rattle.lx_post.proofs.DrawSteps.{times-push}
-use Rattle.lx_post.proofs.NoteLists.{end_append}
+use Rattle.lx_claims.proofs.DrawSteps.{times-push}
+use Rattle.lx_notes.proofs.NoteLists.{end_append}
 
 pub sends_nothing : {C : Type 0} (s : Sent C) → SendsPieces s s
 sends_nothing s = record { notes = []; pass = ap (λ ns. record s { sent = ns }) (sym (append-nil s.sent)); pieces = refl }

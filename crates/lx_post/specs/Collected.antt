@@ -1,16 +1,16 @@
 -- What the thread that hands pieces on has received of a run that met no fault.
 use Rattle.std.specs.Prelude.{◌≡◌, ◌<◌, ◌≤◌, ℕ, List, None, All, Result, Err, OnOk, replicate, slice_index}
-use Rattle.lx_piece.specs.Plans.{Planned, files_of, max_files}
-use Rattle.lx_piece.specs.Pieces.{Making, pieces_of, top_number}
+use Rattle.lx_plan.specs.Plans.{Planned, files_of, max_files}
+use Rattle.lx_plan.specs.Pieces.{Making, pieces_of, top_number}
 use Rattle.lx_piece.specs.Relayed.{AreAllAmongBy}
-use Rattle.lx_post.specs.Notes.{first_fault, pieces_among}
-use Rattle.lx_post.specs.Claimed.{Claimed, max_workers}
+use Rattle.lx_notes.specs.Notes.{first_fault, pieces_among}
+use Rattle.lx_claims.specs.Claimed.{Claimed, max_workers}
 use Rattle.lx_post.specs.declared.job.Job.{Job}
 use Rattle.lx_post.specs.declared.job.Ran.{Ran}
 use Rattle.lx_post.specs.declared.job.Ran.TheVariants.{Whole, Received, Failed}
 use Rattle.lx_post.specs.declared.run_fault.RunFault.{RunFault}
 use Rattle.lx_post.specs.declared.run_fault.RunFault.TheVariants as fault
-use Rattle.lx_post.specs.Posted.{Posted, Taken, IsTakePassOf, fresh_take}
+use Rattle.lx_notes.specs.Posted.{Posted, Taken, IsTakePassOf, fresh_take}
 use Rattle.lx_post.specs.Working.{IsDone, IsIdle, IsReady}
 
 -- No worker's end named a fault, and a reader with these counts took every file whole of which every piece was received.

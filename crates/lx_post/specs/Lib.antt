@@ -1,9 +1,3 @@
-pub mod Claimed
-pub mod Draws
-pub mod Notes
-pub mod Posted
-pub mod Posting
-pub mod Arrived
-pub mod Working
 pub mod Collected
 pub mod RunFaults
+pub mod Working

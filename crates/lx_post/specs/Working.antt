@@ -1,17 +1,17 @@
 -- What a worker has drawn and sent, in its work and at its end.
 use Rattle.std.specs.Prelude.{◌≡◌, ◌<◌, ◌≤◌, ℕ, true, false, List, [], ◌∷◌, ◌++◌, Option, None, All, Contains, length}
-use Rattle.lx_piece.specs.Plans.{Planned}
-use Rattle.lx_piece.specs.Pieces.{Making, piece_by}
+use Rattle.lx_plan.specs.Plans.{Planned}
+use Rattle.lx_plan.specs.Pieces.{Making, piece_by}
 use Rattle.lx_piece.specs.Relayed.{AreAllAmongBy}
 use Rattle.lx_post.specs.declared.job.Job.{Job}
 use Rattle.lx_post.specs.declared.job.Outcome.{Outcome}
 use Rattle.lx_post.specs.declared.job.Outcome.TheVariants.{Done, Back}
-use Rattle.lx_post.specs.declared.note.Note.{Note}
-use Rattle.lx_post.specs.declared.note.Note.TheVariants.{End as note_end}
-use Rattle.lx_post.specs.declared.note.WorkerFault.{WorkerFault}
-use Rattle.lx_post.specs.Claimed.{Claimed, Drawn, fresh_seat, times}
-use Rattle.lx_post.specs.Notes.{first_fault, has_end, pieces_among}
-use Rattle.lx_post.specs.Posted.{Posted, Sent, fresh_send, with_sent}
+use Rattle.lx_notes.specs.declared.note.Note.{Note}
+use Rattle.lx_notes.specs.declared.note.Note.TheVariants.{End as note_end}
+use Rattle.lx_notes.specs.declared.note.WorkerFault.{WorkerFault}
+use Rattle.lx_claims.specs.Claimed.{Claimed, Drawn, fresh_seat, times}
+use Rattle.lx_notes.specs.Notes.{first_fault, has_end, pieces_among}
+use Rattle.lx_notes.specs.Posted.{Posted, Sent, fresh_send, with_sent}
 
 -- the pass sends to this post for this plan, and hasn't ended
 pub record IsGoing {C : Type 0} (post : Posted) (plan : Planned) (pass : Sent C) : Type 0 where

@@ -2,12 +2,11 @@
 ghost use Rattle.std.specs.Prelude.{◌≡◌, OnOk};
 ghost use Rattle.lx_piece.specs.Relayed.{TakesAllInOrder};
 ghost use Rattle.lx_post.specs.Collected.{IsCollected, TellsFaults, TookNothing};
-ghost use Rattle.lx_post.specs.Posted.{IsTakePassOf, fresh_take};
+ghost use Rattle.lx_notes.specs.Posted.{IsTakePassOf, fresh_take};
 
-use crate::passes::TakePass;
-use crate::post_arrivals::NoteArrivals;
 use crate::run_context::RunContext;
 use crate::run_fault::RunFault;
+use lx_notes::{NoteArrivals, TakePass};
 use lx_piece::{Maker, ReaderOf, relay_of};
 use std::sync::Wait;
 

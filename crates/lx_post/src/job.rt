@@ -1,6 +1,6 @@
-use crate::claim_seat::ClaimSeat;
-use crate::passes::{SendPass, TakePass};
 use crate::run_fault::RunFault;
+use lx_claims::ClaimSeat;
+use lx_notes::{SendPass, TakePass};
 
 /// With what a worker draws and sends.
 #[derive(Drop)]

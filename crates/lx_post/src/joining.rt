@@ -1,19 +1,18 @@
 //! How workers are joined, and what their joins tell.
 ghost use Rattle.std.specs.Prelude.{◌≡◌, ◌<◌, ◌≤◌, [], All, IfErr, IfOk, IfSome, None, OnOk, map};
-ghost use Rattle.lx_piece.specs.Plans.{files_of};
+ghost use Rattle.lx_plan.specs.Plans.{files_of};
 ghost use Rattle.lx_post.specs.Collected.{AreAllReceived};
-ghost use Rattle.lx_post.specs.Notes.{first_fault};
+ghost use Rattle.lx_notes.specs.Notes.{first_fault};
 ghost use Rattle.lx_post.specs.declared.run_fault.RunFault.{RunFault};
-ghost use Rattle.lx_post.specs.Posted.{IsTakePassOf};
+ghost use Rattle.lx_notes.specs.Posted.{IsTakePassOf};
 ghost use Rattle.lx_post.specs.Working.{IsDone, IsIdle, IsReady};
 
-use crate::claim_seat::ClaimSeat;
-use crate::finishing::finish;
 use crate::job::{Job, Outcome};
-use crate::passes::{SendPass, TakePass};
 use crate::run_context::RunContext;
 use crate::run_fault::RunFault;
 use crate::starting::Worker;
+use lx_claims::ClaimSeat;
+use lx_notes::{SendPass, TakePass, finish};
 use lx_piece::Maker;
 use std::alloc::AllocError;
 use std::sync::Wait;

@@ -1,8 +1,8 @@
 //! What the threads of a run share.
 
-use crate::claims::Claims;
-use crate::post::Post;
 use crate::signals::Signals;
+use lx_claims::Claims;
+use lx_notes::Post;
 use lx_piece::{Maker, Plan};
 use std::alloc::Global;
 

@@ -1,25 +1,23 @@
 //! Every file of a plan, scanned by several threads.
 ghost use Rattle.std.specs.Prelude.{◌≡◌, ◌<◌, ◌≤◌, [], Err, OnOk, All, IfOk, replicate};
-ghost use Rattle.lx_piece.specs.Plans.{files_of};
-ghost use Rattle.lx_piece.specs.Pieces.{top_number};
+ghost use Rattle.lx_plan.specs.Plans.{files_of};
+ghost use Rattle.lx_plan.specs.Pieces.{top_number};
 ghost use Rattle.lx_piece.specs.Relayed.{TakesAllInOrder};
 ghost use Rattle.lx_post.specs.declared.run_fault.RunFault.{RunFault};
-ghost use Rattle.lx_post.specs.Claimed.{fresh_seat, max_workers};
+ghost use Rattle.lx_claims.specs.Claimed.{fresh_seat, max_workers};
 ghost use Rattle.lx_post.specs.Collected.{HasRun, IsPrepared, IsWhole, TellsFaultsOf, TookNothing};
-ghost use Rattle.lx_post.specs.Posted.{fresh_send};
+ghost use Rattle.lx_notes.specs.Posted.{fresh_send};
 ghost use Rattle.lx_post.specs.Working.{IsReady};
 
-use crate::claim_seat::ClaimSeat;
-use crate::claims::Claims;
 use crate::gate::Gate;
 use crate::job::{Job, Ran};
 use crate::joining::{Parts, settle_all};
-use crate::passes::{SendPass, TakePass};
-use crate::post::Post;
 use crate::run_context::RunContext;
 use crate::run_fault::RunFault;
 use crate::signals::Signals;
 use crate::starting::{Workers, start_all};
+use lx_claims::{ClaimSeat, Claims};
+use lx_notes::{Post, SendPass, TakePass};
 use lx_piece::{KeepItems, Maker, Plan, Reader, ReaderOf, relay_plan};
 use std::alloc::{AllocError, Global};
 use std::sync::Wait;

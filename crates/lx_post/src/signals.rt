@@ -1,9 +1,7 @@
 ghost use Rattle.std.specs.Prelude.{◌<◌};
-ghost use Rattle.lx_post.specs.Claimed.{max_workers};
+ghost use Rattle.lx_claims.specs.Claimed.{max_workers};
 
-use crate::backoff::Backoff;
-use crate::pace::Pace;
-use crate::passes::WORKER_SLOTS;
+use lx_notes::{Backoff, Pace, WORKER_SLOTS};
 use std::sync::Wait;
 use std::sync::atomic::{AtomicBool, Ordering};
 

@@ -1,12 +1,12 @@
 //! How workers are started.
 ghost use Rattle.std.specs.Prelude.{◌≡◌, ◌<◌, ◌≤◌, All, IfErr, IfOk, [], None};
-ghost use Rattle.lx_post.specs.Claimed.{AreClaimsOf, max_workers};
+ghost use Rattle.lx_claims.specs.Claimed.{AreClaimsOf, max_workers};
 ghost use Rattle.lx_post.specs.Working.{IsDone, IsIdle, IsOutcome, IsReady};
 
 use crate::gate::Gate;
 use crate::job::{Job, Outcome};
-use crate::note::Note;
 use crate::run_context::RunContext;
+use lx_notes::Note;
 use lx_piece::Maker;
 use std::snapshot::Snapshot;
 use std::sync::Wait;

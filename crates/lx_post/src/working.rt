@@ -1,15 +1,14 @@
 //! What a worker does: it draws files, cuts them, and sends their pieces.
 ghost use Rattle.std.specs.Prelude.{◌≡◌, ◌<◌, ◌≤◌, [], true, None, OnOk};
-ghost use Rattle.lx_piece.specs.Plans.{files_of};
-ghost use Rattle.lx_post.specs.Claimed.{AreClaimsOf, IsSeatOf};
+ghost use Rattle.lx_plan.specs.Plans.{files_of};
+ghost use Rattle.lx_claims.specs.Claimed.{AreClaimsOf, IsSeatOf};
 ghost use Rattle.lx_post.specs.Working.{HasDrawn, HasSent, HasWorked, IsGoing, IsReady, SendsPieces};
 
-use crate::claim_seat::ClaimSeat;
 use crate::gate::Gate;
 use crate::job::Job;
-use crate::note::{Note, WorkerFault};
-use crate::passes::SendPass;
 use crate::run_context::RunContext;
+use lx_claims::ClaimSeat;
+use lx_notes::{Note, SendPass, WorkerFault};
 use lx_piece::{Cutter, Maker};
 use std::alloc::AllocError;
 use std::sync::Wait;

@@ -2,7 +2,7 @@
 //! call succeeds; `rt try --test --fail-alloc N` refuses the Nth allocation of each test. A test whose own memory is refused ends there.
 
 ghost use Rattle.std.specs.Prelude.{◌<◌};
-ghost use Rattle.lx_piece.specs.Cutting.{IsCutterOf};
+ghost use Rattle.lx_plan.specs.Cutting.{IsCutterOf};
 
 use crate::collector::{expect_delivery, expect_reply};
 use crate::plans::echo_plan;

@@ -1,7 +1,7 @@
 //! A file's pieces: full ones, and a last one that is marked.
 
 ghost use Rattle.std.specs.Prelude.{◌<◌, ◌≤◌, length};
-ghost use Rattle.lx_piece.specs.Cutting.{IsCutterOf};
+ghost use Rattle.lx_plan.specs.Cutting.{IsCutterOf};
 
 use crate::plans::{echo_plan, plan_of};
 use lx_fixtures::{MIXED_FILES, MIXED_RULES, THREE_RULES, TWO_WORDS, last_file_first};

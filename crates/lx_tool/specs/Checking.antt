@@ -7,7 +7,7 @@ use Rattle.lx_check.specs.Further.{AreFindings, IfRefused}
 use Rattle.lx_check.specs.declared.report.Report.{Report}
 use Rattle.lx_check.specs.declared.report.Report.TheVariants as report
 use Rattle.lx_findings.specs.Said.{TellsVerdict}
-use Rattle.lx_piece.specs.Plans.{PlainInput}
+use Rattle.lx_plan.specs.Plans.{PlainInput}
 use Rattle.lx_words.specs.CommandLine.{PlainCheck}
 use Rattle.lx_tool.specs.Sources.{whole}
 use Rattle.lx_tool.specs.Statuses.{report_in}

@@ -2,7 +2,7 @@
 use Rattle.std.specs.Prelude.{◌≡◌, ◌≢◌, ◌⊎◌, ℕ, true, false, List, Option, None}
 use Rattle.lx_flex.specs.Imported.{FlexDefinition, FlexRule, IsImported}
 use Rattle.lx_rules.specs.Plain.{StartCondition}
-use Rattle.lx_piece.specs.Plans.{PlainInput}
+use Rattle.lx_plan.specs.Plans.{PlainInput}
 use Rattle.lx_words.specs.CommandLine.{PlainC, PlainImport}
 use Rattle.lx_tool.specs.Printing.{IsPlaced, IsScannerFault, IsWritten}
 use Rattle.lx_tool.specs.Sources.{whole}

@@ -9,7 +9,7 @@ use lx_auto::BuildFault;
 use lx_c::OptionFault;
 use lx_forms::ChoiceFault;
 use lx_post::RunFault;
-use lx_spec::fault::{Code, SpecFault};
+use lx_spec::{Code, SpecFault};
 use lx_tables::TableFault;
 use std::alloc::{AllocError, AllocFailed};
 use std::fmt::{self, Display, Formatter, Write};

@@ -5,9 +5,9 @@ use crate::kinds::KindSet;
 use lx_diagnose::Span;
 use lx_diagnose::places::between;
 use lx_diagnose::scan::{begins_at, behind_blanks, find, is_at, is_blank_at, next_blank, part};
-use lx_spec::block::{Count, Mode, is_closed, with_line};
-use lx_spec::line::{Line, line_of};
-use lx_spec::rule_line::{Prefix, RuleLine, rule_line_of};
+use lx_sections::block::{Count, Mode, is_closed, with_line};
+use lx_sections::line::{Line, line_of};
+use lx_sections::rule_line::{Prefix, RuleLine, rule_line_of};
 use std::alloc::{AllocError, Global};
 
 /// A part of the text, and what the line before it allows.

@@ -7,8 +7,8 @@ use lx_diagnose::Span;
 use lx_diagnose::places::between;
 use lx_diagnose::scan::{behind_blanks, part};
 use lx_ere::{EreFault, read_pattern};
-use lx_spec::action::{Action, Statement, read_action};
-use lx_spec::rule_line::{Prefix, RuleLine, rule_line_of};
+use lx_sections::action::{Action, Statement, read_action};
+use lx_sections::rule_line::{Prefix, RuleLine, rule_line_of};
 use std::alloc::{AllocError, Global};
 
 fn does_anything(statements: &[Statement]) -> bool {

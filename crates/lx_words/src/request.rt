@@ -1,8 +1,8 @@
 //! What the words of the command line ask for.
 
 ghost use Rattle.std.specs.Prelude.{◌<◌, ◌≤◌};
-ghost use Rattle.lx_piece.specs.Plans.{max_items};
-ghost use Rattle.lx_post.specs.Claimed.{max_workers};
+ghost use Rattle.lx_plan.specs.Plans.{max_items};
+ghost use Rattle.lx_claims.specs.Claimed.{max_workers};
 ghost use Rattle.lx_words.specs.Limits.{most_told};
 
 use clap::Error;

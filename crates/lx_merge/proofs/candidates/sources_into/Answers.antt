@@ -1,6 +1,6 @@
 use Rattle.std.proofs.Common.{◌≡◌, arith}
 use Rattle.std.proofs.lemmas.Result.{IfOk-weaker}
-use Rattle.lx_merge.specs.Completion.{total}
+use Rattle.lx_partition.specs.Completion.{total}
 use Rattle.lx_merge.proofs.Containing.{all_contain_preimage, contain_preimage}
 use Rattle.lx_merge.proofs.candidates.sources_into.Goals as goal
 

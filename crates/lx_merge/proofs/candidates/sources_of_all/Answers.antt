@@ -1,5 +1,5 @@
 use Rattle.std.proofs.Common.{◌≡◌, Contains, add-one, sym, subst, arith}
-use Rattle.lx_merge.specs.Completion.{total}
+use Rattle.lx_partition.specs.Completion.{total}
 use Rattle.lx_merge.specs.Sources.{AddsBelow, sources_of}
 use Rattle.lx_merge.proofs.Containing.{sources_more}
 use Rattle.lx_merge.proofs.candidates.sources_of_all.Goals as goal

@@ -1,5 +1,5 @@
 use Rattle.std.proofs.Common.{◌≡◌, ◌≢◌, ◌<◌, ◌≤◌, ◌-◌, ℕ, true, false, Contains, length, slice_index}
-use Rattle.lx_merge.specs.Partitions.{flag}
+use Rattle.lx_partition.specs.Partitions.{flag}
 use Rattle.lx_merge.proofs.members.members_of.Given as goal
 
 abbrev pub invariant-loop-state : goal.invariant-loop-state

@@ -1,6 +1,6 @@
 use Rattle.std.proofs.Common.{◌∙◌, arith, ap}
 use Rattle.std.proofs.lemmas.Grind.{get_or_default_zero}
-use Rattle.lx_merge.specs.Partitions.{block}
+use Rattle.lx_partition.specs.Partitions.{block}
 use Rattle.lx_merge.proofs.QuotientSteps.{target_push}
 use Rattle.lx_merge.proofs.quotient.add_row.Goals as goal
 

@@ -1,6 +1,6 @@
 use Rattle.std.proofs.Common.{◌-◌}
-use Rattle.lx_merge.specs.Completion.{total}
-use Rattle.lx_merge.specs.Partitions.{IsSound, block_count}
+use Rattle.lx_partition.specs.Completion.{total}
+use Rattle.lx_partition.specs.Partitions.{IsSound, block_count}
 use Rattle.lx_merge.proofs.split.refined.Given as goal
 
 abbrev pub invariant-loop-s : goal.invariant-loop-s

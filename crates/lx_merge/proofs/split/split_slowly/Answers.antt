@@ -1,5 +1,5 @@
 use Rattle.std.proofs.Common.{◌≡◌, arith}
-use Rattle.lx_merge.specs.Completion.{total}
+use Rattle.lx_partition.specs.Completion.{total}
 use Rattle.lx_merge.proofs.Containing.{all_contain_preimage}
 use Rattle.lx_merge.proofs.split.split_slowly.Goals as goal
 

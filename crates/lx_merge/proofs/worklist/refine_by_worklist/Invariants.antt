@@ -1,5 +1,5 @@
 use Rattle.lx_merge.specs.SplitMeasure.{splits_left}
-use Rattle.lx_merge.specs.Partitions.{IsSound}
+use Rattle.lx_partition.specs.Partitions.{IsSound}
 use Rattle.lx_merge.proofs.worklist.refine_by_worklist.Given as goal
 
 abbrev pub invariant-loop-block : goal.invariant-loop-block

@@ -1,6 +1,6 @@
 use Rattle.std.proofs.Common.{◌≤◌, vec_len}
 use Rattle.lx_merge.specs.SplitMeasure.{splits_left}
-use Rattle.lx_merge.specs.Partitions.{IsSound}
+use Rattle.lx_partition.specs.Partitions.{IsSound}
 use Rattle.lx_merge.proofs.worklist.split_by.Given as goal
 
 abbrev pub invariant-loop-from : goal.invariant-loop-from

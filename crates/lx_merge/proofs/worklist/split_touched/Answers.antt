@@ -1,5 +1,5 @@
 use Rattle.std.proofs.Common.{◌≡◌, ◌+◌, arith}
-use Rattle.lx_merge.specs.Partitions.{block_count}
+use Rattle.lx_partition.specs.Partitions.{block_count}
 use Rattle.lx_merge.proofs.Splits.{blocks_at_most}
 use Rattle.lx_merge.proofs.worklist.split_touched.Goals as goal
 

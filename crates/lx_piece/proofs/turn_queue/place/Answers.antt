@@ -1,6 +1,6 @@
 use Rattle.std.proofs.Common.{sym, ◌∙◌, subst, ◌+◌}
 use Rattle.std.proofs.lemmas.Result.{IfOk-weaker}
-use Rattle.lx_piece.specs.Plans.{Planned}
+use Rattle.lx_plan.specs.Plans.{Planned}
 use Rattle.lx_piece.specs.Passing.{KeepsUp, TookWaiting, counted, queued}
 use Rattle.lx_piece.proofs.Handing.{held_later, taken_open, taken_closed}
 use Rattle.lx_piece.proofs.turn_queue.place.Goals as goal

@@ -1,5 +1,5 @@
 use Rattle.std.proofs.Common.{◌≡◌, List, length, drop, length-drop, sym, ◌∙◌, subst, ap, arith}
-use Rattle.lx_piece.specs.Plans.{Planned}
+use Rattle.lx_plan.specs.Plans.{Planned}
 use Rattle.lx_piece.specs.Turns.{HasTurn, turn_after}
 use Rattle.lx_piece.proofs.Handing.{TookSome, next_turn, some_next, some_all}
 use Rattle.lx_piece.proofs.turn_queue.take_queue.Goals as goal

@@ -1,6 +1,6 @@
 use Rattle.std.proofs.Common.{◌≡◌, ◌==◌, ◌<◌, ◌+◌, true, false, sym, ◌∙◌, subst, ap, arith, length}
-use Rattle.lx_piece.specs.Plans.{Planned, files_of}
-use Rattle.lx_piece.specs.Pieces.{pieces_of}
+use Rattle.lx_plan.specs.Plans.{Planned, files_of}
+use Rattle.lx_plan.specs.Pieces.{pieces_of}
 use Rattle.lx_piece.specs.Turns.{turn_at}
 use Rattle.lx_piece.specs.Passing.{AreFirstPieces, TookWaiting, queued, waiting_of}
 use Rattle.lx_piece.proofs.Handing.{TookFiles, queue_read, queue_set, queue_count, next_pieces, files_more, files_open}

@@ -1,6 +1,6 @@
 use Rattle.std.proofs.Common.{◌≡◌, ◌-◌}
 use Rattle.lx_piece.specs.Passing.{queued}
-use Rattle.lx_piece.specs.Plans.{files_of}
+use Rattle.lx_plan.specs.Plans.{files_of}
 use Rattle.lx_piece.proofs.Handing.{TookFiles}
 use Rattle.lx_piece.proofs.turn_queue.take_waiting.Given as goal
 

@@ -1,6 +1,6 @@
 use Rattle.std.proofs.Common.{◌≡◌, All}
 use Rattle.lx_post.specs.declared.job.Job.{Job}
-use Rattle.lx_post.specs.Claimed.{Drawn, fresh_seat}
+use Rattle.lx_claims.specs.Claimed.{Drawn, fresh_seat}
 use Rattle.lx_post.specs.Working.{IsReady}
 use Rattle.lx_post.proofs.scanning.jobs_of.Given as goal
 

@@ -1,6 +1,6 @@
 use Rattle.std.proofs.Common.{sym, ◌∙◌, nat_eq}
 use Rattle.std.proofs.lemmas.Bool.{both_ways, or_left, or_right, or_from, ne_eqb, eq-eqb}
-use Rattle.lx_piece.specs.Pieces.{is_closing, top_number}
+use Rattle.lx_plan.specs.Pieces.{is_closing, top_number}
 use Rattle.lx_piece.specs.Kept.{closed_before}
 use Rattle.lx_piece.proofs.Buffers.{refused_after_last, refused_contradicts, not_refused}
 use Rattle.lx_piece.proofs.reorder_buffer.ReorderBuffer.cause.Goals as goal

@@ -1,6 +1,6 @@
 use Rattle.std.proofs.Common.{◌<◌, ◌+◌, sym, subst, arith, length, List, ℕ}
 use Rattle.std.specs.Prelude.{slice_set}
-use Rattle.lx_piece.specs.Plans.{Planned, IsPlan}
+use Rattle.lx_plan.specs.Plans.{Planned, IsPlan}
 use Rattle.lx_piece.specs.Relayed.{IsNextPieceBy}
 use Rattle.lx_piece.specs.Turns.{IsTurnBy}
 use Rattle.lx_piece.specs.Passing.{Passing, KeepsUp, PassesOn, queued}

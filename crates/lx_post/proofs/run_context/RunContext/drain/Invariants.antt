@@ -1,4 +1,4 @@
-use Rattle.lx_post.specs.Posted.{IsTakePassOf}
+use Rattle.lx_notes.specs.Posted.{IsTakePassOf}
 use Rattle.lx_post.proofs.run_context.RunContext.drain.Given as goal
 
 abbrev pub invariant-loop : goal.invariant-loop

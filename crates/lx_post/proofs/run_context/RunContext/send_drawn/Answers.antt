@@ -1,5 +1,5 @@
 use Rattle.std.proofs.Common.{◌∙◌, ap}
-use Rattle.lx_post.specs.Claimed.{Drawn}
+use Rattle.lx_claims.specs.Claimed.{Drawn}
 use Rattle.lx_post.proofs.Sendings.{sends_on, goes_on, drawn_same, drawn_one}
 use Rattle.lx_post.proofs.run_context.RunContext.send_drawn.Goals as goal
 

@@ -1,4 +1,4 @@
-use Rattle.lx_post.specs.Claimed.{IsSeatOf}
+use Rattle.lx_claims.specs.Claimed.{IsSeatOf}
 use Rattle.lx_post.specs.Working.{HasDrawn, SendsPieces}
 use Rattle.lx_post.proofs.run_context.RunContext.send_drawn.Given as goal
 

@@ -1,5 +1,5 @@
 use Rattle.std.proofs.Common.{◌∙◌, sym, ap, subst}
-use Rattle.lx_piece.specs.Pieces.{piece_by}
+use Rattle.lx_plan.specs.Pieces.{piece_by}
 use Rattle.lx_post.specs.Working.{HasSent}
 use Rattle.lx_post.proofs.Sendings.{may_send_piece, sent_last}
 use Rattle.lx_post.proofs.run_context.RunContext.send_file.Goals as goal

@@ -1,0 +1,2 @@
+pub mod DrawSteps
+pub mod ViewSums

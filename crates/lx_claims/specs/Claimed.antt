@@ -1,0 +1,45 @@
+-- Claims and their seats as contracts see them.
+use Rattle.std.specs.Prelude.{◌≡◌, ◌≤◌, ℕ, ◌==◌, if◌then◌else◌, nat_lt, Bool, false, List, [], count_by, sum_by}
+use Rattle.atomic_table.specs.Seated.{TableId}
+use Rattle.lx_plan.specs.Plans.{Planned, files_of, max_files}
+
+-- the most workers that a run has
+abbrev pub max_workers : ℕ
+max_workers = 8
+
+-- claims: which word it is, how many files there are, and how many workers draw them
+pub record Claimed : Type 0 where
+  pub word : TableId
+  pub files : ℕ
+  pub workers : ℕ
+
+-- a seat: from which word it draws, how many files there are, whether it was answered that none is left, and what it drew, in order
+pub record Drawn : Type 0 where
+  pub word : TableId
+  pub files : ℕ
+  pub done : Bool
+  pub drawn : List ℕ
+
+-- the seat is one of these claims
+abbrev pub IsSeatOf : Claimed → Drawn → Type 0
+IsSeatOf claims seat = (seat.word ≡ claims.word) × (seat.files ≡ claims.files)
+
+-- the claims are of the files of this plan
+abbrev pub AreClaimsOf : Planned → Claimed → Type 0
+AreClaimsOf plan claims = (claims.files ≡ files_of plan) × (claims.files ≤ max_files)
+
+-- a seat of these claims that drew nothing
+abbrev pub fresh_seat : Claimed → Drawn
+fresh_seat claims = record { word = claims.word; files = claims.files; done = false; drawn = [] }
+
+-- how often x stands in the list
+abbrev pub times : ℕ → List ℕ → ℕ
+times x xs = count_by (λ y. y == x) xs
+
+-- how often x stands in the lists of all seats together
+abbrev pub times_drawn : ℕ → List Drawn → ℕ
+times_drawn x seats = sum_by (λ seat. times x seat.drawn) seats
+
+-- once where it is below n, and else never
+abbrev pub once_below : ℕ → ℕ → ℕ
+once_below x n = if nat_lt x n then 1 else 0

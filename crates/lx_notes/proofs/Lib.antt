@@ -1,0 +1,3 @@
+pub mod Comings
+pub mod NoteLists
+pub mod PostSteps

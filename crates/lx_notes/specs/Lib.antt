@@ -1,0 +1,4 @@
+pub mod Arrived
+pub mod Notes
+pub mod Posted
+pub mod Posting

@@ -1,0 +1,4 @@
+pub mod Cutting
+pub mod PieceLaws
+pub mod Pieces
+pub mod Plans
