@@ -1,7 +1,7 @@
 //! Pieces of plans, and strangers among them.
 
 ghost use Rattle.std.specs.Prelude.{◌≡◌, ◌<◌, IfOk};
-ghost use Rattle.lx_piece.specs.Arrivals.{AreHonest};
+ghost use Rattle.lx_collector.specs.Arrivals.{AreHonest};
 ghost use Rattle.lx_plan.specs.Pieces.{IsPieceOf};
 ghost use Rattle.lx_plan.specs.Plans.{files_of};
 

@@ -1,12 +1,6 @@
 pub mod SoFar
-pub mod AnyOf
-pub mod Buffers
-pub mod Stands
-pub mod Readies
-pub mod Standing
 pub mod Relays
 pub mod Deliveries
-pub mod Closed
 pub mod Arrived
 pub mod Whole
 pub mod Turned

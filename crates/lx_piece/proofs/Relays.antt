@@ -10,14 +10,11 @@ use Rattle.lx_plan.specs.declared.piece.Piece.{Piece}
 use Rattle.lx_plan.specs.Pieces.{Making}
 use Rattle.lx_plan.specs.PieceLaws.{takes_in_order}
 use Rattle.lx_plan.specs.Plans.{Planned}
-use Rattle.lx_piece.specs.Kept.{Buffered, Delivers, KeepsIn, held_at, held_total}
+use Rattle.lx_collector.specs.Kept.{Buffered, Delivers, KeepsIn, held_at, held_total}
 use Rattle.lx_piece.specs.Relayed.{HoldsPlanned, IsNextPieceBy, AreAtMost}
-use Rattle.lx_piece.proofs.Readies.{get_set_same, get_set_other}
-use Rattle.lx_piece.proofs.Standing.{same_some}
-
--- the counts of these buffers
-abbrev pub nexts : {C : Type 0} → List (Buffered C) → List ℕ
-nexts {C} buffers = map (λ (buffer : Buffered C). buffer.next) buffers
+use Rattle.lx_collector.proofs.Readies.{get_set_same, get_set_other}
+use Rattle.lx_collector.proofs.Standing.{same_some}
+use Rattle.lx_collector.proofs.Counts.{nexts, count_at}
 
 pub length-nexts : {C : Type 0} (buffers : List (Buffered C)) → length (nexts buffers) ≡ length buffers
 length-nexts [] = refl
@@ -28,12 +25,6 @@ pub counts_kept : {C : Type 0} (old new : List (Buffered C)) (p : Piece C) → K
 counts_kept {C} old new p k =
     ap nexts k.after
     ∙ map-set_same (λ (buffer : Buffered C). buffer.next) old p.file k.kept k.buffer (k.keeps.next ∙ sym (ap (λ (buffer : Buffered C). buffer.next) (get_or_from_slice_get old p.file k.buffer k.buffer k.there)))
-
--- a file's count
-pub count_at : {C : Type 0} (buffers : List (Buffered C)) (file : ℕ) (buffer : Buffered C) → slice_get buffers file ≡ Some buffer → slice_index (nexts buffers) file ≡ buffer.next
-count_at {C} buffers file buffer h =
-    get_or-map (λ (l : Buffered C). l.next) buffers file buffer 0 (slice_get_within buffers file buffer h)
-    ∙ ap (λ (l : Buffered C). l.next) (get_or_from_slice_get buffers file buffer buffer h)
 
 -- a piece that is delivered raises its file's count by one
 pub counts_delivered : {C : Type 0} (old new : List (Buffered C)) (file : ℕ) (p : Piece C) → Delivers old file p new → nexts new ≡ slice_set (nexts old) file (slice_index (nexts old) file + 1)

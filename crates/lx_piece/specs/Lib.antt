@@ -1,5 +1,3 @@
-pub mod Arrivals
-pub mod Kept
 pub mod Relayed
 pub mod Listed
 pub mod Turns

@@ -1,10 +1,10 @@
 use Rattle.std.specs.Prelude.{ℕ, ◌≡◌, ◌≢◌, ◌<◌, ◌≤◌, true, List, [], ◌∷◌, ◌++◌, Some, Contains, length, slice_index, slice_get}
 use Rattle.lx_plan.specs.declared.piece.Piece.{Piece}
-use Rattle.lx_piece.specs.declared.reply.Reply.{Reply}
-use Rattle.lx_piece.specs.Kept.{Buffered, held_at}
+use Rattle.lx_collector.specs.declared.reply.Reply.{Reply}
+use Rattle.lx_collector.specs.Kept.{Buffered, held_at}
 use Rattle.lx_plan.specs.Plans.{Planned, files_of}
 use Rattle.lx_plan.specs.Pieces.{ItemPiece, Making, bare, IsPieceBy, TakesInOrder, pieces_of, piece_by}
-use Rattle.lx_piece.specs.Arrivals.{RunShape, shape_of, AreHonestBy, accepted_of, replies_of, has_piece, IsLeastMissing}
+use Rattle.lx_collector.specs.Arrivals.{RunShape, shape_of, AreHonestBy, accepted_of, replies_of, has_piece, IsLeastMissing}
 
 -- p is the piece that a reader with these counts takes next of its file, of which it took the first ones, in order
 pub record IsNextPieceBy {C : Type 0} (made : Making C) (plan : Planned) (counts : List ℕ) (p : Piece C) : Type 0 where

@@ -1,7 +1,7 @@
 ghost use Rattle.std.specs.Prelude.{◌≡◌, List, [], ◌∷◌, ◌++◌, MatchOption, IfSome};
 ghost use Rattle.lx_plan.specs.Pieces.{ItemPiece};
 ghost use Rattle.lx_plan.specs.Plans.{Planned};
-ghost use Rattle.lx_piece.specs.Arrivals.{IsHonest};
+ghost use Rattle.lx_collector.specs.Arrivals.{IsHonest};
 
 use lx_plan::Piece;
 

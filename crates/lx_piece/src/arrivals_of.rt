@@ -3,7 +3,7 @@
 ghost use Rattle.std.specs.Prelude.{◌≡◌, List, [], ◌∷◌, ◌++◌, MatchOption, IfSome};
 ghost use Rattle.lx_plan.specs.declared.piece.Piece.{Piece};
 ghost use Rattle.lx_plan.specs.Plans.{Planned};
-ghost use Rattle.lx_piece.specs.Arrivals.{IsHonestBy};
+ghost use Rattle.lx_collector.specs.Arrivals.{IsHonestBy};
 
 use crate::arrivals::Arrivals;
 use crate::reader::Held;

@@ -1,26 +1,22 @@
-//! The collector that puts arriving pieces of files in order, and the relay that hands them to a reader.
+//! The relay that hands arriving pieces of files to a reader in order, and readers that hand on in the order of the files.
 #![tactic(auto)]
 
 mod arrivals;
 mod arrivals_of;
-mod collector;
 mod in_order;
 mod list_arrivals;
 mod plan_pieces;
 mod reader;
 mod reader_of;
-mod ready_files;
 mod relaying;
-mod reorder_buffer;
-mod reply;
 mod taker;
 mod turn_queue;
 
 pub use arrivals::Arrivals;
 pub use arrivals_of::ArrivalsOf;
-pub use collector::Collector;
 pub use in_order::InOrder;
 pub use list_arrivals::ListArrivals;
+pub use lx_collector::{Collector, Refused, Reply, Why};
 pub use lx_plan::{
     Cutter, Input, Items, KeepItems, MAX_FILES, MAX_ITEMS, Maker, Mark, Piece, Plan,
 };
@@ -28,6 +24,5 @@ pub use plan_pieces::relay_plan;
 pub use reader::{Held, Reader, ReaderFault};
 pub use reader_of::ReaderOf;
 pub use relaying::{RelayFault, relay, relay_of};
-pub use reply::{Refused, Reply, Why};
 pub use taker::Taker;
 pub use turn_queue::TurnQueue;

@@ -2,16 +2,15 @@ ghost use Rattle.std.specs.Prelude.{◌≡◌, ◌<◌, List, [], ◌∷◌, ◌
 ghost use Rattle.lx_plan.specs.declared.piece.Piece.{Piece};
 ghost use Rattle.lx_plan.specs.Plans.{files_of};
 ghost use Rattle.lx_plan.specs.Pieces.{top_number};
-ghost use Rattle.lx_piece.specs.Arrivals.{accepted_of, replies_of, reply_to};
-ghost use Rattle.lx_piece.specs.Kept.{StandsFor, NoneReady, shape_of_kept, delivered_counts};
+ghost use Rattle.lx_collector.specs.Arrivals.{accepted_of, replies_of, reply_to};
+ghost use Rattle.lx_collector.specs.Kept.{StandsFor, NoneReady, shape_of_kept, delivered_counts};
 ghost use Rattle.lx_piece.specs.Relayed.{Relayed, RelayedBy, RelayedInPart, RelayedInPartBy, HoldsPlanned, AreAtMost};
 
 use crate::arrivals::Arrivals;
 use crate::arrivals_of::ArrivalsOf;
-use crate::collector::Collector;
 use crate::reader::{Reader, ReaderFault};
 use crate::reader_of::ReaderOf;
-use crate::reply::{Reply, Why};
+use lx_collector::{Collector, Reply, Why};
 use lx_plan::{KeepItems, Maker, Piece, Plan};
 use std::alloc::{AllocError, AllocFailed, Global};
 use thiserror::Error;

@@ -2,7 +2,7 @@
 
 ghost use Rattle.std.specs.Prelude.{◌≡◌, IfOk, length, replicate};
 ghost use Rattle.lx_plan.specs.Plans.{files_of};
-ghost use Rattle.lx_piece.specs.Arrivals.{AreHonest};
+ghost use Rattle.lx_collector.specs.Arrivals.{AreHonest};
 
 use crate::plans::{echo_plan, plan_of};
 use lx_fixtures::{NO_RULES, among_strangers, last_file_first};

@@ -1,6 +1,6 @@
 use Rattle.std.proofs.Common.{◌≡◌, List}
 use Rattle.lx_plan.specs.declared.piece.Piece.{Piece}
-use Rattle.lx_piece.specs.Kept.{StandsFor, shape_of_kept, delivered_counts, held_total}
+use Rattle.lx_collector.specs.Kept.{StandsFor, shape_of_kept, delivered_counts, held_total}
 use Rattle.lx_piece.specs.Relayed.{HoldsPlanned, AreAtMost}
 use Rattle.lx_piece.proofs.relaying.deliver_all.Given as goal
 

@@ -1,7 +1,7 @@
 use Rattle.std.proofs.Common.{sym, subst, ap, ◌++◌, ◌∷◌, []}
-use Rattle.lx_piece.specs.Arrivals.{reply_for, cause_against, accepted_of}
-use Rattle.lx_piece.specs.Kept.{StandsFor, shape_of_kept, delivered_counts}
-use Rattle.lx_piece.proofs.Standing.{stands_still, named_cause}
+use Rattle.lx_collector.specs.Arrivals.{reply_for, cause_against, accepted_of}
+use Rattle.lx_collector.specs.Kept.{StandsFor, shape_of_kept, delivered_counts}
+use Rattle.lx_collector.proofs.Standing.{stands_still, named_cause}
 use Rattle.lx_piece.proofs.Relays.{counts_kept}
 use Rattle.lx_piece.proofs.relaying.offer_to.Goals as goal
 

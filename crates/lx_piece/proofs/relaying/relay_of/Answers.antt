@@ -3,8 +3,8 @@ use Rattle.std.specs.Prelude.{Result, slice_get}
 use Rattle.std.proofs.lemmas.List.Elements.{All-nil}
 use Rattle.std.proofs.lemmas.Result.{err_from_is_err_and}
 use Rattle.lx_plan.specs.Plans.{Planned}
-use Rattle.lx_piece.specs.Arrivals.{IsHonestBy}
-use Rattle.lx_piece.specs.Kept.{is_ready_at}
+use Rattle.lx_collector.specs.Arrivals.{IsHonestBy}
+use Rattle.lx_collector.specs.Kept.{is_ready_at}
 use Rattle.lx_piece.specs.Relayed.{HoldsPlanned}
 use Rattle.lx_piece.proofs.SoFar.{SoFar}
 use Rattle.lx_piece.proofs.Whole.{whole}

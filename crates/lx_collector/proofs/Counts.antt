@@ -1,0 +1,16 @@
+-- How many pieces were delivered of each file.
+use Rattle.std.proofs.Common.{ℕ, ◌≡◌, List, length, map, Some, ◌∙◌, ap}
+use Rattle.std.specs.Prelude.{slice_get, slice_index}
+use Rattle.std.proofs.lemmas.Option.{slice_get_within, get_or_from_slice_get}
+use Rattle.std.proofs.lemmas.List.{get_or-map}
+use Rattle.lx_collector.specs.Kept.{Buffered}
+
+-- the counts of these buffers
+abbrev pub nexts : {C : Type 0} → List (Buffered C) → List ℕ
+nexts {C} buffers = map (λ (buffer : Buffered C). buffer.next) buffers
+
+-- a file's count
+pub count_at : {C : Type 0} (buffers : List (Buffered C)) (file : ℕ) (buffer : Buffered C) → slice_get buffers file ≡ Some buffer → slice_index (nexts buffers) file ≡ buffer.next
+count_at {C} buffers file buffer h =
+    get_or-map (λ (l : Buffered C). l.next) buffers file buffer 0 (slice_get_within buffers file buffer h)
+    ∙ ap (λ (l : Buffered C). l.next) (get_or_from_slice_get buffers file buffer buffer h)
