@@ -55,20 +55,6 @@ fn tables_of_text(alloc: Global, text: &[u8]) -> Result<Option<Tables>, AllocErr
     }
 }
 
-// The rules that take the texts of this one, told by the text that has it alone.
-fn push_takers(
-    alloc: Global,
-    alone: &[u8],
-    tables: &Tables,
-    number: u16,
-    takers: &mut Vec<Takers>,
-) -> Result<(), AllocError> {
-    if let Some(of_rule) = tables_of_text(alloc, alone)? {
-        takers.push(takers_of(alloc, &of_rule, tables, number)?)?;
-    }
-    Ok(())
-}
-
 // The same of these rules of a text, by the tables of all of them.
 fn takers_among(
     alloc: Global,
@@ -95,7 +81,9 @@ fn takers_among(
             break;
         }
         left -= alone.len();
-        push_takers(alloc, &alone, tables, number, &mut takers)?;
+        if let Some(alone) = tables_of_text(alloc, &alone)? {
+            takers.push(takers_of(alloc, &alone, tables, number)?)?;
+        }
     }
     Ok(takers)
 }
