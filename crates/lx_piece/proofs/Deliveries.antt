@@ -16,7 +16,7 @@ use Rattle.lx_piece.proofs.SoFar.{SoFar}
 use Rattle.lx_collector.proofs.AnyOf.{any_last, any_of}
 use Rattle.lx_plan.specs.PieceLaws.{takes_in_order}
 use Rattle.lx_collector.proofs.Standing.{known, accepted_last, replies_last}
-use Rattle.lx_piece.proofs.Relays.{nexts, length-nexts, count_at}
+use Rattle.lx_collector.proofs.Counts.{nexts, length-nexts, count_at}
 
 -- an honest arrival leaves the accepted pieces the plan's
 pub with_planned : {C : Type 0} (made : Making C) (plan : Planned) (accepted : List (Piece C)) (p : Piece C) → All (IsPieceBy made plan) accepted → IsHonestBy made plan p → All (IsPieceBy made plan) (with_arrival (shape_of plan) accepted p)

@@ -14,11 +14,7 @@ use Rattle.lx_collector.specs.Kept.{Buffered, Delivers, KeepsIn, held_at, held_t
 use Rattle.lx_piece.specs.Relayed.{HoldsPlanned, IsNextPieceBy, AreAtMost}
 use Rattle.lx_collector.proofs.Readies.{get_set_same, get_set_other}
 use Rattle.lx_collector.proofs.Standing.{same_some}
-use Rattle.lx_collector.proofs.Counts.{nexts, count_at}
-
-pub length-nexts : {C : Type 0} (buffers : List (Buffered C)) → length (nexts buffers) ≡ length buffers
-length-nexts [] = refl
-length-nexts (buffer ∷ buffers) = ap suc (length-nexts buffers)
+use Rattle.lx_collector.proofs.Counts.{nexts, length-nexts, count_at}
 
 -- a piece that is kept changes no count
 pub counts_kept : {C : Type 0} (old new : List (Buffered C)) (p : Piece C) → KeepsIn old p new → nexts new ≡ nexts old

@@ -1,6 +1,7 @@
 use Rattle.std.proofs.Common.{sym, ◌∙◌, subst}
 use Rattle.lx_piece.specs.Relayed.{IsNextPieceBy, AreAtMost}
-use Rattle.lx_piece.proofs.Relays.{nexts, delivered_is_next, counts_follow, planned_delivered, fewer_held, counts_rise, risen_more, same_size}
+use Rattle.lx_piece.proofs.Relays.{delivered_is_next, counts_follow, planned_delivered, fewer_held, counts_rise, risen_more, same_size}
+use Rattle.lx_collector.proofs.Counts.{nexts}
 use Rattle.lx_collector.proofs.Standing.{same_shape}
 use Rattle.lx_piece.proofs.relaying.deliver_all.Goals as goal
 
