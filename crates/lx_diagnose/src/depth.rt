@@ -72,16 +72,6 @@ fn push_mentions(
     Ok(())
 }
 
-fn no_rows(alloc: Global, count: usize) -> Result<(Vec<Row>, Vec<Stage>), AllocError> {
-    let mut rows = Vec::new(alloc);
-    let mut stages = Vec::new(alloc);
-    for _ in 0..count {
-        rows.push(Row { first: 0, end: 0 })?;
-        stages.push(Stage::Pending)?;
-    }
-    Ok((rows, stages))
-}
-
 fn set_row(rows: &mut [Row], number: usize, row: Row) {
     if number < rows.len() {
         rows[number] = row;
@@ -118,7 +108,9 @@ pub(crate) fn mentions_of(
     visits: &[Visit],
 ) -> Result<Mentions, AllocError> {
     let mut mentions = Vec::new(alloc);
-    let (mut rows, stages) = no_rows(alloc, outline.definitions.len())?;
+    let count = outline.definitions.len();
+    let mut rows = vec![in alloc; Row { first: 0, end: 0 }; count]?;
+    let stages = vec![in alloc; Stage::Pending; count]?;
     for visit in visits {
         let number = visit.definition;
         let names = names_in(alloc, text, substitute_of(&outline.definitions, number))?;

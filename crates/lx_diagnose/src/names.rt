@@ -64,15 +64,6 @@ pub(crate) fn substitute_of(definitions: &[DefinitionLine], number: usize) -> Sp
     }
 }
 
-// So many flags, none of which is set.
-fn no_flags(alloc: Global, count: usize) -> Result<Vec<bool>, AllocError> {
-    let mut flags = Vec::new(alloc);
-    for _ in 0..count {
-        flags.push(false)?;
-    }
-    Ok(flags)
-}
-
 // Adds a definition that wasn't met yet.
 fn add_visit(seen: &mut [bool], visits: &mut Vec<Visit>, visit: Visit) -> Result<(), AllocError> {
     if visit.definition < seen.len() && !seen[visit.definition] {
@@ -84,20 +75,17 @@ fn add_visit(seen: &mut [bool], visits: &mut Vec<Visit>, visit: Visit) -> Result
 
 // Adds the definitions that the names of an expression mean; from the rule they are met by the name itself.
 fn add_visits(
+    alloc: Global,
     outline: &Outline,
     text: &[u8],
-    names: &[Span],
+    expression: Span,
     via: Option<Span>,
     seen: &mut [bool],
     visits: &mut Vec<Visit>,
 ) -> Result<(), AllocError> {
-    for name in names {
-        let name = *name;
-        if let Some(definition) = number_of(outline, text, name) {
-            let via = match via {
-                Some(first) => first,
-                None => name,
-            };
+    for name in &names_in(alloc, text, expression)? {
+        if let Some(definition) = number_of(outline, text, *name) {
+            let via = via.unwrap_or(*name);
             add_visit(seen, visits, Visit { definition, via })?;
         }
     }
@@ -113,21 +101,22 @@ pub(crate) fn visits_of(
 ) -> Result<Vec<Visit>, AllocError> {
     let count = outline.definitions.len();
     let mut visits = Vec::new(alloc);
-    let mut seen = no_flags(alloc, count)?;
-    let names = names_in(alloc, text, body_of(text, rule.pattern))?;
-    add_visits(outline, text, &names, None, &mut seen, &mut visits)?;
+    let mut seen = vec![in alloc; false; count]?;
+    let body = body_of(text, rule.pattern);
+    add_visits(alloc, outline, text, body, None, &mut seen, &mut visits)?;
     for at in 0..count {
         if at >= visits.len() {
             break;
         }
         let visit: Visit = visits[at];
         let substitute = substitute_of(&outline.definitions, visit.definition);
-        let names = names_in(alloc, text, substitute)?;
+        let via = Some(visit.via);
         add_visits(
+            alloc,
             outline,
             text,
-            &names,
-            Some(visit.via),
+            substitute,
+            via,
             &mut seen,
             &mut visits,
         )?;

@@ -2,6 +2,7 @@
 #![tactic(auto)]
 
 mod app;
+mod commands;
 mod reading;
 mod request;
 mod version;

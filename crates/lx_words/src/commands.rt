@@ -1,0 +1,359 @@
+// The commands of `lx` and their words, as tables.
+
+use crate::request::MOST_TOLD;
+use lx_piece::MAX_ITEMS;
+use lx_post::MAX_WORKERS;
+
+/// How an option is written.
+pub(crate) enum Name {
+    Short(char),
+    Long(&'static str),
+}
+
+/// The numbers that an option takes, and the one where it isn't given.
+pub(crate) struct Numbers {
+    pub least: i64,
+    pub most: i64,
+    pub default: Option<&'static str>,
+}
+
+/// What a word of a command is.
+pub(crate) enum Form {
+    /// An option without a value.
+    Flag(Name),
+    /// One with a value, which the help calls so.
+    Value(Name, &'static str),
+    /// The same, any number of times.
+    Values(Name, &'static str),
+    /// The same, once, where the value is a number.
+    Number(Name, &'static str, Numbers),
+    /// A word by itself, which has to be there.
+    Needed,
+    /// One that may be left out.
+    Optional,
+    /// One or more.
+    Several,
+}
+
+/// A word of a command, by which `clap` reads it back.
+pub(crate) struct Argument {
+    pub id: &'static str,
+    pub form: Form,
+    pub help: &'static str,
+}
+
+/// A command.
+pub(crate) struct Subcommand {
+    pub name: &'static str,
+    pub about: &'static str,
+    pub arguments: &'static [Argument],
+}
+
+// Names of files.
+const SPEC: Argument = Argument {
+    id: "SPEC",
+    form: Form::Needed,
+    help: "The specification",
+};
+
+const TABLES: Argument = Argument {
+    id: "TABLES",
+    form: Form::Needed,
+    help: "The tables, in either version of their text",
+};
+
+const RULES: Argument = Argument {
+    id: "RULES",
+    form: Form::Needed,
+    help: "The specification, or tables, whose text begins with lx-tables",
+};
+
+const FLEX: Argument = Argument {
+    id: "FLEX",
+    form: Form::Needed,
+    help: "The specification for flex",
+};
+
+const FILES: Argument = Argument {
+    id: "FILE",
+    form: Form::Several,
+    help: "The files, in the order of the listing; - is standard input, of which nothing is listed before its end",
+};
+
+// What `gen` and `up` take.
+const TARGET: Argument = Argument {
+    id: "target",
+    form: Form::Value(Name::Short('o'), "FILE"),
+    help: "The file that gets the text, all of it or nothing, in the place of the output",
+};
+
+const SCANNER: Argument = Argument {
+    id: "c",
+    form: Form::Flag(Name::Long("c")),
+    help: "Prints a scanner in C in the place of tables",
+};
+
+const HEADER: Argument = Argument {
+    id: "header",
+    form: Form::Flag(Name::Long("header")),
+    help: "Prints the declarations of that scanner",
+};
+
+const PREFIX: Argument = Argument {
+    id: "prefix",
+    form: Form::Value(Name::Long("prefix"), "P"),
+    help: "What the names of that scanner begin with, and else lx",
+};
+
+const INCLUDE: Argument = Argument {
+    id: "include",
+    form: Form::Value(Name::Long("include"), "FILE"),
+    help: "The file that declares the kinds of that scanner, as bison writes one",
+};
+
+const DIRECT: Argument = Argument {
+    id: "direct",
+    form: Form::Flag(Name::Long("direct")),
+    help: "Makes it of code for each state, which is faster, in the place of rows",
+};
+
+// What `scan` and `run` take.
+const SCAN_WORKERS: Argument = Argument {
+    id: "workers",
+    form: Form::Number(
+        Name::Short('j'),
+        "N",
+        Numbers {
+            least: 1,
+            most: MAX_WORKERS as i64,
+            default: Some("4"),
+        },
+    ),
+    help: "With how many threads the files are scanned, from 1 to 8",
+};
+
+const RUN_WORKERS: Argument = Argument {
+    id: "workers",
+    form: Form::Number(
+        Name::Short('j'),
+        "N",
+        Numbers {
+            least: 1,
+            most: MAX_WORKERS as i64,
+            default: None,
+        },
+    ),
+    help: "With how many threads the files are scanned, from 1 to 8, and else on one",
+};
+
+const ITEMS: Argument = Argument {
+    id: "items",
+    form: Form::Number(
+        Name::Short('b'),
+        "K",
+        Numbers {
+            least: 1,
+            most: MAX_ITEMS as i64,
+            default: Some("256"),
+        },
+    ),
+    help: "How many items a piece has, from 1 to 4096",
+};
+
+const NAMES: Argument = Argument {
+    id: "names",
+    form: Form::Flag(Name::Long("names")),
+    help: "Prints the names of files in the place of their numbers",
+};
+
+const ONLY: Argument = Argument {
+    id: "only",
+    form: Form::Value(Name::Long("only"), "KIND,.."),
+    help: "Prints tokens of these kinds alone, by name or number, and - for echoes",
+};
+
+const NO_TEXT: Argument = Argument {
+    id: "no-text",
+    form: Form::Flag(Name::Long("no-text")),
+    help: "Prints no texts",
+};
+
+const FORMAT: Argument = Argument {
+    id: "format",
+    form: Form::Value(Name::Long("format"), "FORMAT"),
+    help: "Prints lines of fields (text), as without it, or a JSON object a line (json)",
+};
+
+const FIRST: Argument = Argument {
+    id: "first",
+    form: Form::Number(
+        Name::Long("first"),
+        "N",
+        Numbers {
+            least: 0,
+            most: u32::MAX as i64,
+            default: Some("0"),
+        },
+    ),
+    help: "The number of the first file",
+};
+
+const LIST: Argument = Argument {
+    id: "list",
+    form: Form::Value(Name::Long("files-from"), "LIST"),
+    help: "A file that names further files, one a line, behind those that are words",
+};
+
+const ZEROS: Argument = Argument {
+    id: "zeros",
+    form: Form::Flag(Name::Short('0')),
+    help: "The names in LIST are separated by bytes 0",
+};
+
+// What `check` takes.
+const QUIET: Argument = Argument {
+    id: "quiet",
+    form: Form::Flag(Name::Short('q')),
+    help: "Prints the findings alone, without lines of the source and counts",
+};
+
+const WARNINGS: Argument = Argument {
+    id: "warnings",
+    form: Form::Values(Name::Short('W'), "NAME"),
+    help: "Switches a warning on, or off as no-NAME; all, and error: warnings are errors",
+};
+
+const MOST: Argument = Argument {
+    id: "most",
+    form: Form::Number(
+        Name::Long("most"),
+        "N",
+        Numbers {
+            least: 1,
+            most: MOST_TOLD as i64,
+            default: Some("20"),
+        },
+    ),
+    help: "How many errors are said, from 1 to 100",
+};
+
+const JSON: Argument = Argument {
+    id: "json",
+    form: Form::Flag(Name::Long("json")),
+    help: "Prints the findings as SARIF 2.1.0",
+};
+
+// What `explain`, `show` and `import` take.
+const WORD: Argument = Argument {
+    id: "WORD",
+    form: Form::Optional,
+    help: "The code or the cause; without it, all are listed",
+};
+
+const ALL: Argument = Argument {
+    id: "all",
+    form: Form::Flag(Name::Long("all")),
+    help: "Prints automata of more than 200 states too",
+};
+
+const ACTIONS: Argument = Argument {
+    id: "actions",
+    form: Form::Value(Name::Short('c'), "FILE"),
+    help: "The file that gets the actions in C",
+};
+
+const KINDS_PREFIX: Argument = Argument {
+    id: "prefix",
+    form: Form::Value(Name::Long("prefix"), "P"),
+    help: "What kinds begin with in that file, in small letters, and else lx",
+};
+
+const LOSSY: Argument = Argument {
+    id: "lossy",
+    form: Form::Flag(Name::Long("lossy")),
+    help: "Leaves out what can't be brought over, in the place of a refusal",
+};
+
+const GEN: &[Argument] = &[TARGET, SCANNER, HEADER, PREFIX, INCLUDE, DIRECT, SPEC];
+
+const UP: &[Argument] = &[TARGET, SCANNER, HEADER, PREFIX, INCLUDE, DIRECT, TABLES];
+
+const SCAN: &[Argument] = &[
+    SCAN_WORKERS,
+    ITEMS,
+    NAMES,
+    ONLY,
+    NO_TEXT,
+    FORMAT,
+    FIRST,
+    LIST,
+    ZEROS,
+    TABLES,
+    FILES,
+];
+
+const RUN: &[Argument] = &[
+    RUN_WORKERS,
+    ITEMS,
+    NAMES,
+    ONLY,
+    NO_TEXT,
+    FORMAT,
+    FIRST,
+    LIST,
+    ZEROS,
+    SPEC,
+    FILES,
+];
+
+const CHECK: &[Argument] = &[QUIET, WARNINGS, MOST, JSON, SPEC];
+
+const EXPLAIN: &[Argument] = &[WORD];
+
+const SHOW: &[Argument] = &[ALL, RULES];
+
+const IMPORT: &[Argument] = &[TARGET, ACTIONS, KINDS_PREFIX, LOSSY, FLEX];
+
+/// All commands: those that list, those that print what these list by, and those that help to write a specification.
+pub(crate) const COMMANDS: &[Subcommand] = &[
+    Subcommand {
+        name: "gen",
+        about: "Prints the tables of a specification, or a scanner in C",
+        arguments: GEN,
+    },
+    Subcommand {
+        name: "up",
+        about: "Prints tables in version 2, or as a scanner in C",
+        arguments: UP,
+    },
+    Subcommand {
+        name: "scan",
+        about: "Lists the tokens and the echoed bytes of files by tables",
+        arguments: SCAN,
+    },
+    Subcommand {
+        name: "run",
+        about: "Lists the tokens and the echoed bytes of files by a specification",
+        arguments: RUN,
+    },
+    Subcommand {
+        name: "check",
+        about: "Says what is wrong with a specification, and what is right but suspicious",
+        arguments: CHECK,
+    },
+    Subcommand {
+        name: "explain",
+        about: "Says what a code of an error or a cause means, and what to do",
+        arguments: EXPLAIN,
+    },
+    Subcommand {
+        name: "show",
+        about: "Prints the automaton as a graph for Graphviz",
+        arguments: SHOW,
+    },
+    Subcommand {
+        name: "import",
+        about: "Prints a specification made of one for flex",
+        arguments: IMPORT,
+    },
+];
