@@ -11,7 +11,7 @@ use Rattle.lx_c.specs.Actions.{array_text}
 use Rattle.lx_c.specs.Rows.{entry_text, line_begin_text}
 use Rattle.lx_numbering.specs.Words.{rule_word}
 use Rattle.lx_c.specs.Templates.{filled, number_then}
-use Rattle.lx_c.specs.declared.direct_templates.TheConstants.{MARKS, MAY_BE_EMPTY, NONE_IS_EMPTY, BEGIN_MATCH, AT_LINE_BEGIN, BEHIND_LINE_END, GOTO_STATE, BEGIN_STATES, STATE_LABEL, LOOP, STAYS, LOOP_RULE, AT_END, FIRST, NEWLINE, GO, OTHER, GOTO_RULE, BACK, GOTO_RULE_OF, NO_RULE, RULE_LABEL, MATCHED, SKIPPED, END_MATCH}
+use Rattle.lx_c.specs.declared.direct_templates.TheConstants.{MARKS, MAY_BE_EMPTY, NONE_IS_EMPTY, BEGIN_MATCH, AT_LINE_BEGIN, BEHIND_LINE_END, GOTO_STATE, BEGIN_STATES, STATE_LABEL, LOOP, RANGES, LOOP_RULE, AT_END, FIRST, NEWLINE, GO, OTHER, GOTO_RULE, BACK, GOTO_RULE_OF, NO_RULE, RULE_LABEL, MATCHED, SKIPPED, END_MATCH}
 
 -- constant text, a number, and what stands behind it
 abbrev pub numbered : Options → List ℕ → ℕ → List ℕ → List ℕ
@@ -82,12 +82,21 @@ ranges_of m s staying (suc n) = ranges_of m s staying n + one_if (begins m s sta
 unfoldable pub range_count : Machine → ℕ → Bool → ℕ
 range_count m s staying = ranges_of m s staying 256
 
--- a range, as a test of the byte c
+-- a range, as a test of the byte c. That it is at least 0 and at most 255 isn't asked, since compilers warn of that
+abbrev pub low_bound : ℕ → List ℕ
+low_bound b = if b == 0 then codes "(1" else codes "(c >= " ++ number b
+
+abbrev pub at_most : ℕ → List ℕ
+at_most b = codes " && c <= " ++ number_then b (codes ") || ")
+
+abbrev pub high_bound : ℕ → List ℕ
+high_bound b = if b == 255 then codes ") || " else at_most b
+
 abbrev pub low_text : Machine → ℕ → Bool → ℕ → List ℕ
-low_text m s staying b = if begins m s staying b then codes "(c >= " ++ number b else []
+low_text m s staying b = if begins m s staying b then low_bound b else []
 
 abbrev pub high_text : Machine → ℕ → Bool → ℕ → List ℕ
-high_text m s staying b = if ends m s staying b then codes " && c <= " ++ number_then b (codes ") || ") else []
+high_text m s staying b = if ends m s staying b then high_bound b else []
 
 abbrev pub range_text : Machine → ℕ → Bool → ℕ → List ℕ
 range_text m s staying b = low_text m s staying b ++ high_text m s staying b
@@ -95,15 +104,18 @@ range_text m s staying b = low_text m s staying b ++ high_text m s staying b
 abbrev pub ranges_text : Machine → ℕ → Bool → List ℕ
 ranges_text m s staying = flat_map (range_text m s staying) (range_with_len 0 256) ++ codes "0"
 
-abbrev pub other_ranges_text : Machine → ℕ → List ℕ
-other_ranges_text m s = codes "!(" ++ ranges_text m s false ++ codes ")"
+-- the loop of a state up to the rule that it accepts: by comparisons where the bytes on which it steps to itself are one range or two, or all others are, and else by the marks
+abbrev pub own_ranges_text : Options → Machine → ℕ → List ℕ
+own_ranges_text o m s = numbered o RANGES.now s (codes ", ") ++ ranges_text m s true
 
--- on which bytes a state steps to itself: by comparisons where these are, or all others are, one range or two, and else by the marks
+abbrev pub other_ranges_text : Options → Machine → ℕ → List ℕ
+other_ranges_text o m s = numbered o RANGES.now s (codes ", !(") ++ ranges_text m s false ++ codes ")"
+
 abbrev pub stays_text : Options → Machine → ℕ → List ℕ
 stays_text o m s =
-    if nat_lt (range_count m s true) 3 then ranges_text m s true
-    else if nat_lt (range_count m s false) 3 then other_ranges_text m s
-    else numbered o STAYS.now s (codes ", c, 1)")
+    if nat_lt (range_count m s true) 3 then own_ranges_text o m s
+    else if nat_lt (range_count m s false) 3 then other_ranges_text o m s
+    else numbered o LOOP.now s (codes "")
 
 -- ---- the step that is asked for first
 
@@ -218,7 +230,7 @@ main_code o m s None = codes "default: break;\n}\n"
 main_code o m s (Some t) = numbered o OTHER.now s (codes ")\n") ++ edge_text o m s t ++ codes "}\n"
 
 abbrev pub loop_code : Options → Machine → ℕ → List ℕ
-loop_code o m s = numbered o LOOP.now s (codes ", ") ++ stays_text o m s ++ numbered o LOOP_RULE.now (rule_word (accepted_by m s)) (codes ")\n")
+loop_code o m s = stays_text o m s ++ numbered o LOOP_RULE.now (rule_word (accepted_by m s)) (codes ")\n")
 
 -- the test whether the text is at its end, where it may be
 abbrev pub end_code : Options → Machine → ℕ → List ℕ

@@ -25,20 +25,59 @@ pub(crate) const MACROS: &[u8] =
 /* At the end of a part: what a state does where it has no step, unless more of the text may come. */
 #define @__AT_END(rule) { if (s->is_last) goto rule; goto @__more; }
 
-/* All steps of a state to itself: `stays` says of the byte c whether there is one. */
-#define @__LOOP(state, stays, rule) \
+/* The next four bytes of a loop, which ends before the first one for which `stays` doesn't hold of c. */
+#define @__FOUR(stays) \
+    c = p[0]; if (!(stays)) break; \
+    c = p[1]; if (!(stays)) { p += 1; break; } \
+    c = p[2]; if (!(stays)) { p += 2; break; } \
+    c = p[3]; if (!(stays)) { p += 3; break; } \
+    p += 4;
+
+/* The last bytes, of which there are fewer than four. */
+#define @__REST(stays, rule) \
+    while (p != end && (c = *p, stays)) p++; \
+    if (p == end) @__AT_END(rule) \
+    break;
+
+/* Blocks of bytes of which `stays` holds. Without a jump inside they are vectors to these compilers; to others they would be slow. */
+#if defined __OPTIMIZE__ && !defined __OPTIMIZE_SIZE__ && (defined __SSE2__ || defined __ARM_NEON) && (defined __clang__ || __GNUC__ >= 12)
+#define @__BLOCKS(stays) \
+    while (end - p >= 32) { \
+        unsigned char left = 0; \
+        int i; \
+        for (i = 0; i < 32; i++) { c = p[i]; left |= !(stays); } \
+        if (left) break; \
+        p += 32; \
+    }
+#else
+#define @__BLOCKS(stays)
+#endif
+
+/* All steps of a state to itself, by the marks. */
+#define @__LOOP(state, rule) \
     @__LINES(newline |= @__STEPS(state, 10, 1);) \
     for (;;) { \
-        if (p >= by_one) { \
-            while (p != end && (c = *p, stays)) p++; \
-            if (p == end) @__AT_END(rule) \
-            break; \
+        if (p >= by_one) { @__REST(@__STEPS(state, c, 1), rule) } \
+        @__FOUR(@__STEPS(state, c, 1)) \
+    }
+
+/* The same by comparisons of c: four bytes, 64 more, and behind these blocks. */
+#define @__RANGES(state, stays, rule) \
+    @__LINES(newline |= @__STEPS(state, 10, 1);) \
+    for (;;) { \
+        const unsigned char *stop; \
+        if (p < by_one) { @__FOUR(stays) } \
+        stop = end - p > 64 ? p + 64 : by_one; \
+        for (;;) { \
+            if (p >= stop) { \
+                if (p >= by_one) { @__REST(stays, rule) } \
+                @__BLOCKS(stays) \
+                stop = by_one; \
+                continue; \
+            } \
+            @__FOUR(stays) \
         } \
-        c = p[0]; if (!(stays)) break; \
-        c = p[1]; if (!(stays)) { p += 1; break; } \
-        c = p[2]; if (!(stays)) { p += 2; break; } \
-        c = p[3]; if (!(stays)) { p += 3; break; } \
-        p += 4; \
+        break; \
     }
 
 /* A step. */
@@ -67,7 +106,7 @@ pub(crate) const BEGIN_MATCH: &[u8] = br#"    (void)@__mark;
         /* The last place from which a step led away where a rule is accepted, and that rule. */
         const unsigned char *last;
         unsigned rule;
-        int c = 0;
+        unsigned char c = 0;
         @__LINES(int newline;)
         (void)by_one;
         (void)c;
@@ -100,13 +139,13 @@ pub(crate) const BEGIN_STATES: &[u8] = br#"        }
 /// The label of a state; its number stands behind.
 pub(crate) const STATE_LABEL: &[u8] = br#"@__s"#;
 
-/// Where a state steps to itself; its number stands behind.
+/// Where a state steps to itself, by the marks; its number stands behind.
 pub(crate) const LOOP: &[u8] = br#"@__LOOP("#;
 
-/// On which bytes, by the marks; the number of the state stands behind.
-pub(crate) const STAYS: &[u8] = br#"@__STEPS("#;
+/// The same by ranges of bytes, which stand behind the number.
+pub(crate) const RANGES: &[u8] = br#"@__RANGES("#;
 
-/// Between these bytes and the number of the rule plus 1, or 0, that the state accepts.
+/// Between that and the number of the rule plus 1, or 0, that the state accepts.
 pub(crate) const LOOP_RULE: &[u8] = br#", @__a"#;
 
 /// A state that doesn't step to itself; the number of its rule plus 1, or 0, stands behind.
@@ -190,13 +229,17 @@ pub(crate) const END_MATCH: &[u8] = br#"        }
 pub(crate) const DIRECT_LAST_LINES: &[u8] = br#"
 #undef @__AT_END
 #undef @__BEGIN
+#undef @__BLOCKS
 #undef @__CUT
 #undef @__EMPTY
+#undef @__FOUR
 #undef @__GO
 #undef @__LINES
 #undef @__LOOP
 #undef @__MATCHED
 #undef @__OTHER
 #undef @__PENDING
+#undef @__RANGES
+#undef @__REST
 #undef @__STEPS
 "#;

@@ -2,16 +2,14 @@
 
 ghost use Rattle.lx_automaton.specs.Automata.{accepted_by, state_count};
 ghost use Rattle.lx_c.specs.DirectCode as direct;
-ghost use Rattle.lx_c.specs.DirectCode.{begin_code, end_code, high_text, loop_code, low_text, numbered, other_ranges_text, range_text, ranges_text, stays_text};
+ghost use Rattle.lx_c.specs.DirectCode.{at_most, begin_code, end_code, high_bound, high_text, loop_code, low_bound, low_text, numbered, other_ranges_text, own_ranges_text, range_text, ranges_text, stays_text};
 ghost use Rattle.lx_numbering.specs.Words as rows;
-ghost use Rattle.lx_c.specs.Templates.{number_then};
 ghost use Rattle.lx_c.specs.declared.direct_templates.TheConstants.{AT_END};
 ghost use Rattle.lx_tables.specs.Output.{Wrote, WrotePrefix};
-ghost use Rattle.lx_tables.specs.Texts.{number};
 ghost use Rattle.std.specs.List.{flat_map, list_any, range_with_len};
-ghost use Rattle.std.specs.Prelude.{IfSome, OnErr, OnOk, Some, codes, length, not, slice_index_or, ◌==◌, ◌++◌, ◌<◌, ◌≡◌};
+ghost use Rattle.std.specs.Prelude.{IfSome, OnErr, OnOk, Some, codes, length, not, slice_index_or, ◌==◌, ◌<◌, ◌≡◌};
 
-use crate::direct_templates::{AT_END, LOOP, LOOP_RULE, STAYS};
+use crate::direct_templates::{AT_END, LOOP, LOOP_RULE, RANGES};
 use crate::options::Options;
 use crate::stepping::{class_target, leads, one_if, step_count, target_of, write_numbered_text};
 use crate::writing::{write_bytes, write_number_then, write_numbered};
@@ -188,11 +186,16 @@ fn only_starts(tables: &Tables, state: u32) -> bool
     is_start(tables, state) && !is_entered(tables, state)
 }
 
-fn write_low_of<W: Write>(out: &mut W, byte: u16) -> Result<(), io::Error>
-    ensures ok { OnOk result (Wrote (W.contents out.old) (W.contents out.new) (codes "(c >= " ++ number byte)) }
-    ensures err { OnErr result (WrotePrefix (W.contents out.old) (W.contents out.new) (codes "(c >= " ++ number byte)) }
+/// Writes where a range begins.
+fn write_low_bound<W: Write>(out: &mut W, byte: u16) -> Result<(), io::Error>
+    ensures ok { OnOk result (Wrote (W.contents out.old) (W.contents out.new) (low_bound byte)) }
+    ensures err { OnErr result (WrotePrefix (W.contents out.old) (W.contents out.new) (low_bound byte)) }
 {
-    write_numbered(out, b"(c >= ", u64::from(byte))
+    if byte == 0 {
+        write_bytes(out, b"(1")
+    } else {
+        write_numbered(out, b"(c >= ", u64::from(byte))
+    }
 }
 
 fn write_low<W: Write>(
@@ -208,18 +211,30 @@ fn write_low<W: Write>(
     ensures err { OnErr result (WrotePrefix (W.contents out.old) (W.contents out.new) (low_text tables.now.machine state staying byte)) }
 {
     if begins(tables, state, staying, byte) {
-        write_low_of(out, byte)
+        write_low_bound(out, byte)
     } else {
         Ok(())
     }
 }
 
-fn write_high_of<W: Write>(out: &mut W, byte: u16) -> Result<(), io::Error>
-    ensures ok { OnOk result (Wrote (W.contents out.old) (W.contents out.new) (codes " && c <= " ++ number_then byte (codes ") || "))) }
-    ensures err { OnErr result (WrotePrefix (W.contents out.old) (W.contents out.new) (codes " && c <= " ++ number_then byte (codes ") || "))) }
+fn write_at_most<W: Write>(out: &mut W, byte: u16) -> Result<(), io::Error>
+    ensures ok { OnOk result (Wrote (W.contents out.old) (W.contents out.new) (at_most byte)) }
+    ensures err { OnErr result (WrotePrefix (W.contents out.old) (W.contents out.new) (at_most byte)) }
 {
     write_bytes(out, b" && c <= ")?;
     write_number_then(out, u64::from(byte), b") || ")
+}
+
+/// Writes where a range ends.
+fn write_high_bound<W: Write>(out: &mut W, byte: u16) -> Result<(), io::Error>
+    ensures ok { OnOk result (Wrote (W.contents out.old) (W.contents out.new) (high_bound byte)) }
+    ensures err { OnErr result (WrotePrefix (W.contents out.old) (W.contents out.new) (high_bound byte)) }
+{
+    if byte == 255 {
+        write_bytes(out, b") || ")
+    } else {
+        write_at_most(out, byte)
+    }
 }
 
 fn write_high<W: Write>(
@@ -235,7 +250,7 @@ fn write_high<W: Write>(
     ensures err { OnErr result (WrotePrefix (W.contents out.old) (W.contents out.new) (high_text tables.now.machine state staying byte)) }
 {
     if ends(tables, state, staying, byte) {
-        write_high_of(out, byte)
+        write_high_bound(out, byte)
     } else {
         Ok(())
     }
@@ -287,16 +302,36 @@ fn write_ranges<W: Write>(
     write_bytes(out, b"0")
 }
 
-fn write_other_ranges<W: Write>(out: &mut W, tables: &Tables, state: u32) -> Result<(), io::Error>
+fn write_own_ranges<W: Write>(
+    out: &mut W,
+    options: &Options,
+    tables: &Tables,
+    state: u32,
+) -> Result<(), io::Error>
     requires { state < state_count tables.now.machine }
-    ensures ok { OnOk result (Wrote (W.contents out.old) (W.contents out.new) (other_ranges_text tables.now.machine state)) }
-    ensures err { OnErr result (WrotePrefix (W.contents out.old) (W.contents out.new) (other_ranges_text tables.now.machine state)) }
+    ensures ok { OnOk result (Wrote (W.contents out.old) (W.contents out.new) (own_ranges_text options.now tables.now.machine state)) }
+    ensures err { OnErr result (WrotePrefix (W.contents out.old) (W.contents out.new) (own_ranges_text options.now tables.now.machine state)) }
 {
-    write_bytes(out, b"!(")?;
+    write_numbered_text(out, options, RANGES, state, b", ")?;
+    write_ranges(out, tables, state, true)
+}
+
+fn write_other_ranges<W: Write>(
+    out: &mut W,
+    options: &Options,
+    tables: &Tables,
+    state: u32,
+) -> Result<(), io::Error>
+    requires { state < state_count tables.now.machine }
+    ensures ok { OnOk result (Wrote (W.contents out.old) (W.contents out.new) (other_ranges_text options.now tables.now.machine state)) }
+    ensures err { OnErr result (WrotePrefix (W.contents out.old) (W.contents out.new) (other_ranges_text options.now tables.now.machine state)) }
+{
+    write_numbered_text(out, options, RANGES, state, b", !(")?;
     write_ranges(out, tables, state, false)?;
     write_bytes(out, b")")
 }
 
+/// Writes the loop of a state up to the rule that it accepts.
 fn write_stays<W: Write>(
     out: &mut W,
     options: &Options,
@@ -308,12 +343,12 @@ fn write_stays<W: Write>(
     ensures err { OnErr result (WrotePrefix (W.contents out.old) (W.contents out.new) (stays_text options.now tables.now.machine state)) }
 {
     if range_count(tables, state, true) < 3 {
-        return write_ranges(out, tables, state, true);
+        return write_own_ranges(out, options, tables, state);
     }
     if range_count(tables, state, false) < 3 {
-        write_other_ranges(out, tables, state)
+        write_other_ranges(out, options, tables, state)
     } else {
-        write_numbered_text(out, options, STAYS, state, b", c, 1)")
+        write_numbered_text(out, options, LOOP, state, b"")
     }
 }
 
@@ -327,7 +362,6 @@ fn write_loop<W: Write>(
     ensures ok { OnOk result (Wrote (W.contents out.old) (W.contents out.new) (loop_code options.now tables.now.machine state)) }
     ensures err { OnErr result (WrotePrefix (W.contents out.old) (W.contents out.new) (loop_code options.now tables.now.machine state)) }
 {
-    write_numbered_text(out, options, LOOP, state, b", ")?;
     write_stays(out, options, tables, state)?;
     write_numbered_text(out, options, LOOP_RULE, rule_word(tables, state), b")\n")
 }

@@ -2,7 +2,7 @@ use Rattle.std.proofs.lemmas.Result.{err_from_is_err_and, on_err_weaker, on_ok_w
 use Rattle.lx_c.proofs.Written.{wrote_both, prefix_more, prefix_then}
 use Rattle.std.proofs.Common.{codes}
 use Rattle.lx_c.specs.Templates.{number_then}
-use Rattle.lx_c.proofs.looping.write_high_of.Goals as goal
+use Rattle.lx_c.proofs.looping.write_at_most.Goals as goal
 
 pub returns-in_err-write_bytes-clause-err : goal.returns-in_err-write_bytes-clause-err
 returns-in_err-write_bytes-clause-err g c =
