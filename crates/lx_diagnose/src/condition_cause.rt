@@ -3,9 +3,10 @@
 use crate::causes::ConditionCause;
 use crate::found::{Found, found_at, found_named};
 use crate::name_cause::condition_named;
-use crate::outline::{ConditionLine, Outline, RuleExtent, RulePrefix};
+use crate::outline::{ConditionLine, Outline};
 use crate::places::{Span, between};
 use crate::scan::{is_at, part};
+use crate::sectioning::{RuleExtent, RulePrefix};
 use crate::similar::most_similar;
 use crate::words::{PlacedWords, words_of};
 use lx_sections::word::Word;

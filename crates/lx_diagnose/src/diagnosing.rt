@@ -13,10 +13,11 @@ use crate::line_cause::line_cause;
 use crate::lines::{line_span, place_in, place_of};
 use crate::name_cause::{depth_cause, name_cause};
 use crate::open_cause::open_cause;
-use crate::outline::{Outline, RuleExtent, outline_of};
+use crate::outline::{Outline, outline_of};
 use crate::pattern_cause::pattern_cause;
 use crate::places::{Place, Span};
 use crate::section_cause::{limit_cause, rules_cause, twice_cause};
+use crate::sectioning::RuleExtent;
 use lx_spec::{Code, SpecFault};
 use std::alloc::{AllocError, Global};
 

@@ -25,6 +25,7 @@ pub mod places;
 mod prefix_cause;
 pub mod scan;
 mod section_cause;
+pub mod sectioning;
 mod similar;
 pub mod table_text;
 pub mod topic;

@@ -4,9 +4,10 @@ use crate::causes::{DepthCause, NameCause};
 use crate::depth::{Depth, depth_from, mentions_of};
 use crate::found::{Found, found_named};
 use crate::names::{body_of, inside, names_in, number_of, substitute_of, visits_of};
-use crate::outline::{ConditionLine, DefinitionLine, Outline, RuleExtent};
+use crate::outline::{ConditionLine, DefinitionLine, Outline};
 use crate::places::Span;
 use crate::scan::part;
+use crate::sectioning::RuleExtent;
 use crate::similar::most_similar;
 use std::alloc::{AllocError, Global};
 

@@ -1,8 +1,9 @@
 // The names in braces of patterns and substitutes, and where they lead.
 
-use crate::outline::{DefinitionLine, Outline, RuleExtent};
+use crate::outline::{DefinitionLine, Outline};
 use crate::places::{Span, between};
 use crate::scan::{is_at, part};
+use crate::sectioning::RuleExtent;
 use lx_ere::lexeme::{Lexeme, lexeme_at};
 use std::alloc::{AllocError, Global};
 

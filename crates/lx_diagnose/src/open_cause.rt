@@ -3,9 +3,10 @@
 use crate::causes::OpenCause;
 use crate::found::{Found, found_at};
 use crate::line_cause::is_rule;
-use crate::outline::{Outline, RuleExtent};
+use crate::outline::Outline;
 use crate::places::{Span, between, one_byte};
 use crate::scan::{begins_at, behind_blanks, is_at};
+use crate::sectioning::RuleExtent;
 use lx_sections::block::{Mode, behind_line, counts, next_mode};
 use std::alloc::{AllocError, Global};
 

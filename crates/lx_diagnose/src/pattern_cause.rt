@@ -4,9 +4,10 @@ use crate::body_cause::{Body, body_cause};
 use crate::causes::PatternCause;
 use crate::found::{Found, found_at};
 use crate::names::{body_of, substitute_of, visits_of};
-use crate::outline::{Outline, RuleExtent};
+use crate::outline::Outline;
 use crate::places::Span;
 use crate::prefix_cause::prefix_cause;
+use crate::sectioning::RuleExtent;
 use std::alloc::{AllocError, Global};
 
 // The most bytes of a pattern or a substitute.

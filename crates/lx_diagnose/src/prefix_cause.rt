@@ -2,12 +2,12 @@
 
 use crate::causes::PatternCause;
 use crate::found::{Found, found_at, found_named};
-use crate::outline::{RuleExtent, RulePrefix};
 use crate::places::{Span, between, one_byte};
 use crate::scan::{
     before_blanks, begins_at, behind_blanks, behind_word, is_at, is_blank_at, is_digit_at,
     is_word_at, part,
 };
+use crate::sectioning::{RuleExtent, RulePrefix};
 use lx_sections::action::read_action;
 use std::alloc::{AllocError, Global};
 

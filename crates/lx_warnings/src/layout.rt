@@ -4,10 +4,8 @@ use crate::allowing::allowed_by;
 use crate::kinds::KindSet;
 use lx_diagnose::Span;
 use lx_diagnose::places::between;
-use lx_diagnose::scan::{begins_at, behind_blanks, find, is_at, is_blank_at, next_blank, part};
-use lx_sections::block::{Count, Mode, is_closed, with_line};
-use lx_sections::line::{Line, line_of};
-use lx_sections::rule_line::{Prefix, RuleLine, rule_line_of};
+use lx_diagnose::scan::{is_at, is_blank_at, next_blank};
+use lx_diagnose::sectioning::{LineKind, Section, kind_of_line, line_between};
 use std::alloc::{AllocError, Global};
 
 /// A part of the text, and what the line before it allows.
@@ -51,30 +49,6 @@ pub(crate) struct Layout {
     pub behind: Vec<Part>,
 }
 
-// Where a line stands.
-#[derive(Clone, Copy)]
-enum Section {
-    Definitions,
-    Comment,
-    Group,
-    Rules,
-    RulesGroup,
-    // In the action of a rule, of which so much was counted.
-    Action(Count, RulePart),
-    Behind,
-}
-
-// No text has so many bytes.
-const MAX_BRACES: usize = 4_294_967_296;
-
-fn counted(count: Count, line: &[u8]) -> Count {
-    if count.opened < MAX_BRACES && count.closed < MAX_BRACES && line.len() < MAX_BRACES {
-        with_line(count, line)
-    } else {
-        count
-    }
-}
-
 fn take_conditions(layout: &mut Layout, text: &[u8], line: Part) -> Result<(), AllocError> {
     layout.declarations.push(line)?;
     let end = line.at.end();
@@ -92,146 +66,46 @@ fn take_conditions(layout: &mut Layout, text: &[u8], line: Part) -> Result<(), A
     Ok(())
 }
 
-fn take_definition(
-    layout: &mut Layout,
-    text: &[u8],
-    line: Part,
-    name_len: usize,
-    substitute_len: usize,
-) -> Result<(), AllocError> {
-    let name = Span {
-        start: line.at.start,
-        len: name_len,
-    };
-    let substitute = Span {
-        start: behind_blanks(text, name.end(), line.at.end()),
-        len: substitute_len,
-    };
-    layout.definitions.push(DefinitionPart {
-        name,
-        substitute,
-        allowed: line.allowed,
-    })?;
+// The rule that began last goes on with this line.
+fn lengthen_rule(layout: &mut Layout, line: Span) -> Result<(), AllocError> {
+    if let Some(rule) = layout.rules.pop() {
+        layout.rules.push(RulePart {
+            start: rule.start,
+            pattern: rule.pattern,
+            action: between(rule.action.start, line.end()),
+            allowed: rule.allowed,
+        })?;
+    }
     Ok(())
-}
-
-fn take_declaration(layout: &mut Layout, text: &[u8], line: Part) -> Result<Section, AllocError> {
-    match line_of(part(text, line.at)) {
-        Line::Skipped | Line::NoForm => Ok(Section::Definitions),
-        Line::OpensComment => Ok(Section::Comment),
-        Line::OpensGroup => Ok(Section::Group),
-        Line::RulesBegin => {
-            layout.rules_begin = Some(line);
-            Ok(Section::Rules)
-        }
-        Line::Conditions { .. } => {
-            take_conditions(layout, text, line)?;
-            Ok(Section::Definitions)
-        }
-        Line::Definition { name, substitute } => {
-            take_definition(layout, text, line, name.len(), substitute.len())?;
-            Ok(Section::Definitions)
-        }
-    }
-}
-
-// How many bytes stand before a pattern.
-fn prefix_len(prefix: &Prefix) -> usize {
-    match prefix {
-        Prefix::Absent | Prefix::Unclosed => 0,
-        Prefix::Listed(names) => names.len().saturating_add(2),
-    }
-}
-
-fn rule_part(line: Part, prefix: &Prefix, pattern_len: usize, action_len: usize) -> RulePart {
-    RulePart {
-        start: line.at.start,
-        pattern: Span {
-            start: line.at.start.saturating_add(prefix_len(prefix)),
-            len: pattern_len,
-        },
-        action: Span {
-            start: line.at.end().saturating_sub(action_len),
-            len: action_len,
-        },
-        allowed: line.allowed,
-    }
-}
-
-fn behind_action(layout: &mut Layout, count: Count, rule: RulePart) -> Result<Section, AllocError> {
-    if !is_closed(count) {
-        return Ok(Section::Action(count, rule));
-    }
-    layout.rules.push(rule)?;
-    Ok(Section::Rules)
-}
-
-fn take_rule(layout: &mut Layout, text: &[u8], line: Part) -> Result<Section, AllocError> {
-    match rule_line_of(part(text, line.at)) {
-        RuleLine::Skipped => {
-            layout.skipped.push(line)?;
-            Ok(Section::Rules)
-        }
-        RuleLine::OpensGroup => Ok(Section::RulesGroup),
-        RuleLine::RulesEnd => Ok(Section::Behind),
-        RuleLine::BeginsRule {
-            prefix,
-            pattern,
-            action,
-        } => {
-            let start = Count {
-                opened: 0,
-                closed: 0,
-                mode: Mode::Code,
-            };
-            let rule = rule_part(line, &prefix, pattern.len(), action.len());
-            behind_action(layout, counted(start, action), rule)
-        }
-    }
-}
-
-fn longer(rule: RulePart, line: Span) -> RulePart {
-    RulePart {
-        start: rule.start,
-        pattern: rule.pattern,
-        action: between(rule.action.start, line.end()),
-        allowed: rule.allowed,
-    }
 }
 
 fn take_line(
     layout: &mut Layout,
     text: &[u8],
     line: Part,
-    section: Section,
-) -> Result<Section, AllocError> {
-    match section {
-        Section::Definitions => take_declaration(layout, text, line),
-        Section::Comment => Ok(if find(text, line.at.start, line.at.end(), b"*/").is_some() {
-            Section::Definitions
-        } else {
-            Section::Comment
-        }),
-        Section::Group => Ok(if begins_at(text, line.at.start, b"%}") {
-            Section::Definitions
-        } else {
-            Section::Group
-        }),
-        Section::Rules => take_rule(layout, text, line),
-        Section::RulesGroup => Ok(if begins_at(text, line.at.start, b"%}") {
-            Section::Rules
-        } else {
-            Section::RulesGroup
-        }),
-        Section::Action(count, rule) => {
-            let more = counted(count, part(text, line.at));
-            behind_action(layout, more, longer(rule, line.at))
-        }
-        Section::Behind => {
-            layout.behind.push(line)?;
-            Ok(Section::Behind)
-        }
+    kind: LineKind,
+) -> Result<(), AllocError> {
+    let allowed = line.allowed;
+    match kind {
+        LineKind::Silent => {}
+        LineKind::Conditions => take_conditions(layout, text, line)?,
+        LineKind::Definition { name, substitute } => layout.definitions.push(DefinitionPart {
+            name,
+            substitute,
+            allowed,
+        })?,
+        LineKind::RulesBegin => layout.rules_begin = Some(line),
+        LineKind::Skipped => layout.skipped.push(line)?,
+        LineKind::Rule(rule) => layout.rules.push(RulePart {
+            start: rule.line.start,
+            pattern: rule.pattern,
+            action: rule.action,
+            allowed,
+        })?,
+        LineKind::MoreAction => lengthen_rule(layout, line.at)?,
+        LineKind::Behind => layout.behind.push(line)?,
     }
+    Ok(())
 }
 
 // What a line allows on the next one, where it stands by itself.
@@ -239,15 +113,6 @@ fn allowed_behind(text: &[u8], line: Span, section: Section) -> KindSet {
     match section {
         Section::Definitions | Section::Rules => allowed_by(text, line),
         _ => KindSet::none(),
-    }
-}
-
-// The line from one place up to another, without CR at its end where LF stands behind it.
-fn line_between(text: &[u8], start: usize, end: usize) -> Span {
-    if start < end && is_at(text, end - 1, b'\r') && is_at(text, end, b'\n') {
-        between(start, end - 1)
-    } else {
-        between(start, end)
     }
 }
 
@@ -277,9 +142,10 @@ pub(crate) fn layout_of(alloc: Global, text: &[u8]) -> Result<Layout, AllocError
         };
         if ends {
             let at = line_between(text, start, end);
-            let next_allowed = allowed_behind(text, at, section);
-            section = take_line(&mut layout, text, Part { at, allowed }, section)?;
-            allowed = next_allowed;
+            let (kind, next) = kind_of_line(text, at, section);
+            take_line(&mut layout, text, Part { at, allowed }, kind)?;
+            allowed = allowed_behind(text, at, section);
+            section = next;
             start = end + 1;
         }
     }

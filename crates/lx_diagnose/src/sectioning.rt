@@ -1,0 +1,224 @@
+//! What each line of a specification is, where it stands.
+
+use crate::places::{Span, between};
+use crate::scan::{begins_at, behind_blanks, find, is_at, part};
+use lx_sections::block::{Count, Mode, is_closed, with_line};
+use lx_sections::line::{Line, line_of};
+use lx_sections::rule_line::{Prefix, RuleLine, rule_line_of};
+
+/// Where a line stands.
+#[derive(Clone, Copy)]
+pub enum Section {
+    /// In Definitions, outside of comments and groups.
+    Definitions,
+    /// In a comment of Definitions.
+    Comment,
+    /// In a group of Definitions, between `%{` and `%}`.
+    Group,
+    /// In Rules, where a rule may begin.
+    Rules,
+    /// In a group of Rules.
+    RulesGroup,
+    /// In the action of a rule, of which so much was counted.
+    Action(Count),
+    /// Behind Rules.
+    Behind,
+}
+
+/// What stands before a pattern: nothing, a `<` that isn't closed, or what `<` and `>` enclose.
+#[derive(Clone, Copy)]
+pub enum RulePrefix {
+    Absent,
+    Unclosed,
+    Listed(Span),
+}
+
+/// Where the parts of a rule stand: its first line, and what that begins with; the action goes on to the end of its last line.
+#[derive(Clone, Copy)]
+pub struct RuleExtent {
+    pub line: Span,
+    pub prefix: RulePrefix,
+    pub pattern: Span,
+    pub action: Span,
+}
+
+/// What a line is.
+#[derive(Clone, Copy)]
+pub enum LineKind {
+    /// It says nothing: it is of a comment or a group, has no form, or ends Rules.
+    Silent,
+    /// It declares conditions.
+    Conditions,
+    /// It defines a name.
+    Definition { name: Span, substitute: Span },
+    /// The `%%` behind which Rules stand.
+    RulesBegin,
+    /// A line of Rules that is skipped.
+    Skipped,
+    /// The first line of a rule, whose action may go on.
+    Rule(RuleExtent),
+    /// A further line of an action.
+    MoreAction,
+    /// It stands behind Rules.
+    Behind,
+}
+
+// No text has so many bytes.
+const MAX_BRACES: usize = 4_294_967_296;
+
+impl RuleExtent {
+    /// The rule with a further line of its action.
+    pub fn with_line(self, line: Span) -> RuleExtent {
+        RuleExtent {
+            line: self.line,
+            prefix: self.prefix,
+            pattern: self.pattern,
+            action: between(self.action.start, line.end()),
+        }
+    }
+}
+
+fn counted(count: Count, line: &[u8]) -> Count {
+    if count.opened < MAX_BRACES && count.closed < MAX_BRACES && line.len() < MAX_BRACES {
+        with_line(count, line)
+    } else {
+        count
+    }
+}
+
+fn behind_action(count: Count) -> Section {
+    if is_closed(count) {
+        Section::Rules
+    } else {
+        Section::Action(count)
+    }
+}
+
+fn definition(text: &[u8], line: Span, name_len: usize, substitute_len: usize) -> LineKind {
+    let name = Span {
+        start: line.start,
+        len: name_len,
+    };
+    LineKind::Definition {
+        name,
+        substitute: Span {
+            start: behind_blanks(text, name.end(), line.end()),
+            len: substitute_len,
+        },
+    }
+}
+
+fn kind_in_definitions(text: &[u8], line: Span) -> (LineKind, Section) {
+    match line_of(part(text, line)) {
+        Line::Skipped | Line::NoForm => (LineKind::Silent, Section::Definitions),
+        Line::OpensComment => (LineKind::Silent, Section::Comment),
+        Line::OpensGroup => (LineKind::Silent, Section::Group),
+        Line::RulesBegin => (LineKind::RulesBegin, Section::Rules),
+        Line::Conditions { .. } => (LineKind::Conditions, Section::Definitions),
+        Line::Definition { name, substitute } => (
+            definition(text, line, name.len(), substitute.len()),
+            Section::Definitions,
+        ),
+    }
+}
+
+fn rule_prefix(line: Span, prefix: &Prefix) -> RulePrefix {
+    match prefix {
+        Prefix::Absent => RulePrefix::Absent,
+        Prefix::Unclosed => RulePrefix::Unclosed,
+        Prefix::Listed(names) => RulePrefix::Listed(Span {
+            start: line.start.saturating_add(1),
+            len: names.len(),
+        }),
+    }
+}
+
+fn behind_prefix(line: Span, prefix: RulePrefix) -> usize {
+    match prefix {
+        RulePrefix::Absent => line.start,
+        RulePrefix::Unclosed => line.end(),
+        RulePrefix::Listed(names) => names.end().saturating_add(1),
+    }
+}
+
+fn rule_extent(line: Span, prefix: &Prefix, pattern_len: usize, action_len: usize) -> RuleExtent {
+    let prefix = rule_prefix(line, prefix);
+    RuleExtent {
+        line,
+        prefix,
+        pattern: Span {
+            start: behind_prefix(line, prefix),
+            len: pattern_len,
+        },
+        action: Span {
+            start: line.end().saturating_sub(action_len),
+            len: action_len,
+        },
+    }
+}
+
+fn kind_in_rules(text: &[u8], line: Span) -> (LineKind, Section) {
+    match rule_line_of(part(text, line)) {
+        RuleLine::Skipped => (LineKind::Skipped, Section::Rules),
+        RuleLine::OpensGroup => (LineKind::Silent, Section::RulesGroup),
+        RuleLine::RulesEnd => (LineKind::Silent, Section::Behind),
+        RuleLine::BeginsRule {
+            prefix,
+            pattern,
+            action,
+        } => {
+            let start = Count {
+                opened: 0,
+                closed: 0,
+                mode: Mode::Code,
+            };
+            let rule = rule_extent(line, &prefix, pattern.len(), action.len());
+            (LineKind::Rule(rule), behind_action(counted(start, action)))
+        }
+    }
+}
+
+/// What a line is that stands in a section, and where the next line stands.
+pub fn kind_of_line(text: &[u8], line: Span, section: Section) -> (LineKind, Section) {
+    match section {
+        Section::Definitions => kind_in_definitions(text, line),
+        Section::Comment => {
+            let closed = find(text, line.start, line.end(), b"*/").is_some();
+            let next = if closed {
+                Section::Definitions
+            } else {
+                section
+            };
+            (LineKind::Silent, next)
+        }
+        Section::Group => {
+            let closed = begins_at(text, line.start, b"%}");
+            let next = if closed {
+                Section::Definitions
+            } else {
+                section
+            };
+            (LineKind::Silent, next)
+        }
+        Section::Rules => kind_in_rules(text, line),
+        Section::RulesGroup => {
+            let closed = begins_at(text, line.start, b"%}");
+            let next = if closed { Section::Rules } else { section };
+            (LineKind::Silent, next)
+        }
+        Section::Action(count) => {
+            let more = counted(count, part(text, line));
+            (LineKind::MoreAction, behind_action(more))
+        }
+        Section::Behind => (LineKind::Behind, Section::Behind),
+    }
+}
+
+/// The line from one place up to another, without CR at its end where LF stands behind it.
+pub fn line_between(text: &[u8], start: usize, end: usize) -> Span {
+    if start < end && is_at(text, end - 1, b'\r') && is_at(text, end, b'\n') {
+        between(start, end - 1)
+    } else {
+        between(start, end)
+    }
+}
