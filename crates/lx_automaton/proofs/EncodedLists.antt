@@ -1,5 +1,7 @@
 -- What the encoded lists of a machine say.
-use Rattle.std.proofs.Common.{◌≡◌, ◌≢◌, ℕ, zero, suc, ◌+◌, ◌-◌, ◌*◌, ◌<◌, true, false, Some, None, List, [], ◌∷◌, length, map, get_or, slice_index, slice_index_or, refl, sym, ◌∙◌, ap, subst, arith, eqb, inl, inr}
+use Rattle.std.proofs.Common.{Option, ◌≡◌, ◌≢◌, ℕ, zero, suc, ◌+◌, ◌-◌, ◌*◌, ◌<◌, true, false, Some, None, List, [], ◌∷◌, length, map, get_or, slice_index, slice_index_or, refl, sym, ◌∙◌, ap, subst, arith, eqb, inl, inr}
+use Rattle.std.specs.Prelude.{IfSome}
+use Rattle.std.proofs.lemmas.Bool.{cases_eq}
 use Rattle.std.proofs.lemmas.Bool.Decides.{eqb_tells}
 use Rattle.std.proofs.lemmas.List.{get_or_read}
 use Rattle.lx_automaton.specs.Automata.{Machine, IsMachine, state_count}
@@ -41,3 +43,26 @@ pub class_below : (m : Machine) → IsMachine m → (b class : ℕ) → b < 256 
 class_below m is b class h e =
     let at : class ≡ get_or m.classes b 0 = get_or_read m.classes b class (let l = is.bytes in omega arith) e 0 in
     subst (λ x. x < m.width) (sym at) (is.below b h)
+
+pub decoded_option-same : (a b : ℕ) → decoded_option a ≡ decoded_option b → a ≡ b
+decoded_option-same a b e = elim (cases_eq a 0) [
+  | inl f ↦ elim (cases_eq b 0) [
+    | inl g ↦ f ∙ sym g
+    | inr g ↦ let h : None ≡ Some (b - 1) = sym (ap decoded_option f) ∙ e ∙ decoded_option-some b g in cc
+  ]
+  | inr f ↦ elim (cases_eq b 0) [
+    | inl g ↦ let h : Some (a - 1) ≡ None = sym (decoded_option-some a f) ∙ e ∙ ap decoded_option g in cc
+    | inr g ↦ let h : Some (a - 1) ≡ Some (b - 1) = sym (decoded_option-some a f) ∙ e ∙ decoded_option-some b g in
+        let k : a - 1 ≡ b - 1 = cc in omega arith
+  ]
+]
+
+pub encoded_option_above : (encoded_option n : ℕ) → decoded_option encoded_option ≡ Some n → encoded_option ≡ n + 1
+encoded_option_above encoded_option n e = elim (cases_eq encoded_option 0) [
+  | inl f ↦ let g : None ≡ Some n = sym (ap decoded_option f) ∙ e in cc
+  | inr f ↦ let g : Some (encoded_option - 1) ≡ Some n = sym (decoded_option-some encoded_option f) ∙ e in let k : encoded_option - 1 ≡ n = cc in omega arith
+]
+
+pub if_some : (o : Option ℕ) (P : ℕ → Type 0) → ((n : ℕ) → o ≡ Some n → P n) → IfSome o P
+if_some None P h = tt
+if_some (Some n) P h = h n refl

@@ -4,9 +4,9 @@ ghost use Rattle.lx_c.specs.Actions as actions;
 ghost use Rattle.lx_c.specs.Actions.{action_entries, action_entry, action_word, actions_from, array_text, cut_entries, cut_entry, cuts_text, kind_entry, kind_word, kinds_array, name_entry, of_kinds, pending_text, step_entry, step_word, steps_array, steps_entry, steps_text};
 ghost use Rattle.lx_c.specs.Templates.{filled, number_then};
 ghost use Rattle.lx_c.specs.declared.templates.TheConstants.{ACTIONS, CUT, CUTS, KINDS, NAMES, STEPS_OF, STEP_ARRAY};
-ghost use Rattle.lx_tables.specs.Model.{kind_at, rule_at};
+ghost use Rattle.lx_table_texts.specs.Model.{kind_at, rule_at};
 ghost use Rattle.lx_tables.specs.Output.{Wrote, WrotePrefix};
-ghost use Rattle.lx_tables.specs.Texts.{number};
+ghost use Rattle.lx_table_texts.specs.Texts.{number};
 ghost use Rattle.std.specs.List.{flat_map, range_with_len};
 ghost use Rattle.std.specs.Prelude.{OnErr, OnOk, [], codes, length, ◌++◌, ◌+◌, ◌≡◌, ◌≤◌};
 

@@ -1,37 +1,19 @@
 -- What is found in the text of a specification.
-use Rattle.std.specs.Prelude.{◌≡◌, ℕ, ◌<◌, ◌≤◌, ⊤, List, [], ◌∷◌, length}
+use Rattle.std.specs.Prelude.{◌≡◌, ℕ, ⊤, List, [], ◌∷◌, length}
 use Rattle.lx_auto.specs.Counts.{count_of_spec}
-use Rattle.lx_auto.specs.PositionSets.{HasMoreReachedSets}
 use Rattle.lx_automaton.specs.Automata.{state_count}
 use Rattle.lx_rules.specs.Plain.{PlainSpec}
 use Rattle.lx_rules.specs.views.Specs.{spec_view}
-use Rattle.lx_spec.specs.Whole.{IsFault, IsRead}
-use Rattle.lx_tables.specs.Model.{AreTablesOf, Table}
-use Rattle.lx_chosen.specs.Chosen.{AreFlagsOf, IsEntered, IsEverChosenBy}
-use Rattle.lx_check.specs.declared.finding.Finding.{Finding}
-use Rattle.lx_check.specs.declared.finding.Finding.TheVariants.{Specification, TooManyPositions, TooManySets}
+use Rattle.lx_spec.specs.Whole.{IsRead}
+use Rattle.lx_table_texts.specs.Model.{AreTablesOf, Table}
+use Rattle.lx_chosen.specs.Chosen.{AreFlagsOf, IsEverChosenBy}
+use Rattle.lx_entered.specs.Entered.{IsEntered}
+use Rattle.lx_verdict.specs.Verdicts.{IsFinding}
+use Rattle.lx_verdict.specs.declared.finding.Finding.{Finding}
 use Rattle.lx_check.specs.declared.report.Accepted.{Accepted}
 use Rattle.lx_check.specs.declared.report.Counts.{Counts}
 use Rattle.lx_check.specs.declared.report.Report.{Report}
 use Rattle.lx_check.specs.declared.report.Report.TheVariants as report
-
--- in which way a specification is too large for tables: of positions, or of reached sets
-abbrev pub IsTooLarge : PlainSpec → Finding → Type 0
-IsTooLarge spec (Specification fault) = ⊥
-IsTooLarge spec TooManyPositions = 16384 < count_of_spec spec
-IsTooLarge spec TooManySets = (count_of_spec spec ≤ 16384) × HasMoreReachedSets spec 16384
-
--- the text says a specification that is too large
-pub record SaysTooLarge (text : List ℕ) (finding : Finding) : Type 0 where
-  pub spec : PlainSpec
-  pub read : IsRead text spec
-  pub too_large : IsTooLarge spec finding
-
--- This is wrong with the text.
-abbrev pub IsFinding : List ℕ → Finding → Type 0
-IsFinding text (Specification fault) = IsFault text fault
-IsFinding text TooManyPositions = SaysTooLarge text TooManyPositions
-IsFinding text TooManySets = SaysTooLarge text TooManySets
 
 -- The first of the findings is wrong with the text.
 abbrev pub BeginsWithFinding : List ℕ → List Finding → Type 0

@@ -3,19 +3,20 @@
 ghost use Rattle.std.specs.Prelude.{◌≡◌, ◌≤◌, IfOk};
 ghost use Rattle.lx_auto.specs.Counts.{count_of_spec};
 ghost use Rattle.lx_rules.specs.views.Specs.{spec_view};
-ghost use Rattle.lx_tables.specs.Model.{AreTablesOf};
+ghost use Rattle.lx_table_texts.specs.Model.{AreTablesOf};
 ghost use Rattle.lx_check.specs.Findings.{AreCounts, IfAccepted, IsVerdict, TellsChosen};
 ghost use Rattle.lx_check.specs.Further.{AreFindings, IfRefused};
 
 use crate::further::{findings_from, too_large};
 use crate::report::{Accepted, Counts, Report};
 use crate::takers::takers_in;
-use crate::verdict::{read, tables_of};
 use lx_auto::count_positions;
+use lx_chosen::chosen_rules;
 use lx_chosen::ruling::chosen_is_by_rules;
-use lx_chosen::{chosen_rules, entered_conditions};
+use lx_entered::entered_conditions;
 use lx_spec::Spec;
 use lx_tables::Tables;
+use lx_verdict::{read, tables_of};
 use std::alloc::{AllocError, Global};
 
 // How much a specification and its tables have.

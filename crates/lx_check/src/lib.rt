@@ -2,13 +2,10 @@
 #![tactic(auto)]
 
 pub mod checking;
-pub mod finding;
 mod further;
 pub mod report;
 mod takers;
-mod verdict;
-mod without;
 
 pub use crate::checking::check;
-pub use crate::finding::Finding;
 pub use crate::report::{Accepted, Counts, Report};
+pub use lx_verdict::Finding;

@@ -1,9 +1,9 @@
 // What is to be said of the text of a specification.
 
-use crate::finding::Finding;
-use lx_chosen::Takers;
+use lx_reached::Takers;
 use lx_spec::Spec;
 use lx_tables::Tables;
+use lx_verdict::Finding;
 
 /// How much an accepted text says, and how large its tables are.
 #[derive(Debug, Clone, Copy, PartialEq, Eq)]

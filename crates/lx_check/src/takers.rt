@@ -1,14 +1,14 @@
 // Which rules take the texts of those that are never chosen.
 
-use crate::verdict::{read, tables_of};
-use crate::without::MAX_SPECIFICATION_BYTES;
 use bstr::ByteSlice;
-use lx_chosen::{Takers, takers_of};
+use lx_reached::{Takers, takers_of};
+use lx_recovery::without::MAX_SPECIFICATION_BYTES;
 use lx_sections::parsed_sections::RawRule;
 use lx_sections::rule_line::Prefix;
 use lx_sections::section::read_sections;
 use lx_spec::Code;
 use lx_tables::Tables;
+use lx_verdict::{read, tables_of};
 use std::alloc::{AllocError, Global};
 
 // So many rules are looked at, where so many bytes are read at most.

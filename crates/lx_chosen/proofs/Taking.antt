@@ -5,11 +5,12 @@ use Rattle.std.proofs.lemmas.Bool.{lt-ltb, ltb-true, true≢false}
 use Rattle.std.proofs.lemmas.List.{take_all, length-take-le}
 use Rattle.std.proofs.lemmas.List.Elements.{All-take}
 use Rattle.lx_automaton.specs.Automata.{start_of, state_after, accepted_by, accepted_at, answer}
-use Rattle.lx_tables.specs.Model.{Table, rule_at}
+use Rattle.lx_table_texts.specs.Model.{Table, rule_at}
 use Rattle.lx_scan.specs.Answers.{token_len, match_after, furthest}
 use Rattle.lx_chosen.specs.Chosen.{AreFlagsOf}
-use Rattle.lx_chosen.specs.Reached.{AreMet, IsReached, IsTaken, AreCounted}
-use Rattle.lx_chosen.proofs.Reaching.{Marks, listed, place_of}
+use Rattle.lx_reached.specs.Reached.{AreMet, IsReached}
+use Rattle.lx_chosen.specs.Taken.{IsTaken, AreCounted}
+use Rattle.lx_reached.proofs.Reaching.{Marks, listed, place_of}
 
 -- a rule counts: without `$`, or where those with it count
 counted_cut : (table : Table) (r : ℕ) → (false || not ((rule_at table r).line_end)) ≡ true → (rule_at table r).line_end ≡ false

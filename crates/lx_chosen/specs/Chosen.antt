@@ -1,10 +1,9 @@
--- The rules that are chosen for some text (XCU `lex`, "Rules in lex"), and the conditions that are entered ("Actions in lex": BEGIN).
+-- The rules that are chosen for some text (XCU `lex`, "Rules in lex").
 use Rattle.std.specs.Prelude.{◌≡◌, ℕ, ◌<◌, Bool, true, false, All, List, Some, length, slice_index_or}
 use Rattle.lx_rules.specs.Choice.{IsChoice}
 use Rattle.lx_rules.specs.Plain.{PlainSpec}
-use Rattle.lx_tables.specs.Model.{Table, rule_at}
+use Rattle.lx_table_texts.specs.Model.{Table}
 use Rattle.lx_scan.specs.Answers.{choice_of}
-use Rattle.lx_scan.specs.Steps.{condition_after}
 
 -- In this condition, at line begin or elsewhere, the rule is the choice for some text of bytes.
 pub record IsChosenIn (table : Table) (condition rule : ℕ) : Type 0 where
@@ -19,11 +18,6 @@ pub record IsEverChosen (table : Table) (rule : ℕ) : Type 0 where
   pub condition : ℕ
   pub known : condition < length table.machine.starts
   pub chosen : IsChosenIn table condition rule
-
--- INITIAL is entered, and where a condition is entered, so is the one that stands behind the action of a rule that is chosen in it.
-pub data IsEntered (table : Table) : ℕ → Type 0 where
-  Initial : IsEntered table 0
-  Begun : (condition rule : ℕ) → IsEntered table condition → IsChosenIn table condition rule → IsEntered table (condition_after (rule_at table rule).steps condition)
 
 -- The flags say of each of the numbers below the count whether this holds of it; of no other number it holds.
 pub record AreFlagsOf (count : ℕ) (Holds : ℕ → Type 0) (flags : List Bool) : Type 0 where

@@ -1,3 +1,2 @@
 pub mod Chosen
-pub mod Reached
-pub mod Takers
+pub mod Taken

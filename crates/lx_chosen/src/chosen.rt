@@ -3,9 +3,9 @@
 ghost use Rattle.std.specs.Prelude.{◌≡◌, ◌<◌, ◌≤◌, ◌⊎◌, ℕ, true, false, IfOk, length, slice_index, slice_index_or};
 ghost use Rattle.lx_automaton.specs.Automata.{state_count};
 ghost use Rattle.lx_chosen.specs.Chosen.{AreFlagsOf, IsChosenIn, IsEverChosen};
-ghost use Rattle.lx_chosen.specs.Reached.{AreCounted, IsCounted, IsTaken};
+ghost use Rattle.lx_chosen.specs.Taken.{AreCounted, IsCounted, IsTaken};
 
-use crate::reached::{reached, targets_of};
+use lx_reached::reached::{reached, targets_of};
 use lx_tables::{State, Tables};
 use std::alloc::{AllocError, Global};
 

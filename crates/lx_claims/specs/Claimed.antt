@@ -3,10 +3,6 @@ use Rattle.std.specs.Prelude.{◌≡◌, ◌≤◌, ℕ, ◌==◌, if◌then◌e
 use Rattle.atomic_table.specs.Seated.{TableId}
 use Rattle.lx_plan.specs.Plans.{Planned, files_of, max_files}
 
--- the most workers that a run has
-abbrev pub max_workers : ℕ
-max_workers = 8
-
 -- claims: which word it is, how many files there are, and how many workers draw them
 pub record Claimed : Type 0 where
   pub word : TableId

@@ -1,14 +1,4 @@
-pub mod ByteLemmas
 pub mod Parser
-pub mod Choices
-pub mod SequenceLemmas
-pub mod RunLemmas
-pub mod EscapeLemmas
-pub mod BracketLemmas
-pub mod SpellingLemmas
-pub mod NumberLemmas
-pub mod MemberLoop
-pub mod QuoteLoop
 pub mod ReadLemmas
 pub mod EndLemmas
 pub mod LeastEnd

@@ -2,7 +2,7 @@
 
 ghost use Rattle.std.specs.Prelude.{◌≡◌, OnOk, IfErr};
 ghost use Rattle.lx_plan.specs.Pieces.{bare};
-ghost use Rattle.lx_piece.specs.Turns.{HasTurn, turn_after};
+ghost use Rattle.lx_delivery.specs.Turns.{HasTurn, turn_after};
 ghost use Rattle.lx_lines.specs.Printing.{turn_of};
 ghost use Rattle.lx_forms.specs.FormPrinting.{PrintsOn, PrintsSome, printing_in};
 ghost use Rattle.lx_forms.specs.Views.{form_view};

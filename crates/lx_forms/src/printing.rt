@@ -2,9 +2,8 @@
 
 ghost use Rattle.std.specs.Prelude.{◌≡◌, ◌<◌, ◌≤◌, OnOk, OnErr};
 ghost use Rattle.std.specs.Io.KnownBytes.{Appends};
-ghost use Rattle.lx_plan.specs.Plans.{IsPlan};
-ghost use Rattle.lx_claims.specs.Claimed.{max_workers};
-ghost use Rattle.lx_lines.specs.Listings.{AppendsPrefix};
+ghost use Rattle.lx_plan.specs.Plans.{IsPlan, max_workers};
+ghost use Rattle.lx_writing.specs.Appending.{AppendsPrefix};
 ghost use Rattle.lx_lines.specs.Printing.{WrotePrefix};
 ghost use Rattle.lx_forms.specs.FormListings.{listing_in};
 ghost use Rattle.lx_forms.specs.Views.{form_view};

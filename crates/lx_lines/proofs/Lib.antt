@@ -1,4 +1,3 @@
-pub mod Appending
 pub mod Parting
 pub mod Stepping
 pub mod Turning

@@ -2,18 +2,19 @@
 use Rattle.std.proofs.Common.{ℕ, ◌≡◌, ◌+◌, ◌<◌, suc, ◌==◌, if◌then◌else◌, inl, inr, Bool, true, false, List, ◌++◌, refl, sym, ◌∙◌, ap, subst, arith, add-one, append_assoc, append-nil}
 use Rattle.std.proofs.lemmas.Bool.{cases_eq, eq-eqb, ne_eqb}
 use Rattle.lx_plan.specs.declared.piece.Piece.{Piece}
-use Rattle.lx_piece.specs.declared.reader.ReaderFault.{ReaderFault}
+use Rattle.lx_delivery.specs.declared.reader.ReaderFault.{ReaderFault}
 use Rattle.lx_plan.specs.Pieces.{IsPrefix, is_closing, piece_at, piece_by, pieces_of, pieces_to}
 use Rattle.lx_plan.specs.PieceLaws.{marked_last}
 use Rattle.lx_plan.specs.Plans.{Planned, IsPlan, files_of}
-use Rattle.lx_piece.specs.Turns.{HasTurn, Turn, turn_after}
+use Rattle.lx_delivery.specs.Turns.{HasTurn, Turn, turn_after}
 use Rattle.lx_lines.specs.Lines.{piece_lines}
 use Rattle.lx_lines.specs.Listings.{AreWhole, IsTurnOf, lines_before, listing_of, listing_to, taken_lines}
-use Rattle.lx_lines.specs.ListingLaws.{lines_one, prefix_behind, prefix_then, whole_lines}
+use Rattle.lx_lines.specs.ListingLaws.{lines_one, whole_lines}
+use Rattle.lx_writing.specs.AppendingLaws.{prefix_behind, prefix_then}
 use Rattle.lx_lines.specs.Parts.{WrotePart}
 use Rattle.lx_lines.specs.Printing.{PrintsPart, PrintsTo, shown_lines}
 use Rattle.lx_lines.specs.PrintingLaws.{turn_begins}
-use Rattle.lx_lines.specs.Shown.{ShownItems, shown}
+use Rattle.lx_shown.specs.Shown.{ShownItems, shown}
 use Rattle.lx_lines.proofs.WholeLines.{piece_whole}
 
 -- the turn behind one, where its piece is the last one of its file or not

@@ -6,9 +6,9 @@ use Rattle.lx_plan.specs.Pieces.{ItemPiece, is_cut_short}
 use Rattle.lx_plan.specs.Plans.{Planned}
 use Rattle.lx_lines.specs.Lines.{cut_lines, line_of, lines_of, piece_lines}
 use Rattle.lx_lines.specs.Listings.{AreWhole, AppendsWhole}
-use Rattle.lx_lines.specs.ListingLaws.{appends_both, appends_nothing}
+use Rattle.lx_writing.specs.AppendingLaws.{appends_both, appends_nothing}
 use Rattle.lx_lines.specs.PrintingLaws.{whole_both}
-use Rattle.lx_lines.proofs.Appending.{kept_appends}
+use Rattle.lx_writing.proofs.Appending.{kept_appends}
 
 -- the bytes end with a line feed
 abbrev EndsLine : List ℕ → Type 0

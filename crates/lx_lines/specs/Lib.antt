@@ -5,4 +5,3 @@ pub mod ListingLaws
 pub mod Parts
 pub mod Printing
 pub mod PrintingLaws
-pub mod Shown

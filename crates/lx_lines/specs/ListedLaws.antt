@@ -8,9 +8,10 @@ use Rattle.lx_piece.specs.Passing.{Passing, PassesOn}
 use Rattle.lx_plan.specs.Pieces.{IsPrefix}
 use Rattle.lx_plan.specs.Plans.{Planned, IsPlan, files_of}
 use Rattle.lx_piece.specs.Relayed.{AreAllTaken, HasOpenFile}
-use Rattle.lx_piece.specs.Turns.{Turn, IsFirstOpen, IsTurnBy, first_turn}
+use Rattle.lx_delivery.specs.Turns.{Turn, IsFirstOpen, IsTurnBy, first_turn}
 use Rattle.lx_lines.specs.Listings.{IsDue, IsTurnOf, Prints, Progress, lines_before, listing_of, listing_to, printed, taken_lines}
-use Rattle.lx_lines.specs.ListingLaws.{appends_nothing, due_begins, due_whole}
+use Rattle.lx_lines.specs.ListingLaws.{due_begins, due_whole}
+use Rattle.lx_writing.specs.AppendingLaws.{appends_nothing}
 use Rattle.lx_lines.specs.Printing.{Printing, PrintsTo, PrintsPart, WrotePrefix}
 use Rattle.lx_lines.specs.PrintingLaws.{turn_begins}
 

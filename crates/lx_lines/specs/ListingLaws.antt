@@ -1,6 +1,5 @@
-use Rattle.std.proofs.Common.{ℕ, zero, suc, ◌≡◌, ◌+◌, ◌*◌, ◌<◌, ◌≤◌, ◌&&◌, List, [], ◌∷◌, ◌++◌, Option, Some, None, inl, inr, take, refl, sym, ◌∙◌, ap, subst, arith, append_assoc, append-nil}
+use Rattle.std.proofs.Common.{ℕ, zero, suc, ◌≡◌, ◌+◌, ◌*◌, ◌<◌, ◌≤◌, ◌&&◌, List, [], ◌∷◌, ◌++◌, inl, inr, take, refl, sym, ◌∙◌, ap, subst, arith, append_assoc, append-nil}
 use Rattle.std.specs.Prelude.{slice_index}
-use Rattle.std.specs.Io.KnownBytes.{Appends}
 use Rattle.std.proofs.Math.Nat.{mul-le-mul_right}
 use Rattle.std.proofs.lemmas.Bool.{cases_Bool, cases_eq, cases_lt, both_ways, eq-eqb, ne_eqb}
 use Rattle.std.proofs.lemmas.Grind.{flat_map-append}
@@ -11,32 +10,8 @@ use Rattle.lx_plan.specs.Pieces.{IsPrefix, ItemPiece, contents, part, piece_at, 
 use Rattle.lx_piece.specs.Relayed.{AreAllTaken, HasOpenFile}
 use Rattle.lx_plan.specs.PieceLaws.{marked_cut, pieces_hold, prefix_to, whole_at}
 use Rattle.lx_lines.specs.Lines.{cut_lines, file_lines, line_of, lines_of, piece_lines, pieces_lines}
+use Rattle.lx_writing.specs.AppendingLaws.{appends_nothing, appends_both, prefix_all, prefix_then, prefix_behind, prefix_before}
 use Rattle.lx_lines.specs.Listings.{listing_to, listing_of, taken_lines, IsDue, Printed, Prints}
-
--- nothing was appended
-pub appends_nothing : (o : Option (List ℕ)) → Appends o o []
-appends_nothing None = tt
-appends_nothing (Some xs) = sym (append-nil xs)
-
--- some bytes, and then further ones
-pub appends_both : (a b c : Option (List ℕ)) (xs ys : List ℕ) → Appends a b xs → Appends b c ys → Appends a c (xs ++ ys)
-appends_both None b c xs ys h k = tt
-appends_both (Some a) None c xs ys h k = absurd h
-appends_both (Some a) (Some b) None xs ys h k = absurd k
-appends_both (Some a) (Some b) (Some c) xs ys h k = k ∙ (ap (λ bs. bs ++ ys) h ∙ append_assoc a xs ys)
-
--- a list begins itself, and what it begins with others
-pub prefix_all : {X : Type 0} (xs : List X) → IsPrefix xs xs
-prefix_all xs = ([], append-nil xs)
-
-pub prefix_then : {X : Type 0} (xs ys zs : List X) → IsPrefix xs ys → IsPrefix ys zs → IsPrefix xs zs
-prefix_then xs ys zs f h = (f.0 ++ h.0, sym (append_assoc xs f.0 h.0) ∙ ap (λ l. l ++ h.0) f.1 ∙ h.1)
-
-pub prefix_behind : {X : Type 0} (front xs ys : List X) → IsPrefix xs ys → IsPrefix (front ++ xs) (front ++ ys)
-prefix_behind front xs ys f = (f.0, append_assoc front xs f.0 ∙ ap (λ l. front ++ l) f.1)
-
-pub prefix_before : {X : Type 0} (xs ys : List X) → IsPrefix xs (xs ++ ys)
-prefix_before xs ys = (ys, refl)
 
 -- the lines of some first items begin those of all
 prefix_lines : (plan : Planned) (file : ℕ) (xs ys : List Item) → IsPrefix xs ys → IsPrefix (lines_of plan file xs) (lines_of plan file ys)

@@ -3,7 +3,7 @@ use Rattle.std.specs.Io.KnownBytes.{Appends}
 use Rattle.lx_plan.specs.Plans.{Planned, IsPlan, files_of}
 use Rattle.lx_plan.specs.Pieces.{IsPrefix, pieces_to}
 use Rattle.lx_piece.specs.Relayed.{AreAllTaken, HasOpenFile}
-use Rattle.lx_piece.specs.Turns.{Turn, IsFirstOpen}
+use Rattle.lx_delivery.specs.Turns.{Turn, IsFirstOpen}
 use Rattle.lx_lines.specs.Lines.{file_lines, pieces_lines}
 
 -- the lines of the files below this one, in order
@@ -35,10 +35,6 @@ pub record IsDue (plan : Planned) (counts : List ℕ) (text : List ℕ) : Type 0
   pub first : ℕ
   pub first_open : IsFirstOpen plan counts first
   pub lines : text ≡ listing_to plan first ++ taken_lines plan first (slice_index counts first)
-
--- known bytes grow by a prefix of these
-abbrev pub AppendsPrefix : Option (List ℕ) → Option (List ℕ) → List ℕ → Type 0
-AppendsPrefix old new bytes = (front : List ℕ) × IsPrefix front bytes × Appends old new front
 
 -- Whole lines, where the bytes begin where a line does and are of a listing: in a line a line feed stands at the end alone.
 abbrev pub AreWhole : List ℕ → Type 0

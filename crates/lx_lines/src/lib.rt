@@ -1,17 +1,15 @@
-//! What a listing is: lines, what pieces carry of them, and the printer that writes them in the plan's order.
+//! The listing: the lines of a plan's pieces, printed in the plan's order, on the calling thread or by workers.
 #![tactic(auto)]
 
 mod listing;
-mod maker;
 mod parts;
 mod printer;
 mod printing;
-mod shown;
+mod shown_lines;
 mod sink;
 mod spares;
-mod writing;
 
 pub use listing::Listing;
+pub use lx_writing::LineWrites;
 pub use printing::{list_plan, print_listing};
 pub use sink::{Lent, LineSink};
-pub use writing::LineWrites;

@@ -2,20 +2,19 @@
 
 ghost use Rattle.std.specs.Prelude.{◌≡◌, ◌+◌, ◌<◌, [], All, IfOk, OnOk, OnErr, Err, replicate, true, false};
 ghost use Rattle.lx_scan.specs.ItemParts.{IsItemOf};
-ghost use Rattle.lx_piece.specs.Passing.{counted};
+ghost use Rattle.lx_delivery.specs.Waiting.{counted};
 ghost use Rattle.lx_plan.specs.Pieces.{top_number};
 ghost use Rattle.lx_plan.specs.Plans.{bytes_of, files_of, kinds_of};
-ghost use Rattle.lx_piece.specs.Relayed.{IsNextPiece};
+ghost use Rattle.lx_delivery.specs.NextPiece.{IsNextPiece};
 ghost use Rattle.lx_lines.specs.Listings.{AppendsWhole, IsDue, Prints};
 ghost use Rattle.lx_lines.specs.Printing.{as_shown};
 
-use crate::maker::LineMaker;
 use crate::printer::Printer;
-use crate::shown::Shown;
 use crate::sink::Owned;
 use crate::spares::Alone;
-use crate::writing::LineWrites;
 use lx_piece::{Held, Piece, Plan, Reader, ReaderFault, TurnQueue};
+use lx_shown::{LineMaker, Shown};
+use lx_writing::LineWrites;
 use std::alloc::{AllocError, Global};
 use std::io::Write;
 use std::marker::Model;
@@ -93,8 +92,8 @@ impl<'a, W: Write> Listing<'a, W> {
 impl<'a, W: Write> Reader for Listing<'a, W> {
     ghost use Rattle.std.specs.Prelude.{◌≡◌, ◌+◌, ◌<◌, OnOk, OnErr, Err, false, true};
     ghost use Rattle.lx_plan.specs.Pieces.{top_number};
-    ghost use Rattle.lx_piece.specs.Passing.{counted};
-    ghost use Rattle.lx_piece.specs.Relayed.{IsNextPiece};
+    ghost use Rattle.lx_delivery.specs.Waiting.{counted};
+    ghost use Rattle.lx_delivery.specs.NextPiece.{IsNextPiece};
     ghost use Rattle.lx_lines.specs.Listings.{AppendsWhole, Prints};
     ghost use Rattle.lx_lines.specs.ListingLaws.{prints_nothing, prints_on};
 

@@ -16,10 +16,6 @@ use lx_scan::Item;
 /// Where the texts of a piece have more bytes than these in sum, its lines leave in parts.
 pub(crate) const LONG: usize = 65_536;
 
-// Where they can't have more than these together, since each has at most as many as lie between the first and the last one, they aren't
-// summed: so it costs pieces of short texts nothing. That more than LONG of them are in one block takes items that share a text.
-const SURELY_FEW: usize = 1_310_720;
-
 // Lines of which the texts, and so many bytes more for each, come to no more than that are made in one block. It is up to four times as
 // long, where each byte is escaped.
 const BLOCK: usize = 32_768;
@@ -30,36 +26,6 @@ const FIELDS: usize = 32;
 const PART: usize = 4_096;
 
 const ROOM: usize = 16_400;
-
-// How many bytes the texts of items have in sum.
-fn text_bytes(items: &[Item]) -> usize {
-    let mut sum: usize = 0;
-    for item in items {
-        sum = sum.saturating_add(numbers_of(item).len);
-    }
-    sum
-}
-
-// How many bytes of the file lie between the beginning of the first item and the end of the last one.
-fn span_of(items: &[Item]) -> usize {
-    let (Some(first), Some(last)) = (items.first(), items.last()) else {
-        return 0;
-    };
-    let last = numbers_of(last);
-    last.start
-        .saturating_add(last.len)
-        .saturating_sub(numbers_of(first).start)
-}
-
-/// Whether the texts of the items of a piece have more than so many bytes in sum. Items of one action have the same text, so that these may
-/// be more than lie between the first and the last one.
-pub(crate) fn are_long(items: &[Item], most: usize) -> bool {
-    let span = span_of(items);
-    if span <= most && span.saturating_mul(items.len()) <= SURELY_FEW {
-        return false;
-    }
-    text_bytes(items) > most
-}
 
 // How many of the first items have lines that are made in one block: none, where the text of the first one is too long for it.
 fn fitting(items: &[Item]) -> usize

@@ -2,18 +2,17 @@
 
 ghost use Rattle.std.specs.Prelude.{◌≡◌, ◌<◌, IfOk, IfErr, OnOk};
 ghost use Rattle.lx_plan.specs.Plans.{files_of};
-ghost use Rattle.lx_piece.specs.Turns.{HasTurn, turn_after};
+ghost use Rattle.lx_delivery.specs.Turns.{HasTurn, turn_after};
 ghost use Rattle.lx_lines.specs.Parts.{WrotePart};
 ghost use Rattle.lx_lines.specs.Printing.{PrintsTo, PrintsPart, printing, shown_lines, turn_of};
-ghost use Rattle.lx_lines.specs.Shown.{shown};
+ghost use Rattle.lx_shown.specs.Shown.{shown};
 
-use crate::maker::LineMaker;
-use crate::parts::write_cut;
-use crate::shown::Shown;
+use crate::parts::{LONG, write_cut};
+use crate::shown_lines::{shown_block, write_shown};
 use crate::sink::LineSink;
-use crate::spares::{Spares, emptied};
 use lx_line::{PlanDraft, push_cut_line};
 use lx_piece::{Piece, Plan, ReaderFault, Taker};
+use lx_shown::{LineMaker, Shown, Spares, emptied};
 use std::alloc::{AllocError, Global};
 
 /// Writes the lines of a plan's pieces, which it is handed in the plan's order, with the cut line behind those of a file whose
@@ -49,7 +48,7 @@ fn block_of<Y: Spares>(
 {
     let cut = piece.is_cut_short();
     let Piece { file, items, .. } = piece;
-    let mut block = items.into_block(alloc, spares, draft, plan, file)?;
+    let mut block = shown_block(items, alloc, spares, draft, plan, file)?;
     if cut {
         push_cut_line(&mut block, file)?;
     }
@@ -98,7 +97,7 @@ fn write_parts<Y: Spares, S: LineSink>(
     let ends_cut = piece.is_cut_short();
     let Piece { file, items, .. } = piece;
     let mut block = emptied(alloc, spares.take_block());
-    items.write_parts(spares, plan, file, &mut block, sink)?;
+    write_shown(items, spares, plan, file, &mut block, sink)?;
     write_cut(sink, &mut block, file, ends_cut)?;
     spares.give_block(block);
     Ok(())
@@ -121,7 +120,7 @@ fn write_piece<Y: Spares, S: LineSink>(
     ensures ok { OnOk result (S.wrote sink.old (shown_lines piece) sink.new) }
     ensures part { IfErr result (λ fault. WrotePart S.wrote sink.old fault (shown_lines piece) sink.new) }
 {
-    if sink.takes_parts() && piece.items.is_long() {
+    if sink.takes_parts() && piece.items.is_long(LONG) {
         write_parts(alloc, spares, plan, piece, sink)
     } else {
         write_whole(alloc, spares, draft, plan, piece, sink)

@@ -2,18 +2,18 @@
 
 ghost use Rattle.std.specs.Prelude.{◌≡◌, ◌<◌, ◌≤◌, OnOk, OnErr};
 ghost use Rattle.std.specs.Io.KnownBytes.{Appends};
-ghost use Rattle.lx_plan.specs.Plans.{IsPlan};
-ghost use Rattle.lx_claims.specs.Claimed.{max_workers};
-ghost use Rattle.lx_lines.specs.Listings.{AppendsPrefix, listing_of};
+ghost use Rattle.lx_plan.specs.Plans.{IsPlan, max_workers};
+ghost use Rattle.lx_writing.specs.Appending.{AppendsPrefix};
+ghost use Rattle.lx_lines.specs.Listings.{listing_of};
 ghost use Rattle.lx_lines.specs.Printing.{WrotePrefix};
 
-use crate::maker::LineMaker;
 use crate::printer::Printer;
 use crate::sink::{Lent, LineSink};
-use crate::spares::{Alone, Shared, Spares};
-use crate::writing::LineWrites;
+use crate::spares::{Alone, Shared};
 use lx_piece::{InOrder, Plan, RelayFault, relay_plan};
 use lx_post::{OpenGate, RunFault, scan_made};
+use lx_shown::{LineMaker, Spares};
+use lx_writing::LineWrites;
 use std::alloc::Global;
 use std::io::Write;
 use std::sync::Wait;

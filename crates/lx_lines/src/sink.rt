@@ -3,8 +3,8 @@
 ghost use Rattle.std.specs.Prelude.{◌≡◌, [], ◌++◌, ℕ, List, IfErr, OnOk, OnErr};
 ghost use Rattle.lx_lines.specs.Printing.{WrotePrefix};
 
-use crate::writing::{LineWrites, write_block};
 use lx_piece::ReaderFault;
+use lx_writing::{LineWrites, write_block};
 use std::io::Write;
 
 /// What takes lines, a block of them at a time.
@@ -37,7 +37,7 @@ pub struct Owned<W: Write> {
 
 impl<W: Write> LineSink for Owned<W> {
     ghost use Rattle.std.specs.Io.KnownBytes.{Appends};
-    ghost use Rattle.lx_lines.specs.ListingLaws.{appends_both, appends_nothing};
+    ghost use Rattle.lx_writing.specs.AppendingLaws.{appends_both, appends_nothing};
 
     ghost wrote = { λ s bytes t. Appends (W.contents s.out) (W.contents t.out) bytes };
 
@@ -66,7 +66,7 @@ impl<'w, W: Write> LineSink for Lent<'w, W> {
     ghost use Rattle.std.specs.Prelude.{◌≡◌};
     ghost use Rattle.std.specs.Io.KnownBytes.{Appends};
     ghost use Rattle.std.proofs.Common.{refl, ◌∙◌};
-    ghost use Rattle.lx_lines.specs.ListingLaws.{appends_both, appends_nothing};
+    ghost use Rattle.lx_writing.specs.AppendingLaws.{appends_both, appends_nothing};
 
     ghost wrote = { λ s bytes t. Appends (W.contents s.out.now) (W.contents t.out.now) bytes × (t.out.ghost_name ≡ s.out.ghost_name) };
 

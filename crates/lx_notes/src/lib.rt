@@ -14,6 +14,6 @@ pub use backoff::Backoff;
 pub use finishing::{Unfinished, finish};
 pub use note::{Note, WorkerFault};
 pub use pace::Pace;
-pub use passes::{MAX_WORKERS, SendPass, TakePass, WORKER_SLOTS};
+pub use passes::{SendPass, TakePass, WORKER_SLOTS};
 pub use post::Post;
 pub use post_arrivals::{NoteArrivals, PostArrivals};

@@ -1,8 +1,8 @@
 //! What the reader holds, and workers that wait where it holds much.
 
 use crate::backoff::Backoff;
-use crate::passes::MAX_WORKERS;
 use lx_piece::Held;
+use lx_plan::MAX_WORKERS;
 use std::sync::Wait;
 use std::sync::atomic::{AtomicBool, AtomicU64, Ordering};
 

@@ -6,12 +6,10 @@ use crate::note::Note;
 use crate::post_rule::PassView;
 use crossbeam_queue::Pass;
 use lx_piece::Items;
+use lx_plan::MAX_WORKERS;
 use std::marker::Model;
 
-/// The most workers that a run has.
-pub const MAX_WORKERS: u8 = 8;
-
-// The same, as the length of a list.
+/// The most workers that a run has, as the length of a list.
 pub const WORKER_SLOTS: usize = MAX_WORKERS as usize;
 
 /// The right of one worker to send notes. Contracts see what it sent.
@@ -46,7 +44,7 @@ pub struct TakePass<C = Items> {
 impl<C> Model for TakePass<C> {
     ghost use Rattle.std.specs.Prelude.{◌≡◌, ◌≤◌, ◌<◌, ℕ, [], false, slice_index_or};
     ghost use Rattle.crossbeam_queue.specs.Passes.{view as known};
-    ghost use Rattle.lx_claims.specs.Claimed.{max_workers};
+    ghost use Rattle.lx_plan.specs.Plans.{max_workers};
     ghost use Rattle.lx_notes.specs.Notes.{notes_of, has_end};
     ghost use Rattle.lx_notes.specs.Posting.{taker};
     ghost use Rattle.lx_notes.specs.Posted.{Taken};
@@ -63,7 +61,7 @@ impl<C> Model for TakePass<C> {
 }
 
 impl<C> SendPass<C> {
-    // Whose notes it sends.
+    /// The worker whose notes it sends.
     pub fn worker(&self) -> u8
         ensures { result ≡ self.now.worker }
     {

@@ -11,7 +11,8 @@ use Rattle.lx_plan.specs.Pieces.{Making, IsPieceBy, pieces_of}
 use Rattle.lx_collector.specs.Arrivals.{RunShape, shape_of, IsHonestBy, AreHonestBy, accepted_behind, accepted_of, with_arrival, joined, cause_against, has_piece, is_numbered, reply_to, replies_of, IsLeastMissing}
 use Rattle.lx_collector.specs.Kept.{Kept, BufferStandsFor, StandsFor, NoneReady, shape_of_kept, held_at, delivered_counts, is_ready_at, fresh_buffer}
 use Rattle.lx_collector.specs.declared.reply.Reply.{Reply}
-use Rattle.lx_piece.specs.Relayed.{TakesAllInOrder, HoldsPlanned, AllDelivered, AtMostDelivered, AreAtMost, RelayedInPartBy}
+use Rattle.lx_delivery.specs.Delivered.{HoldsPlanned, AreAtMost}
+use Rattle.lx_piece.specs.Relayed.{TakesAllInOrder, AllDelivered, AtMostDelivered, RelayedInPartBy}
 use Rattle.lx_piece.proofs.SoFar.{SoFar}
 use Rattle.lx_collector.proofs.AnyOf.{any_last, any_of}
 use Rattle.lx_plan.specs.PieceLaws.{takes_in_order}

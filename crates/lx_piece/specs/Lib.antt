@@ -1,6 +1,5 @@
 pub mod Relayed
 pub mod Listed
-pub mod Turns
 pub mod Passing
 pub mod PassingLaws
 pub mod PlanPieces

@@ -1,19 +1,9 @@
-use Rattle.std.specs.Prelude.{ℕ, ◌≡◌, ◌≢◌, ◌<◌, ◌≤◌, true, List, [], ◌∷◌, ◌++◌, Some, Contains, length, slice_index, slice_get}
+use Rattle.std.specs.Prelude.{ℕ, ◌≡◌, ◌≢◌, ◌<◌, ◌≤◌, true, List, [], ◌∷◌, ◌++◌, Contains, length, slice_index}
 use Rattle.lx_plan.specs.declared.piece.Piece.{Piece}
 use Rattle.lx_collector.specs.declared.reply.Reply.{Reply}
-use Rattle.lx_collector.specs.Kept.{Buffered, held_at}
 use Rattle.lx_plan.specs.Plans.{Planned, files_of}
-use Rattle.lx_plan.specs.Pieces.{ItemPiece, Making, bare, IsPieceBy, TakesInOrder, pieces_of, piece_by}
+use Rattle.lx_plan.specs.Pieces.{ItemPiece, Making, bare, TakesInOrder, pieces_of, piece_by}
 use Rattle.lx_collector.specs.Arrivals.{RunShape, shape_of, AreHonestBy, accepted_of, replies_of, has_piece, IsLeastMissing}
-
--- p is the piece that a reader with these counts takes next of its file, of which it took the first ones, in order
-pub record IsNextPieceBy {C : Type 0} (made : Making C) (plan : Planned) (counts : List ℕ) (p : Piece C) : Type 0 where
-  pub planned : IsPieceBy made plan p
-  pub number : p.number ≡ slice_index counts p.file
-  pub taken : TakesInOrder plan p.file (slice_index counts p.file)
-
-abbrev pub IsNextPiece : Planned → List ℕ → ItemPiece → Type 0
-IsNextPiece plan counts p = IsNextPieceBy bare plan counts p
 
 -- of each file the pieces taken are some of its first ones, and so in order and none twice
 pub record TakesAllInOrder (plan : Planned) (counts : List ℕ) : Type 0 where
@@ -70,13 +60,3 @@ pub record RelayedInPartBy {C : Type 0} (made : Making C) (plan : Planned) (lead
 
 abbrev pub RelayedInPart : Planned → (List ItemPiece → Type 0) → List ℕ → Type 0
 RelayedInPart plan leads counts = RelayedInPartBy bare plan leads counts
-
--- each held piece is the plan's piece of its file and number
-pub record HoldsPlanned {C : Type 0} (made : Making C) (plan : Planned) (buffers : List (Buffered C)) : Type 0 where
-  pub files : length buffers ≡ files_of plan
-  pub each : (file : ℕ) (buffer : Buffered C) → slice_get buffers file ≡ Some buffer → (n : ℕ) (p : Piece C) → held_at buffer n ≡ Some p → IsPieceBy made plan p × (p.file ≡ file) × (p.number ≡ n)
-
--- no count is above another list's
-pub record AreAtMost (counts others : List ℕ) : Type 0 where
-  pub files : length counts ≡ length others
-  pub each : (file : ℕ) → slice_index counts file ≤ slice_index others file

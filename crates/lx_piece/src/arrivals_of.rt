@@ -6,7 +6,7 @@ ghost use Rattle.lx_plan.specs.Plans.{Planned};
 ghost use Rattle.lx_collector.specs.Arrivals.{IsHonestBy};
 
 use crate::arrivals::Arrivals;
-use crate::reader::Held;
+use lx_delivery::Held;
 use lx_plan::{Items, KeepItems, Maker, Piece};
 
 /// Where pieces come from that carry what a maker made of their items, in any order.

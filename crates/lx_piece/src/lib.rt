@@ -6,10 +6,7 @@ mod arrivals_of;
 mod in_order;
 mod list_arrivals;
 mod plan_pieces;
-mod reader;
-mod reader_of;
 mod relaying;
-mod taker;
 mod turn_queue;
 
 pub use arrivals::Arrivals;
@@ -17,12 +14,10 @@ pub use arrivals_of::ArrivalsOf;
 pub use in_order::InOrder;
 pub use list_arrivals::ListArrivals;
 pub use lx_collector::{Collector, Refused, Reply, Why};
+pub use lx_delivery::{Held, Reader, ReaderFault, ReaderOf, RelayFault, Taker};
 pub use lx_plan::{
     Cutter, Input, Items, KeepItems, MAX_FILES, MAX_ITEMS, Maker, Mark, Piece, Plan,
 };
 pub use plan_pieces::relay_plan;
-pub use reader::{Held, Reader, ReaderFault};
-pub use reader_of::ReaderOf;
-pub use relaying::{RelayFault, relay, relay_of};
-pub use taker::Taker;
+pub use relaying::{relay, relay_of};
 pub use turn_queue::TurnQueue;

@@ -1,7 +1,7 @@
 //! The pieces of a plan on one thread.
 
 ghost use Rattle.std.specs.Prelude.{◌≡◌, ◌+◌, ◌<◌, [], ◌∷◌, ◌++◌, Err, IfOk, OnOk, OnErr, MatchOption, false, replicate};
-ghost use Rattle.lx_piece.specs.declared.relaying.RelayFault.{RelayFault};
+ghost use Rattle.lx_delivery.specs.declared.delivering.RelayFault.{RelayFault};
 ghost use Rattle.lx_plan.specs.Cutting.{IsCutterOf};
 ghost use Rattle.lx_plan.specs.Pieces.{IsPieceBy, top_number};
 ghost use Rattle.lx_piece.specs.PlanPieces.{pieces_before, pieces_below};
@@ -9,8 +9,8 @@ ghost use Rattle.lx_plan.specs.Plans.{IsPlan, files_of};
 ghost use Rattle.lx_piece.specs.Relayed.{AreAllTaken, TakesAllInOrder};
 
 use crate::arrivals_of::ArrivalsOf;
-use crate::reader_of::ReaderOf;
-use crate::relaying::{RelayFault, relay_of};
+use crate::relaying::relay_of;
+use lx_delivery::{ReaderOf, RelayFault};
 use lx_plan::{Cutter, Maker, Piece, Plan};
 use std::alloc::{AllocError, Global};
 use std::marker::Model;

@@ -1,95 +1,14 @@
-ghost use Rattle.std.specs.Prelude.{◌≡◌, ◌<◌, List, [], ◌∷◌, ◌++◌, length, replicate, OnOk, OnErr, IfOk, IfErr, Ok, Err};
-ghost use Rattle.lx_plan.specs.declared.piece.Piece.{Piece};
+ghost use Rattle.std.specs.Prelude.{◌≡◌, ◌<◌, replicate, OnOk, OnErr, IfOk, Err};
 ghost use Rattle.lx_plan.specs.Plans.{files_of};
 ghost use Rattle.lx_plan.specs.Pieces.{top_number};
-ghost use Rattle.lx_collector.specs.Arrivals.{accepted_of, replies_of, reply_to};
-ghost use Rattle.lx_collector.specs.Kept.{StandsFor, NoneReady, shape_of_kept, delivered_counts};
-ghost use Rattle.lx_piece.specs.Relayed.{Relayed, RelayedBy, RelayedInPart, RelayedInPartBy, HoldsPlanned, AreAtMost};
+ghost use Rattle.lx_piece.specs.Relayed.{Relayed, RelayedBy, RelayedInPart, RelayedInPartBy};
 
 use crate::arrivals::Arrivals;
 use crate::arrivals_of::ArrivalsOf;
-use crate::reader::{Reader, ReaderFault};
-use crate::reader_of::ReaderOf;
-use lx_collector::{Collector, Reply, Why};
-use lx_plan::{KeepItems, Maker, Piece, Plan};
-use std::alloc::{AllocError, AllocFailed, Global};
-use thiserror::Error;
-
-/// Why a relay ended before its arrivals did.
-#[derive(Clone, Copy, Debug, PartialEq, Eq, Error)]
-pub enum RelayFault {
-    /// The reader's device failed.
-    #[error("the reader failed")]
-    Reader,
-    #[error("out of memory")]
-    Memory,
-}
-
-impl From<AllocError> for RelayFault {
-    ghost use Rattle.lx_piece.specs.declared.relaying.RelayFault.{RelayFault};
-
-    ghost from_gives = { λ _ fault. fault ≡ RelayFault.Memory };
-
-    fn from(_error: AllocError) -> Self {
-        RelayFault::Memory
-    }
-}
-
-impl<T: Drop> From<AllocFailed<T>> for RelayFault {
-    ghost use Rattle.lx_piece.specs.declared.relaying.RelayFault.{RelayFault};
-
-    ghost from_gives = { λ _ fault. fault ≡ RelayFault.Memory };
-
-    fn from(_error: AllocFailed<T>) -> Self {
-        RelayFault::Memory
-    }
-}
-
-/// Offers an arrival. Only memory keeps it from a reply, and then nothing has changed.
-fn offer_to<C: Drop>(collector: &mut Collector<C>, piece: Piece<C>) -> Result<Reply, RelayFault>
-    ensures reply { (came : List (Piece C)) → StandsFor collector.old came → IfOk result (λ reply. reply ≡ reply_to (shape_of_kept collector.old) (accepted_of (shape_of_kept collector.old) came) piece) }
-    ensures stands { (came : List (Piece C)) → StandsFor collector.old came → OnOk result (StandsFor collector.new (came ++ piece ∷ [])) }
-    ensures shape { shape_of_kept collector.new ≡ shape_of_kept collector.old }
-    ensures counts { delivered_counts collector.new ≡ delivered_counts collector.old }
-    ensures memory { IfErr result (λ fault. fault ≡ RelayFault.Memory) }
-    ensures err { OnErr result (collector.new ≡ collector.old) }
-{
-    match collector.offer(piece) {
-        Ok(()) => Ok(Reply::Accepted),
-        Err(refused) => match refused.why {
-            Why::Memory => Err(RelayFault::Memory),
-            why => Ok(Reply::Refused(why)),
-        },
-    }
-}
-
-/// Hands the reader all that can be delivered.
-fn deliver_all<M: Maker, R: ReaderOf<M>>(
-    collector: &mut Collector<M::Made>,
-    reader: &mut R,
-) -> Result<(), RelayFault>
-    requires per_piece { 0 < (R.plan reader.old).per_piece }
-    requires planned { HoldsPlanned M.made (R.plan reader.old) collector.old.buffers }
-    requires counts { R.counts reader.old ≡ delivered_counts collector.old }
-    requires countable { R.fault_count reader.old < top_number }
-    ensures plan { R.plan reader.new ≡ R.plan reader.old }
-    ensures follows { R.follows reader.old reader.new }
-    ensures stands { (came : List (Piece M.Made)) → StandsFor collector.old came → StandsFor collector.new came }
-    ensures shape { shape_of_kept collector.new ≡ shape_of_kept collector.old }
-    ensures ok { OnOk result ((R.counts reader.new ≡ delivered_counts collector.new) × NoneReady collector.new.buffers × (R.fault_count reader.new ≡ R.fault_count reader.old)) }
-    ensures err { OnErr result (AreAtMost (R.counts reader.new) (delivered_counts collector.new) × AreAtMost (R.counts reader.old) (R.counts reader.new)) }
-    ensures reader { result ≡ Err RelayFault.Reader → R.fault_count reader.old < R.fault_count reader.new }
-    ensures memory { result ≡ Err RelayFault.Memory → R.fault_count reader.new ≡ R.fault_count reader.old }
-{
-    while let Some(piece) = collector.deliver() {
-        match reader.take(piece) {
-            Ok(()) => {}
-            Err(ReaderFault::Device) => return Err(RelayFault::Reader),
-            Err(ReaderFault::Memory) => return Err(RelayFault::Memory),
-        }
-    }
-    Ok(())
-}
+use lx_collector::{Collector, Reply};
+use lx_delivery::{Reader, ReaderOf, RelayFault, deliver_all, offer_to};
+use lx_plan::{KeepItems, Maker, Plan};
+use std::alloc::Global;
 
 /// Offers each arrival, and hands the reader at once what can be delivered. The reader is delivered the pieces
 /// of each file in order, each once. The reply to each arrival is that to it behind those before.

@@ -9,7 +9,7 @@ use Rattle.std.proofs.lemmas.Grind.{div_ceil_times}
 use Rattle.std.proofs.lemmas.List.{drop-drop, drop_all, length-drop, take_all}
 use Rattle.std.proofs.Math.Seq.{drop-append_seam, take-append_seam}
 use Rattle.std.proofs.Math.Nat.{suc-mul, mul-le-mul_right}
-use Rattle.lx_tables.specs.Model.{Table}
+use Rattle.lx_table_texts.specs.Model.{Table}
 use Rattle.lx_scan.specs.Cursors.{IsInText, items_left, listed}
 use Rattle.lx_scan.specs.Ends.{Appends}
 use Rattle.lx_scan.specs.declared.cursor.Cursor.{Cursor}

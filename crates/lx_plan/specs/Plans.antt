@@ -1,5 +1,5 @@
 use Rattle.std.specs.Prelude.{ℕ, ◌<◌, ◌≤◌, All, Bool, false, List, [], length, slice_index_or}
-use Rattle.lx_tables.specs.Model.{Table, IsTable, kind_at}
+use Rattle.lx_table_texts.specs.Model.{Table, IsTable, kind_at}
 use Rattle.lx_scan.specs.declared.item.Item.{Item}
 use Rattle.lx_scan.specs.ItemParts.{IsItemOf}
 use Rattle.lx_scan.specs.Items as scan
@@ -12,6 +12,10 @@ max_files = 65536
 -- the most items that a piece has
 abbrev pub max_items : ℕ
 max_items = 4096
+
+-- the most workers that scan its files
+abbrev pub max_workers : ℕ
+max_workers = 8
 
 -- a file as far as it was read, and whether its reading failed behind these bytes
 pub record PlainInput : Type 0 where

@@ -12,6 +12,9 @@ pub const MAX_FILES: usize = 65_536;
 /// The most items that a piece has.
 pub const MAX_ITEMS: u32 = 4_096;
 
+/// The most workers that scan the files of a plan.
+pub const MAX_WORKERS: u8 = 8;
+
 /// The files of one run, the tables by which they are scanned, and how their items are cut into pieces.
 #[derive(Drop)]
 pub struct Plan {

@@ -1,6 +1,6 @@
 // Definitions.
 
-use lx_ere::expr::Expr;
+use lx_lexemes::expr::Expr;
 
 /// A name, and the expression that it stands for.
 #[derive(Drop)]

@@ -5,7 +5,7 @@ use Rattle.std.proofs.lemmas.Bool.{cases_lt, eqb-false, eqb-true}
 use Rattle.lx_rules.specs.declared.rule.Step.{Step}
 use Rattle.lx_rules.specs.declared.rule.Step.TheVariants.{Echo, Begin, Return}
 use Rattle.lx_tables.specs.Joined.{AreGiven, echoed, giving, item_count}
-use Rattle.lx_tables.specs.Model.{Table}
+use Rattle.lx_table_texts.specs.Model.{Table}
 use Rattle.lx_scan.specs.declared.item.Item.{Item}
 use Rattle.lx_scan.specs.Cursors.{item_of_step, listed}
 use Rattle.lx_scan.specs.Ends.{steps_of_code, steps_of_rule}

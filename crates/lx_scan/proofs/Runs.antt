@@ -8,7 +8,7 @@ use Rattle.std.proofs.lemmas.Nat.{div-mul-add, mod-mul-add}
 use Rattle.lx_rules.specs.declared.rule.Step.{Step}
 use Rattle.lx_automaton.specs.Automata.{accepted_by}
 use Rattle.lx_tables.specs.Joined.{IsJoined, IsJoinedState, begun, ended, is_told, joined_number, joined_step, joined_width, rule_ended, stepped, target_from}
-use Rattle.lx_tables.specs.Model.{Table, IsTable, rule_at}
+use Rattle.lx_table_texts.specs.Model.{Table, IsTable, rule_at}
 use Rattle.lx_tables.specs.declared.joined.JoinedState.{JoinedState}
 use Rattle.lx_scan.specs.declared.ends.End.{End}
 use Rattle.lx_scan.specs.declared.item.Item.{Item}

@@ -2,7 +2,7 @@
 
 ghost use Rattle.std.specs.Prelude.{◌≡◌, ◌<◌, ◌≤◌, ◌+◌, ◌-◌, ◌++◌, IfOk, IsTrue, OnOk, length};
 ghost use Rattle.lx_tables.specs.Joined.{AreGiven, IsJoined};
-ghost use Rattle.lx_tables.specs.Model.{IsTable};
+ghost use Rattle.lx_table_texts.specs.Model.{IsTable};
 ghost use Rattle.lx_scan.specs.Cursors.{listed};
 ghost use Rattle.lx_scan.specs.Ends.{AreEnds, Appends, IsEnd, IsPlace, end_of, items_of_ends, line_of, steps_of_code};
 ghost use Rattle.lx_scan.specs.Items.{items_after};

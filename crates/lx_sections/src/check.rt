@@ -1,7 +1,7 @@
 // What can be wrong with a rule, cause by cause in the order in which it is answered.
 ghost use Rattle.std.specs.Prelude.{◌≡◌, ◌<◌, ◌∷◌, [], length, IfOk, map};
 ghost use Rattle.std.specs.List.{list_all};
-ghost use Rattle.lx_ere.specs.Regex.{reading_of};
+ghost use Rattle.lx_lexemes.specs.Regex.{reading_of};
 ghost use Rattle.lx_ere.specs.Pattern.{IsPattern};
 ghost use Rattle.lx_sections.specs.Actions.{IsAction};
 ghost use Rattle.lx_sections.specs.views.Actions.{action_view, statement_view};
@@ -19,9 +19,9 @@ use crate::parsed_sections::{RawRule, StartCondition};
 use crate::prefix::{are_condition_names, are_declared, condition_number, read_fields};
 use crate::rule_line::Prefix;
 use crate::symbol_table::SymbolTable;
-use lx_ere::expr::Pattern;
 use lx_ere::fault::EreFault;
 use lx_ere::read::{one_reading, read_pattern};
+use lx_lexemes::expr::Pattern;
 use std::alloc::Global;
 
 /// What the prefix of a rule lists.

@@ -1,12 +1,4 @@
 pub mod Examples
 pub mod Joined
-pub mod Limits
 pub mod Lines
-pub mod Model
-pub mod Numbered
 pub mod Output
-pub mod Readers
-pub mod Reading
-pub mod Texts
-pub mod Uniqueness
-pub mod Views

@@ -6,15 +6,15 @@ ghost use Rattle.lx_automaton.specs.Automata.{state_count};
 ghost use Rattle.lx_automaton.specs.EncodedOptions.{decoded_option};
 ghost use Rattle.lx_tables.specs.Lines.{value_of, HasState, targets_text, state_line};
 ghost use Rattle.lx_tables.specs.Output.{Wrote, WrotePrefix};
-ghost use Rattle.lx_tables.specs.Texts.{start_line, kind_line, step_text, line_end_text, range_text, byte_ranges, accepts_text, entries_text, entry_text, class_line};
+ghost use Rattle.lx_table_texts.specs.Texts.{start_line, kind_line, step_text, line_end_text, range_text, byte_ranges, accepts_text, entries_text, entry_text, class_line};
 
 use crate::byte_values::ByteValues;
 use crate::tables::Tables;
-use crate::version::Version;
 use crate::writing::{write_bytes, write_numbered, write_parts};
 use itoa::Buffer;
 use lx_automaton::State;
 use lx_rules::rule::{Kind, Step};
+use lx_table_texts::Version;
 use std::io::{self, Write};
 
 pub(crate) fn write_start<W: Write>(

@@ -5,15 +5,14 @@ ghost use Rattle.lx_rules.specs.views.Specs.{spec_view};
 ghost use Rattle.lx_automaton.specs.Equivalence.{AreEquivalentMachines};
 ghost use Rattle.lx_automaton.specs.Leading.{AreAllLedTo};
 ghost use Rattle.lx_automaton.specs.Meaning.{IsAutomatonOf};
-ghost use Rattle.lx_tables.specs.Model.{AreTablesOf};
+ghost use Rattle.lx_table_texts.specs.Model.{AreTablesOf};
 
 use crate::copying::{kinds_of, rules_of};
-use crate::reordering::{accepted_of, classes_of, rows_of, starts_of};
-use crate::state_order::state_order_of;
 use crate::tables::Tables;
 use lx_automaton::Automaton;
 use lx_rules::spec::Spec;
 use lx_rules::well_formed::specs_are_well_formed;
+use lx_state_order::{accepted_of, classes_of, rows_of, starts_of, state_order_of};
 use std::alloc::{AllocError, Global};
 
 impl Tables {

@@ -2,15 +2,15 @@
 use Rattle.std.proofs.Common.{ℕ, ◌≡◌, List, [], Option, inl, inr, length, refl, subst, sym}
 use Rattle.std.proofs.lemmas.List.{nil_from_length}
 use Rattle.lx_plan.specs.Plans.{PlainInput}
-use Rattle.lx_tables.specs.Model.{Table}
-use Rattle.lx_lines.specs.ListingLaws.{appends_nothing}
+use Rattle.lx_table_texts.specs.Model.{Table}
+use Rattle.lx_writing.specs.AppendingLaws.{appends_nothing}
 use Rattle.lx_tool.specs.Given.{AreListed, ArePartlyListed, AreRead, FailsListing}
 use Rattle.lx_tool.specs.Planning.{AreBytes, ListsBy, ListsPrefixBy}
 use Rattle.lx_tool.specs.Statuses.{failure_of_run}
 use Rattle.lx_tool.specs.declared.failure.Failure.{Failure}
 use Rattle.lx_tool.specs.declared.failure.Failure.TheVariants.{Specification, Automaton, Tables, Unprintable, Words, TooManyFiles, InputTwice, Refused, NotRead, Output, Memory}
-use Rattle.lx_post.specs.declared.run_fault.RunFault.{RunFault}
-use Rattle.lx_post.specs.declared.run_fault.RunFault.TheVariants as run
+use Rattle.lx_workers.specs.declared.run_fault.RunFault.{RunFault}
+use Rattle.lx_workers.specs.declared.run_fault.RunFault.TheVariants as run
 
 -- of no files nothing is listed
 listed_nothing : (table : Table) (inputs : List PlainInput) (written : Option (List ℕ)) → length inputs ≡ 0 → ListsBy table inputs written written

@@ -8,7 +8,7 @@ use crate::suspects::{Subject, Suspect, push_suspect, suspect_at};
 use lx_diagnose::Span;
 use lx_diagnose::places::between;
 use lx_diagnose::scan::is_at;
-use lx_ere::lexeme::Lexeme;
+use lx_lexemes::lexeme::Lexeme;
 use std::alloc::AllocError;
 
 // Whether an interval repeats a text once.

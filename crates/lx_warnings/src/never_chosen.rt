@@ -1,8 +1,8 @@
 // What is said of a rule that is never chosen.
 
 use crate::warnings::Known;
-use lx_chosen::Takers;
 use lx_diagnose::wording::{Fillings, filled};
+use lx_reached::Takers;
 use lx_spec::Spec;
 use std::alloc::{AllocError, Global};
 

@@ -1,4 +1,5 @@
--- The tables of commands and their words, as rules and apps of `clap`.
+-- The tables of commands and their words, as rules and apps of `clap`: a mirror of the loops in `app`. That what they make is the
+-- command line of `specs/CommandLine` is the clause of `command`.
 use Rattle.std.specs.Prelude.{List, [], ◌∷◌, Some, None, true}
 use Rattle.clap.specs.declared.builder.action.ArgAction.TheVariants.{Append, SetTrue}
 use Rattle.clap.specs.declared.builder.value_parser.ValueParser.TheVariants.{Signed}

@@ -1,8 +1,7 @@
 // The commands of `lx` and their words, as tables.
 
 use crate::request::MOST_TOLD;
-use lx_piece::MAX_ITEMS;
-use lx_post::MAX_WORKERS;
+use lx_plan::{MAX_ITEMS, MAX_WORKERS};
 
 /// How an option is written.
 pub(crate) enum Name {

@@ -1,5 +1,5 @@
 use Rattle.std.proofs.Common.{◌≡◌, length}
-use Rattle.lx_chosen.specs.Reached.{AreCounted}
+use Rattle.lx_chosen.specs.Taken.{AreCounted}
 use Rattle.lx_chosen.proofs.chosen.mark.Given as goal
 
 abbrev pub invariant-loop-place : goal.invariant-loop-place

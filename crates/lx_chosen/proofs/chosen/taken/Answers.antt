@@ -1,4 +1,4 @@
-use Rattle.lx_chosen.proofs.Reaching.{marks_targets}
+use Rattle.lx_reached.proofs.Reaching.{marks_targets}
 use Rattle.lx_chosen.proofs.Taking.{are_taken, no_flags}
 use Rattle.lx_chosen.proofs.chosen.taken.Goals as goal
 

@@ -1,6 +1,6 @@
 use Rattle.std.proofs.Common.{sym, subst}
 use Rattle.std.proofs.lemmas.Result.{err_from_is_err_and}
-use Rattle.lx_piece.specs.declared.reader.ReaderFault.{ReaderFault}
+use Rattle.lx_delivery.specs.declared.reader.ReaderFault.{ReaderFault}
 use Rattle.lx_lines.specs.Lines.{line_of, lines_of}
 use Rattle.lx_lines.specs.Parts.{WrotePart}
 use Rattle.lx_lines.proofs.Parting.{part_first, part_taken}

@@ -1,7 +1,7 @@
 use Rattle.std.proofs.Common.{◌≡◌, ◌<◌, ◌+◌, ℕ, None, length}
 use Rattle.std.specs.Prelude.{slice_index_or}
 use Rattle.lx_tables.specs.Joined.{giving}
-use Rattle.lx_tables.specs.Model.{rule_at}
+use Rattle.lx_table_texts.specs.Model.{rule_at}
 use Rattle.lx_tables.proofs.joining.given_of.Given as goal
 
 abbrev pub invariant-loop-rule : goal.invariant-loop-rule

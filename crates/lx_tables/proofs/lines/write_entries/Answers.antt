@@ -1,7 +1,7 @@
 use Rattle.std.proofs.lemmas.Result.{err_from_is_err_and}
 use Rattle.std.proofs.Common.{arith}
 use Rattle.lx_automaton.specs.Automata.{class_target}
-use Rattle.lx_tables.specs.Texts.{entry_text}
+use Rattle.lx_table_texts.specs.Texts.{entry_text}
 use Rattle.lx_tables.proofs.Written.{number_next, number_prefix, number_end}
 use Rattle.lx_tables.proofs.lines.write_entries.Goals as goal
 

@@ -1,10 +1,11 @@
 use Rattle.std.proofs.Common.{◌<◌, ◌+◌, sym, subst, arith, length, List, ℕ}
 use Rattle.std.specs.Prelude.{slice_set}
 use Rattle.lx_plan.specs.Plans.{Planned, IsPlan}
-use Rattle.lx_piece.specs.Relayed.{IsNextPieceBy}
-use Rattle.lx_piece.specs.Turns.{IsTurnBy}
-use Rattle.lx_piece.specs.Passing.{Passing, KeepsUp, PassesOn, queued}
-use Rattle.lx_piece.proofs.Handing.{count_raised, passes_taken, turn_by}
+use Rattle.lx_delivery.specs.NextPiece.{IsNextPieceBy}
+use Rattle.lx_delivery.specs.Turns.{IsTurnBy}
+use Rattle.lx_delivery.specs.Waiting.{KeepsUp, queued}
+use Rattle.lx_piece.specs.Passing.{Passing, PassesOn}
+use Rattle.lx_piece.proofs.Passed.{count_raised, passes_taken, turn_by}
 use Rattle.lx_piece.proofs.turn_queue.TurnQueue.take.Goals as goal
 
 pub invariant_of-self-in-Ok : goal.invariant_of-self-in-Ok

@@ -1,5 +1,5 @@
 use Rattle.std.proofs.Common.{sym, ◌∙◌}
-use Rattle.lx_tables.proofs.EncodedOptions.{if_some}
+use Rattle.lx_automaton.proofs.EncodedLists.{if_some}
 use Rattle.lx_tables.proofs.tables.Tables.accepts.Goals as goal
 
 pub returns-clause-below : goal.returns-clause-below

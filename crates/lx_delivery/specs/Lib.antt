@@ -1,0 +1,4 @@
+pub mod NextPiece
+pub mod Turns
+pub mod Waiting
+pub mod Delivered

@@ -1,0 +1,10 @@
+pub mod ByteLemmas
+pub mod Choices
+pub mod SequenceLemmas
+pub mod RunLemmas
+pub mod EscapeLemmas
+pub mod BracketLemmas
+pub mod SpellingLemmas
+pub mod NumberLemmas
+pub mod MemberLoop
+pub mod QuoteLoop

@@ -1,0 +1,14 @@
+pub mod Limits
+pub mod Bytes
+pub mod Regex
+pub mod Matching
+pub mod Grammar
+pub mod Escapes
+pub mod Sequences
+pub mod Brackets
+pub mod Spelling
+pub mod Lexing
+pub mod Tokens
+pub mod Lexemes
+pub mod Equality
+pub mod EqualityLaws

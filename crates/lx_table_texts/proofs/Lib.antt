@@ -1,0 +1,14 @@
+pub mod ByBytes
+pub mod Distinct
+pub mod FirstRead
+pub mod LinesRead
+pub mod Numbers
+pub mod NumbersRead
+pub mod OneMachine
+pub mod Onto
+pub mod Ranges
+pub mod RowLists
+pub mod StatesRead
+pub mod Tested
+pub mod TextsRead
+pub mod WholeRead

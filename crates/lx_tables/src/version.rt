@@ -1,8 +1,0 @@
-// The versions of the table text.
-
-/// A version of the table text: steps by ranges of bytes, or by classes.
-#[derive(Clone, Copy)]
-pub(crate) enum Version {
-    First,
-    Second,
-}

@@ -1,0 +1,26 @@
+-- What is wrong with the text of a specification.
+use Rattle.std.specs.Prelude.{ℕ, ◌<◌, ◌≤◌, List}
+use Rattle.lx_auto.specs.Counts.{count_of_spec}
+use Rattle.lx_auto.specs.PositionSets.{HasMoreReachedSets}
+use Rattle.lx_rules.specs.Plain.{PlainSpec}
+use Rattle.lx_spec.specs.Whole.{IsFault, IsRead}
+use Rattle.lx_verdict.specs.declared.finding.Finding.{Finding}
+use Rattle.lx_verdict.specs.declared.finding.Finding.TheVariants.{Specification, TooManyPositions, TooManySets}
+
+-- in which way a specification is too large for tables: of positions, or of reached sets
+abbrev pub IsTooLarge : PlainSpec → Finding → Type 0
+IsTooLarge spec (Specification fault) = ⊥
+IsTooLarge spec TooManyPositions = 16384 < count_of_spec spec
+IsTooLarge spec TooManySets = (count_of_spec spec ≤ 16384) × HasMoreReachedSets spec 16384
+
+-- the text says a specification that is too large
+pub record SaysTooLarge (text : List ℕ) (finding : Finding) : Type 0 where
+  pub spec : PlainSpec
+  pub read : IsRead text spec
+  pub too_large : IsTooLarge spec finding
+
+-- This is wrong with the text.
+abbrev pub IsFinding : List ℕ → Finding → Type 0
+IsFinding text (Specification fault) = IsFault text fault
+IsFinding text TooManyPositions = SaysTooLarge text TooManyPositions
+IsFinding text TooManySets = SaysTooLarge text TooManySets

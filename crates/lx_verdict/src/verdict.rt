@@ -1,0 +1,58 @@
+//! The verdict on a text: reading it, and building tables of what it says. Where memory is refused there is none.
+
+ghost use Rattle.std.specs.Prelude.{◌≡◌, ◌<◌, ◌≤◌, ℕ, List, IfOk, IfErr};
+ghost use Rattle.lx_auto.specs.Counts.{count_of_spec};
+ghost use Rattle.lx_auto.specs.PositionSets.{HasMoreReachedSets};
+ghost use Rattle.lx_automaton.specs.Meaning.{IsAutomatonOf};
+ghost use Rattle.lx_rules.specs.views.Specs.{spec_view};
+ghost use Rattle.lx_spec.specs.Whole.{IsFault, IsRead};
+ghost use Rattle.lx_table_texts.specs.Model.{AreTablesOf};
+ghost use Rattle.lx_verdict.specs.Verdicts.{IsTooLarge};
+
+use crate::finding::Finding;
+use lx_auto::{Automaton, BuildFault, build, merge};
+use lx_spec::{Code, Spec, SpecFault, read_spec};
+use lx_tables::Tables;
+use std::alloc::{AllocError, Global};
+
+/// The specification that a text says, or its first fault. Err: memory was refused.
+pub fn read(alloc: Global, text: &[u8]) -> Result<Result<Spec, SpecFault>, AllocError>
+    ensures ok { IfOk result (λ read. IfOk read (λ spec. IsRead text.now (spec_view spec))) }
+    ensures err { IfOk result (λ read. IfErr read (λ fault. IsFault text.now fault)) }
+{
+    match read_spec(alloc, text) {
+        Ok(spec) => Ok(Ok(spec)),
+        Err(fault) => {
+            if fault.code == Code::Memory {
+                Err(AllocError)
+            } else {
+                Ok(Err(fault))
+            }
+        }
+    }
+}
+
+// The merged automaton of a specification.
+fn automaton_of(alloc: Global, spec: &Spec) -> Result<Automaton, BuildFault>
+    ensures automaton { IfOk result (λ a. IsAutomatonOf (spec_view spec.now) a) }
+    ensures few_positions { IfOk result (λ _. count_of_spec (spec_view spec.now) ≤ 16384) }
+    ensures positions { IfErr result (λ e. e ≡ BuildFault.TooManyPositions → 16384 < count_of_spec (spec_view spec.now)) }
+    ensures sets { IfErr result (λ e. e ≡ BuildFault.TooManySets → (count_of_spec (spec_view spec.now) ≤ 16384) × HasMoreReachedSets (spec_view spec.now) 16384) }
+{
+    let built = build(alloc, spec)?;
+    Ok(merge(alloc, &built)?)
+}
+
+/// The tables of a specification, or why it has none: it is too large. Err: memory was refused.
+pub fn tables_of(alloc: Global, spec: &Spec) -> Result<Result<Tables, Finding>, AllocError>
+    ensures ok { IfOk result (λ made. IfOk made (λ tables. AreTablesOf (spec_view spec.now) tables)) }
+    ensures few_positions { IfOk result (λ made. IfOk made (λ _. count_of_spec (spec_view spec.now) ≤ 16384)) }
+    ensures err { IfOk result (λ made. IfErr made (IsTooLarge (spec_view spec.now))) }
+{
+    match automaton_of(alloc, spec) {
+        Ok(automaton) => Ok(Ok(Tables::of(alloc, spec, &automaton)?)),
+        Err(BuildFault::TooManyPositions) => Ok(Err(Finding::TooManyPositions)),
+        Err(BuildFault::TooManySets) => Ok(Err(Finding::TooManySets)),
+        Err(BuildFault::Memory) => Err(AllocError),
+    }
+}
