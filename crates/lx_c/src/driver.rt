@@ -52,6 +52,7 @@ static void @__hand_over(@_scanner *s, const void *text, size_t size, int is_las
     s->text = (const unsigned char *)(text ? text : "");
     s->size = size;
     s->at = s->from = 0;
+    s->place = s->text;
     s->is_last = is_last;
 }
 
@@ -81,7 +82,7 @@ static void @__hand_over(@_scanner *s, const void *text, size_t size, int is_las
 @__API int @_next(@_scanner *s, @_token *t)
 {
     const unsigned char *const text = s->text, *const end = text + s->size;
-    const unsigned char *from = text + s->from, *p = text + s->at;
+    const unsigned char *from = text + s->from, *p = s->place;
     @__LINES(size_t line = s->line; size_t line_start = s->line_start;)
     int kind = @_END, at_line_begin = s->at_line_begin, condition = s->condition;
     if (@__PENDING) {
@@ -157,6 +158,7 @@ pub(crate) const WALK: &[u8] = br#"    while (kind == @_END) {
 pub(crate) const FURTHER_CALLS: &[u8] = br#"    s->from = (size_t)(from - text);
     @__LINES(s->from_line = line; s->from_line_start = line_start;)
     s->at = (size_t)(p - text);
+    s->place = p;
     s->at_line_begin = at_line_begin;
     t->kind = kind;
     t->text = (const char *)from;
@@ -188,6 +190,7 @@ pub(crate) const FURTHER_CALLS: &[u8] = br#"    s->from = (size_t)(from - text);
 {
     if (length < 1 || length > t->length || t->start != s->before + s->from) return;
     s->at = s->from + length;
+    s->place = s->text + s->at;
     s->at_line_begin = @__BEGIN(s->text[s->at - 1] == 10);
     s->line = s->from_line;
     s->line_start = s->from_line_start;

@@ -57,6 +57,7 @@ typedef struct @_scanner {
     const unsigned char *text; /* this part of the text */
     size_t size;               /* how many bytes this part has */
     size_t at;                 /* where in this part the next match begins */
+    const unsigned char *place; /* the same in memory, where the next call has it sooner */
     size_t from;               /* where in this part the last match began */
     size_t before;             /* how many bytes stand before this part */
     size_t line;               /* line and start of line at `at` */
