@@ -1,10 +1,10 @@
 // Groups of bytes that no position tells apart.
-ghost use Rattle.std.specs.Prelude.{◌≡◌, ◌≤◌, ◌<◌, ◌+◌, ℕ, true, false, IfOk, OnOk, MatchOption, length, slice_index};
+ghost use Rattle.std.specs.Prelude.{◌≡◌, ◌≤◌, ◌<◌, ◌+◌, ℕ, List, true, false, All, IfOk, OnOk, MatchOption, length, slice_index};
 ghost use Rattle.lx_auto.specs.Leaves.{PlainLeaf, AreGroupsOf};
 ghost use Rattle.lx_auto.specs.LeafViews.{leaf_view, leaves_view};
 ghost use Rattle.lx_auto.specs.Grouping.{representative_of, RespectsGroups, AreTogether, IsSplitBelow};
 
-use crate::leaf::{Leaf, has};
+use crate::leaf::{Leaf, are_same, has};
 use std::alloc::{AllocError, Global};
 
 /// The bytes in groups, each with one byte that stands for it.
@@ -124,13 +124,45 @@ fn refine(alloc: Global, leaf: &Leaf, groups: Groups) -> Result<Groups, AllocErr
     Ok(groups)
 }
 
+// So many leaves are kept by which the groups were split: most positions have the bytes of an earlier one.
+const MOST_KEPT: usize = 64;
+
+// Whether one of the leaves has the same bytes as this one.
+fn is_among(kept: &[Leaf], leaf: &Leaf) -> bool
+    ensures { (classes representatives : List ℕ) → All (λ k. RespectsGroups (leaf_view k) classes representatives) kept.now → result ≡ true → RespectsGroups (leaf_view leaf.now) classes representatives }
+{
+    for other in kept {
+        if are_same(other, leaf) {
+            return true;
+        }
+    }
+    false
+}
+
+// Keeps a leaf, unless there are enough.
+fn keep<'s>(kept: &mut Vec<Leaf<'s>>, leaf: Leaf<'s>) -> Result<(), AllocError>
+    ensures { (classes representatives : List ℕ) → All (λ k. RespectsGroups (leaf_view k) classes representatives) kept.old.items → RespectsGroups (leaf_view leaf.entry) classes representatives → OnOk result (All (λ k. RespectsGroups (leaf_view k) classes representatives) kept.new.items) }
+{
+    if kept.len() == MOST_KEPT {
+        return Ok(());
+    }
+    kept.push(leaf)?;
+    Ok(())
+}
+
 /// The bytes in groups that no leaf tells apart.
-pub(crate) fn groups_of(alloc: Global, leaves: &[Leaf]) -> Result<Groups, AllocError>
+pub(crate) fn groups_of<'s>(alloc: Global, leaves: &[Leaf<'s>]) -> Result<Groups, AllocError>
     ensures { IfOk result (λ groups. AreGroupsOf (leaves_view leaves.now) groups.classes.items groups.representatives.items) }
 {
     let mut groups = one_group(alloc)?;
+    let mut kept = Vec::new(alloc);
     for i in 0..leaves.len() {
-        groups = refine(alloc, &leaves[i], groups)?;
+        let leaf = leaves[i];
+        if is_among(&kept, &leaf) {
+            continue;
+        }
+        groups = refine(alloc, &leaf, groups)?;
+        keep(&mut kept, leaf)?;
     }
     Ok(groups)
 }

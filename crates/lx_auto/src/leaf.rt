@@ -1,5 +1,5 @@
 // The leaves of the positions, in order.
-ghost use Rattle.std.specs.Prelude.{◌≡◌, ◌++◌, ℕ, List, IfOk, OnOk};
+ghost use Rattle.std.specs.Prelude.{◌≡◌, ◌++◌, ℕ, List, true, IfOk, OnOk};
 ghost use Rattle.lx_lexemes.specs.Regex.{Regex};
 ghost use Rattle.lx_rules.specs.Plain.{PlainRule};
 ghost use Rattle.lx_auto.specs.Unfolded.{Unfolded};
@@ -31,6 +31,17 @@ pub(crate) fn has(leaf: &Leaf, byte: u8) -> bool
     match *leaf {
         Leaf::Set(set) => set.has(byte),
         Leaf::Newline => byte == 10,
+    }
+}
+
+/// Whether the two have the same bytes, as far as it is seen at once: a set of the newline alone isn't compared with a line end.
+pub(crate) fn are_same(a: &Leaf, b: &Leaf) -> bool
+    ensures { result ≡ true → leaf_view a.now ≡ leaf_view b.now }
+{
+    match (*a, *b) {
+        (Leaf::Set(one), Leaf::Set(other)) => *one == *other,
+        (Leaf::Newline, Leaf::Newline) => true,
+        _ => false,
     }
 }
 

@@ -13,8 +13,10 @@ use crate::marking::{has_flag, set_flag};
 use crate::rule_part::RulePart;
 use std::alloc::{AllocError, Global};
 
-// How many flags are looked at together: in most sets few are set.
+// How many flags are looked at together: in most sets few are set, so that there are long stretches without one.
 const STRETCH: usize = 64;
+
+const LONG_STRETCH: usize = 1_024;
 
 // No more flags than these are gone over for all rules at once.
 const MOST_POSITIONS: usize = 65_536;
@@ -26,19 +28,36 @@ struct Bare {
     until: usize,
 }
 
-// Before which position none is marked, from this one on: where a stretch begins in which one is, or the end.
-fn bare_until(marks: &[bool], from: usize) -> usize
-    ensures { (q : ℕ) → from ≤ q → q < result → plain.flag marks.now q ≡ false }
+// Before which position none is marked, from this one on, where so many are looked at together: where a stretch begins in which one is, or the end.
+fn bare_by(marks: &[bool], from: usize, stretch: usize) -> usize
+    requires some { 0 < stretch }
+    requires few { stretch ≤ 1024 }
+    ensures later { from ≤ result }
+    ensures within { from ≤ length marks.now → result ≤ length marks.now }
+    ensures bare { (q : ℕ) → from ≤ q → q < result → plain.flag marks.now q ≡ false }
 {
     let mut until = from;
     'stretches: while until < marks.len() && until < MOST_POSITIONS {
-        let count = (marks.len() - until).min(STRETCH);
+        let count = (marks.len() - until).min(stretch);
         if has_flag(marks, until, count) {
             return until;
         }
         until += count;
     }
     until
+}
+
+// The same by stretches that fit the marks: short ones where marks are near, and long ones up to where they are.
+fn bare_until(marks: &[bool], from: usize) -> usize
+    ensures later { from ≤ result }
+    ensures within { from ≤ length marks.now → result ≤ length marks.now }
+    ensures bare { (q : ℕ) → from ≤ q → q < result → plain.flag marks.now q ≡ false }
+{
+    if from < marks.len() && has_flag(marks, from, STRETCH.min(marks.len() - from)) {
+        return from;
+    }
+    let far = bare_by(marks, from, LONG_STRETCH);
+    bare_by(marks, far, STRETCH)
 }
 
 // These positions where this one is among them, else those from this one on. So all marks are gone over once, and not rule by rule.
@@ -149,21 +168,12 @@ pub(crate) fn step_rules(
     Ok(found)
 }
 
-// How many flags are cleared one by one at most; all others are copied from these.
-const CLEARED: usize = 512;
-
 /// So many flags, none of them set.
 pub(crate) fn clear_flags(alloc: Global, total: usize) -> Result<Vec<bool>, AllocError>
     ensures long { IfOk result (λ flags. length flags.items ≡ total) }
     ensures clear { IfOk result (λ flags. (q : ℕ) → plain.flag flags.items q ≡ false) }
 {
-    let first = vec![in alloc; false; total.min(CLEARED)]?;
-    let mut flags = Vec::with_capacity(alloc, total)?;
-    'copies: while flags.len() < total {
-        let more = (total - flags.len()).min(first.len());
-        flags.extend_from_slice(&first[..more])?;
-    }
-    Ok(flags)
+    vec![in alloc; false; total]
 }
 
 /// The flags of a set of positions, all of them below the total.
@@ -198,34 +208,17 @@ fn push_places(
     Ok(())
 }
 
-// The same for a stretch, in which there may be no flag that is set.
-fn push_stretch(
-    flags: &[bool],
-    from: usize,
-    count: usize,
-    places: &mut Vec<u16>,
-) -> Result<(), AllocError>
-    requires few { length flags.now ≤ 65536 }
-    requires within { from + count ≤ length flags.now }
-    ensures { OnOk result (places.new.items ++ places_from (from + count) (drop (from + count) flags.now) ≡ places.old.items ++ places_from from (drop from flags.now)) }
-{
-    if !has_flag(flags, from, count) {
-        return Ok(());
-    }
-    push_places(flags, from, from + count, places)
-}
-
 /// The places of the flags that are set, rising.
 pub(crate) fn places_of(alloc: Global, flags: &[bool]) -> Result<Vec<u16>, AllocError>
     requires { length flags.now ≤ 65536 }
     ensures { IfOk result (λ places. places.items ≡ places_from 0 flags.now) }
 {
     let mut places = Vec::new(alloc);
-    let mut from = 0;
+    let mut from = bare_until(flags, 0);
     'stretches: while from < flags.len() {
-        let count = (flags.len() - from).min(STRETCH);
-        push_stretch(flags, from, count, &mut places)?;
-        from += count;
+        let end = from + STRETCH.min(flags.len() - from);
+        push_places(flags, from, end, &mut places)?;
+        from = bare_until(flags, end);
     }
     Ok(places)
 }

@@ -1,4 +1,4 @@
-// The states of blocks, looked for eight at a time.
+// The states of blocks, looked for 32 at a time.
 
 ghost use Rattle.std.specs.Prelude.{◌≡◌, ◌≢◌, ◌<◌, ◌≤◌, ◌+◌, ℕ, true, false, IfOk, IfSome, IfNone, Contains, length, slice_index};
 ghost use Rattle.lx_partition.specs.Partitions.{AreFlags, flag};
@@ -7,18 +7,18 @@ use std::alloc::{AllocError, Global};
 use std::simd::prelude::*;
 
 // So many states are looked at at once.
-const LANES: usize = 8;
+const LANES: usize = 32;
 
-// How many of the next eight states come before the first one of the block.
+// How many of the next 32 states come before the first one of the block.
 #[inline(always)]
 fn lanes_before(blocks: &[u16], from: usize, number: u16) -> usize
-    requires { from + 8 ≤ length blocks.now }
-    ensures few { result ≤ 8 }
+    requires { from + 32 ≤ length blocks.now }
+    ensures few { result ≤ 32 }
     ensures before { (s : ℕ) → from ≤ s → s < from + result → slice_index blocks.now s ≢ number }
-    ensures found { result < 8 → slice_index blocks.now (from + result) ≡ number }
+    ensures found { result < 32 → slice_index blocks.now (from + result) ≡ number }
 {
-    let lanes = u16x8::from_slice(&blocks[from..]);
-    let mask = lanes.simd_eq(u16x8::splat(number)).to_bitmask();
+    let lanes = u16x32::from_slice(&blocks[from..]);
+    let mask = lanes.simd_eq(u16x32::splat(number)).to_bitmask();
     LANES.min(mask.trailing_zeros() as usize)
 }
 
