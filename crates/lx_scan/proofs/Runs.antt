@@ -4,12 +4,12 @@ use Rattle.std.specs.Prelude.{slice_index, slice_set}
 use Rattle.std.specs.Option.{option_map}
 use Rattle.std.proofs.lemmas.Bool.{eq-eqb, eqb-true, le-leb, lt-leb}
 use Rattle.std.proofs.lemmas.List.{length-take-le, take-set, take_more_set}
-use Rattle.std.proofs.lemmas.Nat.{div-mul-add, mod-mul-add}
 use Rattle.lx_rules.specs.declared.rule.Step.{Step}
 use Rattle.lx_automaton.specs.Automata.{accepted_by}
-use Rattle.lx_tables.specs.Joined.{IsJoined, IsJoinedState, begun, ended, is_told, joined_number, joined_step, joined_width, rule_ended, stepped, target_from}
+use Rattle.lx_tables.specs.Joined.{IsJoined, IsJoinedState, begun, ended, is_told, joined_entry, joined_number, joined_step, joined_width, rule_ended, stepped, target_from, transition_at}
 use Rattle.lx_table_texts.specs.Model.{Table, IsTable, rule_at}
 use Rattle.lx_tables.specs.declared.joined.JoinedState.{JoinedState}
+use Rattle.lx_tables.specs.declared.joined.Transition.{Transition}
 use Rattle.lx_scan.specs.declared.ends.End.{End}
 use Rattle.lx_scan.specs.declared.item.Item.{Item}
 use Rattle.lx_scan.specs.declared.place.Place.{Place}
@@ -40,25 +40,6 @@ items_more table start line (x ∷ es) e =
     ap (λ (xs : List Item). here ++ xs) (items_more table x.offset x.line es e) ∙ sym (append_assoc here (items_of_ends table x.offset x.line es) last)
 
 -- ---- codes
-code_small : (table : Table) → IsTable table → (q : JoinedState) (class : ℕ) (newline : Bool) → (joined_step table q class newline).0 < 8192
-code_small table is q class newline = on (target_from table.machine q.state class)
-  where
-    told : (rule : ℕ) (b : Bool) → rule < 4096 → (if b then rule + 1 else 8191) < 8192
-    told rule true h = omega arith
-    told rule false h = omega arith
-
-    accepted : (p : ℕ) (a : Option ℕ) → accepted_by table.machine p ≡ a → rule_ended table a < 8192
-    accepted p None e = omega arith
-    accepted p (Some rule) e = told rule (is_told (rule_at table rule)) (let below = is.accepted p rule e in let few = is.few_rules in omega arith)
-
-    in_state : (o : Option ℕ) → ended table o < 8192
-    in_state None = let few = is.few_rules in omega arith
-    in_state (Some p) = accepted p (accepted_by table.machine p) refl
-
-    on : (o : Option ℕ) → (stepped table q class newline o).0 < 8192
-    on None = in_state q.state
-    on (Some t) = omega arith
-
 -- something has ended where a step is missing
 ended_some : (table : Table) (state : Option ℕ) → ended table state ≢ 0
 ended_some table None e = absurd (omega arith)
@@ -73,24 +54,22 @@ ended_some table (Some p) e = accepted (accepted_by table.machine p) e
     accepted (Some rule) e = told rule (is_told (rule_at table rule)) e
 
 -- an entry, in its parts
-pub record IsEntry (table : Table) (q : JoinedState) (byte entry : ℕ) : Type 0 where
-  pub code : entry % 8192 ≡ (joined_step table q (slice_index table.machine.classes byte) (nat_eq byte 10)).0
-  pub row : entry / 8192 ≡ joined_number table (joined_step table q (slice_index table.machine.classes byte) (nat_eq byte 10)).1 * joined_width table
+pub record IsEntry (table : Table) (q : JoinedState) (byte : ℕ) (entry : Transition) : Type 0 where
+  pub code : entry.code ≡ (joined_step table q (slice_index table.machine.classes byte) (nat_eq byte 10)).0
+  pub row : entry.row ≡ joined_number table (joined_step table q (slice_index table.machine.classes byte) (nat_eq byte 10)).1 * joined_width table
 
-pub is_entry : (table : Table) → IsTable table → (columns entries : List ℕ) (given : List (Option Step)) → IsJoined table columns entries given → (q : JoinedState) (row byte entry : ℕ) → IsJoinedState table q → byte < 256 →
-    row ≡ joined_number table q * joined_width table → entry ≡ slice_index entries (row + slice_index columns byte) → IsEntry table q byte entry
-is_entry table is columns entries given joined q row byte entry known small row_is entry_is =
-    let found = joined_step table q (slice_index table.machine.classes byte) (nat_eq byte 10) in
-    let whole : entry ≡ joined_number table found.1 * joined_width table * 8192 + found.0 =
-    entry_is ∙ ap₂ (λ (r c : ℕ). slice_index entries (r + c)) row_is (joined.byte_columns byte small) ∙ joined.each q byte known small in
-    let few = code_small table is q (slice_index table.machine.classes byte) (nat_eq byte 10) in
+pub is_entry : (table : Table) (columns : List ℕ) (entries : List Transition) (given : List (Option Step)) → IsJoined table columns entries given → (q : JoinedState) (row byte : ℕ) (entry : Transition) → IsJoinedState table q → byte < 256 →
+    row ≡ joined_number table q * joined_width table → entry ≡ transition_at entries (row + slice_index columns byte) → IsEntry table q byte entry
+is_entry table columns entries given joined q row byte entry known small row_is entry_is =
+    let whole : entry ≡ joined_entry table (joined_step table q (slice_index table.machine.classes byte) (nat_eq byte 10)) =
+    entry_is ∙ ap₂ (λ (r c : ℕ). transition_at entries (r + c)) row_is (joined.byte_columns byte small) ∙ joined.each q byte known small in
     record {
-      code = ap (λ n. n % 8192) whole ∙ mod-mul-add (joined_number table found.1 * joined_width table) 8192 found.0 few;
-      row = ap (λ n. n / 8192) whole ∙ div-mul-add (joined_number table found.1 * joined_width table) 8192 found.0 few;
+      code = ap (λ (t : Transition). t.code) whole;
+      row = ap (λ (t : Transition). t.row) whole;
     }
 
 -- a newline has the last column alone
-pub last_column : (table : Table) → IsTable table → (columns entries : List ℕ) (given : List (Option Step)) → IsJoined table columns entries given → (byte : ℕ) → byte < 256 →
+pub last_column : (table : Table) → IsTable table → (columns : List ℕ) (entries : List Transition) (given : List (Option Step)) → IsJoined table columns entries given → (byte : ℕ) → byte < 256 →
     ◌≡◌ {A = ℕ} (if nat_le (slice_index columns 10) (slice_index columns byte) then 1 else 0) (if nat_eq byte 10 then 1 else 0)
 last_column table is columns entries given joined byte small =
     ap₂ (λ (l c : ℕ). if nat_le l c then 1 else 0) (joined.byte_columns 10 (omega arith)) (joined.byte_columns byte small) ∙ on (nat_eq byte 10)
@@ -140,8 +119,8 @@ runs_begun table text from byte line row p more is known row_is line_is = record
   begin = λ h. absurd (omega arith);
 }
 
-module _ (table : Table) (is : IsTable table) (columns entries : List ℕ) (given : List (Option Step)) (joined : IsJoined table columns entries given) (text : List ℕ) (from : Place) (ends : List End) (read line row byte entry : ℕ)
-    (r : Runs table text from ends read line row) (more : read < length text) (is_byte : slice_index text read ≡ byte) (small : byte < 256) (entry_is : entry ≡ slice_index entries (row + slice_index columns byte)) where
+module _ (table : Table) (is : IsTable table) (columns : List ℕ) (entries : List Transition) (given : List (Option Step)) (joined : IsJoined table columns entries given) (text : List ℕ) (from : Place) (ends : List End) (read line row byte : ℕ) (entry : Transition)
+    (r : Runs table text from ends read line row) (more : read < length text) (is_byte : slice_index text read ≡ byte) (small : byte < 256) (entry_is : entry ≡ transition_at entries (row + slice_index columns byte)) where
   abbrev class : ℕ
   class = slice_index table.machine.classes byte
 
@@ -149,15 +128,15 @@ module _ (table : Table) (is : IsTable table) (columns entries : List ℕ) (give
   found = joined_step table r.q class (nat_eq byte 10)
 
   parts : IsEntry table r.q byte entry
-  parts = is_entry table is columns entries given joined r.q row byte entry r.known small r.row_is entry_is
+  parts = is_entry table columns entries given joined r.q row byte entry r.known small r.row_is entry_is
 
   -- nothing has ended
-  pub runs_on : entry % 8192 ≡ 0 → Runs table text from ends (read + 1) (line + (if nat_eq byte 10 then 1 else 0)) (entry / 8192)
+  pub runs_on : entry.code ≡ 0 → Runs table text from ends (read + 1) (line + (if nat_eq byte 10 then 1 else 0)) entry.row
   runs_on none = on (target_from table.machine r.q.state class) refl
     where
-      on : (o : Option ℕ) → target_from table.machine r.q.state class ≡ o → Runs table text from ends (read + 1) (line + (if nat_eq byte 10 then 1 else 0)) (entry / 8192)
+      on : (o : Option ℕ) → target_from table.machine r.q.state class ≡ o → Runs table text from ends (read + 1) (line + (if nat_eq byte 10 then 1 else 0)) entry.row
       on None missing =
-          let code : entry % 8192 ≡ ended table r.q.state = parts.code ∙ ap (λ o. (stepped table r.q class (nat_eq byte 10) o).0) missing in
+          let code : entry.code ≡ ended table r.q.state = parts.code ∙ ap (λ o. (stepped table r.q class (nat_eq byte 10) o).0) missing in
           absurd (ended_some table r.q.state (sym code ∙ none))
       on (Some t) step =
           let further = r.stands.further in
@@ -178,30 +157,30 @@ module _ (table : Table) (is : IsTable table) (columns entries : List ℕ) (give
           }
 
   abbrev e : End
-  e = record { code = entry % 8192; offset = read; line = line }
+  e = record { code = entry.code; offset = read; line = line }
 
   -- a match has ended
-  pub runs_further : entry % 8192 ≢ 0 → entry % 8192 ≢ 8191 → Runs table text from (ends ++ e ∷ []) (read + 1) (line + (if nat_eq byte 10 then 1 else 0)) (entry / 8192)
+  pub runs_further : entry.code ≢ 0 → entry.code ≢ 8191 → Runs table text from (ends ++ e ∷ []) (read + 1) (line + (if nat_eq byte 10 then 1 else 0)) entry.row
   runs_further some told = on (target_from table.machine r.q.state class) refl
     where
       positive : (n : ℕ) → n ≢ 0 → 0 < n
       positive zero h = absurd (h refl)
       positive (suc n) h = omega arith
 
-      on : (o : Option ℕ) → target_from table.machine r.q.state class ≡ o → Runs table text from (ends ++ e ∷ []) (read + 1) (line + (if nat_eq byte 10 then 1 else 0)) (entry / 8192)
+      on : (o : Option ℕ) → target_from table.machine r.q.state class ≡ o → Runs table text from (ends ++ e ∷ []) (read + 1) (line + (if nat_eq byte 10 then 1 else 0)) entry.row
       on (Some t) step = absurd (some (parts.code ∙ ap (λ o. (stepped table r.q class (nat_eq byte 10) o).0) step))
       on None missing =
-          let code : entry % 8192 ≡ ended table r.q.state = parts.code ∙ ap (λ o. (stepped table r.q class (nat_eq byte 10) o).0) missing in
+          let code : entry.code ≡ ended table r.q.state = parts.code ∙ ap (λ o. (stepped table r.q class (nat_eq byte 10) o).0) missing in
           let here = r.leads.is_place in
-          let t : Tells table text r.place read r.q (entry % 8192) = tells table text is r.place here.known read byte r.q r.stands r.known more is_byte (entry % 8192) missing code told in
-          let g = goes table text is r.place here.known read byte r.q r.stands r.known more is_byte (entry % 8192) here t in
-          let next = next_place table text is r.place here.known read byte r.q r.stands r.known more is_byte (entry % 8192) in
+          let t : Tells table text r.place read r.q entry.code = tells table text is r.place here.known read byte r.q r.stands r.known more is_byte entry.code missing code told in
+          let g = goes table text is r.place here.known read byte r.q r.stands r.known more is_byte entry.code here t in
+          let next = next_place table text is r.place here.known read byte r.q r.stands r.known more is_byte entry.code in
           let is_found : found ≡ (ended table r.q.state, begun table next.condition next.at_line_begin class (nat_eq byte 10)) = ap (λ o. stepped table r.q class (nat_eq byte 10) o) missing in
           let line_is : line ≡ next.line = r.line_is in
           let further = r.stands.further in
-          let items : items_of_steps (steps_at table (option_map (λ rule. (rule, read - r.place.offset)) (rule_of_code table (entry % 8192)))) r.place.line r.place.offset (read - r.place.offset)
+          let items : items_of_steps (steps_at table (option_map (λ rule. (rule, read - r.place.offset)) (rule_of_code table entry.code))) r.place.line r.place.offset (read - r.place.offset)
           ≡ items_of_steps (steps_of_code table e.code) (line_of from.line ends) (end_of from.offset ends) (e.offset - end_of from.offset ends) =
-          ap (λ xs. items_of_steps xs r.place.line r.place.offset (read - r.place.offset)) (steps_alike table (rule_of_code table (entry % 8192)) (read - r.place.offset))
+          ap (λ xs. items_of_steps xs r.place.line r.place.offset (read - r.place.offset)) (steps_alike table (rule_of_code table entry.code) (read - r.place.offset))
           ∙ ap₂ (λ (l o : ℕ). items_of_steps (steps_of_code table e.code) l o (read - o)) r.line_was r.offset_is in
           record {
             place = next;
@@ -211,7 +190,7 @@ module _ (table : Table) (is : IsTable table) (columns entries : List ℕ) (give
             row_is = parts.row ∙ ap (λ (f : ℕ × JoinedState). joined_number table f.1 * joined_width table) is_found;
             line_is = ap (λ l. l + (if nat_eq byte 10 then 1 else 0)) line_is ∙ first_line text read next.line byte more is_byte;
             leads = record {
-              are_ends = are_more table from.offset ends e r.leads.are_ends (record { further = subst (λ (n : ℕ). n < read) r.offset_is further; some = positive (entry % 8192) some; known = t.known; few = t.few });
+              are_ends = are_more table from.offset ends e r.leads.are_ends (record { further = subst (λ (n : ℕ). n < read) r.offset_is further; some = positive entry.code some; known = t.known; few = t.few });
               is_place = record { within = g.within; known = g.known; line_some = g.line_some; line_few = g.line_few };
               items = r.leads.items
                   ∙ ap (λ (xs : List Item). items_of_ends table from.offset from.line ends ++ xs) (g.items ∙ ap (λ (xs : List Item). xs ++ items_after table text next) items)
@@ -224,27 +203,27 @@ module _ (table : Table) (is : IsTable table) (columns entries : List ℕ) (give
           }
 
 -- the same, as a run writes its ends over one another
-pub runs_turn : (table : Table) → IsTable table → (columns entries : List ℕ) (given : List (Option Step)) → IsJoined table columns entries given → (text : List ℕ) (from : Place) (ends : List End) (count read line row byte entry one : ℕ) →
-    Runs table text from (take count ends) read line row → read < length text → slice_index text read ≡ byte → byte < 256 → entry ≡ slice_index entries (row + slice_index columns byte) →
-    count < length ends → entry % 8192 ≢ 8191 → one ≡ (if nat_eq (entry % 8192) 0 then 0 else 1) →
-    Runs table text from (take (count + one) (slice_set ends count (record { code = entry % 8192; offset = read; line = line }))) (read + 1) (line + (if nat_eq byte 10 then 1 else 0)) (entry / 8192)
-runs_turn table is columns entries given joined text from ends count read line row byte entry one r more is_byte small entry_is room told one_is = on (nat_eq (entry % 8192) 0) refl
+pub runs_turn : (table : Table) → IsTable table → (columns : List ℕ) (entries : List Transition) (given : List (Option Step)) → IsJoined table columns entries given → (text : List ℕ) (from : Place) (ends : List End) (count read line row byte : ℕ) (entry : Transition) (one : ℕ) →
+    Runs table text from (take count ends) read line row → read < length text → slice_index text read ≡ byte → byte < 256 → entry ≡ transition_at entries (row + slice_index columns byte) →
+    count < length ends → entry.code ≢ 8191 → one ≡ (if nat_eq entry.code 0 then 0 else 1) →
+    Runs table text from (take (count + one) (slice_set ends count (record { code = entry.code; offset = read; line = line }))) (read + 1) (line + (if nat_eq byte 10 then 1 else 0)) entry.row
+runs_turn table is columns entries given joined text from ends count read line row byte entry one r more is_byte small entry_is room told one_is = on (nat_eq entry.code 0) refl
   where
-    on : (b : Bool) → nat_eq (entry % 8192) 0 ≡ b → Runs table text from (take (count + one) (slice_set ends count (record { code = entry % 8192; offset = read; line = line }))) (read + 1) (line + (if nat_eq byte 10 then 1 else 0)) (entry / 8192)
+    on : (b : Bool) → nat_eq entry.code 0 ≡ b → Runs table text from (take (count + one) (slice_set ends count (record { code = entry.code; offset = read; line = line }))) (read + 1) (line + (if nat_eq byte 10 then 1 else 0)) entry.row
     on true none =
-        let same : take (count + one) (slice_set ends count (record { code = entry % 8192; offset = read; line = line })) ≡ take count ends =
-        ap (λ (n : ℕ). take (count + n) (slice_set ends count (record { code = entry % 8192; offset = read; line = line }))) (one_is ∙ ap (λ (b : Bool). if b then 0 else 1) none)
-        ∙ ap (λ (n : ℕ). take n (slice_set ends count (record { code = entry % 8192; offset = read; line = line }))) (add-zero count)
+        let same : take (count + one) (slice_set ends count (record { code = entry.code; offset = read; line = line })) ≡ take count ends =
+        ap (λ (n : ℕ). take (count + n) (slice_set ends count (record { code = entry.code; offset = read; line = line }))) (one_is ∙ ap (λ (b : Bool). if b then 0 else 1) none)
+        ∙ ap (λ (n : ℕ). take n (slice_set ends count (record { code = entry.code; offset = read; line = line }))) (add-zero count)
         ∙ take-set ends count _ in
-        subst (λ (es : List End). Runs table text from es (read + 1) (line + (if nat_eq byte 10 then 1 else 0)) (entry / 8192)) (sym same)
-        (runs_on table is columns entries given joined text from (take count ends) read line row byte entry r more is_byte small entry_is (eqb-true (entry % 8192) 0 none))
+        subst (λ (es : List End). Runs table text from es (read + 1) (line + (if nat_eq byte 10 then 1 else 0)) entry.row) (sym same)
+        (runs_on table is columns entries given joined text from (take count ends) read line row byte entry r more is_byte small entry_is (eqb-true entry.code 0 none))
     on false some =
-        let same : take (count + one) (slice_set ends count (record { code = entry % 8192; offset = read; line = line })) ≡ take count ends ++ record { code = entry % 8192; offset = read; line = line } ∷ [] =
-        ap (λ (n : ℕ). take (count + n) (slice_set ends count (record { code = entry % 8192; offset = read; line = line }))) (one_is ∙ ap (λ (b : Bool). if b then 0 else 1) some)
+        let same : take (count + one) (slice_set ends count (record { code = entry.code; offset = read; line = line })) ≡ take count ends ++ record { code = entry.code; offset = read; line = line } ∷ [] =
+        ap (λ (n : ℕ). take (count + n) (slice_set ends count (record { code = entry.code; offset = read; line = line }))) (one_is ∙ ap (λ (b : Bool). if b then 0 else 1) some)
         ∙ take_more_set ends count _ room in
-        subst (λ (es : List End). Runs table text from es (read + 1) (line + (if nat_eq byte 10 then 1 else 0)) (entry / 8192)) (sym same)
+        subst (λ (es : List End). Runs table text from es (read + 1) (line + (if nat_eq byte 10 then 1 else 0)) entry.row) (sym same)
         (runs_further table is columns entries given joined text from (take count ends) read line row byte entry r more is_byte small entry_is
-        (λ zero_is. let yes = eq-eqb (entry % 8192) 0 zero_is in let no : true ≡ false = sym yes ∙ some in cc) told)
+        (λ zero_is. let yes = eq-eqb entry.code 0 zero_is in let no : true ≡ false = sym yes ∙ some in cc) told)
 
 -- where matches have ended the place behind them is known by the last end and the condition
 pub runs_behind : (table : Table) (text : List ℕ) (from : Place) (ends : List End) (count read line row condition : ℕ) → Runs table text from (take count ends) read line row → count ≤ length ends →

@@ -1,12 +1,12 @@
 //! The ends of matches, found by the joined table: one look-up a byte, and no jump that depends on the text but where a run stops.
 
 ghost use Rattle.std.specs.Prelude.{if◌then◌else◌, ◌≡◌, ◌<◌, ◌≤◌, ◌+◌, ℕ, length, nat_eq, nat_le, slice_index, take};
-ghost use Rattle.lx_tables.specs.Joined.{IsJoined};
+ghost use Rattle.lx_tables.specs.Joined.{IsJoined, transition_at};
 ghost use Rattle.lx_table_texts.specs.Model.{IsTable};
 ghost use Rattle.lx_scan.specs.Ends.{IsPlace, LeadTo, place_behind};
 
 use crate::place::Place;
-use lx_tables::{Joined, Tables, UNTOLD};
+use lx_tables::{Joined, Tables, Transition, UNTOLD};
 
 /// The end of a match: the code of what has ended, the place behind its last byte, and the line there.
 #[derive(Clone, Copy, Debug, PartialEq, Eq)]
@@ -35,12 +35,12 @@ pub(crate) struct Run {
 
 // The entry of a row in a column. The column is added first, since the row is known last.
 #[inline(always)]
-fn entry_at(entries: &[u32], row: usize, column: u8) -> u32
+fn entry_at(entries: &[Transition], row: usize, column: u8) -> &Transition
     requires { row + column < length entries.now }
-    ensures { result ≡ slice_index entries.now (row + column) }
+    ensures { result.now ≡ transition_at entries.now (row + column) }
 {
     let entries = &entries[column as usize..];
-    entries[row]
+    &entries[row]
 }
 
 // One for a newline, which has the last column alone. To ask whether it is below takes three instructions less than whether it is the same.
@@ -98,14 +98,14 @@ pub(crate) fn find_ends(
         while offset < until {
             let column = columns[text[offset] as usize];
             let entry = entry_at(entries, row, column);
-            let code = (entry % 8192) as usize;
+            let code = entry.code as usize;
             if code == UNTOLD {
                 break;
             }
             ends[count] = End { code, offset, line };
             count += ending(code);
             line += newline(column, last);
-            row = (entry / 8192) as usize;
+            row = entry.row as usize;
             offset += 1;
         }
     }

@@ -13,6 +13,7 @@ use Rattle.lx_automaton.specs.EncodedOptions.{decoded_option}
 use Rattle.lx_tables.specs.Joined.{AreEntries, AreGiven, IsJoined, IsJoinedState, begun, class_of_column, column_of, condition_behind, condition_behind_rule, encoded, joined_entry, joined_len, joined_number, joined_state_at, joined_states, joined_step, joined_width, stepped, target_from}
 use Rattle.lx_table_texts.specs.Model.{Table, IsTable, rule_at}
 use Rattle.lx_tables.specs.declared.joined.JoinedState.{JoinedState}
+use Rattle.lx_tables.specs.declared.joined.Transition.{Transition}
 use Rattle.lx_automaton.proofs.RowMajor.{in_row}
 use Rattle.lx_state_order.proofs.Rows.{same_row}
 
@@ -130,6 +131,10 @@ pub row_condition_below : (table : Table) (row : ℕ) → row < joined_len table
 row_condition_below table row h = condition_below table (row / joined_width table) (div_below row (joined_width table) (joined_states table) (omega arith) h)
 
 -- ---- the lists while they are made
+-- what stands past the end
+abbrev nothing : Transition
+nothing = record { row = 0; code = 0 }
+
 pub entries_none : (table : Table) → IsTable table → AreEntries table [] 0
 entries_none table is =
     let some = is.machine.some in
@@ -142,23 +147,23 @@ entries_none table is =
     row_fits_some : (a b : ℕ) → 0 < a → 0 < a * (b + 1)
     row_fits_some a b h = let r = row_fits 0 (b + 1) a (b + 1) h (omega arith) in omega arith
 
-pub entry_push : (table : Table) (entries : List ℕ) (i c x : ℕ) → AreEntries table entries (i * joined_width table + c) → c < joined_width table →
-    x ≡ joined_entry table (joined_step table (joined_state_at table i) (class_of_column table c) (nat_eq c table.machine.width)) → x / 8192 + joined_width table ≤ joined_len table →
+pub entry_push : (table : Table) (entries : List Transition) (i c : ℕ) (x : Transition) → AreEntries table entries (i * joined_width table + c) → c < joined_width table →
+    x ≡ joined_entry table (joined_step table (joined_state_at table i) (class_of_column table c) (nat_eq c table.machine.width)) → x.row + joined_width table ≤ joined_len table →
     AreEntries table (entries ++ x ∷ []) (i * joined_width table + (c + 1))
 entry_push table entries i c x are l e fits = record {
   long = (let a = length_push entries x in let b = are.long in omega arith);
   rows = λ k. elim (cases_lt k (length entries)) [
-    | inl j ↦ rw (get_or_append_left entries (x ∷ []) 0 k j) (are.rows k)
+    | inl j ↦ rw (get_or_append_left entries (x ∷ []) nothing k j) (are.rows k)
     | inr j ↦ elim (cases_eq k (length entries)) [
-      | inl same ↦ rw (get_or_push entries x 0 k (sym same)) fits
-      | inr other ↦ rw (get_or_past (entries ++ x ∷ []) k 0 (let a = length_push entries x in omega arith)) (let r = are.rows k in rw (get_or_past entries k 0 j) at r)
+      | inl same ↦ rw (get_or_push entries x nothing k (sym same)) fits
+      | inr other ↦ rw (get_or_past (entries ++ x ∷ []) k nothing (let a = length_push entries x in omega arith)) (let r = are.rows k in rw (get_or_past entries k nothing j) at r)
     ]
   ];
   each = λ t k hk h. elim (cases_lt (t * joined_width table + k) (i * joined_width table + c)) [
-    | inl j ↦ rw (get_or_append_left entries (x ∷ []) 0 (t * joined_width table + k) (let b = are.long in omega arith)) (are.each t k hk j)
+    | inl j ↦ rw (get_or_append_left entries (x ∷ []) nothing (t * joined_width table + k) (let b = are.long in omega arith)) (are.each t k hk j)
     | inr j ↦ let n : t * joined_width table + k ≡ i * joined_width table + c = omega arith in
         let r = same_row t i k c (joined_width table) hk l n in
-        rw (get_or_push entries x 0 (t * joined_width table + k) (are.long ∙ sym n)) (rw (r.0, r.1) e)
+        rw (get_or_push entries x nothing (t * joined_width table + k) (are.long ∙ sym n)) (rw (r.0, r.1) e)
   ];
 }
 
@@ -182,7 +187,7 @@ column_below table b below = on (nat_eq b 10)
     on true = omega arith
     on false = omega arith
 
-pub is_joined : (table : Table) (columns entries : List ℕ) (given : List (Option Step)) → IsTable table → AreGiven table given → length columns ≡ 256 → ((b : ℕ) → b < 256 → slice_index columns b ≡ column_of table b) →
+pub is_joined : (table : Table) (columns : List ℕ) (entries : List Transition) (given : List (Option Step)) → IsTable table → AreGiven table given → length columns ≡ 256 → ((b : ℕ) → b < 256 → slice_index columns b ≡ column_of table b) →
     AreEntries table entries (joined_len table) → IsJoined table columns entries given
 is_joined table columns entries given is are_given bytes are_columns are = record {
   are_given = are_given;

@@ -7,6 +7,7 @@ use Rattle.lx_automaton.specs.Automata.{Machine, state_count, start_of, accepted
 use Rattle.lx_automaton.specs.EncodedOptions.{decoded_option}
 use Rattle.lx_table_texts.specs.Model.{Table, TableRule, rule_at}
 use Rattle.lx_tables.specs.declared.joined.JoinedState.{JoinedState}
+use Rattle.lx_tables.specs.declared.joined.Transition.{Transition}
 
 -- a state of the joined table whose condition and state are there
 pub record IsJoinedState (table : Table) (q : JoinedState) : Type 0 where
@@ -107,8 +108,12 @@ abbrev pub joined_len : Table → ℕ
 joined_len table = joined_states table * joined_width table
 
 -- an entry: where the row of the state begins, and what has ended
-abbrev pub joined_entry : Table → ℕ × JoinedState → ℕ
-joined_entry table found = joined_number table found.1 * joined_width table * 8192 + found.0
+abbrev pub joined_entry : Table → ℕ × JoinedState → Transition
+joined_entry table found = record { row = joined_number table found.1 * joined_width table; code = found.0 }
+
+-- the entry at a place
+abbrev pub transition_at : List Transition → ℕ → Transition
+transition_at entries k = slice_index_or entries k (record { row = 0; code = 0 })
 
 -- Of each code the step that gives an item: of a rule that of its action, and of a byte that no rule matches the echo.
 pub record AreGiven (table : Table) (given : List (Option Step)) : Type 0 where
@@ -117,16 +122,16 @@ pub record AreGiven (table : Table) (given : List (Option Step)) : Type 0 where
   pub echo : slice_index_or given (echoed table) None ≡ Some Echo
 
 -- Of each byte its column, and of each state row by row what has ended and the state behind, which is one of the joined table again.
-pub record IsJoined (table : Table) (columns entries : List ℕ) (given : List (Option Step)) : Type 0 where
+pub record IsJoined (table : Table) (columns : List ℕ) (entries : List Transition) (given : List (Option Step)) : Type 0 where
   pub are_given : AreGiven table given
   pub bytes : length columns ≡ 256
   pub byte_columns : (b : ℕ) → b < 256 → slice_index columns b ≡ column_of table b
   pub below : (k : ℕ) → slice_index columns k < joined_width table
   pub long : length entries ≡ joined_len table
-  pub rows : (k : ℕ) → slice_index entries k / 8192 + joined_width table ≤ length entries
+  pub rows : (k : ℕ) → (transition_at entries k).row + joined_width table ≤ length entries
   pub known : (q : JoinedState) (b : ℕ) → IsJoinedState table q → b < 256 → IsJoinedState table (joined_step table q (slice_index table.machine.classes b) (nat_eq b 10)).1
   pub each : (q : JoinedState) (b : ℕ) → IsJoinedState table q → b < 256 →
-      slice_index entries (joined_number table q * joined_width table + column_of table b) ≡ joined_entry table (joined_step table q (slice_index table.machine.classes b) (nat_eq b 10))
+      transition_at entries (joined_number table q * joined_width table + column_of table b) ≡ joined_entry table (joined_step table q (slice_index table.machine.classes b) (nat_eq b 10))
 
 -- ---- while it is made
 -- the state with a number
@@ -142,8 +147,8 @@ abbrev pub class_of_column : Table → ℕ → ℕ
 class_of_column table column = if nat_eq column table.machine.width then slice_index table.machine.classes 10 else column
 
 -- the first n entries
-pub record AreEntries (table : Table) (entries : List ℕ) (n : ℕ) : Type 0 where
+pub record AreEntries (table : Table) (entries : List Transition) (n : ℕ) : Type 0 where
   pub long : length entries ≡ n
-  pub rows : (k : ℕ) → slice_index entries k / 8192 + joined_width table ≤ joined_len table
+  pub rows : (k : ℕ) → (transition_at entries k).row + joined_width table ≤ joined_len table
   pub each : (i c : ℕ) → c < joined_width table → i * joined_width table + c < n →
-      slice_index entries (i * joined_width table + c) ≡ joined_entry table (joined_step table (joined_state_at table i) (class_of_column table c) (nat_eq c table.machine.width))
+      transition_at entries (i * joined_width table + c) ≡ joined_entry table (joined_step table (joined_state_at table i) (class_of_column table c) (nat_eq c table.machine.width))

@@ -11,14 +11,21 @@ pub struct JoinedState {
     pub state: Option<u32>,
 }
 
-/// The lists of a joined table. An entry is the place at which the row of the next state begins, times 8,192, and the code of what has
-/// ended: 0 for nothing, one more than a rule, behind all of these that of a byte that no rule matches, or [`UNTOLD`].
+/// An entry of a joined table: the place at which the row of the next state begins, and the code of what has ended: 0 for nothing, one more than
+/// a rule, behind all of these that of a byte that no rule matches, or [`UNTOLD`].
+#[derive(Clone, Copy, Debug)]
+pub struct Transition {
+    pub row: u32,
+    pub code: u32,
+}
+
+/// The lists of a joined table.
 #[derive(Drop)]
 pub struct Joined {
     /// The column of each of the 256 bytes.
     pub columns: Vec<u8>,
     /// Row by row the entries.
-    pub entries: Vec<u32>,
+    pub entries: Vec<Transition>,
     /// Of each code but [`UNTOLD`] the step that gives an item, if there is one.
     pub given: Vec<Option<Step>>,
 }

@@ -6,13 +6,13 @@ ghost use Rattle.lx_automaton.specs.Automata.{state_count, accepted_at, class_ta
 ghost use Rattle.lx_tables.specs.Joined.{AreEntries, AreGiven, IsJoined, IsJoinedState, begun, class_of_column, column_of, condition_behind, condition_behind_rule, encoded, ended, giving, item_count, joined_entry, joined_len, joined_number, joined_state_at, joined_states, joined_step, joined_width, rule_ended, target_from};
 ghost use Rattle.lx_table_texts.specs.Model.{IsTable};
 
-use crate::joined::{Joined, JoinedState, UNTOLD};
+use crate::joined::{Joined, JoinedState, Transition, UNTOLD};
 use crate::tables::Tables;
 use lx_automaton::State;
 use lx_rules::rule::Step;
 use std::alloc::{AllocError, Global};
 
-// So many entries have room in the 19 bits above a code. They take 2 MB.
+// So many entries take 4 MB.
 const MAX_ENTRIES: usize = 524_288;
 
 fn bit(newline: bool) -> usize
@@ -82,8 +82,7 @@ fn giving(steps: &[Step]) -> Option<Step>
 fn code_of_rule(tables: &Tables, rule: u16) -> u32
     requires table { IsTable tables.now }
     requires rule { rule < length tables.now.rules }
-    ensures code { result ≡ rule_ended tables.now (Some rule) }
-    ensures small { result < 8192 }
+    ensures { result ≡ rule_ended tables.now (Some rule) }
 {
     if !tables.cut(rule) && item_count(tables.steps(rule)) <= 1 {
         u32::from(rule) + 1
@@ -97,7 +96,6 @@ fn ending_in(tables: &Tables, q: JoinedState) -> Ending
     requires known { IsJoinedState tables.now q }
     ensures code { result.code ≡ ended tables.now q.state }
     ensures condition { result.condition ≡ condition_behind_rule tables.now (accepted_at tables.now.machine q.state) q.condition }
-    ensures small { result.code < 8192 }
 {
     let condition = q.condition;
     let Some(state) = q.state else {
@@ -164,10 +162,8 @@ fn step(
     requires class { class < tables.now.machine.width }
     requires code { ending.code ≡ ended tables.now q.state }
     requires condition { ending.condition ≡ condition_behind_rule tables.now (accepted_at tables.now.machine q.state) q.condition }
-    requires small { ending.code < 8192 }
     ensures step { result ≡ joined_step tables.now q class newline }
     ensures known { IsJoinedState tables.now result.1 }
-    ensures small { result.0 < 8192 }
 {
     if let Some(next) = target(tables, q.state, class) {
         let behind = JoinedState {
@@ -184,16 +180,15 @@ fn step(
 }
 
 // The entry of a state in a column.
-fn entry(tables: &Tables, q: JoinedState, ending: Ending, column: u16) -> u32
+fn entry(tables: &Tables, q: JoinedState, ending: Ending, column: u16) -> Transition
     requires table { IsTable tables.now }
     requires room { joined_len tables.now ≤ 524288 }
     requires known { IsJoinedState tables.now q }
     requires column { column < joined_width tables.now }
     requires code { ending.code ≡ ended tables.now q.state }
     requires condition { ending.condition ≡ condition_behind_rule tables.now (accepted_at tables.now.machine q.state) q.condition }
-    requires small { ending.code < 8192 }
     ensures entry { result ≡ joined_entry tables.now (joined_step tables.now q (class_of_column tables.now column) (nat_eq column tables.now.machine.width)) }
-    ensures row { result / 8192 + joined_width tables.now ≤ joined_len tables.now }
+    ensures row { result.row + joined_width tables.now ≤ joined_len tables.now }
 {
     let newline = column == tables.classes();
     let class = if newline {
@@ -202,11 +197,14 @@ fn entry(tables: &Tables, q: JoinedState, ending: Ending, column: u16) -> u32
         column as u8
     };
     let (code, behind) = step(tables, q, ending, class, newline);
-    tables.row(behind) as u32 * 8192 + code
+    Transition {
+        row: tables.row(behind) as u32,
+        code,
+    }
 }
 
 // Adds the row of a state.
-fn add_row(tables: &Tables, number: usize, entries: &mut Vec<u32>) -> Result<(), AllocError>
+fn add_row(tables: &Tables, number: usize, entries: &mut Vec<Transition>) -> Result<(), AllocError>
     requires table { IsTable tables.now }
     requires room { joined_len tables.now ≤ 524288 }
     requires number { number < joined_states tables.now }
@@ -222,7 +220,7 @@ fn add_row(tables: &Tables, number: usize, entries: &mut Vec<u32>) -> Result<(),
 }
 
 // The entries of all states.
-fn entries_of(alloc: Global, tables: &Tables, states: usize) -> Result<Vec<u32>, AllocError>
+fn entries_of(alloc: Global, tables: &Tables, states: usize) -> Result<Vec<Transition>, AllocError>
     requires table { IsTable tables.now }
     requires room { joined_len tables.now ≤ 524288 }
     requires states { states ≡ joined_states tables.now }

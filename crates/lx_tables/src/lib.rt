@@ -16,6 +16,6 @@ pub mod uniqueness;
 mod writing;
 
 pub use crate::fault::TableFault;
-pub use crate::joined::{Joined, JoinedState, UNTOLD};
+pub use crate::joined::{Joined, JoinedState, Transition, UNTOLD};
 pub use crate::tables::Tables;
 pub use lx_automaton::State;

@@ -1,8 +1,9 @@
 use Rattle.std.proofs.Common.{◌≡◌, ◌+◌, ◌*◌, ◌/◌, ◌%◌, ◌≤◌, ℕ, List, length, take, nat_eq, nat_le, if◌then◌else◌, refl, sym, ap, subst, ◌∙◌, arith}
 use Rattle.std.specs.Prelude.{slice_index, slice_set}
 use Rattle.std.proofs.lemmas.List.{length-set}
-use Rattle.lx_tables.specs.Joined.{IsJoinedState, begun, joined_number, joined_width}
+use Rattle.lx_tables.specs.Joined.{IsJoinedState, begun, joined_number, joined_width, transition_at}
 use Rattle.lx_tables.specs.declared.joined.JoinedState.{JoinedState}
+use Rattle.lx_tables.specs.declared.joined.Transition.{Transition}
 use Rattle.lx_scan.specs.declared.ends.End.{End}
 use Rattle.lx_scan.proofs.Runs.{Runs, last_column, runs_begun, runs_behind, runs_turn}
 use Rattle.lx_scan.proofs.ends.find_ends.Goals as goal
@@ -49,19 +50,19 @@ loop-offset-preserved c =
     let few = loop.invariant.few in
     let within = loop.invariant.within in
     let more = c.loop-offset-test.true in
-    let entry = c.entry_at-entry.result in
+    let entry : Transition = c.entry_at-entry.result.now in
     let columns_are = c.as_slice-columns.ensures.value in
     let entries_are = c.as_slice-entries.ensures.value in
-    let entry_is : entry ≡ slice_index c.args.joined.now.entries.items (loop.row + slice_index c.args.joined.now.columns.items byte)
-    = c.entry_at-entry.ensures ∙ ap (λ (xs : List ℕ). slice_index xs (loop.row + slice_index c.as_slice-columns.result.now byte)) entries_are
-    ∙ ap (λ (xs : List ℕ). slice_index c.args.joined.now.entries.items (loop.row + slice_index xs byte)) columns_are in
+    let entry_is : entry ≡ transition_at c.args.joined.now.entries.items (loop.row + slice_index c.args.joined.now.columns.items byte)
+    = c.entry_at-entry.ensures ∙ ap (λ (xs : List Transition). transition_at xs (loop.row + slice_index c.as_slice-columns.result.now byte)) entries_are
+    ∙ ap (λ (xs : List ℕ). transition_at c.args.joined.now.entries.items (loop.row + slice_index xs byte)) columns_are in
     let runs = runs_turn table c.requires.table c.args.joined.now.columns.items c.args.joined.now.entries.items c.args.joined.now.given.items c.requires.joined text c.args.place loop.ends loop.count loop.offset loop.line loop.row byte entry c.ending-count.result
     loop.invariant.runs (omega arith) refl (omega arith) entry_is (omega arith) c.if-code-eq-UNTOLD.false c.ending-count.ensures.value in
-    let row : slice_index c.args.joined.now.entries.items (loop.row + slice_index c.args.joined.now.columns.items byte) / 8192 + joined_width table ≤ length c.args.joined.now.entries.items
+    let row : (transition_at c.args.joined.now.entries.items (loop.row + slice_index c.args.joined.now.columns.items byte)).row + joined_width table ≤ length c.args.joined.now.entries.items
     = c.requires.joined.rows (loop.row + slice_index c.args.joined.now.columns.items byte) in
     let same : length c.as_slice-entries.result.now ≡ length c.args.joined.now.entries.items = ap length entries_are in
-    let div : entry / 8192 ≡ slice_index c.args.joined.now.entries.items (loop.row + slice_index c.args.joined.now.columns.items byte) / 8192 = ap (λ n. n / 8192) entry_is in
-    let kept = length-set loop.ends loop.count (let e : End = record { code = entry % 8192; offset = loop.offset; line = loop.line } in e) in
+    let there : entry.row ≡ (transition_at c.args.joined.now.entries.items (loop.row + slice_index c.args.joined.now.columns.items byte)).row = ap (λ (t : Transition). t.row) entry_is in
+    let kept = length-set loop.ends loop.count (let e : End = record { code = entry.code; offset = loop.offset; line = loop.line } in e) in
     let one = c.ending-count.ensures.few in
     let line_one = c.newline-line.ensures.few in
     let newline_is : c.newline-line.result ≡ (if nat_eq byte 10 then 1 else 0)
@@ -69,7 +70,7 @@ loop-offset-preserved c =
     ∙ last_column table c.requires.table c.args.joined.now.columns.items c.args.joined.now.entries.items c.args.joined.now.given.items c.requires.joined byte (omega arith) in
     let line_few = loop.invariant.line in
     record {
-      runs = subst (λ (n : ℕ). Runs table text c.args.place (take (loop.count + c.ending-count.result) (slice_set loop.ends loop.count (record { code = entry % 8192; offset = loop.offset; line = loop.line }))) (loop.offset + 1) (loop.line + n) (entry / 8192)) (sym newline_is) runs;
+      runs = subst (λ (n : ℕ). Runs table text c.args.place (take (loop.count + c.ending-count.result) (slice_set loop.ends loop.count (record { code = entry.code; offset = loop.offset; line = loop.line }))) (loop.offset + 1) (loop.line + n) entry.row) (sym newline_is) runs;
       few = omega arith;
       room = omega arith;
       later = omega arith;
