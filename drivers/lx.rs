@@ -36,13 +36,14 @@ impl error::Error for Error {}
 #[derive(Clone, Copy)]
 enum Step { Begin(u16), Give(Kind), End }
 
-/// Tables, in which states are counted from 1, and 0 is none. `kinds` are the names of the kinds.
+/// Tables, in which states are counted from 1, and 0 is none. Behind the last one all stand again, for matches in which a newline was: so no byte is
+/// asked whether it is one. `kinds` are the names of the kinds.
 pub struct Tables {
-    /// Where the column of each byte's class begins, and in it for each state the next one.
+    /// Where the column of each byte's class begins, and in it for each state the next one. The newline has a column of its own.
     columns: [u32; 256],
     next: Vec<u16>,
-    /// For each state the place of its action, or 0; below 0, where the rule ends with `$`.
-    accepts: Vec<i32>,
+    /// For each state the place of its action, or 0; below 0, where the rule ends with `$`. And the kind, where to give it is all, or Echo.
+    accepts: Vec<(i32, Kind)>,
     /// The actions one behind the other; first that of a byte that no rule takes.
     steps: Vec<Step>,
     /// For each condition the state in which a match begins, and the one at line begin.
@@ -57,7 +58,7 @@ impl Tables {
         let version = lines.after("lx-tables ").or_else(|_| lines.refuse("this is no text of tables"))?;
         if version != "2" { return lines.refuse("the tables are of another version: `lx up` prints version 2"); }
         let steps = vec![Step::Give(Kind::Echo), Step::End];
-        let mut tables = Tables { columns: [0; 256], next: vec![], accepts: vec![0], steps, starts: vec![], kinds: vec![] };
+        let mut tables = Tables { columns: [0; 256], next: vec![], accepts: vec![], steps, starts: vec![], kinds: vec![] };
         for _ in 0..lines.count("conditions ", 64)? {
             let (plain, at_line_begin) = lines.after("start ")?.split_once(' ').ok_or_else(|| lines.error("two states are due"))?;
             tables.starts.push([lines.number(plain, 16_512)? as u16 + 1, lines.number(at_line_begin, 16_512)? as u16 + 1]);
@@ -70,9 +71,12 @@ impl Tables {
         if tables.starts.iter().flatten().max().map_or(true, |&start| usize::from(start) > states) {
             return lines.refuse("a condition has no start among the states, or there is none");
         }
-        tables.columns.iter_mut().for_each(|column| *column *= states as u32 + 1);
-        tables.next = vec![0; classes * (states + 1)];
-        for state in 1..=states { tables.read_state(&mut lines, state, states, &rules)?; }
+        let height = 2 * states + 1;
+        (tables.next, tables.accepts) = (vec![0; (classes + 1) * height], vec![(0, Kind::Echo); height]);
+        for state in 1..=states { tables.read_state(&mut lines, state, classes, &rules)?; }
+        for &start in tables.starts.iter().flatten() { tables.accepts[usize::from(start)].1 = Kind::Echo; } // a match isn't empty
+        tables.columns[usize::from(b'\n')] = classes as u32;
+        tables.columns.iter_mut().for_each(|column| *column *= height as u32);
         if !lines.after("end")?.is_empty() { return lines.refuse("the line's end is due"); }
         lines.number += 1;
         if lines.rest.is_empty() { Ok(tables) } else { lines.refuse("nothing may follow the end") }
@@ -85,11 +89,11 @@ impl Tables {
         self.kinds.push(name.to_string());
         Ok(())
     }
-    /// The place of the rule's action, as states accept it.
-    fn read_rule(&mut self, lines: &mut Lines) -> Result<i32, Error> {
+    /// The rule's action, as states accept it.
+    fn read_rule(&mut self, lines: &mut Lines) -> Result<(i32, Kind), Error> {
         let mut fields = lines.after("rule ")?.split(' ');
         let ends_line = lines.number(fields.next().unwrap_or(""), 2)? == 1;
-        let (place, mut is_open) = (self.steps.len() as i32, true);
+        let (first, mut is_open) = (self.steps.len(), true);
         for field in fields {
             let step = match (field.get(..1), field.get(1..).unwrap_or("")) {
                 (Some("e"), "") if is_open => Step::Give(Kind::Echo),
@@ -102,7 +106,9 @@ impl Tables {
             self.steps.push(step);
         }
         self.steps.push(Step::End);
-        Ok(if ends_line { -place } else { place })
+        let place = if let Step::End = self.steps[first] { NOTHING } else { first as i32 };
+        let kind = match self.steps[first] { Step::Give(kind) if !ends_line => kind, _ => Kind::Echo };
+        Ok((if ends_line { -place } else { place }, kind))
     }
     fn read_classes(&mut self, lines: &mut Lines, count: usize) -> Result<(), Error> {
         let (mut byte, mut last, mut seen) = (0, count, 0);
@@ -118,18 +124,18 @@ impl Tables {
         }
         if (byte, seen) == (256, count) { Ok(()) } else { lines.refuse("a byte has no class, or a class no byte") }
     }
-    fn read_state(&mut self, lines: &mut Lines, state: usize, states: usize, rules: &[i32]) -> Result<(), Error> {
-        let (classes, mut least) = (self.next.len() / (states + 1), 0);
+    fn read_state(&mut self, lines: &mut Lines, state: usize, classes: usize, rules: &[(i32, Kind)]) -> Result<(), Error> {
+        let (height, states, newline, mut least) = (self.accepts.len(), self.accepts.len() / 2, self.columns[usize::from(b'\n')] as usize, 0);
         let mut fields = lines.after("state ")?.split(' ');
-        self.accepts.push(match fields.next() {
-            Some("-") => 0,
-            rule => rules[lines.number(rule.unwrap_or(""), rules.len())?],
-        });
+        let accepted = match fields.next() { Some("-") => (0, Kind::Echo), rule => rules[lines.number(rule.unwrap_or(""), rules.len())?] };
+        (self.accepts[state], self.accepts[states + state].0) = (accepted, accepted.0);
         for field in fields {
             let (class, next) = field.split_once(':').unwrap_or((field, ""));
             let (class, next) = (lines.number(class, classes)?, lines.number(next, states)?);
             if class < least { return lines.refuse("a greater class is due"); }
-            self.next[class * (states + 1) + state] = next as u16 + 1;
+            let (column, behind) = (class * height, (states + next + 1) as u16);
+            (self.next[column + state], self.next[column + states + state]) = (next as u16 + 1, behind);
+            if class == newline { for from in [state, states + state] { self.next[classes * height + from] = behind; } }
             least = class + 1;
         }
         Ok(())
@@ -139,19 +145,19 @@ impl Tables {
     pub fn kind(&self, name: &str) -> Option<Kind> { self.kinds.iter().position(|kind| kind == name).map(|place| Kind::Name(place as u32)) }
     pub fn scan<'t>(&'t self, text: &'t [u8]) -> Scanner<'t> {
         let last = Item { kind: Kind::Echo, text: &text[..0], start: 0, line: 1, column: 1 };
-        Scanner { tables: self, text, at: 0, line: 1, line_start: 0, condition: 0, last, pending: NOTHING }
+        Scanner { tables: self, size: text.len(), rest: text, line: 1, line_left: text.len(), starts: &self.starts[0], pending: NOTHING, last }
     }
-    /// Walks once more over what was walked, for the last place where a token ends: its action and its length.
+    /// Walks once more over what was walked, for the last place where a token ends: its action, and what is left behind it.
     #[cold]
-    fn look_back(&self, start: usize, walked: &[u8]) -> (i32, usize) {
-        let (mut state, mut found) = (start, (0, 1));
-        for (place, &byte) in walked.iter().enumerate() {
+    fn look_back<'t>(&self, mut state: usize, rest: &'t [u8], left: usize) -> (i32, &'t [u8]) {
+        let (mut action, mut length) = (0, 1);
+        for (place, &byte) in rest[..rest.len() - left].iter().enumerate() {
             state = usize::from(self.next[self.columns[usize::from(byte)] as usize + state]);
-            let action = self.accepts[state];
-            let length = place + usize::from(action > 0);
-            if action != 0 && length > 0 { found = (action.abs(), length); }
+            let accepted = self.accepts[state].0;
+            let end = place + usize::from(accepted > 0);
+            if accepted != 0 && end > 0 { (action, length) = (accepted.abs(), end); }
         }
-        found
+        (action, &rest[length..])
     }
 }
 
@@ -179,67 +185,61 @@ impl<'a> Lines<'a> {
 /// The items of a text, one after the other.
 pub struct Scanner<'t> {
     tables: &'t Tables,
-    text: &'t [u8],
-    /// Where the next match begins, its line, where that line begins, and the start condition.
-    at: usize, line: usize, line_start: usize, condition: usize,
+    /// The text's length; what is left of it at the next match, the line there, how much was left where that begins, and the condition's starts.
+    size: usize, rest: &'t [u8], line: usize, line_left: usize, starts: &'t [u16; 2],
     /// The place of the steps that are left of the last match's action, or NOTHING; and that match where some are left.
-    pending: usize,
+    pending: i32,
     last: Item<'t>,
 }
 
-const NOTHING: usize = 1; // the place of an action's end
+const NOTHING: i32 = 1; // the place of an action's end, and of an action without a step
 
 impl<'t> Scanner<'t> {
     /// Goes over to a start condition by its number, in which the next match begins; 0 is INITIAL. Where there is none of this number it stays.
-    pub fn begin(&mut self, condition: usize) { if condition < self.tables.starts.len() { self.condition = condition; } }
+    pub fn begin(&mut self, condition: usize) { if let Some(starts) = self.tables.starts.get(condition) { self.starts = starts; } }
     /// Does the steps from a place on, up to one that gives an item: its kind.
     #[inline(always)]
-    fn perform(&mut self, mut place: usize) -> Option<Kind> {
-        while let Step::Begin(condition) = self.tables.steps[place] {
-            self.condition = usize::from(condition);
+    fn perform(&mut self, mut place: i32) -> Option<Kind> {
+        while let Step::Begin(condition) = self.tables.steps[place as usize] {
+            self.begin(usize::from(condition));
             place += 1;
         }
-        let given = if let Step::Give(kind) = self.tables.steps[place] { Some(kind) } else { None };
+        let given = if let Step::Give(kind) = self.tables.steps[place as usize] { Some(kind) } else { None };
         self.pending = if given == Some(Kind::Echo) { place + 1 } else { NOTHING };
         given
-    }
-    /// Takes the longest match: the place of its action, and an item whose kind isn't known yet. Newlines are counted on the way.
-    #[inline(always)]
-    fn take_match(&mut self) -> (usize, Item<'t>) {
-        let (tables, rest) = (self.tables, &self.text[self.at..]);
-        let start = usize::from(tables.starts[self.condition][usize::from(self.at == self.line_start)]);
-        let (columns, steps, mut state, mut length, mut newlines) = (&tables.columns, &tables.next[..], start, 0, 0);
-        while let Some(&byte) = rest.get(length) {
-            let next = usize::from(steps[columns[usize::from(byte)] as usize + state]);
-            if next == 0 { break; }
-            (state, length) = (next, length + 1);
-            newlines += usize::from(byte == b'\n');
-        }
-        let mut action = tables.accepts[state];
-        if action <= 0 || length == 0 {
-            (action, length) = tables.look_back(start, &rest[..length]);
-            newlines = rest[..length].iter().filter(|&&byte| byte == b'\n').count();
-        }
-        let found = Item { kind: Kind::Echo, text: &rest[..length], start: self.at, line: self.line, column: self.at - self.line_start + 1 };
-        if newlines > 0 {
-            self.line += newlines;
-            self.line_start = self.at + found.text.iter().rposition(|&byte| byte == b'\n').map_or(0, |place| place + 1);
-        }
-        self.at += length;
-        (action as usize, found)
     }
 }
 
 impl<'t> Iterator for Scanner<'t> {
     type Item = Item<'t>;
+    /// It has few jumps, and few values that change, so that these stay in registers where it is inlined.
     #[inline(always)]
     fn next(&mut self) -> Option<Item<'t>> {
         if self.pending != NOTHING {
             if let Some(kind) = self.perform(self.pending) { return Some(Item { kind, ..self.last }); }
         }
-        while self.at < self.text.len() {
-            let (action, found) = self.take_match();
-            if let Some(kind) = self.perform(action) {
+        while !self.rest.is_empty() {
+            let (tables, rest, start) = (self.tables, self.rest, usize::from(self.starts[usize::from(self.rest.len() == self.line_left)]));
+            let (mut state, mut left) = (start, rest);
+            while let [byte, behind @ ..] = left {
+                let next = tables.next.get(tables.columns[usize::from(*byte)] as usize + state);
+                if let Some(&next @ 1..) = next { (state, left) = (usize::from(next), behind) } else { break }
+            }
+            let (mut place, kind) = tables.accepts[state];
+            if kind == Kind::Echo && (place <= 0 || left.len() == rest.len()) {
+                (place, left) = tables.look_back(start, rest, left.len());
+                state = usize::MAX; // the byte that no rule takes may be a newline, too
+            }
+            let (text, start, column) = (&rest[..rest.len() - left.len()], self.size - rest.len(), self.line_left - rest.len() + 1);
+            let found = Item { kind, text, start, line: self.line, column };
+            self.rest = left;
+            if kind != Kind::Echo { return Some(found); }
+            if state > tables.accepts.len() / 2 {
+                let newlines = text.iter().enumerate().filter(|(_, &byte)| byte == b'\n');
+                for (place, _) in newlines { (self.line, self.line_left) = (self.line + 1, rest.len() - place - 1); }
+            }
+            if place == NOTHING { continue; }
+            if let Some(kind) = self.perform(place) {
                 if self.pending != NOTHING { self.last = found; }
                 return Some(Item { kind, ..found });
             }
