@@ -3,7 +3,7 @@
 ghost use Rattle.std.specs.Prelude.{◌≡◌, ◌++◌, IfOk, OnOk, decimal, length};
 ghost use Rattle.lx_report.specs.Lines as specs;
 
-use crate::bytes::{push, push_number, push_shown, push_source, push_times};
+use crate::bytes::{push, push_numbered, push_shown, push_source, push_times};
 use crate::finding::{Finding, Place, Severity};
 use itoa::Buffer;
 use std::alloc::{AllocError, Global};
@@ -19,8 +19,7 @@ fn push_column(text: &mut Vec<u8>, column: u64) -> Result<(), AllocError>
     if column == 0 {
         return Ok(());
     }
-    push(text, b":")?;
-    push_number(text, column)
+    push_numbered(text, b":", column)
 }
 
 fn push_place(text: &mut Vec<u8>, place: Place) -> Result<(), AllocError>
@@ -29,8 +28,7 @@ fn push_place(text: &mut Vec<u8>, place: Place) -> Result<(), AllocError>
     if place.line == 0 {
         return Ok(());
     }
-    push(text, b":")?;
-    push_number(text, place.line)?;
+    push_numbered(text, b":", place.line)?;
     push_column(text, place.column)
 }
 
@@ -67,28 +65,6 @@ fn push_tag(text: &mut Vec<u8>, severity: Severity, name: &[u8]) -> Result<(), A
     }
 }
 
-fn push_head(
-    text: &mut Vec<u8>,
-    file: &[u8],
-    place: Place,
-    severity: Severity,
-) -> Result<(), AllocError>
-    ensures { OnOk result (text.new.items ≡ text.old.items ++ specs.head_text file.now place severity) }
-{
-    push_shown(text, file)?;
-    push_place(text, place)?;
-    push_severity(text, severity)
-}
-
-fn push_said(text: &mut Vec<u8>, finding: &Finding<'_>) -> Result<(), AllocError>
-    ensures { OnOk result (text.new.items ≡ text.old.items ++ specs.said_text finding.now.severity finding.now.code.now finding.now.words.now finding.now.name.now) }
-{
-    push_code(text, finding.code)?;
-    push_shown(text, finding.words)?;
-    push_tag(text, finding.severity, finding.name)?;
-    push(text, b"\n")
-}
-
 /// A finding in the file with this name, in a line: where it is, how much it weighs, its code, its words and its name. Err: memory was refused.
 pub fn push_finding(
     text: &mut Vec<u8>,
@@ -97,8 +73,13 @@ pub fn push_finding(
 ) -> Result<(), AllocError>
     ensures { OnOk result (text.new.items ≡ text.old.items ++ specs.finding_line file.now finding.now.severity finding.now.place finding.now.code.now finding.now.words.now finding.now.name.now) }
 {
-    push_head(text, file, finding.place, finding.severity)?;
-    push_said(text, finding)
+    push_shown(text, file)?;
+    push_place(text, finding.place)?;
+    push_severity(text, finding.severity)?;
+    push_code(text, finding.code)?;
+    push_shown(text, finding.words)?;
+    push_tag(text, finding.severity, finding.name)?;
+    push(text, b"\n")
 }
 
 // How many bytes at a line's begin are not shown.
@@ -136,8 +117,7 @@ fn push_source_line(
 ) -> Result<(), AllocError>
     ensures { OnOk result (text.new.items ≡ text.old.items ++ specs.source_line number column line.now) }
 {
-    push(text, b"    ")?;
-    push_number(text, number)?;
+    push_numbered(text, b"    ", number)?;
     push(text, b" | ")?;
     push_source(text, part(column, line))?;
     push(text, b"\n")

@@ -3,7 +3,7 @@
 ghost use Rattle.std.specs.Prelude.{◌≡◌, ◌++◌, OnOk, length};
 ghost use Rattle.lx_report.specs.Sarif as specs;
 
-use crate::bytes::{push, push_number, push_shown, push_string_of_shown, push_uri};
+use crate::bytes::{push, push_numbered, push_shown, push_string_of_shown, push_uri};
 use crate::finding::{Finding, Place, Severity};
 use std::alloc::AllocError;
 
@@ -74,20 +74,6 @@ fn push_artifact(text: &mut Vec<u8>, file: &[u8]) -> Result<(), AllocError>
     push(text, b"\"}")
 }
 
-fn push_first_column(text: &mut Vec<u8>, column: u64) -> Result<(), AllocError>
-    ensures { OnOk result (text.new.items ≡ text.old.items ++ specs.first_column column) }
-{
-    push(text, b",\"startColumn\":")?;
-    push_number(text, column)
-}
-
-fn push_end_column(text: &mut Vec<u8>, behind: u64) -> Result<(), AllocError>
-    ensures { OnOk result (text.new.items ≡ text.old.items ++ specs.end_column behind) }
-{
-    push(text, b",\"endColumn\":")?;
-    push_number(text, behind)
-}
-
 // The columns of a region; the last is the one behind it.
 fn push_columns(text: &mut Vec<u8>, column: u64, behind: u64) -> Result<(), AllocError>
     ensures { OnOk result (text.new.items ≡ text.old.items ++ specs.columns column behind) }
@@ -95,15 +81,8 @@ fn push_columns(text: &mut Vec<u8>, column: u64, behind: u64) -> Result<(), Allo
     if column == 0 {
         return Ok(());
     }
-    push_first_column(text, column)?;
-    push_end_column(text, behind)
-}
-
-fn push_first_line(text: &mut Vec<u8>, line: u64) -> Result<(), AllocError>
-    ensures { OnOk result (text.new.items ≡ text.old.items ++ specs.first_line line) }
-{
-    push(text, b",\"region\":{\"startLine\":")?;
-    push_number(text, line)
+    push_numbered(text, b",\"startColumn\":", column)?;
+    push_numbered(text, b",\"endColumn\":", behind)
 }
 
 // The column behind a place.
@@ -113,44 +92,25 @@ fn behind(place: Place) -> u64
     place.column.saturating_add(place.width.max(1))
 }
 
-fn push_known_region(text: &mut Vec<u8>, place: Place) -> Result<(), AllocError>
-    ensures { OnOk result (text.new.items ≡ text.old.items ++ specs.known_region place) }
-{
-    push_first_line(text, place.line)?;
-    push_columns(text, place.column, behind(place))?;
-    push(text, b"}")
-}
-
 fn push_region(text: &mut Vec<u8>, place: Place) -> Result<(), AllocError>
     ensures { OnOk result (text.new.items ≡ text.old.items ++ specs.region place) }
 {
     if place.line == 0 {
-        Ok(())
-    } else {
-        push_known_region(text, place)
+        return Ok(());
     }
-}
-
-fn push_location(text: &mut Vec<u8>, file: &[u8], place: Place) -> Result<(), AllocError>
-    ensures { OnOk result (text.new.items ≡ text.old.items ++ specs.location file.now place) }
-{
-    push_artifact(text, file)?;
-    push_region(text, place)?;
-    push(text, b"}}]}")
-}
-
-fn push_what(text: &mut Vec<u8>, finding: &Finding<'_>) -> Result<(), AllocError>
-    ensures { OnOk result (text.new.items ≡ text.old.items ++ specs.what finding.now.severity finding.now.code.now finding.now.words.now finding.now.name.now) }
-{
-    push_rule_id(text, finding.code, finding.name)?;
-    push_level(text, finding.severity)?;
-    push_message(text, finding.words)
+    push_numbered(text, b",\"region\":{\"startLine\":", place.line)?;
+    push_columns(text, place.column, behind(place))?;
+    push(text, b"}")
 }
 
 /// A finding in the file with this name, as a result. Err: memory was refused.
 pub fn push_result(text: &mut Vec<u8>, file: &[u8], finding: &Finding<'_>) -> Result<(), AllocError>
     ensures { OnOk result (text.new.items ≡ text.old.items ++ specs.result_text file.now finding.now.severity finding.now.place finding.now.code.now finding.now.words.now finding.now.name.now) }
 {
-    push_what(text, finding)?;
-    push_location(text, file, finding.place)
+    push_rule_id(text, finding.code, finding.name)?;
+    push_level(text, finding.severity)?;
+    push_message(text, finding.words)?;
+    push_artifact(text, file)?;
+    push_region(text, finding.place)?;
+    push(text, b"}}]}")
 }
