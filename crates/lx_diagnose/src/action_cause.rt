@@ -1,7 +1,9 @@
 // Causes of actions without a form (E20).
 
+ghost use Rattle.std.specs.Prelude.{◌≤◌};
+
 use crate::causes::ActionCause;
-use crate::found::{Found, found_at, found_named};
+use crate::found::{Found, found_at, found_byte, found_named};
 use crate::places::{Span, between, one_byte};
 use crate::scan::{begins_at, find, is_at, is_blank_at, is_digit_at, is_listed, next_blank, part};
 use crate::sectioning::{RuleExtent, RulePrefix};
@@ -46,15 +48,16 @@ fn is_action(alloc: Global, text: &[u8]) -> Result<bool, AllocError> {
 
 // Whether the words before an action could belong to a pattern.
 fn may_be_pattern(text: &[u8], words: Span) -> bool {
+    let end = words.end();
     let first = part(
         text,
-        between(words.start, next_blank(text, words.start, words.end())),
+        between(words.start, next_blank(text, words.start, end)),
     );
     !(is_at(text, words.start, b'|')
         || is_listed(STATEMENTS, first)
-        || find(text, words.start, words.end(), b";").is_some()
-        || find(text, words.start, words.end(), b"{").is_some()
-        || find(text, words.start, words.end(), b"=").is_some())
+        || find(text, words.start, end, b";").is_some()
+        || find(text, words.start, end, b"{").is_some()
+        || find(text, words.start, end, b"=").is_some())
 }
 
 // Whether the action has a form behind some of its words, which then belong to the pattern.
@@ -104,10 +107,7 @@ fn border_cause(
 ) -> Result<Option<(ActionCause, Found)>, AllocError> {
     if let RulePrefix::Absent = rule.prefix {
         if is_at(text, rule.pattern.start, b'#') {
-            return Ok(Some((
-                ActionCause::CommentHash,
-                found_at(one_byte(rule.pattern.start)),
-            )));
+            return Ok(Some((ActionCause::CommentHash, found_byte(rule.pattern.start))));
         }
     }
     if begins_at(text, rule.action.start, b"%{") {
@@ -127,10 +127,10 @@ fn border_cause(
     if let Some(word) = joined_word(alloc, text, rule, b"return")? {
         return Ok(Some((ActionCause::NoBlank, found_at(word))));
     }
-    if let Some(word) = joined_word(alloc, text, rule, b"BEGIN")? {
-        return Ok(Some((ActionCause::NoBlank, found_at(word))));
+    match joined_word(alloc, text, rule, b"BEGIN")? {
+        Some(word) => Ok(Some((ActionCause::NoBlank, found_at(word)))),
+        None => Ok(None),
     }
-    Ok(None)
 }
 
 fn word_at<'t>(words: &PlacedWords<'t>, number: usize) -> Option<Word<'t>> {
@@ -141,24 +141,20 @@ fn word_at<'t>(words: &PlacedWords<'t>, number: usize) -> Option<Word<'t>> {
     }
 }
 
-// Whether so many words from one on are a statement once a semicolon stands behind them.
-fn lacks_semicolon(
-    alloc: Global,
-    words: &PlacedWords,
-    number: usize,
-    count: usize,
-) -> Result<bool, AllocError> {
-    let mut with_semicolon = Vec::new(alloc);
+// Whether so many words from one on, four at most, are a statement once a semicolon stands behind them.
+fn lacks_semicolon(words: &PlacedWords, number: usize, count: usize) -> bool
+    requires { count ≤ 4 }
+{
+    let mut statement = [Word::Semicolon; MAX_STATEMENT_WORDS + 1];
     for i in 0..count {
         match word_at(words, number.saturating_add(i)) {
-            Some(word) => with_semicolon.push(word)?,
-            None => return Ok(false),
+            Some(word) => statement[i] = word,
+            None => return false,
         }
     }
-    with_semicolon.push(Word::Semicolon)?;
-    match turn_at(&with_semicolon) {
-        Turn::States(_, n) => Ok(n == with_semicolon.len()),
-        _ => Ok(false),
+    match turn_at(&statement[..=count]) {
+        Turn::States(_, n) => n == count + 1,
+        _ => false,
     }
 }
 
@@ -173,21 +169,17 @@ fn may_end_before(words: &PlacedWords, number: usize) -> bool {
 }
 
 // Where a semicolon is missing, in the statement that begins with this word.
-fn missing_semicolon(
-    alloc: Global,
-    words: &PlacedWords,
-    number: usize,
-) -> Result<Option<Span>, AllocError> {
+fn missing_semicolon(words: &PlacedWords, number: usize) -> Option<Span> {
     for count in 1..=MAX_STATEMENT_WORDS {
         let behind = number.saturating_add(count);
-        if may_end_before(words, behind) && lacks_semicolon(alloc, words, number, count)? {
-            return Ok(Some(Span {
+        if may_end_before(words, behind) && lacks_semicolon(words, number, count) {
+            return Some(Span {
                 start: behind_word_before(words, behind),
                 len: 0,
-            }));
+            });
         }
     }
-    Ok(None)
+    None
 }
 
 // Why the text where the words stop is nothing that is returned.
@@ -279,29 +271,33 @@ fn stop_cause(text: &[u8], at: Span) -> (ActionCause, Found) {
 }
 
 // Why no statement begins with this word.
-fn word_cause(
-    alloc: Global,
-    text: &[u8],
-    words: &PlacedWords,
-    number: usize,
-    end: usize,
-) -> Result<(ActionCause, Found), AllocError> {
-    if let Some(at) = missing_semicolon(alloc, words, number)? {
-        return Ok((ActionCause::Semicolon, found_at(at)));
+fn word_cause(text: &[u8], words: &PlacedWords, number: usize, end: usize) -> (ActionCause, Found) {
+    if let Some(at) = missing_semicolon(words, number) {
+        return (ActionCause::Semicolon, found_at(at));
     }
     let at = place_at(words, number, end);
     match word_at(words, number) {
-        Some(Word::Letters(letters)) => Ok(letters_cause(text, words, letters, number, end)),
-        Some(Word::CloseBrace) => Ok((ActionCause::BraceNotOpen, found_at(at))),
-        Some(_) => Ok((ActionCause::C, found_at(at))),
-        None => Ok(stop_cause(text, at)),
+        Some(Word::Letters(letters)) => letters_cause(text, words, letters, number, end),
+        Some(Word::CloseBrace) => (ActionCause::BraceNotOpen, found_at(at)),
+        Some(_) => (ActionCause::C, found_at(at)),
+        None => stop_cause(text, at),
     }
 }
 
-fn is_bar(words: &PlacedWords) -> bool {
-    match word_at(words, 0) {
-        Some(Word::Bar) => words.words.len() > 1 || words.stop.is_some(),
-        _ => false,
+// Why an action of these words has no form.
+fn words_cause(text: &[u8], action: Span, words: &PlacedWords) -> (ActionCause, Found) {
+    let end = action.end();
+    if matches!(word_at(words, 0), Some(Word::Bar))
+        && (words.words.len() > 1 || words.stop.is_some())
+    {
+        return (ActionCause::BarNotAlone, found_at(place_at(words, 0, end)));
+    }
+    match failing_word(&words.words) {
+        Some(number) => word_cause(text, words, number, end),
+        None => match words.stop {
+            Some(at) => stop_cause(text, one_byte(at)),
+            None => (ActionCause::NoForm, found_at(action)),
+        },
     }
 }
 
@@ -314,16 +310,6 @@ pub(crate) fn action_cause(
     if let Some(cause) = border_cause(alloc, text, rule)? {
         return Ok(cause);
     }
-    let end = rule.action.end();
     let words = words_of(alloc, text, rule.action)?;
-    if is_bar(&words) {
-        return Ok((ActionCause::BarNotAlone, found_at(place_at(&words, 0, end))));
-    }
-    match failing_word(&words.words) {
-        Some(number) => word_cause(alloc, text, &words, number, end),
-        None => match words.stop {
-            Some(at) => Ok(stop_cause(text, one_byte(at))),
-            None => Ok((ActionCause::NoForm, found_at(rule.action))),
-        },
-    }
+    Ok(words_cause(text, rule.action, &words))
 }

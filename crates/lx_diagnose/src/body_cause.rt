@@ -4,8 +4,8 @@ use crate::brace_cause::brace_cause;
 use crate::bracket_cause::bracket_cause;
 use crate::causes::PatternCause;
 use crate::escape_cause::{escape_cause, quote_cause};
-use crate::found::{Found, found_at};
-use crate::places::{Span, between, one_byte};
+use crate::found::{Found, found_at, found_byte};
+use crate::places::{Span, between};
 use crate::scan::{is_at, is_blank_at, part};
 use lx_lexemes::lexeme::{Lexeme, lexeme_at};
 use std::alloc::{AllocError, Global};
@@ -124,14 +124,6 @@ fn with_lexeme(group: Group, kind: Kind) -> Option<Group> {
     }
 }
 
-// Why a lexeme can't stand where it does, of all but those of groups.
-fn misplaced_cause(text: &[u8], at: Span, groups: &Groups, kind: Kind) -> PatternCause {
-    match kind {
-        Kind::Repeat | Kind::Interval => repeat_cause(text, at, groups),
-        _ => PatternCause::EmptyAlternative,
-    }
-}
-
 // Takes a lexeme; what stands there is why it can't stand where it does.
 fn take_lexeme(
     text: &[u8],
@@ -156,20 +148,22 @@ fn take_lexeme(
                 groups.behind_interval = matches!(kind, Kind::Interval);
                 Ok(None)
             }
-            None => Ok(Some(misplaced_cause(text, at, groups, kind))),
+            None => Ok(Some(match kind {
+                Kind::Repeat | Kind::Interval => repeat_cause(text, at, groups),
+                _ => PatternCause::EmptyAlternative,
+            })),
         },
     }
 }
 
 // Why a slash can't stand where it does.
 fn slash_cause(text: &[u8], span: Span, at: usize) -> (PatternCause, Found) {
-    let is_first = at == span.start;
-    let is_last = at.saturating_add(1) == span.end();
-    let is_doubled = is_at(text, at.saturating_add(1), b'/');
-    if is_first || is_last || is_doubled {
-        (PatternCause::Slash, found_at(one_byte(at)))
+    let next = at.saturating_add(1);
+    let end = span.end();
+    if at == span.start || next == end || is_at(text, next, b'/') {
+        (PatternCause::Slash, found_byte(at))
     } else {
-        (PatternCause::LookAhead, found_at(between(at, span.end())))
+        (PatternCause::LookAhead, found_at(between(at, end)))
     }
 }
 
@@ -182,18 +176,15 @@ fn anchor_cause(body: Body, is_outermost: bool, inside: PatternCause) -> Pattern
 
 fn blank_cause(text: &[u8], span: Span, at: usize) -> (PatternCause, Found) {
     if is_at(text, span.start, b'=') || is_at(text, span.start, b':') {
-        (
-            PatternCause::DefinitionEquals,
-            found_at(one_byte(span.start)),
-        )
+        (PatternCause::DefinitionEquals, found_byte(span.start))
     } else {
-        (PatternCause::DefinitionBlank, found_at(one_byte(at)))
+        (PatternCause::DefinitionBlank, found_byte(at))
     }
 }
 
 // Why no spelling stands there.
 fn spelling_cause(text: &[u8], body: Body, span: Span, at: usize) -> (PatternCause, Found) {
-    let here = found_at(one_byte(at));
+    let here = found_byte(at);
     let end = span.end();
     if is_at(text, at, b'\\') {
         escape_cause(text, at, end)
@@ -243,15 +234,14 @@ fn end_cause(
     at: usize,
     groups: &Groups,
 ) -> Option<(PatternCause, Found)> {
-    if !is_ending(text, body, at, span.end()) {
+    let end = span.end();
+    let is_open = !groups.outer.is_empty();
+    if !is_ending(text, body, at, end) || is_open && at < end {
         return Some(spelling_cause(text, body, span, at));
     }
-    if !groups.outer.is_empty() {
-        if at < span.end() {
-            return Some(spelling_cause(text, body, span, at));
-        }
-        let opening = one_byte(groups.innermost.opened);
-        return Some((PatternCause::ParenthesisOpen, found_at(opening)));
+    if is_open {
+        let opening = found_byte(groups.innermost.opened);
+        return Some((PatternCause::ParenthesisOpen, opening));
     }
     if groups.innermost.is_filled {
         return None;
@@ -261,7 +251,7 @@ fn end_cause(
     } else {
         Some((
             PatternCause::EmptyAlternative,
-            found_at(one_byte(at.saturating_sub(1))),
+            found_byte(at.saturating_sub(1)),
         ))
     }
 }

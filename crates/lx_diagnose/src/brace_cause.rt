@@ -1,8 +1,8 @@
 // Causes of what stands in braces (E10).
 
 use crate::causes::PatternCause;
-use crate::found::{Found, found_at, found_named};
-use crate::places::{Span, between, one_byte};
+use crate::found::{Found, found_at, found_byte};
+use crate::places::{Span, between};
 use crate::scan::{begins_at, behind_digits, behind_word, is_at, is_digit_at, is_word_at, part};
 
 // The largest bound of an interval.
@@ -34,7 +34,8 @@ fn interval_cause(text: &[u8], at: usize, end: usize) -> (PatternCause, Found) {
     let braces = braces_at(text, at, end);
     let start = at.saturating_add(1);
     let low = between(start, behind_digits(text, start, end));
-    if number_in(text, low) > MAX_BOUND {
+    let least = number_in(text, low);
+    if least > MAX_BOUND {
         return (PatternCause::IntervalLarge, found_at(low));
     }
     let next = low.end().saturating_add(1);
@@ -42,9 +43,10 @@ fn interval_cause(text: &[u8], at: usize, end: usize) -> (PatternCause, Found) {
     if !is_at(text, low.end(), b',') || high.len == 0 || !is_at(text, high.end(), b'}') {
         return (PatternCause::IntervalForm, found_at(braces));
     }
-    if number_in(text, high) > MAX_BOUND {
+    let most = number_in(text, high);
+    if most > MAX_BOUND {
         (PatternCause::IntervalLarge, found_at(high))
-    } else if number_in(text, low) > number_in(text, high) {
+    } else if least > most {
         (PatternCause::IntervalBackwards, found_at(braces))
     } else {
         (PatternCause::IntervalForm, found_at(braces))
@@ -86,10 +88,7 @@ pub(crate) fn brace_cause(text: &[u8], at: usize, end: usize) -> (PatternCause, 
         );
     }
     match hyphened_name(text, start, end) {
-        Some(name) if is_word_at(text, start) => (
-            PatternCause::NameHyphen,
-            found_named(name, name),
-        ),
-        _ => (PatternCause::BraceOpen, found_at(one_byte(at))),
+        Some(name) if is_word_at(text, start) => (PatternCause::NameHyphen, found_at(name)),
+        _ => (PatternCause::BraceOpen, found_byte(at)),
     }
 }

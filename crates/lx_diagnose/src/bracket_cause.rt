@@ -2,8 +2,8 @@
 
 use crate::causes::PatternCause;
 use crate::escape_cause::{escape_cause, escape_len};
-use crate::found::{Found, found_at, found_named};
-use crate::places::{Span, between, one_byte};
+use crate::found::{Found, found_at, found_byte, found_named};
+use crate::places::{Span, between};
 use crate::scan::{begins_at, behind_word, find, is_at, is_listed, part};
 use lx_lexemes::escape::escape_at;
 
@@ -167,5 +167,5 @@ pub(crate) fn bracket_cause(text: &[u8], at: usize, end: usize) -> (PatternCause
             Member::Bad(cause, place) => return (cause, place),
         }
     }
-    (PatternCause::BracketsOpen, found_at(one_byte(at)))
+    (PatternCause::BracketsOpen, found_byte(at))
 }

@@ -7,7 +7,7 @@ use crate::outline::{ConditionLine, Outline};
 use crate::places::{Span, between};
 use crate::scan::{is_at, part};
 use crate::sectioning::{RuleExtent, RulePrefix};
-use crate::similar::most_similar;
+use crate::similar::Closest;
 use crate::words::{PlacedWords, words_of};
 use lx_sections::word::Word;
 use std::alloc::{AllocError, Global};
@@ -80,35 +80,30 @@ fn undeclared_in_action(outline: &Outline, text: &[u8], words: &PlacedWords) -> 
     None
 }
 
-fn declared_names(alloc: Global, conditions: &[ConditionLine]) -> Result<Vec<Span>, AllocError> {
-    let mut names = Vec::new(alloc);
-    for condition in conditions {
-        names.push(condition.name)?;
-    }
-    Ok(names)
-}
-
 fn begins_small(text: &[u8], name: Span) -> bool {
     name.start < text.len() && text[name.start].is_ascii_lowercase()
 }
 
 // Why a name is no condition's: one that is declared is like it, or else what the place suggests.
 fn undeclared_cause(
-    alloc: Global,
-    outline: &Outline,
+    conditions: &[ConditionLine],
     text: &[u8],
     name: Span,
     by_place: ConditionCause,
-) -> Result<(ConditionCause, Found), AllocError> {
-    let names = declared_names(alloc, &outline.conditions)?;
+) -> (ConditionCause, Found) {
+    let word = part(text, name);
+    let mut closest = Closest::to(word);
+    for condition in conditions {
+        closest = closest.or(text, word, condition.name);
+    }
     let mut place = found_at(name);
-    match most_similar(text, &names, name) {
-        Some(i) if i < names.len() => {
-            place.other = names[i];
-            place.note = Some(names[i]);
-            Ok((ConditionCause::Similar, place))
+    match closest.name {
+        Some(similar) => {
+            place.other = similar;
+            place.note = Some(similar);
+            (ConditionCause::Similar, place)
         }
-        _ => Ok((by_place, place)),
+        None => (by_place, place),
     }
 }
 
@@ -126,7 +121,7 @@ pub(crate) fn condition_cause(
             } else {
                 ConditionCause::NotDeclared
             };
-            return undeclared_cause(alloc, outline, text, name, by_place);
+            return Ok(undeclared_cause(&outline.conditions, text, name, by_place));
         }
     }
     let words = words_of(alloc, text, rule.action)?;
@@ -136,7 +131,7 @@ pub(crate) fn condition_cause(
         } else {
             ConditionCause::NotDeclared
         };
-        return undeclared_cause(alloc, outline, text, name, by_place);
+        return Ok(undeclared_cause(&outline.conditions, text, name, by_place));
     }
     Ok((
         ConditionCause::Unknown,

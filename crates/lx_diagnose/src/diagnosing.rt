@@ -67,17 +67,17 @@ fn diagnosis_of(text: &[u8], line: u32, cause: Cause, found: Found) -> Diagnosis
     }
 }
 
-// The cause of a rule's fault.
+// The cause of a fault on the line of a rule.
 fn cause_in_rule(
     alloc: Global,
     text: &[u8],
     outline: &Outline,
     rule: RuleExtent,
-    code: Code,
+    fault: SpecFault,
 ) -> Result<(Cause, Found), AllocError>
-    ensures { IfOk result (λ r. code_of r.0 ≡ code) }
+    ensures { IfOk result (λ r. code_of r.0 ≡ fault.code) }
 {
-    match code {
+    match fault.code {
         Code::NoReading => {
             let (cause, found) = pattern_cause(alloc, outline, text, rule)?;
             Ok((Cause::NoReading(cause), found))
@@ -99,7 +99,7 @@ fn cause_in_rule(
             Ok((Cause::NoAction(cause), found))
         }
         Code::NoNext => Ok((Cause::NoNext, found_at(rule.action))),
-        _ => Ok((general_cause(code), found_at(rule.line))),
+        _ => cause_in_line(alloc, text, outline, fault),
     }
 }
 
@@ -138,27 +138,13 @@ fn cause_in_line(
     }
 }
 
-fn is_of_rule(code: Code) -> bool {
-    matches!(
-        code,
-        Code::NoReading
-            | Code::Undefined
-            | Code::TooDeep
-            | Code::NoCondition
-            | Code::NoAction
-            | Code::NoNext
-    )
-}
-
 fn cause_of(alloc: Global, text: &[u8], fault: SpecFault) -> Result<(Cause, Found), AllocError>
     ensures { IfOk result (λ r. code_of r.0 ≡ fault.code) }
 {
     let outline = outline_of(alloc, text, fault.line)?;
     match outline.rule {
-        Some(rule) if is_of_rule(fault.code) => cause_in_rule(
-            alloc, text, &outline, rule, fault.code,
-        ),
-        _ => cause_in_line(alloc, text, &outline, fault),
+        Some(rule) => cause_in_rule(alloc, text, &outline, rule, fault),
+        None => cause_in_line(alloc, text, &outline, fault),
     }
 }
 

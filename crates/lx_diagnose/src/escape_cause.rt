@@ -1,8 +1,8 @@
 // Causes of escapes and of quoted strings (E10).
 
 use crate::causes::PatternCause;
-use crate::found::{Found, found_at};
-use crate::places::{Span, between, one_byte};
+use crate::found::{Found, found_at, found_byte};
+use crate::places::{Span, between};
 use crate::scan::{is_at, part};
 use lx_lexemes::escape::escape_at;
 
@@ -37,7 +37,7 @@ fn behind_number(text: &[u8], start: usize, end: usize) -> usize {
 pub(crate) fn escape_cause(text: &[u8], at: usize, end: usize) -> (PatternCause, Found) {
     let start = at.saturating_add(1);
     if start >= end {
-        (PatternCause::EscapeEnd, found_at(one_byte(at)))
+        (PatternCause::EscapeEnd, found_byte(at))
     } else {
         (
             PatternCause::EscapeLarge,

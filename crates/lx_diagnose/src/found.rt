@@ -21,6 +21,11 @@ pub(crate) fn found_at(at: Span) -> Found {
     }
 }
 
+/// A byte of the text that is itself the word of the sentence.
+pub(crate) fn found_byte(at: usize) -> Found {
+    found_at(Span { start: at, len: 1 })
+}
+
 /// A part of the text, and the word of the sentence.
 pub(crate) fn found_named(at: Span, name: Span) -> Found {
     Found {

@@ -1,13 +1,13 @@
 // Causes of lines of Definitions without a form (E04).
 
 use crate::causes::LineCause;
-use crate::found::{Found, found_at, found_named};
+use crate::found::{Found, found_at, found_byte, found_named};
 use crate::places::{Span, between, one_byte};
 use crate::scan::{
-    before_blanks, begins_at, behind_blanks, behind_word, find, is_at, is_blank_at, is_digit_at,
-    is_listed, is_word_at, next_blank, part,
+    before_blanks, begins_at, behind_blanks, behind_digits, behind_word, find, is_at, is_blank_at,
+    is_digit_at, is_listed, is_word_at, next_blank, part,
 };
-use lx_sections::action::{Action, read_action};
+use lx_sections::action::read_action;
 use lx_sections::rule_line::{RuleLine, rule_line_of};
 use std::alloc::{AllocError, Global};
 
@@ -49,22 +49,12 @@ fn text_cause(text: &[u8], line: Span) -> Option<(LineCause, Found)> {
         ));
     }
     if is_wide(text) {
-        return Some((LineCause::WideText, found_at(one_byte(0))));
+        return Some((LineCause::WideText, found_byte(0)));
     }
     if begins_at(text, 0, b"lx-tables ") {
         return Some((LineCause::TablesGiven, found_at(Span { start: 0, len: 9 })));
     }
     None
-}
-
-fn has_action(alloc: Global, action: &[u8]) -> Result<bool, AllocError> {
-    if action.is_empty() {
-        return Ok(false);
-    }
-    match read_action(alloc, action)? {
-        Some(Action::Own(_)) | Some(Action::Shared) => Ok(true),
-        None => Ok(false),
-    }
 }
 
 /// Whether the line would be a rule, or is meant as one.
@@ -73,7 +63,9 @@ pub(crate) fn is_rule(alloc: Global, text: &[u8], line: Span) -> Result<bool, Al
         return Ok(true);
     }
     match rule_line_of(part(text, line)) {
-        RuleLine::BeginsRule { action, .. } => has_action(alloc, action),
+        RuleLine::BeginsRule { action, .. } => {
+            Ok(!action.is_empty() && read_action(alloc, action)?.is_some())
+        }
         RuleLine::Skipped | RuleLine::OpensGroup | RuleLine::RulesEnd => Ok(false),
     }
 }
@@ -107,7 +99,7 @@ fn option_cause(text: &[u8], word: Span, end: usize) -> (LineCause, Found) {
 
 fn conditions_cause(text: &[u8], word: Span, end: usize) -> (LineCause, Found) {
     if let Some(comma) = find(text, word.end(), end, b",") {
-        return (LineCause::ConditionsComma, found_at(one_byte(comma)));
+        return (LineCause::ConditionsComma, found_byte(comma));
     }
     let start = behind_blanks(text, word.end(), end);
     let mut next = start;
@@ -135,25 +127,10 @@ fn is_size(text: &[u8], letters: Span) -> bool {
         start: letters.start,
         len: 1,
     };
-    let digits = between(letters.start.saturating_add(1), letters.end());
+    let end = letters.end();
     is_listed(SIZES, part(text, letters))
-        || is_listed(SIZES, part(text, letter)) && are_digits_in(text, digits)
-}
-
-fn are_digits_in(text: &[u8], span: Span) -> bool {
-    for digit in part(text, span) {
-        if !digit.is_ascii_digit() {
-            return false;
-        }
-    }
-    true
-}
-
-fn begins_conditions(text: &[u8], letters: Span) -> bool {
-    is_at(text, letters.start, b's')
-        || is_at(text, letters.start, b'S')
-        || is_at(text, letters.start, b'x')
-        || is_at(text, letters.start, b'X')
+        || is_listed(SIZES, part(text, letter))
+            && behind_digits(text, letters.start.saturating_add(1), end) == end
 }
 
 // A line that begins with `%`.
@@ -162,6 +139,7 @@ fn percent_cause(text: &[u8], line: Span) -> (LineCause, Found) {
     let start = line.start.saturating_add(1);
     let word = between(line.start, behind_word(text, start, end));
     let letters = between(start, word.end());
+    let name = part(text, letters);
     if begins_at(text, line.start, b"%}") {
         return (
             LineCause::GroupCloses,
@@ -171,16 +149,16 @@ fn percent_cause(text: &[u8], line: Span) -> (LineCause, Found) {
             }),
         );
     }
-    if part(text, letters) == b"option".as_slice() {
+    if name == b"option".as_slice() {
         return option_cause(text, word, end);
     }
-    if part(text, letters) == b"top".as_slice() {
+    if name == b"top".as_slice() {
         return (LineCause::TopGroup, found_at(word));
     }
     if is_size(text, letters) {
         return (LineCause::SizeForm, found_at(word));
     }
-    if begins_conditions(text, letters) {
+    if let [b's' | b'S' | b'x' | b'X', ..] = name {
         return conditions_cause(text, word, end);
     }
     (LineCause::PercentWord, found_at(word))

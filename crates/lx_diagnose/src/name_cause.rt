@@ -4,11 +4,11 @@ use crate::causes::{DepthCause, NameCause};
 use crate::depth::{Depth, depth_from, mentions_of};
 use crate::found::{Found, found_named};
 use crate::names::{body_of, inside, names_in, number_of, substitute_of, visits_of};
-use crate::outline::{ConditionLine, DefinitionLine, Outline};
+use crate::outline::{ConditionLine, Outline};
 use crate::places::Span;
 use crate::scan::part;
 use crate::sectioning::RuleExtent;
-use crate::similar::most_similar;
+use crate::similar::Closest;
 use std::alloc::{AllocError, Global};
 
 // The first name of an expression that isn't defined.
@@ -26,24 +26,15 @@ fn first_undefined(
     Ok(None)
 }
 
-/// The names that are defined, in order.
-fn defined_names(alloc: Global, definitions: &[DefinitionLine]) -> Result<Vec<Span>, AllocError> {
-    let mut names = Vec::new(alloc);
-    for definition in definitions {
-        names.push(definition.name)?;
-    }
-    Ok(names)
-}
-
-/// The condition with the name that stands there.
+/// Where the condition with the name that stands there is declared first.
 pub(crate) fn condition_named(
     conditions: &[ConditionLine],
     text: &[u8],
     name: Span,
-) -> Option<ConditionLine> {
+) -> Option<Span> {
     for condition in conditions {
         if part(text, condition.name) == part(text, name) {
-            return Some(*condition);
+            return Some(condition.name);
         }
     }
     None
@@ -51,26 +42,29 @@ pub(crate) fn condition_named(
 
 // Why the name in braces isn't defined; `at` is where the rule has it, or leads to it, and `within` where a definition has it.
 fn undefined_cause(
-    alloc: Global,
     outline: &Outline,
     text: &[u8],
     braces: Span,
     at: Span,
     within: Option<Span>,
-) -> Result<(NameCause, Found), AllocError> {
+) -> (NameCause, Found) {
     let name = inside(braces);
     let mut place = found_named(at, name);
     place.note = within;
     if condition_named(&outline.conditions, text, name).is_some() {
-        return Ok((NameCause::Condition, place));
+        return (NameCause::Condition, place);
     }
-    let names = defined_names(alloc, &outline.definitions)?;
-    match most_similar(text, &names, name) {
-        Some(i) if i < names.len() => {
-            place.other = names[i];
-            Ok((NameCause::Similar, place))
+    let word = part(text, name);
+    let mut closest = Closest::to(word);
+    for definition in &outline.definitions {
+        closest = closest.or(text, word, definition.name);
+    }
+    match closest.name {
+        Some(similar) => {
+            place.other = similar;
+            (NameCause::Similar, place)
         }
-        _ => Ok((NameCause::NotDefined, place)),
+        None => (NameCause::NotDefined, place),
     }
 }
 
@@ -83,13 +77,13 @@ pub(crate) fn name_cause(
 ) -> Result<(NameCause, Found), AllocError> {
     let body = body_of(text, rule.pattern);
     if let Some(braces) = first_undefined(alloc, outline, text, body)? {
-        return undefined_cause(alloc, outline, text, braces, braces, None);
+        return Ok(undefined_cause(outline, text, braces, braces, None));
     }
     let visits = visits_of(alloc, outline, text, rule)?;
     for visit in &visits {
         let substitute = substitute_of(&outline.definitions, visit.definition);
         if let Some(braces) = first_undefined(alloc, outline, text, substitute)? {
-            return undefined_cause(alloc, outline, text, braces, visit.via, Some(braces));
+            return Ok(undefined_cause(outline, text, braces, visit.via, Some(braces)));
         }
     }
     Ok((NameCause::Unknown, found_named(rule.pattern, rule.pattern)))

@@ -65,16 +65,7 @@ pub(crate) fn substitute_of(definitions: &[DefinitionLine], number: usize) -> Sp
     }
 }
 
-// Adds a definition that wasn't met yet.
-fn add_visit(seen: &mut [bool], visits: &mut Vec<Visit>, visit: Visit) -> Result<(), AllocError> {
-    if visit.definition < seen.len() && !seen[visit.definition] {
-        seen[visit.definition] = true;
-        visits.push(visit)?;
-    }
-    Ok(())
-}
-
-// Adds the definitions that the names of an expression mean; from the rule they are met by the name itself.
+// Adds the definitions that the names of an expression mean and that weren't met yet; from the rule they are met by the name itself.
 fn add_visits(
     alloc: Global,
     outline: &Outline,
@@ -85,9 +76,13 @@ fn add_visits(
     visits: &mut Vec<Visit>,
 ) -> Result<(), AllocError> {
     for name in &names_in(alloc, text, expression)? {
-        if let Some(definition) = number_of(outline, text, *name) {
+        if let Some(definition) = number_of(outline, text, *name)
+            && definition < seen.len()
+            && !seen[definition]
+        {
+            seen[definition] = true;
             let via = via.unwrap_or(*name);
-            add_visit(seen, visits, Visit { definition, via })?;
+            visits.push(Visit { definition, via })?;
         }
     }
     Ok(())

@@ -4,145 +4,104 @@ use crate::causes::{
     ActionCause, Cause, ConditionCause, LineCause, NameCause, OpenCause, PatternCause, RulesCause,
 };
 
-fn rules_name(cause: RulesCause) -> &'static str {
-    match cause {
-        RulesCause::Missing => "",
-        RulesCause::IndentedPercent => "indented-percent",
-        RulesCause::RulesAsDefinitions => "rules-as-definitions",
-    }
-}
-
-fn open_name(cause: OpenCause) -> &'static str {
-    match cause {
-        OpenCause::NotClosed => "",
-        OpenCause::Group => "group-open",
-        OpenCause::Comment => "comment-open",
-        OpenCause::Action => "action-open",
-        OpenCause::ActionComment => "action-comment-open",
-        OpenCause::HiddenBrace => "brace-hidden",
-    }
-}
-
-fn line_name(cause: LineCause) -> &'static str {
-    match cause {
-        LineCause::NoForm => "",
-        LineCause::ByteOrderMark => "byte-order-mark",
-        LineCause::WideText => "wide-text",
-        LineCause::TablesGiven => "tables-given",
-        LineCause::RuleBeforePercent => "rule-before-percent",
-        LineCause::OptionWord => "option-word",
-        LineCause::OptionForm => "option-form",
-        LineCause::TopGroup => "top-group",
-        LineCause::SizeForm => "size-form",
-        LineCause::GroupCloses => "group-closes",
-        LineCause::ConditionsComma => "conditions-comma",
-        LineCause::ConditionsForm => "conditions-form",
-        LineCause::PercentWord => "percent-word",
-        LineCause::CLine => "c-line",
-        LineCause::NameAlone => "name-alone",
-        LineCause::NameForm => "name-form",
-    }
-}
-
-fn pattern_name(cause: PatternCause) -> &'static str {
-    match cause {
-        PatternCause::NoReading | PatternCause::OddByte => "",
-        PatternCause::EndOfFile => "eof-rule",
-        PatternCause::AllConditions => "all-conditions",
-        PatternCause::PrefixOperator => "prefix-operator",
-        PatternCause::PrefixBlank => "prefix-blank",
-        PatternCause::PrefixName => "prefix-name",
-        PatternCause::Scope => "scope",
-        PatternCause::PatternMissing => "pattern-missing",
-        PatternCause::CommentLine => "comment-line",
-        PatternCause::TooLong => "too-long",
-        PatternCause::NothingButAnchors => "nothing-but-anchors",
-        PatternCause::DefinitionAnchor => "definition-anchor",
-        PatternCause::DefinitionBlank => "definition-blank",
-        PatternCause::DefinitionEquals => "definition-equals",
-        PatternCause::LookAhead => "look-ahead",
-        PatternCause::Slash => "slash",
-        PatternCause::CaretInside => "caret-inside",
-        PatternCause::DollarInside => "dollar-inside",
-        PatternCause::QuoteEmpty => "quote-empty",
-        PatternCause::QuoteOpen => "quote-open",
-        PatternCause::SetOperator => "set-operator",
-        PatternCause::IntervalBackwards => "interval-backwards",
-        PatternCause::IntervalLarge => "interval-large",
-        PatternCause::IntervalLow => "interval-low",
-        PatternCause::IntervalForm => "interval-form",
-        PatternCause::NameHyphen => "name-hyphen",
-        PatternCause::BraceOpen => "brace-open",
-        PatternCause::BracketsOpen => "brackets-open",
-        PatternCause::ClassNegated => "class-negated",
-        PatternCause::ClassUnknown => "class-unknown",
-        PatternCause::ClassRange => "class-range",
-        PatternCause::RangeShared => "range-shared",
-        PatternCause::RangeBackwards => "range-backwards",
-        PatternCause::LongCollation => "long-collation",
-        PatternCause::EscapeLarge => "escape-large",
-        PatternCause::EscapeEnd => "escape-end",
-        PatternCause::GroupOption => "group-option",
-        PatternCause::RepeatBehindInterval => "repeat-behind-interval",
-        PatternCause::NothingToRepeat => "nothing-to-repeat",
-        PatternCause::EmptyAlternative => "empty-alternative",
-        PatternCause::GroupNotOpen => "group-not-open",
-        PatternCause::ParenthesisOpen => "parenthesis-open",
-    }
-}
-
-fn definition_name(cause: NameCause) -> &'static str {
-    match cause {
-        NameCause::Condition => "condition-as-name",
-        NameCause::Unknown | NameCause::NotDefined | NameCause::Similar => "",
-    }
-}
-
-fn condition_name(cause: ConditionCause) -> &'static str {
-    match cause {
-        ConditionCause::Tag => "tag",
-        ConditionCause::BeginVariable => "begin-variable",
-        ConditionCause::Unknown | ConditionCause::NotDeclared | ConditionCause::Similar => "",
-    }
-}
-
-fn action_name(cause: ActionCause) -> &'static str {
-    match cause {
-        ActionCause::NoForm => "",
-        ActionCause::CommentHash => "comment-hash",
-        ActionCause::GroupAsAction => "group-as-action",
-        ActionCause::BlankInPattern => "blank-in-pattern",
-        ActionCause::NoBlank => "no-blank",
-        ActionCause::BarNotAlone => "bar-not-alone",
-        ActionCause::Semicolon => "semicolon",
-        ActionCause::ReturnAlone => "return-alone",
-        ActionCause::ReturnExpression => "return-expression",
-        ActionCause::ReturnString => "return-string",
-        ActionCause::ReturnNumber => "return-number",
-        ActionCause::ConstantForm => "constant-form",
-        ActionCause::BeginForm => "begin-form",
-        ActionCause::FlexCall => "flex-call",
-        ActionCause::FlexVariable => "flex-variable",
-        ActionCause::BraceNotOpen => "brace-not-open",
-        ActionCause::CarriageReturn => "carriage-return",
-        ActionCause::C => "code",
-    }
-}
-
 /// The name of a cause, by which `explain` knows it; nothing where the words of the code are all that is said.
 pub fn name_of(cause: Cause) -> &'static str {
     match cause {
-        Cause::NoRules(cause) => rules_name(cause),
-        Cause::NotClosed(cause) => open_name(cause),
-        Cause::NoForm(cause) => line_name(cause),
-        Cause::NoReading(cause) => pattern_name(cause),
-        Cause::Undefined(cause) => definition_name(cause),
-        Cause::NoCondition(cause) => condition_name(cause),
-        Cause::NoAction(cause) => action_name(cause),
+        Cause::NoRules(RulesCause::IndentedPercent) => "indented-percent",
+        Cause::NoRules(RulesCause::RulesAsDefinitions) => "rules-as-definitions",
+        Cause::NotClosed(OpenCause::Group) => "group-open",
+        Cause::NotClosed(OpenCause::Comment) => "comment-open",
+        Cause::NotClosed(OpenCause::Action) => "action-open",
+        Cause::NotClosed(OpenCause::ActionComment) => "action-comment-open",
+        Cause::NotClosed(OpenCause::HiddenBrace) => "brace-hidden",
+        Cause::NoForm(LineCause::ByteOrderMark) => "byte-order-mark",
+        Cause::NoForm(LineCause::WideText) => "wide-text",
+        Cause::NoForm(LineCause::TablesGiven) => "tables-given",
+        Cause::NoForm(LineCause::RuleBeforePercent) => "rule-before-percent",
+        Cause::NoForm(LineCause::OptionWord) => "option-word",
+        Cause::NoForm(LineCause::OptionForm) => "option-form",
+        Cause::NoForm(LineCause::TopGroup) => "top-group",
+        Cause::NoForm(LineCause::SizeForm) => "size-form",
+        Cause::NoForm(LineCause::GroupCloses) => "group-closes",
+        Cause::NoForm(LineCause::ConditionsComma) => "conditions-comma",
+        Cause::NoForm(LineCause::ConditionsForm) => "conditions-form",
+        Cause::NoForm(LineCause::PercentWord) => "percent-word",
+        Cause::NoForm(LineCause::CLine) => "c-line",
+        Cause::NoForm(LineCause::NameAlone) => "name-alone",
+        Cause::NoForm(LineCause::NameForm) => "name-form",
+        Cause::NoReading(PatternCause::EndOfFile) => "eof-rule",
+        Cause::NoReading(PatternCause::AllConditions) => "all-conditions",
+        Cause::NoReading(PatternCause::PrefixOperator) => "prefix-operator",
+        Cause::NoReading(PatternCause::PrefixBlank) => "prefix-blank",
+        Cause::NoReading(PatternCause::PrefixName) => "prefix-name",
+        Cause::NoReading(PatternCause::Scope) => "scope",
+        Cause::NoReading(PatternCause::PatternMissing) => "pattern-missing",
+        Cause::NoReading(PatternCause::CommentLine) => "comment-line",
+        Cause::NoReading(PatternCause::TooLong) => "too-long",
+        Cause::NoReading(PatternCause::NothingButAnchors) => "nothing-but-anchors",
+        Cause::NoReading(PatternCause::DefinitionAnchor) => "definition-anchor",
+        Cause::NoReading(PatternCause::DefinitionBlank) => "definition-blank",
+        Cause::NoReading(PatternCause::DefinitionEquals) => "definition-equals",
+        Cause::NoReading(PatternCause::LookAhead) => "look-ahead",
+        Cause::NoReading(PatternCause::Slash) => "slash",
+        Cause::NoReading(PatternCause::CaretInside) => "caret-inside",
+        Cause::NoReading(PatternCause::DollarInside) => "dollar-inside",
+        Cause::NoReading(PatternCause::QuoteEmpty) => "quote-empty",
+        Cause::NoReading(PatternCause::QuoteOpen) => "quote-open",
+        Cause::NoReading(PatternCause::SetOperator) => "set-operator",
+        Cause::NoReading(PatternCause::IntervalBackwards) => "interval-backwards",
+        Cause::NoReading(PatternCause::IntervalLarge) => "interval-large",
+        Cause::NoReading(PatternCause::IntervalLow) => "interval-low",
+        Cause::NoReading(PatternCause::IntervalForm) => "interval-form",
+        Cause::NoReading(PatternCause::NameHyphen) => "name-hyphen",
+        Cause::NoReading(PatternCause::BraceOpen) => "brace-open",
+        Cause::NoReading(PatternCause::BracketsOpen) => "brackets-open",
+        Cause::NoReading(PatternCause::ClassNegated) => "class-negated",
+        Cause::NoReading(PatternCause::ClassUnknown) => "class-unknown",
+        Cause::NoReading(PatternCause::ClassRange) => "class-range",
+        Cause::NoReading(PatternCause::RangeShared) => "range-shared",
+        Cause::NoReading(PatternCause::RangeBackwards) => "range-backwards",
+        Cause::NoReading(PatternCause::LongCollation) => "long-collation",
+        Cause::NoReading(PatternCause::EscapeLarge) => "escape-large",
+        Cause::NoReading(PatternCause::EscapeEnd) => "escape-end",
+        Cause::NoReading(PatternCause::GroupOption) => "group-option",
+        Cause::NoReading(PatternCause::RepeatBehindInterval) => "repeat-behind-interval",
+        Cause::NoReading(PatternCause::NothingToRepeat) => "nothing-to-repeat",
+        Cause::NoReading(PatternCause::EmptyAlternative) => "empty-alternative",
+        Cause::NoReading(PatternCause::GroupNotOpen) => "group-not-open",
+        Cause::NoReading(PatternCause::ParenthesisOpen) => "parenthesis-open",
+        Cause::Undefined(NameCause::Condition) => "condition-as-name",
+        Cause::NoCondition(ConditionCause::Tag) => "tag",
+        Cause::NoCondition(ConditionCause::BeginVariable) => "begin-variable",
+        Cause::NoAction(ActionCause::CommentHash) => "comment-hash",
+        Cause::NoAction(ActionCause::GroupAsAction) => "group-as-action",
+        Cause::NoAction(ActionCause::BlankInPattern) => "blank-in-pattern",
+        Cause::NoAction(ActionCause::NoBlank) => "no-blank",
+        Cause::NoAction(ActionCause::BarNotAlone) => "bar-not-alone",
+        Cause::NoAction(ActionCause::Semicolon) => "semicolon",
+        Cause::NoAction(ActionCause::ReturnAlone) => "return-alone",
+        Cause::NoAction(ActionCause::ReturnExpression) => "return-expression",
+        Cause::NoAction(ActionCause::ReturnString) => "return-string",
+        Cause::NoAction(ActionCause::ReturnNumber) => "return-number",
+        Cause::NoAction(ActionCause::ConstantForm) => "constant-form",
+        Cause::NoAction(ActionCause::BeginForm) => "begin-form",
+        Cause::NoAction(ActionCause::FlexCall) => "flex-call",
+        Cause::NoAction(ActionCause::FlexVariable) => "flex-variable",
+        Cause::NoAction(ActionCause::BraceNotOpen) => "brace-not-open",
+        Cause::NoAction(ActionCause::CarriageReturn) => "carriage-return",
+        Cause::NoAction(ActionCause::C) => "code",
         Cause::TooLong
+        | Cause::NoRules(RulesCause::Missing)
+        | Cause::NotClosed(OpenCause::NotClosed)
+        | Cause::NoForm(LineCause::NoForm)
         | Cause::Twice(_)
         | Cause::TooMany(_)
+        | Cause::NoReading(PatternCause::NoReading | PatternCause::OddByte)
+        | Cause::Undefined(NameCause::Unknown | NameCause::NotDefined | NameCause::Similar)
         | Cause::TooDeep(_)
+        | Cause::NoCondition(ConditionCause::Unknown)
+        | Cause::NoCondition(ConditionCause::NotDeclared | ConditionCause::Similar)
+        | Cause::NoAction(ActionCause::NoForm)
         | Cause::NoNext
         | Cause::Memory => "",
     }

@@ -27,9 +27,10 @@ fn is_comment(mode: Mode) -> bool {
 }
 
 fn take_brace(reading: &mut Reading, byte: u8, at: usize) -> Result<(), AllocError> {
-    if byte == b'{' && counts(reading.mode) {
+    let counts = counts(reading.mode);
+    if byte == b'{' && counts {
         reading.braces.push(one_byte(at))?;
-    } else if byte == b'}' && counts(reading.mode) {
+    } else if byte == b'}' && counts {
         let _ = reading.braces.pop();
     } else if byte == b'}' && reading.hidden.is_none() && !reading.braces.is_empty() {
         reading.hidden = Some(one_byte(at));

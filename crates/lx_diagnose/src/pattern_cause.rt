@@ -13,14 +13,6 @@ use std::alloc::{AllocError, Global};
 // The most bytes of a pattern or a substitute.
 const MAX_PATTERN_BYTES: usize = 1024;
 
-fn length_cause(span: Span) -> Option<(PatternCause, Found)> {
-    if span.len > MAX_PATTERN_BYTES {
-        Some((PatternCause::TooLong, found_at(span)))
-    } else {
-        None
-    }
-}
-
 // Why a text has no reading, as a pattern of which nothing but the text is known, or as a substitute.
 fn text_cause(
     alloc: Global,
@@ -28,8 +20,8 @@ fn text_cause(
     body: Body,
     whole: Span,
 ) -> Result<Option<(PatternCause, Found)>, AllocError> {
-    if let Some(cause) = length_cause(whole) {
-        return Ok(Some(cause));
+    if whole.len > MAX_PATTERN_BYTES {
+        return Ok(Some((PatternCause::TooLong, found_at(whole))));
     }
     let span = match body {
         Body::Pattern => body_of(text, whole),

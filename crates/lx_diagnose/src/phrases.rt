@@ -6,117 +6,53 @@ use crate::causes::{
     PatternCause, RulesCause, TwiceCause,
 };
 
-fn rules_phrase(cause: RulesCause) -> &'static str {
-    match cause {
-        RulesCause::IndentedPercent => "line # has %% behind a blank, where it is code",
-        RulesCause::RulesAsDefinitions =>
-            "line # looks like a rule, and no line %% stands before it",
-        RulesCause::Missing => "",
-    }
-}
-
-fn open_phrase(cause: OpenCause) -> &'static str {
-    match cause {
-        OpenCause::HiddenBrace => "the } of line # is in a comment or in quotes",
-        _ => "",
-    }
-}
-
-fn line_phrase(cause: LineCause) -> &'static str {
-    match cause {
-        LineCause::OptionWord => "the option `@` is not known",
-        LineCause::SizeForm => "`@` has another form",
-        LineCause::ConditionsForm => "`@` has a blank and names behind it",
-        LineCause::PercentWord => "`@` is no declaration of lex",
-        LineCause::NameAlone => "`@` is defined as nothing",
-        LineCause::NameForm => "`@` can't be a name: it has `~`",
-        _ => "",
-    }
-}
-
-fn twice_phrase(cause: TwiceCause) -> &'static str {
-    match cause {
-        TwiceCause::Again => "`@` is declared twice",
-        TwiceCause::Initial => "INITIAL is there in any case",
-    }
-}
-
-fn limit_phrase(cause: LimitCause) -> &'static str {
-    match cause {
-        LimitCause::Definitions => "more than 1,024 definitions",
-        LimitCause::Conditions => "more than 64 conditions, INITIAL among them",
-        LimitCause::Rules => "more than 4,096 rules",
-        LimitCause::Unknown => "",
-    }
-}
-
-fn pattern_phrase(cause: PatternCause) -> &'static str {
-    match cause {
-        PatternCause::IntervalBackwards => "the interval `@` runs backwards",
-        PatternCause::IntervalLarge => "the bound `@` is above 255",
-        PatternCause::IntervalForm => "`@` is no interval",
-        PatternCause::NameHyphen => "the name `@` has a hyphen",
-        PatternCause::ClassUnknown => "`@` is no class",
-        PatternCause::RangeShared => "`@` ends one range and begins another",
-        PatternCause::RangeBackwards => "the range `@` runs backwards",
-        PatternCause::EscapeLarge => "the number of `@` is above 255",
-        PatternCause::RepeatBehindInterval => "`@` can't follow an interval",
-        PatternCause::NothingToRepeat => "nothing stands before `@`",
-        PatternCause::OddByte => "the byte `@` can't stand here",
-        _ => "",
-    }
-}
-
-fn definition_phrase(cause: NameCause) -> &'static str {
-    match cause {
-        NameCause::NotDefined => "`@` is not defined",
-        NameCause::Similar => "`@` is not defined; did you mean `~` (line #)?",
-        NameCause::Condition => "`@` is a condition, and not defined",
-        NameCause::Unknown => "",
-    }
-}
-
-fn depth_phrase(cause: DepthCause) -> &'static str {
-    match cause {
-        DepthCause::TooDeep => "the names from `@` on are nested more than 32 deep",
-        DepthCause::Circle => "`@` leads to itself",
-    }
-}
-
-fn condition_phrase(cause: ConditionCause) -> &'static str {
-    match cause {
-        ConditionCause::NotDeclared => "the condition `@` is not declared",
-        ConditionCause::Similar => "the condition `@` is not declared; did you mean `~` (line #)?",
-        ConditionCause::Tag => "`<@>` is a list of conditions, and none is declared",
-        ConditionCause::BeginVariable => "BEGIN takes a condition by its name, and `@` is none",
-        ConditionCause::Unknown => "",
-    }
-}
-
-fn action_phrase(cause: ActionCause) -> &'static str {
-    match cause {
-        ActionCause::BlankInPattern => "the pattern `@` ends at this blank",
-        ActionCause::FlexCall => "`@` is not there",
-        ActionCause::FlexVariable => "`@` can't be used: an action runs no code",
-        ActionCause::C => "`@` is C, which an action doesn't run",
-        _ => "",
-    }
-}
-
 /// The words of a cause; nothing where what `explain` says is all.
 pub(crate) fn phrase_of(cause: Cause) -> &'static str {
     match cause {
-        Cause::NoRules(cause) => rules_phrase(cause),
-        Cause::NotClosed(cause) => open_phrase(cause),
-        Cause::NoForm(cause) => line_phrase(cause),
-        Cause::Twice(cause) => twice_phrase(cause),
-        Cause::TooMany(cause) => limit_phrase(cause),
-        Cause::NoReading(cause) => pattern_phrase(cause),
-        Cause::Undefined(cause) => definition_phrase(cause),
-        Cause::TooDeep(cause) => depth_phrase(cause),
-        Cause::NoCondition(cause) => condition_phrase(cause),
-        Cause::NoAction(cause) => action_phrase(cause),
-        Cause::TooLong | Cause::NoNext | Cause::Memory => "",
+        Cause::NoRules(RulesCause::IndentedPercent) =>
+            "line # has %% behind a blank, where it is code",
+        Cause::NoRules(RulesCause::RulesAsDefinitions) =>
+            "line # looks like a rule, and no line %% stands before it",
+        Cause::NotClosed(OpenCause::HiddenBrace) => "the } of line # is in a comment or in quotes",
+        Cause::NoForm(LineCause::OptionWord) => "the option `@` is not known",
+        Cause::NoForm(LineCause::SizeForm) => "`@` has another form",
+        Cause::NoForm(LineCause::ConditionsForm) => "`@` has a blank and names behind it",
+        Cause::NoForm(LineCause::PercentWord) => "`@` is no declaration of lex",
+        Cause::NoForm(LineCause::NameAlone) => "`@` is defined as nothing",
+        Cause::NoForm(LineCause::NameForm) => "`@` can't be a name: it has `~`",
+        Cause::Twice(TwiceCause::Again) => "`@` is declared twice",
+        Cause::Twice(TwiceCause::Initial) => "INITIAL is there in any case",
+        Cause::TooMany(LimitCause::Definitions) => "more than 1,024 definitions",
+        Cause::TooMany(LimitCause::Conditions) => "more than 64 conditions, INITIAL among them",
+        Cause::TooMany(LimitCause::Rules) => "more than 4,096 rules",
+        Cause::NoReading(PatternCause::IntervalBackwards) => "the interval `@` runs backwards",
+        Cause::NoReading(PatternCause::IntervalLarge) => "the bound `@` is above 255",
+        Cause::NoReading(PatternCause::IntervalForm) => "`@` is no interval",
+        Cause::NoReading(PatternCause::NameHyphen) => "the name `@` has a hyphen",
+        Cause::NoReading(PatternCause::ClassUnknown) => "`@` is no class",
+        Cause::NoReading(PatternCause::RangeShared) => "`@` ends one range and begins another",
+        Cause::NoReading(PatternCause::RangeBackwards) => "the range `@` runs backwards",
+        Cause::NoReading(PatternCause::EscapeLarge) => "the number of `@` is above 255",
+        Cause::NoReading(PatternCause::RepeatBehindInterval) => "`@` can't follow an interval",
+        Cause::NoReading(PatternCause::NothingToRepeat) => "nothing stands before `@`",
+        Cause::NoReading(PatternCause::OddByte) => "the byte `@` can't stand here",
+        Cause::Undefined(NameCause::NotDefined) => "`@` is not defined",
+        Cause::Undefined(NameCause::Similar) => "`@` is not defined; did you mean `~` (line #)?",
+        Cause::Undefined(NameCause::Condition) => "`@` is a condition, and not defined",
+        Cause::TooDeep(DepthCause::TooDeep) => "the names from `@` on are nested more than 32 deep",
+        Cause::TooDeep(DepthCause::Circle) => "`@` leads to itself",
+        Cause::NoCondition(ConditionCause::NotDeclared) => "the condition `@` is not declared",
+        Cause::NoCondition(ConditionCause::Similar) =>
+            "the condition `@` is not declared; did you mean `~` (line #)?",
+        Cause::NoCondition(ConditionCause::Tag) =>
+            "`<@>` is a list of conditions, and none is declared",
+        Cause::NoCondition(ConditionCause::BeginVariable) =>
+            "BEGIN takes a condition by its name, and `@` is none",
+        Cause::NoAction(ActionCause::BlankInPattern) => "the pattern `@` ends at this blank",
+        Cause::NoAction(ActionCause::FlexCall) => "`@` is not there",
+        Cause::NoAction(ActionCause::FlexVariable) => "`@` can't be used: an action runs no code",
+        Cause::NoAction(ActionCause::C) => "`@` is C, which an action doesn't run",
+        _ => "",
     }
 }
 

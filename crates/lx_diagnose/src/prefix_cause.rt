@@ -1,11 +1,11 @@
 // Causes of what stands before a pattern (E10).
 
 use crate::causes::PatternCause;
-use crate::found::{Found, found_at, found_named};
-use crate::places::{Span, between, one_byte};
+use crate::found::{Found, found_at, found_byte, found_named};
+use crate::places::{Span, between};
 use crate::scan::{
-    before_blanks, begins_at, behind_blanks, behind_word, is_at, is_blank_at, is_digit_at,
-    is_word_at, part,
+    before_blanks, begins_at, behind_blanks, behind_word, is_at, is_digit_at, is_word_at,
+    next_blank, part,
 };
 use crate::sectioning::{RuleExtent, RulePrefix};
 use lx_sections::action::read_action;
@@ -14,28 +14,17 @@ use std::alloc::{AllocError, Global};
 // What no pattern is, and a rule of flex for the end of a file begins with.
 const END_OF_FILE: &[u8] = b"<<EOF>>";
 
-fn is_identifier_in(text: &[u8], start: usize, end: usize) -> bool {
-    start < end && !is_digit_at(text, start) && behind_word(text, start, end) == end
-}
-
 // Whether a name of a condition, or `0`, stands from one place up to another.
 fn is_name_in(text: &[u8], start: usize, end: usize) -> bool {
-    is_identifier_in(text, start, end) || part(text, between(start, end)) == b"0".as_slice()
-}
-
-fn has_blank_in(text: &[u8], span: Span) -> bool {
-    for at in span.start..span.end() {
-        if is_blank_at(text, at) {
-            return true;
-        }
-    }
-    false
+    start < end && !is_digit_at(text, start) && behind_word(text, start, end) == end
+        || part(text, between(start, end)) == b"0".as_slice()
 }
 
 // The first of the texts between commas that is no name of a condition.
 fn first_other(text: &[u8], names: Span) -> Option<Span> {
     let mut start = names.start;
-    for at in names.start..names.end() {
+    let end = names.end();
+    for at in names.start..end {
         if is_at(text, at, b',') {
             if !is_name_in(text, start, at) {
                 return Some(between(start, at));
@@ -43,18 +32,19 @@ fn first_other(text: &[u8], names: Span) -> Option<Span> {
             start = at + 1;
         }
     }
-    if is_name_in(text, start, names.end()) {
+    if is_name_in(text, start, end) {
         None
     } else {
-        Some(between(start, names.end()))
+        Some(between(start, end))
     }
 }
 
 // Whether a name stands there with blanks before it or behind it.
 fn is_name_with_blanks(text: &[u8], field: Span) -> bool {
-    let start = behind_blanks(text, field.start, field.end());
-    let end = before_blanks(text, start, field.end());
-    has_blank_in(text, field) && is_name_in(text, start, end)
+    let end = field.end();
+    let start = behind_blanks(text, field.start, end);
+    next_blank(text, field.start, end) < end
+        && is_name_in(text, start, before_blanks(text, start, end))
 }
 
 fn listed_cause(text: &[u8], line: Span, names: Span) -> Option<(PatternCause, Found)> {
@@ -68,21 +58,22 @@ fn listed_cause(text: &[u8], line: Span, names: Span) -> Option<(PatternCause, F
         };
         return Some((PatternCause::AllConditions, found_at(list)));
     }
-    if !is_word_at(text, names.start) && !is_name_with_blanks(text, other) {
-        return Some((PatternCause::PrefixOperator, found_at(one_byte(line.start))));
-    }
     if is_name_with_blanks(text, other) {
         return Some((PatternCause::PrefixBlank, found_at(other)));
     }
-    Some((PatternCause::PrefixName, found_at(other)))
+    if is_word_at(text, names.start) {
+        Some((PatternCause::PrefixName, found_at(other)))
+    } else {
+        Some((PatternCause::PrefixOperator, found_byte(line.start)))
+    }
 }
 
 fn unclosed_cause(text: &[u8], line: Span) -> (PatternCause, Found) {
-    let opening = one_byte(line.start);
+    let opening = found_byte(line.start);
     if is_word_at(text, line.start.saturating_add(1)) {
-        (PatternCause::PrefixName, found_at(opening))
+        (PatternCause::PrefixName, opening)
     } else {
-        (PatternCause::PrefixOperator, found_at(opening))
+        (PatternCause::PrefixOperator, opening)
     }
 }
 
@@ -113,14 +104,10 @@ fn comment_cause(
         start: rule.pattern.start,
         len: 2,
     };
-    let is_comment = if begins_at(text, mark.start, b"/*") {
-        true
-    } else if begins_at(text, mark.start, b"//") {
-        read_action(alloc, part(text, rule.action))?.is_none()
-    } else {
-        false
-    };
-    if is_comment {
+    if begins_at(text, mark.start, b"/*")
+        || begins_at(text, mark.start, b"//")
+            && read_action(alloc, part(text, rule.action))?.is_none()
+    {
         Ok(Some((PatternCause::CommentLine, found_at(mark))))
     } else {
         Ok(None)

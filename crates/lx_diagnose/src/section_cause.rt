@@ -56,10 +56,7 @@ fn condition_again(
             if part(text, condition.name) == b"INITIAL".as_slice() {
                 return Some((TwiceCause::Initial, found_at(condition.name)));
             }
-            let first = match condition_named(conditions, text, condition.name) {
-                Some(first) => Some(first.name),
-                None => None,
-            };
+            let first = condition_named(conditions, text, condition.name);
             if let Some(found) = again(condition.name, first) {
                 return Some((TwiceCause::Again, found));
             }
@@ -126,14 +123,13 @@ fn indented_percent(text: &[u8]) -> Option<Span> {
     None
 }
 
-fn begins_action(text: &[u8], substitute: Span) -> bool {
-    is_at(text, substitute.start, b'{') && !is_at(text, substitute.end().saturating_sub(1), b'}')
+// Whether what stands for a name begins or ends as an action does.
+fn is_like_action(text: &[u8], substitute: Span) -> bool {
+    let last = substitute.end().saturating_sub(1);
+    is_at(text, substitute.start, b'{') && !is_at(text, last, b'}')
         || begins_at(text, substitute.start, RETURN)
         || begins_at(text, substitute.start, BEGIN)
-}
-
-fn ends_action(text: &[u8], substitute: Span) -> bool {
-    substitute.len > 1 && is_at(text, substitute.end().saturating_sub(1), b';')
+        || substitute.len > 1 && is_at(text, last, b';')
 }
 
 /// Why no line begins Rules.
@@ -143,7 +139,7 @@ pub(crate) fn rules_cause(outline: &Outline, text: &[u8]) -> (RulesCause, Found)
     }
     for definition in &outline.definitions {
         let substitute = definition.substitute;
-        if begins_action(text, substitute) || ends_action(text, substitute) {
+        if is_like_action(text, substitute) {
             return (
                 RulesCause::RulesAsDefinitions,
                 noted(between(definition.name.start, substitute.end())),

@@ -94,20 +94,6 @@ fn behind_action(count: Count) -> Section {
     }
 }
 
-fn definition(text: &[u8], line: Span, name_len: usize, substitute_len: usize) -> LineKind {
-    let name = Span {
-        start: line.start,
-        len: name_len,
-    };
-    LineKind::Definition {
-        name,
-        substitute: Span {
-            start: behind_blanks(text, name.end(), line.end()),
-            len: substitute_len,
-        },
-    }
-}
-
 fn kind_in_definitions(text: &[u8], line: Span) -> (LineKind, Section) {
     match line_of(part(text, line)) {
         Line::Skipped | Line::NoForm => (LineKind::Silent, Section::Definitions),
@@ -115,39 +101,45 @@ fn kind_in_definitions(text: &[u8], line: Span) -> (LineKind, Section) {
         Line::OpensGroup => (LineKind::Silent, Section::Group),
         Line::RulesBegin => (LineKind::RulesBegin, Section::Rules),
         Line::Conditions { .. } => (LineKind::Conditions, Section::Definitions),
-        Line::Definition { name, substitute } => (
-            definition(text, line, name.len(), substitute.len()),
-            Section::Definitions,
-        ),
+        Line::Definition { name, substitute } => {
+            let name = Span {
+                start: line.start,
+                len: name.len(),
+            };
+            let substitute = Span {
+                start: behind_blanks(text, name.end(), line.end()),
+                len: substitute.len(),
+            };
+            (
+                LineKind::Definition { name, substitute },
+                Section::Definitions,
+            )
+        }
     }
 }
 
-fn rule_prefix(line: Span, prefix: &Prefix) -> RulePrefix {
+// What stands before the pattern, and where that begins.
+fn prefix_and_pattern(line: Span, prefix: &Prefix) -> (RulePrefix, usize) {
     match prefix {
-        Prefix::Absent => RulePrefix::Absent,
-        Prefix::Unclosed => RulePrefix::Unclosed,
-        Prefix::Listed(names) => RulePrefix::Listed(Span {
-            start: line.start.saturating_add(1),
-            len: names.len(),
-        }),
-    }
-}
-
-fn behind_prefix(line: Span, prefix: RulePrefix) -> usize {
-    match prefix {
-        RulePrefix::Absent => line.start,
-        RulePrefix::Unclosed => line.end(),
-        RulePrefix::Listed(names) => names.end().saturating_add(1),
+        Prefix::Absent => (RulePrefix::Absent, line.start),
+        Prefix::Unclosed => (RulePrefix::Unclosed, line.end()),
+        Prefix::Listed(names) => {
+            let names = Span {
+                start: line.start.saturating_add(1),
+                len: names.len(),
+            };
+            (RulePrefix::Listed(names), names.end().saturating_add(1))
+        }
     }
 }
 
 fn rule_extent(line: Span, prefix: &Prefix, pattern_len: usize, action_len: usize) -> RuleExtent {
-    let prefix = rule_prefix(line, prefix);
+    let (prefix, start) = prefix_and_pattern(line, prefix);
     RuleExtent {
         line,
         prefix,
         pattern: Span {
-            start: behind_prefix(line, prefix),
+            start,
             len: pattern_len,
         },
         action: Span {

@@ -31,15 +31,6 @@ fn version_of(text: &[u8]) -> Span {
     between(start, behind_digits(text, start, text.len()))
 }
 
-fn line_end(text: &[u8], start: usize) -> usize {
-    for at in start..text.len() {
-        if is_at(text, at, b'\n') {
-            return at;
-        }
-    }
-    text.len()
-}
-
 fn is_newer(text: &[u8]) -> bool {
     let version = version_of(text);
     let number = part(text, version);
@@ -73,7 +64,8 @@ pub fn table_cause(text: &[u8]) -> TableCause {
     if is_newer(text) {
         return TableCause::Newer;
     }
-    if is_at(text, line_end(text, 0).saturating_sub(1), b'\r') {
+    let end = find(text, 0, text.len(), b"\n").unwrap_or(text.len());
+    if is_at(text, end.saturating_sub(1), b'\r') {
         return TableCause::CarriageReturns;
     }
     if is_cut(text) {

@@ -6,7 +6,7 @@ ghost use Rattle.lx_diagnose.specs.CodeWords.{word_of};
 
 use crate::causes::Cause;
 use crate::naming::name_of;
-use lx_explain::{to_do, words_of};
+use lx_explain::to_do;
 
 /// The code of a cause, as it is printed.
 pub fn code_word(cause: Cause) -> &'static str
@@ -37,11 +37,6 @@ pub fn topic_of(cause: Cause) -> &'static str {
     } else {
         name
     }
-}
-
-/// What is wrong, in the general words of `explain`.
-pub(crate) fn said_of(cause: Cause) -> &'static str {
-    words_of(topic_of(cause))
 }
 
 /// What to write in place of what is refused, in the words of `explain`.

@@ -1,6 +1,6 @@
 //! A cause in words.
 
-ghost use Rattle.std.specs.Prelude.{◌≡◌, ◌<◌, ◌≤◌, ◌++◌, IfOk, OnOk, codes, decimal, length, take};
+ghost use Rattle.std.specs.Prelude.{◌≡◌, ◌<◌, ◌++◌, IfOk, OnOk, decimal, length};
 ghost use Rattle.lx_diagnose.specs.Printed as specs;
 ghost use Rattle.lx_diagnose.specs.Printed.{ArePrinted};
 
@@ -8,8 +8,9 @@ use crate::diagnosing::Diagnosis;
 use crate::lines::line_number;
 use crate::phrases::phrase_of;
 use crate::scan::part;
-use crate::topic::said_of;
+use crate::topic::topic_of;
 use itoa::Buffer;
+use lx_explain::words_of;
 use std::alloc::{AllocError, Global};
 
 // The most bytes of a name that are shown.
@@ -64,20 +65,6 @@ fn push_printed(text: &mut Vec<u8>, bytes: &[u8]) -> Result<(), AllocError>
     Ok(())
 }
 
-fn push_dots(text: &mut Vec<u8>) -> Result<(), AllocError>
-    ensures value { OnOk result (text.new.items ≡ text.old.items ++ specs.shown (codes "..")) }
-    ensures printed { OnOk result (ArePrinted text.old.items → ArePrinted text.new.items) }
-{
-    push_printed(text, b"..")
-}
-
-fn first_bytes(name: &[u8], most: usize) -> &[u8]
-    requires { most ≤ length name.now }
-    ensures { result.now ≡ take most name.now }
-{
-    &name[..most]
-}
-
 // A name, of which the first bytes are shown where it is longer than so many.
 #[tactic(auto, unfolding(crate::specs::Printed::shown_name))]
 fn push_name(text: &mut Vec<u8>, name: &[u8], most: usize) -> Result<(), AllocError>
@@ -87,8 +74,8 @@ fn push_name(text: &mut Vec<u8>, name: &[u8], most: usize) -> Result<(), AllocEr
     if name.len() <= most {
         return push_printed(text, name);
     }
-    push_printed(text, first_bytes(name, most))?;
-    push_dots(text)
+    push_printed(text, &name[..most])?;
+    push_printed(text, b"..")
 }
 
 fn push_line(text: &mut Vec<u8>, line: u32) -> Result<(), AllocError>
@@ -165,7 +152,8 @@ pub fn sentence(alloc: Global, diagnosis: &Diagnosis, text: &[u8]) -> Result<Vec
 {
     let phrase = phrase_of(diagnosis.cause).as_bytes();
     if phrase.is_empty() {
-        let words = printed(alloc, said_of(diagnosis.cause).as_bytes())?;
+        let said = words_of(topic_of(diagnosis.cause));
+        let words = printed(alloc, said.as_bytes())?;
         return told(words);
     }
     let fillings = Fillings {
