@@ -24,7 +24,6 @@ pub text_end : (text : ℕ → List ℕ) (old mid : List ℕ) (n i : ℕ) → n 
 text_end text old mid n i l h =
     h ∙ ap (λ xs. old ++ flat_map text xs) (take_all i (range_with_len 0 n) (omega (arith, length-range_with_len 0 n)))
 
--- three texts, one behind the other
-pub three : (old one two new x y z : List ℕ) → one ≡ old ++ x → two ≡ one ++ y → new ≡ two ++ z → new ≡ old ++ (x ++ (y ++ z))
-three old one two new x y z h k l =
-    l ∙ (ap (λ bs. bs ++ z) (k ∙ ap (λ bs. bs ++ y) h) ∙ (append_assoc (old ++ x) y z ∙ append_assoc old x (y ++ z)))
+-- two texts, one behind the other
+pub two : (old one new x y : List ℕ) → one ≡ old ++ x → new ≡ one ++ y → new ≡ old ++ (x ++ y)
+two old one new x y h k = k ∙ (ap (λ bs. bs ++ y) h ∙ append_assoc old x y)

@@ -6,7 +6,7 @@ ghost use Rattle.lx_automaton.specs.Automata.{class_target, state_count};
 ghost use Rattle.lx_show.specs.Graph as specs;
 ghost use Rattle.lx_show.specs.Labels.{is_target};
 
-use crate::labels::{push_number, push_ranges};
+use crate::labels::{push_numbered, push_ranges};
 use lx_tables::{State, Tables};
 use std::alloc::AllocError;
 
@@ -37,15 +37,6 @@ fn is_led_before(tables: &Tables, state: u32, target: u32, class: u16) -> bool
     false
 }
 
-fn push_ends(text: &mut Vec<u8>, state: u32, target: u32) -> Result<(), AllocError>
-    ensures { OnOk result (text.new.items ≡ text.old.items ++ specs.ends_text state target) }
-{
-    text.extend_from_slice(b"    ")?;
-    push_number(text, u64::from(state))?;
-    text.extend_from_slice(b" -> ")?;
-    push_number(text, u64::from(target))
-}
-
 fn push_edge_line(
     text: &mut Vec<u8>,
     tables: &Tables,
@@ -55,7 +46,8 @@ fn push_edge_line(
     requires { state < state_count tables.now.machine }
     ensures { OnOk result (text.new.items ≡ text.old.items ++ specs.edge_line tables.now.machine state target) }
 {
-    push_ends(text, state, target)?;
+    push_numbered(text, b"    ", state)?;
+    push_numbered(text, b" -> ", target)?;
     text.extend_from_slice(b" [label=\"")?;
     push_ranges(text, tables, state, target)?;
     text.extend_from_slice(b"\"];\n")

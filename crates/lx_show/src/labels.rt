@@ -12,17 +12,23 @@ use lx_rules::rule::{Kind, Step};
 use lx_tables::{State, Tables};
 use std::alloc::AllocError;
 
-pub(crate) fn push(text: &mut Vec<u8>, bytes: &[u8]) -> Result<(), AllocError>
-    ensures { OnOk result (text.new.items ≡ text.old.items ++ bytes.now) }
-{
-    text.extend_from_slice(bytes)
-}
-
-pub(crate) fn push_number(text: &mut Vec<u8>, number: u64) -> Result<(), AllocError>
+fn push_number(text: &mut Vec<u8>, number: u64) -> Result<(), AllocError>
     ensures { OnOk result (text.new.items ≡ text.old.items ++ decimal number) }
 {
     let mut digits = Buffer::new();
     text.extend_from_slice(digits.format(number).as_bytes())
+}
+
+/// A number with some bytes before it.
+pub(crate) fn push_numbered(
+    text: &mut Vec<u8>,
+    before: &[u8],
+    number: u32,
+) -> Result<(), AllocError>
+    ensures { OnOk result (text.new.items ≡ text.old.items ++ (before.now ++ decimal number)) }
+{
+    text.extend_from_slice(before)?;
+    push_number(text, u64::from(number))
 }
 
 fn small_digit(n: u8) -> u8

@@ -7,23 +7,15 @@ ghost use Rattle.lx_table_texts.specs.Model.{rule_at};
 ghost use Rattle.lx_show.specs.Graph as specs;
 
 use crate::edges::push_edges;
-use crate::labels::{push, push_action, push_condition, push_number};
+use crate::labels::{push_action, push_condition, push_numbered};
 use lx_tables::{State, Tables};
 use std::alloc::AllocError;
-
-fn push_state_name(text: &mut Vec<u8>, state: u32) -> Result<(), AllocError>
-    ensures { OnOk result (text.new.items ≡ text.old.items ++ specs.state_name state) }
-{
-    text.extend_from_slice(b"    ")?;
-    push_number(text, u64::from(state))
-}
 
 fn push_accepting_name(text: &mut Vec<u8>, state: u32) -> Result<(), AllocError>
     ensures { OnOk result (text.new.items ≡ text.old.items ++ specs.accepting_name state) }
 {
-    push_state_name(text, state)?;
-    push(text, b" [shape=doublecircle, label=\"")?;
-    push_number(text, u64::from(state))
+    push_numbered(text, b"    ", state)?;
+    push_numbered(text, b" [shape=doublecircle, label=\"", state)
 }
 
 fn push_accepting(
@@ -52,7 +44,7 @@ fn push_node(
 {
     match tables.accepts(State(state)) {
         None => {
-            push_state_name(text, state)?;
+            push_numbered(text, b"    ", state)?;
             text.extend_from_slice(b";\n")
         }
         Some(rule) => push_accepting(text, tables, names, state, rule),
@@ -76,16 +68,14 @@ pub(crate) fn push_state(
 fn push_begin(text: &mut Vec<u8>, condition: u16) -> Result<(), AllocError>
     ensures { OnOk result (text.new.items ≡ text.old.items ++ specs.begin_text condition) }
 {
-    text.extend_from_slice(b"    begin")?;
-    push_number(text, u64::from(condition))
+    push_numbered(text, b"    begin", u32::from(condition))
 }
 
 fn push_begin_edge(text: &mut Vec<u8>, condition: u16, state: u32) -> Result<(), AllocError>
     ensures { OnOk result (text.new.items ≡ text.old.items ++ specs.begin_edge condition state) }
 {
     push_begin(text, condition)?;
-    text.extend_from_slice(b" -> ")?;
-    push_number(text, u64::from(state))
+    push_numbered(text, b" -> ", state)
 }
 
 fn push_condition_line(
@@ -99,13 +89,6 @@ fn push_condition_line(
     text.extend_from_slice(b" [shape=plaintext, label=\"")?;
     push_condition(text, names, condition)?;
     text.extend_from_slice(b"\"];\n")
-}
-
-fn push_start_edge(text: &mut Vec<u8>, condition: u16, state: u32) -> Result<(), AllocError>
-    ensures { OnOk result (text.new.items ≡ text.old.items ++ specs.start_edge condition state) }
-{
-    push_begin_edge(text, condition, state)?;
-    text.extend_from_slice(b";\n")
 }
 
 fn push_line_edge(
@@ -136,6 +119,7 @@ pub(crate) fn push_start(
     let elsewhere = tables.start(condition, false).0;
     let at_line_begin = tables.start(condition, true).0;
     push_condition_line(text, names, condition)?;
-    push_start_edge(text, condition, elsewhere)?;
+    push_begin_edge(text, condition, elsewhere)?;
+    text.extend_from_slice(b";\n")?;
     push_line_edge(text, condition, elsewhere, at_line_begin)
 }
