@@ -35,14 +35,12 @@ pub(crate) struct Pair {
     pub before: usize,
 }
 
-#[derive(PartialEq, Eq, Hash, Drop)]
-struct Key(u32, u32, u8);
-
 // The pairs that were met, each once, those of shorter texts first.
 #[derive(Drop)]
 struct Search {
     pairs: Vec<Pair>,
-    known: HashSet<Key>,
+    // Their states and levels.
+    known: HashSet<(u32, u32, u8)>,
     is_whole: bool,
 }
 
@@ -58,7 +56,7 @@ fn meet(search: &mut Search, alone: &Tables, all: &Tables, pair: Pair) -> Result
         search.is_whole = false;
         return Ok(());
     }
-    if search.known.insert(Key(pair.alone, pair.all, pair.level))? {
+    if search.known.insert((pair.alone, pair.all, pair.level))? {
         search.pairs.push(pair)?;
     }
     Ok(())
