@@ -1,7 +1,7 @@
 // Actions.
 
 use crate::kinds::{KindSet, WarningKind};
-use crate::suspects::{Suspect, push_suspect, suspect_at};
+use crate::suspects::{Suspect, push_part};
 use lx_diagnose::Span;
 use lx_diagnose::words::words_of;
 use lx_sections::action::{Statement, Turn, turn_at};
@@ -41,14 +41,12 @@ pub(crate) fn look_at_action(
 ) -> Result<(), AllocError> {
     let words = words_of(alloc, text, action)?;
     match dead_word(&words.words) {
-        Some(number) if number < words.places.len() => push_suspect(
+        Some(number) if number < words.places.len() => push_part(
             found,
             allowed,
-            suspect_at(
-                WarningKind::DeadStatement,
-                words.places[number],
-                "what stands behind a return is never done",
-            ),
+            WarningKind::DeadStatement,
+            words.places[number],
+            "what stands behind a return is never done",
         ),
         _ => Ok(()),
     }

@@ -1,7 +1,7 @@
 // Bracket expressions that may mean something else to their writer.
 
 use crate::kinds::{KindSet, WarningKind};
-use crate::suspects::{Suspect, push_suspect, suspect_at};
+use crate::suspects::{Suspect, push_part};
 use lx_diagnose::Span;
 use lx_diagnose::places::between;
 use lx_diagnose::scan::{begins_at, behind_word, find, is_at, part};
@@ -55,11 +55,7 @@ fn look_at_characters(
         "`@` is several bytes, and brackets take one of them; write alternatives, as (a|@)";
     for at in brackets.start..brackets.end() {
         if let Some(character) = character_at(text, at, brackets.end()) {
-            return push_suspect(
-                found,
-                allowed,
-                suspect_at(WarningKind::ManyBytes, character, phrase),
-            );
+            return push_part(found, allowed, WarningKind::ManyBytes, character, phrase);
         }
     }
     Ok(())
@@ -80,11 +76,7 @@ fn look_at_class(
         && begins_at(text, behind, b":]")
         && behind.saturating_add(2) == brackets.end()
     {
-        return push_suspect(
-            found,
-            allowed,
-            suspect_at(WarningKind::ClassOutside, brackets, phrase),
-        );
+        return push_part(found, allowed, WarningKind::ClassOutside, brackets, phrase);
     }
     Ok(())
 }
@@ -150,11 +142,8 @@ fn look_at_member(
     }
     let (high, behind_range) = point_at(text, high_at, end);
     if let Some(phrase) = range_phrase(low, high) {
-        push_suspect(
-            found,
-            allowed,
-            suspect_at(WarningKind::WideRange, between(at, behind_range), phrase),
-        )?;
+        let range = between(at, behind_range);
+        push_part(found, allowed, WarningKind::WideRange, range, phrase)?;
     }
     Ok(behind_range)
 }

@@ -60,18 +60,6 @@ fn with_interval(branch: Branch) -> Branch {
     }
 }
 
-fn open_group(branches: &mut Branches, at: Span) -> Result<(), AllocError> {
-    branches.outer.push(branches.innermost)?;
-    branches.innermost = empty_branch(at.start, at.end());
-    Ok(())
-}
-
-fn close_group(branches: &mut Branches) {
-    if let Some(outer) = branches.outer.pop() {
-        branches.innermost = with_unit(outer, branches.innermost.opened);
-    }
-}
-
 /// The branches behind a lexeme that stands there.
 pub(crate) fn take_lexeme(
     branches: &mut Branches,
@@ -84,8 +72,15 @@ pub(crate) fn take_lexeme(
             branches.innermost = with_unit(branches.innermost, at.start);
         }
         Lexeme::Interval(_, _) => branches.innermost = with_interval(branches.innermost),
-        Lexeme::OpenGroup => open_group(branches, at)?,
-        Lexeme::CloseGroup => close_group(branches),
+        Lexeme::OpenGroup => {
+            branches.outer.push(branches.innermost)?;
+            branches.innermost = empty_branch(at.start, at.end());
+        }
+        Lexeme::CloseGroup => {
+            if let Some(outer) = branches.outer.pop() {
+                branches.innermost = with_unit(outer, branches.innermost.opened);
+            }
+        }
         Lexeme::Bar => {
             branches.innermost = empty_branch(branches.innermost.opened, at.end());
         }

@@ -1,7 +1,7 @@
 // Escapes that may mean something else to their writer.
 
 use crate::kinds::{KindSet, WarningKind};
-use crate::suspects::{Suspect, push_suspect, suspect_at};
+use crate::suspects::{Suspect, push_part};
 use lx_diagnose::Span;
 use lx_diagnose::places::between;
 use lx_diagnose::scan::is_at;
@@ -46,22 +46,7 @@ fn letter_phrase(byte: u8) -> Option<&'static str> {
     }
 }
 
-fn look_at_letter(
-    found: &mut Vec<Suspect>,
-    allowed: &KindSet,
-    at: Span,
-    byte: u8,
-) -> Result<(), AllocError> {
-    match letter_phrase(byte) {
-        Some(phrase) => push_suspect(
-            found,
-            allowed,
-            suspect_at(WarningKind::LetterEscape, at, phrase),
-        ),
-        None => Ok(()),
-    }
-}
-
+// Looks at an escape of hexadecimal digits, of which there are so many.
 fn look_at_hexadecimal(
     found: &mut Vec<Suspect>,
     allowed: &KindSet,
@@ -70,15 +55,11 @@ fn look_at_hexadecimal(
 ) -> Result<(), AllocError> {
     if digits == 0 {
         let phrase = "`@` is the letter alone: no hexadecimal digit stands behind it";
-        push_suspect(
-            found,
-            allowed,
-            suspect_at(WarningKind::LetterEscape, at, phrase),
-        )
+        push_part(found, allowed, WarningKind::LetterEscape, at, phrase)
     } else if digits >= LONG {
         let phrase =
             "all digits of `@` are its number; where two are meant, put what stands behind them in quotes of its own";
-        push_suspect(found, allowed, suspect_at(WarningKind::LongHex, at, phrase))
+        push_part(found, allowed, WarningKind::LongHex, at, phrase)
     } else {
         Ok(())
     }
@@ -99,14 +80,15 @@ fn look_at_escape(
     }
     if text[first] == b'x' {
         let last = behind_hexadecimal(text, behind, end);
-        look_at_hexadecimal(
-            found,
-            allowed,
-            between(start, last),
-            last.saturating_sub(behind),
-        )
-    } else {
-        look_at_letter(found, allowed, between(start, behind), text[first])
+        let digits = last.saturating_sub(behind);
+        return look_at_hexadecimal(found, allowed, between(start, last), digits);
+    }
+    match letter_phrase(text[first]) {
+        Some(phrase) => {
+            let letter = between(start, behind);
+            push_part(found, allowed, WarningKind::LetterEscape, letter, phrase)
+        }
+        None => Ok(()),
     }
 }
 

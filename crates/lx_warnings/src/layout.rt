@@ -67,16 +67,10 @@ fn take_conditions(layout: &mut Layout, text: &[u8], line: Part) -> Result<(), A
 }
 
 // The rule that began last goes on with this line.
-fn lengthen_rule(layout: &mut Layout, line: Span) -> Result<(), AllocError> {
-    if let Some(rule) = layout.rules.pop() {
-        layout.rules.push(RulePart {
-            start: rule.start,
-            pattern: rule.pattern,
-            action: between(rule.action.start, line.end()),
-            allowed: rule.allowed,
-        })?;
+fn lengthen_rule(layout: &mut Layout, line: Span) {
+    if let Some(rule) = layout.rules.last_mut() {
+        rule.action = between(rule.action.start, line.end());
     }
-    Ok(())
 }
 
 fn take_line(
@@ -102,7 +96,7 @@ fn take_line(
             action: rule.action,
             allowed,
         })?,
-        LineKind::MoreAction => lengthen_rule(layout, line.at)?,
+        LineKind::MoreAction => lengthen_rule(layout, line.at),
         LineKind::Behind => layout.behind.push(line)?,
     }
     Ok(())

@@ -4,20 +4,12 @@ use crate::brackets::{character_before, look_at_brackets};
 use crate::branches::{Branch, Branches};
 use crate::escapes::look_at_escapes;
 use crate::kinds::{KindSet, WarningKind};
-use crate::suspects::{Subject, Suspect, push_suspect, suspect_at};
+use crate::suspects::{Subject, Suspect, push_part, push_suspect};
 use lx_diagnose::Span;
 use lx_diagnose::places::between;
 use lx_diagnose::scan::is_at;
 use lx_lexemes::lexeme::Lexeme;
 use std::alloc::AllocError;
-
-// Whether an interval repeats a text once.
-fn is_once(low: u8, high: Option<u8>) -> bool {
-    match high {
-        Some(high) => low == 1 && high == 1,
-        None => false,
-    }
-}
 
 // An interval behind several units.
 fn look_at_interval(
@@ -52,7 +44,7 @@ fn look_at_repeat(
     if branches.behind_repeat && is_at(text, at.start, b'?') {
         let both = between(at.start.saturating_sub(1), at.end());
         let phrase = "`@` is not lazy: the longest text is taken";
-        return push_suspect(found, allowed, suspect_at(WarningKind::Lazy, both, phrase));
+        return push_part(found, allowed, WarningKind::Lazy, both, phrase);
     }
     if branches.innermost.last.saturating_add(1) != at.start {
         return Ok(());
@@ -99,11 +91,7 @@ fn look_at_set(
             len: 3,
         };
         let phrase = "`@` is three bytes and quotes nothing; write plain quotes";
-        push_suspect(
-            found,
-            allowed,
-            suspect_at(WarningKind::CurlyQuotes, mark, phrase),
-        )
+        push_part(found, allowed, WarningKind::CurlyQuotes, mark, phrase)
     } else {
         Ok(())
     }
@@ -121,12 +109,9 @@ pub(crate) fn look_at_lexeme(
     match lexeme {
         Lexeme::Set(_) => look_at_set(text, found, allowed, at),
         Lexeme::Quoted(_, _) => look_at_escapes(text, found, allowed, at),
-        Lexeme::Interval(low, high) => {
-            if is_once(*low, *high) {
-                return Ok(());
-            }
-            look_at_interval(found, allowed, branches.innermost, at)
-        }
+        // It repeats a text once.
+        Lexeme::Interval(1, Some(1)) => Ok(()),
+        Lexeme::Interval(_, _) => look_at_interval(found, allowed, branches.innermost, at),
         Lexeme::Star | Lexeme::Plus | Lexeme::Question => {
             look_at_repeat(text, found, allowed, branches, at)
         }

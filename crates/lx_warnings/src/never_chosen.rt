@@ -10,6 +10,9 @@ use std::alloc::{AllocError, Global};
 const UNKNOWN: &str =
     "this rule is never chosen: each of its matches gives way to a longer one or to a rule before it, or is empty";
 
+// What is said where it has no texts that a rule could take.
+const NO_TEXT: &str = "this rule is never chosen: it matches no text of a byte or more";
+
 // The most lines that are named.
 const MOST_LINES: usize = 3;
 
@@ -23,19 +26,27 @@ fn takers_of<'t>(takers: &'t [Takers], rule: usize) -> Option<&'t Takers> {
     None
 }
 
-fn push_number(alloc: Global, phrase: &mut Vec<u8>, number: u32) -> Result<(), AllocError> {
+// Words in which `#` stands for a number.
+fn push_number(
+    alloc: Global,
+    phrase: &mut Vec<u8>,
+    words: &[u8],
+    number: u32,
+) -> Result<(), AllocError> {
     let fillings = Fillings {
         name: b"",
         other: b"",
         line: number,
     };
-    phrase.extend_from_slice(&filled(alloc, b"#", &fillings)?)
+    phrase.extend_from_slice(&filled(alloc, words, &fillings)?)
 }
 
 fn line_of(spec: &Spec, rule: u16) -> u32 {
-    match spec.rules.get(usize::from(rule)) {
-        Some(rule) => rule.line,
-        None => 0,
+    let rule = usize::from(rule);
+    if rule < spec.rules.len() {
+        spec.rules[rule].line
+    } else {
+        0
     }
 }
 
@@ -47,38 +58,55 @@ fn push_lines(
     rules: &[u16],
 ) -> Result<(), AllocError> {
     for i in 0..rules.len().min(MOST_LINES) {
-        if 0 < i {
-            let is_last = i + 1 == rules.len();
-            phrase.extend_from_slice(if is_last { b" and " } else { b", " })?;
-        }
-        push_number(alloc, phrase, line_of(spec, rules[i]))?;
+        let words: &[u8] = if i == 0 {
+            b"#"
+        } else if i + 1 == rules.len() {
+            b" and #"
+        } else {
+            b", #"
+        };
+        push_number(alloc, phrase, words, line_of(spec, rules[i]))?;
     }
     let others = rules.len().saturating_sub(MOST_LINES);
     if others == 0 {
         return Ok(());
     }
-    phrase.extend_from_slice(b" and ")?;
-    push_number(alloc, phrase, u32::try_from(others).unwrap_or(u32::MAX))?;
-    phrase.extend_from_slice(if others == 1 { b" other" } else { b" others" })
+    let words: &[u8] = if others == 1 {
+        b" and # other"
+    } else {
+        b" and # others"
+    };
+    push_number(
+        alloc,
+        phrase,
+        words,
+        u32::try_from(others).unwrap_or(u32::MAX),
+    )
 }
 
 // The same with an example, for `@`.
-fn phrase_of(alloc: Global, spec: &Spec, takers: &Takers) -> Result<Vec<u8>, AllocError> {
-    let mut phrase = Vec::new(alloc);
-    phrase.extend_from_slice(b"this rule is never chosen: the rule")?;
+fn push_takers(
+    alloc: Global,
+    phrase: &mut Vec<u8>,
+    spec: &Spec,
+    takers: &Takers,
+) -> Result<(), AllocError> {
     let mut rules = Vec::new(alloc);
     rules.extend_from_slice(&takers.rules)?;
     rules.sort_unstable();
     let is_one = rules.len() == 1;
-    phrase.extend_from_slice(if is_one { b" of line " } else { b"s of lines " })?;
-    push_lines(alloc, &mut phrase, spec, &rules)?;
-    phrase.extend_from_slice(if is_one { b" takes" } else { b" take" })?;
-    phrase.extend_from_slice(if takers.is_whole {
-        b" all its texts, as `@`"
+    phrase.extend_from_slice(if is_one {
+        b"this rule is never chosen: the rule of line "
     } else {
-        b" its texts, as `@`"
+        b"this rule is never chosen: the rules of lines "
     })?;
-    Ok(phrase)
+    push_lines(alloc, phrase, spec, &rules)?;
+    phrase.extend_from_slice(match (is_one, takers.is_whole) {
+        (true, true) => b" takes all its texts, as `@`",
+        (true, false) => b" takes its texts, as `@`",
+        (false, true) => b" take all its texts, as `@`",
+        (false, false) => b" take its texts, as `@`",
+    })
 }
 
 /// The words on the rule of this number, which is never chosen: which rules take its texts, with a shortest one, where that is known.
@@ -88,20 +116,14 @@ pub(crate) fn phrase_and_example<'k>(
     rule: usize,
 ) -> Result<(Vec<u8>, &'k [u8]), AllocError> {
     let mut phrase = Vec::new(alloc);
+    let mut example: &[u8] = b"";
     match takers_of(known.takers, rule) {
         Some(takers) if !takers.rules.is_empty() => {
-            let phrase = phrase_of(alloc, known.spec, takers)?;
-            Ok((phrase, &takers.example))
+            push_takers(alloc, &mut phrase, known.spec, takers)?;
+            example = &takers.example;
         }
-        Some(takers) if takers.is_whole => {
-            phrase.extend_from_slice(
-                b"this rule is never chosen: it matches no text of a byte or more",
-            )?;
-            Ok((phrase, b""))
-        }
-        _ => {
-            phrase.extend_from_slice(UNKNOWN.as_bytes())?;
-            Ok((phrase, b""))
-        }
+        Some(takers) if takers.is_whole => phrase.extend_from_slice(NO_TEXT.as_bytes())?,
+        _ => phrase.extend_from_slice(UNKNOWN.as_bytes())?,
     }
+    Ok((phrase, example))
 }

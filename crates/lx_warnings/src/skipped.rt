@@ -1,9 +1,8 @@
 // Lines that are skipped and look like rules.
 
 use crate::kinds::{KindSet, WarningKind};
-use crate::layout::Part;
+use crate::layout::Layout;
 use crate::suspects::{Suspect, push_suspect, suspect_at};
-use lx_diagnose::Span;
 use lx_diagnose::places::between;
 use lx_diagnose::scan::{behind_blanks, part};
 use lx_ere::{EreFault, read_pattern};
@@ -66,33 +65,29 @@ fn look_at_line(
     Ok(())
 }
 
-/// Looks at a line of Rules that begins with a blank.
-pub(crate) fn look_at_blank_line(
+/// Looks at the lines of Rules that begin with a blank, and at those behind Rules.
+pub(crate) fn look_at_skipped(
     alloc: Global,
     text: &[u8],
     found: &mut Vec<Suspect>,
-    line: Part,
+    layout: &Layout,
 ) -> Result<(), AllocError> {
-    let start = behind_blanks(text, line.at.start, line.at.end());
-    let suspect = suspect_at(
-        WarningKind::SkippedRule,
-        between(start, line.at.end()),
-        "this looks like a rule, and is skipped: a blank begins the line",
-    );
-    look_at_line(alloc, text, found, &line.allowed, suspect)
-}
-
-/// Looks at a line behind Rules.
-pub(crate) fn look_at_line_behind(
-    alloc: Global,
-    text: &[u8],
-    found: &mut Vec<Suspect>,
-    line: Span,
-) -> Result<(), AllocError> {
-    let suspect = suspect_at(
-        WarningKind::SkippedLine,
-        line,
-        "this looks like a rule, and is skipped: it stands behind the second %%",
-    );
-    look_at_line(alloc, text, found, &KindSet::none(), suspect)
+    for line in &layout.skipped {
+        let end = line.at.end();
+        let suspect = suspect_at(
+            WarningKind::SkippedRule,
+            between(behind_blanks(text, line.at.start, end), end),
+            "this looks like a rule, and is skipped: a blank begins the line",
+        );
+        look_at_line(alloc, text, found, &line.allowed, suspect)?;
+    }
+    for line in &layout.behind {
+        let suspect = suspect_at(
+            WarningKind::SkippedLine,
+            line.at,
+            "this looks like a rule, and is skipped: it stands behind the second %%",
+        );
+        look_at_line(alloc, text, found, &KindSet::none(), suspect)?;
+    }
+    Ok(())
 }

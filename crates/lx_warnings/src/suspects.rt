@@ -36,6 +36,17 @@ pub(crate) fn suspect_at(kind: WarningKind, at: Span, phrase: &'static str) -> S
     }
 }
 
+/// Adds such a part of the text, unless it is allowed.
+pub(crate) fn push_part(
+    found: &mut Vec<Suspect>,
+    allowed: &KindSet,
+    kind: WarningKind,
+    at: Span,
+    phrase: &'static str,
+) -> Result<(), AllocError> {
+    push_suspect(found, allowed, suspect_at(kind, at, phrase))
+}
+
 /// Adds what was found, unless it is allowed.
 pub(crate) fn push_suspect(
     found: &mut Vec<Suspect>,

@@ -4,10 +4,10 @@ ghost use Rattle.std.specs.Prelude.{◌<◌, length};
 
 use crate::action::look_at_action;
 use crate::kinds::{KindSet, WarningKind};
-use crate::layout::{DefinitionPart, Layout, Part, RulePart};
+use crate::layout::{DefinitionPart, Layout, Part};
 use crate::pattern::look_at_pattern;
-use crate::skipped::{look_at_blank_line, look_at_line_behind};
-use crate::suspects::{Subject, Suspect, push_suspect, suspect_at};
+use crate::skipped::look_at_skipped;
+use crate::suspects::{Subject, Suspect, push_part, push_suspect};
 use crate::untaken::untaken_bytes;
 use crate::warnings::Known;
 use lx_diagnose::Span;
@@ -26,7 +26,7 @@ const CONDITION_WORDS: &[u8] = b" s S x X start ";
 fn look_at_declaration(
     text: &[u8],
     found: &mut Vec<Suspect>,
-    line: Part,
+    line: &Part,
 ) -> Result<(), AllocError> {
     let start = line.at.start.saturating_add(1);
     let word = between(start, behind_word(text, start, line.at.end()));
@@ -49,14 +49,20 @@ fn look_at_conditions(
     entered: &[bool],
 ) -> Result<(), AllocError> {
     for line in &layout.declarations {
-        look_at_declaration(text, found, *line)?;
+        look_at_declaration(text, found, line)?;
     }
-    // INITIAL is the first condition, and isn't declared.
-    for (condition, entered) in layout.conditions.iter().zip(entered.iter().skip(1)) {
-        if !*entered {
+    for i in 0..layout.conditions.len() {
+        // INITIAL is the first condition, and isn't declared.
+        if i + 1 < entered.len() && !entered[i + 1] {
+            let condition = &layout.conditions[i];
             let phrase = "no rule enters the condition @";
-            let suspect = suspect_at(WarningKind::NeverEntered, condition.at, phrase);
-            push_suspect(found, &condition.allowed, suspect)?;
+            push_part(
+                found,
+                &condition.allowed,
+                WarningKind::NeverEntered,
+                condition.at,
+                phrase,
+            )?;
         }
     }
     Ok(())
@@ -85,15 +91,20 @@ fn look_at_definition(
     text: &[u8],
     found: &mut Vec<Suspect>,
     spec: &Spec,
-    definition: DefinitionPart,
+    definition: &DefinitionPart,
 ) -> Result<(), AllocError> {
     let allowed = &definition.allowed;
     if is_used(spec, part(text, definition.name)) {
         return look_at_pattern(alloc, text, found, allowed, definition.substitute);
     }
     let phrase = unused_phrase(alloc, part(text, definition.substitute))?;
-    let suspect = suspect_at(WarningKind::UnusedDefinition, definition.name, phrase);
-    push_suspect(found, allowed, suspect)
+    push_part(
+        found,
+        allowed,
+        WarningKind::UnusedDefinition,
+        definition.name,
+        phrase,
+    )
 }
 
 fn is_shared(alloc: Global, action: &[u8]) -> Result<bool, AllocError> {
@@ -105,10 +116,10 @@ fn look_at_end_rule(
     text: &[u8],
     found: &mut Vec<Suspect>,
     allowed: &KindSet,
-    rule: RulePart,
+    pattern: Span,
     behind_bar: bool,
 ) -> Result<(), AllocError> {
-    if part(text, rule.pattern) != b"<<EOF>>".as_slice() {
+    if part(text, pattern) != b"<<EOF>>".as_slice() {
         return Ok(());
     }
     let phrase = if behind_bar {
@@ -116,33 +127,7 @@ fn look_at_end_rule(
     } else {
         "`@` is seven bytes of text, and no rule is for the end of a file: delete it"
     };
-    push_suspect(
-        found,
-        allowed,
-        suspect_at(WarningKind::EofRule, rule.pattern, phrase),
-    )
-}
-
-fn look_at_rule(
-    alloc: Global,
-    text: &[u8],
-    found: &mut Vec<Suspect>,
-    allowed: &KindSet,
-    rule: RulePart,
-    behind_bar: bool,
-) -> Result<(), AllocError> {
-    look_at_end_rule(text, found, allowed, rule, behind_bar)?;
-    look_at_pattern(alloc, text, found, allowed, rule.pattern)?;
-    look_at_action(alloc, text, found, allowed, rule.action)
-}
-
-fn never_chosen(at: Span, number: usize) -> Suspect {
-    Suspect {
-        kind: WarningKind::NeverChosen,
-        at,
-        phrase: "",
-        subject: Subject::Takers(number),
-    }
+    push_part(found, allowed, WarningKind::EofRule, pattern, phrase)
 }
 
 fn look_at_rules(
@@ -154,39 +139,31 @@ fn look_at_rules(
 ) -> Result<(), AllocError> {
     let mut behind_bar = false;
     for i in 0..layout.rules.len() {
-        let rule = layout.rules[i];
+        let rule = &layout.rules[i];
         let allowed = &rule.allowed;
         if i < chosen.len() && !chosen[i] {
-            let whole = between(rule.start, rule.pattern.end());
-            push_suspect(found, allowed, never_chosen(whole, i))?;
+            let never_chosen = Suspect {
+                kind: WarningKind::NeverChosen,
+                at: between(rule.start, rule.pattern.end()),
+                phrase: "",
+                subject: Subject::Takers(i),
+            };
+            push_suspect(found, allowed, never_chosen)?;
         }
-        look_at_rule(alloc, text, found, allowed, rule, behind_bar)?;
+        look_at_end_rule(text, found, allowed, rule.pattern, behind_bar)?;
+        look_at_pattern(alloc, text, found, allowed, rule.pattern)?;
+        look_at_action(alloc, text, found, allowed, rule.action)?;
         behind_bar = is_shared(alloc, part(text, rule.action))?;
     }
     Ok(())
 }
 
-fn look_at_skipped(
-    alloc: Global,
-    text: &[u8],
-    found: &mut Vec<Suspect>,
-    layout: &Layout,
-) -> Result<(), AllocError> {
-    for line in &layout.skipped {
-        look_at_blank_line(alloc, text, found, *line)?;
-    }
-    for line in &layout.behind {
-        look_at_line_behind(alloc, text, found, line.at)?;
-    }
-    Ok(())
-}
-
 // The name of a condition, or for INITIAL the line that begins Rules.
-fn condition_part(layout: &Layout, condition: u16) -> Option<Part> {
+fn condition_part(layout: &Layout, condition: u16) -> Option<&Part> {
     if condition == 0 {
-        return layout.rules_begin;
+        return layout.rules_begin.as_ref();
     }
-    layout.conditions.get(usize::from(condition) - 1).copied()
+    layout.conditions.get(usize::from(condition) - 1)
 }
 
 // The bytes that no rule takes in a condition.
@@ -249,24 +226,24 @@ fn look_at_runs(
     Ok(())
 }
 
-/// What is suspicious about the parts of a text; of runs of a byte only where that is asked for, since it takes long.
-pub(crate) fn suspects_in(
+/// Looks for what is suspicious about the parts of a text; at runs of a byte only where that is asked for, since it takes long.
+pub(crate) fn look_at_text(
     alloc: Global,
     text: &[u8],
+    found: &mut Vec<Suspect>,
     asked: &KindSet,
     layout: &Layout,
     known: &Known<'_>,
-) -> Result<Vec<Suspect>, AllocError> {
-    let mut found = Vec::new(alloc);
-    look_at_conditions(text, &mut found, layout, known.entered)?;
+) -> Result<(), AllocError> {
+    look_at_conditions(text, found, layout, known.entered)?;
     for definition in &layout.definitions {
-        look_at_definition(alloc, text, &mut found, known.spec, *definition)?;
+        look_at_definition(alloc, text, found, known.spec, definition)?;
     }
-    look_at_rules(alloc, text, &mut found, layout, known.chosen)?;
-    look_at_skipped(alloc, text, &mut found, layout)?;
-    look_at_all_untaken(alloc, &mut found, layout, known)?;
+    look_at_rules(alloc, text, found, layout, known.chosen)?;
+    look_at_skipped(alloc, text, found, layout)?;
+    look_at_all_untaken(alloc, found, layout, known)?;
     if asked.contains(WarningKind::FarAhead) {
-        look_at_runs(alloc, &mut found, layout, known)?;
+        look_at_runs(alloc, found, layout, known)?;
     }
-    Ok(found)
+    Ok(())
 }

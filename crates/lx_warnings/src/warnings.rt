@@ -9,7 +9,7 @@ use crate::kinds::{KindSet, WarningKind};
 use crate::layout::layout_of;
 use crate::never_chosen::phrase_and_example;
 use crate::suspects::{Subject, Suspect};
-use crate::suspicion::suspects_in;
+use crate::suspicion::look_at_text;
 use crate::untaken::untaken_bytes;
 use lx_diagnose::Place;
 use lx_diagnose::lines::place_of;
@@ -58,9 +58,11 @@ fn untaken_in(alloc: Global, tables: &Tables, condition: u16) -> Result<Vec<u8>,
 }
 
 fn name_in(spec: &Spec, condition: u16) -> &[u8] {
-    match spec.conditions.get(usize::from(condition)) {
-        Some(condition) => &condition.name,
-        None => b"",
+    let condition = usize::from(condition);
+    if condition < spec.conditions.len() {
+        &spec.conditions[condition].name
+    } else {
+        b""
     }
 }
 
@@ -106,18 +108,6 @@ fn phrased(
     }
 }
 
-fn words_of(
-    alloc: Global,
-    text: &[u8],
-    known: &Known<'_>,
-    suspect: &Suspect,
-) -> Result<Vec<u8>, AllocError>
-    ensures printed { IfOk result (λ words. ArePrinted words.items) }
-    ensures some { IfOk result (λ words. 0 < length words.items) }
-{
-    told(phrased(alloc, text, known, suspect)?)
-}
-
 fn warning_of(
     alloc: Global,
     text: &[u8],
@@ -127,7 +117,7 @@ fn warning_of(
     ensures told { IfOk result (IsTold text.now) }
     ensures kind { IfOk result (λ warning. warning.kind ≡ suspect.now.kind) }
 {
-    let words = words_of(alloc, text, known, suspect)?;
+    let words = told(phrased(alloc, text, known, suspect)?)?;
     Ok(Warning {
         kind: suspect.kind,
         place: place_of(text, suspect.at),
@@ -177,7 +167,8 @@ pub fn warnings_of(
     ensures most { IfOk result (λ warnings. length warnings.told.items ≤ most) }
 {
     let layout = layout_of(alloc, text)?;
-    let mut suspects = suspects_in(alloc, text, asked, &layout, known)?;
+    let mut suspects = Vec::new(alloc);
+    look_at_text(alloc, text, &mut suspects, asked, &layout, known)?;
     suspects.sort_by_key(|suspect| suspect.at.start)?;
     told_of(alloc, text, known, &suspects, asked, most)
 }
