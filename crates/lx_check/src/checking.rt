@@ -1,9 +1,11 @@
 //! What is to be said of the text of a specification.
 
-ghost use Rattle.std.specs.Prelude.{◌≡◌, ◌≤◌, IfOk};
+ghost use Rattle.std.specs.Prelude.{◌≡◌, ◌≤◌, IfOk, length};
 ghost use Rattle.lx_auto.specs.Counts.{count_of_spec};
 ghost use Rattle.lx_rules.specs.views.Specs.{spec_view};
 ghost use Rattle.lx_table_texts.specs.Model.{AreTablesOf};
+ghost use Rattle.lx_chosen.specs.Chosen.{AreFlagsOf, IsEverChosenBy};
+ghost use Rattle.lx_entered.specs.Entered.{IsEntered};
 ghost use Rattle.lx_check.specs.Findings.{AreCounts, IfAccepted, IsVerdict, TellsChosen};
 ghost use Rattle.lx_check.specs.Further.{AreFindings, IfRefused};
 
@@ -14,6 +16,7 @@ use lx_auto::count_positions;
 use lx_chosen::chosen_rules;
 use lx_chosen::ruling::chosen_is_by_rules;
 use lx_entered::entered_conditions;
+use lx_reached::Takers;
 use lx_spec::Spec;
 use lx_tables::Tables;
 use lx_verdict::{read, tables_of};
@@ -35,6 +38,40 @@ fn counts_of(alloc: Global, spec: &Spec, tables: &Tables) -> Result<Counts, Allo
     })
 }
 
+// What is looked up of a specification that has tables, as [`Accepted`] has it.
+#[derive(Drop)]
+struct LookedUp {
+    counts: Counts,
+    chosen: Vec<bool>,
+    entered: Vec<bool>,
+    takers: Vec<Takers>,
+}
+
+fn looked_up(
+    alloc: Global,
+    text: &[u8],
+    spec: &Spec,
+    tables: &Tables,
+) -> Result<LookedUp, AllocError>
+    requires tables { AreTablesOf (spec_view spec.now) tables.now }
+    requires few_positions { count_of_spec (spec_view spec.now) ≤ 16384 }
+    ensures counts { IfOk result (λ looked. AreCounts (spec_view spec.now) tables.now looked.counts) }
+    ensures chosen { IfOk result (λ looked. AreFlagsOf (length (spec_view spec.now).rules) (IsEverChosenBy (spec_view spec.now)) looked.chosen.items) }
+    ensures entered { IfOk result (λ looked. AreFlagsOf (length (spec_view spec.now).conditions) (IsEntered tables.now) looked.entered.items) }
+{
+    chosen_is_by_rules();
+    let counts = counts_of(alloc, spec, tables)?;
+    let chosen = chosen_rules(alloc, tables)?;
+    let entered = entered_conditions(alloc, tables)?;
+    let takers = takers_in(alloc, text, tables, &chosen)?;
+    Ok(LookedUp {
+        counts,
+        chosen,
+        entered,
+        takers,
+    })
+}
+
 // A specification that has tables, and the text that says it.
 fn accepted(alloc: Global, text: &[u8], spec: Spec, tables: Tables) -> Result<Accepted, AllocError>
     requires tables { AreTablesOf (spec_view spec) tables }
@@ -44,11 +81,12 @@ fn accepted(alloc: Global, text: &[u8], spec: Spec, tables: Tables) -> Result<Ac
     ensures chosen { IfOk result TellsChosen }
     ensures counts { IfOk result (λ accepted. AreCounts (spec_view accepted.spec) accepted.tables accepted.counts) }
 {
-    chosen_is_by_rules();
-    let counts = counts_of(alloc, &spec, &tables)?;
-    let chosen = chosen_rules(alloc, &tables)?;
-    let entered = entered_conditions(alloc, &tables)?;
-    let takers = takers_in(alloc, text, &tables, &chosen)?;
+    let LookedUp {
+        counts,
+        chosen,
+        entered,
+        takers,
+    } = looked_up(alloc, text, &spec, &tables)?;
     Ok(Accepted {
         spec,
         tables,

@@ -48,9 +48,18 @@ fn text_with(
     Ok(made)
 }
 
-fn tables_of_text(alloc: Global, text: &[u8]) -> Result<Option<Tables>, AllocError> {
-    match read(alloc, text)? {
-        Ok(spec) => Ok(tables_of(alloc, &spec)?.ok()),
+// Which rules take the texts of the rule of this number, by the tables of all rules and a text that has this rule alone; none where that has no tables.
+fn takers_by_text(
+    alloc: Global,
+    alone: &[u8],
+    tables: &Tables,
+    number: u16,
+) -> Result<Option<Takers>, AllocError> {
+    let Ok(spec) = read(alloc, alone)? else {
+        return Ok(None);
+    };
+    match tables_of(alloc, &spec)? {
+        Ok(alone) => Ok(Some(takers_of(alloc, &alone, tables, number)?)),
         Err(_) => Ok(None),
     }
 }
@@ -81,8 +90,8 @@ fn takers_among(
             break;
         }
         left -= alone.len();
-        if let Some(alone) = tables_of_text(alloc, &alone)? {
-            takers.push(takers_of(alloc, &alone, tables, number)?)?;
+        if let Some(found) = takers_by_text(alloc, &alone, tables, number)? {
+            takers.push(found)?;
         }
     }
     Ok(takers)
