@@ -14,24 +14,7 @@ use lx_report::{Place, Severity};
 use lx_spec::SpecFault;
 use std::alloc::{AllocError, Global};
 
-// The second place that belongs to a fault.
-fn push_second(
-    text: &mut Vec<u8>,
-    style: &Style<'_>,
-    diagnosis: &Diagnosis,
-) -> Result<(), AllocError>
-    ensures { OnOk result (Extends text.old.items text.new.items) }
-{
-    match &diagnosis.note {
-        Some(place) => {
-            let words = note_words(diagnosis.cause);
-            push_note(text, style.file, place_of(place), words.as_bytes())
-        }
-        None => Ok(()),
-    }
-}
-
-// What stands behind the line of a fault.
+// What stands behind the line of a fault: the line of the source, what to do, and the second place that belongs to the fault.
 fn push_details(
     alloc: Global,
     text: &mut Vec<u8>,
@@ -48,7 +31,13 @@ fn push_details(
         place_of(&diagnosis.place),
         hint(diagnosis.cause).as_bytes(),
     )?;
-    push_second(text, style, diagnosis)
+    match &diagnosis.note {
+        Some(place) => {
+            let words = note_words(diagnosis.cause);
+            push_note(text, style.file, place_of(place), words.as_bytes())
+        }
+        None => Ok(()),
+    }
 }
 
 // The line of a fault.

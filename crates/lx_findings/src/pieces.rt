@@ -5,7 +5,7 @@ ghost use Rattle.lx_findings.specs.Said.{Extends};
 ghost use Rattle.lx_report.specs.Lines.{finding_line};
 
 use lx_diagnose::{Place as TextPlace, line_bytes};
-use lx_report::{Finding, Place, Severity, push_finding, push_marked, push_number};
+use lx_report::{Finding, Place, Severity, push_finding, push_marked, push_number, push_shown};
 use std::alloc::{AllocError, Global};
 
 /// Bytes behind a text.
@@ -13,6 +13,18 @@ pub(crate) fn push(text: &mut Vec<u8>, bytes: &[u8]) -> Result<(), AllocError>
     ensures { OnOk result (text.new.items ≡ text.old.items ++ bytes.now) }
 {
     text.extend_from_slice(bytes)
+}
+
+/// Bytes as they are shown, and behind them others as they are.
+pub(crate) fn push_shown_and(
+    text: &mut Vec<u8>,
+    shown: &[u8],
+    behind: &[u8],
+) -> Result<(), AllocError>
+    ensures { OnOk result (Extends text.old.items text.new.items) }
+{
+    push_shown(text, shown)?;
+    push(text, behind)
 }
 
 /// The place of a diagnosis.

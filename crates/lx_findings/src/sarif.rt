@@ -76,15 +76,6 @@ fn push_warning_result(
     push_result(text, style.file, &finding)
 }
 
-// Results stand with commas between them.
-fn push_comma(text: &mut Vec<u8>, place: usize) -> Result<(), AllocError> {
-    if place == 0 {
-        Ok(())
-    } else {
-        push(text, b",\n")
-    }
-}
-
 fn push_error_results(
     alloc: Global,
     text: &mut Vec<u8>,
@@ -112,7 +103,10 @@ fn push_warning_results(
 ) -> Result<usize, AllocError> {
     let warnings = warnings_in(alloc, style, source, accepted)?;
     for i in 0..warnings.told.len() {
-        push_comma(text, i)?;
+        // Results stand with commas between them.
+        if 0 < i {
+            push(text, b",\n")?;
+        }
         push_warning_result(text, style, &warnings.told[i])?;
     }
     Ok(warnings.count)

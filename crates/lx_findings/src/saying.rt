@@ -4,12 +4,11 @@ ghost use Rattle.std.specs.Prelude.{◌≡◌, [], IfOk, OnOk};
 ghost use Rattle.lx_findings.specs.Said.{Extends, TellsFirst, TellsVerdict};
 
 use crate::errors::push_error;
-use crate::pieces::{push, push_count};
+use crate::pieces::{push_count, push_shown_and};
 use crate::repeated::new_findings;
 use crate::style::Style;
 use crate::warnings::push_accepted;
 use lx_check::{Finding, Report};
-use lx_report::push_shown;
 use std::alloc::{AllocError, Global};
 
 /// What is said of a specification.
@@ -44,8 +43,7 @@ fn push_end(text: &mut Vec<u8>, style: &Style<'_>, count: usize) -> Result<(), A
     if style.quiet {
         return Ok(());
     }
-    push_shown(text, style.file)?;
-    push(text, b": ")?;
+    push_shown_and(text, style.file, b": ")?;
     push_count(text, count, b" error\n", b" errors\n")
 }
 

@@ -1,9 +1,9 @@
 // The warnings and the counts of a specification that is accepted.
 
-use crate::pieces::{place_of, push, push_count, push_line, push_source};
+use crate::pieces::{place_of, push_count, push_line, push_shown_and, push_source};
 use crate::style::Style;
 use lx_check::{Accepted, Counts};
-use lx_report::{Severity, push_shown};
+use lx_report::Severity;
 use lx_warnings::{Known, Warning, Warnings, name_of, untaken_bytes, warnings_of};
 use std::alloc::{AllocError, Global};
 
@@ -49,17 +49,19 @@ fn push_warning(
     push_source(alloc, text, source, &warning.place)
 }
 
+// The warnings of a specification; the result is how many it has.
 fn push_warnings(
     alloc: Global,
     text: &mut Vec<u8>,
     style: &Style<'_>,
     source: &[u8],
-    warnings: &[Warning],
-) -> Result<(), AllocError> {
-    for warning in warnings {
+    accepted: &Accepted,
+) -> Result<usize, AllocError> {
+    let warnings = warnings_in(alloc, style, source, accepted)?;
+    for warning in &warnings.told {
         push_warning(alloc, text, style, source, warning)?;
     }
-    Ok(())
+    Ok(warnings.count)
 }
 
 // How much the specification has.
@@ -109,12 +111,10 @@ fn push_echoed(
     if bytes.is_empty() {
         return Ok(());
     }
-    push_shown(text, style.file)?;
-    push(text, b": in ")?;
-    push_shown(text, &accepted.spec.conditions[usize::from(condition)].name)?;
-    push(text, b" no rule takes [")?;
-    push_shown(text, &bytes)?;
-    push(text, b"]: such bytes are echoed\n")
+    let name = &accepted.spec.conditions[usize::from(condition)].name;
+    push_shown_and(text, style.file, b": in ")?;
+    push_shown_and(text, name, b" no rule takes [")?;
+    push_shown_and(text, &bytes, b"]: such bytes are echoed\n")
 }
 
 // The same of each condition that is entered.
@@ -142,14 +142,12 @@ pub(crate) fn push_accepted(
     source: &[u8],
     accepted: &Accepted,
 ) -> Result<usize, AllocError> {
-    let warnings = warnings_in(alloc, style, source, accepted)?;
-    push_warnings(alloc, text, style, source, &warnings.told)?;
+    let count = push_warnings(alloc, text, style, source, accepted)?;
     if !style.quiet {
-        push_shown(text, style.file)?;
-        push(text, b": accepted: ")?;
+        push_shown_and(text, style.file, b": accepted: ")?;
         push_counts(text, &accepted.counts)?;
-        push_count(text, warnings.count, b" warning\n", b" warnings\n")?;
+        push_count(text, count, b" warning\n", b" warnings\n")?;
         push_all_echoed(alloc, text, style, accepted)?;
     }
-    Ok(warnings.count)
+    Ok(count)
 }
