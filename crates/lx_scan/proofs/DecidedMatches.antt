@@ -1,5 +1,5 @@
 -- Whether an expression matches a word is decided, where it is decided what its names match.
-use Rattle.std.proofs.Common.{◌≡◌, ◌∙◌, ℕ, zero, suc, ◌+◌, ◌<◌, ◌≤◌, ◌⊎◌, inl, inr, Bool, true, false, IsTrue, IfSome, List, [], ◌∷◌, ◌++◌, Option, Some, None, length, refl, ap, ap₂, sym, subst, arith, length-append}
+use Rattle.std.proofs.Common.{◌≡◌, ℕ, zero, suc, ◌+◌, ◌<◌, ◌≤◌, ◌⊎◌, inl, inr, IsTrue, IfSome, List, [], ◌∷◌, ◌++◌, Option, Some, None, length, refl, ap, ap₂, sym, subst, arith, length-append}
 use Rattle.std.specs.FinSet as set
 use Rattle.std.specs.Ordering.{nat_cmp}
 use native.Mathlib.Decide.{ℕ_discrete}

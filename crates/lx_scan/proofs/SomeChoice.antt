@@ -1,13 +1,13 @@
 -- There is a choice at each place of a text, by the rules of any specification: of the lengths and rules that fit one is the best, since whether a rule fits can be decided.
-use Rattle.std.proofs.Common.{◌≡◌, ◌∙◌, ℕ, zero, suc, ◌+◌, ◌<◌, ◌≤◌, ◌⊎◌, inl, inr, Bool, true, false, IsTrue, List, [], ◌∷◌, Option, Some, None, MatchOption, Contains, length, take, refl, ap, sym, subst, arith, if◌then◌else◌}
+use Rattle.std.proofs.Common.{◌≡◌, ◌∙◌, ℕ, zero, suc, ◌+◌, ◌<◌, ◌≤◌, ◌⊎◌, inl, inr, Bool, true, false, List, [], ◌∷◌, Option, Some, None, MatchOption, Contains, length, take, refl, ap, sym, subst, arith, if◌then◌else◌}
 use Rattle.std.specs.Prelude.{slice_get}
 use Rattle.std.specs.Option.{option_map}
 use Rattle.std.proofs.lemmas.Option.{slice_get_within}
 use native.Mathlib.Decide.{ℕ_discrete}
 use Rattle.lx_lexemes.specs.Matching.{Matches}
-use Rattle.lx_rules.specs.Choice.{IsActive, SpecNames, Fits, IsChosen, IsChoice, NothingFits, reach}
+use Rattle.lx_rules.specs.Choice.{SpecNames, Fits, IsChoice, reach}
 use Rattle.lx_rules.specs.Limits.{max_name_depth}
-use Rattle.lx_rules.specs.Names.{Defines, DefinedMatches, NameMatches}
+use Rattle.lx_rules.specs.Names.{DefinedMatches, NameMatches}
 use Rattle.lx_rules.specs.Plain.{PlainDefinition, PlainRule, PlainSpec}
 use Rattle.lx_automaton.proofs.Members.{contains_nil, contains_head, contains_tail, contains_cases}
 use Rattle.lx_ere.proofs.Deciding.{along, both, either, decide_true, below_or_not, decide_below}

@@ -7,7 +7,6 @@ use Rattle.lx_scan.specs.declared.place.Match.{Match}
 use Rattle.lx_scan.specs.declared.place.Place.{Place}
 use Rattle.lx_scan.specs.ByRules.{IsNext, Run, place_behind, items_of_run, actions_of, AreItemsBy}
 use Rattle.lx_scan.specs.Items.{first_place}
-use Rattle.lx_scan.specs.Matching.{choice_in}
 use Rattle.lx_ere.proofs.Deciding.{below_or_not}
 use Rattle.lx_scan.proofs.SomeChoice.{some_choice}
 

@@ -1,4 +1,4 @@
-use Rattle.std.proofs.Common.{◌≡◌, ◌≤◌, ◌+◌, ◌-◌, ◌++◌, drop, length, refl, ap, ◌∙◌, arith}
+use Rattle.std.proofs.Common.{◌≤◌, ◌+◌, ◌-◌, ◌++◌, drop, length, ap, ◌∙◌, arith}
 use Rattle.lx_auto.specs.Members.{places_from}
 use Rattle.lx_auto.proofs.Membership.{clear_places}
 use Rattle.lx_auto.proofs.set_steps.places_of.Goals as goal
