@@ -1,5 +1,5 @@
 -- The graph: a node for each start condition, a node for each state, and an edge from a state to each state to which it steps.
-use Rattle.std.specs.Prelude.{ℕ, ◌==◌, not, Bool, true, false, if◌then◌else◌, List, [], ◌++◌, Option, Some, None, codes, decimal, length}
+use Rattle.std.specs.Prelude.{ℕ, ◌==◌, Bool, true, false, if◌then◌else◌, List, [], ◌++◌, Option, Some, None, codes, decimal, length}
 use Rattle.std.specs.List.{flat_map, list_any, range_with_len}
 use Rattle.lx_automaton.specs.Automata.{Machine, accepted_by, class_target, start_of, state_count}
 use Rattle.lx_table_texts.specs.Model.{Table, TableRule, rule_at}

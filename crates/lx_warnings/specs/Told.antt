@@ -1,5 +1,5 @@
 -- What is told of a text.
-use Rattle.std.specs.Prelude.{◌≡◌, ℕ, ◌<◌, List, length}
+use Rattle.std.specs.Prelude.{ℕ, ◌<◌, List, length}
 use Rattle.lx_diagnose.specs.Places.{IsInText}
 use Rattle.lx_diagnose.specs.Printed.{ArePrinted}
 use Rattle.lx_warnings.specs.declared.warnings.Warning.{Warning}

@@ -1,4 +1,4 @@
-use Rattle.std.proofs.Common.{arith, length}
+use Rattle.std.proofs.Common.{arith}
 use Rattle.lx_show.specs.Graph.{edge_text, edges_text}
 use Rattle.lx_show.proofs.Texts.{text_end, text_next}
 use Rattle.lx_show.proofs.edges.push_edges.Goals as goal

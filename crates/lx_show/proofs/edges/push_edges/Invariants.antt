@@ -1,6 +1,6 @@
-use Rattle.std.proofs.Common.{◌≡◌, ◌++◌, length, take}
+use Rattle.std.proofs.Common.{◌≡◌, ◌++◌, take}
 use Rattle.std.specs.List.{flat_map, range_with_len}
-use Rattle.lx_show.specs.Graph.{edge_text, edges_text}
+use Rattle.lx_show.specs.Graph.{edge_text}
 use Rattle.lx_show.proofs.edges.push_edges.Given as goal
 
 abbrev pub invariant-loop-class : goal.invariant-loop-class

@@ -1,4 +1,4 @@
-use Rattle.std.proofs.Common.{arith, length}
+use Rattle.std.proofs.Common.{arith}
 use Rattle.lx_rules.specs.views.Rules.{names_view}
 use Rattle.lx_automaton.specs.Automata.{state_count}
 use Rattle.lx_show.specs.Graph.{state_text}

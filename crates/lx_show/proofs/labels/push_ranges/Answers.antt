@@ -1,4 +1,4 @@
-use Rattle.std.proofs.Common.{arith, length}
+use Rattle.std.proofs.Common.{arith}
 use Rattle.lx_show.specs.Labels.{leads, range_part, ranges}
 use Rattle.lx_show.proofs.Texts.{text_end, text_next}
 use Rattle.lx_show.proofs.labels.push_ranges.Goals as goal

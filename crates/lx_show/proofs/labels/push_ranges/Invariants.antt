@@ -1,6 +1,6 @@
-use Rattle.std.proofs.Common.{◌≡◌, ◌++◌, length, take}
+use Rattle.std.proofs.Common.{◌≡◌, ◌++◌, take}
 use Rattle.std.specs.List.{flat_map, range_with_len}
-use Rattle.lx_show.specs.Labels.{leads, range_part, ranges}
+use Rattle.lx_show.specs.Labels.{leads, range_part}
 use Rattle.lx_show.proofs.labels.push_ranges.Given as goal
 
 abbrev pub invariant-loop-byte : goal.invariant-loop-byte
