@@ -25,7 +25,7 @@ pub record AreMarksOf (S : List ℕ) (total : ℕ) (marks : List Bool) : Type 0 
   pub each : (q : ℕ) → q < total → flag marks q ≡ has_member S q
 
 module _ (S : List ℕ) (total : ℕ) (marks : List Bool) (are : AreMarksOf S total marks) where
-  marked_in : (q : ℕ) → flag marks q ≡ true → Contains S q
+  pub marked_in : (q : ℕ) → flag marks q ≡ true → Contains S q
   marked_in q t = elim (cases_lt q total) [
     | inl l ↦ (member_means S q).0 (sym (are.each q l) ∙ t)
     | inr l ↦ let e = are.long in let no : false ≡ true = sym (flag_past marks q (omega arith)) ∙ t in absurd (cc)

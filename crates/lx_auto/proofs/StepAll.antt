@@ -46,7 +46,7 @@ unread_yet Reads spec rules n r old ranges numbered at so_far q low high = elim 
   | inr f ↦ f
 ]
 
-clear_part : (part : RulePart) (r : NumberedRule) (old : List Bool) → IsPartOf part r → ((q : ℕ) → r.base ≤ q → q < r.base + size_of r → flag old q ≡ false) →
+pub clear_part : (part : RulePart) (r : NumberedRule) (old : List Bool) → IsPartOf part r → ((q : ℕ) → r.base ≤ q → q < r.base + size_of r → flag old q ≡ false) →
     IsClear old part.base (part.base + part.count)
 clear_part part r old is bare =
     let b = is.base in

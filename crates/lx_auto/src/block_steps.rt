@@ -60,7 +60,7 @@ pub(crate) fn find_all_ends(
 ) -> Result<Vec<Vec<bool>>, AllocError>
     ensures { IfOk result (λ ends. HaveEnds marks.now blocks.now ends.items (length blocks.now)) }
 {
-    let mut ends = Vec::new(alloc);
+    let mut ends = Vec::with_capacity(alloc, blocks.len())?;
     for i in 0..blocks.len() {
         ends.push(blocks[i].find_ends(alloc, marks)?)?;
     }
@@ -71,7 +71,7 @@ pub(crate) fn find_all_ends(
 pub(crate) fn last_flags(alloc: Global, ends: &[Vec<bool>]) -> Result<Vec<bool>, AllocError>
     ensures { IfOk result (λ flags. flags.items ≡ map last_flag ends.now) }
 {
-    let mut flags = Vec::new(alloc);
+    let mut flags = Vec::with_capacity(alloc, ends.len())?;
     for i in 0..ends.len() {
         let own = ends[i].as_slice();
         flags.push(flag(own, own.len().saturating_sub(1)))?;

@@ -1,5 +1,5 @@
 // Position sets, reached one after the other from the starts (Rabin and Scott 1959: the subset construction).
-ghost use Rattle.std.specs.Prelude.{◌≡◌, ◌≢◌, ◌+◌, ◌*◌, ◌<◌, ◌≤◌, ◌⊎◌, [], ℕ, List, IfOk, IfErr, OnOk, length};
+ghost use Rattle.std.specs.Prelude.{◌≡◌, ◌≢◌, ◌+◌, ◌*◌, ◌<◌, ◌≤◌, ◌⊎◌, [], ℕ, List, IfOk, IfErr, OnOk, length, true};
 ghost use Rattle.lx_lexemes.specs.Regex.{Regex};
 ghost use Rattle.lx_rules.specs.Plain.{PlainSpec};
 ghost use Rattle.lx_rules.specs.views.Specs.{spec_view};
@@ -18,6 +18,7 @@ use crate::fault::BuildFault;
 use crate::follow::{begin, follow};
 use crate::leaf::{Leaf, has};
 use crate::position_table::PositionTable;
+use crate::rule_numbers::rules_by_position;
 use crate::set_numbering::{empty_table, number_of};
 use crate::set_table::{PositionSet, SetTable};
 use lx_rules::active::active_rules;
@@ -76,18 +77,46 @@ fn add_target(
     let Ok(set) = positions_with_byte(alloc, leaves, byte, from) else {
         return Err(BuildFault::Memory);
     };
-    let target = target_of(alloc, table, set, limit)?;
+    let target = target_of(alloc, table, set, last_number(targets), limit)?;
     let Ok(()) = targets.push(target) else {
         return Err(BuildFault::Memory);
     };
     Ok(())
 }
 
-// Where a step to a set leads: nowhere where the set is empty, else to its number.
+// The number of the set to which the last step leads, if it leads to one.
+fn last_number(targets: &[Option<usize>]) -> Option<usize> {
+    match targets.last() {
+        Some(last) => *last,
+        None => None,
+    }
+}
+
+// Whether two sets have the same members.
+fn are_equal(set: &PositionSet, other: &PositionSet) -> bool
+    ensures { result ≡ true → set.now.items ≡ other.now.items }
+{
+    set.as_slice() == other.as_slice()
+}
+
+// Whether a set has this number.
+fn has_number(table: &SetTable, set: &PositionSet, number: usize) -> bool
+    ensures at { result ≡ true → number < length table.now.sets.items }
+    ensures same { result ≡ true → set_of table.now.sets.items number ≡ set.now.items }
+{
+    match table.sets.get(number) {
+        Some(own) => are_equal(own, set),
+        None => false,
+    }
+}
+
+// Where a step to a set leads: nowhere where the set is empty, else to its number. It is looked whether that is the likely one, since many steps of
+// a state lead to one set.
 fn target_of(
     alloc: Global,
     table: &mut SetTable,
     set: PositionSet,
+    likely: Option<usize>,
     limit: usize,
 ) -> Result<Option<usize>, BuildFault>
     requires numbering { IsNumbering table.old.sets.items table.old.numbers }
@@ -102,6 +131,11 @@ fn target_of(
 {
     if set.is_empty() {
         return Ok(None);
+    }
+    if let Some(number) = likely {
+        if has_number(table, &set, number) {
+            return Ok(Some(number));
+        }
     }
     let number = number_of(alloc, table, set, limit)?;
     Ok(Some(number))
@@ -187,6 +221,7 @@ fn add_start(
 fn add_set_row(
     alloc: Global,
     positions: &PositionTable,
+    rules_at: &[u16],
     number: usize,
     table: &mut SetTable,
     targets: &mut Vec<Option<usize>>,
@@ -205,7 +240,7 @@ fn add_set_row(
     ensures many { (spec : PlainSpec) (tree_of : Regex → Unfolded) → ArePositionsOf spec tree_of positions.now → IsExplored spec tree_of (leaves_view positions.now.leaves.items) positions.now.groups.representatives.items table.old.sets.items targets.old.items (start_count spec + number) → IfErr result (λ e. e ≡ BuildFault.TooManySets → HasMoreSets spec (numbered tree_of 0 spec.rules) limit) }
 {
     let set = table.sets[number].as_slice();
-    let Ok(found) = follow(alloc, &positions.parts, positions.total, set) else {
+    let Ok(found) = follow(alloc, &positions.parts, rules_at, positions.total, set) else {
         return Err(BuildFault::Memory);
     };
     let leaves = positions.leaves.as_slice();
@@ -263,10 +298,19 @@ pub(crate) fn explore(
             limit,
         )?;
     }
+    let rules_at = rules_by_position(alloc, &positions.parts, positions.total)?;
     let mut matched = Vec::new(alloc);
     'sets: while matched.len() < table.sets.len() {
         let number = matched.len();
-        let found = add_set_row(alloc, positions, number, &mut table, &mut targets, limit)?;
+        let found = add_set_row(
+            alloc,
+            positions,
+            &rules_at,
+            number,
+            &mut table,
+            &mut targets,
+            limit,
+        )?;
         matched.push(found)?;
     }
     Ok(Explored {

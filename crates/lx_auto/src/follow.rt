@@ -22,10 +22,11 @@ pub(crate) struct Found {
     pub(crate) matched: Option<usize>,
 }
 
-/// What follows a set of positions, of `total` in all, and the rule that it matches.
+/// What follows a set of positions, of `total` in all, and the rule that it matches. `rules_at` says of which rule a position is; nothing rests on it.
 pub(crate) fn follow(
     alloc: Global,
     parts: &[RulePart],
+    rules_at: &[u16],
     total: usize,
     set: &[u16],
 ) -> Result<Found, AllocError>
@@ -36,8 +37,8 @@ pub(crate) fn follow(
     let members = marks_of(alloc, total, set)?;
     let marks = members.as_slice();
     let mut reads = clear_flags(alloc, total)?;
-    let matched = step_rules(alloc, parts, marks, &mut reads)?;
-    let next = places_of(alloc, &reads)?;
+    let mut next = Vec::new(alloc);
+    let matched = step_rules(alloc, parts, rules_at, set, marks, &mut reads, &mut next)?;
     Ok(Found { next, matched })
 }
 

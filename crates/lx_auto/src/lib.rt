@@ -2,6 +2,7 @@
 //! 1959). Their states are merged to the fewest below, and `merge` is handed on.
 #![tactic(auto)]
 
+mod bare;
 mod block;
 mod block_steps;
 mod blocks;
@@ -25,6 +26,7 @@ mod node;
 mod part;
 mod position_table;
 mod repeat;
+mod rule_numbers;
 mod rule_part;
 mod rule_steps;
 mod rule_unfolding;

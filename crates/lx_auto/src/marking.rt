@@ -7,6 +7,9 @@ ghost use Rattle.lx_auto.specs.NodeViews.{node_view, nodes_view};
 use crate::node::Node;
 use std::alloc::{AllocError, Global};
 
+// So many flags a stack has room for at first: most expressions need no more.
+const STACK: usize = 16;
+
 /// The flag at a place, and false past the end.
 #[inline(always)]
 pub(crate) fn flag(flags: &[bool], i: usize) -> bool
@@ -63,7 +66,7 @@ fn is_null(node: &Node, nulls: &[bool]) -> bool
 pub(crate) fn nulls_of(alloc: Global, nodes: &[Node]) -> Result<Vec<bool>, AllocError>
     ensures { IfOk result (λ nulls. nulls.items ≡ nulls_from (nodes_view nodes.now) []) }
 {
-    let mut nulls = Vec::new(alloc);
+    let mut nulls = Vec::with_capacity(alloc, nodes.len())?;
     for node in nodes {
         nulls.push(is_null(node, &nulls))?;
     }
@@ -106,7 +109,7 @@ pub(crate) fn ends_of(
     requires { first < 2 ^ 32 }
     ensures { IfOk result (λ ends. ends.items ≡ ends_from nulls.now marks.now first (nodes_view nodes.now) []) }
 {
-    let mut ends = Vec::new(alloc);
+    let mut ends = Vec::with_capacity(alloc, nodes.len())?;
     let mut position = first;
     for node in nodes {
         ends.push(can_end(nulls, marks, position, node, &ends))?;
@@ -188,7 +191,8 @@ pub(crate) fn mark_reads(
     ensures long { OnOk result (length reads.new.items ≡ length reads.old.items) }
     ensures set { OnOk result (reads.new.items ≡ reads_from nulls.now ends.now (reverse (nodes_view nodes.now)) (entered ∷ []) end reads.old.items) }
 {
-    let mut stack = vec![in alloc; entered]?;
+    let mut stack = Vec::with_capacity(alloc, STACK)?;
+    stack.push(entered)?;
     let mut position = end;
     let mut rest = nodes.len();
     'down: while 0 < rest {

@@ -1,5 +1,5 @@
 // From a set of positions to those that can be read next, and to the rule that has matched.
-ghost use Rattle.std.specs.Prelude.{◌≡◌, ◌+◌, ◌++◌, ◌<◌, ◌≤◌, ◌↔◌, ℕ, List, IfOk, OnOk, true, false, length, drop, if◌then◌else◌};
+ghost use Rattle.std.specs.Prelude.{◌≡◌, ◌+◌, ◌++◌, ◌<◌, ◌≤◌, ◌↔◌, [], ℕ, List, IfOk, OnOk, Contains, true, false, length, take, drop, min, if◌then◌else◌};
 ghost use Rattle.lx_rules.specs.Plain.{PlainSpec};
 ghost use Rattle.lx_auto.specs.Blocks.{IsClear};
 ghost use Rattle.lx_auto.specs.Counts.{newline_count};
@@ -9,6 +9,7 @@ ghost use Rattle.lx_auto.specs.PositionSets.{NumberedRule};
 ghost use Rattle.lx_auto.specs.RuleParts.{IsPartOf, ArePartsOf, EndBefore};
 ghost use Rattle.lx_auto.specs.Following.{AreNumbered, FollowsMarked, EndsMarked, ReadsOrStays, AreReadBelow, IsFirstMatchedBelow, first_or};
 
+use crate::bare::{Bare, NOWHERE, bare_at, is_rising};
 use crate::marking::{has_flag, set_flag};
 use crate::rule_part::RulePart;
 use std::alloc::{AllocError, Global};
@@ -20,13 +21,6 @@ const LONG_STRETCH: usize = 1_024;
 
 // No more flags than these are gone over for all rules at once.
 const MOST_POSITIONS: usize = 65_536;
-
-/// Positions of which none is marked: from one on, and before another.
-#[derive(Clone, Copy)]
-struct Bare {
-    from: usize,
-    until: usize,
-}
 
 // Before which position none is marked, from this one on, where so many are looked at together: where a stretch begins in which one is, or the end.
 fn bare_by(marks: &[bool], from: usize, stretch: usize) -> usize
@@ -60,35 +54,24 @@ fn bare_until(marks: &[bool], from: usize) -> usize
     bare_by(marks, far, STRETCH)
 }
 
-// These positions where this one is among them, else those from this one on. So all marks are gone over once, and not rule by rule.
-fn bare_at(marks: &[bool], bare: Bare, position: usize) -> Bare
-    requires { (q : ℕ) → bare.from ≤ q → q < bare.until → plain.flag marks.now q ≡ false }
-    ensures bare { (q : ℕ) → result.from ≤ q → q < result.until → plain.flag marks.now q ≡ false }
-    ensures from { result.from ≤ position }
-{
-    if bare.from <= position && position < bare.until {
-        return bare;
-    }
-    let until = bare_until(marks, position);
-    Bare {
-        from: position,
-        until,
-    }
-}
-
-// So many rules are left out together where none of their positions is marked.
-const RULES: usize = 32;
-
-// How many rules from this one on are left out together, or none.
-fn untouched_count(parts: &[RulePart], from: usize, bare: Bare) -> usize
+// How many rules from this one on are left out together, or none: those before the one that has the last of these positions. `rules_at` says
+// which that is.
+fn untouched_count(parts: &[RulePart], rules_at: &[u16], from: usize, bare: Bare) -> usize
     requires within { from < length parts.now }
     ensures within { from + result ≤ length parts.now }
     ensures bare { 0 < result → EndBefore parts.now (from + result) bare.until }
 {
-    let count = (parts.len() - from).min(RULES);
-    let last = &parts[from + count - 1];
+    let wanted = match rules_at.get(bare.until.saturating_sub(1)) {
+        Some(rule) => *rule as usize,
+        None => parts.len(),
+    };
+    let end = wanted.min(parts.len());
+    if end <= from {
+        return 0;
+    }
+    let last = &parts[end - 1];
     if last.base + last.count < bare.until {
-        count
+        end - from
     } else {
         0
     }
@@ -138,30 +121,49 @@ fn first_matched(found: Option<usize>, matched: bool, i: usize) -> Option<usize>
     }
 }
 
-/// Sets for each position whether it can be read next, behind a marked one. The answer is the first rule of which a marked position
-/// ends a word.
+// Puts the positions of a rule that can be read next, a newline among them, behind those of others.
+fn push_read(part: &RulePart, reads: &[bool], next: &mut Vec<u16>) -> Result<(), AllocError>
+    requires { length reads.now ≤ 65536 }
+    ensures { part.now.base ≤ length reads.now → OnOk result (next.new.items ≡ next.old.items ++ places_from part.now.base (drop part.now.base (take (min (part.now.base + part.now.count + 1) (length reads.now)) reads.now))) }
+{
+    let end = (part.base + part.count + 1).min(reads.len());
+    let own = &reads[..end];
+    push_places_from(own, part.base.min(end), next)?;
+    Ok(())
+}
+
+/// Sets for each position whether it can be read next, behind a marked one, all of which are members of the set, and puts these positions behind others.
+/// The answer is the first rule of which a marked position ends a word.
 pub(crate) fn step_rules(
     alloc: Global,
     parts: &[RulePart],
+    rules_at: &[u16],
+    set: &[u16],
     marks: &[bool],
     reads: &mut Vec<bool>,
+    next: &mut Vec<u16>,
 ) -> Result<Option<usize>, AllocError>
+    requires few { length reads.old.items ≤ 65536 }
+    requires members { (q : ℕ) → plain.flag marks.now q ≡ true → Contains set.now q }
     ensures reads { (spec : PlainSpec) (rules : List NumberedRule) → AreNumbered spec rules → ArePartsOf parts.now rules (length reads.old.items) → ((q : ℕ) → plain.flag reads.old.items q ≡ false) → OnOk result (AreReadBelow (FollowsMarked marks.now) rules (length rules) reads.new.items) }
+    ensures next { (spec : PlainSpec) (rules : List NumberedRule) → AreNumbered spec rules → ArePartsOf parts.now rules (length reads.old.items) → ((q : ℕ) → plain.flag reads.old.items q ≡ false) → next.old.items ≡ [] → OnOk result (next.new.items ≡ places_from 0 reads.new.items) }
     ensures matched { (spec : PlainSpec) (rules : List NumberedRule) → AreNumbered spec rules → ArePartsOf parts.now rules (length reads.old.items) → IfOk result (λ found. IsFirstMatchedBelow rules marks.now (length rules) found) }
     ensures long { OnOk result (length reads.new.items ≡ length reads.old.items) }
 {
+    let rising = is_rising(set);
     let mut found = None;
-    let mut bare = Bare { from: 0, until: 0 };
+    let mut bare = NOWHERE;
     let mut i = 0;
     'rules: while i < parts.len() {
         let part = &parts[i];
-        bare = bare_at(marks, bare, part.base);
-        let untouched = untouched_count(parts, i, bare);
+        bare = bare_at(set, rising, bare, part.base);
+        let untouched = untouched_count(parts, rules_at, i, bare);
         if untouched > 0 {
             i += untouched;
             continue;
         }
         let matched = step_rule(alloc, part, marks, bare, reads)?;
+        push_read(part, reads, next)?;
         found = first_matched(found, matched, i);
         i += 1;
     }
@@ -208,17 +210,27 @@ fn push_places(
     Ok(())
 }
 
+// Puts the places of the flags that are set, from one place on, behind others, rising.
+fn push_places_from(flags: &[bool], from: usize, places: &mut Vec<u16>) -> Result<(), AllocError>
+    requires few { length flags.now ≤ 65536 }
+    requires within { from ≤ length flags.now }
+    ensures { OnOk result (places.new.items ≡ places.old.items ++ places_from from (drop from flags.now)) }
+{
+    let mut at = bare_until(flags, from);
+    'stretches: while at < flags.len() {
+        let end = at + STRETCH.min(flags.len() - at);
+        push_places(flags, at, end, places)?;
+        at = bare_until(flags, end);
+    }
+    Ok(())
+}
+
 /// The places of the flags that are set, rising.
 pub(crate) fn places_of(alloc: Global, flags: &[bool]) -> Result<Vec<u16>, AllocError>
     requires { length flags.now ≤ 65536 }
     ensures { IfOk result (λ places. places.items ≡ places_from 0 flags.now) }
 {
     let mut places = Vec::new(alloc);
-    let mut from = bare_until(flags, 0);
-    'stretches: while from < flags.len() {
-        let end = from + STRETCH.min(flags.len() - from);
-        push_places(flags, from, end, &mut places)?;
-        from = bare_until(flags, end);
-    }
+    push_places_from(flags, 0, &mut places)?;
     Ok(places)
 }

@@ -1,6 +1,8 @@
-use Rattle.std.proofs.Common.{◌≡◌, ◌≤◌, ◌<◌, ◌-◌, ℕ, List, false, length}
+use Rattle.std.proofs.Common.{◌≡◌, ◌≤◌, ◌-◌, ℕ, List, [], false, length}
 use Rattle.lx_rules.specs.Plain.{PlainSpec}
+use Rattle.lx_auto.specs.BarePositions.{IsBareIn}
 use Rattle.lx_auto.specs.Marking.{flag}
+use Rattle.lx_auto.specs.Members.{places_from}
 use Rattle.lx_auto.specs.PositionSets.{NumberedRule}
 use Rattle.lx_auto.specs.RuleParts.{ArePartsOf}
 use Rattle.lx_auto.specs.Following.{AreNumbered, FollowsMarked, AreReadBelow, IsFirstMatchedBelow}
@@ -14,7 +16,9 @@ invariant-rules l = record {
       ((q : ℕ) → flag l.fn.reads.items q ≡ false) → AreReadBelow (FollowsMarked l.marks) rules l.i l.reads.items;
   matched : (spec : PlainSpec) (rules : List NumberedRule) → AreNumbered spec rules → ArePartsOf l.parts rules (length l.fn.reads.items) →
       IsFirstMatchedBelow rules l.marks l.i l.found;
-  bare : (q : ℕ) → l.bare.from ≤ q → q < l.bare.until → flag l.marks q ≡ false;
+  next : (spec : PlainSpec) (rules : List NumberedRule) → AreNumbered spec rules → ArePartsOf l.parts rules (length l.fn.reads.items) →
+      ((q : ℕ) → flag l.fn.reads.items q ≡ false) → l.fn.next.items ≡ [] → l.next.items ≡ places_from 0 l.reads.items;
+  bare : IsBareIn l.set l.bare;
 }
 
 abbrev pub decreases-rules : goal.decreases-rules

@@ -1,0 +1,44 @@
+-- Positions between two members of a set.
+use Rattle.std.proofs.Common.{◌≡◌, ℕ, zero, suc, ◌+◌, ◌-◌, ◌≤◌, ◌<◌, ◌⊎◌, inl, inr, Bool, true, false, List, [], ◌∷◌, length, get_or, refl, ◌∙◌, ap, arith}
+use Rattle.std.proofs.lemmas.Bool.{cases_lt}
+use Rattle.std.specs.Prelude.{Contains, slice_index}
+use Rattle.lx_auto.specs.Marking.{flag}
+use Rattle.lx_auto.specs.SetSteps.{IsRising}
+use Rattle.lx_auto.specs.BarePositions.{IsBareIn}
+use Rattle.lx_auto.specs.declared.bare.Bare.{Bare}
+
+default_any : (S : List ℕ) (k d : ℕ) → k < length S → slice_index S k ≡ get_or S k d
+default_any [] k d h = absurd (omega arith)
+default_any (x ∷ S) zero d h = refl
+default_any (x ∷ S) (suc k) d h = default_any S k d (omega arith)
+
+-- none of these positions is a member
+pub absent_in : (S : List ℕ) (bare : Bare) → IsRising S → IsBareIn S bare → (q : ℕ) → bare.from ≤ q → q < bare.until → Contains S q → ⊥
+absent_in S bare rising is q low high h =
+    let k = h.0 in
+    let inside : k < length S = h.1 in
+    let member : slice_index S k ≡ q = default_any S k q inside ∙ h.2 in
+    elim (cases_lt k bare.passed) [
+      | inl early ↦ let before = is.before k early in absurd (omega arith)
+      | inr late ↦
+          let behind = is.behind (omega arith) in
+          elim (cases_lt bare.passed k) [
+            | inl more ↦ let greater = rising bare.passed k more inside in absurd (omega arith)
+            | inr same ↦
+                let here : k ≡ bare.passed = omega arith in
+                let equal : slice_index S k ≡ slice_index S bare.passed = ap (λ n. slice_index S n) here in
+                absurd (omega arith)
+          ]
+    ]
+
+bool_cases : (b : Bool) → (b ≡ true) ⊎ (b ≡ false)
+bool_cases true = inl refl
+bool_cases false = inr refl
+
+-- where marks stand at members alone, none of these positions is marked
+pub unmarked_in : (S : List ℕ) (marks : List Bool) (from until : ℕ) → ((q : ℕ) → flag marks q ≡ true → Contains S q) →
+    ((q : ℕ) → from ≤ q → q < until → Contains S q → ⊥) → (q : ℕ) → from ≤ q → q < until → flag marks q ≡ false
+unmarked_in S marks from until members absent q low high = elim (bool_cases (flag marks q)) [
+  | inl t ↦ absurd (absent q low high (members q t))
+  | inr f ↦ f
+]

@@ -1,0 +1,31 @@
+// Of which rule a position is. Nothing rests on it: it is where a search for the rule begins.
+
+use crate::rule_part::RulePart;
+use std::alloc::{AllocError, Global};
+
+// There are no rules behind this one.
+const LAST_RULE: usize = 65_535;
+
+// Adds the number of a rule for each of its positions.
+fn push_rule(part: &RulePart, rule: u16, rules_at: &mut Vec<u16>) -> Result<(), AllocError> {
+    for _position in 0..part.count {
+        rules_at.push(rule)?;
+    }
+    if part.line_end {
+        rules_at.push(rule)?;
+    }
+    Ok(())
+}
+
+/// The rule of each position.
+pub(crate) fn rules_by_position(
+    alloc: Global,
+    parts: &[RulePart],
+    total: usize,
+) -> Result<Vec<u16>, AllocError> {
+    let mut rules_at = Vec::with_capacity(alloc, total)?;
+    for rule in 0..parts.len() {
+        push_rule(&parts[rule], rule.min(LAST_RULE) as u16, &mut rules_at)?;
+    }
+    Ok(rules_at)
+}
