@@ -1,17 +1,17 @@
 // The lines of a table's text.
 
-ghost use Rattle.std.specs.Prelude.{◌≡◌, ◌<◌, ◌++◌, ℕ, List, OnOk, OnErr, codes, length};
+ghost use Rattle.std.specs.Prelude.{◌≡◌, ◌<◌, ◌≤◌, ◌+◌, ◌++◌, ◌∷◌, ℕ, List, OnOk, OnErr, codes, drop, length};
 ghost use Rattle.std.specs.List.{flat_map};
 ghost use Rattle.lx_automaton.specs.Automata.{state_count};
 ghost use Rattle.lx_automaton.specs.EncodedOptions.{decoded_option};
 ghost use Rattle.lx_tables.specs.Lines.{value_of, HasState, targets_text, state_line};
 ghost use Rattle.lx_tables.specs.Output.{Wrote, WrotePrefix};
-ghost use Rattle.lx_table_texts.specs.Texts.{start_line, kind_line, step_text, line_end_text, range_text, byte_ranges, accepts_text, entries_text, entry_text, class_line};
+ghost use Rattle.lx_table_texts.specs.Texts.{number, start_line, kind_line, step_text, line_end_text, range_text, byte_ranges, accepts_text, entries_text, entry_text, class_line};
 
 use crate::byte_values::ByteValues;
 use crate::tables::Tables;
 use crate::writing::{write_bytes, write_numbered, write_parts};
-use itoa::Buffer;
+use itoa::{Buffer, write_digits};
 use lx_automaton::State;
 use lx_rules::rule::{Kind, Step};
 use lx_table_texts::Version;
@@ -154,36 +154,71 @@ fn write_ranges<W: Write>(out: &mut W, tables: &Tables, values: ByteValues) -> R
     write_range(out, low, 255, value)
 }
 
-fn write_entry<W: Write>(out: &mut W, class: u16, encoded_option: u16) -> Result<(), io::Error>
-    ensures ok { OnOk result (Wrote (W.contents out.old) (W.contents out.new) (entry_text class (decoded_option encoded_option))) }
-    ensures err { OnErr result (WrotePrefix (W.contents out.old) (W.contents out.new) (entry_text class (decoded_option encoded_option))) }
+// Puts a mark and a number before what stands in the row from a place on. The answer is where the row begins then.
+fn place_number(row: &mut [u8], end: usize, mark: u8, value: u16) -> usize
+    requires room { length (number value) < end }
+    requires within { end ≤ length row.old }
+    ensures placed { drop result row.new ≡ mark ∷ number value ++ drop end row.old }
+    ensures begin { result + length (number value) + 1 ≡ end }
+    ensures long { length row.new ≡ length row.old }
 {
-    if encoded_option == 0 {
-        return Ok(());
-    }
-    let mut first = Buffer::new();
-    let mut second = Buffer::new();
-    write_parts(
-        out,
-        &[
-            b" ",
-            first.format(class).as_bytes(),
-            b":",
-            second.format(encoded_option - 1).as_bytes(),
-        ],
-    )
+    let digits = write_digits(u64::from(value), row, end);
+    row[digits - 1] = mark;
+    digits - 1
 }
 
-/// Writes of a state the classes that have a step.
-fn write_entries<W: Write>(out: &mut W, tables: &Tables, state: u32) -> Result<(), io::Error>
-    requires { state < state_count tables.now.machine }
+// The same for the entry of a class.
+fn place_entry(row: &mut [u8], end: usize, class: u16, encoded_option: u16) -> usize
+    requires room { 10 ≤ end }
+    requires within { end ≤ length row.old }
+    requires class { class < 256 }
+    ensures placed { drop result row.new ≡ entry_text class (decoded_option encoded_option) ++ drop end row.old }
+    ensures short { end ≤ result + 10 }
+    ensures within { result ≤ end }
+    ensures long { length row.new ≡ length row.old }
+{
+    if encoded_option == 0 {
+        return end;
+    }
+    let target = place_number(row, end, b':', encoded_option - 1);
+    place_number(row, target, b' ', class)
+}
+
+/// So many bytes the classes of a state take at most: each a space, three digits, a colon and five digits.
+pub(crate) const ROW: usize = 2_560;
+
+// Puts the classes of a state that have a step at the end of the row, the last one first. The answer is where they begin.
+fn place_entries(row: &mut [u8], tables: &Tables, state: u32) -> usize
+    requires long { length row.old ≡ 2560 }
+    requires state { state < state_count tables.now.machine }
+    ensures placed { drop result row.new ≡ entries_text tables.now.machine state }
+    ensures within { result ≤ length row.new }
+    ensures long { length row.new ≡ length row.old }
+{
+    let mut begin = ROW;
+    let mut class = tables.classes();
+    'classes: while 0 < class {
+        class -= 1;
+        begin = place_entry(row, begin, class, tables.encoded_option(state, class as u8));
+    }
+    begin
+}
+
+/// Writes of a state the classes that have a step, in one write.
+fn write_entries<W: Write>(
+    out: &mut W,
+    tables: &Tables,
+    state: u32,
+    row: &mut [u8],
+) -> Result<(), io::Error>
+    requires long { length row.old ≡ 2560 }
+    requires state { state < state_count tables.now.machine }
     ensures ok { OnOk result (Wrote (W.contents out.old) (W.contents out.new) (entries_text tables.now.machine state)) }
     ensures err { OnErr result (WrotePrefix (W.contents out.old) (W.contents out.new) (entries_text tables.now.machine state)) }
+    ensures long { length row.new ≡ length row.old }
 {
-    for class in 0..tables.classes() {
-        write_entry(out, class, tables.encoded_option(state, class as u8))?;
-    }
-    Ok(())
+    let begin = place_entries(row, tables, state);
+    write_bytes(out, &row[begin..])
 }
 
 fn write_accepts<W: Write>(out: &mut W, rule: Option<u16>) -> Result<(), io::Error>
@@ -202,30 +237,36 @@ fn write_targets<W: Write>(
     tables: &Tables,
     state: u32,
     version: Version,
+    row: &mut [u8],
 ) -> Result<(), io::Error>
-    requires { state < state_count tables.now.machine }
+    requires long { length row.old ≡ 2560 }
+    requires state { state < state_count tables.now.machine }
     ensures ok { OnOk result (Wrote (W.contents out.old) (W.contents out.new) (targets_text version tables.now.machine state)) }
     ensures err { OnErr result (WrotePrefix (W.contents out.old) (W.contents out.new) (targets_text version tables.now.machine state)) }
+    ensures long { length row.new ≡ length row.old }
 {
     match version {
         Version::First => write_ranges(out, tables, ByteValues::Targets(state)),
-        Version::Second => write_entries(out, tables, state),
+        Version::Second => write_entries(out, tables, state, row),
     }
 }
 
-/// Writes the line of a state.
+/// Writes the line of a state. What the row has doesn't matter.
 pub(crate) fn write_state<W: Write>(
     out: &mut W,
     tables: &Tables,
     state: u32,
     version: Version,
+    row: &mut [u8],
 ) -> Result<(), io::Error>
-    requires { state < state_count tables.now.machine }
+    requires long { length row.old ≡ 2560 }
+    requires state { state < state_count tables.now.machine }
     ensures ok { OnOk result (Wrote (W.contents out.old) (W.contents out.new) (state_line version tables.now.machine state)) }
     ensures err { OnErr result (WrotePrefix (W.contents out.old) (W.contents out.new) (state_line version tables.now.machine state)) }
+    ensures long { length row.new ≡ length row.old }
 {
     write_accepts(out, tables.accepts(State(state)))?;
-    write_targets(out, tables, state, version)?;
+    write_targets(out, tables, state, version, row)?;
     write_bytes(out, b"\n")
 }
 

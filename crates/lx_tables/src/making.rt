@@ -25,6 +25,21 @@ impl Tables {
         ensures answers { IfOk result (λ tables. AreEquivalentMachines automaton.now tables.machine) }
         ensures led_to { IfOk result (λ tables. AreAllLedTo automaton.now → AreAllLedTo tables.machine) }
     {
+        let tables = Tables::unjoined_of(alloc, spec, automaton)?;
+        tables.with_joined(alloc)
+    }
+
+    /// The same without the joined table, by which texts are scanned fast: for tables that are printed.
+    pub fn unjoined_of(
+        alloc: Global,
+        spec: &Spec,
+        automaton: &Automaton,
+    ) -> Result<Tables, AllocError>
+        requires { IsAutomatonOf (spec_view spec.now) automaton.now }
+        ensures tables { IfOk result (λ tables. AreTablesOf (spec_view spec.now) tables) }
+        ensures answers { IfOk result (λ tables. AreEquivalentMachines automaton.now tables.machine) }
+        ensures led_to { IfOk result (λ tables. AreAllLedTo automaton.now → AreAllLedTo tables.machine) }
+    {
         specs_are_well_formed();
         let state_order = state_order_of(alloc, automaton)?;
         let starts = starts_of(alloc, automaton, &state_order)?;
@@ -35,7 +50,6 @@ impl Tables {
         let rules = rules_of(alloc, spec)?;
         let width = usize::from(automaton.classes());
         let reordered = Automaton::of(starts, classes, width, accepted, targets);
-        let tables = Tables::of_parts(reordered, kinds, rules).with_joined(alloc)?;
-        Ok(tables)
+        Ok(Tables::of_parts(reordered, kinds, rules))
     }
 }

@@ -1,13 +1,13 @@
 //! The text of tables, printed in either version.
 
-ghost use Rattle.std.specs.Prelude.{OnOk, OnErr, length};
+ghost use Rattle.std.specs.Prelude.{◌≡◌, OnOk, OnErr, length};
 ghost use Rattle.std.specs.List.{flat_map, range_with_len};
 ghost use Rattle.lx_automaton.specs.Automata.{state_count};
 ghost use Rattle.lx_tables.specs.Lines.{state_line};
 ghost use Rattle.lx_tables.specs.Output.{Wrote, WrotePrefix};
 ghost use Rattle.lx_table_texts.specs.Texts.{start_line, kind_line, rule_line, front_text, states_text, text_1, text_2};
 
-use crate::lines::{write_classes, write_kind, write_rule, write_start, write_state};
+use crate::lines::{ROW, write_classes, write_kind, write_rule, write_start, write_state};
 use crate::tables::Tables;
 use crate::writing::{write_bytes, write_count};
 use lx_table_texts::Version;
@@ -62,12 +62,14 @@ fn write_state_lines<W: Write>(
     out: &mut W,
     tables: &Tables,
     version: Version,
+    row: &mut [u8],
 ) -> Result<(), io::Error>
+    requires { length row.old ≡ 2560 }
     ensures ok { OnOk result (Wrote (W.contents out.old) (W.contents out.new) (flat_map (λ s. state_line version tables.now.machine s) (range_with_len 0 (state_count tables.now.machine)))) }
     ensures err { OnErr result (WrotePrefix (W.contents out.old) (W.contents out.new) (flat_map (λ s. state_line version tables.now.machine s) (range_with_len 0 (state_count tables.now.machine)))) }
 {
     for state in 0..tables.states() {
-        write_state(out, tables, state, version)?;
+        write_state(out, tables, state, version, row)?;
     }
     Ok(())
 }
@@ -78,7 +80,8 @@ fn write_states<W: Write>(out: &mut W, tables: &Tables, version: Version) -> Res
     ensures err { OnErr result (WrotePrefix (W.contents out.old) (W.contents out.new) (states_text (state_line version) tables.now.machine)) }
 {
     write_count(out, b"states ", tables.states())?;
-    write_state_lines(out, tables, version)?;
+    let mut row = [0u8; ROW];
+    write_state_lines(out, tables, version, &mut row)?;
     write_bytes(out, b"end\n")
 }
 

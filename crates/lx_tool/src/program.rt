@@ -22,7 +22,7 @@ use crate::printing::{judge_scanner_words, named_options, print_asked};
 use crate::remarks::{read_tables_named, specification_named, tables_named, tell_size};
 use crate::showing::show_named;
 use crate::source::{Sources, make_input};
-use crate::tabling::{tables_of, tables_of_text};
+use crate::tabling::{tables_of_text, unjoined_tables_of};
 use crate::target::{NoTargets, Targets};
 use lx_c::MAX_DIRECT_STATES;
 use lx_lines::LineWrites;
@@ -417,7 +417,7 @@ fn generate_named<'a, S: Sources, T: Targets, O: Write>(
     judge_scanner_words(alloc, &words.c)?;
     let text = read_whole(alloc, sources, words.rules)?;
     let spec = specification_named(alloc, words.rules, &text, notes)?;
-    let tables = tables_of(alloc, &spec)?;
+    let tables = unjoined_tables_of(alloc, &spec)?;
     let options = named_options(alloc, &words.c, &spec)?;
     print_asked(alloc, &words, &options, &tables, targets, out)
 }

@@ -14,7 +14,7 @@ use crate::output::write_text;
 use crate::printing::names_of;
 use crate::remarks::{read_tables_named, specification_named};
 use crate::source::Sources;
-use crate::tabling::tables_of;
+use crate::tabling::unjoined_tables_of;
 use lx_show::graph_of;
 use lx_tables::Tables;
 use lx_words::ShowWords;
@@ -50,7 +50,7 @@ fn shown_of_specification<'a>(
     ensures err { IfErr result (λ failure. HasNoneShown text.now failure) }
 {
     let spec = specification_named(alloc, name, text, notes)?;
-    let tables = tables_of(alloc, &spec)?;
+    let tables = unjoined_tables_of(alloc, &spec)?;
     let names = names_of(alloc, &spec.conditions)?;
     Ok(Shown { tables, names })
 }

@@ -40,6 +40,15 @@ pub(crate) fn tables_of<'a>(alloc: Global, spec: &Spec) -> Result<Tables, Failur
     Ok(Tables::of(alloc, spec, &automaton)?)
 }
 
+/// The same tables for printing: no text is scanned by them.
+pub(crate) fn unjoined_tables_of<'a>(alloc: Global, spec: &Spec) -> Result<Tables, Failure<'a>>
+    ensures ok { IfOk result (λ tables. AreTablesOf (spec_view spec.now) tables) }
+    ensures err { IfErr result (λ failure. (text : List ℕ) → IsRead text (spec_view spec.now) → HasNoTables text failure) }
+{
+    let automaton = merged_automaton(alloc, spec)?;
+    Ok(Tables::unjoined_of(alloc, spec, &automaton)?)
+}
+
 /// Reads tables from either version of their text; B01 comes where it is no table's.
 pub(crate) fn read_tables<'a>(alloc: Global, text: &[u8]) -> Result<Tables, Failure<'a>>
     ensures ok { IfOk result (λ tables. AreTablesIn text.now tables) }

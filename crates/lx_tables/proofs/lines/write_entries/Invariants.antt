@@ -1,9 +1,0 @@
-use Rattle.std.proofs.Common.{take}
-use Rattle.std.specs.List.{flat_map, range_with_len}
-use Rattle.lx_automaton.specs.Automata.{class_target}
-use Rattle.lx_table_texts.specs.Texts.{entry_text}
-use Rattle.lx_tables.specs.Output.{Wrote}
-use Rattle.lx_tables.proofs.lines.write_entries.Given as goal
-
-abbrev pub invariant-loop-class : goal.invariant-loop-class
-invariant-loop-class g l = Wrote (g.W.Write.contents l.fn.out) (g.W.Write.contents l.out) (flat_map (λ class. entry_text class (class_target l.tables.machine l.state class)) (take l.class (range_with_len 0 l.tables.machine.width)))
