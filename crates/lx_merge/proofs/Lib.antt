@@ -1,4 +1,5 @@
 pub mod PartitionSteps
+pub mod NewBlocks
 pub mod Splits
 pub mod QuotientSteps
 pub mod Simulating

@@ -1,3 +1,4 @@
+pub mod BlockBounds
 pub mod Sources
 pub mod Quotients
 pub mod Simulations

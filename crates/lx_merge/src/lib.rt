@@ -1,6 +1,7 @@
 //! Automata whose states are merged to the fewest (Moore 1956, Hopcroft 1971). What makes an automaton of a specification stands above.
 #![tactic(auto)]
 
+mod bounds;
 mod candidates;
 mod members;
 pub mod merging;

@@ -22,24 +22,25 @@ fn lanes_before(blocks: &[u16], from: usize, number: u16) -> usize
     LANES.min(mask.trailing_zeros() as usize)
 }
 
-/// The first state of a block from a place on.
-pub(crate) fn next_of_block(blocks: &[u16], from: usize, number: u16) -> Option<usize>
-    requires { from ≤ length blocks.now }
-    ensures state { IfSome result (λ s. s < length blocks.now) }
+/// The first state of a block from a place on, before an end.
+pub(crate) fn next_of_block(blocks: &[u16], from: usize, end: usize, number: u16) -> Option<usize>
+    requires order { from ≤ end }
+    requires end { end ≤ length blocks.now }
+    ensures state { IfSome result (λ s. s < end) }
     ensures behind { IfSome result (λ s. from ≤ s) }
     ensures within { IfSome result (λ s. slice_index blocks.now s ≡ number) }
     ensures first { IfSome result (λ s. (t : ℕ) → from ≤ t → t < s → slice_index blocks.now t ≢ number) }
-    ensures none { IfNone result ((t : ℕ) → from ≤ t → t < length blocks.now → slice_index blocks.now t ≢ number) }
+    ensures none { IfNone result ((t : ℕ) → from ≤ t → t < end → slice_index blocks.now t ≢ number) }
 {
     let mut done = from;
-    while LANES <= blocks.len() - done {
+    while LANES <= end - done {
         let before = lanes_before(blocks, done, number);
         if before < LANES {
             return Some(done + before);
         }
         done += LANES;
     }
-    for state in done..blocks.len() {
+    for state in done..end {
         if blocks[state] == number {
             return Some(state);
         }
@@ -54,19 +55,37 @@ pub(crate) struct Members {
     pub(crate) states: Vec<u16>,
 }
 
+/// The states of a block, all of which stand between a low one and a high one.
+pub(crate) fn members_between(
+    alloc: Global,
+    blocks: &[u16],
+    number: u16,
+    low: u16,
+    high: u16,
+) -> Result<Members, AllocError>
+    requires small { length blocks.now ≤ 16513 }
+    requires low { (s : ℕ) → s < length blocks.now → slice_index blocks.now s ≡ number → low ≤ s }
+    requires high { (s : ℕ) → s < length blocks.now → slice_index blocks.now s ≡ number → s ≤ high }
+    ensures flags { IfOk result (λ members. AreFlags blocks.now number (length blocks.now) members.inside.items) }
+    ensures listed { IfOk result (λ members. (s : ℕ) → s < length blocks.now → flag members.inside.items s ≡ true → Contains members.states.items s) }
+{
+    let mut inside = vec![in alloc; false; blocks.len()]?;
+    let mut states = Vec::new(alloc);
+    let end = blocks.len().min(high as usize + 1);
+    let mut from = end.min(low as usize);
+    while let Some(state) = next_of_block(blocks, from, end, number) {
+        inside[state] = true;
+        states.push(state as u16)?;
+        from = state + 1;
+    }
+    Ok(Members { inside, states })
+}
+
 /// The states of a block.
 pub(crate) fn members_of(alloc: Global, blocks: &[u16], number: u16) -> Result<Members, AllocError>
     requires { length blocks.now ≤ 16513 }
     ensures flags { IfOk result (λ members. AreFlags blocks.now number (length blocks.now) members.inside.items) }
     ensures listed { IfOk result (λ members. (s : ℕ) → s < length blocks.now → flag members.inside.items s ≡ true → Contains members.states.items s) }
 {
-    let mut inside = vec![in alloc; false; blocks.len()]?;
-    let mut states = Vec::new(alloc);
-    let mut from = 0;
-    while let Some(state) = next_of_block(blocks, from, number) {
-        inside[state] = true;
-        states.push(state as u16)?;
-        from = state + 1;
-    }
-    Ok(Members { inside, states })
+    members_between(alloc, blocks, number, 0, u16::MAX)
 }

@@ -60,7 +60,7 @@ fn moved_states_of_all(
 {
     let mut moved_states = Vec::new(alloc);
     let mut behind = 0;
-    while let Some(state) = next_of_block(blocks, behind, from) {
+    while let Some(state) = next_of_block(blocks, behind, blocks.len(), from) {
         if is_moved(m, blocks, inside, from, class, wanted, state) {
             moved_states.push(state as u16)?;
         }
@@ -164,7 +164,7 @@ fn first_remaining_state(
     ensures none { IfNone result ((s : ℕ) → s < total m.now → IsRemaining m.now blocks.now inside.now from class wanted s → ⊥) }
 {
     let mut behind = 0;
-    while let Some(state) = next_of_block(blocks, behind, from) {
+    while let Some(state) = next_of_block(blocks, behind, blocks.len(), from) {
         if steps_into(m, inside, state, class) != wanted {
             return Some(state as u16);
         }

@@ -1,10 +1,12 @@
 // Splitting blocks until states of one block step to the same blocks.
 
-ghost use Rattle.std.specs.Prelude.{◌≡◌, ◌≢◌, ◌<◌, ◌+◌, ◌^◌, ◌++◌, ◌∷◌, [], ℕ, Bool, true, false, if◌then◌else◌, IfOk, OnOk, length, slice_index, slice_set};
+ghost use Rattle.std.specs.Prelude.{◌≡◌, ◌≢◌, ◌<◌, ◌+◌, ◌^◌, ◌++◌, ◌∷◌, [], ℕ, Bool, true, false, None, IfOk, IfSome, OnOk, length, slice_index, slice_set};
 ghost use Rattle.lx_partition.specs.Completion.{total, step_of, IsComplete};
+ghost use Rattle.lx_merge.specs.BlockBounds.{HasNewBlock};
 ghost use Rattle.lx_merge.specs.Sources.{ContainPreimage};
 ghost use Rattle.lx_partition.specs.Partitions.{block, block_count, member_of, flag, IsSound, IsStable, IsSplitter, IsRemaining, AreMovedStates, AreRenumbered, IsStableBlock};
 
+use crate::bounds::{StateRange, range_of};
 use crate::candidates::all_states;
 use crate::members::members_of;
 use crate::moving::{first_unstable, moved_states_of, remaining_state_of, renumber, steps_into};
@@ -54,7 +56,7 @@ fn divide(
     Ok(())
 }
 
-/// Splits a block by which of its states step into the set, where only some do: whether it was split. The wanted states
+/// Splits a block by which of its states step into the set, where only some do: between which states those stand that were moved. The wanted states
 /// move into a new block, in block 0 those that don't step as state 0 does. All that step into the set are among `sources`.
 pub(crate) fn split(
     alloc: Global,
@@ -65,7 +67,7 @@ pub(crate) fn split(
     from: usize,
     class: usize,
     wanted: bool,
-) -> Result<bool, AllocError>
+) -> Result<Option<StateRange>, AllocError>
     requires complete { IsComplete m.now }
     requires sound { IsSound m.now p.old }
     requires splitter { IsSplitter m.now inside.now }
@@ -73,8 +75,10 @@ pub(crate) fn split(
     requires from { from < block_count p.old }
     requires class { class < m.now.width }
     ensures sound { OnOk result (IsSound m.now p.new) }
-    ensures count { IfOk result (λ b. block_count p.new ≡ block_count p.old + (if b then 1 else 0)) }
-    ensures unsplit { IfOk result (λ b. b ≡ false → IsStableBlock m.now p.old.block_of.items inside.now from class) }
+    ensures count { IfOk result (λ moved. IfSome moved (λ _. block_count p.new ≡ block_count p.old + 1)) }
+    ensures divided { IfOk result (λ moved. IfSome moved (HasNewBlock p.old p.new)) }
+    ensures unsplit { IfOk result (λ moved. moved ≡ None → IsStableBlock m.now p.old.block_of.items inside.now from class) }
+    ensures same { IfOk result (λ moved. moved ≡ None → p.new ≡ p.old) }
 {
     let wanted = side_of(m, inside, from, class, wanted);
     let blocks = p.block_of.as_slice();
@@ -89,7 +93,7 @@ pub(crate) fn split(
         wanted,
     )?;
     if moved_states.is_empty() {
-        return Ok(false);
+        return Ok(None);
     }
     let representative = p.representatives[from];
     let Some(remaining_state) = remaining_state_of(
@@ -101,10 +105,11 @@ pub(crate) fn split(
         class,
         wanted,
     ) else {
-        return Ok(false);
+        return Ok(None);
     };
+    let moved = range_of(&moved_states);
     divide(m, p, from, remaining_state, &moved_states)?;
-    Ok(true)
+    Ok(Some(moved))
 }
 
 // The same, where it isn't known which states step into the set: all are gone through.
@@ -116,15 +121,17 @@ fn split_slowly(
     from: usize,
     class: usize,
     wanted: bool,
-) -> Result<bool, AllocError>
+) -> Result<Option<StateRange>, AllocError>
     requires complete { IsComplete m.now }
     requires sound { IsSound m.now p.old }
     requires splitter { IsSplitter m.now inside.now }
     requires from { from < block_count p.old }
     requires class { class < m.now.width }
     ensures sound { OnOk result (IsSound m.now p.new) }
-    ensures count { IfOk result (λ b. block_count p.new ≡ block_count p.old + (if b then 1 else 0)) }
-    ensures unsplit { IfOk result (λ b. b ≡ false → IsStableBlock m.now p.old.block_of.items inside.now from class) }
+    ensures count { IfOk result (λ moved. IfSome moved (λ _. block_count p.new ≡ block_count p.old + 1)) }
+    ensures divided { IfOk result (λ moved. IfSome moved (HasNewBlock p.old p.new)) }
+    ensures unsplit { IfOk result (λ moved. moved ≡ None → IsStableBlock m.now p.old.block_of.items inside.now from class) }
+    ensures same { IfOk result (λ moved. moved ≡ None → p.new ≡ p.old) }
 {
     let states = all_states(alloc, m.labels.len())?;
     let sources = states.as_slice();

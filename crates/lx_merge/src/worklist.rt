@@ -1,14 +1,16 @@
 // The worklist by which blocks are split (Hopcroft 1971): blocks that are still to be used as splitters, where of two
 // parts the smaller one gets the new number and is used. What is proved of the partition doesn't rest on their order.
 
-ghost use Rattle.std.specs.Prelude.{◌≡◌, ◌<◌, ◌≤◌, ◌+◌, ◌-◌, ◌*◌, ℕ, true, IfOk, OnOk, length, vec_len};
+ghost use Rattle.std.specs.Prelude.{◌≡◌, ◌<◌, ◌≤◌, ◌+◌, ◌-◌, ◌*◌, ◌++◌, ◌∷◌, [], ℕ, true, Contains, IfOk, OnOk, length, vec_len};
 ghost use Rattle.lx_partition.specs.Completion.{total, IsComplete};
-ghost use Rattle.lx_partition.specs.Partitions.{block_count, IsSound, IsSplitter};
+ghost use Rattle.lx_partition.specs.Partitions.{block_count, AreFlags, IsSound, IsSplitter, flag};
+ghost use Rattle.lx_merge.specs.BlockBounds.{AreBounds};
 ghost use Rattle.lx_merge.specs.SplitMeasure.{splits_left};
 ghost use Rattle.lx_merge.specs.Sources.{AreAllListed, ContainPreimage};
 
+use crate::bounds::{Bounds, StateRange, add_bounds, bounds_of};
 use crate::candidates::sources_into;
-use crate::members::{Members, members_of};
+use crate::members::{Members, members_between, members_of};
 use crate::predecessors::Predecessors;
 use crate::split::{side_of, split};
 use lx_partition::{Complete, Partition};
@@ -25,6 +27,8 @@ pub(crate) struct Worklist {
     pub(crate) touched: Vec<u16>,
     /// The blocks that are still to be used as splitters.
     pub(crate) pending: Vec<u16>,
+    /// StateRange which states those of each block stand.
+    pub(crate) bounds: Bounds,
 }
 
 /// Counts a state for its block.
@@ -40,6 +44,7 @@ fn count_state(counts: &mut [u32], block: u16)
 fn worklist_of(alloc: Global, m: &Complete, p: &Partition) -> Result<Worklist, AllocError>
     requires complete { IsComplete m.now }
     requires sound { IsSound m.now p.now }
+    ensures { IfOk result (λ worklist. AreBounds p.now worklist.bounds) }
 {
     let count = p.representatives.len();
     let mut sizes = vec![in alloc; 0; count]?;
@@ -54,11 +59,13 @@ fn worklist_of(alloc: Global, m: &Complete, p: &Partition) -> Result<Worklist, A
             pending.push(p.block_of[i])?;
         }
     }
+    let bounds = bounds_of(alloc, m, p)?;
     Ok(Worklist {
         sizes,
         hits,
         touched: Vec::new(alloc),
         pending,
+        bounds,
     })
 }
 
@@ -66,6 +73,7 @@ fn worklist_of(alloc: Global, m: &Complete, p: &Partition) -> Result<Worklist, A
 #[inline]
 fn hit(worklist: &mut Worklist, block: u16) -> Result<(), AllocError>
     ensures pending { OnOk result (vec_len worklist.new.pending ≡ vec_len worklist.old.pending) }
+    ensures bounds { worklist.new.bounds ≡ worklist.old.bounds }
 {
     if let Some(hits) = worklist.hits.get_mut(block as usize) {
         let first = *hits == 0;
@@ -80,6 +88,7 @@ fn hit(worklist: &mut Worklist, block: u16) -> Result<(), AllocError>
 /// Counts for each block its states that step into the splitter, which are these.
 fn count_hits(worklist: &mut Worklist, p: &Partition, sources: &[u16]) -> Result<(), AllocError>
     ensures pending { OnOk result (vec_len worklist.new.pending ≡ vec_len worklist.old.pending) }
+    ensures bounds { worklist.new.bounds ≡ worklist.old.bounds }
 {
     for i in 0..sources.len() {
         if let Some(block) = p.block_of.get(sources[i] as usize).copied() {
@@ -93,6 +102,7 @@ fn count_hits(worklist: &mut Worklist, p: &Partition, sources: &[u16]) -> Result
 fn take_hits(worklist: &mut Worklist, block: usize) -> u32
     ensures pending { vec_len worklist.new.pending ≡ vec_len worklist.old.pending }
     ensures touched { vec_len worklist.new.touched ≡ vec_len worklist.old.touched }
+    ensures bounds { worklist.new.bounds ≡ worklist.old.bounds }
 {
     if let Some(hits) = worklist.hits.get_mut(block) {
         let count = *hits;
@@ -103,22 +113,26 @@ fn take_hits(worklist: &mut Worklist, block: usize) -> u32
     }
 }
 
-/// Notes that a block was split, and that the new one is to be used.
+/// Notes that a block was split, between which states those of the new one stand, and that it is to be used.
 fn add_block(
     worklist: &mut Worklist,
     from: usize,
     left: u32,
     fresh: u16,
     moved: u32,
+    range: StateRange,
 ) -> Result<(), AllocError>
     ensures pending { OnOk result (vec_len worklist.new.pending ≡ vec_len worklist.old.pending + 1) }
     ensures touched { OnOk result (vec_len worklist.new.touched ≡ vec_len worklist.old.touched) }
+    ensures lows { OnOk result (worklist.new.bounds.lows.items ≡ worklist.old.bounds.lows.items ++ range.low ∷ []) }
+    ensures highs { OnOk result (worklist.new.bounds.highs.items ≡ worklist.old.bounds.highs.items ++ range.high ∷ []) }
 {
     if let Some(size) = worklist.sizes.get_mut(from) {
         *size = left;
     }
     worklist.sizes.push(moved)?;
     worklist.hits.push(0)?;
+    add_bounds(&mut worklist.bounds, range)?;
     worklist.pending.push(fresh)?;
     Ok(())
 }
@@ -139,8 +153,10 @@ fn split_touched(
     requires splitter { IsSplitter m.now inside.now }
     requires sources { ContainPreimage m.now inside.now class sources.now }
     requires class { class < m.now.width }
+    requires bounds { AreBounds p.old worklist.old.bounds }
     ensures sound { OnOk result (IsSound m.now p.new) }
     ensures splits_left { OnOk result (splits_left m.now p.new worklist.new ≤ splits_left m.now p.old worklist.old) }
+    ensures bounds { OnOk result (AreBounds p.new worklist.new.bounds) }
     ensures touched { OnOk result (vec_len worklist.new.touched ≡ vec_len worklist.old.touched) }
 {
     let fresh = p.representatives.len();
@@ -154,11 +170,10 @@ fn split_touched(
     }
     let wanted = side_of(m, inside, from, class, hits <= size / 2);
     let moved = if wanted { hits } else { size - hits };
-    let is_split = split(alloc, m, p, inside, sources, from, class, wanted)?;
-    if is_split {
-        add_block(worklist, from, size - moved, fresh as u16, moved)?;
+    let Some(range) = split(alloc, m, p, inside, sources, from, class, wanted)? else {
         return Ok(());
-    }
+    };
+    add_block(worklist, from, size - moved, fresh as u16, moved, range)?;
     Ok(())
 }
 
@@ -177,14 +192,37 @@ fn split_by(
     requires splitter { IsSplitter m.now inside.now }
     requires sources { ContainPreimage m.now inside.now class sources.now }
     requires class { class < m.now.width }
+    requires bounds { AreBounds p.old worklist.old.bounds }
     ensures sound { OnOk result (IsSound m.now p.new) }
     ensures splits_left { OnOk result (splits_left m.now p.new worklist.new ≤ splits_left m.now p.old worklist.old) }
+    ensures bounds { OnOk result (AreBounds p.new worklist.new.bounds) }
 {
     count_hits(worklist, p, sources)?;
     while let Some(from) = worklist.touched.pop() {
         split_touched(alloc, m, p, worklist, inside, sources, class, from as usize)?;
     }
     Ok(())
+}
+
+/// The states of a block, by the bounds of all blocks.
+fn members_by(
+    alloc: Global,
+    p: &Partition,
+    bounds: &Bounds,
+    block: u16,
+) -> Result<Members, AllocError>
+    requires small { length p.now.block_of.items ≤ 16513 }
+    requires bounds { AreBounds p.now bounds.now }
+    ensures flags { IfOk result (λ members. AreFlags p.now.block_of.items block (length p.now.block_of.items) members.inside.items) }
+    ensures listed { IfOk result (λ members. (s : ℕ) → s < length p.now.block_of.items → flag members.inside.items s ≡ true → Contains members.states.items s) }
+{
+    let number = block as usize;
+    if number < bounds.lows.len() && number < bounds.highs.len() {
+        let low = bounds.lows[number];
+        let high = bounds.highs[number];
+        return members_between(alloc, &p.block_of, block, low, high);
+    }
+    members_of(alloc, &p.block_of, block)
 }
 
 /// Splits all blocks by which of their states step into a block, on each class.
@@ -200,10 +238,12 @@ fn split_all(
     requires complete { IsComplete m.now }
     requires sound { IsSound m.now p.old }
     requires listed { listed ≡ true → AreAllListed m.now predecessors.now }
+    requires bounds { AreBounds p.old worklist.old.bounds }
     ensures sound { OnOk result (IsSound m.now p.new) }
     ensures splits_left { OnOk result (splits_left m.now p.new worklist.new ≤ splits_left m.now p.old worklist.old) }
+    ensures bounds { OnOk result (AreBounds p.new worklist.new.bounds) }
 {
-    let Members { inside, states } = members_of(alloc, &p.block_of, block)?;
+    let Members { inside, states } = members_by(alloc, p, &worklist.bounds, block)?;
     for class in 0..m.width {
         let sources = sources_into(alloc, m, predecessors, listed, &inside, &states, class)?;
         split_by(alloc, m, p, worklist, &inside, &sources, class)?;

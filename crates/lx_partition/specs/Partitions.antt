@@ -1,5 +1,5 @@
 -- Divisions of the states into blocks that are only ever split where a word tells states apart.
-use Rattle.std.specs.Prelude.{◌≡◌, ◌≢◌, ℕ, ◌<◌, ◌≤◌, Bool, true, false, List, length, slice_index, slice_index_or}
+use Rattle.std.specs.Prelude.{◌≡◌, ◌≢◌, ℕ, ◌+◌, ◌-◌, ◌<◌, ◌≤◌, Bool, true, false, List, length, slice_index, slice_index_or}
 use Rattle.lx_partition.specs.Completion.{total, label_of, step_of, AreDistinguishableByClasses}
 use Rattle.lx_partition.specs.declared.complete.Complete.{Complete}
 use Rattle.lx_partition.specs.declared.partition.Partition.{Partition}
@@ -44,6 +44,13 @@ pub record AreLabelledBelow (m : Complete) (n : ℕ) (blocks representatives : L
   pub labels : (s : ℕ) → s < n → label_of m (slice_index representatives (slice_index blocks s)) ≡ label_of m s
   pub apart : (a b : ℕ) → a < length representatives → b < length representatives →
       label_of m (slice_index representatives a) ≡ label_of m (slice_index representatives b) → a ≡ b
+
+-- the block of each label, encoded: 0 where no block has it, else one more
+pub record AreBlocksByLabel (m : Complete) (representatives blocks : List ℕ) : Type 0 where
+  pub long : (s : ℕ) → s < total m → label_of m s < length blocks
+  pub known : (b : ℕ) → b < length representatives → slice_index blocks (label_of m (slice_index representatives b)) ≡ b + 1
+  pub below : (l : ℕ) → slice_index blocks l ≤ length representatives
+  pub found : (l : ℕ) → slice_index blocks l ≢ 0 → label_of m (slice_index representatives (slice_index blocks l - 1)) ≡ l
 
 -- whether a state is in a set, kept as flags
 abbrev pub flag : List Bool → ℕ → Bool

@@ -1,5 +1,6 @@
 use Rattle.std.proofs.Common.{arith}
 use Rattle.std.proofs.lemmas.Grind.{common_steps}
+use Rattle.lx_merge.proofs.NewBlocks.{new_block}
 use Rattle.lx_merge.proofs.Splits.{sound_after, blocks_at_most, stable_without_remaining_states}
 use Rattle.lx_merge.proofs.split.split.Goals as goal
 
@@ -22,4 +23,11 @@ returns-clause-sound c =
     sound_after c.args.m.now c.args.p.now c.divide.new.p c.args.inside.now c.args.from c.args.class c.side_of-wanted.result c.in-Some.remaining_state c.in_ok-moved_states.moved_states.items
     c.requires.complete c.requires.sound c.requires.splitter c.requires.from c.requires.class c.side_of-wanted.ensures
     (rw c.as_slice-blocks.ensures.value at c.in_ok-moved_states.ensures) (let long = c.in_ok-moved_states.moved_states.ok.0 in let e = c.is_empty.ensures in let f = c.if-is_empty.false in grind (arith, common_steps)) c.in-Some.ensures.state (rw c.as_slice-blocks.ensures.value at c.in-Some.ensures.remaining_state)
-    (rw c.deref.ensures.value at c.in_ok-divide.ensures.representatives) (rw c.deref.ensures.value at c.in_ok-divide.ensures.blocks)
+    (rw c.deref-2.ensures.value at c.in_ok-divide.ensures.representatives) (rw c.deref-2.ensures.value at c.in_ok-divide.ensures.blocks)
+
+pub returns-clause-divided : goal.returns-clause-divided
+returns-clause-divided c =
+    let ms = c.in_ok-moved_states.moved_states.items in
+    let range = c.range_of-moved.result in
+    new_block c.args.p.now c.divide.new.p ms range (rw c.deref-2.ensures.value at c.in_ok-divide.ensures.blocks)
+    (rw c.deref.ensures.value at c.range_of-moved.ensures.low) (rw c.deref.ensures.value at c.range_of-moved.ensures.high)

@@ -1,10 +1,10 @@
 use Rattle.std.proofs.Common.{◌≡◌, ◌≢◌, ◌<◌, ◌≤◌, ◌-◌, ℕ, true, false, Contains, length, slice_index}
 use Rattle.lx_partition.specs.Partitions.{flag}
-use Rattle.lx_merge.proofs.members.members_of.Given as goal
+use Rattle.lx_merge.proofs.members.members_between.Given as goal
 
 abbrev pub invariant-loop-state : goal.invariant-loop-state
 invariant-loop-state l = record {
-  within : l.from ≤ length l.blocks;
+  within : l.from ≤ l.end;
   long : length l.inside.items ≡ length l.blocks;
   inside_block : (s : ℕ) → s < l.from → slice_index l.blocks s ≡ l.number → flag l.inside.items s ≡ true;
   outside_block : (s : ℕ) → s < l.from → slice_index l.blocks s ≢ l.number → flag l.inside.items s ≡ false;
@@ -13,4 +13,4 @@ invariant-loop-state l = record {
 }
 
 abbrev pub decreases-loop-state : goal.decreases-loop-state
-decreases-loop-state l = length l.blocks - l.from
+decreases-loop-state l = l.end - l.from
