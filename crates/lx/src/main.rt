@@ -19,10 +19,11 @@ use std::sync::Wait;
 use std::thread::Threads;
 use std::{env, io};
 
-// So many bytes of output are gathered where one thread does all the work: so there are few calls of the system.
-const GATHERED: usize = 262_144;
+// So many bytes of output are gathered where one thread does all the work: so there are few calls of the system. The lines of a listing come
+// in writes of as many and more, which go to the stream without a copy.
+const GATHERED: usize = 65_536;
 
-// And so many where workers make the lines: a block of lines is longer, as a rule, and goes to the stream without a copy.
+// And so many where workers make the lines: a block of lines is longer, as a rule, and goes to the stream without a copy too.
 const GATHERED_OF_WORKERS: usize = 4_096;
 
 // The exit statuses where the program's own work doesn't begin: the words can't be had, or memory is refused.

@@ -1,5 +1,7 @@
 -- A line of its parts, and lines of items.
-use Rattle.std.proofs.Common.{◌≡◌, ℕ, ◌+◌, ◌-◌, List, [], ◌∷◌, ◌++◌, take, drop, ◌∙◌, ap, arith, append_assoc}
+use Rattle.std.proofs.Common.{◌≡◌, ℕ, ◌+◌, ◌-◌, List, [], ◌∷◌, ◌++◌, length, take, drop, take-add, length-drop, sym, ◌∙◌, ap, arith, append_assoc}
+use Rattle.std.proofs.lemmas.Grind.{flat_map-append}
+use Rattle.std.proofs.lemmas.List.{take_all}
 use Rattle.std.specs.Prelude.{Option, codes, decimal}
 use Rattle.std.specs.List.{flat_map}
 use Rattle.lx_rules.specs.declared.rule.Kind.{Kind}
@@ -47,3 +49,16 @@ line_placed {a} {b} {c} {at} {mid} {end} plan file item kind line start len byte
     ∙ ap (λ (k : ℕ). take at a ++ (prefix_text plan file (kind_of_item item) ++ rest_text (line_number item) (start_of item) k bytes)) n
     ∙ ap (λ (bs : List ℕ). take at a ++ (prefix_text plan file (kind_of_item item) ++ rest_text (line_number item) (start_of item) (len_of item) bs)) t
     ∙ ap (λ (bs : List ℕ). take at a ++ bs) (prefix_and_rest plan file item)
+
+-- the elements behind the first ones, as they are handed on
+pub rest_all : {X : Type 0} (xs : List X) (done : ℕ) → take (length xs - done) (drop done xs) ≡ drop done xs
+rest_all xs done = take_all (length xs - done) (drop done xs) (omega (arith, length-drop done xs))
+
+-- the texts of some first elements, and behind them those of further ones
+pub texts_more : {X : Type 0} (text : X → List ℕ) (before mid new : List ℕ) (xs : List X) (done count : ℕ) → mid ≡ before ++ flat_map text (take done xs) → new ≡ mid ++ flat_map text (take count (take (length xs - done) (drop done xs))) → new ≡ before ++ flat_map text (take (done + count) xs)
+texts_more {X} text before mid new xs done count p q =
+    q
+    ∙ ap (λ (bs : List ℕ). bs ++ flat_map text (take count (take (length xs - done) (drop done xs)))) p
+    ∙ ap (λ (ys : List X). (before ++ flat_map text (take done xs)) ++ flat_map text (take count ys)) (rest_all xs done)
+    ∙ append_assoc before (flat_map text (take done xs)) (flat_map text (take count (drop done xs)))
+    ∙ ap (λ (bs : List ℕ). before ++ bs) (sym (flat_map-append text (take done xs) (take count (drop done xs))) ∙ ap (flat_map text) (sym (take-add done count xs)))

@@ -1,58 +1,44 @@
-//! Lines made behind one another in memory of fixed length.
+//! Lines placed behind one another from parts that are ready.
 
-ghost use Rattle.std.specs.Prelude.{◌≡◌, ◌+◌, ◌<◌, ◌≤◌, ◌++◌, OnOk, false, take, true};
+ghost use Rattle.std.specs.Prelude.{◌≡◌, ◌+◌, ◌<◌, ◌≤◌, ◌++◌, All, MatchOption, length, take};
 ghost use Rattle.lx_scan.specs.ItemParts.{IsItemOf};
 ghost use Rattle.lx_plan.specs.Plans.{files_of, bytes_of, kinds_of};
 ghost use Rattle.lx_line.specs.Prefixes.{ArePrefixesOf};
-ghost use Rattle.lx_line.specs.Lines.{line_of};
+ghost use Rattle.lx_line.specs.Lines.{line_of, lines_of};
 
 use crate::fields::{Digits, fits, kind_of, numbers_of, place_rest};
-use crate::plain::push_line;
 use crate::prefixes::Prefixes;
 use lx_plan::Plan;
 use lx_scan::Item;
-use std::alloc::AllocError;
 
 // A line takes so much room at most: a prefix of 32 bytes, two numbers of 20, the length, a text in which each byte may be escaped, 16 bytes
 // that are copied behind it, and the line's end.
 const LINE: usize = 480;
 
-// So many bytes of lines are made before they go to the block.
-const DRAFT: usize = 2048;
+/// Some first items whose lines were placed: how many they are, and where the lines end.
+#[derive(Clone, Copy, Drop)]
+pub(crate) struct FirstLines {
+    pub count: usize,
+    pub end: usize,
+}
 
-/// Lines of a file that are being made, and what those that follow can use again.
+/// What the lines of a file are made of, and what those that follow can use again.
 #[derive(Drop)]
 pub struct Draft {
-    lines: [u8; 2048],
-    len: usize,
     prefixes: Prefixes,
     digits: Digits,
-    ghost within: { len ≤ 2048 },
 }
 
 impl Draft {
-    /// No lines.
+    /// Ready for the lines of a file.
     #[inline(always)]
     pub fn new(plan: &Plan, file: u32) -> Draft
-        ensures empty { result.len ≡ 0 }
         ensures prefixes { ArePrefixesOf plan.now file result.prefixes }
     {
         Draft {
-            lines: [0; DRAFT],
-            len: 0,
             prefixes: Prefixes::new(plan, file),
             digits: Digits::new(),
         }
-    }
-
-    /// Forgets its lines, and keeps what those that follow can use again.
-    #[inline(always)]
-    pub fn clear(&mut self)
-        ensures empty { self.new.len ≡ 0 }
-        ensures same { self.new.lines ≡ self.old.lines }
-        ensures prefixes { self.new.prefixes ≡ self.old.prefixes }
-    {
-        self.len = 0;
     }
 
     /// Makes ready for the lines of another file.
@@ -64,97 +50,70 @@ impl Draft {
         self.prefixes = Prefixes::new(plan, file);
     }
 
-    // Puts the line of an item behind the others. Some lines have to be made the plain way: the long ones, and those of texts near the
-    // end of the file, behind which no 16 bytes can be read.
+    // Places the line of an item. Some have to be made the plain way: the long ones, and those of texts near the end of the file, behind which
+    // no 16 bytes can be read.
     #[inline(always)]
-    fn add(&mut self, plan: &Plan, file: u32, bytes: &[u8], item: &Item) -> bool
-        requires room { self.old.len + 480 ≤ 2048 }
-        requires bytes { bytes.now ≡ bytes_of plan.now file }
-        requires item { IsItemOf (kinds_of plan.now) (bytes_of plan.now file) item.now }
-        requires prefixes { ArePrefixesOf plan.now file self.old.prefixes }
-        ensures added { result ≡ true → take self.new.len self.new.lines ≡ take self.old.len self.old.lines ++ line_of plan.now file item.now }
-        ensures not { result ≡ false → take self.new.len self.new.lines ≡ take self.old.len self.old.lines }
-        ensures prefixes { ArePrefixesOf plan.now file self.new.prefixes }
-    {
-        let numbers = numbers_of(item);
-        if !fits(numbers, bytes) || !self.digits.follow(numbers) {
-            return false;
-        }
-        let Some(at) = self
-            .prefixes
-            .place(&mut self.lines, self.len, plan, file, kind_of(item))
-        else {
-            return false;
-        };
-        self.len = place_rest(&mut self.lines, at, &self.digits, numbers, bytes);
-        true
-    }
-
-    /// Hands the lines on to a block.
-    #[inline(never)]
-    pub fn move_to(&mut self, block: &mut Vec<u8>) -> Result<(), AllocError>
-        ensures moved { OnOk result (block.new.items ≡ block.old.items ++ take self.old.len self.old.lines) }
-        ensures empty { OnOk result (self.new.len ≡ 0) }
-        ensures prefixes { self.new.prefixes ≡ self.old.prefixes }
-    {
-        block.extend_from_slice(&self.lines[..self.len])?;
-        self.clear();
-        Ok(())
-    }
-
-    // Has room for one more line.
-    #[inline(always)]
-    fn make_room(&mut self, block: &mut Vec<u8>) -> Result<(), AllocError>
-        ensures same { OnOk result (block.new.items ++ take self.new.len self.new.lines ≡ block.old.items ++ take self.old.len self.old.lines) }
-        ensures room { OnOk result (self.new.len + 480 ≤ 2048) }
-        ensures prefixes { self.new.prefixes ≡ self.old.prefixes }
-    {
-        if self.len <= DRAFT - LINE {
-            return Ok(());
-        }
-        self.move_to(block)
-    }
-
-    // Puts the line of an item, made field by field, behind those in the block and here.
-    #[cold]
-    #[inline(never)]
-    fn push_plain(
+    fn place_line(
         &mut self,
-        block: &mut Vec<u8>,
-        plan: &Plan,
-        file: u32,
-        item: &Item,
-    ) -> Result<(), AllocError>
-        requires file { file < files_of plan.now }
-        requires item { IsItemOf (kinds_of plan.now) (bytes_of plan.now file) item.now }
-        ensures pushed { OnOk result (block.new.items ++ take self.new.len self.new.lines ≡ (block.old.items ++ take self.old.len self.old.lines) ++ line_of plan.now file item.now) }
-        ensures prefixes { self.new.prefixes ≡ self.old.prefixes }
-    {
-        self.move_to(block)?;
-        push_line(block, plan, file, item)
-    }
-
-    /// Puts the line of an item behind those in the block and here.
-    #[inline(always)]
-    pub fn push(
-        &mut self,
-        block: &mut Vec<u8>,
+        buf: &mut [u8],
+        at: usize,
         plan: &Plan,
         file: u32,
         bytes: &[u8],
         item: &Item,
-    ) -> Result<(), AllocError>
-        requires file { file < files_of plan.now }
+    ) -> Option<usize>
+        requires room { at + 480 ≤ length buf.old }
         requires bytes { bytes.now ≡ bytes_of plan.now file }
         requires item { IsItemOf (kinds_of plan.now) (bytes_of plan.now file) item.now }
         requires prefixes { ArePrefixesOf plan.now file self.old.prefixes }
-        ensures pushed { OnOk result (block.new.items ++ take self.new.len self.new.lines ≡ (block.old.items ++ take self.old.len self.old.lines) ++ line_of plan.now file item.now) }
+        ensures placed { MatchOption result (buf.new ≡ buf.old) (λ end. take end buf.new ≡ take at buf.old ++ line_of plan.now file item.now) }
+        ensures short { MatchOption result (Unit {0}) (λ end. end ≤ at + 480) }
+        ensures len { length buf.new ≡ length buf.old }
         ensures prefixes { ArePrefixesOf plan.now file self.new.prefixes }
     {
-        self.make_room(block)?;
-        if self.add(plan, file, bytes, item) {
-            return Ok(());
+        let numbers = numbers_of(item);
+        if !fits(numbers, bytes) || !self.digits.follow(numbers) {
+            return None;
         }
-        self.push_plain(block, plan, file, item)
+        let Some(at) = self.prefixes.place(buf, at, plan, file, kind_of(item)) else {
+            return None;
+        };
+        Some(place_rest(buf, at, &self.digits, numbers, bytes))
+    }
+
+    /// Places the lines of the first items, up to one that has no room or has to be made the plain way.
+    #[inline(never)]
+    pub(crate) fn place_lines(
+        &mut self,
+        buf: &mut [u8],
+        at: usize,
+        plan: &Plan,
+        file: u32,
+        items: &[Item],
+    ) -> FirstLines
+        requires room { at ≤ length buf.old }
+        requires file { file < files_of plan.now }
+        requires items { All (IsItemOf (kinds_of plan.now) (bytes_of plan.now file)) items.now }
+        requires prefixes { ArePrefixesOf plan.now file self.old.prefixes }
+        ensures few { result.count ≤ length items.now }
+        ensures lines { take result.end buf.new ≡ take at buf.old ++ lines_of plan.now file (take result.count items.now) }
+        ensures within { result.end ≤ length buf.new }
+        ensures len { length buf.new ≡ length buf.old }
+        ensures prefixes { ArePrefixesOf plan.now file self.new.prefixes }
+    {
+        let bytes = plan.bytes(file);
+        let mut end = at;
+        let mut count = 0;
+        for item in items {
+            if buf.len() - end < LINE {
+                return FirstLines { count, end };
+            }
+            let Some(next) = self.place_line(buf, end, plan, file, bytes, item) else {
+                return FirstLines { count, end };
+            };
+            end = next;
+            count += 1;
+        }
+        FirstLines { count, end }
     }
 }

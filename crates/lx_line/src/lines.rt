@@ -1,12 +1,13 @@
 //! The lines of items.
 
-ghost use Rattle.std.specs.Prelude.{◌≡◌, ◌<◌, ◌++◌, All, OnOk};
+ghost use Rattle.std.specs.Prelude.{◌≡◌, ◌<◌, ◌≤◌, ◌++◌, All, IfOk, OnOk, length, take};
 ghost use Rattle.lx_scan.specs.ItemParts.{IsItemOf};
 ghost use Rattle.lx_plan.specs.Plans.{files_of, bytes_of, kinds_of};
 ghost use Rattle.lx_line.specs.Lines.{lines_of};
 ghost use Rattle.lx_line.specs.Prefixes.{ArePrefixesOf};
 
-use crate::draft::Draft;
+use crate::buffer::LineBuffer;
+use crate::draft::{Draft, FirstLines};
 use crate::plain::push_line;
 use lx_plan::Plan;
 use lx_scan::Item;
@@ -16,6 +17,9 @@ use std::snapshot::Snapshot;
 
 // So many lines are worth what is made ready for them.
 const MANY: usize = 8;
+
+// So many bytes of lines are placed before they go to a block that grows.
+const LINES: usize = 2048;
 
 /// Puts the lines of items of a file behind what the block holds. Where memory is refused a part of them stands there.
 pub fn push_lines(
@@ -48,6 +52,33 @@ fn push_few(block: &mut Vec<u8>, plan: &Plan, file: u32, items: &[Item]) -> Resu
     Ok(())
 }
 
+// The lines of the first items, as many as are placed at once, or that of one which has to be made field by field; how many they are.
+fn push_some(
+    draft: &mut Draft,
+    lines: &mut [u8],
+    block: &mut Vec<u8>,
+    plan: &Plan,
+    file: u32,
+    items: &[Item],
+) -> Result<usize, AllocError>
+    requires some { 0 < length items.now }
+    requires file { file < files_of plan.now }
+    requires items { All (IsItemOf (kinds_of plan.now) (bytes_of plan.now file)) items.now }
+    requires prefixes { ArePrefixesOf plan.now file draft.old.prefixes }
+    ensures some { IfOk result (λ count. 0 < count) }
+    ensures few { IfOk result (λ count. count ≤ length items.now) }
+    ensures lines { IfOk result (λ count. block.new.items ≡ block.old.items ++ lines_of plan.now file (take count items.now)) }
+    ensures prefixes { ArePrefixesOf plan.now file draft.new.prefixes }
+{
+    let FirstLines { count, end } = draft.place_lines(lines, 0, plan, file, items);
+    if count == 0 {
+        push_line(block, plan, file, &items[0])?;
+        return Ok(1);
+    }
+    block.extend_from_slice(&lines[..end])?;
+    Ok(count)
+}
+
 // From parts that are made ready.
 #[inline(never)]
 fn push_many(
@@ -63,12 +94,12 @@ fn push_many(
     ensures lines { OnOk result (block.new.items ≡ block.old.items ++ lines_of plan.now file items.now) }
     ensures prefixes { ArePrefixesOf plan.now file draft.new.prefixes }
 {
-    let bytes = plan.bytes(file);
-    draft.clear();
-    for item in items {
-        draft.push(block, plan, file, bytes, item)?;
+    let mut lines = [0; LINES];
+    let mut done = 0;
+    while done < items.len() {
+        done += push_some(draft, &mut lines, block, plan, file, &items[done..])?;
     }
-    draft.move_to(block)
+    Ok(())
 }
 
 /// What the lines of a plan's files are made of, kept from one piece to the next, so that it isn't made ready for each.
@@ -126,5 +157,31 @@ impl PlanDraft {
             self.draft.begin(plan, file);
         }
         push_many(&mut self.draft, block, plan, file, items)
+    }
+
+    /// Puts the lines of the first items of a file of its plan behind what the buffer holds, up to one that has no room or has to be made the
+    /// plain way; how many they are.
+    pub fn place_lines(
+        &mut self,
+        buffer: &mut LineBuffer,
+        plan: &Plan,
+        file: u32,
+        items: &[Item],
+    ) -> usize
+        requires plan { self.old ≡ plan.now }
+        requires file { file < files_of plan.now }
+        requires items { All (IsItemOf (kinds_of plan.now) (bytes_of plan.now file)) items.now }
+        ensures plan { self.new ≡ self.old }
+        ensures few { result ≤ length items.now }
+        ensures lines { buffer.new ≡ buffer.old ++ lines_of plan.now file (take result items.now) }
+    {
+        if self.file != file && items.len() < MANY {
+            return 0;
+        }
+        if self.file != file {
+            self.file = file;
+            self.draft.begin(plan, file);
+        }
+        buffer.place_lines(&mut self.draft, plan, file, items)
     }
 }

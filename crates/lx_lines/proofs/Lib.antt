@@ -1,3 +1,4 @@
+mod HandedOn
 pub mod Parting
 pub mod Stepping
 pub mod Turning

@@ -1,3 +1,5 @@
+pub mod Gathered
+pub mod GatheredLaws
 pub mod Lines
 pub mod ListedLaws
 pub mod Listings

@@ -1,24 +1,21 @@
 //! The printer of a listing.
 
-ghost use Rattle.std.specs.Prelude.{◌≡◌, ◌<◌, IfOk, IfErr, OnOk};
+ghost use Rattle.std.specs.Prelude.{◌≡◌, ◌<◌, IfErr, OnOk};
 ghost use Rattle.lx_plan.specs.Plans.{files_of};
 ghost use Rattle.lx_delivery.specs.Turns.{HasTurn, turn_after};
 ghost use Rattle.lx_lines.specs.Parts.{WrotePart};
 ghost use Rattle.lx_lines.specs.Printing.{PrintsTo, PrintsPart, printing, shown_lines, turn_of};
 ghost use Rattle.lx_shown.specs.Shown.{shown};
 
-use crate::parts::{LONG, write_cut};
-use crate::shown_lines::{shown_block, write_shown};
+use crate::shown_lines::{write_cut, write_shown};
 use crate::sink::LineSink;
-use lx_line::{PlanDraft, push_cut_line};
+use lx_line::PlanDraft;
 use lx_piece::{Piece, Plan, ReaderFault, Taker};
-use lx_shown::{LineMaker, Shown, Spares, emptied};
-use std::alloc::{AllocError, Global};
+use lx_shown::{LineMaker, Shown, Spares};
+use std::alloc::Global;
 
 /// Writes the lines of a plan's pieces, which it is handed in the plan's order, with the cut line behind those of a file whose
-/// reading failed. The lines of a piece are one block. Where memory is refused for it, nothing of the piece is written. Where the texts
-/// of a piece are long, and the sink takes parts, its lines leave in parts, so that no block holds them all: memory is then refused between
-/// two lines.
+/// reading failed. Where memory is refused, whole lines of the piece were written, or none.
 #[derive(Drop)]
 pub struct Printer<Y: Spares, S: LineSink> {
     pub(crate) alloc: Global,
@@ -29,78 +26,6 @@ pub struct Printer<Y: Spares, S: LineSink> {
     // The piece that comes next.
     pub(crate) file: u32,
     pub(crate) number: u64,
-}
-
-// The lines of a piece in a block.
-fn block_of<Y: Spares>(
-    alloc: Global,
-    spares: &Y,
-    draft: &mut PlanDraft,
-    plan: &Plan,
-    piece: Piece<Shown>,
-) -> Result<Vec<u8>, AllocError>
-    requires draft { draft.old ≡ plan.now }
-    requires plan { piece.items.plan ≡ plan.now }
-    requires same_file { piece.items.file ≡ piece.file }
-    requires file { piece.file < files_of plan.now }
-    ensures draft { draft.new ≡ draft.old }
-    ensures block { IfOk result (λ block. block.items ≡ shown_lines piece) }
-{
-    let cut = piece.is_cut_short();
-    let Piece { file, items, .. } = piece;
-    let mut block = shown_block(items, alloc, spares, draft, plan, file)?;
-    if cut {
-        push_cut_line(&mut block, file)?;
-    }
-    Ok(block)
-}
-
-// Writes the lines of a piece as one block.
-fn write_whole<Y: Spares, S: LineSink>(
-    alloc: Global,
-    spares: &Y,
-    draft: &mut PlanDraft,
-    plan: &Plan,
-    piece: Piece<Shown>,
-    sink: &mut S,
-) -> Result<(), ReaderFault>
-    requires draft { draft.old ≡ plan.now }
-    requires plan { piece.items.plan ≡ plan.now }
-    requires same_file { piece.items.file ≡ piece.file }
-    requires file { piece.file < files_of plan.now }
-    ensures draft { draft.new ≡ draft.old }
-    ensures ok { OnOk result (S.wrote sink.old (shown_lines piece) sink.new) }
-    ensures part { IfErr result (λ fault. WrotePart S.wrote sink.old fault (shown_lines piece) sink.new) }
-{
-    let Ok(block) = block_of(alloc, spares, draft, plan, piece) else {
-        return Err(ReaderFault::Memory);
-    };
-    sink.write_lines(block.as_slice())?;
-    spares.give_block(block);
-    Ok(())
-}
-
-// Writes the lines of a piece in parts.
-fn write_parts<Y: Spares, S: LineSink>(
-    alloc: Global,
-    spares: &Y,
-    plan: &Plan,
-    piece: Piece<Shown>,
-    sink: &mut S,
-) -> Result<(), ReaderFault>
-    requires plan { piece.items.plan ≡ plan.now }
-    requires same_file { piece.items.file ≡ piece.file }
-    requires file { piece.file < files_of plan.now }
-    ensures ok { OnOk result (S.wrote sink.old (shown_lines piece) sink.new) }
-    ensures part { IfErr result (λ fault. WrotePart S.wrote sink.old fault (shown_lines piece) sink.new) }
-{
-    let ends_cut = piece.is_cut_short();
-    let Piece { file, items, .. } = piece;
-    let mut block = emptied(alloc, spares.take_block());
-    write_shown(items, spares, plan, file, &mut block, sink)?;
-    write_cut(sink, &mut block, file, ends_cut)?;
-    spares.give_block(block);
-    Ok(())
 }
 
 // Writes the lines of a piece.
@@ -120,11 +45,12 @@ fn write_piece<Y: Spares, S: LineSink>(
     ensures ok { OnOk result (S.wrote sink.old (shown_lines piece) sink.new) }
     ensures part { IfErr result (λ fault. WrotePart S.wrote sink.old fault (shown_lines piece) sink.new) }
 {
-    if sink.takes_parts() && piece.items.is_long(LONG) {
-        write_parts(alloc, spares, plan, piece, sink)
-    } else {
-        write_whole(alloc, spares, draft, plan, piece, sink)
-    }
+    let ends_cut = piece.is_cut_short();
+    let Piece { file, items, .. } = piece;
+    let mut block = write_shown(items, alloc, spares, draft, plan, file, sink)?;
+    write_cut(sink, &mut block, file, ends_cut)?;
+    spares.give_block(block);
+    Ok(())
 }
 
 impl<Y: Spares, S: LineSink> Printer<Y, S> {

@@ -7,9 +7,11 @@ ghost use Rattle.lx_writing.specs.Appending.{AppendsPrefix};
 ghost use Rattle.lx_lines.specs.Listings.{listing_of};
 ghost use Rattle.lx_lines.specs.Printing.{WrotePrefix};
 
+use crate::gathering::Gathering;
 use crate::printer::Printer;
 use crate::sink::{Lent, LineSink};
 use crate::spares::{Alone, Shared};
+use lx_line::LineBuffer;
 use lx_piece::{InOrder, Plan, RelayFault, relay_plan};
 use lx_post::{OpenGate, RunFault, scan_made};
 use lx_shown::{LineMaker, Spares};
@@ -45,15 +47,10 @@ fn print_all<Y: Spares + Drop, S: LineSink + Drop>(
     }
 }
 
-// Hands all pieces of the plan to a new printer over a lent writer.
-fn print_to<'w, W: Write>(
-    alloc: Global,
-    plan: &Plan,
-    sink: Lent<'w, W>,
-) -> (Lent<'w, W>, Result<(), RunFault>)
-    ensures same_reference { result.0.out.ghost_name ≡ sink.entry.out.ghost_name }
-    ensures ok { OnOk result.1 (Appends (W.contents sink.entry.out.now) (W.contents result.0.out.now) (listing_of plan.now)) }
-    ensures err { OnErr result.1 (AppendsPrefix (W.contents sink.entry.out.now) (W.contents result.0.out.now) (listing_of plan.now)) }
+// Hands all pieces of the plan to a new printer.
+fn print_to<S: LineSink + Drop>(alloc: Global, plan: &Plan, sink: S) -> (S, Result<(), RunFault>)
+    ensures ok { OnOk result.1 (S.wrote sink (listing_of plan.now) result.0) }
+    ensures part { WrotePrefix S.wrote sink (listing_of plan.now) result.0 }
 {
     // what holds of every plan
     let _files = plan.files();
@@ -94,19 +91,18 @@ fn scan_all_to<T: Threads + Wait + Sync, Y: Spares + Copy + Drop + Sync, S: Line
     }
 }
 
-// Has workers hand all pieces of the plan to a new printer over a lent writer.
-fn scan_to<'w, T: Threads + Wait + Sync, W: Write>(
+// Has workers hand all pieces of the plan to a new printer.
+fn scan_to<T: Threads + Wait + Sync, S: LineSink + Drop>(
     rt: &T,
     alloc: Global,
     plan: &Plan,
     workers: u8,
-    sink: Lent<'w, W>,
-) -> (Lent<'w, W>, Result<(), RunFault>)
+    sink: S,
+) -> (S, Result<(), RunFault>)
     requires some_workers { 0 < workers }
     requires few_workers { workers ≤ max_workers }
-    ensures same_reference { result.0.out.ghost_name ≡ sink.entry.out.ghost_name }
-    ensures ok { OnOk result.1 (Appends (W.contents sink.entry.out.now) (W.contents result.0.out.now) (listing_of plan.now)) }
-    ensures err { OnErr result.1 (AppendsPrefix (W.contents sink.entry.out.now) (W.contents result.0.out.now) (listing_of plan.now)) }
+    ensures ok { OnOk result.1 (S.wrote sink (listing_of plan.now) result.0) }
+    ensures part { WrotePrefix S.wrote sink (listing_of plan.now) result.0 }
 {
     // what holds of every plan
     let _files = plan.files();
@@ -119,9 +115,51 @@ fn scan_to<'w, T: Threads + Wait + Sync, W: Write>(
     (printer.into_sink(), answer)
 }
 
+// Has the pieces of the plan handed to a new printer: by workers, or with none on the calling thread.
+fn list_to<T: Threads + Wait + Sync, S: LineSink + Drop>(
+    rt: &T,
+    alloc: Global,
+    plan: &Plan,
+    workers: u8,
+    sink: S,
+) -> (S, Result<(), RunFault>)
+    requires { workers ≤ max_workers }
+    ensures ok { OnOk result.1 (S.wrote sink (listing_of plan.now) result.0) }
+    ensures part { WrotePrefix S.wrote sink (listing_of plan.now) result.0 }
+{
+    if workers == 0 {
+        print_to(alloc, plan, sink)
+    } else {
+        scan_to(rt, alloc, plan, workers, sink)
+    }
+}
+
+// The same, where the lines are gathered before they go on. What is held in the end goes on behind a fault too, unless the writer failed.
+fn list_gathered<T: Threads + Wait + Sync, S: LineSink + Drop>(
+    rt: &T,
+    alloc: Global,
+    plan: &Plan,
+    workers: u8,
+    sink: S,
+) -> (S, Result<(), RunFault>)
+    requires { workers ≤ max_workers }
+    ensures ok { OnOk result.1 (S.wrote sink (listing_of plan.now) result.0) }
+    ensures part { WrotePrefix S.wrote sink (listing_of plan.now) result.0 }
+{
+    let Ok(held) = LineBuffer::new(alloc) else {
+        return (sink, Err(RunFault::Memory));
+    };
+    let (gathering, answer) = list_to(rt, alloc, plan, workers, Gathering::new(held, sink));
+    let (sink, rest) = gathering.finish();
+    match rest {
+        Ok(()) => (sink, answer),
+        Err(_) => (sink, Err(RunFault::Reader)),
+    }
+}
+
 /// Writes the listing of a plan's files, the lines of each file in order and the files in order: 1 to 8 workers scan them, or with none the
-/// calling thread does. The lines of each piece are a block, of which each line is written by itself, or all at once. After a fault a prefix
-/// of the listing was written.
+/// calling thread does. Each line is written by itself, or many are gathered and written at once. After a fault a prefix of the listing was
+/// written.
 pub fn list_plan<T: Threads + Wait + Sync, W: Write>(
     rt: &T,
     alloc: Global,
@@ -135,10 +173,9 @@ pub fn list_plan<T: Threads + Wait + Sync, W: Write>(
     ensures err { OnErr result (AppendsPrefix (W.contents out.old) (W.contents out.new) (listing_of plan.now)) }
 {
     let sink = Lent { writes, out };
-    let (sink, answer) = if workers == 0 {
-        print_to(alloc, plan, sink)
-    } else {
-        scan_to(rt, alloc, plan, workers, sink)
+    let (sink, answer) = match writes {
+        LineWrites::EachLine => list_to(rt, alloc, plan, workers, sink),
+        LineWrites::Whole => list_gathered(rt, alloc, plan, workers, sink),
     };
     // taken apart, so that what the writer holds in the end is known
     let Lent {

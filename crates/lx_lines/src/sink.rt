@@ -1,9 +1,15 @@
 //! Where a listing's lines go.
 
-ghost use Rattle.std.specs.Prelude.{◌≡◌, [], ◌++◌, ℕ, List, IfErr, OnOk, OnErr};
+ghost use Rattle.std.specs.Prelude.{◌≡◌, ◌<◌, [], ◌++◌, ℕ, All, List, IfErr, OnOk, OnErr};
+ghost use Rattle.lx_scan.specs.ItemParts.{IsItemOf};
+ghost use Rattle.lx_plan.specs.Plans.{bytes_of, files_of, kinds_of};
+ghost use Rattle.lx_lines.specs.Lines.{lines_of};
+ghost use Rattle.lx_lines.specs.Parts.{WrotePart};
 ghost use Rattle.lx_lines.specs.Printing.{WrotePrefix};
 
-use lx_piece::ReaderFault;
+use lx_line::PlanDraft;
+use lx_piece::{Plan, ReaderFault};
+use lx_scan::Item;
 use lx_writing::{LineWrites, write_block};
 use std::io::Write;
 
@@ -18,9 +24,28 @@ pub trait LineSink {
         ensures err { OnErr result (WrotePrefix wrote self.old block.now self.new) }
         ensures device { IfErr result (λ fault. fault ≡ ReaderFault.Device) };
 
-    /// Whether it may be handed lines, and parts of lines, as they come, since no line has to be a write of its own.
-    fn takes_parts(&self) -> bool {
-        false
+    /// Writes the lines of items of a file, which the draft makes: as one block, where nothing else is said. What the block holds means
+    /// nothing before and after. Behind a fault a prefix of them was written, and whole lines where memory was refused.
+    fn write_items(
+        &mut self,
+        block: &mut Vec<u8>,
+        draft: &mut PlanDraft,
+        plan: &Plan,
+        file: u32,
+        items: &[Item],
+    ) -> Result<(), ReaderFault>
+        requires draft { draft.old ≡ plan.now }
+        requires file { file < files_of plan.now }
+        requires items { All (IsItemOf (kinds_of plan.now) (bytes_of plan.now file)) items.now }
+        ensures draft { draft.new ≡ draft.old }
+        ensures ok { OnOk result (wrote self.old (lines_of plan.now file items.now) self.new) }
+        ensures part { IfErr result (λ fault. WrotePart wrote self.old fault (lines_of plan.now file items.now) self.new) }
+    {
+        block.clear();
+        let Ok(()) = draft.push_lines(block, plan, file, items) else {
+            return Err(ReaderFault::Memory);
+        };
+        self.write_lines(block.as_slice())
     }
 
     ghost wrote_nothing: { (s : Self) → wrote s [] s };
@@ -43,10 +68,6 @@ impl<W: Write> LineSink for Owned<W> {
 
     fn write_lines(&mut self, block: &[u8]) -> Result<(), ReaderFault> {
         write_block(&mut self.out, self.writes, block)
-    }
-
-    fn takes_parts(&self) -> bool {
-        self.writes == LineWrites::Whole
     }
 
     ghost wrote_nothing = { λ s. appends_nothing (W.contents s.out) };
@@ -72,10 +93,6 @@ impl<'w, W: Write> LineSink for Lent<'w, W> {
 
     fn write_lines(&mut self, block: &[u8]) -> Result<(), ReaderFault> {
         write_block(self.out, self.writes, block)
-    }
-
-    fn takes_parts(&self) -> bool {
-        self.writes == LineWrites::Whole
     }
 
     ghost wrote_nothing = { λ s. (appends_nothing (W.contents s.out.now), refl) };

@@ -55,12 +55,11 @@ fn lists_files_by_tables(rt: HostRuntime) -> Result<(), Fail> {
     Ok(())
 }
 
-/// Of the five files of the mixed listing the second one has no lines.
 #[test]
-fn writes_each_line_or_each_block_by_itself(rt: HostRuntime) -> Result<(), Fail> {
+fn writes_each_line_by_itself_or_many_at_once(rt: HostRuntime) -> Result<(), Fail> {
     let alloc = rt.alloc();
     let plan = mixed_plan(alloc, 256)?;
-    for (writes, calls) in [(LineWrites::EachLine, 14), (LineWrites::Whole, 4)] {
+    for (writes, calls) in [(LineWrites::EachLine, 14), (LineWrites::Whole, 1)] {
         for workers in [0, 2] {
             let mut out = failing_writer(alloc, 4_096, 0, false);
             list_plan(&rt, alloc, &plan, workers, writes, &mut out)?;
@@ -86,8 +85,8 @@ fn push_times(text: &mut Vec<u8>, bytes: &[u8], times: u32) -> Result<(), AllocE
     Ok(())
 }
 
-/// An Echo and a token have the same text of 80,002 bytes, which is escaped. Its line is written in 22 parts: its fields, 20 parts of the text,
-/// and its end. The lines before and behind these and the cut line are a block each.
+/// An Echo and a token have the same text of 80,002 bytes, which is escaped. Each of its 20 parts is a write, and so is what stands before the
+/// first, between the two and behind the last one.
 #[test]
 fn writes_long_texts_in_parts(rt: HostRuntime) -> Result<(), Fail> {
     let alloc = rt.alloc();
@@ -102,7 +101,7 @@ fn writes_long_texts_in_parts(rt: HostRuntime) -> Result<(), Fail> {
     push_times(&mut wanted, b"\\x01a", 40_000)?;
     wanted.extend_from_slice(b">\n0 T ID 1 80006 2 cd\n0 ! cut\n")?;
     let plan = plan_of(alloc, MIXED_RULES, &[(text.as_slice(), true)], 256)?;
-    for (writes, calls) in [(LineWrites::EachLine, 5), (LineWrites::Whole, 47)] {
+    for (writes, calls) in [(LineWrites::EachLine, 5), (LineWrites::Whole, 43)] {
         for workers in [0, 2] {
             let mut out = failing_writer(alloc, 1_000_000, 0, false);
             list_plan(&rt, alloc, &plan, workers, writes, &mut out)?;
@@ -114,15 +113,25 @@ fn writes_long_texts_in_parts(rt: HostRuntime) -> Result<(), Fail> {
     Ok(())
 }
 
+/// The listing of 6,000 Echoes of one byte has 100,890 bytes. Its first 4,134 lines leave together, behind which less room is left in 69,632 bytes
+/// than a line may take.
 #[test]
-fn leaves_whole_blocks_where_the_writer_fails(rt: HostRuntime) -> Result<(), Fail> {
+fn gathers_lines_until_they_are_worth_a_write(rt: HostRuntime) -> Result<(), Fail> {
     let alloc = rt.alloc();
-    let plan = plan_of(alloc, NO_RULES, &[(b"hi", true), (b"hi", false)], 256)?;
-    let mut out = failing_writer(alloc, 4_096, 2, false);
-    let ended = list_plan(&rt, alloc, &plan, 0, LineWrites::Whole, &mut out);
-    assert!(rt; ended == Err(RunFault::Reader) && out.calls == 2);
-    let wanted = "0 E - 1 0 1 h\n0 E - 1 1 1 i\n0 ! cut\n";
-    assert_eq!(rt; out.held.as_slice(), wanted.as_bytes());
+    let mut text = Vec::new(alloc);
+    push_times(&mut text, b"h", 6_000)?;
+    let plan = plan_of(alloc, NO_RULES, &[(text.as_slice(), false)], 256)?;
+    let mut wanted = Vec::new(alloc);
+    print_listing(alloc, &plan, &mut wanted)?;
+    assert_eq!(rt; wanted.len(), 100_890);
+    for (fails_at, ended) in [(0, Ok(())), (2, Err(RunFault::Reader))] {
+        let mut out = failing_writer(alloc, 1_000_000, fails_at, false);
+        let answer = list_plan(&rt, alloc, &plan, 0, LineWrites::Whole, &mut out);
+        assert!(rt; answer == ended && out.calls == 2);
+        assert!(rt; wanted.as_slice().starts_with(out.held.as_slice()));
+        let held = if fails_at == 0 { 100_890 } else { 69_168 };
+        assert_eq!(rt; out.held.len(), held);
+    }
     Ok(())
 }
 

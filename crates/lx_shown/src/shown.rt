@@ -4,7 +4,6 @@ ghost use Rattle.lx_plan.specs.Plans.{bytes_of, kinds_of};
 ghost use Rattle.lx_line.specs.Lines.{lines_of};
 ghost use Rattle.lx_shown.specs.Shown.{IsFormOf, shown};
 
-use crate::lengths::are_long;
 use lx_plan::Plan;
 use lx_scan::Item;
 use std::marker::Model;
@@ -81,14 +80,6 @@ impl Shown {
             items: _items,
         } = self;
         form
-    }
-
-    /// Whether it carries items, whose texts have more than so many bytes in sum.
-    pub fn is_long(&self, most: usize) -> bool {
-        match &self.form {
-            Form::Bare(items) => are_long(items.as_slice(), most),
-            Form::Lines(_) => false,
-        }
     }
 
     /// How many bytes of memory it takes, about.

@@ -1,13 +1,14 @@
 use Rattle.std.proofs.Common.{◌≤◌, ◌-◌, length, take}
 use Rattle.std.specs.List.{flat_map}
+use Rattle.lx_lines.specs.Gathered.{Gathers}
 use Rattle.lx_lines.specs.Lines.{escaped}
-use Rattle.lx_lines.proofs.parts.write_text.Given as goal
+use Rattle.lx_lines.proofs.parts.gather_text.Given as goal
 
 abbrev pub invariant-loop-done : goal.invariant-loop-done
 invariant-loop-done g l =
     record {
       within : l.done ≤ length l.text;
-      wrote : g.S.LineSink.wrote l.fn.sink (flat_map escaped (take l.done l.text)) l.sink;
+      wrote : Gathers g.S.LineSink.wrote l.fn.sink (flat_map escaped (take l.done l.text)) l.sink;
     }
 
 abbrev pub decreases-loop-done : goal.decreases-loop-done

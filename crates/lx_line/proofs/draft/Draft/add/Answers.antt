@@ -1,7 +1,0 @@
-use Rattle.lx_line.proofs.Lined.{line_placed}
-use Rattle.lx_line.proofs.draft.Draft.add.Goals as goal
-
-pub returns-clause-added : goal.returns-clause-added
-returns-clause-added c =
-    let n = c.numbers_of-numbers in
-    λ _. line_placed c.args.plan.now c.args.file c.args.item.now c.kind_of.result n.result.line n.result.start n.result.len c.args.bytes.now c.in-Some.ensures.placed c.place_rest-self.ensures.placed c.kind_of.ensures n.ensures.line n.ensures.start n.ensures.len c.requires.bytes

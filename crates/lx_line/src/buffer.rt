@@ -1,0 +1,96 @@
+//! Lines that are gathered in memory of fixed length.
+
+ghost use Rattle.std.specs.Prelude.{◌≡◌, ◌<◌, ◌≤◌, [], ◌++◌, All, IfOk, false, length, take, true};
+ghost use Rattle.lx_scan.specs.ItemParts.{IsItemOf};
+ghost use Rattle.lx_plan.specs.Plans.{files_of, bytes_of, kinds_of};
+ghost use Rattle.lx_line.specs.Prefixes.{ArePrefixesOf};
+ghost use Rattle.lx_line.specs.Lines.{lines_of};
+
+use crate::draft::Draft;
+use crate::place::place_all;
+use lx_plan::Plan;
+use lx_scan::Item;
+use std::alloc::{AllocError, Global};
+use std::marker::Model;
+
+// So many bytes are worth a write.
+const FULL: usize = 65_536;
+
+// A block with more bytes is worth a write of its own.
+const SHORT: usize = 4_096;
+
+// A shorter one has room until the bytes before it are worth a write.
+const ROOM: usize = FULL + SHORT;
+
+/// Lines, and parts of lines, that are gathered in memory of fixed length.
+#[derive(Drop)]
+pub struct LineBuffer {
+    bytes: Vec<u8>,
+    len: usize,
+}
+
+impl Model for LineBuffer {
+    ghost use Rattle.std.specs.Prelude.{ℕ, ◌≡◌, ◌≤◌, List, length, take};
+
+    ghost Value = { List ℕ };
+
+    ghost view = { λ s. take s.len s.bytes.items };
+
+    ghost invariant = { λ s. (length s.bytes.items ≡ 69632) × (s.len ≤ 69632) };
+}
+
+impl LineBuffer {
+    /// It holds nothing.
+    pub fn new(alloc: Global) -> Result<LineBuffer, AllocError>
+        ensures { IfOk result (λ buffer. buffer ≡ []) }
+    {
+        Ok(LineBuffer {
+            bytes: vec![in alloc; 0; ROOM]?,
+            len: 0,
+        })
+    }
+
+    pub fn as_slice(&self) -> &[u8]
+        ensures { result.now ≡ self.now }
+    {
+        &self.bytes[..self.len]
+    }
+
+    pub fn clear(&mut self)
+        ensures { self.new ≡ [] }
+    {
+        self.len = 0;
+    }
+
+    /// Puts a block behind what it holds, unless the block is worth a write, or what it holds is; whether it did.
+    pub fn push(&mut self, block: &[u8]) -> bool
+        ensures pushed { result ≡ true → self.new ≡ self.old ++ block.now }
+        ensures not { result ≡ false → self.new ≡ self.old }
+    {
+        if block.len() > SHORT || self.len > FULL {
+            return false;
+        }
+        self.len = place_all(&mut self.bytes, self.len, block);
+        true
+    }
+
+    /// Puts the lines of the first items behind what it holds, up to one that has no room or has to be made the plain way; how many they are.
+    pub(crate) fn place_lines(
+        &mut self,
+        draft: &mut Draft,
+        plan: &Plan,
+        file: u32,
+        items: &[Item],
+    ) -> usize
+        requires file { file < files_of plan.now }
+        requires items { All (IsItemOf (kinds_of plan.now) (bytes_of plan.now file)) items.now }
+        requires prefixes { ArePrefixesOf plan.now file draft.old.prefixes }
+        ensures few { result ≤ length items.now }
+        ensures lines { self.new ≡ self.old ++ lines_of plan.now file (take result items.now) }
+        ensures prefixes { ArePrefixesOf plan.now file draft.new.prefixes }
+    {
+        let lines = draft.place_lines(&mut self.bytes, self.len, plan, file, items);
+        self.len = lines.end;
+        lines.count
+    }
+}

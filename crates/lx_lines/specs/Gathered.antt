@@ -1,0 +1,23 @@
+-- Lines that are gathered before they go on.
+use Rattle.std.specs.Prelude.{ℕ, ◌≡◌, Bool, true, false, List, [], ◌++◌}
+use Rattle.lx_plan.specs.Pieces.{IsPrefix}
+
+-- what is held, whether where the lines go has failed, and where that is
+pub record Gathered (S : Type 0) : Type 0 where
+  pub held : List ℕ
+  pub failed : Bool
+  pub sink : S
+
+abbrev pub gathered : {S : Type 0} → List ℕ → Bool → S → Gathered S
+gathered held failed sink = record { held = held; failed = failed; sink = sink }
+
+-- Between one state and a later one these bytes were gathered, behind those that were held.
+pub record Gathers {S : Type 0} (wrote : S → List ℕ → S → Type 0) (old : Gathered S) (bytes : List ℕ) (new : Gathered S) : Type 0 where
+  -- so many went on
+  pub given : List ℕ
+  pub written : wrote old.sink given new.sink
+  -- and the others are held,
+  pub held : new.failed ≡ false → old.held ++ bytes ≡ given ++ new.held
+  -- unless it failed: then a prefix of all went on, and nothing more does
+  pub part : new.failed ≡ true → IsPrefix given (old.held ++ bytes)
+  pub stopped : old.failed ≡ true → (new.failed ≡ true) × (given ≡ [])
