@@ -105,7 +105,7 @@ impl Draft {
         let mut end = at;
         let mut count = 0;
         for item in items {
-            if buf.len() - end < LINE {
+            if end + LINE > buf.len() {
                 return FirstLines { count, end };
             }
             let Some(next) = self.place_line(buf, end, plan, file, bytes, item) else {

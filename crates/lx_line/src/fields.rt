@@ -108,5 +108,5 @@ pub fn fits(numbers: Numbers, bytes: &[u8]) -> bool
     ensures len { IsTrue result → numbers.len ≤ 96 }
     ensures text { IsTrue result → numbers.start + numbers.len + 16 ≤ length bytes.now }
 {
-    numbers.len <= TEXT && numbers.len + 16 <= bytes.len() - numbers.start
+    numbers.len <= TEXT && numbers.start + numbers.len + 16 <= bytes.len()
 }
