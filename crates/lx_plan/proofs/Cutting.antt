@@ -6,7 +6,7 @@ use Rattle.lx_scan.specs.ItemParts.{IsItemOf}
 use Rattle.std.specs.Int.{div_ceil}
 use Rattle.std.proofs.lemmas.Bool.{both_ways, eq-eqb, ne_eqb, cases_lt}
 use Rattle.std.proofs.lemmas.Grind.{div_ceil_times}
-use Rattle.std.proofs.lemmas.List.{drop-drop, drop_all, length-drop, take_all}
+use Rattle.std.proofs.lemmas.List.{drop-append-le, drop-drop, drop_all, length-drop, take-append-le, take_all}
 use Rattle.std.proofs.Math.Seq.{drop-append_seam, take-append_seam}
 use Rattle.std.proofs.Math.Nat.{suc-mul, mul-le-mul_right}
 use Rattle.lx_table_texts.specs.Model.{Table}
@@ -24,40 +24,27 @@ use Rattle.lx_plan.specs.Plans.{IsPlan, Planned, bytes_of, is_cut, items_of, kin
 use Rattle.lx_plan.specs.Pieces.{IsPieceBy, mark_of, part, piece_by, piece_count, pieces_of, top_number}
 
 -- ---- a list as what was taken of it and what is left
-pub taken_most : {X : Type 0} (xs ys all : List X) (most : ℕ) → xs ++ ys ≡ all → length xs ≡ most → take most all ≡ xs
-taken_most xs ys all most e long = ap (λ l. take most l) (sym e) ∙ ap (λ n. take n (xs ++ ys)) (sym long) ∙ take-append_seam xs ys
+-- where one more than so many were taken, or all
+enough : (items left : List Item) (most : ℕ) → (length items < most + 1 → left ≡ []) → (take most items ≡ take most (items ++ left)) × (drop most items ++ left ≡ drop most (items ++ left))
+enough items left most end = elim (cases_lt (length items) (most + 1)) [
+  | inl fewer ↦
+      let whole : items ≡ items ++ left = sym (append-nil items) ∙ ap (λ (xs : List Item). items ++ xs) (sym (end fewer)) in
+      (ap (λ (xs : List Item). take most xs) whole, ap (λ (xs : List Item). drop most items ++ xs) (end fewer) ∙ append-nil (drop most items) ∙ ap (λ (xs : List Item). drop most xs) whole)
+  | inr more ↦ (sym (take-append-le most items left (omega arith)), sym (drop-append-le most items left (omega arith)))
+]
 
-pub left_most : {X : Type 0} (xs ys all : List X) (most : ℕ) → xs ++ ys ≡ all → length xs ≡ most → drop most all ≡ ys
-left_most xs ys all most e long = ap (λ l. drop most l) (sym e) ∙ ap (λ n. drop n (xs ++ ys)) (sym long) ∙ drop-append_seam xs ys
+-- items that were appended to a first one, until there was one more than so many, or none was left
+all_ahead : (first items ahead left : List Item) → Appends first items ahead left → items ++ left ≡ first ++ ahead
+all_ahead first items ahead left appends =
+    ap (λ xs. xs ++ left) appends.new_is ∙ append_assoc first appends.added left ∙ ap (λ xs. first ++ xs) (sym appends.left_is)
 
-pub taken_all : {X : Type 0} (xs ys all : List X) (most : ℕ) → xs ++ ys ≡ all → ys ≡ [] → length xs ≤ most → take most all ≡ xs
-taken_all xs ys all most e none few =
-    let whole : xs ≡ all = sym (append-nil xs) ∙ ap (λ l. xs ++ l) (sym none) ∙ e in
-    ap (λ l. take most l) (sym whole) ∙ take_all most xs few
+pub enough_items : (first items ahead left : List Item) (most : ℕ) → Appends first items ahead left → (length items < most + 1 → left ≡ []) → take most items ≡ take most (first ++ ahead)
+enough_items first items ahead left most appends end =
+    (enough items left most end).0 ∙ ap (λ (xs : List Item). take most xs) (all_ahead first items ahead left appends)
 
-pub left_none : {X : Type 0} (xs ys all : List X) (most : ℕ) → xs ++ ys ≡ all → ys ≡ [] → length xs ≤ most → drop most all ≡ []
-left_none xs ys all most e none few =
-    let whole : xs ≡ all = sym (append-nil xs) ∙ ap (λ l. xs ++ l) (sym none) ∙ e in
-    ap (λ l. drop most l) (sym whole) ∙ drop_all most xs few
-
--- items that were appended to a first one, until there were enough or none was left
-pub enough_rest : (first items ahead left : List Item) (most : ℕ) → Appends first items ahead left → length items ≤ most → (length items < most → left ≡ []) → left ≡ drop most (first ++ ahead)
-enough_rest first items ahead left most appends few end =
-    let whole : items ++ left ≡ first ++ ahead =
-    ap (λ xs. xs ++ left) appends.new_is ∙ append_assoc first appends.added left ∙ ap (λ xs. first ++ xs) (sym appends.left_is) in
-    elim (cases_lt (length items) most) [
-      | inl fewer ↦ end fewer ∙ sym (left_none items left (first ++ ahead) most whole (end fewer) few)
-      | inr enough ↦ sym (left_most items left (first ++ ahead) most whole (omega arith))
-    ]
-
-pub enough_items : (first items ahead left : List Item) (most : ℕ) → Appends first items ahead left → length items ≤ most → (length items < most → left ≡ []) → items ≡ take most (first ++ ahead)
-enough_items first items ahead left most appends few end =
-    let whole : items ++ left ≡ first ++ ahead =
-    ap (λ xs. xs ++ left) appends.new_is ∙ append_assoc first appends.added left ∙ ap (λ xs. first ++ xs) (sym appends.left_is) in
-    elim (cases_lt (length items) most) [
-      | inl fewer ↦ sym (taken_all items left (first ++ ahead) most whole (end fewer) few)
-      | inr enough ↦ sym (taken_most items left (first ++ ahead) most whole (omega arith))
-    ]
+pub enough_rest : (first items ahead left : List Item) (most : ℕ) → Appends first items ahead left → (length items < most + 1 → left ≡ []) → drop most items ++ left ≡ drop most (first ++ ahead)
+enough_rest first items ahead left most appends end =
+    (enough items left most end).1 ∙ ap (λ (xs : List Item). drop most xs) (all_ahead first items ahead left appends)
 
 -- ---- how many pieces there are
 -- no more than so many where nothing is behind them

@@ -1,6 +1,6 @@
 //! The pieces of a file, cut as they are asked for.
 
-ghost use Rattle.std.specs.Prelude.{if◌then◌else◌, ◌≡◌, ◌+◌, ◌<◌, ◌++◌, [], ℕ, List, drop, take, IfNone, IfOk, OnErr, OnOk, MatchOption, None};
+ghost use Rattle.std.specs.Prelude.{if◌then◌else◌, ◌≡◌, ◌+◌, ◌<◌, ◌≤◌, ◌++◌, [], ℕ, List, drop, length, take, IfNone, IfOk, OnErr, OnOk, MatchOption, None};
 ghost use Rattle.lx_scan.specs.Cursors.{IsInText, items_left, listed};
 ghost use Rattle.lx_scan.specs.Failing.{IsMemoryOf};
 ghost use Rattle.lx_scan.specs.declared.item.Item.{Item};
@@ -27,29 +27,42 @@ fn push_some(item: Option<Item>, items: &mut Vec<Item>) -> Result<(), AllocError
     Ok(())
 }
 
-// Takes the items that are ahead, `most` at most, and gives the one behind them.
+// Takes off the item behind the first `most`, if there is one.
+fn take_behind(items: &mut Vec<Item>, most: usize) -> Option<Item>
+    requires { length items.old.items ≤ most + 1 }
+    ensures items { items.new.items ≡ take most items.old.items }
+    ensures behind { listed result ≡ drop most items.old.items }
+{
+    if items.len() > most {
+        items.pop()
+    } else {
+        None
+    }
+}
+
+// Takes the items that are ahead, `most` at most, and gives the one behind them, which is found with them.
 fn take_items(
     tables: &Tables,
     text: &[u8],
     cursor: &mut Cursor,
     memory: &mut ScanMemory,
     first: Option<Item>,
-    most: usize,
+    most: u32,
     items: &mut Vec<Item>,
 ) -> Result<Option<Item>, AllocError>
     requires in_text { IsInText tables.now text.now cursor.old }
     requires memory { IsMemoryOf tables.now text.now memory.old }
     requires none { items.old.items ≡ [] }
-    requires some { 0 < most }
     ensures in_text { IsInText tables.now text.now cursor.new }
     ensures memory { IsMemoryOf tables.now text.now memory.new }
     ensures items { IfOk result (λ _. items.new.items ≡ take most (items_ahead tables.now text.now first cursor.old)) }
     ensures rest { IfOk result (λ next. items_ahead tables.now text.now next cursor.new ≡ drop most (items_ahead tables.now text.now first cursor.old)) }
     ensures end { IfOk result (λ next. IfNone next (drop most (items_ahead tables.now text.now first cursor.old) ≡ [])) }
 {
+    let most = most as usize;
     push_some(first, items)?;
-    cursor.next_items_by(tables, text, memory, most, items)?;
-    Ok(cursor.next_item_by(tables, text, memory))
+    cursor.next_items_by(tables, text, memory, most + 1, items)?;
+    Ok(take_behind(items, most))
 }
 
 // The mark of a piece: of the last one it is Cut where its file's reading failed, and else Whole.
@@ -140,7 +153,7 @@ impl Cutter {
             (λ piece. IsPieceBy M.made plan.now piece × (piece ≡ piece_by M.made plan.now self.old.file self.old.next) × (self.new.next ≡ self.old.next + 1))) }
         ensures err { OnErr result (self.new ≡ self.old) }
     {
-        let most = plan.per_piece() as usize;
+        let most = plan.per_piece();
         // its contract says that the items of a plan's files are items of these
         let _files = plan.files();
         if self.number > 0 && self.ahead.is_none() {
@@ -153,7 +166,7 @@ impl Cutter {
         let text = plan.bytes(self.file);
         let mut cursor = self.cursor;
         // few items are left where few bytes are, but for those that are echoed more than once
-        let expected = most.min(text.len() - cursor.offset() + 1);
+        let expected = (most as usize + 1).min(text.len() - cursor.offset() + 1);
         let mut items = maker.room(self.alloc, expected)?;
         let ahead = take_items(
             plan.tables(),

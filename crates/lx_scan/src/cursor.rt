@@ -234,12 +234,15 @@ impl Cursor {
     {
         let mut cursor = *self;
         'further: while items.len() < most {
+            cursor.run_on(tables, text, memory, most, items)?;
+            if items.len() == most {
+                break;
+            }
             let Some(item) = cursor.next_item_by(tables, text, memory) else {
                 *self = cursor;
                 return Ok(());
             };
             items.push(item)?;
-            cursor.run_on(tables, text, memory, most, items)?;
         }
         *self = cursor;
         Ok(())

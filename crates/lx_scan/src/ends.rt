@@ -91,23 +91,18 @@ pub(crate) fn find_ends(
     let mut line = place.line + newline(columns[first as usize], last);
     let mut count = 0;
     let mut offset = place.offset + 1;
-    let mut until = offset;
-    // Each byte writes one end at most: so before as many bytes as there is room, it isn't asked whether there is.
-    'rounds: while offset == until && offset < text.len() && count < most {
-        until = offset + (most - count).min(text.len() - offset);
-        while offset < until {
-            let column = columns[text[offset] as usize];
-            let entry = entry_at(entries, row, column);
-            let code = entry.code as usize;
-            if code == UNTOLD {
-                break;
-            }
-            ends[count] = End { code, offset, line };
-            count += ending(code);
-            line += newline(column, last);
-            row = entry.row as usize;
-            offset += 1;
+    'bytes: while offset < text.len() && count < most {
+        let column = columns[text[offset] as usize];
+        let entry = entry_at(entries, row, column);
+        let code = entry.code as usize;
+        if code == UNTOLD {
+            break;
         }
+        ends[count] = End { code, offset, line };
+        count += ending(code);
+        line += newline(column, last);
+        row = entry.row as usize;
+        offset += 1;
     }
     Run {
         count,

@@ -15,7 +15,7 @@ const SPACING: usize = 32;
 const STATES: usize = 4;
 
 // So many ends of matches are found at once.
-const ENDS: usize = 128;
+const ENDS: usize = 256;
 
 // Of those that find no room there so many are kept, of all places together.
 const OTHERS: usize = 65_536;
@@ -37,7 +37,7 @@ pub struct ScanMemory {
     // Before which byte the last run over the joined table stopped.
     pub(crate) stop: usize,
     // Where a run finds the ends of matches. They stand here, so that the room isn't cleared for each call; what it holds between two means nothing.
-    pub(crate) ends: [End; 128],
+    pub(crate) ends: [End; 256],
 }
 
 // A number that is kept; 0 where none is.

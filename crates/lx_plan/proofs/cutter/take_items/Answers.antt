@@ -8,15 +8,15 @@ use Rattle.lx_plan.proofs.cutter.take_items.Goals as goal
 pub returns-clause-items : goal.returns-clause-items
 returns-clause-items c =
     let left = items_left c.args.tables.now c.args.text.now c.args.cursor.now in
-    let middle = items_left c.args.tables.now c.args.text.now c.next_items_by.new.self in
+    let behind = items_left c.args.tables.now c.args.text.now c.next_items_by.new.self in
     let first_is = c.in_ok-push_some.ensures ∙ ap (λ (xs : List Item). xs ++ listed c.args.first) c.requires.none in
-    let appends : Appends (listed c.args.first) c.next_items_by.new.items.items left middle = subst (λ (xs : List Item). Appends xs c.next_items_by.new.items.items left middle) first_is c.in_ok-next_items_by.ensures.items in
-    enough_items (listed c.args.first) c.next_items_by.new.items.items left middle c.args.most appends c.in_ok-next_items_by.ensures.most c.in_ok-next_items_by.ensures.end
+    let appends : Appends (listed c.args.first) c.next_items_by.new.items.items left behind = subst (λ (xs : List Item). Appends xs c.next_items_by.new.items.items left behind) first_is c.in_ok-next_items_by.ensures.items in
+    c.take_behind.ensures.items ∙ enough_items (listed c.args.first) c.next_items_by.new.items.items left behind c.args.most appends c.in_ok-next_items_by.ensures.end
 
 pub returns-clause-rest : goal.returns-clause-rest
 returns-clause-rest c =
     let left = items_left c.args.tables.now c.args.text.now c.args.cursor.now in
-    let middle = items_left c.args.tables.now c.args.text.now c.next_items_by.new.self in
+    let behind = items_left c.args.tables.now c.args.text.now c.next_items_by.new.self in
     let first_is = c.in_ok-push_some.ensures ∙ ap (λ (xs : List Item). xs ++ listed c.args.first) c.requires.none in
-    let appends : Appends (listed c.args.first) c.next_items_by.new.items.items left middle = subst (λ (xs : List Item). Appends xs c.next_items_by.new.items.items left middle) first_is c.in_ok-next_items_by.ensures.items in
-    sym c.next_item_by.ensures.items ∙ enough_rest (listed c.args.first) c.next_items_by.new.items.items left middle c.args.most appends c.in_ok-next_items_by.ensures.most c.in_ok-next_items_by.ensures.end
+    let appends : Appends (listed c.args.first) c.next_items_by.new.items.items left behind = subst (λ (xs : List Item). Appends xs c.next_items_by.new.items.items left behind) first_is c.in_ok-next_items_by.ensures.items in
+    ap (λ (xs : List Item). xs ++ behind) c.take_behind.ensures.behind ∙ enough_rest (listed c.args.first) c.next_items_by.new.items.items left behind c.args.most appends c.in_ok-next_items_by.ensures.end

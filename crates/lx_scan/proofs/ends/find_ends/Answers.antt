@@ -8,8 +8,8 @@ use Rattle.lx_scan.specs.declared.ends.End.{End}
 use Rattle.lx_scan.proofs.Runs.{Runs, last_column, runs_begun, runs_behind, runs_turn}
 use Rattle.lx_scan.proofs.ends.find_ends.Goals as goal
 
-pub rounds-init : goal.rounds-init
-rounds-init c =
+pub bytes-init : goal.bytes-init
+bytes-init c =
     let table = c.args.tables.now in
     let text = c.args.text.now in
     let place = c.args.place in
@@ -33,23 +33,22 @@ rounds-init c =
           (ap (λ n. place.line + n) newline_is);
       count = omega arith;
       room = omega arith;
-      later = omega arith;
       within = omega arith;
       row = omega arith;
       line = omega arith;
     }
 
-pub loop-offset-preserved : goal.loop-offset-preserved
-loop-offset-preserved c =
+pub bytes-preserved : goal.bytes-preserved
+bytes-preserved c =
     let table = c.args.tables.now in
     let text = c.args.text.now in
-    let loop = c.loop-offset in
+    let loop = c.bytes in
     let byte = slice_index text loop.offset in
     let small = c.type_inv.text loop.offset in
     let most = loop.invariant.room in
-    let few = loop.invariant.few in
+    let count_few = loop.invariant.count in
     let within = loop.invariant.within in
-    let more = c.loop-offset-test.true in
+    let more = c.bytes-test.true in
     let entry : Transition = c.entry_at-entry.result.now in
     let columns_are = c.as_slice-columns.ensures.value in
     let entries_are = c.as_slice-entries.ensures.value in
@@ -71,9 +70,8 @@ loop-offset-preserved c =
     let line_few = loop.invariant.line in
     record {
       runs = subst (λ (n : ℕ). Runs table text c.args.place (take (loop.count + c.ending-count.result) (slice_set loop.ends loop.count (record { code = entry.code; offset = loop.offset; line = loop.line }))) (loop.offset + 1) (loop.line + n) entry.row) (sym newline_is) runs;
-      few = omega arith;
+      count = omega arith;
       room = omega arith;
-      later = omega arith;
       within = omega arith;
       row = omega arith;
       line = omega arith;
@@ -81,7 +79,7 @@ loop-offset-preserved c =
 
 pub returns-clause-ends : goal.returns-clause-ends
 returns-clause-ends c = λ some.
-    let count = c.rounds.invariant.count in
-    let room = c.rounds.invariant.room in
-    runs_behind c.args.tables.now c.args.text.now c.args.place c.rounds.ends c.rounds.count c.rounds.offset c.rounds.line c.rounds.row c.condition_of_row.result
-    c.rounds.invariant.runs (omega arith) c.condition_of_row.ensures some
+    let count = c.bytes.invariant.count in
+    let room = c.bytes.invariant.room in
+    runs_behind c.args.tables.now c.args.text.now c.args.place c.bytes.ends c.bytes.count c.bytes.offset c.bytes.line c.bytes.row c.condition_of_row.result
+    c.bytes.invariant.runs (omega arith) c.condition_of_row.ensures some
