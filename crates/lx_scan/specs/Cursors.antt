@@ -20,7 +20,7 @@ listed (Some i) = i ∷ []
 abbrev pub item_of_step : Step → ℕ → ℕ → ℕ → Option Item
 item_of_step Echo line start len = Some (item.Echo line start len)
 item_of_step (Begin next) line start len = None
-item_of_step (Return kind) line start len = Some (item.Token kind line start len)
+item_of_step (Return kind) line start len = Some (item.Token line start len kind)
 
 -- the steps that are left at its match
 abbrev pub steps_left : Table → Cursor → List Step

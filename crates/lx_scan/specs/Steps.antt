@@ -17,7 +17,7 @@ abbrev pub items_of_steps : List Step → ℕ → ℕ → ℕ → List Item
 items_of_steps [] line start len = []
 items_of_steps (Echo ∷ steps) line start len = item.Echo line start len ∷ items_of_steps steps line start len
 items_of_steps (Begin next ∷ steps) line start len = items_of_steps steps line start len
-items_of_steps (Return kind ∷ steps) line start len = item.Token kind line start len ∷ items_of_steps steps line start len
+items_of_steps (Return kind ∷ steps) line start len = item.Token line start len kind ∷ items_of_steps steps line start len
 
 -- how many of the bytes are newlines
 abbrev pub newlines : List ℕ → ℕ
