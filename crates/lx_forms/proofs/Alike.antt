@@ -34,13 +34,13 @@ pub record IsSameFile (plan : Planned) (file : ℕ) (other : Planned) (file' : �
   pub input : input_of plan file ≡ input_of other file'
 
 kind_same : (plan other : Planned) (item : Item) → plan.table ≡ other.table → kind_text plan item ≡ kind_text other item
-kind_same plan other (Token (Name place) line start len) e = ap (λ (t : Table). kind_at t place) e
-kind_same plan other (Token (Number number) line start len) e = refl
+kind_same plan other (Token line start len (Name place)) e = ap (λ (t : Table). kind_at t place) e
+kind_same plan other (Token line start len (Number number)) e = refl
 kind_same plan other (Echo line start len) e = refl
 
 sort_same : (plan other : Planned) (item : Item) → plan.table ≡ other.table → sort_member plan item ≡ sort_member other item
-sort_same plan other (Token (Name place) line start len) e = ap (λ (t : Table). sort_member (record plan { table = t }) (Token (Name place) line start len)) e
-sort_same plan other (Token (Number number) line start len) e = refl
+sort_same plan other (Token line start len (Name place)) e = ap (λ (t : Table). sort_member (record plan { table = t }) (Token line start len (Name place))) e
+sort_same plan other (Token line start len (Number number)) e = refl
 sort_same plan other (Echo line start len) e = refl
 
 -- with the same parts

@@ -27,9 +27,9 @@ regrouped file sort key line s start n len text end = simp append_assoc
 
 prefix_and_rest : (form : PlainForm) (plan : Planned) (file : ℕ) (item : Item) → json_prefix form plan file (kind_of_item item) ++ rest_of_line form plan file item ≡ json_line form plan file item
 unfolding json_line
-prefix_and_rest form plan file (Token kind line start len) =
+prefix_and_rest form plan file (Token line start len kind) =
     regrouped (file_members form file) (codes ",\"kind\":" ++ kind_value plan kind) (codes ",\"line\":") (decimal line) (codes ",\"start\":") (decimal start) (codes ",\"len\":") (decimal len)
-    (text_member form (text_of (bytes_of plan file) (Token kind line start len))) (codes "}\n")
+    (text_member form (text_of (bytes_of plan file) (Token line start len kind))) (codes "}\n")
 prefix_and_rest form plan file (Echo line start len) =
     regrouped (file_members form file) (codes ",\"echo\":true") (codes ",\"line\":") (decimal line) (codes ",\"start\":") (decimal start) (codes ",\"len\":") (decimal len)
     (text_member form (text_of (bytes_of plan file) (Echo line start len))) (codes "}\n")

@@ -81,8 +81,8 @@ text_by true bytes =
     ∙ one_more (bytes_said (codes "text") (codes "hex") bytes)
 
 sort_is : (plan : Planned) (item : Item) → sort_member plan item ≡ codes "," ++ named_text (sort_said plan item)
-sort_is plan (Token (Name place) line start len) = refl
-sort_is plan (Token (Number number) line start len) = refl
+sort_is plan (Token line start len (Name place)) = refl
+sort_is plan (Token line start len (Number number)) = refl
 sort_is plan (Echo line start len) = refl
 
 place_is : (item : Item) → place_members item ≡ more_text (place_said item)

@@ -60,8 +60,8 @@ contains_one_of (word ∷ words) text e = elim (cases_Bool (bytes_eq word text))
 
 -- what words select is what stands in the listing by one of them
 selected_is : (plan : Planned) (words : List (List ℕ)) (item : Item) → HasKindOf plan.table item → is_selected (selected_by plan.table words) item ≡ is_one_of words (kind_text plan item)
-selected_is plan words (Token (Name place) line start len) h = get_or-map (is_one_of words) plan.table.kinds place [] false h.named
-selected_is plan words (Token (Number number) line start len) h =
+selected_is plan words (Token line start len (Name place)) h = get_or-map (is_one_of words) plan.table.kinds place [] false h.named
+selected_is plan words (Token line start len (Number number)) h =
     let numbers = numbers_of plan.table in
     any-filter_same (λ m. m == number) (λ m. is_one_of words (decimal m)) (is_one_of words (decimal number)) (λ m e. ap (λ (k : ℕ). is_one_of words (decimal k)) ((Decides-eqb m number).0 e)) numbers
     ∙ ap (λ (b : Bool). is_one_of words (decimal number) && b) (number_found numbers number h.returned)
@@ -102,9 +102,9 @@ steps_give table [] line start len of = All-nil (HasReturnedNumber table)
 steps_give table (Echo ∷ steps) line start len of = All-cons (HasReturnedNumber table) (Echoed line start len) (items_of_steps steps line start len) tt (steps_give table steps line start len of)
 steps_give table (Begin next ∷ steps) line start len of = steps_give table steps line start len of
 steps_give table (Return (Name place) ∷ steps) line start len of =
-    All-cons (HasReturnedNumber table) (Token (Name place) line start len) (items_of_steps steps line start len) tt (steps_give table steps line start len of)
+    All-cons (HasReturnedNumber table) (Token line start len (Name place)) (items_of_steps steps line start len) tt (steps_give table steps line start len of)
 steps_give table (Return (Number number) ∷ steps) line start len of =
-    All-cons (HasReturnedNumber table) (Token (Number number) line start len) (items_of_steps steps line start len) (of number (0, omega arith, refl))
+    All-cons (HasReturnedNumber table) (Token line start len (Number number)) (items_of_steps steps line start len) (of number (0, omega arith, refl))
     (steps_give table steps line start len (λ n c. of n (Contains-append_right (number ∷ []) (flat_map number_of_step steps) n c)))
 
 text_gives : (table : Table) (text : List ℕ) (taken : ℕ) (place : Place) → All (HasReturnedNumber table) (items_from table text taken place)

@@ -85,8 +85,8 @@ IsRefusedChoice table text Memory = ⊤
 
 -- the number of a kind, if an item has one, is returned by an action
 abbrev pub HasReturnedNumber : Table → Item → Type 0
-HasReturnedNumber table (Token (Name place) line start len) = Unit {0}
-HasReturnedNumber table (Token (Number number) line start len) = Contains (numbers_of table) number
+HasReturnedNumber table (Token line start len (Name place)) = Unit {0}
+HasReturnedNumber table (Token line start len (Number number)) = Contains (numbers_of table) number
 HasReturnedNumber table (Echoed line start len) = Unit {0}
 
 -- what kind an item has, if any, is the tables': a name that is there, or a number that an action returns

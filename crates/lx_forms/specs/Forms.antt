@@ -33,7 +33,7 @@ has_kind selected (Name place) = slice_index_or selected.names place false
 has_kind selected (Number number) = list_any (λ n. n == number) selected.numbers
 
 abbrev pub is_selected : Selected → Item → Bool
-is_selected selected (Token kind line start len) = has_kind selected kind
+is_selected selected (Token line start len kind) = has_kind selected kind
 is_selected selected (Echo line start len) = selected.echoes
 
 -- whether an item is printed

@@ -52,7 +52,7 @@ kind_value plan (Number number) = decimal number
 
 -- the kind of a token, or that it is an Echo
 abbrev pub sort_member : Planned → Item → List ℕ
-sort_member plan (Token kind line start len) = codes ",\"kind\":" ++ kind_value plan kind
+sort_member plan (Token line start len kind) = codes ",\"kind\":" ++ kind_value plan kind
 sort_member plan (Echo line start len) = codes ",\"echo\":true"
 
 abbrev pub place_members : Item → List ℕ

@@ -55,8 +55,8 @@ abbrev pub name_said : PlainForm → ℕ → List Member
 name_said form file = option_map_or (λ names. bytes_said (codes "name") (codes "name_hex") (name_of names file) ∷ []) form.names []
 
 abbrev pub sort_said : Planned → Item → Member
-sort_said plan (Token (Name place) line start len) = (codes "kind", text (kind_of plan place))
-sort_said plan (Token (Number n) line start len) = (codes "kind", count n)
+sort_said plan (Token line start len (Name place)) = (codes "kind", text (kind_of plan place))
+sort_said plan (Token line start len (Number n)) = (codes "kind", count n)
 sort_said plan (Echo line start len) = (codes "echo", truth)
 
 abbrev pub place_said : Item → List Member

@@ -31,9 +31,9 @@ fields_of : (f c k : List ℕ) → (f ++ 32 ∷ []) ++ (((c ++ 32 ∷ []) ++ k) 
 fields_of f c k = simp append_assoc
 
 prefix_and_rest : (plan : Planned) (file : ℕ) (item : Item) → prefix_text plan file (kind_of_item item) ++ rest_of plan file item ≡ line_of plan file item
-prefix_and_rest plan file (Token kind line start len) =
+prefix_and_rest plan file (Token line start len kind) =
     let bytes = bytes_of plan file in
-    ap (λ (prefix : List ℕ). prefix ++ rest_of plan file (Token kind line start len)) (fields_of (decimal file) (codes "T") (name_text plan kind))
+    ap (λ (prefix : List ℕ). prefix ++ rest_of plan file (Token line start len kind)) (fields_of (decimal file) (codes "T") (name_text plan kind))
     ∙ joined (((((decimal file ++ 32 ∷ []) ++ codes "T") ++ 32 ∷ []) ++ name_text plan kind) ++ 32 ∷ []) (decimal line) (decimal start) (decimal len) (take len (drop start bytes)) (take (start + len - start) (drop start bytes)) (text_same bytes start len)
 prefix_and_rest plan file (Echo line start len) =
     let bytes = bytes_of plan file in

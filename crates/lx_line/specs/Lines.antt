@@ -10,7 +10,7 @@ use Rattle.lx_line.specs.Escapes.{escaped}
 
 -- whether it is a token or an Echo
 abbrev pub class_text : Item → List ℕ
-class_text (Token kind line start len) = codes "T"
+class_text (Token line start len kind) = codes "T"
 class_text (Echo line start len) = codes "E"
 
 -- the name of a kind, or its number
@@ -20,7 +20,7 @@ name_text plan (Number number) = decimal number
 
 -- the kind of a token
 abbrev pub kind_text : Planned → Item → List ℕ
-kind_text plan (Token kind line start len) = name_text plan kind
+kind_text plan (Token line start len kind) = name_text plan kind
 kind_text plan (Echo line start len) = codes "-"
 
 -- The line of an item: the number of its file, its class, its kind, its line, its start and its length, with a space behind

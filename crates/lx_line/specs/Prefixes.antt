@@ -13,7 +13,7 @@ use Rattle.lx_line.specs.declared.prefixes.Slot.{Slot}
 
 -- the kind of a token; an Echo has none
 abbrev pub kind_of_item : Item → Option Kind
-kind_of_item (Token kind line start len) = Some kind
+kind_of_item (Token line start len kind) = Some kind
 kind_of_item (Echo line start len) = None
 
 -- a kind, if there is one, is the plan's

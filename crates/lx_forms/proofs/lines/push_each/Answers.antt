@@ -21,9 +21,9 @@ loop-item-preserved c =
     let items = c.args.items.now in
     let old = c.args.block.now.items in
     let i = c.loop-item.item-index in
-    let item = get_or items i (Token (Name 0) 0 0 0) in
+    let item = get_or items i (Token 0 0 0 (Name 0)) in
     c.in_ok-push_item.ensures
     ∙ ap (λ bytes. bytes ++ lines_in form plan file (item ∷ [])) c.loop-item.invariant
     ∙ append_assoc old (lines_in form plan file (take i items)) (lines_in form plan file (item ∷ []))
     ∙ ap (λ bytes. old ++ bytes)
-    (sym (lines_both form plan file (take i items) (item ∷ [])) ∙ ap (λ all. lines_in form plan file all) (sym (take_more items i (Token (Name 0) 0 0 0) c.loop-item-test.true)))
+    (sym (lines_both form plan file (take i items) (item ∷ [])) ∙ ap (λ all. lines_in form plan file all) (sym (take_more items i (Token 0 0 0 (Name 0)) c.loop-item-test.true)))
