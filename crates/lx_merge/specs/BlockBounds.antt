@@ -1,4 +1,4 @@
--- StateRange which states those of a block stand.
+-- Between which states those of a block stand.
 use Rattle.std.specs.Prelude.{◌≡◌, ℕ, ◌<◌, ◌≤◌, ◌⊎◌, length, slice_index}
 use Rattle.lx_partition.specs.Partitions.{block, block_count}
 use Rattle.lx_partition.specs.declared.partition.Partition.{Partition}

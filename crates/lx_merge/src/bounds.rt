@@ -1,4 +1,4 @@
-// StateRange which states those of a block stand.
+// Between which states those of a block stand.
 
 ghost use Rattle.std.specs.Prelude.{◌≡◌, ◌<◌, ◌≤◌, ◌++◌, ◌∷◌, [], ℕ, IfOk, OnOk, length, max, min, slice_index, slice_set};
 ghost use Rattle.lx_partition.specs.Completion.{IsComplete};
@@ -51,7 +51,7 @@ pub(crate) fn bounds_of(alloc: Global, m: &Complete, p: &Partition) -> Result<Bo
     Ok(bounds)
 }
 
-/// StateRange which states these stand.
+/// Between which states these stand.
 pub(crate) fn range_of(states: &[u16]) -> StateRange
     ensures low { (j : ℕ) → j < length states.now → result.low ≤ slice_index states.now j }
     ensures high { (j : ℕ) → j < length states.now → slice_index states.now j ≤ result.high }

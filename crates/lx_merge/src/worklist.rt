@@ -27,7 +27,7 @@ pub(crate) struct Worklist {
     pub(crate) touched: Vec<u16>,
     /// The blocks that are still to be used as splitters.
     pub(crate) pending: Vec<u16>,
-    /// StateRange which states those of each block stand.
+    /// Between which states those of each block stand.
     pub(crate) bounds: Bounds,
 }
 
