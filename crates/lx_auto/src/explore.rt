@@ -1,5 +1,5 @@
 // Position sets, reached one after the other from the starts (Rabin and Scott 1959: the subset construction).
-ghost use Rattle.std.specs.Prelude.{◌≡◌, ◌≢◌, ◌+◌, ◌*◌, ◌<◌, ◌≤◌, ◌⊎◌, [], ℕ, List, IfOk, IfErr, OnOk, length, true};
+ghost use Rattle.std.specs.Prelude.{◌≡◌, ◌≢◌, ◌+◌, ◌*◌, ◌<◌, ◌≤◌, ◌⊎◌, [], ℕ, List, IfOk, IfErr, OnOk, length, true, false};
 ghost use Rattle.lx_lexemes.specs.Regex.{Regex};
 ghost use Rattle.lx_rules.specs.Plain.{PlainSpec};
 ghost use Rattle.lx_rules.specs.views.Specs.{spec_view};
@@ -8,6 +8,7 @@ ghost use Rattle.lx_auto.specs.Sets.{IsEarliestMatched};
 ghost use Rattle.lx_auto.specs.Unfolded.{Unfolded};
 ghost use Rattle.lx_auto.specs.Leaves as plain_leaves;
 ghost use Rattle.lx_auto.specs.LeafViews.{leaves_view};
+ghost use Rattle.lx_auto.specs.Marking as plain_flags;
 ghost use Rattle.lx_auto.specs.PositionSets.{numbered};
 ghost use Rattle.lx_auto.specs.SetTable.{IsExtendedBy, IsNumbering, IsTarget, set_of};
 ghost use Rattle.lx_auto.specs.Exploring as plain;
@@ -20,6 +21,7 @@ use crate::leaf::{Leaf, has};
 use crate::position_table::PositionTable;
 use crate::rule_numbers::rules_by_position;
 use crate::set_numbering::{empty_table, number_of};
+use crate::set_steps::clear_flags;
 use crate::set_table::{PositionSet, SetTable};
 use lx_rules::active::active_rules;
 use lx_rules::spec::Spec;
@@ -223,11 +225,16 @@ fn add_set_row(
     positions: &PositionTable,
     rules_at: &[u16],
     number: usize,
+    marks: &mut Vec<bool>,
+    reads: &mut Vec<bool>,
     table: &mut SetTable,
     targets: &mut Vec<Option<usize>>,
     limit: usize,
 ) -> Result<Option<usize>, BuildFault>
     requires number { number < length table.old.sets.items }
+    requires marks { length marks.old.items ≡ positions.now.total }
+    requires reads { length reads.old.items ≡ positions.now.total }
+    requires clear { (q : ℕ) → plain_flags.flag marks.old.items q ≡ false }
     requires numbering { IsNumbering table.old.sets.items table.old.numbers }
     requires room { length table.old.sets.items ≤ limit }
     ensures numbering { OnOk result (IsNumbering table.new.sets.items table.new.numbers) }
@@ -236,11 +243,15 @@ fn add_set_row(
     ensures kept { OnOk result ((i : ℕ) → i < length table.old.sets.items → set_of table.new.sets.items i ≡ set_of table.old.sets.items i) }
     ensures few { IfErr result (λ e. e ≢ BuildFault.TooManyPositions) }
     ensures matched { (spec : PlainSpec) (tree_of : Regex → Unfolded) → ArePositionsOf spec tree_of positions.now → IfOk result (λ found. IsEarliestMatched (numbered tree_of 0 spec.rules) (set_of table.old.sets.items number) found) }
-    ensures explored { (spec : PlainSpec) (tree_of : Regex → Unfolded) → ArePositionsOf spec tree_of positions.now → IsExplored spec tree_of (leaves_view positions.now.leaves.items) positions.now.groups.representatives.items table.old.sets.items targets.old.items (start_count spec + number) → OnOk result (IsExplored spec tree_of (leaves_view positions.now.leaves.items) positions.now.groups.representatives.items table.new.sets.items targets.new.items (start_count spec + number + 1)) }
-    ensures many { (spec : PlainSpec) (tree_of : Regex → Unfolded) → ArePositionsOf spec tree_of positions.now → IsExplored spec tree_of (leaves_view positions.now.leaves.items) positions.now.groups.representatives.items table.old.sets.items targets.old.items (start_count spec + number) → IfErr result (λ e. e ≡ BuildFault.TooManySets → HasMoreSets spec (numbered tree_of 0 spec.rules) limit) }
+    ensures long_marks { OnOk result (length marks.new.items ≡ length marks.old.items) }
+    ensures long_reads { OnOk result (length reads.new.items ≡ length reads.old.items) }
+    ensures clear_marks { OnOk result ((q : ℕ) → plain_flags.flag marks.new.items q ≡ false) }
+    ensures clear_reads { (spec : PlainSpec) (tree_of : Regex → Unfolded) → ArePositionsOf spec tree_of positions.now → ((q : ℕ) → plain_flags.flag reads.old.items q ≡ false) → OnOk result ((q : ℕ) → plain_flags.flag reads.new.items q ≡ false) }
+    ensures explored { (spec : PlainSpec) (tree_of : Regex → Unfolded) → ArePositionsOf spec tree_of positions.now → ((q : ℕ) → plain_flags.flag reads.old.items q ≡ false) → IsExplored spec tree_of (leaves_view positions.now.leaves.items) positions.now.groups.representatives.items table.old.sets.items targets.old.items (start_count spec + number) → OnOk result (IsExplored spec tree_of (leaves_view positions.now.leaves.items) positions.now.groups.representatives.items table.new.sets.items targets.new.items (start_count spec + number + 1)) }
+    ensures many { (spec : PlainSpec) (tree_of : Regex → Unfolded) → ArePositionsOf spec tree_of positions.now → ((q : ℕ) → plain_flags.flag reads.old.items q ≡ false) → IsExplored spec tree_of (leaves_view positions.now.leaves.items) positions.now.groups.representatives.items table.old.sets.items targets.old.items (start_count spec + number) → IfErr result (λ e. e ≡ BuildFault.TooManySets → HasMoreSets spec (numbered tree_of 0 spec.rules) limit) }
 {
     let set = table.sets[number].as_slice();
-    let Ok(found) = follow(alloc, &positions.parts, rules_at, positions.total, set) else {
+    let Ok(found) = follow(alloc, &positions.parts, rules_at, set, marks, reads) else {
         return Err(BuildFault::Memory);
     };
     let leaves = positions.leaves.as_slice();
@@ -299,6 +310,8 @@ pub(crate) fn explore(
         )?;
     }
     let rules_at = rules_by_position(alloc, &positions.parts, positions.total)?;
+    let mut marks = clear_flags(alloc, positions.total)?;
+    let mut reads = clear_flags(alloc, positions.total)?;
     let mut matched = Vec::new(alloc);
     'sets: while matched.len() < table.sets.len() {
         let number = matched.len();
@@ -307,6 +320,8 @@ pub(crate) fn explore(
             positions,
             &rules_at,
             number,
+            &mut marks,
+            &mut reads,
             &mut table,
             &mut targets,
             limit,

@@ -2,6 +2,7 @@
 ghost use Rattle.std.specs.Prelude.{◌≡◌, ◌≤◌, ◌<◌, ◌+◌, ℕ, Bool, true, false, List, IfOk, OnOk, length};
 ghost use Rattle.lx_rules.specs.Plain.{PlainSpec};
 ghost use Rattle.lx_auto.specs.Blocks.{IsClear};
+ghost use Rattle.lx_auto.specs.Marking as plain;
 ghost use Rattle.lx_auto.specs.PositionSets.{NumberedRule};
 ghost use Rattle.lx_auto.specs.RuleParts.{IsPartOf, ArePartsOf, AreReadsOf};
 ghost use Rattle.lx_rules.specs.Starts.{AreActive};
@@ -10,7 +11,7 @@ ghost use Rattle.lx_auto.specs.Sets.{AreFollowing, AreFirst, IsEarliestMatched};
 
 use crate::marking::flag;
 use crate::rule_part::RulePart;
-use crate::set_steps::{clear_flags, marks_of, places_of, step_rules};
+use crate::set_steps::{clear_flags, mark, places_of, step_rules, unmark};
 use std::alloc::{AllocError, Global};
 
 /// What is found of a set of positions.
@@ -22,23 +23,31 @@ pub(crate) struct Found {
     pub(crate) matched: Option<usize>,
 }
 
-/// What follows a set of positions, of `total` in all, and the rule that it matches. `rules_at` says of which rule a position is; nothing rests on it.
+/// What follows a set of positions, and the rule that it matches. `rules_at` says of which rule a position is; nothing rests on it. The flags are of all
+/// positions; none is set before, nor after, so that they serve for set after set.
 pub(crate) fn follow(
     alloc: Global,
     parts: &[RulePart],
     rules_at: &[u16],
-    total: usize,
     set: &[u16],
+    marks: &mut Vec<bool>,
+    reads: &mut Vec<bool>,
 ) -> Result<Found, AllocError>
-    requires { total ≤ 65536 }
-    ensures next { (spec : PlainSpec) (rules : List NumberedRule) → AreNumbered spec rules → ArePartsOf parts.now rules total → IfOk result (λ found. AreFollowing rules set.now found.next.items) }
-    ensures matched { (spec : PlainSpec) (rules : List NumberedRule) → AreNumbered spec rules → ArePartsOf parts.now rules total → IfOk result (λ found. IsEarliestMatched rules set.now found.matched) }
+    requires few { length reads.old.items ≤ 65536 }
+    requires long { length marks.old.items ≡ length reads.old.items }
+    requires clear { (q : ℕ) → plain.flag marks.old.items q ≡ false }
+    ensures next { (spec : PlainSpec) (rules : List NumberedRule) → AreNumbered spec rules → ArePartsOf parts.now rules (length reads.old.items) → ((q : ℕ) → plain.flag reads.old.items q ≡ false) → IfOk result (λ found. AreFollowing rules set.now found.next.items) }
+    ensures matched { (spec : PlainSpec) (rules : List NumberedRule) → AreNumbered spec rules → ArePartsOf parts.now rules (length reads.old.items) → IfOk result (λ found. IsEarliestMatched rules set.now found.matched) }
+    ensures long_marks { OnOk result (length marks.new.items ≡ length marks.old.items) }
+    ensures long_reads { OnOk result (length reads.new.items ≡ length reads.old.items) }
+    ensures clear_marks { OnOk result ((q : ℕ) → plain.flag marks.new.items q ≡ false) }
+    ensures clear_reads { (spec : PlainSpec) (rules : List NumberedRule) → AreNumbered spec rules → ArePartsOf parts.now rules (length reads.old.items) → ((q : ℕ) → plain.flag reads.old.items q ≡ false) → OnOk result ((q : ℕ) → plain.flag reads.new.items q ≡ false) }
 {
-    let members = marks_of(alloc, total, set)?;
-    let marks = members.as_slice();
-    let mut reads = clear_flags(alloc, total)?;
+    mark(marks, set);
     let mut next = Vec::new(alloc);
-    let matched = step_rules(alloc, parts, rules_at, set, marks, &mut reads, &mut next)?;
+    let matched = step_rules(alloc, parts, rules_at, set, marks, reads, &mut next)?;
+    unmark(marks, set);
+    unmark(reads, &next);
     Ok(Found { next, matched })
 }
 

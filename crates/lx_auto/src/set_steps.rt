@@ -178,16 +178,25 @@ pub(crate) fn clear_flags(alloc: Global, total: usize) -> Result<Vec<bool>, Allo
     vec![in alloc; false; total]
 }
 
-/// The flags of a set of positions, all of them below the total.
-pub(crate) fn marks_of(alloc: Global, total: usize, set: &[u16]) -> Result<Vec<bool>, AllocError>
-    ensures long { IfOk result (λ marks. length marks.items ≡ total) }
-    ensures marks { IfOk result (λ marks. (q : ℕ) → q < total → plain.flag marks.items q ≡ has_member set.now q) }
+/// Sets the flags of a set of positions, where none is set.
+pub(crate) fn mark(marks: &mut Vec<bool>, set: &[u16])
+    requires clear { (q : ℕ) → plain.flag marks.old.items q ≡ false }
+    ensures long { length marks.new.items ≡ length marks.old.items }
+    ensures marks { (q : ℕ) → q < length marks.old.items → plain.flag marks.new.items q ≡ has_member set.now q }
 {
-    let mut marks = clear_flags(alloc, total)?;
     for q in set {
-        set_flag(&mut marks, *q as usize, true);
+        set_flag(marks, *q as usize, true);
     }
-    Ok(marks)
+}
+
+/// Clears the flags of a set of positions: where no others are set, none is.
+pub(crate) fn unmark(flags: &mut Vec<bool>, set: &[u16])
+    ensures long { length flags.new.items ≡ length flags.old.items }
+    ensures clear { ((q : ℕ) → plain.flag flags.old.items q ≡ true → Contains set.now q) → (q : ℕ) → plain.flag flags.new.items q ≡ false }
+{
+    for q in set {
+        set_flag(flags, *q as usize, false);
+    }
 }
 
 // Puts the places of the flags that are set, from one place on up to another, behind others.

@@ -40,6 +40,10 @@ sets-init c =
       numbering = c.starts.invariant.numbering;
       room = c.starts.invariant.room;
       below = omega arith;
+      marks = c.in_ok-marks.ensures.long;
+      reads = c.in_ok-reads.ensures.long;
+      clear_marks = c.in_ok-marks.ensures.clear;
+      clear_reads = λ tree_of positions. c.in_ok-reads.ensures.clear;
       explored = λ tree_of positions.
           explored_at spec tree_of (leaves_view own.leaves.items) own.groups.representatives.items c.starts.table.sets.items c.starts.targets.items
           (2 * c.starts.condition) (start_count spec + length c.new-matched.result.items) all (c.starts.invariant.explored tree_of positions);
@@ -55,7 +59,7 @@ returns-in_err-found-clause-many c = λ tree_of positions.
     let held = c.sets.matched.ok.0 in
     let at : start_count spec + length c.sets.matched.items ≡ start_count spec + c.len-number.result = omega (arith, c.len-number.ensures) in
     let p = err_from_is_err_and c.from_residual-in_err-found.result c.from_residual-in_err-found.ensures.1 in
-    rw (p.1, p.2) (c.in_err-found.ensures.many spec tree_of positions
+    rw (p.1, p.2) (c.in_err-found.ensures.many spec tree_of positions (c.sets.invariant.clear_reads tree_of positions)
     (explored_at spec tree_of (leaves_view own.leaves.items) own.groups.representatives.items c.sets.table.sets.items c.sets.targets.items
     (start_count spec + length c.sets.matched.items) (start_count spec + c.len-number.result) at (c.sets.invariant.explored tree_of positions)))
 
@@ -80,11 +84,15 @@ sets-preserved c =
       numbering = c.in_ok-found.ensures.numbering;
       room = c.in_ok-found.ensures.room;
       below = omega arith;
+      marks = c.in_ok-found.ensures.long_marks ∙ c.sets.invariant.marks;
+      reads = c.in_ok-found.ensures.long_reads ∙ c.sets.invariant.reads;
+      clear_marks = c.in_ok-found.ensures.clear_marks;
+      clear_reads = λ tree_of positions. c.in_ok-found.ensures.clear_reads spec tree_of positions (c.sets.invariant.clear_reads tree_of positions);
       explored = λ tree_of positions.
           let before : start_count spec + length c.sets.matched.items ≡ start_count spec + n = omega arith in
           let after : start_count spec + n + 1 ≡ start_count spec + length c.push.new.self.items = omega arith in
           explored_at spec tree_of leaves reps new c.add_set_row.new.targets.items (start_count spec + n + 1) (start_count spec + length c.push.new.self.items) after
-          (c.in_ok-found.ensures.explored spec tree_of positions
+          (c.in_ok-found.ensures.explored spec tree_of positions (c.sets.invariant.clear_reads tree_of positions)
           (explored_at spec tree_of leaves reps old.items c.sets.targets.items (start_count spec + length c.sets.matched.items) (start_count spec + n) before
           (c.sets.invariant.explored tree_of positions)));
       matched = λ tree_of positions.

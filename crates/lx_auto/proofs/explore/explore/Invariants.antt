@@ -1,8 +1,9 @@
-use Rattle.std.proofs.Common.{◌≤◌, ◌+◌, ◌*◌, ◌-◌, length}
+use Rattle.std.proofs.Common.{◌≡◌, ◌≤◌, ◌+◌, ◌*◌, ◌-◌, ℕ, false, length}
 use Rattle.lx_lexemes.specs.Regex.{Regex}
 use Rattle.lx_rules.specs.views.Specs.{spec_view}
 use Rattle.lx_auto.specs.Unfolded.{Unfolded}
 use Rattle.lx_auto.specs.LeafViews.{leaves_view}
+use Rattle.lx_auto.specs.Marking.{flag}
 use Rattle.lx_auto.specs.SetTable.{IsNumbering}
 use Rattle.lx_auto.specs.Exploring.{IsExplored, start_count}
 use Rattle.lx_auto.specs.PositionTables.{ArePositionsOf, AreMatchedBelow}
@@ -21,6 +22,10 @@ invariant-sets l = record {
   numbering : IsNumbering l.table.sets.items l.table.numbers;
   room : length l.table.sets.items ≤ l.limit;
   below : length l.matched.items ≤ length l.table.sets.items;
+  marks : length l.marks.items ≡ l.positions.total;
+  reads : length l.reads.items ≡ l.positions.total;
+  clear_marks : (q : ℕ) → flag l.marks.items q ≡ false;
+  clear_reads : (tree_of : Regex → Unfolded) → ArePositionsOf (spec_view l.spec) tree_of l.positions → (q : ℕ) → flag l.reads.items q ≡ false;
   explored : (tree_of : Regex → Unfolded) → ArePositionsOf (spec_view l.spec) tree_of l.positions →
       IsExplored (spec_view l.spec) tree_of (leaves_view l.positions.leaves.items) l.positions.groups.representatives.items l.table.sets.items l.targets.items
       (start_count (spec_view l.spec) + length l.matched.items);
