@@ -1,13 +1,13 @@
 -- The digits of numbers by the table of pairs.
-use Rattle.std.proofs.Common.{◌≡◌, ℕ, zero, suc, ◌+◌, ◌-◌, ◌*◌, ◌/◌, ◌%◌, ◌^◌, ◌<◌, ◌≤◌, Bool, true, ◌&&◌, T, eqb, List, [], ◌∷◌, ◌++◌, length, take, drop, get_or, refl, sym, ap, ◌∙◌, inl, inr, subst, arith, eq-zero-or-pos, eqb→eq, append_assoc, length-append, length-drop, take-take}
-use Rattle.std.proofs.lemmas.Bool.{cases_lt, ne_eqb}
+use Rattle.std.proofs.Common.{◌≡◌, ℕ, zero, suc, ◌+◌, ◌-◌, ◌*◌, ◌/◌, ◌%◌, ◌^◌, ◌<◌, ◌≤◌, Bool, true, false, cond, ltb, ◌&&◌, T, eqb, List, [], ◌∷◌, ◌++◌, length, take, drop, get_or, refl, sym, ap, ◌∙◌, inl, inr, subst, arith, eq-zero-or-pos, eqb→eq, append_assoc, length-append, length-drop, take-take}
+use Rattle.std.proofs.lemmas.Bool.{cases_lt, lt-ltb, ltb-true, ne_eqb}
 use Rattle.std.proofs.lemmas.Fmt.{decimal_digit, decimal_step}
 use Rattle.std.proofs.lemmas.List.{drop-set-add, drop_more, length-take-le, take_at, take_more_set}
 use Rattle.std.specs.Prelude.{slice_set}
 use Rattle.std.specs.Fmt.{decimal}
 use lib.Ieee.Fits.{and_l, and_r}
 use Rattle.lx_line.specs.Decimals.{leading, pair}
-use Rattle.lx_line.specs.declared.decimals.TheConstants.{PAIRS}
+use Rattle.lx_line.specs.declared.decimals.TheConstants.{PAIRS, SHORT}
 
 -- three bytes of a list at a place
 record Three (xs : List ℕ) (i a b c : ℕ) : Type 0 where
@@ -19,22 +19,23 @@ record Three (xs : List ℕ) (i a b c : ℕ) : Type 0 where
 unfoldable is_pair : ℕ → Bool
 is_pair p = eqb (get_or PAIRS (p * 4) 0) (48 + p / 10) && (eqb (get_or PAIRS (p * 4 + 1) 0) (48 + p % 10) && eqb (get_or PAIRS (p * 4 + 2) 0) 32)
 
-abbrev are_pairs : ℕ → Bool
-are_pairs zero = true
-are_pairs (suc p) = is_pair p && are_pairs p
+-- all numbers below this one pass a test
+abbrev all_pass : (ℕ → Bool) → ℕ → Bool
+all_pass test zero = true
+all_pass test (suc p) = test p && all_pass test p
 
-below : (n p : ℕ) → T (are_pairs n) → p < n → T (is_pair p)
-below zero p t h = absurd (omega arith)
-below (suc n) p t h =
+below : (test : ℕ → Bool) (n p : ℕ) → T (all_pass test n) → p < n → T (test p)
+below test zero p t h = absurd (omega arith)
+below test (suc n) p t h =
     elim (eq-zero-or-pos (n - p)) [
-      | inl z ↦ let e : p ≡ n = omega arith in subst (λ (k : ℕ). T (is_pair k)) (sym e) (and_l (is_pair n) (are_pairs n) t)
-      | inr g ↦ below n p (and_r (is_pair n) (are_pairs n) t) (omega arith)
+      | inl z ↦ let e : p ≡ n = omega arith in subst (λ (k : ℕ). T (test k)) (sym e) (and_l (test n) (all_pass test n) t)
+      | inr g ↦ below test n p (and_r (test n) (all_pass test n) t) (omega arith)
     ]
 
 pair_at : (p : ℕ) → p < 100 → Three PAIRS (p * 4) (48 + p / 10) (48 + p % 10) 32
 unfolding is_pair
 pair_at p h =
-    let t = below 100 p tt h in
+    let t = below is_pair 100 p tt h in
     let rest = and_r (eqb (get_or PAIRS (p * 4) 0) (48 + p / 10)) _ t in
     record {
       first = eqb→eq _ _ (and_l _ _ t);
@@ -55,6 +56,14 @@ last_two xs i a b c t =
     ∙ ap (λ (zs : List ℕ). get_or xs (i + 1) 0 ∷ zs) (take_one 0 (i + 2) xs (omega arith))
     ∙ ap (λ (x : ℕ). x ∷ get_or xs (i + 2) 0 ∷ []) t.second
     ∙ ap (λ (x : ℕ). b ∷ x ∷ []) t.third
+
+first_two : (xs : List ℕ) (i a b c : ℕ) → Three xs i a b c → take 2 (drop i xs) ≡ a ∷ b ∷ []
+first_two xs i a b c t =
+    let within = t.within in
+    take_one 1 i xs (omega arith)
+    ∙ ap (λ (zs : List ℕ). get_or xs i 0 ∷ zs) (take_one 0 (i + 1) xs (omega arith))
+    ∙ ap (λ (x : ℕ). x ∷ get_or xs (i + 1) 0 ∷ []) t.first
+    ∙ ap (λ (x : ℕ). a ∷ x ∷ []) t.second
 
 all_three : (xs : List ℕ) (i a b c : ℕ) → Three xs i a b c → take 3 (drop i xs) ≡ a ∷ b ∷ c ∷ []
 all_three xs i a b c t =
@@ -121,6 +130,54 @@ near_text n (suc b) low skip small sum hundreds h s =
     ∙ sym (append_assoc (decimal (n / 100)) (pair (n % 100)) (32 ∷ []))
     ∙ ap (λ (ds : List ℕ). ds ++ 32 ∷ []) (sym (decimal_pair n (omega arith) small))
 
+-- the entry of a number below 100 in the table of texts: which bytes it has, and its length
+abbrev is_short_by : Bool → ℕ → Bool
+is_short_by one p =
+    eqb (get_or SHORT (p * 4 + 3) 0) (cond one 2 3)
+    && (eqb (get_or SHORT (p * 4) 0) (cond one (48 + p) (48 + p / 10))
+    && (eqb (get_or SHORT (p * 4 + 1) 0) (cond one 32 (48 + p % 10)) && eqb (get_or SHORT (p * 4 + 2) 0) 32))
+
+unfoldable is_short : ℕ → Bool
+is_short p = is_short_by (ltb p 10) p
+
+-- what the table of texts has of a number
+pub record IsShort (p : ℕ) : Type 0 where
+  pub few : get_or SHORT (p * 4 + 3) 0 ≤ 3
+  pub text : take (get_or SHORT (p * 4 + 3) 0) (drop (p * 4) SHORT) ≡ decimal p ++ 32 ∷ []
+
+short_parts : (one : Bool) (p : ℕ) → p < 100 → T (is_short_by one p) → (get_or SHORT (p * 4 + 3) 0 ≡ cond one 2 3) × Three SHORT (p * 4) (cond one (48 + p) (48 + p / 10)) (cond one 32 (48 + p % 10)) 32
+short_parts one p h t =
+    let rest = and_r (eqb (get_or SHORT (p * 4 + 3) 0) (cond one 2 3)) _ t in
+    let more = and_r (eqb (get_or SHORT (p * 4) 0) (cond one (48 + p) (48 + p / 10))) _ rest in
+    (eqb→eq _ _ (and_l _ _ t), record {
+      first = eqb→eq _ _ (and_l _ _ rest);
+      second = eqb→eq _ _ (and_l _ _ more);
+      third = eqb→eq _ _ (and_r _ _ more);
+      within = omega arith;
+    })
+
+short_by : (one : Bool) (p : ℕ) → ltb p 10 ≡ one → p < 100 → T (is_short_by one p) → IsShort p
+short_by true p e h t =
+    let parts = short_parts true p h t in
+    record {
+      few = omega (arith, parts.0);
+      text = ap (λ (n : ℕ). take n (drop (p * 4) SHORT)) parts.0 ∙ first_two SHORT (p * 4) (48 + p) 32 32 parts.1 ∙ ap (λ (ds : List ℕ). ds ++ 32 ∷ []) (sym (decimal_digit p (ltb-true p 10 e)));
+    }
+short_by false p e h t =
+    let parts = short_parts false p h t in
+    let two : 10 ≤ p = elim (cases_lt p 10) [
+      | inl one ↦ absurd (cc (lt-ltb p 10 one, e))
+      | inr two ↦ two
+    ] in
+    record {
+      few = omega (arith, parts.0);
+      text = ap (λ (n : ℕ). take n (drop (p * 4) SHORT)) parts.0 ∙ all_three SHORT (p * 4) (48 + p / 10) (48 + p % 10) 32 parts.1 ∙ ap (λ (ds : List ℕ). ds ++ 32 ∷ []) (sym (decimal_two p two h));
+    }
+
+pub short_at : (p : ℕ) → p < 100 → IsShort p
+unfolding is_short
+short_at p h = short_by (ltb p 10) p refl h (below is_short 100 p tt h)
+
 -- digits that end at a place
 pub kept_text : (high end from : ℕ) (digits rest : List ℕ) → from + length (decimal high) ≡ end → drop from digits ≡ decimal high ++ rest → 0 < high → take (end - from) (drop from digits) ≡ leading (high * 100 / 100)
 kept_text high end from digits rest start written some =
@@ -168,3 +225,29 @@ next_digits high from digits some low small within long is = elim (cases_lt high
         ∙ last_over front last (48 + (high + 1) % 10) from (19 - from) digits (omega arith) long (ap (λ (n : ℕ). take n (drop from digits)) (sym one) ∙ whole)
         ∙ sym new
         ∙ sym (leading_some (high + 1) (omega arith))
+
+-- the text of a number from 100 on, before its last two digits
+front_of : (text : List ℕ) (len base number : ℕ) → len ≤ length text → take len text ≡ decimal number ++ 32 ∷ [] → base ≤ number → number < base + 100 → base % 100 ≡ 0 → 0 < base → number < 2 ^ 64 → (3 ≤ len) × (take (len - 3) text ≡ leading (base / 100))
+front_of text len base number within is near few hundreds some small =
+    let high = leading (base / 100) in
+    let rest = pair (number - base) ++ 32 ∷ [] in
+    let sum : base + (number - base) ≡ number = omega arith in
+    let parts : high ++ rest ≡ decimal number ++ 32 ∷ [] =
+    near_text number base (number - base) 0 small sum hundreds (omega arith) (record { one = λ e l. absurd (omega arith); two = λ e l. refl; more = λ more. refl }) in
+    let whole : take len text ≡ high ++ rest = is ∙ sym parts in
+    let long : length (take len text) ≡ length (high ++ rest) = ap length whole in
+    let all = length-take-le len text within in
+    let both = length-append high rest in
+    (omega arith, sym (take-take (len - 3) len text (omega arith)) ∙ ap (λ (xs : List ℕ). take (len - 3) xs) whole ∙ take_at high rest (len - 3) (omega arith))
+
+-- that it has so many digits
+pub three_digits : (text : List ℕ) (len base number : ℕ) → len ≤ length text → take len text ≡ decimal number ++ 32 ∷ [] → base ≤ number → number < base + 100 → base % 100 ≡ 0 → 0 < base → number < 2 ^ 64 → 3 ≤ len
+three_digits text len base number within is near few hundreds some small = (front_of text len base number within is near few hundreds some small).0
+
+-- another number of the same hundred, of which the last two digits are placed
+pub pair_over : (text new : List ℕ) (len end base number next : ℕ) → len ≤ length text → take len text ≡ decimal number ++ 32 ∷ [] → base ≤ number → number < base + 100 → base % 100 ≡ 0 → 0 < base → number < 2 ^ 64 → base ≤ next → next < base + 100 → next < 2 ^ 64 → take end new ≡ take (len - 3) text ++ (pair (next - base) ++ 32 ∷ []) → take end new ≡ decimal next ++ 32 ∷ []
+pair_over text new len end base number next within is near few hundreds some small near-next few-next small-next placed =
+    let sum : base + (next - base) ≡ next = omega arith in
+    placed
+    ∙ ap (λ (front : List ℕ). front ++ (pair (next - base) ++ 32 ∷ [])) (front_of text len base number within is near few hundreds some small).1
+    ∙ near_text next base (next - base) 0 small-next sum hundreds (omega arith) (record { one = λ e l. absurd (omega arith); two = λ e l. refl; more = λ more. refl })

@@ -1,4 +1,4 @@
-use Rattle.std.specs.Prelude.{ℕ, List, ◌++◌, codes, decimal, drop, take}
+use Rattle.std.specs.Prelude.{◌≡◌, ℕ, List, ◌++◌, codes, decimal, drop, take}
 use Rattle.std.specs.List.{flat_map}
 use Rattle.lx_line.specs.Decimals.{IsNear}
 use Rattle.lx_line.specs.Escapes.{escaped}
@@ -10,7 +10,7 @@ abbrev pub rest_text : ℕ → ℕ → ℕ → List ℕ → List ℕ
 rest_text line start len bytes =
     (decimal line ++ codes " ") ++ ((decimal start ++ codes " ") ++ ((decimal len ++ codes " ") ++ (flat_map escaped (take len (drop start bytes)) ++ codes "\n")))
 
--- the digits that are kept are those of these numbers
+-- what is kept is of these numbers
 pub record AreKept (digits : Digits) (numbers : Numbers) : Type 0 where
-  pub line : IsNear digits.line.base numbers.line
+  pub line : digits.line.number ≡ numbers.line
   pub start : IsNear digits.start.base numbers.start

@@ -23,14 +23,9 @@ fn place_pair(buf: &mut [u8], at: usize, number: usize, skip: usize) -> usize
     place_4(buf, at, &PAIRS, number * 4 + skip, 3 - skip)
 }
 
-// How many of the two digits aren't of the number: one where it is below 10.
-#[inline(always)]
-fn skipped(number: usize) -> usize
-    ensures one { number < 10 → result ≡ 1 }
-    ensures two { 10 ≤ number → result ≡ 0 }
-{
-    if number < 10 { 1 } else { 0 }
-}
+// The text of each number below 100 with a space behind it, in four bytes, of which the last is how long it is.
+static SHORT: [u8; 400] =
+    *b"0  \x021  \x022  \x023  \x024  \x025  \x026  \x027  \x028  \x029  \x0210 \x0311 \x0312 \x0313 \x0314 \x0315 \x0316 \x0317 \x0318 \x0319 \x0320 \x0321 \x0322 \x0323 \x0324 \x0325 \x0326 \x0327 \x0328 \x0329 \x0330 \x0331 \x0332 \x0333 \x0334 \x0335 \x0336 \x0337 \x0338 \x0339 \x0340 \x0341 \x0342 \x0343 \x0344 \x0345 \x0346 \x0347 \x0348 \x0349 \x0350 \x0351 \x0352 \x0353 \x0354 \x0355 \x0356 \x0357 \x0358 \x0359 \x0360 \x0361 \x0362 \x0363 \x0364 \x0365 \x0366 \x0367 \x0368 \x0369 \x0370 \x0371 \x0372 \x0373 \x0374 \x0375 \x0376 \x0377 \x0378 \x0379 \x0380 \x0381 \x0382 \x0383 \x0384 \x0385 \x0386 \x0387 \x0388 \x0389 \x0390 \x0391 \x0392 \x0393 \x0394 \x0395 \x0396 \x0397 \x0398 \x0399 \x03";
 
 /// A number below 100, and a space.
 #[inline(always)]
@@ -40,8 +35,8 @@ pub fn place_short(buf: &mut [u8], at: usize, number: usize) -> usize
     ensures placed { Placed buf.old buf.new at (decimal number ++ codes " ") result }
     ensures short { result ≤ at + 3 }
 {
-    let skip = skipped(number);
-    place_pair(buf, at, number, skip)
+    let from = number * 4;
+    place_4(buf, at, &SHORT, from, SHORT[from + 3] as usize)
 }
 
 // Where the digits end that are kept: so many a number of 64 bits has at most.
@@ -161,4 +156,90 @@ pub fn place_number(buf: &mut [u8], at: usize, number: u64) -> usize
     ensures short { result ≤ at + 19 }
 {
     KeptDigits::near(number).place(buf, at, number)
+}
+
+// The most that a number may be whose whole text is kept: it has sixteen bytes with a space.
+const MOST_WHOLE: u64 = 999_999_999_999_999;
+
+/// A number whose whole text is kept, for as long as it is the same.
+#[derive(Clone, Copy, Drop)]
+pub struct KeptNumber {
+    number: u64,
+    // The number, with zeros for its last two digits.
+    base: u64,
+    // It begins with the number and a space.
+    text: [u8; 20],
+    // So many bytes these have.
+    len: usize,
+    ghost small: { number < 10 ^ 15 },
+    ghost near: { IsNear base number },
+    ghost hundreds: { base % 100 ≡ 0 },
+    ghost few: { len ≤ 16 },
+    ghost whole: { take len text ≡ decimal number ++ codes " " },
+}
+
+impl KeptNumber {
+    /// That is 0.
+    pub fn new() -> KeptNumber {
+        let mut text = [0; 20];
+        let len = place_short(&mut text, 0, 0);
+        KeptNumber {
+            number: 0,
+            base: 0,
+            text,
+            len,
+        }
+    }
+
+    // One of the same hundred, which has other digits only at its end; whether it is one.
+    #[inline(always)]
+    fn step(&mut self, number: u64) -> bool
+        ensures { IsTrue result → self.new.number ≡ number }
+    {
+        if self.base == 0 || number.wrapping_sub(self.base) >= 100 {
+            return false;
+        }
+        let low = number - self.base;
+        self.len = place_pair(&mut self.text, self.len - 3, low as usize, 0);
+        self.number = number;
+        true
+    }
+
+    #[cold]
+    #[inline(never)]
+    fn change(&mut self, number: u64) -> bool
+        ensures { IsTrue result → self.new.number ≡ number }
+    {
+        if self.step(number) {
+            return true;
+        }
+        if number > MOST_WHOLE {
+            return false;
+        }
+        self.len = place_number(&mut self.text, 0, number);
+        self.base = number / 100 * 100;
+        self.number = number;
+        true
+    }
+
+    /// Keeps the text of a number, unless it is too great.
+    #[inline(always)]
+    pub fn follow(&mut self, number: u64) -> bool
+        ensures { IsTrue result → self.new.number ≡ number }
+    {
+        if number == self.number {
+            return true;
+        }
+        self.change(number)
+    }
+
+    /// The number, and a space.
+    #[inline(always)]
+    pub fn place(&self, buf: &mut [u8], at: usize) -> usize
+        requires room { at + 16 ≤ length buf.old }
+        ensures placed { Placed buf.old buf.new at (decimal self.now.number ++ codes " ") result }
+        ensures short { result ≤ at + 16 }
+    {
+        place_16(buf, at, &self.text, 0, self.len)
+    }
 }
