@@ -1,11 +1,13 @@
 -- Which bytes of a text stand in a line as they are.
-use Rattle.std.proofs.Common.{◌≡◌, ℕ, zero, suc, ◌+◌, ◌-◌, ◌%◌, ◌^◌, ◌<◌, ◌≤◌, Bool, true, false, not, cond, ◌||◌, eqb, ltb, List, [], ◌∷◌, ◌++◌, length, take, drop, map, replicate, refl, sym, append_assoc, ap, ◌∙◌, subst, arith, take-take, append-nil, get_or, length-take-le, lit≤}
+use Rattle.std.proofs.Common.{◌≡◌, ℕ, zero, suc, ◌+◌, ◌-◌, ◌%◌, ◌^◌, ◌<◌, ◌≤◌, Bool, true, false, not, cond, ◌||◌, eqb, ltb, List, [], ◌∷◌, ◌++◌, length, take, drop, map, replicate, refl, sym, append_assoc, ap, ◌∙◌, arith, take-take, append-nil, get_or, length-append, length-take-le, lit≤}
 use Rattle.std.specs.List.{flat_map, prefix_len}
 use Rattle.std.specs.Int.Bits.{bit_or}
+use Rattle.std.proofs.Math.Nat.{pow-succ'}
 use Rattle.std.proofs.Math.Seq.{take-add}
 use Rattle.std.proofs.lemmas.Grind.{flat_map-append}
 use Rattle.std.proofs.lemmas.List.{drop-drop, drop_more, length-map}
-use Rattle.std.proofs.lemmas.Simd.{first_set_mask_l, mask_l-mod}
+use Rattle.std.proofs.lemmas.List.Sums.{prefix_len-le-length}
+use Rattle.std.proofs.lemmas.Simd.{first_set_mask_l, mask_l-lt, mask_l-mod, trailing_mask_l}
 use lib.Count.{count_trailing_zeros}
 use lib.Lanes.{mask_l, top, zip2}
 use Rattle.lx_line.specs.Escapes.{escaped}
@@ -78,10 +80,51 @@ plain_run p escape as_is xs n long few h =
     let same = take-take n 16 xs few in
     ap (flat_map escape) (sym same) ∙ first_plain p escape as_is n (take 16 xs) (before_first p (take 16 xs) n whole few h) ∙ same
 
-pub plain_lanes : (xs : List ℕ) (n : ℕ) → 16 ≤ length xs → n ≤ 16 → n ≤ count_trailing_zeros 64 (mask_l (map (top 7) (compared 16 (take 16 xs))) % 2 ^ 64) → flat_map escaped (take n xs) ≡ take n xs
-plain_lanes xs n long few h =
+-- the bits of a mask, and one behind them
+mask_more : (p : ℕ → Bool) (xs : List ℕ) → mask_l (map (λ (b : Bool). b) (map p xs ++ true ∷ [])) ≡ mask_l (map p xs) + 2 ^ length xs
+mask_more p [] = refl
+mask_more p (x ∷ xs) =
+    let rest = mask_more p xs in
+    let twice = pow-succ' 2 (length xs) in
+    omega (arith, rest, twice)
+
+before_bit : (p : ℕ → Bool) (xs : List ℕ) → prefix_len (λ b. not b) (map p xs ++ true ∷ []) ≡ prefix_len (λ y. not (p y)) xs
+before_bit p [] = refl
+before_bit p (x ∷ xs) = ap (λ (r : ℕ). cond (not (p x)) (1 + r) 0) (before_bit p xs)
+
+-- how many of 16 bytes come before the first that passes a test, by a mask with a bit behind it
+counted : (p : ℕ → Bool) (xs : List ℕ) → length xs ≡ 16 → count_trailing_zeros 64 (mask_l (map p xs) + 65536) ≡ prefix_len (λ y. not (p y)) xs
+counted p xs whole =
+    let bits = map p xs ++ true ∷ [] in
+    let bit : 2 ^ length xs ≡ 65536 = ap (λ (n : ℕ). 2 ^ n) whole in
+    let all : mask_l (map (λ (b : Bool). b) bits) ≡ mask_l (map p xs) + 65536 = mask_more p xs ∙ ap (λ (n : ℕ). mask_l (map p xs) + n) bit in
+    ap (count_trailing_zeros 64) (sym all)
+    ∙ trailing_mask_l (λ (b : Bool). b) 64 bits (omega (arith, length-append (map p xs) (true ∷ []), length-map xs p)) (omega (arith, all))
+    ∙ before_bit p xs
+
+pub lanes_counted : (xs : List ℕ) → 16 ≤ length xs → count_trailing_zeros 64 (mask_l (map (top 7) (compared 16 (take 16 xs))) % 2 ^ 64 + 65536) ≡ prefix_len (λ y. not (is_escaped y)) (take 16 xs)
+lanes_counted xs long =
     let whole : length (take 16 xs) ≡ 16 = length-take-le 16 xs long in
-    plain_run is_escaped escaped as_it_is xs n long few (subst (λ (k : ℕ). n ≤ count_trailing_zeros 64 k) (mask_of (take 16 xs) whole) h)
+    ap (λ (m : ℕ). count_trailing_zeros 64 (m + 65536)) (mask_of (take 16 xs) whole) ∙ counted is_escaped (take 16 xs) whole
+
+-- a bit has room behind the mask
+pub lanes_small : (xs : List ℕ) → 16 ≤ length xs → mask_l (map (top 7) (compared 16 (take 16 xs))) % 2 ^ 64 < 65536
+lanes_small xs long =
+    let whole : length (take 16 xs) ≡ 16 = length-take-le 16 xs long in
+    let bits = map is_escaped (take 16 xs) in
+    let many : 2 ^ length bits ≡ 65536 = ap (λ (n : ℕ). 2 ^ n) (length-map (take 16 xs) is_escaped ∙ whole) in
+    omega (arith, mask_of (take 16 xs) whole, mask_l-lt bits, many)
+
+-- so many are sixteen at most
+pub lanes_few : (xs : List ℕ) (count : ℕ) → 16 ≤ length xs → count ≡ prefix_len (λ y. not (is_escaped y)) (take 16 xs) → count ≤ 16
+lanes_few xs count long is =
+    omega (arith, is, length-take-le 16 xs long, prefix_len-le-length (λ y. not (is_escaped y)) (take 16 xs))
+
+-- and stand as they are
+pub lanes_plain : (xs : List ℕ) (count n : ℕ) → 16 ≤ length xs → count ≡ prefix_len (λ y. not (is_escaped y)) (take 16 xs) → n ≤ count → flat_map escaped (take n xs) ≡ take n xs
+lanes_plain xs count n long is few =
+    let same = take-take n 16 xs (omega (arith, lanes_few xs count long is)) in
+    ap (flat_map escaped) (sym same) ∙ first_plain is_escaped escaped as_it_is n (take 16 xs) (omega (arith, is)) ∙ same
 
 pub text_parts : (escape : ℕ → List ℕ) (bytes : List ℕ) (start done part : ℕ) → flat_map escape (take done (drop start bytes)) ++ flat_map escape (take part (drop (start + done) bytes)) ≡ flat_map escape (take (done + part) (drop start bytes))
 text_parts escape bytes start done part =

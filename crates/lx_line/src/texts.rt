@@ -12,13 +12,15 @@ use std::simd::prelude::*;
 #[inline(always)]
 fn plain_16(src: &[u8], from: usize) -> usize
     requires { from + 16 ≤ length src.now }
-    ensures { (n : ℕ) → n ≤ 16 → n ≤ result → flat_map escaped (take n (drop from src.now)) ≡ take n (drop from src.now) }
+    ensures few { result ≤ 16 }
+    ensures plain { (n : ℕ) → n ≤ result → flat_map escaped (take n (drop from src.now)) ≡ take n (drop from src.now) }
 {
     let bytes = u8x16::from_slice(&src[from..]);
     let is_escaped = bytes.simd_lt(u8x16::splat(b' '))
         | bytes.simd_gt(u8x16::splat(b'~'))
         | bytes.simd_eq(u8x16::splat(b'\\'));
-    is_escaped.to_bitmask().trailing_zeros() as usize
+    // a bit behind theirs, so that there is a first
+    (is_escaped.to_bitmask() + 0x1_0000).trailing_zeros() as usize
 }
 
 fn hex_digit(n: u8) -> u8
@@ -64,7 +66,7 @@ fn place_part(buf: &mut [u8], at: usize, bytes: &[u8], from: usize, most: usize)
     ensures few { result.count ≤ most }
     ensures short { result.end ≤ at + 4 * result.count }
 {
-    let count = plain_16(bytes, from).min(16).min(most);
+    let count = plain_16(bytes, from).min(most);
     let end = place_16(buf, at, bytes, from, count);
     if count == 16 || count == most {
         return Part { end, count };
@@ -102,7 +104,7 @@ pub fn place_text(buf: &mut [u8], at: usize, bytes: &[u8], start: usize, len: us
     ensures placed { Placed buf.old buf.new at (flat_map escaped (take len (drop start bytes.now))) result }
     ensures short { result ≤ at + 4 * len }
 {
-    if len <= 16 && len <= plain_16(bytes, start) {
+    if len <= plain_16(bytes, start) {
         return place_16(buf, at, bytes, start, len);
     }
     place_long(buf, at, bytes, start, len)

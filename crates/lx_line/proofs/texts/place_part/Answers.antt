@@ -6,4 +6,4 @@ use Rattle.lx_line.proofs.texts.place_part.Goals as goal
 pub returns-clause-placed : goal.returns-clause-placed
 returns-clause-placed c =
     let count = c.min-count.result in
-    plain_and_one escaped c.args.bytes.now c.args.from count (omega arith) c.place_16-end.ensures (c.plain_16.ensures count (omega arith) (omega arith)) c.place_escaped-end.ensures.placed
+    plain_and_one escaped c.args.bytes.now c.args.from count (omega arith) c.place_16-end.ensures (c.plain_16.ensures.plain count (omega arith)) c.place_escaped-end.ensures.placed
