@@ -251,3 +251,23 @@ pair_over text new len end base number next within is near few hundreds some sma
     placed
     ∙ ap (λ (front : List ℕ). front ++ (pair (next - base) ++ 32 ∷ [])) (front_of text len base number within is near few hundreds some small).1
     ∙ near_text next base (next - base) 0 small-next sum hundreds (omega arith) (record { one = λ e l. absurd (omega arith); two = λ e l. refl; more = λ more. refl })
+
+-- the text of a number that has what others share, and the rest of it from the table of pairs
+pub shared_text : (front : List ℕ) (len first count base before last number : ℕ) → base < 10 ^ 18 → base % 100 ≡ 0 → base ≤ first → first + count ≤ base + 100 → take len front ≡ leading (base / 100) → 2 ≤ last → last ≤ 3 → before + (3 - last) ≡ 4 * base + 1 → (last ≡ 2 → first + count ≤ 10) → (last ≡ 3 → 10 ≤ first) → first ≤ number → number < first + count →
+    take len front ++ take last (drop (4 * number + 1 - before) PAIRS) ≡ decimal number ++ 32 ∷ []
+shared_text front len first count base before last number small hundreds begin end shared some most pairs one two from below =
+    let low = number - base in
+    let skip = 3 - last in
+    let few : low < 100 = omega arith in
+    let sum : base + low ≡ number = omega arith in
+    let place : 4 * number + 1 - before ≡ low * 4 + skip = omega arith in
+    let rest : last ≡ 3 - skip = omega arith in
+    ap (λ (ds : List ℕ). ds ++ take last (drop (4 * number + 1 - before) PAIRS)) shared
+    ∙ ap (λ (k : ℕ). leading (base / 100) ++ take last (drop k PAIRS)) place
+    ∙ ap (λ (k : ℕ). leading (base / 100) ++ take k (drop (low * 4 + skip) PAIRS)) rest
+    ∙ ap (λ (ds : List ℕ). leading (base / 100) ++ ds) (pair_from low skip few (omega arith))
+    ∙ near_text number base low skip (omega arith) sum hundreds few (record {
+      one = λ e l. grind (arith, one, two);
+      two = λ e l. grind (arith, one, two);
+      more = λ more. grind (arith, one, two);
+    })

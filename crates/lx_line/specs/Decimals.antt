@@ -11,3 +11,7 @@ leading high = if high == 0 then [] else decimal high
 -- a number is the same as another one, which has zeros for its last two digits, but for these two
 abbrev pub IsNear : ℕ → ℕ → Type 0
 IsNear base number = (base ≤ number) × (number < base + 100)
+
+-- a number is one of so many from the first on
+abbrev pub IsAmong : ℕ → ℕ → ℕ → Type 0
+IsAmong first count number = (first ≤ number) × (number < first + count)

@@ -1,6 +1,6 @@
 use Rattle.std.specs.Prelude.{◌≡◌, ℕ, List, ◌++◌, codes, decimal, drop, take}
 use Rattle.std.specs.List.{flat_map}
-use Rattle.lx_line.specs.Decimals.{IsNear}
+use Rattle.lx_line.specs.Decimals.{IsAmong}
 use Rattle.lx_line.specs.Escapes.{escaped}
 use Rattle.lx_line.specs.declared.fields.Digits.{Digits}
 use Rattle.lx_line.specs.declared.fields.Numbers.{Numbers}
@@ -13,4 +13,4 @@ rest_text line start len bytes =
 -- what is kept is of these numbers
 pub record AreKept (digits : Digits) (numbers : Numbers) : Type 0 where
   pub line : digits.line.number ≡ numbers.line
-  pub start : IsNear digits.start.base numbers.start
+  pub start : IsAmong digits.start.first digits.start.count numbers.start

@@ -1,11 +1,12 @@
 //! Decimal numbers, with the digits kept that numbers near one another share.
 
 ghost use Rattle.std.specs.Prelude.{◌≡◌, IsTrue, ◌+◌, ◌-◌, ◌*◌, ◌/◌, ◌%◌, ◌^◌, ◌<◌, ◌≤◌, ◌++◌, codes, decimal, length, take, drop};
-ghost use Rattle.lx_line.specs.Decimals.{IsNear, leading, pair};
+ghost use Rattle.lx_line.specs.Decimals.{IsAmong, IsNear, leading, pair};
 ghost use Rattle.lx_line.specs.Placed.{Placed};
 
 use crate::place::{place_4, place_16};
 use itoa::write_digits;
+use std::simd::prelude::*;
 
 // The two digits of each number below 100, and two spaces. Four bytes more can be read behind the last.
 static PAIRS: [u8; 404] =
@@ -241,5 +242,100 @@ impl KeptNumber {
         ensures short { result ≤ at + 16 }
     {
         place_16(buf, at, &self.text, 0, self.len)
+    }
+}
+
+/// Numbers behind one another that differ in their last two digits alone, or in the only one. What they share is kept, and where their last
+/// digits stand in the table.
+#[derive(Clone, Copy, Drop)]
+pub struct SharedDigits {
+    // They are those from the first on, so many.
+    first: u64,
+    count: u64,
+    // The first, with zeros for its last two digits.
+    base: u64,
+    // It begins with the digits that they share, so many.
+    front: [u8; 16],
+    len: usize,
+    // The last digits of a number, and a space, stand in the table of pairs so far before four times the number and one, and are so many.
+    before: u64,
+    last: usize,
+    // What the next ones share is made of these.
+    kept: KeptDigits,
+    ghost small: { base < 10 ^ 18 },
+    ghost hundreds: { base % 100 ≡ 0 },
+    ghost begin: { base ≤ first },
+    ghost end: { first + count ≤ base + 100 },
+    ghost few: { len ≤ 16 },
+    ghost shared: { take len front ≡ leading (base / 100) },
+    ghost some: { 2 ≤ last },
+    ghost most: { last ≤ 3 },
+    ghost pairs: { before + (3 - last) ≡ 4 * base + 1 },
+    ghost one: { last ≡ 2 → first + count ≤ 10 },
+    ghost two: { last ≡ 3 → 10 ≤ first },
+}
+
+impl SharedDigits {
+    /// Those of the numbers below 10.
+    pub fn new() -> SharedDigits {
+        SharedDigits {
+            first: 0,
+            count: 10,
+            base: 0,
+            front: [0; 16],
+            len: 0,
+            before: 0,
+            last: 2,
+            kept: KeptDigits::new(),
+        }
+    }
+
+    #[cold]
+    #[inline(never)]
+    fn change(&mut self, number: u64) -> bool
+        ensures { IsTrue result → IsAmong self.new.first self.new.count number }
+    {
+        if !self.kept.follow(number) {
+            return false;
+        }
+        self.front = u8x16::from_slice(&self.kept.digits[self.kept.from..]).to_array();
+        self.len = END - self.kept.from;
+        self.base = self.kept.base;
+        if number < 10 {
+            self.first = 0;
+            self.count = 10;
+            self.before = 0;
+            self.last = 2;
+            return true;
+        }
+        self.first = self.base.max(10);
+        self.count = self.base + 100 - self.first;
+        self.before = 4 * self.base + 1;
+        self.last = 3;
+        true
+    }
+
+    /// Keeps the digits that a number shares with those near it, unless they are too many.
+    #[inline(always)]
+    pub fn follow(&mut self, number: u64) -> bool
+        ensures { IsTrue result → IsAmong self.new.first self.new.count number }
+    {
+        if number.wrapping_sub(self.first) < self.count {
+            return true;
+        }
+        self.change(number)
+    }
+
+    /// One of the numbers, and a space.
+    #[inline(always)]
+    pub fn place(&self, buf: &mut [u8], at: usize, number: u64) -> usize
+        requires room { at + 20 ≤ length buf.old }
+        requires among { IsAmong self.now.first self.now.count number }
+        ensures placed { Placed buf.old buf.new at (decimal number ++ codes " ") result }
+        ensures short { result ≤ at + 19 }
+    {
+        let from = 4 * number + 1 - self.before;
+        let end = place_16(buf, at, &self.front, 0, self.len);
+        place_4(buf, end, &PAIRS, from as usize, self.last)
     }
 }

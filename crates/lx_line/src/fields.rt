@@ -6,7 +6,7 @@ ghost use Rattle.lx_line.specs.Fields.{AreKept, rest_text};
 ghost use Rattle.lx_line.specs.Prefixes.{kind_of_item};
 ghost use Rattle.lx_line.specs.Placed.{Placed};
 
-use crate::decimals::{KeptDigits, KeptNumber, place_short};
+use crate::decimals::{KeptNumber, SharedDigits, place_short};
 use crate::place::place_byte;
 use crate::texts::place_text;
 use lx_rules::rule::Kind;
@@ -56,7 +56,7 @@ pub fn numbers_of(item: &Item) -> Numbers
 #[derive(Clone, Copy, Drop)]
 pub struct Digits {
     line: KeptNumber,
-    start: KeptDigits,
+    start: SharedDigits,
 }
 
 impl Digits {
@@ -64,7 +64,7 @@ impl Digits {
     pub fn new() -> Digits {
         Digits {
             line: KeptNumber::new(),
-            start: KeptDigits::new(),
+            start: SharedDigits::new(),
         }
     }
 
