@@ -2,7 +2,8 @@
 use Rattle.std.proofs.Common.{◌≡◌, ℕ, zero, suc, ◌+◌, ◌-◌, ◌*◌, ◌/◌, ◌%◌, ◌^◌, ◌<◌, ◌≤◌, Bool, true, false, cond, ltb, ◌&&◌, T, eqb, List, [], ◌∷◌, ◌++◌, length, take, drop, get_or, refl, sym, ap, ◌∙◌, inl, inr, subst, arith, eq-zero-or-pos, eqb→eq, append_assoc, length-append, length-drop, take-take}
 use Rattle.std.proofs.lemmas.Bool.{cases_lt, lt-ltb, ltb-true, ne_eqb}
 use Rattle.std.proofs.lemmas.Fmt.{decimal_digit, decimal_step}
-use Rattle.std.proofs.lemmas.List.{drop-set-add, drop_more, length-take-le, take_at, take_more_set}
+use Rattle.std.proofs.Math.Seq.{get_or-append_seam}
+use Rattle.std.proofs.lemmas.List.{drop-set-add, drop_more, get_or-take, length-take-le, take_at, take_more_set}
 use Rattle.std.specs.Prelude.{slice_set}
 use Rattle.std.specs.Fmt.{decimal}
 use lib.Ieee.Fits.{and_l, and_r}
@@ -148,13 +149,15 @@ pub record IsShort (p : ℕ) : Type 0 where
 short_parts : (one : Bool) (p : ℕ) → p < 100 → T (is_short_by one p) → (get_or SHORT (p * 4 + 3) 0 ≡ cond one 2 3) × Three SHORT (p * 4) (cond one (48 + p) (48 + p / 10)) (cond one 32 (48 + p % 10)) 32
 short_parts one p h t =
     let rest = and_r (eqb (get_or SHORT (p * 4 + 3) 0) (cond one 2 3)) _ t in
-    let more = and_r (eqb (get_or SHORT (p * 4) 0) (cond one (48 + p) (48 + p / 10))) _ rest in
-    (eqb→eq _ _ (and_l _ _ t), record {
-      first = eqb→eq _ _ (and_l _ _ rest);
-      second = eqb→eq _ _ (and_l _ _ more);
-      third = eqb→eq _ _ (and_r _ _ more);
-      within = omega arith;
-    })
+    let more = and_r (eqb (get_or SHORT (p * 4) 0) (cond one (48 + p) (48 + p / 10))) _ rest in (
+      eqb→eq _ _ (and_l _ _ t),
+      record {
+        first = eqb→eq _ _ (and_l _ _ rest);
+        second = eqb→eq _ _ (and_l _ _ more);
+        third = eqb→eq _ _ (and_r _ _ more);
+        within = omega arith;
+      },
+    )
 
 short_by : (one : Bool) (p : ℕ) → ltb p 10 ≡ one → p < 100 → T (is_short_by one p) → IsShort p
 short_by true p e h t =
@@ -271,3 +274,54 @@ shared_text front len first count base before last number small hundreds begin e
       two = λ e l. grind (arith, one, two);
       more = λ more. grind (arith, one, two);
     })
+
+-- the last of some digits, and those of the next number where it alone changes
+pub record LastDigit (front : List ℕ) (len high : ℕ) : Type 0 where
+  pub some : 0 < high
+  pub digit : get_or front (len - 1) 0 ≡ 48 + high % 10
+  pub next : high % 10 < 9 → take len (slice_set front (len - 1) (48 + high % 10 + 1)) ≡ leading (high + 1)
+
+some_high : (front : List ℕ) (len high : ℕ) → 0 < len → len ≤ length front → take len front ≡ leading high → 0 < high
+some_high front len zero pos within is =
+    let none : length (take len front) ≡ 0 = ap length is in
+    let all = length-take-le len front within in
+    absurd (omega arith)
+some_high front len (suc high) pos within is = omega arith
+
+last_by : (front : List ℕ) (m high last : ℕ) (before : List ℕ) → m + 1 ≤ length front → 0 < high → last ≡ 48 + high % 10 → take (m + 1) front ≡ before ++ last ∷ [] → (high % 10 < 9 → decimal (high + 1) ≡ before ++ (last + 1) ∷ []) → (get_or front m 0 ≡ last) × (high % 10 < 9 → take (m + 1) (slice_set front m (last + 1)) ≡ leading (high + 1))
+last_by front m high last before within some is_last is next =
+    let all = length-take-le (m + 1) front within in
+    let both : length (take (m + 1) front) ≡ length (before ++ last ∷ []) = ap length is in
+    let parts = length-append before (last ∷ []) in
+    let same : m ≡ length before = omega arith in
+    let front_is : take m front ≡ before = sym (take-take m (m + 1) front (omega arith)) ∙ ap (λ (xs : List ℕ). take m xs) is ∙ take_at before (last ∷ []) m (omega arith) in (
+      sym (get_or-take (m + 1) front m 0 (omega arith)) ∙ ap (λ (xs : List ℕ). get_or xs m 0) is ∙ ap (λ (k : ℕ). get_or (before ++ last ∷ []) k 0) same ∙ get_or-append_seam before last [] 0,
+      λ low. take_more_set front m (last + 1) (omega arith) ∙ ap (λ (xs : List ℕ). xs ++ (last + 1) ∷ []) front_is ∙ sym (next low) ∙ sym (leading_some (high + 1) (omega arith)),
+    )
+
+last_digit_by : (front : List ℕ) (len m high : ℕ) → len ≡ m + 1 → len ≤ length front → 0 < high → high < 2 ^ 60 → take (m + 1) front ≡ leading high → (get_or front m 0 ≡ 48 + high % 10) × (high % 10 < 9 → take (m + 1) (slice_set front m (48 + high % 10 + 1)) ≡ leading (high + 1))
+last_digit_by front len m high long within some small is = elim (cases_lt high 10) [
+  | inl one ↦
+      let same : high ≡ high % 10 = omega arith in
+      last_by front m high (48 + high % 10) [] (omega arith) some refl
+      (is ∙ leading_some high some ∙ decimal_digit high one ∙ ap (λ (n : ℕ). (48 + n) ∷ []) same)
+      (λ low. let more : 48 + (high + 1) ≡ 48 + high % 10 + 1 = omega arith in decimal_digit (high + 1) (omega arith) ∙ ap (λ (n : ℕ). n ∷ []) more)
+  | inr two ↦
+      last_by front m high (48 + high % 10) (decimal (high / 10)) (omega arith) some refl
+      (is ∙ leading_some high some ∙ decimal_step high two (omega arith))
+      (λ low.
+      let same : (high + 1) / 10 ≡ high / 10 = omega arith in
+      let more : 48 + (high + 1) % 10 ≡ 48 + high % 10 + 1 = omega arith in
+      decimal_step (high + 1) (omega arith) (omega arith) ∙ ap (λ (n : ℕ). decimal n ++ (48 + (high + 1) % 10) ∷ []) same ∙ ap (λ (n : ℕ). decimal (high / 10) ++ n ∷ []) more)
+]
+
+pub last_digit : (front : List ℕ) (len high : ℕ) → 0 < len → len ≤ length front → high < 2 ^ 60 → take len front ≡ leading high → LastDigit front len high
+last_digit front len high pos within small is =
+    let long : len ≡ len - 1 + 1 = omega arith in
+    let some = some_high front len high pos within is in
+    let parts = last_digit_by front len (len - 1) high long within some small (ap (λ (k : ℕ). take k front) (sym long) ∙ is) in
+    record {
+      some = some;
+      digit = parts.0;
+      next = λ low. ap (λ (k : ℕ). take k (slice_set front (len - 1) (48 + high % 10 + 1))) long ∙ parts.1 low;
+    }

@@ -4,7 +4,7 @@ ghost use Rattle.std.specs.Prelude.{◌≡◌, IsTrue, ◌+◌, ◌-◌, ◌*◌
 ghost use Rattle.lx_line.specs.Decimals.{IsAmong, IsNear, leading, pair};
 ghost use Rattle.lx_line.specs.Placed.{Placed};
 
-use crate::place::{place_4, place_16};
+use crate::place::{place_4, place_16, put_4, put_16};
 use itoa::write_digits;
 use std::simd::prelude::*;
 
@@ -241,7 +241,8 @@ impl KeptNumber {
         ensures placed { Placed buf.old buf.new at (decimal self.now.number ++ codes " ") result }
         ensures short { result ≤ at + 16 }
     {
-        place_16(buf, at, &self.text, 0, self.len)
+        put_16(buf, at, &self.text, 0);
+        at + self.len
     }
 }
 
@@ -260,8 +261,6 @@ pub struct SharedDigits {
     // The last digits of a number, and a space, stand in the table of pairs so far before four times the number and one, and are so many.
     before: u64,
     last: usize,
-    // What the next ones share is made of these.
-    kept: KeptDigits,
     ghost small: { base < 10 ^ 18 },
     ghost hundreds: { base % 100 ≡ 0 },
     ghost begin: { base ≤ first },
@@ -286,21 +285,41 @@ impl SharedDigits {
             len: 0,
             before: 0,
             last: 2,
-            kept: KeptDigits::new(),
         }
+    }
+
+    // Goes on by a hundred, where that changes the last digit alone; whether the number is one of the next then.
+    #[inline(always)]
+    fn step(&mut self, number: u64) -> bool
+        ensures { IsTrue result → IsAmong self.new.first self.new.count number }
+    {
+        if self.len == 0 {
+            return false;
+        }
+        let digit = self.front[self.len - 1];
+        if digit == b'9' {
+            return false;
+        }
+        self.front[self.len - 1] = digit + 1;
+        self.base += 100;
+        self.first = self.base;
+        self.count = 100;
+        self.before += 400;
+        number.wrapping_sub(self.first) < 100
     }
 
     #[cold]
     #[inline(never)]
-    fn change(&mut self, number: u64) -> bool
+    fn renew(&mut self, number: u64) -> bool
         ensures { IsTrue result → IsAmong self.new.first self.new.count number }
     {
-        if !self.kept.follow(number) {
+        if number > MOST {
             return false;
         }
-        self.front = u8x16::from_slice(&self.kept.digits[self.kept.from..]).to_array();
-        self.len = END - self.kept.from;
-        self.base = self.kept.base;
+        let kept = KeptDigits::near(number);
+        self.front = u8x16::from_slice(&kept.digits[kept.from..]).to_array();
+        self.len = END - kept.from;
+        self.base = kept.base;
         if number < 10 {
             self.first = 0;
             self.count = 10;
@@ -308,11 +327,19 @@ impl SharedDigits {
             self.last = 2;
             return true;
         }
-        self.first = self.base.max(10);
-        self.count = self.base + 100 - self.first;
-        self.before = 4 * self.base + 1;
+        self.first = kept.base.max(10);
+        self.count = kept.base + 100 - self.first;
+        self.before = 4 * kept.base + 1;
         self.last = 3;
         true
+    }
+
+    #[cold]
+    #[inline(never)]
+    fn change(&mut self, number: u64) -> bool
+        ensures { IsTrue result → IsAmong self.new.first self.new.count number }
+    {
+        self.step(number) || self.renew(number)
     }
 
     /// Keeps the digits that a number shares with those near it, unless they are too many.
@@ -335,7 +362,9 @@ impl SharedDigits {
         ensures short { result ≤ at + 19 }
     {
         let from = 4 * number + 1 - self.before;
-        let end = place_16(buf, at, &self.front, 0, self.len);
-        place_4(buf, end, &PAIRS, from as usize, self.last)
+        put_16(buf, at, &self.front, 0);
+        let end = at + self.len;
+        put_4(buf, end, &PAIRS, from as usize);
+        end + self.last
     }
 }

@@ -1,6 +1,7 @@
-//! Bytes put at a place in a buffer that has room. More than is counted may be written behind them, so that a copy has one length.
+//! Bytes put at a place in a buffer that has room. More than is counted may be written behind them, so that a copy has one length. Where how
+//! many count is kept in memory, it is read behind the copy: `put_16` and `put_4` don't take it, and so it is added from there.
 
-ghost use Rattle.std.specs.Prelude.{◌≡◌, ◌+◌, ◌<◌, ◌≤◌, [], ◌∷◌, length, take, drop};
+ghost use Rattle.std.specs.Prelude.{◌≡◌, ◌+◌, ◌<◌, ◌≤◌, ℕ, [], ◌∷◌, length, take, drop};
 ghost use Rattle.lx_line.specs.Placed.{Placed};
 
 use std::simd::prelude::*;
@@ -25,6 +26,16 @@ pub fn place_all(buf: &mut [u8], at: usize, text: &[u8]) -> usize
     end
 }
 
+/// 4 bytes from a place of the source, of which any first ones may count.
+#[inline(always)]
+pub fn put_4(buf: &mut [u8], at: usize, src: &[u8], from: usize)
+    requires room { at + 4 ≤ length buf.old }
+    requires source { from + 4 ≤ length src.now }
+    ensures { (len : ℕ) → len ≤ 4 → Placed buf.old buf.new at (take len (drop from src.now)) (at + len) }
+{
+    u8x4::from_slice(&src[from..]).copy_to_slice(&mut buf[at..]);
+}
+
 /// The first `len` of 4 bytes from a place of the source.
 #[inline(always)]
 pub fn place_4(buf: &mut [u8], at: usize, src: &[u8], from: usize, len: usize) -> usize
@@ -33,8 +44,18 @@ pub fn place_4(buf: &mut [u8], at: usize, src: &[u8], from: usize, len: usize) -
     requires part { len ≤ 4 }
     ensures { Placed buf.old buf.new at (take len (drop from src.now)) result }
 {
-    u8x4::from_slice(&src[from..]).copy_to_slice(&mut buf[at..]);
+    put_4(buf, at, src, from);
     at + len
+}
+
+/// 16 bytes from a place of the source, of which any first ones may count.
+#[inline(always)]
+pub fn put_16(buf: &mut [u8], at: usize, src: &[u8], from: usize)
+    requires room { at + 16 ≤ length buf.old }
+    requires source { from + 16 ≤ length src.now }
+    ensures { (len : ℕ) → len ≤ 16 → Placed buf.old buf.new at (take len (drop from src.now)) (at + len) }
+{
+    u8x16::from_slice(&src[from..]).copy_to_slice(&mut buf[at..]);
 }
 
 /// The first `len` of 16 bytes from a place of the source.
@@ -45,7 +66,7 @@ pub fn place_16(buf: &mut [u8], at: usize, src: &[u8], from: usize, len: usize) 
     requires part { len ≤ 16 }
     ensures { Placed buf.old buf.new at (take len (drop from src.now)) result }
 {
-    u8x16::from_slice(&src[from..]).copy_to_slice(&mut buf[at..]);
+    put_16(buf, at, src, from);
     at + len
 }
 

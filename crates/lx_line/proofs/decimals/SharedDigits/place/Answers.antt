@@ -1,3 +1,4 @@
+use Rattle.std.proofs.Common.{arith}
 use Rattle.lx_line.proofs.Digits.{shared_text}
 use Rattle.lx_line.proofs.Places.{Placed-is, Placed-then}
 use Rattle.lx_line.proofs.decimals.SharedDigits.place.Goals as goal
@@ -5,5 +6,5 @@ use Rattle.lx_line.proofs.decimals.SharedDigits.place.Goals as goal
 pub returns-clause-placed : goal.returns-clause-placed
 returns-clause-placed c =
     let s = c.args.self.now in
-    Placed-is (Placed-then c.place_16-end.ensures c.place_4.ensures)
+    Placed-is (Placed-then (c.put_16.ensures s.len s.few) (c.put_4.ensures s.last (omega (arith, s.most))))
     (shared_text s.front s.len s.first s.count s.base s.before s.last c.args.number s.small s.hundreds s.begin s.end s.shared s.some s.most s.pairs s.one s.two c.requires.among.0 c.requires.among.1)
