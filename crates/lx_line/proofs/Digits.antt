@@ -229,32 +229,6 @@ next_digits high from digits some low small within long is = elim (cases_lt high
         ∙ sym new
         ∙ sym (leading_some (high + 1) (omega arith))
 
--- the text of a number from 100 on, before its last two digits
-front_of : (text : List ℕ) (len base number : ℕ) → len ≤ length text → take len text ≡ decimal number ++ 32 ∷ [] → base ≤ number → number < base + 100 → base % 100 ≡ 0 → 0 < base → number < 2 ^ 64 → (3 ≤ len) × (take (len - 3) text ≡ leading (base / 100))
-front_of text len base number within is near few hundreds some small =
-    let high = leading (base / 100) in
-    let rest = pair (number - base) ++ 32 ∷ [] in
-    let sum : base + (number - base) ≡ number = omega arith in
-    let parts : high ++ rest ≡ decimal number ++ 32 ∷ [] =
-    near_text number base (number - base) 0 small sum hundreds (omega arith) (record { one = λ e l. absurd (omega arith); two = λ e l. refl; more = λ more. refl }) in
-    let whole : take len text ≡ high ++ rest = is ∙ sym parts in
-    let long : length (take len text) ≡ length (high ++ rest) = ap length whole in
-    let all = length-take-le len text within in
-    let both = length-append high rest in
-    (omega arith, sym (take-take (len - 3) len text (omega arith)) ∙ ap (λ (xs : List ℕ). take (len - 3) xs) whole ∙ take_at high rest (len - 3) (omega arith))
-
--- that it has so many digits
-pub three_digits : (text : List ℕ) (len base number : ℕ) → len ≤ length text → take len text ≡ decimal number ++ 32 ∷ [] → base ≤ number → number < base + 100 → base % 100 ≡ 0 → 0 < base → number < 2 ^ 64 → 3 ≤ len
-three_digits text len base number within is near few hundreds some small = (front_of text len base number within is near few hundreds some small).0
-
--- another number of the same hundred, of which the last two digits are placed
-pub pair_over : (text new : List ℕ) (len end base number next : ℕ) → len ≤ length text → take len text ≡ decimal number ++ 32 ∷ [] → base ≤ number → number < base + 100 → base % 100 ≡ 0 → 0 < base → number < 2 ^ 64 → base ≤ next → next < base + 100 → next < 2 ^ 64 → take end new ≡ take (len - 3) text ++ (pair (next - base) ++ 32 ∷ []) → take end new ≡ decimal next ++ 32 ∷ []
-pair_over text new len end base number next within is near few hundreds some small near-next few-next small-next placed =
-    let sum : base + (next - base) ≡ next = omega arith in
-    placed
-    ∙ ap (λ (front : List ℕ). front ++ (pair (next - base) ++ 32 ∷ [])) (front_of text len base number within is near few hundreds some small).1
-    ∙ near_text next base (next - base) 0 small-next sum hundreds (omega arith) (record { one = λ e l. absurd (omega arith); two = λ e l. refl; more = λ more. refl })
-
 -- the text of a number that has what others share, and the rest of it from the table of pairs
 pub shared_text : (front : List ℕ) (len first count base before last number : ℕ) → base < 10 ^ 18 → base % 100 ≡ 0 → base ≤ first → first + count ≤ base + 100 → take len front ≡ leading (base / 100) → 2 ≤ last → last ≤ 3 → before + (3 - last) ≡ 4 * base + 1 → (last ≡ 2 → first + count ≤ 10) → (last ≡ 3 → 10 ≤ first) → first ≤ number → number < first + count →
     take len front ++ take last (drop (4 * number + 1 - before) PAIRS) ≡ decimal number ++ 32 ∷ []

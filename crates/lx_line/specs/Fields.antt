@@ -1,4 +1,4 @@
-use Rattle.std.specs.Prelude.{◌≡◌, ℕ, List, ◌++◌, codes, decimal, drop, take}
+use Rattle.std.specs.Prelude.{ℕ, List, ◌++◌, codes, decimal, drop, take}
 use Rattle.std.specs.List.{flat_map}
 use Rattle.lx_line.specs.Decimals.{IsAmong}
 use Rattle.lx_line.specs.Escapes.{escaped}
@@ -12,5 +12,5 @@ rest_text line start len bytes =
 
 -- what is kept is of these numbers
 pub record AreKept (digits : Digits) (numbers : Numbers) : Type 0 where
-  pub line : digits.line.number ≡ numbers.line
+  pub line : IsAmong digits.line.first digits.line.count numbers.line
   pub start : IsAmong digits.start.first digits.start.count numbers.start

@@ -6,7 +6,7 @@ ghost use Rattle.lx_line.specs.Fields.{AreKept, rest_text};
 ghost use Rattle.lx_line.specs.Prefixes.{kind_of_item};
 ghost use Rattle.lx_line.specs.Placed.{Placed};
 
-use crate::decimals::{KeptNumber, SharedDigits, place_short};
+use crate::decimals::{SharedDigits, place_short};
 use crate::place::place_byte;
 use crate::texts::place_text;
 use lx_rules::rule::Kind;
@@ -52,10 +52,10 @@ pub fn numbers_of(item: &Item) -> Numbers
     }
 }
 
-/// The line of an item, and the digits of its start that items near it share.
+/// The digits of line and start that items near one another share.
 #[derive(Clone, Copy, Drop)]
 pub struct Digits {
-    line: KeptNumber,
+    line: SharedDigits,
     start: SharedDigits,
 }
 
@@ -63,7 +63,7 @@ impl Digits {
     /// Those of 0.
     pub fn new() -> Digits {
         Digits {
-            line: KeptNumber::new(),
+            line: SharedDigits::new(),
             start: SharedDigits::new(),
         }
     }
@@ -93,8 +93,8 @@ pub fn place_rest(
     ensures placed { Placed buf.old buf.new at (rest_text numbers.line numbers.start numbers.len bytes.now) result }
     ensures short { result ≤ at + 448 }
 {
-    let Numbers { start, len, .. } = numbers;
-    let at = digits.line.place(buf, at);
+    let Numbers { line, start, len } = numbers;
+    let at = digits.line.place(buf, at, line);
     let at = digits.start.place(buf, at, start as u64);
     let at = place_short(buf, at, len);
     let at = place_text(buf, at, bytes, start, len);
