@@ -182,13 +182,16 @@ unfolding is_short
 short_at p h = short_by (ltb p 10) p refl h (below is_short 100 p tt h)
 
 -- digits that end at a place
-pub kept_text : (high end from : ℕ) (digits rest : List ℕ) → from + length (decimal high) ≡ end → drop from digits ≡ decimal high ++ rest → 0 < high → take (end - from) (drop from digits) ≡ leading (high * 100 / 100)
-kept_text high end from digits rest start written some =
-    let same : high * 100 / 100 ≡ high = omega arith in
+pub kept_digits : (high end from : ℕ) (digits rest : List ℕ) → from + length (decimal high) ≡ end → drop from digits ≡ decimal high ++ rest → 0 < high → take (end - from) (drop from digits) ≡ leading high
+kept_digits high end from digits rest start written some =
     ap (λ (ds : List ℕ). take (end - from) ds) written
     ∙ take_at (decimal high) rest (end - from) (omega arith)
     ∙ sym (leading_some high some)
-    ∙ ap (λ (k : ℕ). leading k) (sym same)
+
+pub kept_text : (high end from : ℕ) (digits rest : List ℕ) → from + length (decimal high) ≡ end → drop from digits ≡ decimal high ++ rest → 0 < high → take (end - from) (drop from digits) ≡ leading (high * 100 / 100)
+kept_text high end from digits rest start written some =
+    let same : high * 100 / 100 ≡ high = omega arith in
+    kept_digits high end from digits rest start written some ∙ ap (λ (k : ℕ). leading k) (sym same)
 
 -- the last of some digits is written over
 last_over : (front : List ℕ) (last digit from m : ℕ) (digits : List ℕ) → from + m ≡ 19 → length digits ≡ 36 → take (m + 1) (drop from digits) ≡ front ++ last ∷ [] → take (m + 1) (drop from (slice_set digits 19 digit)) ≡ front ++ digit ∷ []
@@ -228,26 +231,6 @@ next_digits high from digits some low small within long is = elim (cases_lt high
         ∙ last_over front last (48 + (high + 1) % 10) from (19 - from) digits (omega arith) long (ap (λ (n : ℕ). take n (drop from digits)) (sym one) ∙ whole)
         ∙ sym new
         ∙ sym (leading_some (high + 1) (omega arith))
-
--- the text of a number that has what others share, and the rest of it from the table of pairs
-pub shared_text : (front : List ℕ) (len first count base before last number : ℕ) → base < 10 ^ 18 → base % 100 ≡ 0 → base ≤ first → first + count ≤ base + 100 → take len front ≡ leading (base / 100) → 2 ≤ last → last ≤ 3 → before + (3 - last) ≡ 4 * base + 1 → (last ≡ 2 → first + count ≤ 10) → (last ≡ 3 → 10 ≤ first) → first ≤ number → number < first + count →
-    take len front ++ take last (drop (4 * number + 1 - before) PAIRS) ≡ decimal number ++ 32 ∷ []
-shared_text front len first count base before last number small hundreds begin end shared some most pairs one two from below =
-    let low = number - base in
-    let skip = 3 - last in
-    let few : low < 100 = omega arith in
-    let sum : base + low ≡ number = omega arith in
-    let place : 4 * number + 1 - before ≡ low * 4 + skip = omega arith in
-    let rest : last ≡ 3 - skip = omega arith in
-    ap (λ (ds : List ℕ). ds ++ take last (drop (4 * number + 1 - before) PAIRS)) shared
-    ∙ ap (λ (k : ℕ). leading (base / 100) ++ take last (drop k PAIRS)) place
-    ∙ ap (λ (k : ℕ). leading (base / 100) ++ take k (drop (low * 4 + skip) PAIRS)) rest
-    ∙ ap (λ (ds : List ℕ). leading (base / 100) ++ ds) (pair_from low skip few (omega arith))
-    ∙ near_text number base low skip (omega arith) sum hundreds few (record {
-      one = λ e l. grind (arith, one, two);
-      two = λ e l. grind (arith, one, two);
-      more = λ more. grind (arith, one, two);
-    })
 
 -- the last of some digits, and those of the next number where it alone changes
 pub record LastDigit (front : List ℕ) (len high : ℕ) : Type 0 where

@@ -4,3 +4,4 @@ pub mod Prefixed
 pub mod Lined
 pub mod Places
 pub mod Unescaped
+pub mod Triples

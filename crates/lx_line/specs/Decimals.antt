@@ -4,6 +4,10 @@ use Rattle.std.specs.Prelude.{ℕ, ◌+◌, ◌/◌, ◌%◌, ◌==◌, ◌<◌,
 abbrev pub pair : ℕ → List ℕ
 pair n = (48 + n / 10) ∷ (48 + n % 10) ∷ []
 
+-- the three digits of a number below 1000
+abbrev pub triple : ℕ → List ℕ
+triple n = (48 + n / 100) ∷ (48 + n / 10 % 10) ∷ (48 + n % 10) ∷ []
+
 -- the digits of a number above its last two, of which this is the number: none where it is 0
 abbrev pub leading : ℕ → List ℕ
 leading high = if high == 0 then [] else decimal high

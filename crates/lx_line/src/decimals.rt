@@ -1,12 +1,11 @@
 //! Decimal numbers, with the digits kept that numbers near one another share.
 
 ghost use Rattle.std.specs.Prelude.{◌≡◌, IsTrue, ◌+◌, ◌-◌, ◌*◌, ◌/◌, ◌%◌, ◌^◌, ◌<◌, ◌≤◌, ◌++◌, codes, decimal, length, take, drop};
-ghost use Rattle.lx_line.specs.Decimals.{IsAmong, IsNear, leading, pair};
+ghost use Rattle.lx_line.specs.Decimals.{IsNear, leading, pair};
 ghost use Rattle.lx_line.specs.Placed.{Placed};
 
-use crate::place::{place_4, place_16, put_4, put_16};
+use crate::place::{place_4, place_16};
 use itoa::write_digits;
-use std::simd::prelude::*;
 
 // The two digits of each number below 100, and two spaces. Four bytes more can be read behind the last.
 static PAIRS: [u8; 404] =
@@ -25,8 +24,17 @@ fn place_pair(buf: &mut [u8], at: usize, number: usize, skip: usize) -> usize
 }
 
 // The text of each number below 100 with a space behind it, in four bytes, of which the last is how long it is.
-static SHORT: [u8; 400] =
-    *b"0  \x021  \x022  \x023  \x024  \x025  \x026  \x027  \x028  \x029  \x0210 \x0311 \x0312 \x0313 \x0314 \x0315 \x0316 \x0317 \x0318 \x0319 \x0320 \x0321 \x0322 \x0323 \x0324 \x0325 \x0326 \x0327 \x0328 \x0329 \x0330 \x0331 \x0332 \x0333 \x0334 \x0335 \x0336 \x0337 \x0338 \x0339 \x0340 \x0341 \x0342 \x0343 \x0344 \x0345 \x0346 \x0347 \x0348 \x0349 \x0350 \x0351 \x0352 \x0353 \x0354 \x0355 \x0356 \x0357 \x0358 \x0359 \x0360 \x0361 \x0362 \x0363 \x0364 \x0365 \x0366 \x0367 \x0368 \x0369 \x0370 \x0371 \x0372 \x0373 \x0374 \x0375 \x0376 \x0377 \x0378 \x0379 \x0380 \x0381 \x0382 \x0383 \x0384 \x0385 \x0386 \x0387 \x0388 \x0389 \x0390 \x0391 \x0392 \x0393 \x0394 \x0395 \x0396 \x0397 \x0398 \x0399 \x03";
+static SHORT: [u8; 400] = *b"\
+        0  \x021  \x022  \x023  \x024  \x025  \x026  \x027  \x028  \x029  \x02\
+        10 \x0311 \x0312 \x0313 \x0314 \x0315 \x0316 \x0317 \x0318 \x0319 \x03\
+        20 \x0321 \x0322 \x0323 \x0324 \x0325 \x0326 \x0327 \x0328 \x0329 \x03\
+        30 \x0331 \x0332 \x0333 \x0334 \x0335 \x0336 \x0337 \x0338 \x0339 \x03\
+        40 \x0341 \x0342 \x0343 \x0344 \x0345 \x0346 \x0347 \x0348 \x0349 \x03\
+        50 \x0351 \x0352 \x0353 \x0354 \x0355 \x0356 \x0357 \x0358 \x0359 \x03\
+        60 \x0361 \x0362 \x0363 \x0364 \x0365 \x0366 \x0367 \x0368 \x0369 \x03\
+        70 \x0371 \x0372 \x0373 \x0374 \x0375 \x0376 \x0377 \x0378 \x0379 \x03\
+        80 \x0381 \x0382 \x0383 \x0384 \x0385 \x0386 \x0387 \x0388 \x0389 \x03\
+        90 \x0391 \x0392 \x0393 \x0394 \x0395 \x0396 \x0397 \x0398 \x0399 \x03";
 
 /// A number below 100, and a space.
 #[inline(always)]
@@ -157,127 +165,4 @@ pub fn place_number(buf: &mut [u8], at: usize, number: u64) -> usize
     ensures short { result ≤ at + 19 }
 {
     KeptDigits::near(number).place(buf, at, number)
-}
-
-/// Numbers behind one another that differ in their last two digits alone, or in the only one. What they share is kept, and where their last
-/// digits stand in the table.
-#[derive(Clone, Copy, Drop)]
-pub struct SharedDigits {
-    // They are those from the first on, so many.
-    first: u64,
-    count: u64,
-    // The first, with zeros for its last two digits.
-    base: u64,
-    // It begins with the digits that they share, so many.
-    front: [u8; 16],
-    len: usize,
-    // The last digits of a number, and a space, stand in the table of pairs so far before four times the number and one, and are so many.
-    before: u64,
-    last: usize,
-    ghost small: { base < 10 ^ 18 },
-    ghost hundreds: { base % 100 ≡ 0 },
-    ghost begin: { base ≤ first },
-    ghost end: { first + count ≤ base + 100 },
-    ghost few: { len ≤ 16 },
-    ghost shared: { take len front ≡ leading (base / 100) },
-    ghost some: { 2 ≤ last },
-    ghost most: { last ≤ 3 },
-    ghost pairs: { before + (3 - last) ≡ 4 * base + 1 },
-    ghost one: { last ≡ 2 → first + count ≤ 10 },
-    ghost two: { last ≡ 3 → 10 ≤ first },
-}
-
-impl SharedDigits {
-    /// Those of the numbers below 10.
-    pub fn new() -> SharedDigits {
-        SharedDigits {
-            first: 0,
-            count: 10,
-            base: 0,
-            front: [0; 16],
-            len: 0,
-            before: 0,
-            last: 2,
-        }
-    }
-
-    // Goes on by a hundred, where that changes the last digit alone; whether the number is one of the next then.
-    #[inline(always)]
-    fn step(&mut self, number: u64) -> bool
-        ensures { IsTrue result → IsAmong self.new.first self.new.count number }
-    {
-        if self.len == 0 {
-            return false;
-        }
-        let digit = self.front[self.len - 1];
-        if digit == b'9' {
-            return false;
-        }
-        self.front[self.len - 1] = digit + 1;
-        self.base += 100;
-        self.first = self.base;
-        self.count = 100;
-        self.before += 400;
-        number.wrapping_sub(self.first) < 100
-    }
-
-    #[cold]
-    #[inline(never)]
-    fn renew(&mut self, number: u64) -> bool
-        ensures { IsTrue result → IsAmong self.new.first self.new.count number }
-    {
-        if number > MOST {
-            return false;
-        }
-        let kept = KeptDigits::near(number);
-        self.front = u8x16::from_slice(&kept.digits[kept.from..]).to_array();
-        self.len = END - kept.from;
-        self.base = kept.base;
-        if number < 10 {
-            self.first = 0;
-            self.count = 10;
-            self.before = 0;
-            self.last = 2;
-            return true;
-        }
-        self.first = kept.base.max(10);
-        self.count = kept.base + 100 - self.first;
-        self.before = 4 * kept.base + 1;
-        self.last = 3;
-        true
-    }
-
-    #[cold]
-    #[inline(never)]
-    fn change(&mut self, number: u64) -> bool
-        ensures { IsTrue result → IsAmong self.new.first self.new.count number }
-    {
-        self.step(number) || self.renew(number)
-    }
-
-    /// Keeps the digits that a number shares with those near it, unless they are too many.
-    #[inline(always)]
-    pub fn follow(&mut self, number: u64) -> bool
-        ensures { IsTrue result → IsAmong self.new.first self.new.count number }
-    {
-        if number.wrapping_sub(self.first) < self.count {
-            return true;
-        }
-        self.change(number)
-    }
-
-    /// One of the numbers, and a space.
-    #[inline(always)]
-    pub fn place(&self, buf: &mut [u8], at: usize, number: u64) -> usize
-        requires room { at + 20 ≤ length buf.old }
-        requires among { IsAmong self.now.first self.now.count number }
-        ensures placed { Placed buf.old buf.new at (decimal number ++ codes " ") result }
-        ensures short { result ≤ at + 19 }
-    {
-        let from = 4 * number + 1 - self.before;
-        put_16(buf, at, &self.front, 0);
-        let end = at + self.len;
-        put_4(buf, end, &PAIRS, from as usize);
-        end + self.last
-    }
 }

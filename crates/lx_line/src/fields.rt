@@ -6,8 +6,9 @@ ghost use Rattle.lx_line.specs.Fields.{AreKept, rest_text};
 ghost use Rattle.lx_line.specs.Prefixes.{kind_of_item};
 ghost use Rattle.lx_line.specs.Placed.{Placed};
 
-use crate::decimals::{SharedDigits, place_short};
+use crate::decimals::place_short;
 use crate::place::place_byte;
+use crate::shared::SharedDigits;
 use crate::texts::place_text;
 use lx_rules::rule::Kind;
 use lx_scan::Item;

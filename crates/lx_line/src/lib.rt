@@ -9,6 +9,7 @@ mod lines;
 mod place;
 mod plain;
 mod prefixes;
+mod shared;
 mod texts;
 
 pub use buffer::LineBuffer;
