@@ -73,14 +73,9 @@ all_three xs i a b c t =
     ∙ ap (λ (zs : List ℕ). get_or xs i 0 ∷ zs) (last_two xs i a b c t)
     ∙ ap (λ (x : ℕ). x ∷ b ∷ c ∷ []) t.first
 
--- the digits of a number below 100 behind the first `skip`, and a space
-from_skip : (xs : List ℕ) (i a b skip : ℕ) → Three xs i a b 32 → skip ≤ 1 → take (3 - skip) (drop (i + skip) xs) ≡ drop skip (a ∷ b ∷ []) ++ 32 ∷ []
-from_skip xs i a b zero t l = ap (λ (k : ℕ). take 3 (drop k xs)) (let e : i + 0 ≡ i = omega arith in e) ∙ all_three xs i a b 32 t
-from_skip xs i a b (suc zero) t l = last_two xs i a b 32 t
-from_skip xs i a b (suc (suc n)) t l = absurd (omega arith)
-
-pub pair_from : (p skip : ℕ) → p < 100 → skip ≤ 1 → take (3 - skip) (drop (p * 4 + skip) PAIRS) ≡ drop skip (pair p) ++ 32 ∷ []
-pair_from p skip h l = from_skip PAIRS (p * 4) (48 + p / 10) (48 + p % 10) skip (pair_at p h) l
+-- the digits of a number below 100, and a space
+pub pair_text : (p : ℕ) → p < 100 → take 3 (drop (p * 4) PAIRS) ≡ pair p ++ 32 ∷ []
+pair_text p h = all_three PAIRS (p * 4) (48 + p / 10) (48 + p % 10) 32 (pair_at p h)
 
 -- the last two digits of a number
 decimal_two : (n : ℕ) → 10 ≤ n → n < 100 → decimal n ≡ pair n
@@ -93,39 +88,15 @@ decimal_pair n lo hi =
     let c : n % 10 ≡ n % 100 % 10 = omega arith in
     rw (decimal_step n (omega arith) hi, decimal_step (n / 10) (omega arith) (omega arith), append_assoc, a, b, ← c)
 
--- how many of the last two digits of a number aren't its own
-pub record Skips (base low skip : ℕ) : Type 0 where
-  pub one : base ≡ 0 → low < 10 → skip ≡ 1
-  pub two : base ≡ 0 → 10 ≤ low → skip ≡ 0
-  pub more : 0 < base → skip ≡ 0
-
--- a number below 100
-pub short_text : (n skip : ℕ) → n < 100 → Skips 0 n skip → drop skip (pair n) ++ 32 ∷ [] ≡ decimal n ++ 32 ∷ []
-short_text n skip h s = elim (cases_lt n 10) [
-  | inl one ↦
-      let same : n % 10 ≡ n = omega arith in
-      ap (λ (k : ℕ). drop k (pair n) ++ 32 ∷ []) (s.one refl one)
-      ∙ ap (λ (k : ℕ). (48 + k) ∷ 32 ∷ []) same
-      ∙ ap (λ (ds : List ℕ). ds ++ 32 ∷ []) (sym (decimal_digit n one))
-  | inr two ↦
-      ap (λ (k : ℕ). drop k (pair n) ++ 32 ∷ []) (s.two refl two)
-      ∙ ap (λ (ds : List ℕ). ds ++ 32 ∷ []) (sym (decimal_two n two h))
-]
-
 pub leading_some : (high : ℕ) → 0 < high → leading high ≡ decimal high
 leading_some high h = rw (ne_eqb high 0 (λ e. absurd (omega arith)))
 
--- a number near another one
-pub near_text : (n base low skip : ℕ) → n < 2 ^ 64 → base + low ≡ n → base % 100 ≡ 0 → low < 100 → Skips base low skip → leading (base / 100) ++ (drop skip (pair low) ++ 32 ∷ []) ≡ decimal n ++ 32 ∷ []
-near_text n zero low skip small sum hundreds h s =
-    let same : low ≡ n = omega arith in
-    short_text low skip h s ∙ ap (λ (k : ℕ). decimal k ++ 32 ∷ []) same
-near_text n (suc b) low skip small sum hundreds h s =
-    let high : suc b / 100 ≡ n / 100 = omega arith in
+-- a number near another one, which has digits before its last two
+pub near_text : (n base low : ℕ) → n < 2 ^ 64 → base + low ≡ n → base % 100 ≡ 0 → low < 100 → 0 < base → leading (base / 100) ++ (pair low ++ 32 ∷ []) ≡ decimal n ++ 32 ∷ []
+near_text n base low small sum hundreds h some =
+    let high : base / 100 ≡ n / 100 = omega arith in
     let rest : low ≡ n % 100 = omega arith in
-    let some : 0 < suc b / 100 = omega arith in
-    ap (λ (ds : List ℕ). ds ++ (drop skip (pair low) ++ 32 ∷ [])) (leading_some (suc b / 100) some)
-    ∙ ap (λ (k : ℕ). decimal (suc b / 100) ++ (drop k (pair low) ++ 32 ∷ [])) (s.more (omega arith))
+    ap (λ (ds : List ℕ). ds ++ (pair low ++ 32 ∷ [])) (leading_some (base / 100) (omega arith))
     ∙ ap (λ (k : ℕ). decimal k ++ (pair low ++ 32 ∷ [])) high
     ∙ ap (λ (k : ℕ). decimal (n / 100) ++ (pair k ++ 32 ∷ [])) rest
     ∙ sym (append_assoc (decimal (n / 100)) (pair (n % 100)) (32 ∷ []))

@@ -11,16 +11,15 @@ use itoa::write_digits;
 static PAIRS: [u8; 404] =
     *b"00  01  02  03  04  05  06  07  08  09  10  11  12  13  14  15  16  17  18  19  20  21  22  23  24  25  26  27  28  29  30  31  32  33  34  35  36  37  38  39  40  41  42  43  44  45  46  47  48  49  50  51  52  53  54  55  56  57  58  59  60  61  62  63  64  65  66  67  68  69  70  71  72  73  74  75  76  77  78  79  80  81  82  83  84  85  86  87  88  89  90  91  92  93  94  95  96  97  98  99      ";
 
-// The digits of a number below 100 without the first `skip`, and a space.
+// The two digits of a number below 100, and a space.
 #[inline(always)]
-fn place_pair(buf: &mut [u8], at: usize, number: usize, skip: usize) -> usize
+fn place_pair(buf: &mut [u8], at: usize, number: usize) -> usize
     requires room { at + 4 ≤ length buf.old }
     requires number { number < 100 }
-    requires skip { skip ≤ 1 }
-    ensures placed { Placed buf.old buf.new at (drop skip (pair number) ++ codes " ") result }
+    ensures placed { Placed buf.old buf.new at (pair number ++ codes " ") result }
     ensures short { result ≤ at + 3 }
 {
-    place_4(buf, at, &PAIRS, number * 4 + skip, 3 - skip)
+    place_4(buf, at, &PAIRS, number * 4, 3)
 }
 
 // The text of each number below 100 with a space behind it, in four bytes, of which the last is how long it is.
@@ -153,7 +152,7 @@ impl KeptDigits {
         }
         let low = number - self.base;
         let end = place_16(buf, at, &self.digits, self.from, END - self.from);
-        place_pair(buf, end, low as usize, 0)
+        place_pair(buf, end, low as usize)
     }
 }
 

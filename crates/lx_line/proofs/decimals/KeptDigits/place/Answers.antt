@@ -1,4 +1,4 @@
-use Rattle.std.proofs.Common.{◌+◌, ◌-◌, ◌<◌, ◌≡◌, ◌∷◌, [], List, ℕ, ◌∙◌, refl, ap, ◌++◌, arith}
+use Rattle.std.proofs.Common.{◌+◌, ◌-◌, ◌<◌, ◌≡◌, ◌∷◌, [], List, ℕ, ◌∙◌, ap, ◌++◌, arith}
 use Rattle.lx_line.specs.Decimals.{pair}
 use Rattle.lx_line.proofs.Digits.{near_text}
 use Rattle.lx_line.proofs.Places.{Placed-is, Placed-then}
@@ -15,4 +15,4 @@ returns-clause-placed c =
     let few : low < 100 = omega arith in
     Placed-is (Placed-then c.place_16-end.ensures c.place_pair.ensures.placed)
     (ap (λ (ds : List ℕ). ds ++ (pair low ++ 32 ∷ [])) kept.kept
-    ∙ near_text c.args.number kept.base low 0 (omega arith) sum kept.hundreds few (record { one = λ e l. absurd (omega arith); two = λ e l. refl; more = λ more. refl }))
+    ∙ near_text c.args.number kept.base low (omega arith) sum kept.hundreds few (omega arith))
