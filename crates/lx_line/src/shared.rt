@@ -79,7 +79,7 @@ pub struct SharedDigits {
     // It begins with the digits before the last three, so many.
     front: [u8; 16],
     len: usize,
-    // The last digits of a number, and a space, stand in the table so far before four times the number and 2, and are so many.
+    // The last digits of a number n, and a space, stand in the table from 4 * n + 2 - before on, and are so many.
     before: u64,
     last: usize,
     ghost small: { base < 10 ^ 18 },
