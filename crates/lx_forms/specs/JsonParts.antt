@@ -1,6 +1,7 @@
 -- The parts of a line in JSON that are made ready, and those that aren't.
-use Rattle.std.specs.Prelude.{◌≡◌, ◌<◌, ◌≤◌, ℕ, List, ◌++◌, All, Contains, Option, Some, None, codes, take}
+use Rattle.std.specs.Prelude.{◌≡◌, ◌<◌, ◌≤◌, ℕ, Bool, true, false, List, ◌++◌, All, Contains, Option, Some, None, codes, take}
 use Rattle.lx_rules.specs.declared.rule.Kind.{Kind}
+use Rattle.lx_rules.specs.declared.rule.Kind.TheVariants.{Name, Number}
 use Rattle.lx_scan.specs.declared.item.Item.{Item}
 use Rattle.lx_scan.specs.ItemParts.{line_of as line_number, start_of, len_of, text_of}
 use Rattle.lx_plan.specs.Plans.{Planned, bytes_of}
@@ -38,3 +39,12 @@ pub record ArePrefixesOf (form : PlainForm) (plan : Planned) (file : ℕ) (prefi
 abbrev pub IsKept : Prefixes → Option Kind → Prefix → Type 0
 IsKept prefixes None prefix = prefix ≡ prefixes.echo
 IsKept prefixes (Some kind) prefix = Contains prefixes.slots (record { kind = kind; prefix = prefix })
+
+-- the place or the number of a kind
+abbrev pub number_in : Kind → ℕ
+number_in (Name place) = place
+number_in (Number number) = number
+
+abbrev pub is_name : Kind → Bool
+is_name (Name place) = true
+is_name (Number number) = false

@@ -1,16 +1,16 @@
 //! The prefixes of lines in JSON, which are the members before the number of the line: each is made once and kept for the lines that follow.
 
-ghost use Rattle.std.specs.Prelude.{◌≡◌, ◌+◌, ◌<◌, ◌≤◌, ◌++◌, ℕ, IfSome, MatchOption, OnOk, length, take};
+ghost use Rattle.std.specs.Prelude.{◌≡◌, ◌+◌, ◌<◌, ◌≤◌, ◌++◌, ℕ, IfSome, IsTrue, MatchOption, OnOk, length, take};
 ghost use Rattle.lx_plan.specs.Plans.{Planned};
 ghost use Rattle.lx_line.specs.Placed.{Placed};
 ghost use Rattle.lx_line.specs.Prefixes.{IsKindOf};
 ghost use Rattle.lx_forms.specs.Forms.{PlainForm};
-ghost use Rattle.lx_forms.specs.JsonParts.{ArePrefixesOf, IsKept, json_prefix};
+ghost use Rattle.lx_forms.specs.JsonParts.{ArePrefixesOf, IsKept, is_name, json_prefix, number_in};
 ghost use Rattle.lx_forms.specs.Views.{form_view};
 
 use crate::form::Form;
 use crate::json_lines::push_prefix;
-use lx_line::{are_same, place_64, place_all, slot_of};
+use lx_line::{place_64, place_all};
 use lx_piece::Plan;
 use lx_rules::rule::Kind;
 use std::alloc::AllocError;
@@ -73,6 +73,36 @@ impl Prefix {
         }
         Some(place_all(buf, at, &self.text[..self.len]))
     }
+}
+
+fn number_of(kind: Kind) -> u32
+    ensures { result ≡ number_in kind }
+{
+    match kind {
+        Kind::Name(number) | Kind::Number(number) => number,
+    }
+}
+
+fn is_name(kind: Kind) -> bool
+    ensures { result ≡ is_name kind }
+{
+    matches!(kind, Kind::Name(_))
+}
+
+// Whether two kinds are the same. It takes fewer jumps than a test form by form.
+#[inline(always)]
+fn are_same(a: Kind, b: Kind) -> bool
+    ensures { IsTrue result → a ≡ b }
+{
+    number_of(a) == number_of(b) && is_name(a) == is_name(b)
+}
+
+// Where the prefix of a kind is kept. Several kinds share the place, and the last has it.
+#[inline(always)]
+fn slot_of(kind: Kind) -> usize
+    ensures { result < 32 }
+{
+    number_of(kind) as usize % SLOTS
 }
 
 /// Prefixes of the lines of one file.

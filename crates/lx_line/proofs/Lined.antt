@@ -7,11 +7,11 @@ use Rattle.std.specs.List.{flat_map}
 use Rattle.lx_rules.specs.declared.rule.Kind.{Kind}
 use Rattle.lx_scan.specs.declared.item.Item.{Item}
 use Rattle.lx_scan.specs.declared.item.Item.TheVariants.{Token, Echo}
-use Rattle.lx_scan.specs.ItemParts.{line_of as line_number, start_of, len_of}
+use Rattle.lx_scan.specs.ItemParts.{kind_of_item, line_of as line_number, start_of, len_of}
 use Rattle.lx_plan.specs.Plans.{Planned, bytes_of}
 use Rattle.lx_line.specs.Escapes.{escaped}
 use Rattle.lx_line.specs.Fields.{rest_text}
-use Rattle.lx_line.specs.Prefixes.{prefix_text, kind_of_item}
+use Rattle.lx_line.specs.Prefixes.{prefix_text}
 use Rattle.lx_line.specs.Lines.{line_of, name_text}
 use Rattle.lx_line.specs.Placed.{Placed}
 use Rattle.lx_line.proofs.Places.{Placed-then}

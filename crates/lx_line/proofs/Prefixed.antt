@@ -1,10 +1,10 @@
 -- Prefixes that are made in a buffer.
 use Rattle.std.proofs.Common.{◌≡◌, ℕ, ◌<◌, ◌≤◌, ◌^◌, List, ◌++◌, take, ◌∙◌, arith, length-append, take-take, ap, append_assoc, sym}
-use Rattle.std.specs.Prelude.{Some, codes, decimal, replicate}
-use Rattle.std.proofs.lemmas.Fmt.{decimal_digit, length-decimal-le}
+use Rattle.std.specs.Prelude.{None, Some, codes, decimal, replicate}
+use Rattle.std.proofs.lemmas.Fmt.{length-decimal-le}
 use Rattle.std.proofs.lemmas.List.Elements.{All-replicate}
 use Rattle.lx_rules.specs.declared.rule.Kind.{Kind}
-use Rattle.lx_rules.specs.declared.rule.Kind.TheVariants.{Number}
+use Rattle.lx_tables.specs.Labels.{kind_of_label}
 use Rattle.lx_plan.specs.Plans.{Planned}
 use Rattle.lx_line.specs.Prefixes.{ArePrefixesOf, IsPrefixOf}
 use Rattle.lx_line.specs.Lines.{name_text}
@@ -32,14 +32,10 @@ prefix_is {a} {b} {c} {d} {at} {mid} {end} plan file kind short p q r =
           ∙ ap (λ (text : List ℕ). (decimal file ++ codes " ") ++ text) (sym (append_assoc (codes "T ") (name_text plan kind) (codes " ")));
     }
 
+-- the prefix of Echoes
+pub echoes : (plan : Planned) (file : ℕ) (prefix : Prefix) → prefix.len ≤ 32 → take prefix.len prefix.text ≡ (decimal file ++ codes " ") ++ codes "E - " → IsPrefixOf plan file None prefix
+echoes plan file prefix short text = record { short = short; text = text }
+
 -- the prefixes at first
-pub first_prefixes : (plan : Planned) (file : ℕ) (echo zero : Prefix) → echo.len ≤ 32 → take echo.len echo.text ≡ (decimal file ++ codes " ") ++ codes "E - " → zero.len ≤ 32 → take zero.len zero.text ≡ (decimal file ++ codes " ") ++ codes "T 0 " → ArePrefixesOf plan file (record { echo = echo; slots = replicate 32 (record { kind = Number 0; prefix = zero }) })
-first_prefixes plan file echo zero short text few digits =
-    record {
-      echo = record { short = short; text = text };
-      slots = All-replicate (λ (slot : Slot). IsPrefixOf plan file (Some slot.kind) slot.prefix) 32 (record { kind = Number 0; prefix = zero })
-          (record {
-            short = few;
-            text = digits ∙ ap (λ (zero : List ℕ). (decimal file ++ codes " ") ++ ((codes "T " ++ zero) ++ codes " ")) (sym (decimal_digit 0 (omega arith)));
-          });
-    }
+pub first_prefixes : (plan : Planned) (file : ℕ) (prefix : Prefix) → IsPrefixOf plan file None prefix → ArePrefixesOf plan file (record { slots = replicate 32 (record { label = 1; prefix = prefix }) })
+first_prefixes plan file prefix is = record { slots = All-replicate (λ (slot : Slot). IsPrefixOf plan file (kind_of_label slot.label) slot.prefix) 32 (record { label = 1; prefix = prefix }) is }

@@ -1,20 +1,13 @@
 -- The prefix of a line: the number of its file, its class and its kind, with a space behind each.
-use Rattle.std.specs.Prelude.{◌≡◌, All, Bool, true, false, ◌≤◌, ℕ, List, ◌++◌, take, Option, Some, None, codes, decimal}
+use Rattle.std.specs.Prelude.{◌≡◌, All, ◌≤◌, ℕ, List, ◌++◌, take, Option, Some, None, codes, decimal}
 use Rattle.lx_rules.specs.declared.rule.Kind.{Kind}
-use Rattle.lx_rules.specs.declared.rule.Kind.TheVariants.{Name, Number}
-use Rattle.lx_scan.specs.declared.item.Item.{Item}
-use Rattle.lx_scan.specs.declared.item.Item.TheVariants.{Token, Echo}
+use Rattle.lx_tables.specs.Labels.{kind_of_label}
 use Rattle.lx_scan.specs.ItemParts.{IsKindAmong}
 use Rattle.lx_plan.specs.Plans.{Planned, kinds_of}
 use Rattle.lx_line.specs.Lines.{name_text}
 use Rattle.lx_line.specs.declared.prefixes.Prefix.{Prefix}
 use Rattle.lx_line.specs.declared.prefixes.Prefixes.{Prefixes}
 use Rattle.lx_line.specs.declared.prefixes.Slot.{Slot}
-
--- the kind of a token; an Echo has none
-abbrev pub kind_of_item : Item → Option Kind
-kind_of_item (Token line start len kind) = Some kind
-kind_of_item (Echo line start len) = None
 
 -- a kind, if there is one, is the plan's
 abbrev pub IsKindOf : Planned → Option Kind → Type 0
@@ -35,16 +28,6 @@ pub record IsPrefixOf (plan : Planned) (file : ℕ) (kind : Option Kind) (prefix
   pub short : prefix.len ≤ 32
   pub text : take prefix.len prefix.text ≡ prefix_text plan file kind
 
--- what is kept are the prefixes of an Echo and of kinds
+-- what is kept are the prefixes of labels
 pub record ArePrefixesOf (plan : Planned) (file : ℕ) (prefixes : Prefixes) : Type 0 where
-  pub echo : IsPrefixOf plan file None prefixes.echo
-  pub slots : All (λ (slot : Slot). IsPrefixOf plan file (Some slot.kind) slot.prefix) prefixes.slots
-
--- the place or the number of a kind
-abbrev pub number_in : Kind → ℕ
-number_in (Name place) = place
-number_in (Number number) = number
-
-abbrev pub is_name : Kind → Bool
-is_name (Name place) = true
-is_name (Number number) = false
+  pub slots : All (λ (slot : Slot). IsPrefixOf plan file (kind_of_label slot.label) slot.prefix) prefixes.slots

@@ -6,10 +6,10 @@ ghost use Rattle.lx_plan.specs.Plans.{files_of, bytes_of, kinds_of};
 ghost use Rattle.lx_line.specs.Prefixes.{ArePrefixesOf};
 ghost use Rattle.lx_line.specs.Lines.{line_of, lines_of};
 
-use crate::fields::{Digits, fits, kind_of, numbers_of, place_rest};
+use crate::fields::{Digits, fits, numbers_in, place_rest};
 use crate::prefixes::Prefixes;
 use lx_plan::Plan;
-use lx_scan::Item;
+use lx_scan::FlatItem;
 
 // A line takes so much room at most: a prefix of 32 bytes, two numbers of 20, the length, a text in which each byte may be escaped, 16 bytes
 // that are copied behind it, and the line's end.
@@ -60,7 +60,7 @@ impl Draft {
         plan: &Plan,
         file: u32,
         bytes: &[u8],
-        item: &Item,
+        item: &FlatItem,
     ) -> Option<usize>
         requires room { at + 480 ≤ length buf.old }
         requires bytes { bytes.now ≡ bytes_of plan.now file }
@@ -71,11 +71,11 @@ impl Draft {
         ensures len { length buf.new ≡ length buf.old }
         ensures prefixes { ArePrefixesOf plan.now file self.new.prefixes }
     {
-        let numbers = numbers_of(item);
+        let numbers = numbers_in(item);
         if !fits(numbers, bytes) || !self.digits.follow(numbers) {
             return None;
         }
-        let Some(at) = self.prefixes.place(buf, at, plan, file, kind_of(item)) else {
+        let Some(at) = self.prefixes.place(buf, at, plan, file, item.label()) else {
             return None;
         };
         Some(place_rest(buf, at, &self.digits, numbers, bytes))
@@ -89,7 +89,7 @@ impl Draft {
         at: usize,
         plan: &Plan,
         file: u32,
-        items: &[Item],
+        items: &[FlatItem],
     ) -> FirstLines
         requires room { at ≤ length buf.old }
         requires file { file < files_of plan.now }

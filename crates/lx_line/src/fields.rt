@@ -1,9 +1,8 @@
 //! The fields of a line, placed from parts that are ready.
 
 ghost use Rattle.std.specs.Prelude.{◌≡◌, ◌+◌, ◌≤◌, IsTrue, length};
-ghost use Rattle.lx_scan.specs.ItemParts.{line_of, start_of, len_of};
+ghost use Rattle.lx_scan.specs.ItemParts.{kind_of_item, line_of, start_of, len_of};
 ghost use Rattle.lx_line.specs.Fields.{AreKept, rest_text};
-ghost use Rattle.lx_line.specs.Prefixes.{kind_of_item};
 ghost use Rattle.lx_line.specs.Placed.{Placed};
 
 use crate::decimals::place_short;
@@ -11,7 +10,7 @@ use crate::place::place_byte;
 use crate::shared::SharedDigits;
 use crate::texts::place_text;
 use lx_rules::rule::Kind;
-use lx_scan::Item;
+use lx_scan::{FlatItem, Item};
 
 // The longest text that is placed. Its length has two digits.
 const TEXT: usize = 96;
@@ -50,6 +49,20 @@ pub fn numbers_of(item: &Item) -> Numbers
             ..
         }
         | Item::Echo { line, start, len } => { Numbers { line, start, len } }
+    }
+}
+
+/// The numbers of an item in its one form.
+#[inline(always)]
+pub fn numbers_in(item: &FlatItem) -> Numbers
+    ensures line { result.line ≡ line_of item.now }
+    ensures start { result.start ≡ start_of item.now }
+    ensures len { result.len ≡ len_of item.now }
+{
+    Numbers {
+        line: item.line(),
+        start: item.start(),
+        len: item.len(),
     }
 }
 

@@ -10,7 +10,7 @@ use crate::buffer::LineBuffer;
 use crate::draft::{Draft, FirstLines};
 use crate::plain::push_line;
 use lx_plan::Plan;
-use lx_scan::Item;
+use lx_scan::{FlatItem, Item};
 use std::alloc::AllocError;
 use std::marker::Model;
 use std::snapshot::Snapshot;
@@ -26,7 +26,7 @@ pub fn push_lines(
     block: &mut Vec<u8>,
     plan: &Plan,
     file: u32,
-    items: &[Item],
+    items: &[FlatItem],
 ) -> Result<(), AllocError>
     requires file { file < files_of plan.now }
     requires items { All (IsItemOf (kinds_of plan.now) (bytes_of plan.now file)) items.now }
@@ -39,15 +39,37 @@ pub fn push_lines(
     }
 }
 
-// Field by field.
-#[inline(never)]
-fn push_few(block: &mut Vec<u8>, plan: &Plan, file: u32, items: &[Item]) -> Result<(), AllocError>
+/// The same for items that are given one by one, field by field.
+pub fn push_each(
+    block: &mut Vec<u8>,
+    plan: &Plan,
+    file: u32,
+    items: &[Item],
+) -> Result<(), AllocError>
     requires file { file < files_of plan.now }
     requires items { All (IsItemOf (kinds_of plan.now) (bytes_of plan.now file)) items.now }
     ensures { OnOk result (block.new.items ≡ block.old.items ++ lines_of plan.now file items.now) }
 {
     for item in items {
         push_line(block, plan, file, item)?;
+    }
+    Ok(())
+}
+
+// Field by field.
+#[inline(never)]
+fn push_few(
+    block: &mut Vec<u8>,
+    plan: &Plan,
+    file: u32,
+    items: &[FlatItem],
+) -> Result<(), AllocError>
+    requires file { file < files_of plan.now }
+    requires items { All (IsItemOf (kinds_of plan.now) (bytes_of plan.now file)) items.now }
+    ensures { OnOk result (block.new.items ≡ block.old.items ++ lines_of plan.now file items.now) }
+{
+    for item in items {
+        push_line(block, plan, file, &item.item())?;
     }
     Ok(())
 }
@@ -59,7 +81,7 @@ fn push_some(
     block: &mut Vec<u8>,
     plan: &Plan,
     file: u32,
-    items: &[Item],
+    items: &[FlatItem],
 ) -> Result<usize, AllocError>
     requires some { 0 < length items.now }
     requires file { file < files_of plan.now }
@@ -72,7 +94,7 @@ fn push_some(
 {
     let FirstLines { count, end } = draft.place_lines(lines, 0, plan, file, items);
     if count == 0 {
-        push_line(block, plan, file, &items[0])?;
+        push_line(block, plan, file, &items[0].item())?;
         return Ok(1);
     }
     block.extend_from_slice(&lines[..end])?;
@@ -86,7 +108,7 @@ fn push_many(
     block: &mut Vec<u8>,
     plan: &Plan,
     file: u32,
-    items: &[Item],
+    items: &[FlatItem],
 ) -> Result<(), AllocError>
     requires file { file < files_of plan.now }
     requires items { All (IsItemOf (kinds_of plan.now) (bytes_of plan.now file)) items.now }
@@ -141,7 +163,7 @@ impl PlanDraft {
         block: &mut Vec<u8>,
         plan: &Plan,
         file: u32,
-        items: &[Item],
+        items: &[FlatItem],
     ) -> Result<(), AllocError>
         requires plan { self.old ≡ plan.now }
         requires file { file < files_of plan.now }
@@ -166,7 +188,7 @@ impl PlanDraft {
         buffer: &mut LineBuffer,
         plan: &Plan,
         file: u32,
-        items: &[Item],
+        items: &[FlatItem],
     ) -> usize
         requires plan { self.old ≡ plan.now }
         requires file { file < files_of plan.now }

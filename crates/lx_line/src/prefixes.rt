@@ -1,9 +1,10 @@
 //! The prefixes of lines, which are file, class and kind: each is made once and kept for the lines that follow.
 
-ghost use Rattle.std.specs.Prelude.{◌≡◌, ◌+◌, ◌<◌, ◌≤◌, ◌++◌, IsTrue, Some, MatchOption, codes, decimal, length, take};
+ghost use Rattle.std.specs.Prelude.{◌≡◌, ◌+◌, ◌<◌, ◌≤◌, ◌++◌, None, Some, MatchOption, codes, decimal, length, take};
 ghost use Rattle.lx_scan.specs.ItemParts.{IsKindAmong};
 ghost use Rattle.lx_plan.specs.Plans.{kinds_of};
-ghost use Rattle.lx_line.specs.Prefixes.{ArePrefixesOf, IsPrefixOf, IsKindOf, prefix_text, is_name, number_in};
+ghost use Rattle.lx_tables.specs.Labels.{kind_of_label};
+ghost use Rattle.lx_line.specs.Prefixes.{ArePrefixesOf, IsKindOf, IsPrefixOf, prefix_text};
 ghost use Rattle.lx_line.specs.Lines.{name_text};
 ghost use Rattle.lx_line.specs.Placed.{Placed};
 
@@ -11,6 +12,7 @@ use crate::decimals::place_number;
 use crate::place::{place_32, place_all, place_byte};
 use lx_plan::Plan;
 use lx_rules::rule::Kind;
+use lx_tables::{ECHO_LABEL, kind_of_label};
 use std::simd::prelude::*;
 
 // The longest prefix that is kept.
@@ -26,10 +28,10 @@ pub struct Prefix {
     len: usize,
 }
 
-/// The prefix of the lines of tokens of a kind.
+/// The prefix of the lines of items with a label.
 #[derive(Clone, Copy, Drop)]
 pub struct Slot {
-    kind: Kind,
+    label: u64,
     prefix: Prefix,
 }
 
@@ -86,7 +88,7 @@ fn place_name(buf: &mut [u8], at: usize, plan: &Plan, kind: Kind) -> Option<usiz
 }
 
 // The prefix of the lines of tokens of a kind, where it is short enough to be kept.
-fn prefix_of(plan: &Plan, file: u32, kind: Kind) -> Option<Prefix>
+fn prefix_of_kind(plan: &Plan, file: u32, kind: Kind) -> Option<Prefix>
     requires { IsKindAmong (kinds_of plan.now) kind }
     ensures { MatchOption result (Unit {0}) (λ prefix. IsPrefixOf plan.now file (Some kind) prefix) }
 {
@@ -101,55 +103,49 @@ fn prefix_of(plan: &Plan, file: u32, kind: Kind) -> Option<Prefix>
     Some(Prefix { text, len })
 }
 
-fn number_of(kind: Kind) -> u32
-    ensures { result ≡ number_in kind }
+// The prefix of the lines of Echoes.
+fn prefix_of_echoes(plan: &Plan, file: u32) -> Prefix
+    ensures { IsPrefixOf plan.now file None result }
 {
-    match kind {
-        Kind::Name(number) | Kind::Number(number) => number,
+    Prefix::of(file, b"E - ")
+}
+
+// The prefix of the lines of items with a label, where it is short enough to be kept.
+fn prefix_of(plan: &Plan, file: u32, label: u64) -> Option<Prefix>
+    requires { IsKindOf plan.now (kind_of_label label) }
+    ensures { MatchOption result (Unit {0}) (λ prefix. IsPrefixOf plan.now file (kind_of_label label) prefix) }
+{
+    match kind_of_label(label) {
+        Some(kind) => prefix_of_kind(plan, file, kind),
+        None => Some(prefix_of_echoes(plan, file)),
     }
 }
 
-fn is_name(kind: Kind) -> bool
-    ensures { result ≡ is_name kind }
-{
-    matches!(kind, Kind::Name(_))
-}
-
-/// Whether two kinds are the same. It takes fewer jumps than a test form by form.
+// Where the prefix of a label is kept. Several labels share the place, and the last has it.
 #[inline(always)]
-pub fn are_same(a: Kind, b: Kind) -> bool
-    ensures { IsTrue result → a ≡ b }
-{
-    number_of(a) == number_of(b) && is_name(a) == is_name(b)
-}
-
-/// Where the prefix of a kind is kept. Several kinds share the place, and the last has it.
-#[inline(always)]
-pub fn slot_of(kind: Kind) -> usize
+fn slot_of(label: u64) -> usize
     ensures { result < 32 }
 {
-    number_of(kind) as usize % SLOTS
+    (label / 2) as usize % SLOTS
 }
 
 /// Prefixes of the lines of one file.
 #[derive(Clone, Copy, Drop)]
 pub struct Prefixes {
-    echo: Prefix,
     slots: [Slot; 32],
 }
 
 impl Prefixes {
-    /// That of an Echo, and as yet of one kind alone.
+    /// As yet that of an Echo alone.
     #[inline(always)]
     pub fn new(plan: &Plan, file: u32) -> Prefixes
         ensures { ArePrefixesOf plan.now file result }
     {
         let slot = Slot {
-            kind: Kind::Number(0),
-            prefix: Prefix::of(file, b"T 0 "),
+            label: ECHO_LABEL,
+            prefix: prefix_of_echoes(plan, file),
         };
         Prefixes {
-            echo: Prefix::of(file, b"E - "),
             slots: [slot; SLOTS],
         }
     }
@@ -163,22 +159,22 @@ impl Prefixes {
         at: usize,
         plan: &Plan,
         file: u32,
-        kind: Kind,
+        label: u64,
     ) -> Option<usize>
         requires room { at + 32 ≤ length buf.old }
-        requires kind { IsKindAmong (kinds_of plan.now) kind }
+        requires kind { IsKindOf plan.now (kind_of_label label) }
         requires prefixes { ArePrefixesOf plan.now file self.old }
-        ensures placed { MatchOption result (buf.new ≡ buf.old) (λ end. Placed buf.old buf.new at (prefix_text plan.now file (Some kind)) end) }
+        ensures placed { MatchOption result (buf.new ≡ buf.old) (λ end. Placed buf.old buf.new at (prefix_text plan.now file (kind_of_label label)) end) }
         ensures short { MatchOption result (Unit {0}) (λ end. end ≤ at + 32) }
         ensures prefixes { ArePrefixesOf plan.now file self.new }
     {
-        let prefix = prefix_of(plan, file, kind)?;
+        let prefix = prefix_of(plan, file, label)?;
         let end = prefix.place(buf, at);
-        self.slots[slot_of(kind)] = Slot { kind, prefix };
+        self.slots[slot_of(label)] = Slot { label, prefix };
         Some(end)
     }
 
-    /// The prefix of the line of a token of a kind, or of an Echo. One that is too long isn't placed.
+    /// The prefix of the line of an item with a label. One that is too long isn't placed.
     #[inline(always)]
     pub fn place(
         &mut self,
@@ -186,22 +182,19 @@ impl Prefixes {
         at: usize,
         plan: &Plan,
         file: u32,
-        kind: Option<Kind>,
+        label: u64,
     ) -> Option<usize>
         requires room { at + 32 ≤ length buf.old }
-        requires kind { IsKindOf plan.now kind }
+        requires kind { IsKindOf plan.now (kind_of_label label) }
         requires prefixes { ArePrefixesOf plan.now file self.old }
-        ensures placed { MatchOption result (buf.new ≡ buf.old) (λ end. Placed buf.old buf.new at (prefix_text plan.now file kind) end) }
+        ensures placed { MatchOption result (buf.new ≡ buf.old) (λ end. Placed buf.old buf.new at (prefix_text plan.now file (kind_of_label label)) end) }
         ensures short { MatchOption result (Unit {0}) (λ end. end ≤ at + 32) }
         ensures prefixes { ArePrefixesOf plan.now file self.new }
     {
-        let Some(kind) = kind else {
-            return Some(self.echo.place(buf, at));
-        };
-        let slot = &self.slots[slot_of(kind)];
-        if are_same(slot.kind, kind) {
+        let slot = &self.slots[slot_of(label)];
+        if slot.label == label {
             return Some(slot.prefix.place(buf, at));
         }
-        self.place_new(buf, at, plan, file, kind)
+        self.place_new(buf, at, plan, file, label)
     }
 }

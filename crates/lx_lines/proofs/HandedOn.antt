@@ -61,3 +61,7 @@ none_placed s placed e = ap (λ held. gathered held s.failed s.sink) (e ∙ appe
 -- what was written of lines, since a state that is the same
 pub part_same : {S : Type 0} (wrote : S → List ℕ → S → Type 0) (s t u : S) (fault : ReaderFault) (bytes : List ℕ) → t ≡ s → WrotePart wrote t fault bytes u → WrotePart wrote s fault bytes u
 part_same {S} wrote s t u fault bytes same part = subst (λ (old : S). WrotePart wrote old fault bytes u) same part
+
+-- what was written of the line of an item, which is this one
+pub part_of_item : {S X : Type 0} (wrote : S → List ℕ → S → Type 0) (text : X → List ℕ) (s t : S) (fault : ReaderFault) (x y : X) → x ≡ y → WrotePart wrote s fault (text x) t → WrotePart wrote s fault (text y) t
+part_of_item wrote text s t fault x y same part = subst (λ item. WrotePart wrote s fault (text item) t) same part

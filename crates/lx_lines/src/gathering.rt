@@ -12,7 +12,7 @@ use crate::parts::{PART, gather_long};
 use crate::sink::LineSink;
 use lx_line::{LineBuffer, PlanDraft, numbers_of, push_line};
 use lx_piece::{Plan, ReaderFault};
-use lx_scan::Item;
+use lx_scan::FlatItem;
 use std::marker::Model;
 
 /// A sink, before which lines are gathered: those of items are placed where they are held until they go on together. Once the sink failed it
@@ -104,18 +104,19 @@ impl<S: LineSink> Gathering<S> {
         block: &mut Vec<u8>,
         plan: &Plan,
         file: u32,
-        item: &Item,
+        item: &FlatItem,
     ) -> Result<(), ReaderFault>
         requires file { file < files_of plan.now }
         requires item { IsItemOf (kinds_of plan.now) (bytes_of plan.now file) item.now }
         ensures ok { OnOk result (Gathers S.wrote self.old (line_of plan.now file item.now) self.new) }
         ensures part { IfErr result (λ fault. WrotePart (Gathers S.wrote) self.old fault (line_of plan.now file item.now) self.new) }
     {
-        if numbers_of(item).len > PART {
-            return gather_long(self, block, plan, file, item);
+        let item = item.item();
+        if numbers_of(&item).len > PART {
+            return gather_long(self, block, plan, file, &item);
         }
         block.clear();
-        let Ok(()) = push_line(block, plan, file, item) else {
+        let Ok(()) = push_line(block, plan, file, &item) else {
             return Err(ReaderFault::Memory);
         };
         self.gather(block.as_slice())
@@ -128,7 +129,7 @@ impl<S: LineSink> Gathering<S> {
         draft: &mut PlanDraft,
         plan: &Plan,
         file: u32,
-        items: &[Item],
+        items: &[FlatItem],
     ) -> Result<usize, ReaderFault>
         requires some { 0 < length items.now }
         requires draft { draft.old ≡ plan.now }
@@ -155,7 +156,7 @@ impl<S: LineSink> Gathering<S> {
         draft: &mut PlanDraft,
         plan: &Plan,
         file: u32,
-        items: &[Item],
+        items: &[FlatItem],
     ) -> Result<(), ReaderFault>
         requires draft { draft.old ≡ plan.now }
         requires file { file < files_of plan.now }
@@ -202,7 +203,7 @@ impl<S: LineSink> LineSink for Gathering<S> {
         draft: &mut PlanDraft,
         plan: &Plan,
         file: u32,
-        items: &[Item],
+        items: &[FlatItem],
     ) -> Result<(), ReaderFault> {
         self.gather_items(block, draft, plan, file, items)
     }

@@ -36,7 +36,7 @@ fn shown_piece(plan: &Plan, piece: Piece) -> Piece<Shown>
         file,
         number,
         mark,
-        items: Shown::of_items(plan, file, items.into_vec()),
+        items: Shown::of_given(plan, file, items.into_vec()),
     }
 }
 

@@ -9,7 +9,7 @@ ghost use Rattle.lx_lines.specs.Printing.{WrotePrefix};
 
 use lx_line::PlanDraft;
 use lx_piece::{Plan, ReaderFault};
-use lx_scan::Item;
+use lx_scan::FlatItem;
 use lx_writing::{LineWrites, write_block};
 use std::io::Write;
 
@@ -32,7 +32,7 @@ pub trait LineSink {
         draft: &mut PlanDraft,
         plan: &Plan,
         file: u32,
-        items: &[Item],
+        items: &[FlatItem],
     ) -> Result<(), ReaderFault>
         requires draft { draft.old ≡ plan.now }
         requires file { file < files_of plan.now }

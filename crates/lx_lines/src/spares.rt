@@ -3,7 +3,7 @@
 ghost use Rattle.std.specs.Prelude.{◌<◌};
 
 use crossbeam_queue::ArrayQueue;
-use lx_scan::Item;
+use lx_scan::ItemList;
 use lx_shown::Spares;
 use std::alloc::{AllocError, Global};
 use std::cell::Cell;
@@ -13,7 +13,7 @@ use std::sync::atomic::{AtomicU64, Ordering};
 /// What one thread keeps, which cuts a piece and prints it before the next one.
 #[derive(Drop)]
 pub struct Alone {
-    list: Cell<Option<Vec<Item>>>,
+    list: Cell<Option<ItemList>>,
     block: Cell<Option<Vec<u8>>>,
 }
 
@@ -27,11 +27,11 @@ impl Alone {
 }
 
 impl Spares for Alone {
-    fn take_list(&self) -> Option<Vec<Item>> {
+    fn take_list(&self) -> Option<ItemList> {
         self.list.replace(None)
     }
 
-    fn give_list(&self, list: Vec<Item>) {
+    fn give_list(&self, list: ItemList) {
         self.list.set(Some(list));
     }
 
@@ -58,7 +58,7 @@ const MANY: u64 = 8;
 // A list or a block. One type for both, since the prover refuses a function with queues of two types.
 #[derive(Drop)]
 enum Spare {
-    List(Vec<Item>),
+    List(ItemList),
     Block(Vec<u8>),
 }
 
@@ -92,14 +92,14 @@ impl<'r, R: Wait> Shared<'r, R> {
 }
 
 impl<'r, R: Wait> Spares for Shared<'r, R> {
-    fn take_list(&self) -> Option<Vec<Item>> {
+    fn take_list(&self) -> Option<ItemList> {
         match self.lists.pop(self.rt) {
             Some(Spare::List(list)) => Some(list),
             _ => None,
         }
     }
 
-    fn give_list(&self, list: Vec<Item>) {
+    fn give_list(&self, list: ItemList) {
         let _refused = self.lists.push(self.rt, Spare::List(list));
     }
 

@@ -6,8 +6,7 @@ use Rattle.lx_scan.specs.ItemParts.{IsItemOf}
 use Rattle.std.specs.Int.{div_ceil}
 use Rattle.std.proofs.lemmas.Bool.{both_ways, eq-eqb, ne_eqb, cases_lt}
 use Rattle.std.proofs.lemmas.Grind.{div_ceil_times}
-use Rattle.std.proofs.lemmas.List.{drop-append-le, drop-drop, drop_all, length-drop, take-append-le, take_all}
-use Rattle.std.proofs.Math.Seq.{drop-append_seam, take-append_seam}
+use Rattle.std.proofs.lemmas.List.{drop-append-le, drop-drop, length-drop, take-append-le}
 use Rattle.std.proofs.Math.Nat.{suc-mul, mul-le-mul_right}
 use Rattle.lx_table_texts.specs.Model.{Table}
 use Rattle.lx_scan.specs.Cursors.{IsInText, items_left, listed}
@@ -45,6 +44,13 @@ enough_items first items ahead left most appends end =
 pub enough_rest : (first items ahead left : List Item) (most : ℕ) → Appends first items ahead left → (length items < most + 1 → left ≡ []) → drop most items ++ left ≡ drop most (first ++ ahead)
 enough_rest first items ahead left most appends end =
     (enough items left most end).1 ∙ ap (λ (xs : List Item). drop most xs) (all_ahead first items ahead left appends)
+
+-- where none was behind so many, nothing is left
+pub none_ahead : (behind : Option Item) (items left rest : List Item) (most : ℕ) → listed behind ≡ drop most items → (length items < most + 1 → left ≡ []) → listed behind ++ left ≡ rest → IfNone behind (rest ≡ [])
+none_ahead (Some item) items left rest most is end whole = tt
+none_ahead None items left rest most is end whole =
+    let short : length items - most ≡ 0 = sym (length-drop most items) ∙ ap length (sym is) in
+    sym whole ∙ end (omega arith)
 
 -- ---- how many pieces there are
 -- no more than so many where nothing is behind them
@@ -140,6 +146,15 @@ pub takes_from : (plan : Planned) (cutter : Cutting) (items : List Item) (next :
 takes_from plan cutter items next cursor table text most e f g in_text items_are rest end =
     record { in_text = rw (e, f) at in_text; items_are = rw (e, f, g) at items_are; rest = rw (e, f, g) at rest; end = rw (e, f, g) at end }
 
+-- what is taken are items of the file
+pub items_taken : (plan : Planned) (cutter : Cutting) (items : List Item) (table : Table) (text : List ℕ) (most : ℕ) → table ≡ plan.table → text ≡ bytes_of plan cutter.file → most ≡ plan.per_piece → IsCutterOf plan cutter →
+    items ≡ take most (items_ahead table text cutter.ahead cutter.cursor) → IsPlan plan → All (IsItemOf (kinds_of plan) (bytes_of plan cutter.file)) items
+items_taken plan cutter items table text most e f g is items_are whole =
+    let taken : items ≡ take plan.per_piece (items_ahead plan.table (bytes_of plan cutter.file) cutter.ahead cutter.cursor) = rw (e, f, g) at items_are in
+    subst (λ xs. All (IsItemOf (kinds_of plan) (bytes_of plan cutter.file)) xs) (sym (taken ∙ ap (λ xs. take plan.per_piece xs) is.items))
+    (All-take (IsItemOf (kinds_of plan) (bytes_of plan cutter.file)) plan.per_piece (drop (cutter.next * plan.per_piece) (items_of plan cutter.file))
+    (All-drop (IsItemOf (kinds_of plan) (bytes_of plan cutter.file)) (cutter.next * plan.per_piece) (items_of plan cutter.file) (whole.items cutter.file)))
+
 module _ (plan : Planned) (cutter : Cutting) (items : List Item) (next : Option Item) (cursor : Cursor)
     (some : 0 < plan.per_piece) (is : IsCutterOf plan cutter) (there : cutter.next < pieces_of plan cutter.file) (takes : TakesPiece plan cutter items next cursor) where
   abbrev all : List Item
@@ -182,10 +197,3 @@ module _ (plan : Planned) (cutter : Cutting) (items : List Item) (next : Option 
   pub is_piece : {C : Type 0} (made : Planned → ℕ → List Item → C) (content : C) (run : ℕ) (mark : Mark) (last cut : Bool) → content ≡ made plan cutter.file items → cutter.next < top_number → run ≡ plan.run → is_some next ≡ not last → cut ≡ is_cut plan cutter.file → mark ≡ (if last then (if cut then Cut else Whole) else More) →
       IsPieceBy made plan (record { run = run; file = cutter.file; number = cutter.next; mark = mark; items = content })
   is_piece made content run mark last cut carries countable same none reading marked = record { file = is.file; number = there; countable = countable; whole = piece_is made content run mark last cut carries same none reading marked }
-
-  -- they are items of the file
-  pub are_items : IsPlan plan → All (IsItemOf (kinds_of plan) (bytes_of plan cutter.file)) items
-  are_items whole =
-      subst (λ xs. All (IsItemOf (kinds_of plan) (bytes_of plan cutter.file)) xs) (sym (takes.items_are ∙ ap (λ xs. take plan.per_piece xs) is.items))
-      (All-take (IsItemOf (kinds_of plan) (bytes_of plan cutter.file)) plan.per_piece (drop (cutter.next * plan.per_piece) all)
-      (All-drop (IsItemOf (kinds_of plan) (bytes_of plan cutter.file)) (cutter.next * plan.per_piece) all (whole.items cutter.file)))

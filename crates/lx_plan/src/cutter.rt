@@ -11,15 +11,15 @@ ghost use Rattle.lx_plan.specs.Plans.{bytes_of, files_of, is_cut};
 use crate::maker::{KeepItems, Maker};
 use crate::piece::{Mark, Piece};
 use crate::plan::Plan;
-use lx_scan::{Cursor, Item, ScanMemory};
+use lx_scan::{Cursor, Item, ItemList, ScanMemory};
 use lx_tables::Tables;
 use std::alloc::{AllocError, Global};
 use std::marker::Model;
 use std::snapshot::Snapshot;
 
 // Appends an item, if there is one.
-fn push_some(item: Option<Item>, items: &mut Vec<Item>) -> Result<(), AllocError>
-    ensures { OnOk result (items.new.items ≡ items.old.items ++ listed item) }
+fn push_some(item: Option<Item>, items: &mut ItemList) -> Result<(), AllocError>
+    ensures { OnOk result (items.new ≡ items.old ++ listed item) }
 {
     if let Some(item) = item {
         items.push(item)?;
@@ -28,10 +28,10 @@ fn push_some(item: Option<Item>, items: &mut Vec<Item>) -> Result<(), AllocError
 }
 
 // Takes off the item behind the first `most`, if there is one.
-fn take_behind(items: &mut Vec<Item>, most: usize) -> Option<Item>
-    requires { length items.old.items ≤ most + 1 }
-    ensures items { items.new.items ≡ take most items.old.items }
-    ensures behind { listed result ≡ drop most items.old.items }
+fn take_behind(items: &mut ItemList, most: usize) -> Option<Item>
+    requires { length items.old ≤ most + 1 }
+    ensures items { items.new ≡ take most items.old }
+    ensures behind { listed result ≡ drop most items.old }
 {
     if items.len() > most {
         items.pop()
@@ -48,20 +48,20 @@ fn take_items(
     memory: &mut ScanMemory,
     first: Option<Item>,
     most: u32,
-    items: &mut Vec<Item>,
+    items: &mut ItemList,
 ) -> Result<Option<Item>, AllocError>
     requires in_text { IsInText tables.now text.now cursor.old }
     requires memory { IsMemoryOf tables.now text.now memory.old }
-    requires none { items.old.items ≡ [] }
+    requires none { items.old ≡ [] }
     ensures in_text { IsInText tables.now text.now cursor.new }
     ensures memory { IsMemoryOf tables.now text.now memory.new }
-    ensures items { IfOk result (λ _. items.new.items ≡ take most (items_ahead tables.now text.now first cursor.old)) }
+    ensures items { IfOk result (λ _. items.new ≡ take most (items_ahead tables.now text.now first cursor.old)) }
     ensures rest { IfOk result (λ next. items_ahead tables.now text.now next cursor.new ≡ drop most (items_ahead tables.now text.now first cursor.old)) }
     ensures end { IfOk result (λ next. IfNone next (drop most (items_ahead tables.now text.now first cursor.old) ≡ [])) }
 {
     let most = most as usize;
     push_some(first, items)?;
-    cursor.next_items_by(tables, text, memory, most + 1, items)?;
+    cursor.next_items(tables, text, memory, most + 1, items)?;
     Ok(take_behind(items, most))
 }
 
@@ -177,12 +177,13 @@ impl Cutter {
             most,
             &mut items,
         )?;
+        let carried = maker.make(plan, self.file, items)?;
         let piece = Piece {
             run: plan.run(),
             file: self.file,
             number: self.number,
             mark: mark(ahead.is_none(), plan.is_cut(self.file)),
-            items: maker.make(plan, self.file, items),
+            items: carried,
         };
         self.number += 1;
         self.cursor = cursor;

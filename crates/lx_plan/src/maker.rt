@@ -7,7 +7,7 @@ ghost use Rattle.lx_plan.specs.Plans.{bytes_of, files_of, kinds_of};
 
 use crate::items::Items;
 use crate::plan::Plan;
-use lx_scan::Item;
+use lx_scan::ItemList;
 use std::alloc::{AllocError, Global};
 
 /// Makes of the items of a piece what the piece carries.
@@ -18,17 +18,19 @@ pub trait Maker {
     ghost made: { Making Self.Made };
 
     /// An empty list in which the items of the next piece find room, `items` at most. Where it lies is the maker's matter.
-    fn room(&mut self, alloc: Global, items: usize) -> Result<Vec<Item>, AllocError>
-        ensures { IfOk result (λ list. list.items ≡ []) }
+    fn room(&mut self, alloc: Global, items: usize) -> Result<ItemList, AllocError>
+        ensures { IfOk result (λ list. list ≡ []) }
     {
-        Vec::with_capacity(alloc, items)
+        let mut list = ItemList::new(alloc);
+        list.reserve(items)?;
+        Ok(list)
     }
 
-    /// Makes it of the items of a piece of a file. No memory is asked for that could be refused.
-    fn make(&mut self, plan: &Plan, file: u32, items: Vec<Item>) -> Self::Made
+    /// Makes it of the items of a piece of a file.
+    fn make(&mut self, plan: &Plan, file: u32, items: ItemList) -> Result<Self::Made, AllocError>
         requires file { file < files_of plan.now }
-        requires items { All (IsItemOf (kinds_of plan.now) (bytes_of plan.now file)) items.items }
-        ensures { result ≡ made plan.now file items.items };
+        requires items { All (IsItemOf (kinds_of plan.now) (bytes_of plan.now file)) items }
+        ensures { IfOk result (λ carried. carried ≡ made plan.now file items) };
 
     /// How many bytes of memory it takes, about. No contract speaks of it.
     fn weight(made: &Self::Made) -> u64;
@@ -48,8 +50,8 @@ impl Maker for KeepItems {
 
     ghost made = { bare };
 
-    fn make(&mut self, _plan: &Plan, _file: u32, items: Vec<Item>) -> Items {
-        Items::from_vec(items)
+    fn make(&mut self, _plan: &Plan, _file: u32, items: ItemList) -> Result<Items, AllocError> {
+        Ok(Items::from_vec(items.to_vec()?))
     }
 
     fn weight(made: &Items) -> u64 {

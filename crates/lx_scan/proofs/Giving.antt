@@ -1,14 +1,19 @@
 -- What a match gives whose action gives one item at most.
-use Rattle.std.proofs.Common.{◌≡◌, ℕ, ◌+◌, ◌-◌, ◌<◌, ◌≤◌, Bool, true, false, nat_eq, if◌then◌else◌, List, [], ◌∷◌, ◌++◌, Option, Some, None, length, inl, inr, refl, sym, ap, ◌∙◌, arith}
-use Rattle.std.specs.Prelude.{slice_index_or}
+use Rattle.std.proofs.Common.{◌≡◌, ℕ, ◌+◌, ◌-◌, ◌<◌, ◌≤◌, Bool, true, false, nat_eq, if◌then◌else◌, List, [], ◌∷◌, ◌++◌, Option, Some, None, length, inl, inr, refl, sym, ap, ◌∙◌, arith, add-zero, append-nil, append_assoc}
+use Rattle.std.specs.Prelude.{slice_index, slice_set, take}
 use Rattle.std.proofs.lemmas.Bool.{cases_lt, eqb-false, eqb-true}
+use Rattle.std.proofs.lemmas.List.{take-set, take_more_set}
+use Rattle.lx_rules.specs.declared.rule.Kind.{Kind}
 use Rattle.lx_rules.specs.declared.rule.Step.{Step}
 use Rattle.lx_rules.specs.declared.rule.Step.TheVariants.{Echo, Begin, Return}
-use Rattle.lx_tables.specs.Joined.{AreGiven, echoed, giving, item_count}
+use Rattle.lx_tables.specs.Joined.{AreLabels, echoed, giving, item_count}
+use Rattle.lx_tables.specs.Labels.{kind_of_label, step_of_kind, step_of_label}
 use Rattle.lx_table_texts.specs.Model.{Table}
+use Rattle.lx_scan.specs.declared.ends.End.{End}
 use Rattle.lx_scan.specs.declared.item.Item.{Item}
 use Rattle.lx_scan.specs.Cursors.{item_of_step, listed}
-use Rattle.lx_scan.specs.Ends.{steps_of_code, steps_of_rule}
+use Rattle.lx_scan.specs.Ends.{IsEnd, items_of_ends, steps_of_code, steps_of_rule}
+use Rattle.lx_scan.specs.ItemParts.{item_of_kind, kind_of_item, len_of, line_of, start_of}
 use Rattle.lx_scan.specs.Steps.{items_of_steps}
 
 none_given : (steps : List Step) (line start len : ℕ) → item_count steps ≤ 0 → items_of_steps steps line start len ≡ []
@@ -28,20 +33,82 @@ one_given (Begin next ∷ steps) line start len h = one_given steps line start l
 one_given (Return kind ∷ steps) line start len h = ap (λ xs. listed (item_of_step (Return kind) line start len) ++ xs) (none_given steps line start len (omega arith))
 
 -- what is kept of a code is what its steps give
-given_is : (table : Table) (given : List (Option Step)) (code : ℕ) → AreGiven table given → 0 < code → code ≤ echoed table → slice_index_or given code None ≡ giving (steps_of_code table code)
-given_is table given code are some known = on (nat_eq code (echoed table)) refl
+given_is : (table : Table) (labels : List ℕ) (code : ℕ) → AreLabels table labels → 0 < code → code ≤ echoed table → step_of_label (slice_index labels code) ≡ giving (steps_of_code table code)
+given_is table labels code are some known = on (nat_eq code (echoed table)) refl
   where
     below : (code ≡ echoed table → ⊥) → code - 1 < length table.rules
     below ne = elim (cases_lt code (echoed table)) [ inl l ↦ omega arith | inr l ↦ absurd (ne (omega arith)) ]
 
-    on : (b : Bool) → nat_eq code (echoed table) ≡ b → slice_index_or given code None ≡ giving (steps_of_rule table (if b then None else Some (code - 1)))
-    on true e = ap (λ n. slice_index_or given n None) (eqb-true code (echoed table) e) ∙ are.echo
+    on : (b : Bool) → nat_eq code (echoed table) ≡ b → step_of_label (slice_index labels code) ≡ giving (steps_of_rule table (if b then None else Some (code - 1)))
+    on true e = ap (λ n. step_of_label (slice_index labels n)) (eqb-true code (echoed table) e) ∙ are.echo
     on false e =
         let ne = eqb-false code (echoed table) e in
         let one : code ≡ code - 1 + 1 = omega arith in
-        ap (λ n. slice_index_or given n None) one ∙ are.rules (code - 1) (below ne)
+        ap (λ n. step_of_label (slice_index labels n)) one ∙ are.rules (code - 1) (below ne)
 
-pub items_are_given : (table : Table) (given : List (Option Step)) (code line start len : ℕ) (o : Option Step) → AreGiven table given → 0 < code → code ≤ echoed table → item_count (steps_of_code table code) ≤ 1 →
-    slice_index_or given code None ≡ o → items_of_steps (steps_of_code table code) line start len ≡ items_given o line start len
-items_are_given table given code line start len o are some known few is =
-    one_given (steps_of_code table code) line start len few ∙ ap (λ g. items_given g line start len) (sym (given_is table given code are some known) ∙ is)
+-- the item of a label, if there is one
+abbrev items_of_label : ℕ → ℕ → ℕ → ℕ → List Item
+items_of_label label line start len = if nat_eq label 0 then [] else item_of_kind (kind_of_label label) line start len ∷ []
+
+label_gives : (label line start len : ℕ) → items_given (step_of_label label) line start len ≡ items_of_label label line start len
+label_gives label line start len = on (nat_eq label 0) (kind_of_label label)
+  where
+    on : (b : Bool) (kind : Option Kind) → items_given (if b then None else Some (step_of_kind kind)) line start len ≡ (if b then [] else item_of_kind kind line start len ∷ [])
+    on true kind = refl
+    on false None = refl
+    on false (Some kind) = refl
+
+-- the items of a match are those of its label
+labels_give : (table : Table) (labels : List ℕ) (start line : ℕ) (e : End) → AreLabels table labels → IsEnd table start e →
+    items_of_steps (steps_of_code table e.code) line start (e.offset - start) ≡ items_of_label (slice_index labels e.code) line start (e.offset - start)
+labels_give table labels start line e are is =
+    one_given (steps_of_code table e.code) line start (e.offset - start) is.few
+    ∙ ap (λ g. items_given g line start (e.offset - start)) (sym (given_is table labels e.code are is.some is.known))
+    ∙ label_gives (slice_index labels e.code) line start (e.offset - start)
+
+-- an item is placed behind so many, and counts where there is one
+placed : (room : List Item) (len label line start n one : ℕ) → len < length room → one ≡ (if nat_eq label 0 then 0 else 1) →
+    take (len + one) (slice_set room len (item_of_kind (kind_of_label label) line start n)) ≡ take len room ++ items_of_label label line start n
+placed room len label line start n one more one_is = on (nat_eq label 0) refl
+  where
+    item : Item
+    item = item_of_kind (kind_of_label label) line start n
+
+    on : (b : Bool) → nat_eq label 0 ≡ b → take (len + one) (slice_set room len (item_of_kind (kind_of_label label) line start n)) ≡ take len room ++ items_of_label label line start n
+    on true none =
+        ap (λ (k : ℕ). take (len + k) (slice_set room len (item_of_kind (kind_of_label label) line start n))) (one_is ∙ ap (λ (b : Bool). if b then 0 else 1) none)
+        ∙ ap (λ (k : ℕ). take k (slice_set room len (item_of_kind (kind_of_label label) line start n))) (add-zero len)
+        ∙ take-set room len _
+        ∙ sym (append-nil (take len room))
+        ∙ ap (λ (b : Bool). take len room ++ (if b then [] else item_of_kind (kind_of_label label) line start n ∷ [])) (sym none)
+    on false some =
+        ap (λ (k : ℕ). take (len + k) (slice_set room len (item_of_kind (kind_of_label label) line start n))) (one_is ∙ ap (λ (b : Bool). if b then 0 else 1) some)
+        ∙ take_more_set room len _ more
+        ∙ ap (λ (b : Bool). take len room ++ (if b then [] else item_of_kind (kind_of_label label) line start n ∷ [])) (sym some)
+
+-- one more match of those that are left
+pub placed_turn : (table : Table) (labels : List ℕ) (room : List Item) (len start line one : ℕ) (e : End) (es : List End) (whole : List Item) → AreLabels table labels → IsEnd table start e → len < length room →
+    one ≡ (if nat_eq (slice_index labels e.code) 0 then 0 else 1) → take len room ++ items_of_ends table start line (e ∷ es) ≡ whole →
+    take (len + one) (slice_set room len (item_of_kind (kind_of_label (slice_index labels e.code)) line start (e.offset - start))) ++ items_of_ends table e.offset e.line es ≡ whole
+placed_turn table labels room len start line one e es whole are is more one_is items =
+    ap (λ (xs : List Item). xs ++ items_of_ends table e.offset e.line es)
+    (placed room len (slice_index labels e.code) line start (e.offset - start) one more one_is ∙ ap (λ (xs : List Item). take len room ++ xs) (sym (labels_give table labels start line e are is)))
+    ∙ append_assoc (take len room) (items_of_steps (steps_of_code table e.code) line start (e.offset - start)) (items_of_ends table e.offset e.line es)
+    ∙ items
+
+-- the parts of an item
+pub line_is : (kind : Option Kind) (line start len : ℕ) → line_of (item_of_kind kind line start len) ≡ line
+line_is None line start len = refl
+line_is (Some kind) line start len = refl
+
+pub start_is : (kind : Option Kind) (line start len : ℕ) → start_of (item_of_kind kind line start len) ≡ start
+start_is None line start len = refl
+start_is (Some kind) line start len = refl
+
+pub len_is : (kind : Option Kind) (line start len : ℕ) → len_of (item_of_kind kind line start len) ≡ len
+len_is None line start len = refl
+len_is (Some kind) line start len = refl
+
+pub kind_is : (kind : Option Kind) (line start len : ℕ) → kind ≡ kind_of_item (item_of_kind kind line start len)
+kind_is None line start len = refl
+kind_is (Some kind) line start len = refl

@@ -4,7 +4,6 @@ use Rattle.std.specs.Prelude.{slice_index, slice_set}
 use Rattle.std.specs.Option.{option_map}
 use Rattle.std.proofs.lemmas.Bool.{eq-eqb, eqb-true, le-leb, lt-leb}
 use Rattle.std.proofs.lemmas.List.{length-take-le, take-set, take_more_set}
-use Rattle.lx_rules.specs.declared.rule.Step.{Step}
 use Rattle.lx_automaton.specs.Automata.{accepted_by}
 use Rattle.lx_tables.specs.Joined.{IsJoined, IsJoinedState, begun, ended, is_told, joined_entry, joined_number, joined_step, joined_width, rule_ended, stepped, target_from, transition_at}
 use Rattle.lx_table_texts.specs.Model.{Table, IsTable, rule_at}
@@ -58,9 +57,9 @@ pub record IsEntry (table : Table) (q : JoinedState) (byte : ℕ) (entry : Trans
   pub code : entry.code ≡ (joined_step table q (slice_index table.machine.classes byte) (nat_eq byte 10)).0
   pub row : entry.row ≡ joined_number table (joined_step table q (slice_index table.machine.classes byte) (nat_eq byte 10)).1 * joined_width table
 
-pub is_entry : (table : Table) (columns : List ℕ) (entries : List Transition) (given : List (Option Step)) → IsJoined table columns entries given → (q : JoinedState) (row byte : ℕ) (entry : Transition) → IsJoinedState table q → byte < 256 →
+pub is_entry : (table : Table) (columns : List ℕ) (entries : List Transition) (labels : List ℕ) → IsJoined table columns entries labels → (q : JoinedState) (row byte : ℕ) (entry : Transition) → IsJoinedState table q → byte < 256 →
     row ≡ joined_number table q * joined_width table → entry ≡ transition_at entries (row + slice_index columns byte) → IsEntry table q byte entry
-is_entry table columns entries given joined q row byte entry known small row_is entry_is =
+is_entry table columns entries labels joined q row byte entry known small row_is entry_is =
     let whole : entry ≡ joined_entry table (joined_step table q (slice_index table.machine.classes byte) (nat_eq byte 10)) =
     entry_is ∙ ap₂ (λ (r c : ℕ). transition_at entries (r + c)) row_is (joined.byte_columns byte small) ∙ joined.each q byte known small in
     record {
@@ -69,9 +68,9 @@ is_entry table columns entries given joined q row byte entry known small row_is 
     }
 
 -- a newline has the last column alone
-pub last_column : (table : Table) → IsTable table → (columns : List ℕ) (entries : List Transition) (given : List (Option Step)) → IsJoined table columns entries given → (byte : ℕ) → byte < 256 →
+pub last_column : (table : Table) → IsTable table → (columns : List ℕ) (entries : List Transition) (labels : List ℕ) → IsJoined table columns entries labels → (byte : ℕ) → byte < 256 →
     ◌≡◌ {A = ℕ} (if nat_le (slice_index columns 10) (slice_index columns byte) then 1 else 0) (if nat_eq byte 10 then 1 else 0)
-last_column table is columns entries given joined byte small =
+last_column table is columns entries labels joined byte small =
     ap₂ (λ (l c : ℕ). if nat_le l c then 1 else 0) (joined.byte_columns 10 (omega arith)) (joined.byte_columns byte small) ∙ on (nat_eq byte 10)
   where
     on : (b : Bool) → ◌≡◌ {A = ℕ} (if nat_le table.machine.width (if b then table.machine.width else slice_index table.machine.classes byte) then 1 else 0) (if b then 1 else 0)
@@ -119,7 +118,7 @@ runs_begun table text from byte line row p more is known row_is line_is = record
   begin = λ h. absurd (omega arith);
 }
 
-module _ (table : Table) (is : IsTable table) (columns : List ℕ) (entries : List Transition) (given : List (Option Step)) (joined : IsJoined table columns entries given) (text : List ℕ) (from : Place) (ends : List End) (read line row byte : ℕ) (entry : Transition)
+module _ (table : Table) (is : IsTable table) (columns : List ℕ) (entries : List Transition) (labels : List ℕ) (joined : IsJoined table columns entries labels) (text : List ℕ) (from : Place) (ends : List End) (read line row byte : ℕ) (entry : Transition)
     (r : Runs table text from ends read line row) (more : read < length text) (is_byte : slice_index text read ≡ byte) (small : byte < 256) (entry_is : entry ≡ transition_at entries (row + slice_index columns byte)) where
   abbrev class : ℕ
   class = slice_index table.machine.classes byte
@@ -128,7 +127,7 @@ module _ (table : Table) (is : IsTable table) (columns : List ℕ) (entries : Li
   found = joined_step table r.q class (nat_eq byte 10)
 
   parts : IsEntry table r.q byte entry
-  parts = is_entry table columns entries given joined r.q row byte entry r.known small r.row_is entry_is
+  parts = is_entry table columns entries labels joined r.q row byte entry r.known small r.row_is entry_is
 
   -- nothing has ended
   pub runs_on : entry.code ≡ 0 → Runs table text from ends (read + 1) (line + (if nat_eq byte 10 then 1 else 0)) entry.row
@@ -203,11 +202,11 @@ module _ (table : Table) (is : IsTable table) (columns : List ℕ) (entries : Li
           }
 
 -- the same, as a run writes its ends over one another
-pub runs_turn : (table : Table) → IsTable table → (columns : List ℕ) (entries : List Transition) (given : List (Option Step)) → IsJoined table columns entries given → (text : List ℕ) (from : Place) (ends : List End) (count read line row byte : ℕ) (entry : Transition) (one : ℕ) →
+pub runs_turn : (table : Table) → IsTable table → (columns : List ℕ) (entries : List Transition) (labels : List ℕ) → IsJoined table columns entries labels → (text : List ℕ) (from : Place) (ends : List End) (count read line row byte : ℕ) (entry : Transition) (one : ℕ) →
     Runs table text from (take count ends) read line row → read < length text → slice_index text read ≡ byte → byte < 256 → entry ≡ transition_at entries (row + slice_index columns byte) →
     count < length ends → entry.code ≢ 8191 → one ≡ (if nat_eq entry.code 0 then 0 else 1) →
     Runs table text from (take (count + one) (slice_set ends count (record { code = entry.code; offset = read; line = line }))) (read + 1) (line + (if nat_eq byte 10 then 1 else 0)) entry.row
-runs_turn table is columns entries given joined text from ends count read line row byte entry one r more is_byte small entry_is room told one_is = on (nat_eq entry.code 0) refl
+runs_turn table is columns entries labels joined text from ends count read line row byte entry one r more is_byte small entry_is room told one_is = on (nat_eq entry.code 0) refl
   where
     on : (b : Bool) → nat_eq entry.code 0 ≡ b → Runs table text from (take (count + one) (slice_set ends count (record { code = entry.code; offset = read; line = line }))) (read + 1) (line + (if nat_eq byte 10 then 1 else 0)) entry.row
     on true none =
@@ -216,13 +215,13 @@ runs_turn table is columns entries given joined text from ends count read line r
         ∙ ap (λ (n : ℕ). take n (slice_set ends count (record { code = entry.code; offset = read; line = line }))) (add-zero count)
         ∙ take-set ends count _ in
         subst (λ (es : List End). Runs table text from es (read + 1) (line + (if nat_eq byte 10 then 1 else 0)) entry.row) (sym same)
-        (runs_on table is columns entries given joined text from (take count ends) read line row byte entry r more is_byte small entry_is (eqb-true entry.code 0 none))
+        (runs_on table is columns entries labels joined text from (take count ends) read line row byte entry r more is_byte small entry_is (eqb-true entry.code 0 none))
     on false some =
         let same : take (count + one) (slice_set ends count (record { code = entry.code; offset = read; line = line })) ≡ take count ends ++ record { code = entry.code; offset = read; line = line } ∷ [] =
         ap (λ (n : ℕ). take (count + n) (slice_set ends count (record { code = entry.code; offset = read; line = line }))) (one_is ∙ ap (λ (b : Bool). if b then 0 else 1) some)
         ∙ take_more_set ends count _ room in
         subst (λ (es : List End). Runs table text from es (read + 1) (line + (if nat_eq byte 10 then 1 else 0)) entry.row) (sym same)
-        (runs_further table is columns entries given joined text from (take count ends) read line row byte entry r more is_byte small entry_is
+        (runs_further table is columns entries labels joined text from (take count ends) read line row byte entry r more is_byte small entry_is
         (λ zero_is. let yes = eq-eqb entry.code 0 zero_is in let no : true ≡ false = sym yes ∙ some in cc) told)
 
 -- where matches have ended the place behind them is known by the last end and the condition

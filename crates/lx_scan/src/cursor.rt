@@ -12,6 +12,7 @@ ghost use Rattle.lx_scan.specs.Steps.{items_of_steps};
 
 use crate::appending::append_runs;
 use crate::item::Item;
+use crate::list::ItemList;
 use crate::memory::ScanMemory;
 use crate::place::{Match, Place};
 use crate::scanner::{next_match, next_match_by};
@@ -170,15 +171,15 @@ impl Cursor {
         text: &[u8],
         memory: &mut ScanMemory,
         most: usize,
-        items: &mut Vec<Item>,
+        items: &mut ItemList,
     ) -> Result<(), AllocError>
         requires in_text { IsInText tables.now text.now self.old }
-        requires few { length items.old.items ≤ most }
+        requires few { length items.old ≤ most }
         requires memory { IsMemoryOf tables.now text.now memory.old }
         ensures in_text { IsInText tables.now text.now self.new }
         ensures memory { IsMemoryOf tables.now text.now memory.new }
-        ensures items { OnOk result (Appends items.old.items items.new.items (items_left tables.now text.now self.old) (items_left tables.now text.now self.new)) }
-        ensures most { OnOk result (length items.new.items ≤ most) }
+        ensures items { OnOk result (Appends items.old items.new (items_left tables.now text.now self.old) (items_left tables.now text.now self.new)) }
+        ensures most { OnOk result (length items.new ≤ most) }
     {
         // its contract says what holds of all tables
         let _conditions = tables.conditions();
@@ -192,44 +193,25 @@ impl Cursor {
     }
 
     /// Appends the next items to a list until it has `most`, or all of them where fewer are left. Most of them are found by the joined table,
-    /// without a jump for each match. AllocError where memory is refused: then the cursor is where it was, and the list may have some of the items.
+    /// without a jump for each match. It goes by what is remembered of the text, which has to be of these tables and this text, and stays so.
+    /// AllocError where memory is refused: then the cursor is where it was, the list may have some of the items, and something more may be
+    /// remembered.
     pub fn next_items(
-        &mut self,
-        tables: &Tables,
-        text: &[u8],
-        most: usize,
-        items: &mut Vec<Item>,
-    ) -> Result<(), AllocError>
-        requires in_text { IsInText tables.now text.now self.old }
-        requires few { length items.old.items ≤ most }
-        ensures in_text { IsInText tables.now text.now self.new }
-        ensures items { OnOk result (Appends items.old.items items.new.items (items_left tables.now text.now self.old) (items_left tables.now text.now self.new)) }
-        ensures most { OnOk result (length items.new.items ≤ most) }
-        ensures end { OnOk result (length items.new.items < most → items_left tables.now text.now self.new ≡ []) }
-        ensures err { OnErr result (self.new ≡ self.old) }
-    {
-        let mut memory = ScanMemory::new(*items.allocator());
-        self.next_items_by(tables, text, &mut memory, most, items)
-    }
-
-    /// The same by what is remembered of the text, which has to be of these tables and this text, and stays so. Where memory is refused, something
-    /// more may be remembered.
-    pub fn next_items_by(
         &mut self,
         tables: &Tables,
         text: &[u8],
         memory: &mut ScanMemory,
         most: usize,
-        items: &mut Vec<Item>,
+        items: &mut ItemList,
     ) -> Result<(), AllocError>
         requires in_text { IsInText tables.now text.now self.old }
-        requires few { length items.old.items ≤ most }
+        requires few { length items.old ≤ most }
         requires memory { IsMemoryOf tables.now text.now memory.old }
         ensures in_text { IsInText tables.now text.now self.new }
         ensures memory { IsMemoryOf tables.now text.now memory.new }
-        ensures items { OnOk result (Appends items.old.items items.new.items (items_left tables.now text.now self.old) (items_left tables.now text.now self.new)) }
-        ensures most { OnOk result (length items.new.items ≤ most) }
-        ensures end { OnOk result (length items.new.items < most → items_left tables.now text.now self.new ≡ []) }
+        ensures items { OnOk result (Appends items.old items.new (items_left tables.now text.now self.old) (items_left tables.now text.now self.new)) }
+        ensures most { OnOk result (length items.new ≤ most) }
+        ensures end { OnOk result (length items.new < most → items_left tables.now text.now self.new ≡ []) }
         ensures err { OnErr result (self.new ≡ self.old) }
     {
         let mut cursor = *self;

@@ -73,7 +73,7 @@ pub(crate) fn find_ends(
     ends: &mut [End],
 ) -> Run
     requires table { IsTable tables.now }
-    requires joined { IsJoined tables.now joined.now.columns.items joined.now.entries.items joined.now.given.items }
+    requires joined { IsJoined tables.now joined.now.columns.items joined.now.entries.items joined.now.labels.items }
     requires place { IsPlace tables.now text.now place }
     requires more { place.offset < length text.now }
     requires room { most ≤ length ends.old }

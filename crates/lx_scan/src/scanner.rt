@@ -11,12 +11,16 @@ ghost use Rattle.lx_scan.specs.Steps.{condition_after, items_of_steps, newlines}
 use crate::choice::choose;
 use crate::cursor::{Cursor, steps_of_match};
 use crate::item::Item;
+use crate::list::ItemList;
 use crate::longest::choose_by;
 use crate::memory::ScanMemory;
 use crate::place::{Match, Place};
 use lx_rules::rule::Step;
 use lx_tables::Tables;
 use std::alloc::{AllocError, Global};
+
+// So many items are found at once.
+const AT_ONCE: usize = 1024;
 
 /// The condition behind the steps of an action that is done in a condition.
 pub fn condition_behind(steps: &[Step], condition: u16) -> u16
@@ -155,7 +159,16 @@ pub fn scan(alloc: Global, tables: &Tables, text: &[u8]) -> Result<Vec<Item>, Al
 {
     // its contract says that there is a condition
     let _conditions = tables.conditions();
+    let mut cursor = Cursor::begin();
+    let mut memory = ScanMemory::new(alloc);
+    let mut list = ItemList::new(alloc);
     let mut items = Vec::new(alloc);
-    Cursor::begin().next_items(tables, text, usize::MAX, &mut items)?;
+    let mut is_full = true;
+    'further: while is_full {
+        list.clear();
+        cursor.next_items(tables, text, &mut memory, AT_ONCE, &mut list)?;
+        list.append_to(&mut items)?;
+        is_full = list.len() == AT_ONCE;
+    }
     Ok(items)
 }

@@ -4,10 +4,10 @@ ghost use Rattle.std.specs.Prelude.{◌≡◌};
 
 use crate::lengths::are_long;
 use crate::shown::Shown;
-use crate::spares::{Spares, emptied};
+use crate::spares::{Spares, emptied, emptied_list};
 use lx_line::push_lines;
 use lx_plan::{Maker, Plan};
-use lx_scan::Item;
+use lx_scan::ItemList;
 use std::alloc::{AllocError, Global};
 
 // The texts of a piece of which a worker makes the lines have so many bytes at most. Those of longer ones leave in parts, so that there is no
@@ -42,13 +42,13 @@ impl<Y: Spares> Maker for LineMaker<Y> {
 
     ghost made = { shown };
 
-    fn room(&mut self, alloc: Global, items: usize) -> Result<Vec<Item>, AllocError> {
-        let mut list = emptied(alloc, self.spares.take_list());
+    fn room(&mut self, alloc: Global, items: usize) -> Result<ItemList, AllocError> {
+        let mut list = emptied_list(alloc, self.spares.take_list());
         list.reserve(items)?;
         Ok(list)
     }
 
-    fn make(&mut self, plan: &Plan, file: u32, items: Vec<Item>) -> Shown {
+    fn make(&mut self, plan: &Plan, file: u32, items: ItemList) -> Result<Shown, AllocError> {
         if self.file != file {
             self.file = file;
             self.sent = 0;
@@ -56,17 +56,17 @@ impl<Y: Spares> Maker for LineMaker<Y> {
         self.sent = self.sent.wrapping_add(1);
         self.spares.send();
         if !self.spares.are_many(file, self.sent) || are_long(items.as_slice(), MOST) {
-            return Shown::of_items(plan, file, items);
+            return Ok(Shown::of_items(plan, file, items));
         }
         let mut block = emptied(self.alloc, self.spares.take_block());
         match push_lines(&mut block, plan, file, items.as_slice()) {
             Ok(()) => {
                 let made = Shown::of_lines(plan, file, &items, block);
                 self.spares.give_list(items);
-                made
+                Ok(made)
             }
             // where memory is refused the items will do
-            Err(_) => Shown::of_items(plan, file, items),
+            Err(_) => Ok(Shown::of_items(plan, file, items)),
         }
     }
 

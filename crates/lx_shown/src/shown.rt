@@ -5,15 +5,20 @@ ghost use Rattle.lx_line.specs.Lines.{lines_of};
 ghost use Rattle.lx_shown.specs.Shown.{IsFormOf, shown};
 
 use lx_plan::Plan;
-use lx_scan::Item;
+use lx_scan::{Item, ItemList};
 use std::marker::Model;
 use std::snapshot::Snapshot;
 
-/// The items, or their lines one behind the other.
+/// The items as they were cut or as they were given, or their lines one behind the other.
 #[derive(Drop)]
 pub enum Form {
-    Bare(Vec<Item>),
-    Lines(Vec<u8>),
+    Bare(ItemList),
+    Given(Vec<Item>),
+    Lines {
+        block: Vec<u8>,
+        // The items, of which clauses alone speak.
+        items: Snapshot<ItemList>,
+    },
 }
 
 /// What a piece of a listing carries: its items, or the lines of them. Contracts see the items alone.
@@ -22,50 +27,58 @@ pub struct Shown {
     form: Form,
     file: u32,
     plan: Snapshot<Plan>,
-    items: Snapshot<Vec<Item>>,
 }
 
 impl Model for Shown {
-    ghost use Rattle.lx_shown.specs.Shown.{ShownItems, IsFormOf};
+    ghost use Rattle.lx_shown.specs.Shown.{IsFormOf, ShownItems, items_in};
 
     ghost Value = { ShownItems };
 
-    ghost view = { λ s. record { plan = s.plan.value; file = s.file; items = s.items.value.items } };
+    ghost view = { λ s. record { plan = s.plan.value; file = s.file; items = items_in s.form } };
 
-    ghost invariant = { λ s. IsFormOf s.plan.value s.file s.items.value.items s.form };
+    ghost invariant = { λ s. IsFormOf s.plan.value s.file (items_in s.form) s.form };
 }
 
-// An item has so many bytes.
+// An item of a list has so many bytes, and one of a `Vec`.
+const FLAT_ITEM: u64 = 32;
+
 const ITEM: u64 = 40;
 
 impl Shown {
-    /// Items as they are.
-    pub fn of_items(plan: &Plan, file: u32, items: Vec<Item>) -> Shown
-        requires { All (IsItemOf (kinds_of plan.now) (bytes_of plan.now file)) items.items }
-        ensures { result ≡ shown plan.now file items.items }
+    /// Items as they were cut.
+    pub fn of_items(plan: &Plan, file: u32, items: ItemList) -> Shown
+        requires { All (IsItemOf (kinds_of plan.now) (bytes_of plan.now file)) items }
+        ensures { result ≡ shown plan.now file items }
     {
-        let plan = Snapshot::of(plan);
-        let listed = Snapshot::of(&items);
         Shown {
             form: Form::Bare(items),
             file,
-            plan,
-            items: listed,
+            plan: Snapshot::of(plan),
+        }
+    }
+
+    /// Items as they are given.
+    pub fn of_given(plan: &Plan, file: u32, items: Vec<Item>) -> Shown
+        requires { All (IsItemOf (kinds_of plan.now) (bytes_of plan.now file)) items.items }
+        ensures { result ≡ shown plan.now file items.items }
+    {
+        Shown {
+            form: Form::Given(items),
+            file,
+            plan: Snapshot::of(plan),
         }
     }
 
     /// The lines of items.
-    pub fn of_lines(plan: &Plan, file: u32, items: &Vec<Item>, block: Vec<u8>) -> Shown
-        requires { block.items ≡ lines_of plan.now file items.now.items }
-        ensures { result ≡ shown plan.now file items.now.items }
+    pub fn of_lines(plan: &Plan, file: u32, items: &ItemList, block: Vec<u8>) -> Shown
+        requires { block.items ≡ lines_of plan.now file items.now }
+        ensures { result ≡ shown plan.now file items.now }
     {
-        let plan = Snapshot::of(plan);
-        let listed = Snapshot::of(items);
+        let items = Snapshot::of(items);
         Shown {
-            form: Form::Lines(block),
+            form: Form::Lines { block, items },
             file,
-            plan,
-            items: listed,
+            plan: Snapshot::of(plan),
         }
     }
 
@@ -77,7 +90,6 @@ impl Shown {
             form,
             file: _file,
             plan: _plan,
-            items: _items,
         } = self;
         form
     }
@@ -85,8 +97,9 @@ impl Shown {
     /// How many bytes of memory it takes, about.
     pub fn weight(&self) -> u64 {
         match &self.form {
-            Form::Bare(items) => ITEM.saturating_mul(items.capacity() as u64),
-            Form::Lines(block) => block.capacity() as u64,
+            Form::Bare(items) => FLAT_ITEM.saturating_mul(items.capacity() as u64),
+            Form::Given(items) => ITEM.saturating_mul(items.capacity() as u64),
+            Form::Lines { block, .. } => block.capacity() as u64,
         }
     }
 }

@@ -2,16 +2,16 @@
 
 ghost use Rattle.std.specs.Prelude.{◌≡◌, []};
 
-use lx_scan::Item;
+use lx_scan::ItemList;
 use std::alloc::Global;
 
 /// Lists of items and blocks of lines to be used again, and how many pieces are on their way to the printer. What such a list or
 /// block holds means nothing: it is emptied first. No contract speaks of any of this.
 pub trait Spares {
-    fn take_list(&self) -> Option<Vec<Item>>;
+    fn take_list(&self) -> Option<ItemList>;
 
     /// It is dropped where there are enough.
-    fn give_list(&self, list: Vec<Item>);
+    fn give_list(&self, list: ItemList);
 
     fn take_block(&self) -> Option<Vec<u8>>;
 
@@ -28,25 +28,38 @@ pub trait Spares {
     fn are_many(&self, file: u32, sent: u64) -> bool;
 }
 
-/// An empty list, in memory that was used before where there is some.
-pub fn emptied<T: Drop>(alloc: Global, spare: Option<Vec<T>>) -> Vec<T>
+/// An empty block, in memory that was used before where there is some.
+pub fn emptied(alloc: Global, spare: Option<Vec<u8>>) -> Vec<u8>
     ensures { result.items ≡ [] }
+{
+    match spare {
+        Some(mut block) => {
+            block.clear();
+            block
+        }
+        None => Vec::new(alloc),
+    }
+}
+
+/// An empty list, likewise.
+pub(crate) fn emptied_list(alloc: Global, spare: Option<ItemList>) -> ItemList
+    ensures { result ≡ [] }
 {
     match spare {
         Some(mut list) => {
             list.clear();
             list
         }
-        None => Vec::new(alloc),
+        None => ItemList::new(alloc),
     }
 }
 
 impl<'s, Y: Spares> Spares for &'s Y {
-    fn take_list(&self) -> Option<Vec<Item>> {
+    fn take_list(&self) -> Option<ItemList> {
         (**self).take_list()
     }
 
-    fn give_list(&self, list: Vec<Item>) {
+    fn give_list(&self, list: ItemList) {
         (**self).give_list(list);
     }
 

@@ -10,7 +10,7 @@ use Rattle.lx_rules.specs.declared.rule.Step.TheVariants.{Echo, Begin, Return}
 use Rattle.lx_rules.specs.Invariant.{are_steps}
 use Rattle.lx_automaton.specs.Automata.{state_count, accepted_at}
 use Rattle.lx_automaton.specs.EncodedOptions.{decoded_option}
-use Rattle.lx_tables.specs.Joined.{AreEntries, AreGiven, IsJoined, IsJoinedState, begun, class_of_column, column_of, condition_behind, condition_behind_rule, encoded, joined_entry, joined_len, joined_number, joined_state_at, joined_states, joined_step, joined_width, stepped, target_from}
+use Rattle.lx_tables.specs.Joined.{AreEntries, AreLabels, IsJoined, IsJoinedState, begun, class_of_column, column_of, condition_behind, condition_behind_rule, encoded, joined_entry, joined_len, joined_number, joined_state_at, joined_states, joined_step, joined_width, stepped, target_from}
 use Rattle.lx_table_texts.specs.Model.{Table, IsTable, rule_at}
 use Rattle.lx_tables.specs.declared.joined.JoinedState.{JoinedState}
 use Rattle.lx_tables.specs.declared.joined.Transition.{Transition}
@@ -187,10 +187,10 @@ column_below table b below = on (nat_eq b 10)
     on true = omega arith
     on false = omega arith
 
-pub is_joined : (table : Table) (columns : List ℕ) (entries : List Transition) (given : List (Option Step)) → IsTable table → AreGiven table given → length columns ≡ 256 → ((b : ℕ) → b < 256 → slice_index columns b ≡ column_of table b) →
-    AreEntries table entries (joined_len table) → IsJoined table columns entries given
-is_joined table columns entries given is are_given bytes are_columns are = record {
-  are_given = are_given;
+pub is_joined : (table : Table) (columns : List ℕ) (entries : List Transition) (labels : List ℕ) → IsTable table → AreLabels table labels → length columns ≡ 256 → ((b : ℕ) → b < 256 → slice_index columns b ≡ column_of table b) →
+    AreEntries table entries (joined_len table) → IsJoined table columns entries labels
+is_joined table columns entries labels is are_labels bytes are_columns are = record {
+  are_labels = are_labels;
   bytes = bytes;
   byte_columns = are_columns;
   below = λ k. elim (cases_lt k 256) [

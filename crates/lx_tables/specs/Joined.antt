@@ -8,6 +8,7 @@ use Rattle.lx_automaton.specs.EncodedOptions.{decoded_option}
 use Rattle.lx_table_texts.specs.Model.{Table, TableRule, rule_at}
 use Rattle.lx_tables.specs.declared.joined.JoinedState.{JoinedState}
 use Rattle.lx_tables.specs.declared.joined.Transition.{Transition}
+use Rattle.lx_tables.specs.Labels.{step_of_label}
 
 -- a state of the joined table whose condition and state are there
 pub record IsJoinedState (table : Table) (q : JoinedState) : Type 0 where
@@ -115,15 +116,15 @@ joined_entry table found = record { row = joined_number table found.1 * joined_w
 abbrev pub transition_at : List Transition → ℕ → Transition
 transition_at entries k = slice_index_or entries k (record { row = 0; code = 0 })
 
--- Of each code the step that gives an item: of a rule that of its action, and of a byte that no rule matches the echo.
-pub record AreGiven (table : Table) (given : List (Option Step)) : Type 0 where
-  pub long : length given ≡ length table.rules + 2
-  pub rules : (rule : ℕ) → rule < length table.rules → slice_index_or given (rule + 1) None ≡ giving (rule_at table rule).steps
-  pub echo : slice_index_or given (echoed table) None ≡ Some Echo
+-- Of each code the label of what is given: of a rule that of the step of its action that gives an item, and of a byte that no rule matches that of the echo.
+pub record AreLabels (table : Table) (labels : List ℕ) : Type 0 where
+  pub long : length labels ≡ length table.rules + 2
+  pub rules : (rule : ℕ) → rule < length table.rules → step_of_label (slice_index labels (rule + 1)) ≡ giving (rule_at table rule).steps
+  pub echo : step_of_label (slice_index labels (echoed table)) ≡ Some Echo
 
 -- Of each byte its column, and of each state row by row what has ended and the state behind, which is one of the joined table again.
-pub record IsJoined (table : Table) (columns : List ℕ) (entries : List Transition) (given : List (Option Step)) : Type 0 where
-  pub are_given : AreGiven table given
+pub record IsJoined (table : Table) (columns : List ℕ) (entries : List Transition) (labels : List ℕ) : Type 0 where
+  pub are_labels : AreLabels table labels
   pub bytes : length columns ≡ 256
   pub byte_columns : (b : ℕ) → b < 256 → slice_index columns b ≡ column_of table b
   pub below : (k : ℕ) → slice_index columns k < joined_width table

@@ -1,4 +1,5 @@
 pub mod Examples
 pub mod Joined
+pub mod Labels
 pub mod Lines
 pub mod Output

@@ -1,7 +1,5 @@
 //! The joined table: the automaton joined with its own restart, so that matches are cut by one look-up a byte.
 
-use lx_rules::rule::Step;
-
 /// A state of the joined table: in a match under a condition, behind a newline or another byte, in a state of the automaton; in none
 /// behind a first byte on which it has no step.
 #[derive(Clone, Copy, Debug, PartialEq, Eq)]
@@ -26,8 +24,8 @@ pub struct Joined {
     pub columns: Vec<u8>,
     /// Row by row the entries.
     pub entries: Vec<Transition>,
-    /// Of each code but [`UNTOLD`] the step that gives an item, if there is one.
-    pub given: Vec<Option<Step>>,
+    /// Of each code but [`UNTOLD`] the label of the item that such a match gives, or 0 where it gives none.
+    pub labels: Vec<u64>,
 }
 
 /// The code of what the state alone doesn't tell: a match that ended further back, or one of a rule with `$` or with several items.

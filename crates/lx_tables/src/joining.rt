@@ -3,10 +3,12 @@
 ghost use Rattle.std.specs.Prelude.{if◌then◌else◌, ◌≡◌, ◌<◌, ◌≤◌, ◌+◌, ◌*◌, ◌/◌, ℕ, IfOk, OnOk, length, nat_eq, slice_index, Some};
 ghost use Rattle.std.specs.Option.{ForSome};
 ghost use Rattle.lx_automaton.specs.Automata.{state_count, accepted_at, class_target};
-ghost use Rattle.lx_tables.specs.Joined.{AreEntries, AreGiven, IsJoined, IsJoinedState, begun, class_of_column, column_of, condition_behind, condition_behind_rule, encoded, ended, giving, item_count, joined_entry, joined_len, joined_number, joined_state_at, joined_states, joined_step, joined_width, rule_ended, target_from};
+ghost use Rattle.lx_tables.specs.Joined.{AreEntries, AreLabels, IsJoined, IsJoinedState, begun, class_of_column, column_of, condition_behind, condition_behind_rule, encoded, ended, giving, item_count, joined_entry, joined_len, joined_number, joined_state_at, joined_states, joined_step, joined_width, rule_ended, target_from};
+ghost use Rattle.lx_tables.specs.Labels.{step_of_label};
 ghost use Rattle.lx_table_texts.specs.Model.{IsTable};
 
 use crate::joined::{Joined, JoinedState, Transition, UNTOLD};
+use crate::label::label_of;
 use crate::tables::Tables;
 use lx_automaton::State;
 use lx_rules::rule::Step;
@@ -65,17 +67,18 @@ fn item_count(steps: &[Step]) -> usize
     count
 }
 
-// The first step of an action that gives an item, if there is one.
-fn giving(steps: &[Step]) -> Option<Step>
-    ensures { result ≡ giving steps.now }
+// The label of the first item that an action gives, or 0 where it gives none.
+fn label_given(steps: &[Step]) -> u64
+    ensures { step_of_label result ≡ giving steps.now }
 {
     for step in steps {
-        match step {
+        match *step {
             Step::Begin(_) => {}
-            Step::Echo | Step::Return(_) => return Some(*step),
+            Step::Echo => return label_of(None),
+            Step::Return(kind) => return label_of(Some(kind)),
         }
     }
-    None
+    0
 }
 
 // The code of a rule that has ended.
@@ -251,22 +254,22 @@ fn columns_of(alloc: Global, tables: &Tables) -> Result<Vec<u8>, AllocError>
     Ok(columns)
 }
 
-// Of each code the step that gives an item.
-fn given_of(alloc: Global, tables: &Tables) -> Result<Vec<Option<Step>>, AllocError>
-    ensures { IfOk result (λ given. AreGiven tables.now given.items) }
+// Of each code the label of what is given.
+fn labels_of(alloc: Global, tables: &Tables) -> Result<Vec<u64>, AllocError>
+    ensures { IfOk result (λ labels. AreLabels tables.now labels.items) }
 {
-    let mut given = Vec::new(alloc);
-    given.push(None)?;
+    let mut labels = Vec::new(alloc);
+    labels.push(0)?;
     for rule in 0..tables.rules() {
-        given.push(giving(tables.steps(rule)))?;
+        labels.push(label_given(tables.steps(rule)))?;
     }
-    given.push(Some(Step::Echo))?;
-    Ok(given)
+    labels.push(label_of(None))?;
+    Ok(labels)
 }
 
 // The joined table, unless it is too large.
 fn joined_of(alloc: Global, tables: &Tables) -> Result<Option<Joined>, AllocError>
-    ensures { IfOk result (λ joined. ForSome joined (λ j. IsJoined tables.now j.columns.items j.entries.items j.given.items)) }
+    ensures { IfOk result (λ joined. ForSome joined (λ j. IsJoined tables.now j.columns.items j.entries.items j.labels.items)) }
 {
     let width = usize::from(tables.classes());
     let states = usize::from(tables.conditions()) * 2 * (tables.states() as usize + 1);
@@ -275,11 +278,11 @@ fn joined_of(alloc: Global, tables: &Tables) -> Result<Option<Joined>, AllocErro
     }
     let columns = columns_of(alloc, tables)?;
     let entries = entries_of(alloc, tables, states)?;
-    let given = given_of(alloc, tables)?;
+    let labels = labels_of(alloc, tables)?;
     Ok(Some(Joined {
         columns,
         entries,
-        given,
+        labels,
     }))
 }
 

@@ -7,6 +7,7 @@ pub mod examples;
 mod fault;
 pub mod joined;
 pub mod joining;
+pub mod label;
 mod lines;
 pub mod making;
 pub mod printing;
@@ -17,5 +18,6 @@ mod writing;
 
 pub use crate::fault::TableFault;
 pub use crate::joined::{Joined, JoinedState, Transition, UNTOLD};
+pub use crate::label::{ECHO_LABEL, kind_of_label, label_of};
 pub use crate::tables::Tables;
 pub use lx_automaton::State;

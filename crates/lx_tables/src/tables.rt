@@ -32,7 +32,7 @@ impl Model for Tables {
 
     ghost view = { λ t. record { machine = t.automaton; kinds = names_view t.kinds.items; rules = rules_view t.rules.items } };
 
-    ghost invariant = { λ t. IsTable (record { machine = t.automaton; kinds = names_view t.kinds.items; rules = rules_view t.rules.items }) × ForSome t.joined (λ j. IsJoined (record { machine = t.automaton; kinds = names_view t.kinds.items; rules = rules_view t.rules.items }) j.columns.items j.entries.items j.given.items) };
+    ghost invariant = { λ t. IsTable (record { machine = t.automaton; kinds = names_view t.kinds.items; rules = rules_view t.rules.items }) × ForSome t.joined (λ j. IsJoined (record { machine = t.automaton; kinds = names_view t.kinds.items; rules = rules_view t.rules.items }) j.columns.items j.entries.items j.labels.items) };
 }
 
 impl Tables {
@@ -175,7 +175,7 @@ impl Tables {
 
     /// The joined table of the same automaton and rules, if it is kept.
     pub fn joined(&self) -> Option<&Joined>
-        ensures { IfSome result (λ j. IsJoined self.now j.now.columns.items j.now.entries.items j.now.given.items) }
+        ensures { IfSome result (λ j. IsJoined self.now j.now.columns.items j.now.entries.items j.now.labels.items) }
     {
         self.joined.as_ref()
     }

@@ -17,7 +17,7 @@ returns-clause-place c =
     let some : 0 < c.find_ends-run.result.count = omega (arith, c.if-run-eq0.false) in
     let long = length-take-le c.find_ends-run.result.count c.find_ends-run.new.ends c.find_ends-run.ensures.within in
     let appends = run_appends c.args.tables.now c.args.text.now c.args.from (take c.find_ends-run.result.count c.find_ends-run.new.ends) c.find_ends-run.result.condition c.in_ok-offset.offset c.in_ok-offset.line
-    c.args.items.now.items c.push_items.new.items.items (c.find_ends-run.ensures.ends some) (omega arith) c.in_ok-offset.ensures.offset c.in_ok-offset.ensures.line c.in_ok-offset.ensures.items in
+    c.args.items.now c.push_ends.new.self (c.find_ends-run.ensures.ends some) (omega arith) c.in_ok-offset.ensures.offset c.in_ok-offset.ensures.line c.in_ok-offset.ensures.items in
     appends.1
 
 pub returns-clause-items : goal.returns-clause-items
@@ -25,7 +25,7 @@ returns-clause-items c =
     let some : 0 < c.find_ends-run.result.count = omega (arith, c.if-run-eq0.false) in
     let long = length-take-le c.find_ends-run.result.count c.find_ends-run.new.ends c.find_ends-run.ensures.within in
     let appends = run_appends c.args.tables.now c.args.text.now c.args.from (take c.find_ends-run.result.count c.find_ends-run.new.ends) c.find_ends-run.result.condition c.in_ok-offset.offset c.in_ok-offset.line
-    c.args.items.now.items c.push_items.new.items.items (c.find_ends-run.ensures.ends some) (omega arith) c.in_ok-offset.ensures.offset c.in_ok-offset.ensures.line c.in_ok-offset.ensures.items in
+    c.args.items.now c.push_ends.new.self (c.find_ends-run.ensures.ends some) (omega arith) c.in_ok-offset.ensures.offset c.in_ok-offset.ensures.line c.in_ok-offset.ensures.items in
     appends.2
 
 pub returns-clause-further : goal.returns-clause-further
@@ -33,5 +33,5 @@ returns-clause-further c =
     let some : 0 < c.find_ends-run.result.count = omega (arith, c.if-run-eq0.false) in
     let long = length-take-le c.find_ends-run.result.count c.find_ends-run.new.ends c.find_ends-run.ensures.within in
     let appends = run_appends c.args.tables.now c.args.text.now c.args.from (take c.find_ends-run.result.count c.find_ends-run.new.ends) c.find_ends-run.result.condition c.in_ok-offset.offset c.in_ok-offset.line
-    c.args.items.now.items c.push_items.new.items.items (c.find_ends-run.ensures.ends some) (omega arith) c.in_ok-offset.ensures.offset c.in_ok-offset.ensures.line c.in_ok-offset.ensures.items in
+    c.args.items.now c.push_ends.new.self (c.find_ends-run.ensures.ends some) (omega arith) c.in_ok-offset.ensures.offset c.in_ok-offset.ensures.line c.in_ok-offset.ensures.items in
     λ full. appends.0

@@ -5,7 +5,7 @@ use Rattle.lx_scan.proofs.appending.append_runs.Goals as goal
 
 pub returns-then-not-reached-clause-items : goal.returns-then-not-reached-clause-items
 returns-then-not-reached-clause-items c =
-    appends_both c.args.items.now.items c.loop-place.items.items c.append_run.new.items.items (items_after c.args.tables.now c.args.text.now c.args.from) (items_after c.args.tables.now c.args.text.now c.loop-place.place)
+    appends_both c.args.items.now c.loop-place.items c.append_run.new.items (items_after c.args.tables.now c.args.text.now c.args.from) (items_after c.args.tables.now c.args.text.now c.loop-place.place)
     (items_after c.args.tables.now c.args.text.now c.in_ok-reached.reached.place) c.loop-place.invariant.items c.in_ok-reached.ensures.items
 
 pub loop-place-preserved : goal.loop-place-preserved
@@ -16,7 +16,7 @@ loop-place-preserved c =
     let there = c.if-len-most.true in
     record {
       is_place = c.in_ok-reached.ensures.place;
-      items = appends_both c.args.items.now.items c.loop-place.items.items c.append_run.new.items.items (items_after c.args.tables.now c.args.text.now c.args.from) (items_after c.args.tables.now c.args.text.now c.loop-place.place)
+      items = appends_both c.args.items.now c.loop-place.items c.append_run.new.items (items_after c.args.tables.now c.args.text.now c.args.from) (items_after c.args.tables.now c.args.text.now c.loop-place.place)
           (items_after c.args.tables.now c.args.text.now c.in_ok-reached.reached.place) c.loop-place.invariant.items c.in_ok-reached.ensures.items;
       few = omega arith;
     }

@@ -24,7 +24,7 @@ bytes-init c =
     let small = c.type_inv.text place.offset in
     let newline_is : c.newline.result ≡ (if nat_eq byte 10 then 1 else 0)
     = c.newline.ensures.value ∙ ap (λ (xs : List ℕ). if nat_le (slice_index xs 10) (slice_index xs byte) then 1 else 0) c.as_slice-columns.ensures.value
-    ∙ last_column table c.requires.table c.args.joined.now.columns.items c.args.joined.now.entries.items c.args.joined.now.given.items c.requires.joined byte (omega arith) in
+    ∙ last_column table c.requires.table c.args.joined.now.columns.items c.args.joined.now.entries.items c.args.joined.now.labels.items c.requires.joined byte (omega arith) in
     let line_few = c.requires.place.line_few in
     record {
       runs = runs_begun table text place byte (place.line + c.newline.result) c.row-row.result c.requires.place c.requires.more refl
@@ -55,7 +55,7 @@ bytes-preserved c =
     let entry_is : entry ≡ transition_at c.args.joined.now.entries.items (loop.row + slice_index c.args.joined.now.columns.items byte)
     = c.entry_at-entry.ensures ∙ ap (λ (xs : List Transition). transition_at xs (loop.row + slice_index c.as_slice-columns.result.now byte)) entries_are
     ∙ ap (λ (xs : List ℕ). transition_at c.args.joined.now.entries.items (loop.row + slice_index xs byte)) columns_are in
-    let runs = runs_turn table c.requires.table c.args.joined.now.columns.items c.args.joined.now.entries.items c.args.joined.now.given.items c.requires.joined text c.args.place loop.ends loop.count loop.offset loop.line loop.row byte entry c.ending-count.result
+    let runs = runs_turn table c.requires.table c.args.joined.now.columns.items c.args.joined.now.entries.items c.args.joined.now.labels.items c.requires.joined text c.args.place loop.ends loop.count loop.offset loop.line loop.row byte entry c.ending-count.result
     loop.invariant.runs (omega arith) refl (omega arith) entry_is (omega arith) c.if-code-eq-UNTOLD.false c.ending-count.ensures.value in
     let row : (transition_at c.args.joined.now.entries.items (loop.row + slice_index c.args.joined.now.columns.items byte)).row + joined_width table ≤ length c.args.joined.now.entries.items
     = c.requires.joined.rows (loop.row + slice_index c.args.joined.now.columns.items byte) in
@@ -66,7 +66,7 @@ bytes-preserved c =
     let line_one = c.newline-line.ensures.few in
     let newline_is : c.newline-line.result ≡ (if nat_eq byte 10 then 1 else 0)
     = c.newline-line.ensures.value ∙ ap (λ (xs : List ℕ). if nat_le (slice_index xs 10) (slice_index xs byte) then 1 else 0) columns_are
-    ∙ last_column table c.requires.table c.args.joined.now.columns.items c.args.joined.now.entries.items c.args.joined.now.given.items c.requires.joined byte (omega arith) in
+    ∙ last_column table c.requires.table c.args.joined.now.columns.items c.args.joined.now.entries.items c.args.joined.now.labels.items c.requires.joined byte (omega arith) in
     let line_few = loop.invariant.line in
     record {
       runs = subst (λ (n : ℕ). Runs table text c.args.place (take (loop.count + c.ending-count.result) (slice_set loop.ends loop.count (record { code = entry.code; offset = loop.offset; line = loop.line }))) (loop.offset + 1) (loop.line + n) entry.row) (sym newline_is) runs;

@@ -4,7 +4,7 @@ use Rattle.lx_delivery.specs.declared.reader.ReaderFault.{ReaderFault}
 use Rattle.lx_lines.specs.Gathered.{Gathers, gathered}
 use Rattle.lx_lines.specs.Lines.{line_of, lines_of}
 use Rattle.lx_lines.specs.Parts.{WrotePart}
-use Rattle.lx_lines.proofs.HandedOn.{none_placed, part_same}
+use Rattle.lx_lines.proofs.HandedOn.{none_placed, part_of_item, part_same}
 use Rattle.lx_lines.proofs.Parting.{part_first}
 use Rattle.lx_lines.proofs.gathering.Gathering.gather_some.Goals as goal
 
@@ -19,4 +19,5 @@ returns-in_err-gather_line-clause-part g c =
     let same = none_placed (gathered s.held s.has_failed s.sink) placed.new.buffer none ∙ c.self.view_is in
     rw p.1 (subst (λ (fault : ReaderFault). WrotePart (Gathers g.S.LineSink.wrote) c.args.self.now fault (lines_of c.args.plan.now c.args.file items) c.gather_line.new.self) (sym p.2)
     (part_same (Gathers g.S.LineSink.wrote) c.args.self.now (gathered placed.new.buffer s.has_failed s.sink) c.gather_line.new.self _ (lines_of c.args.plan.now c.args.file items) same
-    (part_first (Gathers g.S.LineSink.wrote) lines items _ (gathered placed.new.buffer s.has_failed s.sink) c.gather_line.new.self _ c.requires.some c.in_err-gather_line.ensures.part)))
+    (part_first (Gathers g.S.LineSink.wrote) lines items _ (gathered placed.new.buffer s.has_failed s.sink) c.gather_line.new.self _ c.requires.some
+    (part_of_item (Gathers g.S.LineSink.wrote) lines (gathered placed.new.buffer s.has_failed s.sink) c.gather_line.new.self _ _ _ c.index-items-0.is c.in_err-gather_line.ensures.part))))
