@@ -9,12 +9,12 @@ ghost use Rattle.lx_line.specs.Lines.{lines_of};
 use crate::draft::Draft;
 use crate::place::place_all;
 use lx_plan::Plan;
-use lx_scan::Item;
+use lx_scan::FlatItem;
 use std::alloc::{AllocError, Global};
 use std::marker::Model;
 
 // So many bytes are worth a write.
-const FULL: usize = 65_536;
+const FULL: usize = 131_072;
 
 // A block with more bytes is worth a write of its own.
 const SHORT: usize = 4_096;
@@ -36,7 +36,7 @@ impl Model for LineBuffer {
 
     ghost view = { λ s. take s.len s.bytes.items };
 
-    ghost invariant = { λ s. (length s.bytes.items ≡ 69632) × (s.len ≤ 69632) };
+    ghost invariant = { λ s. (length s.bytes.items ≡ 135168) × (s.len ≤ 135168) };
 }
 
 impl LineBuffer {
@@ -80,7 +80,7 @@ impl LineBuffer {
         draft: &mut Draft,
         plan: &Plan,
         file: u32,
-        items: &[Item],
+        items: &[FlatItem],
     ) -> usize
         requires file { file < files_of plan.now }
         requires items { All (IsItemOf (kinds_of plan.now) (bytes_of plan.now file)) items.now }

@@ -113,23 +113,23 @@ fn writes_long_texts_in_parts(rt: HostRuntime) -> Result<(), Fail> {
     Ok(())
 }
 
-/// The listing of 6,000 Echoes of one byte has 100,890 bytes. Its first 4,134 lines leave together, behind which less room is left in 69,632 bytes
+/// The listing of 9,000 Echoes of one byte has 151,890 bytes. Its first 7,989 lines leave together, behind which less room is left in 135,168 bytes
 /// than a line may take.
 #[test]
 fn gathers_lines_until_they_are_worth_a_write(rt: HostRuntime) -> Result<(), Fail> {
     let alloc = rt.alloc();
     let mut text = Vec::new(alloc);
-    push_times(&mut text, b"h", 6_000)?;
+    push_times(&mut text, b"h", 9_000)?;
     let plan = plan_of(alloc, NO_RULES, &[(text.as_slice(), false)], 256)?;
     let mut wanted = Vec::new(alloc);
     print_listing(alloc, &plan, &mut wanted)?;
-    assert_eq!(rt; wanted.len(), 100_890);
+    assert_eq!(rt; wanted.len(), 151_890);
     for (fails_at, ended) in [(0, Ok(())), (2, Err(RunFault::Reader))] {
         let mut out = failing_writer(alloc, 1_000_000, fails_at, false);
         let answer = list_plan(&rt, alloc, &plan, 0, LineWrites::Whole, &mut out);
         assert!(rt; answer == ended && out.calls == 2);
         assert!(rt; wanted.as_slice().starts_with(out.held.as_slice()));
-        let held = if fails_at == 0 { 100_890 } else { 69_168 };
+        let held = if fails_at == 0 { 151_890 } else { 134_703 };
         assert_eq!(rt; out.held.len(), held);
     }
     Ok(())
