@@ -2,9 +2,9 @@
 
 ghost use Rattle.std.specs.Prelude.{◌≡◌, ◌<◌, ◌≤◌, length};
 
+use crate::asserts::{holds, same};
 use lx_fixtures::piece;
 use lx_piece::{Collector, Mark, Piece, Reply, Why};
-use std::alloc::{AllocError, Global};
 use std::process::Abort;
 
 /// The reply to a piece.
@@ -36,7 +36,7 @@ pub(crate) fn expect_reply(
 )
     ensures { length collector.new.buffers ≡ length collector.old.buffers }
 {
-    assert_eq!(rt; reply_of(collector, offered), wanted);
+    same(rt, &reply_of(collector, offered), &wanted);
 }
 
 /// Asserts that this is delivered next.
@@ -47,7 +47,7 @@ pub(crate) fn expect_delivery(
 )
     ensures { length collector.new.buffers ≡ length collector.old.buffers }
 {
-    assert_eq!(rt; delivered(collector), wanted);
+    same(rt, &delivered(collector), &wanted);
 }
 
 /// The run, file, number and mark of an arrival at a collector of run 1, the reply to it, and what is delivered then, where that is asked for.
@@ -64,21 +64,31 @@ fn expect_deliveries(rt: &impl Abort, collector: &mut Collector, wanted: &[(u32,
 }
 
 /// Asserts that a turn goes so.
-fn expect_turn(rt: &impl Abort, alloc: Global, collector: &mut Collector, turn: &Turn)
+fn expect_turn<R: Abort + AllocGlobal>(rt: &R, collector: &mut Collector, turn: &Turn)
     ensures { length collector.new.buffers ≡ length collector.old.buffers }
 {
     let (run, file, number, mark, reply, delivers) = *turn;
-    expect_reply(rt, collector, piece(alloc, run, file, number, mark), reply);
+    let offered = piece(rt.alloc(), run, file, number, mark);
+    expect_reply(rt, collector, offered, reply);
     if let Some(wanted) = delivers {
         expect_deliveries(rt, collector, wanted);
     }
 }
 
 /// Asserts that the turns go so.
-fn expect_turns(rt: &impl Abort, alloc: Global, collector: &mut Collector, turns: &[Turn]) {
+fn expect_turns<R: Abort + AllocGlobal>(rt: &R, collector: &mut Collector, turns: &[Turn]) {
     for turn in turns {
-        expect_turn(rt, alloc, collector, turn);
+        expect_turn(rt, collector, turn);
     }
+}
+
+/// A collector of run 1 to which nothing came.
+fn fresh_collector<R: Abort + AllocGlobal>(rt: &R, files: u32) -> Collector
+    requires some { 0 < files }
+    requires few { files ≤ 65536 }
+    ensures { length result.buffers ≡ files }
+{
+    Collector::new(rt.alloc(), 1, files).expect(rt, "memory")
 }
 
 const ACCEPTED: Reply = Reply::Accepted;
@@ -101,26 +111,19 @@ const ONE_FILE: &[Turn] = &[
 ];
 
 #[test]
-fn orders_the_pieces_of_a_file(rt: HostRuntime) -> Result<(), AllocError> {
-    let mut collector = Collector::new(rt.alloc(), 1, 1)?;
-    expect_turns(&rt, rt.alloc(), &mut collector, ONE_FILE);
-    assert!(rt; collector.all_closed());
-    Ok(())
+fn orders_the_pieces_of_a_file(rt: HostRuntime) {
+    let mut collector = fresh_collector(&rt, 1);
+    expect_turns(&rt, &mut collector, ONE_FILE);
+    holds(&rt, collector.all_closed(), 1);
 }
 
 /// Asserts that the turns go so in a collector of so many files to which nothing came.
-fn expect_fresh(
-    rt: &impl Abort,
-    alloc: Global,
-    files: u32,
-    turns: &[Turn],
-) -> Result<(), AllocError>
+fn expect_fresh<R: Abort + AllocGlobal>(rt: &R, files: u32, turns: &[Turn])
     requires some { 0 < files }
     requires few { files ≤ 65536 }
 {
-    let mut collector = Collector::new(alloc, 1, files)?;
-    expect_turns(rt, alloc, &mut collector, turns);
-    Ok(())
+    let mut collector = fresh_collector(rt, files);
+    expect_turns(rt, &mut collector, turns);
 }
 
 const WHOLE_BEFORE: &[Turn] = &[
@@ -136,9 +139,9 @@ const CUT_BEFORE: &[Turn] = &[
 ];
 
 #[test]
-fn refuses_a_marked_piece_before_an_accepted_one(rt: HostRuntime) -> Result<(), AllocError> {
-    expect_fresh(&rt, rt.alloc(), 1, WHOLE_BEFORE)?;
-    expect_fresh(&rt, rt.alloc(), 1, CUT_BEFORE)
+fn refuses_a_marked_piece_before_an_accepted_one(rt: HostRuntime) {
+    expect_fresh(&rt, 1, WHOLE_BEFORE);
+    expect_fresh(&rt, 1, CUT_BEFORE);
 }
 
 const TWO_FILES: &[Turn] = &[
@@ -147,8 +150,8 @@ const TWO_FILES: &[Turn] = &[
 ];
 
 #[test]
-fn delivers_the_lowest_file_first(rt: HostRuntime) -> Result<(), AllocError> {
-    expect_fresh(&rt, rt.alloc(), 2, TWO_FILES)
+fn delivers_the_lowest_file_first(rt: HostRuntime) {
+    expect_fresh(&rt, 2, TWO_FILES);
 }
 
 const GREATEST: &[Turn] = &[
@@ -158,23 +161,27 @@ const GREATEST: &[Turn] = &[
 ];
 
 #[test]
-fn refuses_the_greatest_number(rt: HostRuntime) -> Result<(), AllocError> {
-    expect_fresh(&rt, rt.alloc(), 1, GREATEST)
+fn refuses_the_greatest_number(rt: HostRuntime) {
+    expect_fresh(&rt, 1, GREATEST);
 }
 
 /// Of each of three files whether it is closed, and whether it is cut.
 type Ends = [(bool, bool); 3];
 
+/// Whether a file is closed, and whether it is cut.
+fn end_of(collector: &Collector, file: u32) -> (bool, bool)
+    requires { file < length collector.now.buffers }
+{
+    (collector.is_closed(file), collector.is_cut(file))
+}
+
 /// Asserts these of three files.
 fn expect_ends(rt: &impl Abort, collector: &Collector, wanted: &Ends)
     requires { length collector.now.buffers ≡ 3 }
 {
-    let found = [
-        (collector.is_closed(0), collector.is_cut(0)),
-        (collector.is_closed(1), collector.is_cut(1)),
-        (collector.is_closed(2), collector.is_cut(2)),
-    ];
-    assert_eq!(rt; found, *wanted);
+    same(rt, &end_of(collector, 0), &wanted[0]);
+    same(rt, &end_of(collector, 1), &wanted[1]);
+    same(rt, &end_of(collector, 2), &wanted[2]);
 }
 
 const OPEN: (bool, bool) = (false, false);
@@ -202,16 +209,13 @@ const THREE_FILES: &[(Turn, Ends)] = &[
 ];
 
 #[test]
-fn a_file_is_cut_once_its_piece_that_says_so_was_delivered(
-    rt: HostRuntime,
-) -> Result<(), AllocError> {
-    let mut collector = Collector::new(rt.alloc(), 1, 3)?;
+fn a_file_is_cut_once_its_piece_that_says_so_was_delivered(rt: HostRuntime) {
+    let mut collector = fresh_collector(&rt, 3);
     for (turn, ends) in THREE_FILES {
-        expect_turn(&rt, rt.alloc(), &mut collector, turn);
+        expect_turn(&rt, &mut collector, turn);
         expect_ends(&rt, &collector, ends);
     }
-    assert!(rt; collector.all_closed());
-    Ok(())
+    holds(&rt, collector.all_closed(), 3);
 }
 
 /// What the plain program below keeps of an accepted piece.
@@ -320,9 +324,21 @@ fn raised(counts: (u64, u64), file: u32) -> (u64, u64) {
     }
 }
 
+/// Asserts that this is delivered next in a list of arrivals.
+fn expect_delivered(
+    rt: &impl Abort,
+    collector: &mut Collector,
+    wanted: Option<(u32, u64)>,
+    list: u32,
+)
+    ensures { length collector.new.buffers ≡ length collector.old.buffers }
+{
+    holds(rt, delivered(collector) == wanted, u64::from(list));
+}
+
 /// Asserts that all is delivered as defined, where so many pieces of each file were, and gives how many then are.
-fn delivers_as_defined<R: Abort>(
-    rt: &R,
+fn delivers_as_defined(
+    rt: &impl Abort,
     collector: &mut Collector,
     accepted: &[Accepted],
     counts: (u64, u64),
@@ -333,7 +349,7 @@ fn delivers_as_defined<R: Abort>(
     let mut counts = counts;
     for _delivery in 0..4 {
         let delivery = plain_delivery(accepted, counts);
-        assert_eq!(rt; delivered(collector), delivery, "in {list}");
+        expect_delivered(rt, collector, delivery, list);
         if let Some((file, _)) = delivery {
             counts = raised(counts, file);
         }
@@ -341,14 +357,9 @@ fn delivers_as_defined<R: Abort>(
     counts
 }
 
-/// Asserts this of the end of a file.
-fn expect_end(rt: &impl Abort, found: (bool, bool), wanted: (bool, bool), list: u32) {
-    assert_eq!(rt; found, wanted, "in {list}");
-}
-
-/// Asserts of both files whether they are closed and whether they are cut, where so many of their pieces were delivered.
-fn ends_as_defined<R: Abort>(
-    rt: &R,
+/// Asserts that the two files are closed and cut as defined.
+fn ends_as_defined(
+    rt: &impl Abort,
     collector: &Collector,
     accepted: &[Accepted],
     counts: (u64, u64),
@@ -356,76 +367,78 @@ fn ends_as_defined<R: Abort>(
 )
     requires { length collector.now.buffers ≡ 2 }
 {
-    let first = (collector.is_closed(0), collector.is_cut(0));
-    expect_end(rt, first, plain_end(accepted, 0, counts.0), list);
-    let second = (collector.is_closed(1), collector.is_cut(1));
-    expect_end(rt, second, plain_end(accepted, 1, counts.1), list);
+    let (first, second) = counts;
+    let list = u64::from(list);
+    holds(
+        rt,
+        end_of(collector, 0) == plain_end(accepted, 0, first),
+        list,
+    );
+    holds(
+        rt,
+        end_of(collector, 1) == plain_end(accepted, 1, second),
+        list,
+    );
 }
 
 /// Asserts that an arrival is answered as defined, and adds it to those that are accepted if it is.
-fn answers_as_defined<R: Abort>(
+fn answers_as_defined<R: Abort + AllocGlobal>(
     rt: &R,
-    alloc: Global,
     collector: &mut Collector,
     accepted: &mut Vec<Accepted>,
     arrived: (u64, Accepted),
     list: u32,
-) -> Result<(), AllocError>
+)
     ensures { length collector.new.buffers ≡ length collector.old.buffers }
 {
     let (run, next) = arrived;
     let wanted = plain_reply(accepted, run, next);
-    let offered = piece(alloc, run, next.file, next.number, next.mark);
-    assert_eq!(rt; reply_of(collector, offered), wanted, "in {list}");
+    let offered = piece(rt.alloc(), run, next.file, next.number, next.mark);
+    holds(rt, reply_of(collector, offered) == wanted, u64::from(list));
     if wanted == Reply::Accepted {
-        accepted.push(next)?;
+        accepted.push(next).expect(rt, "memory");
     }
-    Ok(())
 }
 
 /// Offers the six arrivals that a number spells, and delivers all after each, or only after the last.
-fn six_turns<R: Abort>(
+fn six_turns<R: Abort + AllocGlobal>(
     rt: &R,
-    alloc: Global,
     collector: &mut Collector,
     list: u32,
     delivers_at_once: bool,
-) -> Result<(), AllocError>
+)
     requires { length collector.old.buffers ≡ 2 }
 {
-    let mut accepted = Vec::new(alloc);
+    let mut accepted = Vec::new(rt.alloc());
     let mut counts = (0, 0);
     let mut rest = list;
     for turn in 0..6 {
         let next = arrival(rest % 5, turn);
         rest /= 5;
-        answers_as_defined(rt, alloc, collector, &mut accepted, next, list)?;
+        answers_as_defined(rt, collector, &mut accepted, next, list);
         if delivers_at_once || turn == 5 {
             counts = delivers_as_defined(rt, collector, &accepted, counts, list);
         }
         ends_as_defined(rt, collector, &accepted, counts, list);
     }
-    Ok(())
 }
 
 /// Offers them to a collector of two files to which nothing came.
-fn compares_with_the_plain_program<R: Abort>(
+fn compares_with_the_plain_program<R: Abort + AllocGlobal>(
     rt: &R,
-    alloc: Global,
     list: u32,
     delivers_at_once: bool,
-) -> Result<(), AllocError> {
-    let mut collector = Collector::new(alloc, 1, 2)?;
-    six_turns(rt, alloc, &mut collector, list, delivers_at_once)
+) {
+    let mut collector = fresh_collector(rt, 2);
+    six_turns(rt, &mut collector, list, delivers_at_once);
 }
 
 #[test]
-fn answers_every_list_of_six_arrivals_as_defined(rt: HostRuntime) -> Result<(), AllocError> {
+fn answers_every_list_of_six_arrivals_as_defined(rt: HostRuntime) {
     for list in 0..15_625 {
-        compares_with_the_plain_program(&rt, rt.alloc(), list, true)?;
+        compares_with_the_plain_program(&rt, list, true);
     }
     for list in 0..3_125 {
-        compares_with_the_plain_program(&rt, rt.alloc(), list, false)?;
+        compares_with_the_plain_program(&rt, list, false);
     }
-    Ok(())
 }

@@ -9,7 +9,12 @@ const TURNS: u32 = 10_000_000;
 
 /// Whether all of these flags are set, but for the one at this index.
 fn are_set(flags: &[AtomicBool], but: usize) -> bool {
-    flags.iter().enumerate().all(|(index, flag)| index == but || flag.load(Ordering::SeqCst))
+    for (index, flag) in flags.iter().enumerate() {
+        if index != but && !flag.load(Ordering::SeqCst) {
+            return false;
+        }
+    }
+    true
 }
 
 /// Turns until all of these flags are set, but for the one at this index. False where the limit is met.

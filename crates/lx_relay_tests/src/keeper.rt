@@ -1,10 +1,10 @@
 //! A reader that keeps what it takes.
 
-ghost use Rattle.std.specs.Prelude.{◌≡◌, IfOk, length, replicate};
+ghost use Rattle.std.specs.Prelude.{◌≡◌, length, replicate};
 ghost use Rattle.lx_plan.specs.Plans.{files_of};
 
 use lx_piece::{Piece, Plan, Reader, ReaderFault};
-use std::alloc::{AllocError, Global};
+use std::process::Abort;
 use std::sync::atomic::{AtomicBool, Ordering};
 
 /// A reader that keeps the pieces that it takes, and fails at each call behind the first so many.
@@ -22,64 +22,37 @@ pub(crate) struct Keeper<'a> {
     ghost each_count: { length counts.items ≡ files_of plan.now },
 }
 
-/// A keeper that has taken nothing.
-fn keeper_of<'a>(
-    alloc: Global,
+/// A keeper that takes so many pieces, then fails so, and says of the first files when it took the last piece.
+pub(crate) fn keeper_of<'a, R: Abort + AllocGlobal>(
+    rt: &R,
     plan: &'a Plan,
     room: u64,
     fault: ReaderFault,
     closed: &'a [AtomicBool],
-) -> Result<Keeper<'a>, AllocError>
-    ensures plan { IfOk result (λ keeper. keeper.plan.now ≡ plan.now) }
-    ensures counts { IfOk result (λ keeper. keeper.counts.items ≡ replicate (files_of plan.now) 0) }
-    ensures faults { IfOk result (λ keeper. keeper.faults ≡ 0) }
+) -> Keeper<'a>
+    ensures plan { result.plan.now ≡ plan.now }
+    ensures counts { result.counts.items ≡ replicate (files_of plan.now) 0 }
+    ensures faults { result.faults ≡ 0 }
 {
-    Ok(Keeper {
+    Keeper {
         plan,
-        counts: vec![in alloc; 0; plan.files() as usize]?,
-        pieces: Vec::new(alloc),
+        counts: vec![in rt.alloc(); 0; plan.files() as usize].expect(rt, "memory"),
+        pieces: Vec::new(rt.alloc()),
         calls: 0,
         room,
         fault,
         faults: 0,
         closed,
-    })
+    }
 }
 
 /// A keeper that takes all pieces.
-pub(crate) fn fresh_keeper(alloc: Global, plan: &Plan) -> Result<Keeper<'_>, AllocError>
-    ensures plan { IfOk result (λ keeper. keeper.plan.now ≡ plan.now) }
-    ensures counts { IfOk result (λ keeper. keeper.counts.items ≡ replicate (files_of plan.now) 0) }
-    ensures faults { IfOk result (λ keeper. keeper.faults ≡ 0) }
+pub(crate) fn fresh_keeper<'a, R: Abort + AllocGlobal>(rt: &R, plan: &'a Plan) -> Keeper<'a>
+    ensures plan { result.plan.now ≡ plan.now }
+    ensures counts { result.counts.items ≡ replicate (files_of plan.now) 0 }
+    ensures faults { result.faults ≡ 0 }
 {
-    keeper_of(alloc, plan, u64::MAX, ReaderFault::Device, &[])
-}
-
-/// A keeper that takes so many pieces, and then fails so.
-pub(crate) fn failing_keeper(
-    alloc: Global,
-    plan: &Plan,
-    room: u64,
-    fault: ReaderFault,
-) -> Result<Keeper<'_>, AllocError>
-    ensures plan { IfOk result (λ keeper. keeper.plan.now ≡ plan.now) }
-    ensures counts { IfOk result (λ keeper. keeper.counts.items ≡ replicate (files_of plan.now) 0) }
-    ensures faults { IfOk result (λ keeper. keeper.faults ≡ 0) }
-{
-    keeper_of(alloc, plan, room, fault, &[])
-}
-
-/// A keeper that takes all pieces, and says of the first files when it took the last piece.
-pub(crate) fn telling_keeper<'a>(
-    alloc: Global,
-    plan: &'a Plan,
-    closed: &'a [AtomicBool],
-) -> Result<Keeper<'a>, AllocError>
-    ensures plan { IfOk result (λ keeper. keeper.plan.now ≡ plan.now) }
-    ensures counts { IfOk result (λ keeper. keeper.counts.items ≡ replicate (files_of plan.now) 0) }
-    ensures faults { IfOk result (λ keeper. keeper.faults ≡ 0) }
-{
-    keeper_of(alloc, plan, u64::MAX, ReaderFault::Device, closed)
+    keeper_of(rt, plan, u64::MAX, ReaderFault::Device, &[])
 }
 
 impl<'a> Reader for Keeper<'a> {

@@ -4,6 +4,7 @@
 ghost use Rattle.std.specs.Prelude.{◌<◌};
 ghost use Rattle.lx_plan.specs.Cutting.{IsCutterOf};
 
+use crate::asserts::{holds, same};
 use crate::collector::{expect_delivery, expect_reply};
 use crate::plans::echo_plan;
 use crate::relay::{fresh_tally, relay_list};
@@ -31,9 +32,9 @@ fn with_item(alloc: Global, file: u32, number: u32, mark: Mark) -> Result<Piece,
 
 /// Asserts that a piece is that of `with_item`.
 fn expect_with_item(rt: &impl Abort, piece: &Piece, file: u32, number: u64, mark: Mark) {
-    assert_eq!(rt; head(piece), (1, file, number, mark));
+    same(rt, &head(piece), &(1, file, number, mark));
     let item = echo(1, number as usize);
-    assert_eq!(rt; piece.items.as_slice(), [item].as_slice());
+    same(rt, &piece.items.as_slice(), &[item].as_slice());
 }
 
 /// Offers a piece of `with_item`. Where it comes back, it is for want of memory, and whole.
@@ -42,7 +43,7 @@ fn offer_again(rt: &impl Abort, collector: &mut Collector, offered: Piece) -> Op
     match collector.offer(offered) {
         Ok(()) => None,
         Err(Refused { why, piece }) => {
-            assert!(rt; why == Why::Memory);
+            same(rt, &why, &Why::Memory);
             expect_with_item(rt, &piece, file, number, mark);
             Some(piece)
         }
@@ -60,7 +61,7 @@ fn expect_files(rt: &impl Abort, collector: &mut Collector, from: u32, to: u32) 
 #[test]
 fn a_collector_is_made_or_memory_was_refused(rt: HostRuntime) {
     if Collector::new(rt.alloc(), 1, MANY).is_err() {
-        assert!(rt; Collector::new(rt.alloc(), 1, MANY).is_ok());
+        holds(&rt, Collector::new(rt.alloc(), 1, MANY).is_ok(), 0);
     }
 }
 
@@ -80,7 +81,7 @@ fn offer_file(
         None => Ok(end),
         Some(piece) => {
             expect_files(rt, collector, file + 1, end);
-            assert!(rt; !collector.all_closed());
+            holds(rt, !collector.all_closed(), u64::from(file));
             expect_reply(rt, collector, piece, Reply::Accepted);
             Ok(file + 1)
         }
@@ -107,7 +108,7 @@ fn a_file_whose_piece_came_back_has_none_to_deliver(rt: HostRuntime) {
     };
     if let Ok(end) = offer_files(&rt, rt.alloc(), &mut collector) {
         expect_files(&rt, &mut collector, 0, end);
-        assert!(rt; collector.all_closed());
+        holds(&rt, collector.all_closed(), 0);
     }
 }
 
@@ -148,7 +149,7 @@ fn expect_numbers(rt: &impl Abort, collector: &mut Collector) {
         expect_delivery(rt, collector, Some((0, u64::from(number))));
     }
     expect_delivery(rt, collector, None);
-    assert!(rt; collector.all_closed());
+    holds(rt, collector.all_closed(), 0);
 }
 
 #[test]
@@ -159,6 +160,12 @@ fn a_number_that_came_back_is_not_held(rt: HostRuntime) {
     if offer_numbers(&rt, rt.alloc(), &mut collector).is_ok() {
         expect_numbers(&rt, &mut collector);
     }
+}
+
+/// Asserts a piece's number, how many items it has, and its mark.
+fn expect_cut(rt: &impl Abort, piece: &Piece, number: u64, len: usize, mark: Mark) {
+    let found = (piece.number, piece.items.as_slice().len(), piece.mark);
+    same(rt, &found, &(number, len, mark));
 }
 
 /// The cutter's next piece, at the second try where memory was refused at the first.
@@ -178,11 +185,8 @@ fn expect_piece<R: Abort>(
         next => next,
     };
     match next {
-        Ok(Some(piece)) => assert_eq!(rt;
-            (piece.number, piece.items.as_slice().len(), piece.mark),
-            (number, len, mark)
-        ),
-        _ => assert!(rt; false, "piece {number}"),
+        Ok(Some(piece)) => expect_cut(rt, &piece, number, len, mark),
+        _ => holds(rt, false, number),
     }
 }
 
@@ -193,7 +197,7 @@ fn expect_three(rt: &impl Abort, alloc: Global, plan: &Plan) {
     expect_piece(rt, &mut cutter, plan, 0, 256, Mark::More);
     expect_piece(rt, &mut cutter, plan, 1, 256, Mark::More);
     expect_piece(rt, &mut cutter, plan, 2, 88, Mark::Whole);
-    assert!(rt; matches!(cutter.next_piece(plan), Ok(None)));
+    holds(rt, matches!(cutter.next_piece(plan), Ok(None)), 3);
 }
 
 #[test]
@@ -235,8 +239,8 @@ fn is_front(taken: &[u64]) -> bool {
 
 /// Asserts that a relay of all six pieces accepted and took each.
 fn expect_whole(rt: &impl Abort, replies: &[Reply], taken: &[u64]) {
-    assert_eq!(rt; replies, [Reply::Accepted; 6].as_slice());
-    assert_eq!(rt; taken, [3, 1, 2].as_slice());
+    same(rt, &replies, &[Reply::Accepted; 6].as_slice());
+    same(rt, &taken, &[3, 1, 2].as_slice());
 }
 
 /// Asserts that a relay took all, or a part for want of memory.
@@ -251,7 +255,7 @@ fn expect_relayed(
             Outcome::Whole
         }
         Err(fault) => {
-            assert!(rt; fault == RelayFault::Memory && is_front(taken));
+            holds(rt, fault == RelayFault::Memory && is_front(taken), 0);
             Outcome::Part
         }
     }
@@ -272,7 +276,7 @@ fn relay_three(rt: &impl Abort, alloc: Global, plan: &Plan) -> Outcome {
 /// Relays them, and all again where only a part was taken.
 fn relay_again(rt: &impl Abort, alloc: Global, plan: &Plan) {
     if relay_three(rt, alloc, plan) == Outcome::Part {
-        assert_eq!(rt; relay_three(rt, alloc, plan), Outcome::Whole);
+        same(rt, &relay_three(rt, alloc, plan), &Outcome::Whole);
     }
 }
 

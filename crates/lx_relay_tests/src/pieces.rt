@@ -3,12 +3,12 @@
 ghost use Rattle.std.specs.Prelude.{◌<◌, ◌≤◌, length};
 ghost use Rattle.lx_plan.specs.Cutting.{IsCutterOf};
 
-use crate::plans::{echo_plan, plan_of};
+use crate::asserts::{holds, same};
+use crate::plans::{echoes, plan_of};
 use lx_fixtures::{MIXED_FILES, MIXED_RULES, THREE_RULES, TWO_WORDS, last_file_first};
 use lx_piece::{Cutter, Mark, Piece, Plan};
 use lx_scan::Item;
 use lx_spec::Kind;
-use std::alloc::{AllocError, Global};
 use std::process::Abort;
 
 /// An item's kind, `None` for an Echo, its line, its first byte and how many bytes it has.
@@ -49,38 +49,45 @@ fn shape(piece: &Piece) -> Shape {
     )
 }
 
-fn shapes(alloc: Global, pieces: &[Piece]) -> Result<Vec<Shape>, AllocError> {
-    let mut found = Vec::new(alloc);
-    for piece in pieces {
-        found.push(shape(piece))?;
+/// Asserts that these pieces have these shapes.
+fn expect_shapes(rt: &impl Abort, pieces: &[Piece], wanted: &[Shape]) {
+    same(rt, &pieces.len(), &wanted.len());
+    for (piece, wanted) in pieces.iter().zip(wanted) {
+        same(rt, &shape(piece), wanted);
     }
-    Ok(found)
 }
 
 /// Asserts that the pieces of a plan, the last file first, have these shapes.
-fn expect(rt: &impl Abort, alloc: Global, plan: &Plan, wanted: &[Shape]) -> Result<(), AllocError> {
-    let pieces = last_file_first(alloc, plan)?;
-    let found = shapes(alloc, &pieces)?;
-    assert_eq!(rt; found.as_slice(), wanted);
-    Ok(())
+fn expect<R: Abort + AllocGlobal>(rt: &R, plan: &Plan, wanted: &[Shape]) {
+    let pieces = last_file_first(rt.alloc(), plan).expect(rt, "memory");
+    expect_shapes(rt, &pieces, wanted);
 }
 
-/// Asserts it of the plan of such files by the tables of a specification.
-fn expect_of(
-    rt: &impl Abort,
-    alloc: Global,
-    spec: &str,
-    files: &[(&[u8], bool)],
-    per_piece: u32,
-    wanted: &[Shape],
-) -> Result<(), AllocError>
+/// The plan of such files by the tables of a specification.
+fn made<R: Abort + AllocGlobal>(rt: &R, spec: &str, files: &[(&[u8], bool)], per_piece: u32) -> Plan
     requires some_files { 0 < length files.now }
     requires few_files { length files.now ≤ 65536 }
     requires some_items { 0 < per_piece }
     requires few_items { per_piece ≤ 4096 }
 {
-    let plan = plan_of(alloc, spec, files, per_piece)?;
-    expect(rt, alloc, &plan, wanted)
+    plan_of(rt.alloc(), spec, files, per_piece).expect(rt, "memory")
+}
+
+/// Asserts it of the plan of such files by the tables of a specification.
+fn expect_of<R: Abort + AllocGlobal>(
+    rt: &R,
+    spec: &str,
+    files: &[(&[u8], bool)],
+    per_piece: u32,
+    wanted: &[Shape],
+)
+    requires some_files { 0 < length files.now }
+    requires few_files { length files.now ≤ 65536 }
+    requires some_items { 0 < per_piece }
+    requires few_items { per_piece ≤ 4096 }
+{
+    let plan = made(rt, spec, files, per_piece);
+    expect(rt, &plan, wanted);
 }
 
 const ECHO: Option<Kind> = None;
@@ -154,9 +161,8 @@ const MIXED: &[Shape] = &[
 ];
 
 #[test]
-fn the_last_piece_of_a_file_is_marked(rt: HostRuntime) -> Result<(), AllocError> {
-    let files = MIXED_FILES.as_slice();
-    expect_of(&rt, rt.alloc(), MIXED_RULES, files, 2, MIXED)
+fn the_last_piece_of_a_file_is_marked(rt: HostRuntime) {
+    expect_of(&rt, MIXED_RULES, MIXED_FILES.as_slice(), 2, MIXED);
 }
 
 /// The pieces of files of 256, 257, 512 and no Echoes.
@@ -205,9 +211,9 @@ const FULL: &[Shape] = &[
 ];
 
 #[test]
-fn cuts_files_into_full_pieces_and_a_rest(rt: HostRuntime) -> Result<(), AllocError> {
-    let plan = echo_plan(rt.alloc(), &[256, 257, 512, 0], 256)?;
-    expect(&rt, rt.alloc(), &plan, FULL)
+fn cuts_files_into_full_pieces_and_a_rest(rt: HostRuntime) {
+    let plan = echoes(&rt, &[256, 257, 512, 0], 256);
+    expect(&rt, &plan, FULL);
 }
 
 /// Two words in a file with skipped text behind them, which was read to its end.
@@ -250,18 +256,15 @@ const CUT_WORDS: &[Shape] = &[
     ),
 ];
 
+/// The two words in a file that was read to its end, and in one that wasn't.
+const WHOLE_FILE: &[(&[u8], bool)] = &[(TWO_WORDS, false)];
+
+const CUT_FILE: &[(&[u8], bool)] = &[(TWO_WORDS, true)];
+
 #[test]
-fn the_last_piece_is_marked_though_skipped_text_follows(rt: HostRuntime) -> Result<(), AllocError> {
-    let alloc = rt.alloc();
-    expect_of(
-        &rt,
-        alloc,
-        THREE_RULES,
-        &[(TWO_WORDS, false)],
-        1,
-        WHOLE_WORDS,
-    )?;
-    expect_of(&rt, alloc, THREE_RULES, &[(TWO_WORDS, true)], 1, CUT_WORDS)
+fn the_last_piece_is_marked_though_skipped_text_follows(rt: HostRuntime) {
+    expect_of(&rt, THREE_RULES, WHOLE_FILE, 1, WHOLE_WORDS);
+    expect_of(&rt, THREE_RULES, CUT_FILE, 1, CUT_WORDS);
 }
 
 /// A rule whose action gives three items.
@@ -294,82 +297,55 @@ const TWO_MATCHES: &[Shape] = &[
     ),
 ];
 
+/// A file that they match twice.
+const TWICE: &[(&[u8], bool)] = &[(b"aa", false)];
+
 #[test]
-fn the_items_of_one_action_lie_in_two_pieces(rt: HostRuntime) -> Result<(), AllocError> {
-    expect_of(
-        &rt,
-        rt.alloc(),
-        THREE_ITEMS,
-        &[(b"aa", false)],
-        2,
-        TWO_MATCHES,
-    )
+fn the_items_of_one_action_lie_in_two_pieces(rt: HostRuntime) {
+    expect_of(&rt, THREE_ITEMS, TWICE, 2, TWO_MATCHES);
 }
 
 /// Asserts whether a cutter gives a piece.
-fn gives<R: Abort>(rt: &R, plan: &Plan, cutter: &mut Cutter, wanted: bool) -> Result<(), AllocError>
+fn gives<R: Abort>(rt: &R, plan: &Plan, cutter: &mut Cutter, wanted: bool)
     requires { IsCutterOf plan.now cutter.old }
     ensures { IsCutterOf plan.now cutter.new }
 {
-    match cutter.next_piece(plan) {
-        Ok(piece) => {
-            assert!(rt; piece.is_some() == wanted);
-            Ok(())
-        }
-        Err(AllocError) => Err(AllocError),
-    }
+    let piece = cutter.next_piece(plan).expect(rt, "memory");
+    holds(rt, piece.is_some() == wanted, 0);
 }
 
 /// Asserts that a cutter gives this many pieces, and then none, however often it is asked.
-fn ends_behind<R: Abort>(
-    rt: &R,
-    plan: &Plan,
-    cutter: &mut Cutter,
-    pieces: u32,
-) -> Result<(), AllocError>
+fn ends_behind<R: Abort>(rt: &R, plan: &Plan, cutter: &mut Cutter, pieces: u32)
     requires { IsCutterOf plan.now cutter.old }
 {
     for _piece in 0..pieces {
-        gives(rt, plan, cutter, true)?;
+        gives(rt, plan, cutter, true);
     }
     for _time in 0..3 {
-        gives(rt, plan, cutter, false)?;
+        gives(rt, plan, cutter, false);
     }
-    Ok(())
 }
 
 /// Asserts it of the cutter of a plan's first file.
-fn first_ends_behind(
-    rt: &impl Abort,
-    alloc: Global,
-    plan: &Plan,
-    pieces: u32,
-) -> Result<(), AllocError> {
+fn first_ends_behind<R: Abort + AllocGlobal>(rt: &R, plan: &Plan, pieces: u32) {
     let _files = plan.files();
-    let mut cutter = Cutter::new(alloc, plan, 0);
-    ends_behind(rt, plan, &mut cutter, pieces)
+    let mut cutter = Cutter::new(rt.alloc(), plan, 0);
+    ends_behind(rt, plan, &mut cutter, pieces);
 }
 
 /// Asserts it of a file of these bytes by the three rules, in pieces of one item.
-fn file_ends_behind(
-    rt: &impl Abort,
-    alloc: Global,
-    bytes: &[u8],
-    cut: bool,
-    pieces: u32,
-) -> Result<(), AllocError> {
-    let plan = plan_of(alloc, THREE_RULES, &[(bytes, cut)], 1)?;
-    first_ends_behind(rt, alloc, &plan, pieces)
+fn file_ends_behind<R: Abort + AllocGlobal>(rt: &R, bytes: &[u8], cut: bool, pieces: u32) {
+    let plan = made(rt, THREE_RULES, &[(bytes, cut)], 1);
+    first_ends_behind(rt, &plan, pieces);
 }
 
 /// Files, and how many pieces of one item each has.
 const COUNTED: &[(&[u8], u32)] = &[(b"", 1), (b"a1a", 3), (b"a1a ", 3)];
 
 #[test]
-fn behind_the_last_piece_a_cutter_gives_none(rt: HostRuntime) -> Result<(), AllocError> {
+fn behind_the_last_piece_a_cutter_gives_none(rt: HostRuntime) {
     for (bytes, pieces) in COUNTED {
-        file_ends_behind(&rt, rt.alloc(), bytes, false, *pieces)?;
-        file_ends_behind(&rt, rt.alloc(), bytes, true, *pieces)?;
+        file_ends_behind(&rt, bytes, false, *pieces);
+        file_ends_behind(&rt, bytes, true, *pieces);
     }
-    Ok(())
 }

@@ -5,6 +5,7 @@ ghost use Rattle.std.specs.Prelude.{◌≡◌, ◌<◌, ◌≤◌, IfOk, length,
 use lx_fixtures::{NO_RULES, inputs, tables_of};
 use lx_piece::{Input, Plan};
 use std::alloc::{AllocError, Global};
+use std::process::Abort;
 
 /// The plan of run 1 of these files by the tables of a specification.
 pub(crate) fn plan_by(
@@ -64,4 +65,14 @@ pub(crate) fn plan_of(
 {
     let files = inputs(alloc, files)?;
     plan_by(alloc, spec, files, per_piece)
+}
+
+/// The plan of files of so many Echoes. Where there is no memory for it, the test ends there.
+pub(crate) fn echoes<R: Abort + AllocGlobal>(rt: &R, lens: &[usize], per_piece: u32) -> Plan
+    requires some_files { 0 < length lens.now }
+    requires few_files { length lens.now ≤ 65536 }
+    requires some_items { 0 < per_piece }
+    requires few_items { per_piece ≤ 4096 }
+{
+    echo_plan(rt.alloc(), lens, per_piece).expect(rt, "memory")
 }

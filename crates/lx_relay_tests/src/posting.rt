@@ -1,15 +1,15 @@
 //! A post, used from one thread: what is sent comes in order, and all is given back that can't be finished yet.
 
-ghost use Rattle.std.specs.Prelude.{◌≡◌, ◌<◌, All, IfOk};
+ghost use Rattle.std.specs.Prelude.{◌≡◌, ◌<◌, All};
 ghost use Rattle.lx_plan.specs.Pieces.{IsPieceOf};
 ghost use Rattle.lx_plan.specs.Plans.{files_of};
 ghost use Rattle.lx_notes.specs.Posted.{IsSendPassOf, IsTakePassOf, fresh_send, fresh_take};
 
-use crate::plans::echo_plan;
+use crate::asserts::{holds, same};
+use crate::plans::echoes;
 use lx_fixtures::first_piece;
 use lx_piece::{Arrivals, Piece, Plan};
 use lx_post::{Note, Post, PostArrivals, SendPass, TakePass, Unfinished, WorkerFault, finish};
-use std::alloc::{AllocError, Global};
 use std::process::Abort;
 use std::sync::Wait;
 
@@ -49,25 +49,24 @@ fn receives<R: Wait + Abort>(rt: &R, post: &Post, take: &mut TakePass, wanted: O
     requires { IsTakePassOf post.now take.old }
     ensures { IsTakePassOf post.now take.new }
 {
-    assert_eq!(rt; received(rt, post, take), wanted);
+    same(rt, &received(rt, post, take), &wanted);
 }
 
 /// A post of two workers with room for so many notes, the pass of each, and the one to receive with.
-fn post_of_two<R: Wait>(
+fn post_of_two<R: Wait + Abort + AllocGlobal>(
     rt: &R,
-    alloc: Global,
     plan: &Plan,
     room: usize,
-) -> Result<(Post, SendPass, SendPass, TakePass), AllocError>
+) -> (Post, SendPass, SendPass, TakePass)
     requires room { 0 < room }
-    ensures post { IfOk result (λ made. made.0.workers ≡ 2) }
-    ensures first { IfOk result (λ made. made.1 ≡ fresh_send made.0 plan.now 0) }
-    ensures second { IfOk result (λ made. made.2 ≡ fresh_send made.0 plan.now 1) }
-    ensures take { IfOk result (λ made. made.3 ≡ fresh_take made.0 plan.now) }
+    ensures post { result.0.workers ≡ 2 }
+    ensures first { result.1 ≡ fresh_send result.0 plan.now 0 }
+    ensures second { result.2 ≡ fresh_send result.0 plan.now 1 }
+    ensures take { result.3 ≡ fresh_take result.0 plan.now }
 {
-    let (post, mut passes, take) = Post::new(rt, alloc, plan, 2, room)?;
+    let (post, mut passes, take) = Post::new(rt, rt.alloc(), plan, 2, room).expect(rt, "memory");
     match (passes.pop(), passes.pop()) {
-        (Some(second), Some(first)) => Ok((post, first, second, take)),
+        (Some(second), Some(first)) => (post, first, second, take),
         _ => unreachable!(),
     }
 }
@@ -83,46 +82,39 @@ fn end(worker: u8, files: u32) -> Note
     }
 }
 
-/// A post that isn't finished, its pass to receive with, and those of its workers.
-type Back = (Post, TakePass, Vec<SendPass>);
-
 /// Asserts that a post doesn't finish with these passes, and gives all back.
 fn stays_unfinished<R: Wait + Abort>(
     rt: &R,
     post: Post,
     take: TakePass,
     passes: Vec<SendPass>,
-) -> Result<Back, AllocError>
+) -> (Post, TakePass, Vec<SendPass>)
     requires take { IsTakePassOf post take }
     requires passes { All (λ pass. IsSendPassOf post pass) passes.items }
-    ensures { IfOk result (λ back. (back.0 ≡ post) × (back.1 ≡ take) × (back.2 ≡ passes)) }
+    ensures { (result.0 ≡ post) × (result.1 ≡ take) × (result.2 ≡ passes) }
 {
     match finish(rt, post, take, passes) {
-        Ok(()) => {
-            assert!(rt; false, "finished too early");
-            Err(AllocError)
-        }
-        Err(Unfinished { post, pass, passes }) => Ok((post, pass, passes)),
+        Ok(()) => panic!(rt; "finished too early"),
+        Err(Unfinished { post, pass, passes }) => (post, pass, passes),
     }
 }
 
 /// Asserts that a post doesn't finish with the passes of both its workers, and gives all back.
-fn both_stay_unfinished<R: Wait + Abort>(
+fn both_stay_unfinished<R: Wait + Abort + AllocGlobal>(
     rt: &R,
-    alloc: Global,
     post: Post,
     take: TakePass,
     first: SendPass,
     second: SendPass,
-) -> Result<(Post, TakePass, SendPass, SendPass), AllocError>
+) -> (Post, TakePass, SendPass, SendPass)
     requires take { IsTakePassOf post take }
     requires passes { IsSendPassOf post first × IsSendPassOf post second }
-    ensures { IfOk result (λ back. (back.0 ≡ post) × (back.1 ≡ take) × (back.2 ≡ first) × (back.3 ≡ second)) }
+    ensures { (result.0 ≡ post) × (result.1 ≡ take) × (result.2 ≡ first) × (result.3 ≡ second) }
 {
-    let passes = Vec::from_array(alloc, [first, second])?;
-    let (post, take, mut passes) = stays_unfinished(rt, post, take, passes)?;
+    let passes = Vec::from_array(rt.alloc(), [first, second]).expect(rt, "memory");
+    let (post, take, mut passes) = stays_unfinished(rt, post, take, passes);
     match (passes.pop(), passes.pop()) {
-        (Some(second), Some(first)) => Ok((post, take, first, second)),
+        (Some(second), Some(first)) => (post, take, first, second),
         _ => unreachable!(),
     }
 }
@@ -147,83 +139,76 @@ fn send_by_first<R: Wait + Abort>(
     receives(rt, post, take, Some(Saying::End(0, 1, None)));
 }
 
+/// Asserts that a post finishes with these passes.
+fn finishes<R: Wait + Abort>(rt: &R, post: Post, take: TakePass, passes: Vec<SendPass>)
+    requires take { IsTakePassOf post take }
+    requires passes { All (λ pass. IsSendPassOf post pass) passes.items }
+{
+    holds(rt, finish(rt, post, take, passes).is_ok(), 0);
+}
+
 /// Asserts that a post doesn't finish with the pass of its first worker alone, and that it does with both.
-fn finishes_with_both<R: Wait + Abort>(
+fn finishes_with_both<R: Wait + Abort + AllocGlobal>(
     rt: &R,
-    alloc: Global,
     post: Post,
     take: TakePass,
     first: SendPass,
     second: SendPass,
-) -> Result<(), AllocError>
+)
     requires take { IsTakePassOf post take }
     requires passes { IsSendPassOf post first × IsSendPassOf post second }
 {
-    let mut one = Vec::with_capacity(alloc, 2)?;
+    let mut one = Vec::with_capacity(rt.alloc(), 2).expect(rt, "memory");
     one.push_reserved(first);
-    let (post, take, mut passes) = stays_unfinished(rt, post, take, one)?;
-    assert!(rt; passes.len() == 1);
+    let (post, take, mut passes) = stays_unfinished(rt, post, take, one);
+    same(rt, &passes.len(), &1);
     passes.push_reserved(second);
-    assert!(rt; finish(rt, post, take, passes).is_ok());
-    Ok(())
+    finishes(rt, post, take, passes);
 }
 
 /// Receives the end of the second worker, behind which nothing comes, and finishes.
-fn receive_last_end<R: Wait + Abort>(
+fn receive_last_end<R: Wait + Abort + AllocGlobal>(
     rt: &R,
-    alloc: Global,
     post: Post,
     take: TakePass,
     first: SendPass,
     second: SendPass,
-) -> Result<(), AllocError>
+)
     requires take { IsTakePassOf post take }
     requires passes { IsSendPassOf post first × IsSendPassOf post second }
 {
-    let (post, mut take, first, second) = both_stay_unfinished(
-        rt, alloc, post, take, first, second,
-    )?;
+    let (post, mut take, first, second) = both_stay_unfinished(rt, post, take, first, second);
     receives(rt, &post, &mut take, Some(Saying::End(1, 0, None)));
     receives(rt, &post, &mut take, None);
     receives(rt, &post, &mut take, None);
-    finishes_with_both(rt, alloc, post, take, first, second)
+    finishes_with_both(rt, post, take, first, second);
 }
 
 /// Sends all by two workers, and asserts that the post finishes only once both ends came.
-fn finishes_once_every_end_came<R: Wait + Abort>(
-    rt: &R,
-    alloc: Global,
-    plan: &Plan,
-    piece: Piece,
-) -> Result<(), AllocError>
+fn finishes_once_every_end_came<R: Wait + Abort + AllocGlobal>(rt: &R, plan: &Plan, piece: Piece)
     requires { IsPieceOf plan.now piece }
 {
-    let (post, mut first, second, mut take) = post_of_two(rt, alloc, plan, 1)?;
+    let (post, mut first, second, mut take) = post_of_two(rt, plan, 1);
     send_by_first(rt, &post, &mut first, &mut take, piece);
-    let (post, take, first, mut second) = both_stay_unfinished(
-        rt, alloc, post, take, first, second,
-    )?;
+    let (post, take, first, mut second) = both_stay_unfinished(rt, post, take, first, second);
     post.send(rt, &mut second, end(1, 0));
-    receive_last_end(rt, alloc, post, take, first, second)
+    receive_last_end(rt, post, take, first, second);
 }
 
-/// Asserts it with the first piece of the first file.
-fn finishes_by_first_piece<R: Wait + Abort>(
-    rt: &R,
-    alloc: Global,
-    plan: &Plan,
-) -> Result<(), AllocError> {
-    let _files = plan.files();
-    let piece = first_piece(alloc, plan, 0)?;
-    finishes_once_every_end_came(rt, alloc, plan, piece)
+/// The first piece of a file.
+fn piece_of<R: Abort + AllocGlobal>(rt: &R, plan: &Plan, file: u32) -> Piece
+    requires { file < files_of plan.now }
+    ensures { IsPieceOf plan.now result }
+{
+    first_piece(rt.alloc(), plan, file).expect(rt, "memory")
 }
 
 #[test]
-fn a_post_with_room_for_one_note_finishes_once_every_end_came(
-    rt: HostRuntime,
-) -> Result<(), AllocError> {
-    let plan = echo_plan(rt.alloc(), &[1], 1)?;
-    finishes_by_first_piece(&rt, rt.alloc(), &plan)
+fn a_post_with_room_for_one_note_finishes_once_every_end_came(rt: HostRuntime) {
+    let plan = echoes(&rt, &[1], 1);
+    let _files = plan.files();
+    let piece = piece_of(&rt, &plan, 0);
+    finishes_once_every_end_came(&rt, &plan, piece);
 }
 
 /// Sends the first piece of a file and an end of its worker.
@@ -253,7 +238,7 @@ fn arrives<R: Wait + Abort>(rt: &R, arrivals: &mut PostArrivals<'_, R>, wanted: 
     ensures queue { arrivals.new.pass.queue ≡ arrivals.old.pass.queue }
     ensures workers { arrivals.new.pass.workers ≡ arrivals.old.pass.workers }
 {
-    assert_eq!(rt; next_place(arrivals), wanted);
+    same(rt, &next_place(arrivals), &wanted);
 }
 
 /// The file and the number of the piece that arrives next.
@@ -283,78 +268,41 @@ fn name_fault<R: Wait + Abort>(
     arrives(rt, &mut arrivals, None);
     arrives(rt, &mut arrivals, None);
     let (take, named) = arrivals.into_pass();
-    assert_eq!(rt; named, fault);
+    same(rt, &named, &fault);
     take
 }
 
-/// Asserts that a post finishes with the passes of its two workers.
-fn finishes<R: Wait + Abort>(
-    rt: &R,
-    alloc: Global,
-    post: Post,
-    take: TakePass,
-    first: SendPass,
-    second: SendPass,
-) -> Result<(), AllocError>
-    requires take { IsTakePassOf post take }
-    requires passes { IsSendPassOf post first × IsSendPassOf post second }
-{
-    let passes = Vec::from_array(alloc, [first, second])?;
-    assert!(rt; finish(rt, post, take, passes).is_ok());
-    Ok(())
-}
-
 /// Asserts that the pieces of two workers arrive, of which one ends so, and that this is what the arrivals name.
-fn arrive_and_name<R: Wait + Abort>(
+fn arrive_and_name<R: Wait + Abort + AllocGlobal>(
     rt: &R,
-    alloc: Global,
     plan: &Plan,
-    pieces: (Piece, Piece),
+    piece: Piece,
+    other: Piece,
     fault: Option<WorkerFault>,
-) -> Result<(), AllocError>
-    requires { IsPieceOf plan.now pieces.0 × IsPieceOf plan.now pieces.1 }
+)
+    requires { IsPieceOf plan.now piece × IsPieceOf plan.now other }
 {
-    let (post, mut first, mut second, take) = post_of_two(rt, alloc, plan, 4)?;
-    send_piece_and_end(rt, &post, &mut second, 1, pieces.1, fault);
-    send_piece_and_end(rt, &post, &mut first, 0, pieces.0, None);
+    let (post, mut first, mut second, take) = post_of_two(rt, plan, 4);
+    send_piece_and_end(rt, &post, &mut second, 1, other, fault);
+    send_piece_and_end(rt, &post, &mut first, 0, piece, None);
     let take = name_fault(rt, &post, take, fault);
-    finishes(rt, alloc, post, take, first, second)
-}
-
-/// The first pieces of two files.
-fn two_pieces(alloc: Global, plan: &Plan) -> Result<(Piece, Piece), AllocError>
-    requires { files_of plan.now ≡ 2 }
-    ensures { IfOk result (λ pieces. IsPieceOf plan.now pieces.0 × IsPieceOf plan.now pieces.1) }
-{
-    let first = first_piece(alloc, plan, 0)?;
-    match first_piece(alloc, plan, 1) {
-        Ok(second) => Ok((first, second)),
-        Err(AllocError) => Err(AllocError),
-    }
+    let passes = Vec::from_array(rt.alloc(), [first, second]).expect(rt, "memory");
+    finishes(rt, post, take, passes);
 }
 
 /// Asserts it of two files, of which the one's worker ends so.
-fn names_fault<R: Wait + Abort>(
-    rt: &R,
-    alloc: Global,
-    plan: &Plan,
-    fault: Option<WorkerFault>,
-) -> Result<(), AllocError>
+fn names_fault<R: Wait + Abort + AllocGlobal>(rt: &R, plan: &Plan, fault: Option<WorkerFault>)
     requires { files_of plan.now ≡ 2 }
 {
-    let pieces = two_pieces(alloc, plan)?;
-    arrive_and_name(rt, alloc, plan, pieces, fault)
-}
-
-/// Asserts it without a fault, and of one.
-fn names_faults<R: Wait + Abort>(rt: &R, alloc: Global, plan: &Plan) -> Result<(), AllocError> {
-    assert!(rt; plan.files() == 2);
-    names_fault(rt, alloc, plan, None)?;
-    names_fault(rt, alloc, plan, Some(WorkerFault::Memory))
+    let piece = piece_of(rt, plan, 0);
+    let other = piece_of(rt, plan, 1);
+    arrive_and_name(rt, plan, piece, other, fault);
 }
 
 #[test]
-fn arrivals_are_the_pieces_alone_and_name_a_fault(rt: HostRuntime) -> Result<(), AllocError> {
-    let plan = echo_plan(rt.alloc(), &[1, 1], 1)?;
-    names_faults(&rt, rt.alloc(), &plan)
+fn arrivals_are_the_pieces_alone_and_name_a_fault(rt: HostRuntime) {
+    let plan = echoes(&rt, &[1, 1], 1);
+    assert!(rt; plan.files() == 2);
+    names_fault(&rt, &plan, None);
+    names_fault(&rt, &plan, Some(WorkerFault::Memory));
 }

@@ -4,7 +4,8 @@ ghost use Rattle.std.specs.Prelude.{◌≡◌, IfOk, length, replicate};
 ghost use Rattle.lx_plan.specs.Plans.{files_of};
 ghost use Rattle.lx_collector.specs.Arrivals.{AreHonest};
 
-use crate::plans::{echo_plan, plan_of};
+use crate::asserts::{holds, same};
+use crate::plans::{echoes, plan_of};
 use lx_fixtures::{NO_RULES, among_strangers, last_file_first};
 use lx_piece::{
     Arrivals, ListArrivals, Mark, Piece, Plan, Reader, ReaderFault, RelayFault, Reply, Why, relay,
@@ -94,57 +95,60 @@ const AMONG_STRANGERS: &[Reply] = &[
     Reply::Accepted,
 ];
 
-/// Asserts that a relay answers these.
+/// The replies of a relay that ended well.
+fn replies_of(rt: &impl Abort, found: Result<Vec<Reply>, RelayFault>) -> Vec<Reply> {
+    found.expect(rt, "replies")
+}
+
+/// A tally that has counted nothing. Where there is no memory for it, the test ends there.
+fn tally_of<'a, R: Abort + AllocGlobal>(rt: &R, plan: &'a Plan, room: u64) -> Tally<'a>
+    ensures plan { result.plan.now ≡ plan.now }
+    ensures counts { result.counts.items ≡ replicate (files_of plan.now) 0 }
+    ensures faults { result.faults ≡ 0 }
+{
+    fresh_tally(rt.alloc(), plan, room).expect(rt, "memory")
+}
+
+/// Asserts that these are the replies.
 fn expect_replies(rt: &impl Abort, found: Result<Vec<Reply>, RelayFault>, wanted: &[Reply]) {
-    match found {
-        Ok(replies) => assert_eq!(rt; replies.as_slice(), wanted),
-        Err(fault) => assert!(rt; false, "{fault}"),
-    }
+    let replies = replies_of(rt, found);
+    same(rt, &replies.as_slice(), &wanted);
 }
 
 /// Asserts that one piece of each of two files was taken, the first file's whole, and the second's with this mark.
 fn expect_two(rt: &impl Abort, tally: &Tally<'_>, second: Mark) {
-    assert_eq!(rt; tally.counts.as_slice(), [1, 1].as_slice());
-    assert_eq!(rt; tally.marks.as_slice(), [Mark::Whole, second].as_slice());
+    same(rt, &tally.counts.as_slice(), &[1, 1].as_slice());
+    same(
+        rt,
+        &tally.marks.as_slice(),
+        &[Mark::Whole, second].as_slice(),
+    );
 }
 
 /// Relays the pieces of two empty files among strangers, the second of which has this mark.
-fn relay_among_strangers(
-    rt: &impl Abort,
-    alloc: Global,
-    plan: &Plan,
-    second: Mark,
-) -> Result<(), AllocError>
+fn relay_among_strangers<R: Abort + AllocGlobal>(rt: &R, plan: &Plan, second: Mark)
     requires run { plan.now.run ≡ 1 }
     requires files { files_of plan.now ≡ 2 }
 {
-    let mut tally = fresh_tally(alloc, plan, u64::MAX)?;
-    let pieces = among_strangers(alloc, plan)?;
-    let found = relay_list(alloc, plan, pieces, &mut tally);
+    let mut tally = tally_of(rt, plan, u64::MAX);
+    let pieces = among_strangers(rt.alloc(), plan).expect(rt, "memory");
+    let found = relay_list(rt.alloc(), plan, pieces, &mut tally);
     expect_replies(rt, found, AMONG_STRANGERS);
     expect_two(rt, &tally, second);
-    Ok(())
 }
 
 /// Relays two empty files among strangers, the second of which is cut or not.
-fn relay_two(rt: &impl Abort, alloc: Global, cut: bool, second: Mark) -> Result<(), AllocError> {
-    let plan = plan_of(alloc, NO_RULES, &[(b"", false), (b"", cut)], 256)?;
+fn relay_two<R: Abort + AllocGlobal>(rt: &R, cut: bool, second: Mark) {
+    let files: [(&[u8], bool); 2] = [(b"", false), (b"", cut)];
+    let plan = plan_of(rt.alloc(), NO_RULES, &files, 256).expect(rt, "memory");
     assert!(rt; plan.files() == 2);
-    relay_among_strangers(rt, alloc, &plan, second)
+    relay_among_strangers(rt, &plan, second);
 }
 
 #[test]
-fn relays_whole_and_cut_files_among_strangers(rt: HostRuntime) -> Result<(), AllocError> {
-    relay_two(&rt, rt.alloc(), false, Mark::Whole)?;
-    relay_two(&rt, rt.alloc(), true, Mark::Cut)
-}
-
-/// The plan of as many files as there may be, which are empty.
-fn plan_of_most(alloc: Global) -> Result<Plan, AllocError>
-    ensures { IfOk result (λ plan. plan.run ≡ 1) }
-{
-    let lens = vec![in alloc; 0; 65_536]?;
-    echo_plan(alloc, &lens, 1)
+fn relays_whole_and_cut_files_among_strangers(rt: HostRuntime) {
+    relay_two(&rt, false, Mark::Whole);
+    relay_two(&rt, true, Mark::Cut);
 }
 
 /// Whether each file was counted once.
@@ -167,29 +171,37 @@ fn are_whole(marks: &[Mark]) -> bool {
     true
 }
 
+/// Asserts that so many files were counted once, and are whole.
+fn expect_all(rt: &impl Abort, tally: &Tally<'_>, files: usize) {
+    let (counts, marks) = (tally.counts.as_slice(), tally.marks.as_slice());
+    holds(rt, counts.len() == files && are_counted_once(counts), 1);
+    holds(rt, marks.len() == files && are_whole(marks), 2);
+}
+
+/// The plan of as many files as there may be, which are empty.
+fn plan_of_most<R: Abort + AllocGlobal>(rt: &R) -> Plan {
+    let lens = vec![in rt.alloc(); 0; 65_536].expect(rt, "memory");
+    echoes(rt, &lens, 1)
+}
+
 /// Asserts that a relay answers so many pieces.
 fn expect_count(rt: &impl Abort, found: Result<Vec<Reply>, RelayFault>, wanted: usize) {
-    match found {
-        Ok(replies) => assert!(rt; replies.len() == wanted),
-        Err(fault) => assert!(rt; false, "{fault}"),
-    }
+    same(rt, &replies_of(rt, found).len(), &wanted);
 }
 
 /// Relays as many empty files as there may be.
-fn relay_most(rt: &impl Abort, alloc: Global, plan: &Plan) -> Result<(), AllocError> {
-    let mut tally = fresh_tally(alloc, plan, u64::MAX)?;
-    let pieces = last_file_first(alloc, plan)?;
-    let found = relay_list(alloc, plan, pieces, &mut tally);
+fn relay_most<R: Abort + AllocGlobal>(rt: &R, plan: &Plan) {
+    let mut tally = tally_of(rt, plan, u64::MAX);
+    let pieces = last_file_first(rt.alloc(), plan).expect(rt, "memory");
+    let found = relay_list(rt.alloc(), plan, pieces, &mut tally);
     expect_count(rt, found, 65_536);
-    assert!(rt; tally.counts.len() == 65_536 && are_counted_once(&tally.counts));
-    assert!(rt; tally.marks.len() == 65_536 && are_whole(&tally.marks));
-    Ok(())
+    expect_all(rt, &tally, 65_536);
 }
 
 #[test]
-fn relays_as_many_files_as_there_may_be(rt: HostRuntime) -> Result<(), AllocError> {
-    let plan = plan_of_most(rt.alloc())?;
-    relay_most(&rt, rt.alloc(), &plan)
+fn relays_as_many_files_as_there_may_be(rt: HostRuntime) {
+    let plan = plan_of_most(&rt);
+    relay_most(&rt, &plan);
 }
 
 /// The number of the piece that arrives next.
@@ -201,9 +213,8 @@ fn next_number(arrivals: &mut ListArrivals<'_>) -> Option<u64> {
 }
 
 /// Asserts that a relay whose reader takes one piece fails at the second, before the third arrives.
-fn fails_at_second(
-    rt: &impl Abort,
-    alloc: Global,
+fn fails_at_second<R: Abort + AllocGlobal>(
+    rt: &R,
     plan: &Plan,
     pieces: Vec<Piece>,
     tally: &mut Tally<'_>,
@@ -214,24 +225,21 @@ fn fails_at_second(
     requires faults { tally.old.faults ≡ 0 }
 {
     let mut arrivals = ListArrivals::new(plan, pieces);
-    let ended = relay(alloc, plan, &mut arrivals, tally).err();
-    assert!(rt; ended == Some(RelayFault::Reader) && tally.faults() == 1);
-    assert_eq!(rt; tally.counts.as_slice(), [1].as_slice());
-    assert_eq!(rt; next_number(&mut arrivals), Some(2));
+    let ended = relay(rt.alloc(), plan, &mut arrivals, tally).err();
+    same(rt, &(ended, tally.faults()), &(Some(RelayFault::Reader), 1));
+    same(rt, &tally.counts.as_slice(), &[1].as_slice());
+    same(rt, &next_number(&mut arrivals), &Some(2));
 }
 
 /// Relays a file of four pieces to a reader that takes one.
-fn relay_to_one(rt: &impl Abort, alloc: Global, plan: &Plan) -> Result<(), AllocError> {
-    let mut tally = fresh_tally(alloc, plan, 1)?;
-    let pieces = last_file_first(alloc, plan)?;
-    fails_at_second(rt, alloc, plan, pieces, &mut tally);
-    Ok(())
+fn relay_to_one<R: Abort + AllocGlobal>(rt: &R, plan: &Plan) {
+    let mut tally = tally_of(rt, plan, 1);
+    let pieces = last_file_first(rt.alloc(), plan).expect(rt, "memory");
+    fails_at_second(rt, plan, pieces, &mut tally);
 }
 
 #[test]
-fn a_reader_that_fails_ends_the_relay_before_the_next_arrival(
-    rt: HostRuntime,
-) -> Result<(), AllocError> {
-    let plan = echo_plan(rt.alloc(), &[4], 1)?;
-    relay_to_one(&rt, rt.alloc(), &plan)
+fn a_reader_that_fails_ends_the_relay_before_the_next_arrival(rt: HostRuntime) {
+    let plan = echoes(&rt, &[4], 1);
+    relay_to_one(&rt, &plan);
 }

@@ -1,13 +1,13 @@
 //! What is handed on of many files that several threads cut: the pieces of each file, in order, as one thread cuts them.
 
-ghost use Rattle.std.specs.Prelude.{◌≡◌, ◌<◌, ◌≤◌, IfOk, IfSome, length, vec_len};
+ghost use Rattle.std.specs.Prelude.{◌≡◌, ◌<◌, ◌≤◌, IfSome, length, vec_len};
 
+use crate::asserts::{holds, same};
 use crate::keeper::fresh_keeper;
 use crate::plans::plan_by;
 use lx_fixtures::{MIXED_RULES, last_file_first};
 use lx_piece::{Input, Mark, Piece, Plan};
 use lx_post::{OpenGate, scan_all};
-use std::alloc::{AllocError, Global};
 use std::process::Abort;
 use std::sync::Wait;
 use std::thread::Threads;
@@ -18,37 +18,46 @@ const FILES: u32 = 60;
 const TEXT: &[u8; 17] = b"ab 12<x>\n~z9 <y>c";
 
 /// The bytes of a file, 0 to 2,679 of them.
-fn bytes_of(alloc: Global, file: u32) -> Result<Vec<u8>, AllocError>
+fn bytes_of<R: Abort + AllocGlobal>(rt: &R, file: u32) -> Vec<u8>
     requires { file < 60 }
 {
     let len = file * file % 64 * 47;
-    let mut bytes = Vec::new(alloc);
+    let mut bytes = Vec::new(rt.alloc());
     for index in 0..len {
-        bytes.push(TEXT[(index * (file + 1) + file) as usize % 17])?;
+        let byte = TEXT[(index * (file + 1) + file) as usize % 17];
+        bytes.push(byte).expect(rt, "memory");
     }
-    Ok(bytes)
+    bytes
 }
 
-/// 60 files, of which each seventh is cut.
-fn many_files(alloc: Global) -> Result<Vec<Input>, AllocError>
-    ensures { IfOk result (λ files. vec_len files ≡ 60) }
+/// A file, each seventh of which is cut.
+fn file_of<R: Abort + AllocGlobal>(rt: &R, file: u32) -> Input
+    requires { file < 60 }
 {
-    let mut files = Vec::new(alloc);
-    for file in 0..FILES {
-        let bytes = bytes_of(alloc, file)?;
-        let cut = file % 7 == 3;
-        files.push(Input { bytes, cut })?;
+    Input {
+        bytes: bytes_of(rt, file),
+        cut: file % 7 == 3,
     }
-    Ok(files)
+}
+
+/// 60 files.
+fn many_files<R: Abort + AllocGlobal>(rt: &R) -> Vec<Input>
+    ensures { vec_len result ≡ 60 }
+{
+    let mut files = Vec::new(rt.alloc());
+    for file in 0..FILES {
+        files.push(file_of(rt, file)).expect(rt, "memory");
+    }
+    files
 }
 
 /// Their plan.
-fn plan_of_many(alloc: Global, per_piece: u32) -> Result<Plan, AllocError>
+fn plan_of_many<R: Abort + AllocGlobal>(rt: &R, per_piece: u32) -> Plan
     requires some_items { 0 < per_piece }
     requires few_items { per_piece ≤ 4096 }
 {
-    let files = many_files(alloc)?;
-    plan_by(alloc, MIXED_RULES, files, per_piece)
+    let files = many_files(rt);
+    plan_by(rt.alloc(), MIXED_RULES, files, per_piece).expect(rt, "memory")
 }
 
 /// A piece's run, file, number and mark.
@@ -58,8 +67,8 @@ pub(crate) fn head(piece: &Piece) -> (u64, u32, u64, Mark) {
 
 /// Asserts that these two are one piece.
 fn expect_same(rt: &impl Abort, found: &Piece, wanted: &Piece) {
-    assert_eq!(rt; head(found), head(wanted));
-    assert_eq!(rt; found.items.as_slice(), wanted.items.as_slice());
+    same(rt, &head(found), &head(wanted));
+    same(rt, &found.items.as_slice(), &wanted.items.as_slice());
 }
 
 /// Where the first piece of a file stands from an index on.
@@ -76,10 +85,7 @@ fn index_of(pieces: &[Piece], from: usize, file: u32) -> Option<usize>
 
 /// Asserts that the first piece of a file from an index on is this one, and gives the index behind it.
 fn expect_next(rt: &impl Abort, found: &[Piece], from: usize, wanted: &Piece) -> usize {
-    let Some(index) = index_of(found, from, wanted.file) else {
-        assert!(rt; false, "file {} has too few pieces", wanted.file);
-        return from;
-    };
+    let index = index_of(found, from, wanted.file).expect(rt, "a piece is missing");
     expect_same(rt, &found[index], wanted);
     index.saturating_add(1)
 }
@@ -92,61 +98,53 @@ fn expect_file(rt: &impl Abort, found: &[Piece], wanted: &[Piece], file: u32) {
             behind = expect_next(rt, found, behind, piece);
         }
     }
-    let is_any = behind != 0;
-    assert!(rt;
-        is_any && index_of(found, behind, file).is_none(),
-        "file {file}"
-    );
+    let is_whole = behind != 0 && index_of(found, behind, file).is_none();
+    holds(rt, is_whole, u64::from(file));
 }
 
 /// Asserts that so many workers hand on the pieces of each file as they are wanted.
-fn hands_on_by<R: Abort + Threads + Wait + Sync>(
+fn hands_on_by<R: Abort + AllocGlobal + Threads + Wait + Sync>(
     rt: &R,
-    alloc: Global,
     plan: &Plan,
     workers: u8,
     wanted: &[Piece],
-) -> Result<(), AllocError>
+)
     requires some_workers { 0 < workers }
     requires few_workers { workers ≤ 8 }
 {
-    let keeper = fresh_keeper(alloc, plan)?;
-    let (keeper, ended) = scan_all(rt, alloc, plan, workers, &OpenGate, keeper);
-    assert_eq!(rt; (ended, keeper.pieces.len()), (Ok(()), wanted.len()));
+    let keeper = fresh_keeper(rt, plan);
+    let (keeper, ended) = scan_all(rt, rt.alloc(), plan, workers, &OpenGate, keeper);
+    same(rt, &(ended, keeper.pieces.len()), &(Ok(()), wanted.len()));
+    expect_files(rt, &keeper.pieces, wanted);
+}
+
+/// Asserts that the pieces of each file stand among these as they do among those.
+fn expect_files(rt: &impl Abort, found: &[Piece], wanted: &[Piece]) {
     for file in 0..FILES {
-        expect_file(rt, &keeper.pieces, wanted, file);
+        expect_file(rt, found, wanted, file);
     }
-    Ok(())
 }
 
 /// Asserts it of one worker, of three and of eight.
-fn hands_on_by_each<R: Abort + Threads + Wait + Sync>(
-    rt: &R,
-    alloc: Global,
-    plan: &Plan,
-) -> Result<(), AllocError> {
-    let wanted = last_file_first(alloc, plan)?;
-    hands_on_by(rt, alloc, plan, 1, &wanted)?;
-    hands_on_by(rt, alloc, plan, 3, &wanted)?;
-    hands_on_by(rt, alloc, plan, 8, &wanted)
+fn hands_on_by_each<R: Abort + AllocGlobal + Threads + Wait + Sync>(rt: &R, plan: &Plan) {
+    let wanted = last_file_first(rt.alloc(), plan).expect(rt, "memory");
+    hands_on_by(rt, plan, 1, &wanted);
+    hands_on_by(rt, plan, 3, &wanted);
+    hands_on_by(rt, plan, 8, &wanted);
 }
 
 /// Asserts it of the many files in pieces of so many items.
-fn hands_on_many<R: Abort + Threads + Wait + Sync>(
-    rt: &R,
-    alloc: Global,
-    per_piece: u32,
-) -> Result<(), AllocError>
+fn hands_on_many<R: Abort + AllocGlobal + Threads + Wait + Sync>(rt: &R, per_piece: u32)
     requires some_items { 0 < per_piece }
     requires few_items { per_piece ≤ 4096 }
 {
-    let plan = plan_of_many(alloc, per_piece)?;
-    hands_on_by_each(rt, alloc, &plan)
+    let plan = plan_of_many(rt, per_piece);
+    hands_on_by_each(rt, &plan);
 }
 
 #[test]
-fn workers_hand_on_the_pieces_of_each_file_in_order(rt: HostRuntime) -> Result<(), AllocError> {
-    hands_on_many(&rt, rt.alloc(), 1)?;
-    hands_on_many(&rt, rt.alloc(), 7)?;
-    hands_on_many(&rt, rt.alloc(), 256)
+fn workers_hand_on_the_pieces_of_each_file_in_order(rt: HostRuntime) {
+    hands_on_many(&rt, 1);
+    hands_on_many(&rt, 7);
+    hands_on_many(&rt, 256);
 }
