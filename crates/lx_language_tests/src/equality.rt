@@ -1,7 +1,8 @@
 //! Sets, trees and patterns compared: other spellings of one reading, a difference in each part, and deep trees that lean either way.
 
-use lx_ere::{ByteSet, EreFault, Expr, Pattern, read_pattern, read_substitute};
-use std::alloc::{AllocError, Global};
+use crate::texts::{formatted, holds, put, put_times};
+use lx_ere::{ByteSet, Expr, Pattern, read_pattern, read_substitute};
+use std::alloc::AllocError;
 use std::process::Abort;
 
 /// A deep tree as a text: a head, a front some times, a middle, and as often a back; and another head and middle, which stand deepest.
@@ -53,55 +54,51 @@ const SHAPES: &[Shape] = &[
 ];
 
 /// The text of a shape with this head and this middle.
-fn text_of(alloc: Global, shape: &Shape, head: &str, middle: &str) -> Result<String, AllocError> {
-    let mut text = String::new(alloc);
-    text.push_str(head)?;
-    for _ in 0..shape.times {
-        text.push_str(shape.front)?;
-    }
-    text.push_str(middle)?;
-    for _ in 0..shape.times {
-        text.push_str(shape.back)?;
-    }
-    Ok(text)
+fn text_of<R: Abort + AllocGlobal>(rt: &R, shape: &Shape, head: &str, middle: &str) -> String {
+    let mut text = String::new(rt.alloc());
+    put(rt, &mut text, head);
+    put_times(rt, &mut text, shape.front, shape.times);
+    put(rt, &mut text, middle);
+    put_times(rt, &mut text, shape.back, shape.times);
+    text
 }
 
 /// Whether `==` and `!=` answer of two patterns, either way round, that they are equal (`equal`) or that they are not, and `==` that the one is itself.
 fn are_compared(left: &Pattern, right: &Pattern, equal: bool) -> bool {
-    let same = [
-        left == right,
-        right == left,
-        !(left != right),
-        !(right != left),
-    ];
-    same == [equal; 4] && left == left
+    (left == right) == equal
+        && (right == left) == equal
+        && (left != right) != equal
+        && (right != left) != equal
+        && left == left
+}
+
+/// The pattern of a text.
+fn pattern_of<R: Abort + AllocGlobal>(rt: &R, text: &str) -> Pattern {
+    read_pattern(rt.alloc(), text.as_bytes()).expect(rt, text)
+}
+
+/// The tree of a text.
+fn tree_of<R: Abort + AllocGlobal>(rt: &R, text: &str) -> Expr {
+    read_substitute(rt.alloc(), text.as_bytes()).expect(rt, text)
 }
 
 /// Asserts it of the patterns that two texts read as.
-fn compare(
-    rt: &impl Abort,
-    alloc: Global,
-    first: &str,
-    second: &str,
-    equal: bool,
-) -> Result<(), EreFault> {
-    let left = read_pattern(alloc, first.as_bytes())?;
-    let right = read_pattern(alloc, second.as_bytes())?;
-    assert!(rt; are_compared(&left, &right, equal), "{first} {second}");
-    Ok(())
+fn compare<R: Abort + AllocGlobal>(rt: &R, first: &str, second: &str, equal: bool) {
+    let left = pattern_of(rt, first);
+    let right = pattern_of(rt, second);
+    expect_compared(rt, are_compared(&left, &right, equal), first, second);
+}
+
+/// Asserts that two texts are compared as wanted.
+fn expect_compared(rt: &impl Abort, is_so: bool, first: &str, second: &str) {
+    assert!(rt; is_so, "{first} {second}");
 }
 
 /// Asserts it of each of these.
-fn compare_all(
-    rt: &impl Abort,
-    alloc: Global,
-    rows: &[(&str, &str)],
-    equal: bool,
-) -> Result<(), EreFault> {
+fn compare_all<R: Abort + AllocGlobal>(rt: &R, rows: &[(&str, &str)], equal: bool) {
     for (first, second) in rows {
-        compare(rt, alloc, first, second, equal)?;
+        compare(rt, first, second, equal);
     }
-    Ok(())
 }
 
 /// Spellings of one reading.
@@ -147,101 +144,94 @@ const OTHER: &[(&str, &str)] = &[
 ];
 
 #[test]
-fn patterns_are_equal_where_their_readings_are(rt: HostRuntime) -> Result<(), EreFault> {
-    compare_all(&rt, rt.alloc(), ALIKE, true)?;
-    compare_all(&rt, rt.alloc(), OTHER, false)
+fn patterns_are_equal_where_their_readings_are(rt: HostRuntime) {
+    compare_all(&rt, ALIKE, true);
+    compare_all(&rt, OTHER, false);
 }
 
 /// Compares a text of 1,023 bytes with itself and with another one.
-fn compare_with_both(
-    rt: &impl Abort,
-    alloc: Global,
-    text: &str,
-    other: &str,
-) -> Result<(), EreFault> {
+fn compare_with_both<R: Abort + AllocGlobal>(rt: &R, text: &str, other: &str) {
     assert!(rt; text.as_bytes().len() == 1023);
-    compare(rt, alloc, text, text, true)?;
-    compare(rt, alloc, text, other, false)
+    compare(rt, text, text, true);
+    compare(rt, text, other, false);
 }
 
 /// Compares the two texts of a shape.
-fn compare_shape(rt: &impl Abort, alloc: Global, shape: &Shape) -> Result<(), EreFault> {
-    let text = text_of(alloc, shape, shape.heads.0, shape.middles.0)?;
-    let other = text_of(alloc, shape, shape.heads.1, shape.middles.1)?;
-    compare_with_both(rt, alloc, text.as_str(), other.as_str())
+fn compare_shape<R: Abort + AllocGlobal>(rt: &R, shape: &Shape) {
+    let text = text_of(rt, shape, shape.heads.0, shape.middles.0);
+    let other = text_of(rt, shape, shape.heads.1, shape.middles.1);
+    compare_with_both(rt, text.as_str(), other.as_str());
 }
 
 #[test]
-fn deep_trees_are_compared(rt: HostRuntime) -> Result<(), EreFault> {
+fn deep_trees_are_compared(rt: HostRuntime) {
     for shape in SHAPES {
-        compare_shape(&rt, rt.alloc(), shape)?;
+        compare_shape(&rt, shape);
     }
-    Ok(())
 }
 
-/// Asserts of three trees, of which the second is the first, and the third another.
-fn expect_trees(rt: &impl Abort, left: &Expr, same: &Expr, other: &Expr) {
-    assert!(rt; left == same && left != other && other == other);
-    assert!(rt; Expr::Nil == Expr::Nil && *left != Expr::Nil && Expr::Nil != *left);
+/// Asserts of a tree whether it is that of a text, and that it is itself, and not empty.
+fn compare_tree<R: Abort + AllocGlobal>(rt: &R, left: &Expr, text: &str, equal: bool) {
+    let right = tree_of(rt, text);
+    holds(rt, (*left == right) == equal, text);
+    holds(rt, (*left != right) != equal, text);
+    holds(rt, right == right, text);
 }
 
-/// Compares the tree of `a|b{2,}`.
-fn compare_trees(rt: &impl Abort, alloc: Global, left: &Expr) -> Result<(), EreFault> {
-    let same = read_substitute(alloc, b"(a)|(b{2,})")?;
-    let other = read_substitute(alloc, b"a|b{3,}")?;
-    expect_trees(rt, left, &same, &other);
-    Ok(())
+/// Asserts of a tree that it differs from the empty one, either way round.
+fn is_not_empty(rt: &impl Abort, tree: &Expr) {
+    holds(rt, Expr::Nil == Expr::Nil, "nil");
+    holds(rt, *tree != Expr::Nil, "tree");
+    holds(rt, Expr::Nil != *tree, "tree");
 }
 
 #[test]
-fn trees_of_substitutes_are_compared(rt: HostRuntime) -> Result<(), EreFault> {
-    let left = read_substitute(rt.alloc(), b"a|b{2,}")?;
-    compare_trees(&rt, rt.alloc(), &left)
+fn trees_of_substitutes_are_compared(rt: HostRuntime) {
+    let left = tree_of(&rt, "a|b{2,}");
+    compare_tree(&rt, &left, "(a)|(b{2,})", true);
+    compare_tree(&rt, &left, "a|b{3,}", false);
+    is_not_empty(&rt, &left);
 }
 
-/// The set of a text that reads as one.
-fn set_of(alloc: Global, text: &str) -> Result<Option<ByteSet>, EreFault> {
-    match read_substitute(alloc, text.as_bytes())? {
-        Expr::Set(set) => Ok(Some(set)),
-        _other => Ok(None),
+/// The set that a text reads as, if it is one.
+fn set_of<R: Abort + AllocGlobal>(rt: &R, text: Result<String, AllocError>) -> Option<ByteSet> {
+    let text = formatted(rt, text);
+    match tree_of(rt, text.as_str()) {
+        Expr::Set(set) => Some(set),
+        _other => None,
     }
 }
 
 /// The set of a byte, by its octal digits.
-fn octal_set(alloc: Global, byte: u8) -> Result<Option<ByteSet>, EreFault> {
-    let text = format!(in alloc; "\\{byte:03o}")?;
-    set_of(alloc, text.as_str())
+fn octal_set<R: Abort + AllocGlobal>(rt: &R, byte: u8) -> Option<ByteSet> {
+    set_of(rt, format!(in rt.alloc(); "\\{byte:03o}"))
 }
 
 /// The set of a byte, by its hexadecimal digits.
-fn hexadecimal_set(alloc: Global, byte: u8) -> Result<Option<ByteSet>, EreFault> {
-    let text = format!(in alloc; "\\x{byte:x}")?;
-    set_of(alloc, text.as_str())
+fn hexadecimal_set<R: Abort + AllocGlobal>(rt: &R, byte: u8) -> Option<ByteSet> {
+    set_of(rt, format!(in rt.alloc(); "\\x{byte:x}"))
 }
 
 /// The set of all bytes but one.
-fn rest_set(alloc: Global, byte: u8) -> Result<Option<ByteSet>, EreFault> {
-    let text = format!(in alloc; "[^\\{byte:03o}]")?;
-    set_of(alloc, text.as_str())
+fn rest_set<R: Abort + AllocGlobal>(rt: &R, byte: u8) -> Option<ByteSet> {
+    set_of(rt, format!(in rt.alloc(); "[^\\{byte:03o}]"))
 }
 
 /// Compares a byte's set with itself, its rest and that of the opposite byte.
-fn compare_sets(rt: &impl Abort, alloc: Global, byte: u8) -> Result<(), EreFault> {
-    let one = octal_set(alloc, byte)?;
-    let same = hexadecimal_set(alloc, byte)?;
-    let rest = rest_set(alloc, byte)?;
-    let other = octal_set(alloc, 255 - byte)?;
+fn compare_sets<R: Abort + AllocGlobal>(rt: &R, byte: u8) {
+    let one = octal_set(rt, byte);
+    let same = hexadecimal_set(rt, byte);
+    let rest = rest_set(rt, byte);
+    let other = octal_set(rt, 255 - byte);
     assert!(rt;
         one.is_some() && one == same && one != rest && one != other,
         "{byte}"
     );
-    Ok(())
 }
 
 #[test]
-fn sets_are_equal_where_they_have_the_same_bytes(rt: HostRuntime) -> Result<(), EreFault> {
+fn sets_are_equal_where_they_have_the_same_bytes(rt: HostRuntime) {
     for byte in 0..=255u8 {
-        compare_sets(&rt, rt.alloc(), byte)?;
+        compare_sets(&rt, byte);
     }
-    Ok(())
 }

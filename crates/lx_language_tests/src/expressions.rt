@@ -1,25 +1,24 @@
 //! Spellings and what they read as, worked out by hand from the grammar of `lex`; memory refused; deep nesting.
 
+use crate::texts::{formatted, holds, put, put_name, put_number, put_times};
 use lx_ere::{ByteSet, EreFault, Expr, Pattern, pattern_end, read_pattern, read_substitute};
-use std::alloc::{AllocError, Global};
-use std::fmt::Write;
 use std::process::Abort;
 
 /// A range of bytes, as `65` or `65-90`.
-fn show_range(out: &mut String, first: u8, last: u8) -> Result<(), AllocError> {
+fn show_range(rt: &impl Abort, out: &mut String, first: u8, last: u8) {
     if !out.as_str().ends_with('[') {
-        out.push(' ')?;
+        put(rt, out, " ");
     }
-    write!(out, "{first}")?;
+    put_number(rt, out, u32::from(first));
     if first < last {
-        write!(out, "-{last}")?;
+        put(rt, out, "-");
+        put_number(rt, out, u32::from(last));
     }
-    Ok(())
 }
 
 /// A set by its ranges, as `[65-90 97-122]`.
-fn show_set(out: &mut String, set: &ByteSet) -> Result<(), AllocError> {
-    out.push('[')?;
+fn show_set(rt: &impl Abort, out: &mut String, set: &ByteSet) {
+    put(rt, out, "[");
     let mut begun: Option<u8> = None;
     let mut last = 0u8;
     for byte in 0..=255u8 {
@@ -27,96 +26,110 @@ fn show_set(out: &mut String, set: &ByteSet) -> Result<(), AllocError> {
             begun = Some(begun.unwrap_or(byte));
             last = byte;
         } else if let Some(first) = begun {
-            show_range(out, first, last)?;
+            show_range(rt, out, first, last);
             begun = None;
         }
     }
     if let Some(first) = begun {
-        show_range(out, first, last)?;
+        show_range(rt, out, first, last);
     }
-    out.push(']')
+    put(rt, out, "]");
+}
+
+/// An interval, as `{1,2}` or `{1,}`.
+fn show_interval(rt: &impl Abort, out: &mut String, low: u8, high: Option<u8>) {
+    put(rt, out, "{");
+    put_number(rt, out, u32::from(low));
+    put(rt, out, ",");
+    if let Some(most) = high {
+        put_number(rt, out, u32::from(most));
+    }
+    put(rt, out, "}");
 }
 
 /// An expression: `(a b)` one then the other, `(a|b)` either, `a{1,2}` and `a{1,}` repeated, `<D>` a name.
-pub(crate) fn show(out: &mut String, expr: &Expr) -> Result<(), AllocError> {
+pub(crate) fn show(rt: &impl Abort, out: &mut String, expr: &Expr) {
     match expr {
-        Expr::Nil => out.push_str("nil"),
-        Expr::Set(set) => show_set(out, set),
+        Expr::Nil => put(rt, out, "nil"),
+        Expr::Set(set) => show_set(rt, out, set),
         Expr::Then(left, right) => {
-            out.push('(')?;
-            show(out, left)?;
-            out.push(' ')?;
-            show(out, right)?;
-            out.push(')')
+            put(rt, out, "(");
+            show(rt, out, left);
+            put(rt, out, " ");
+            show(rt, out, right);
+            put(rt, out, ")");
         }
         Expr::Or(left, right) => {
-            out.push('(')?;
-            show(out, left)?;
-            out.push('|')?;
-            show(out, right)?;
-            out.push(')')
+            put(rt, out, "(");
+            show(rt, out, left);
+            put(rt, out, "|");
+            show(rt, out, right);
+            put(rt, out, ")");
         }
         Expr::Times { body, low, high } => {
-            show(out, body)?;
-            write!(out, "{{{low},")?;
-            if let Some(most) = high {
-                write!(out, "{most}")?;
-            }
-            out.push('}')
+            show(rt, out, body);
+            show_interval(rt, out, *low, *high);
         }
         Expr::Name(name) => {
-            out.push('<')?;
-            for byte in name {
-                out.push(char::from(*byte))?;
-            }
-            out.push('>')
+            put(rt, out, "<");
+            put_name(rt, out, name);
+            put(rt, out, ">");
         }
     }
 }
 
 /// A pattern, with `^ ` before it and ` $` behind it where it has these anchors.
-pub(crate) fn show_pattern(alloc: Global, pattern: &Pattern) -> Result<String, AllocError> {
-    let mut out = String::new(alloc);
+pub(crate) fn show_pattern(rt: &impl Abort, out: &mut String, pattern: &Pattern) {
     if pattern.line_begin {
-        out.push_str("^ ")?;
+        put(rt, out, "^ ");
     }
-    show(&mut out, &pattern.expr)?;
+    show(rt, out, &pattern.expr);
     if pattern.line_end {
-        out.push_str(" $")?;
+        put(rt, out, " $");
     }
-    Ok(out)
 }
 
 /// What a text reads as, or the fault's code.
-fn reading(alloc: Global, text: &[u8]) -> Result<String, AllocError> {
-    match read_pattern(alloc, text) {
-        Ok(pattern) => show_pattern(alloc, &pattern),
-        Err(fault) => format!(in alloc; "{fault}"),
+fn reading<R: Abort + AllocGlobal>(rt: &R, text: &[u8]) -> String {
+    match read_pattern(rt.alloc(), text) {
+        Ok(pattern) => shown(rt, &pattern),
+        Err(fault) => code(rt, fault),
     }
 }
 
-/// Asserts what a pattern reads as.
-fn expect_pattern(
-    rt: &impl Abort,
-    alloc: Global,
-    pattern: &str,
-    want: &str,
-) -> Result<(), AllocError> {
-    let got = reading(alloc, pattern.as_bytes())?;
-    assert_eq!(rt; got.as_str(), want, "pattern {pattern}");
-    Ok(())
+/// A pattern as a text.
+fn shown<R: Abort + AllocGlobal>(rt: &R, pattern: &Pattern) -> String {
+    let mut out = String::new(rt.alloc());
+    show_pattern(rt, &mut out, pattern);
+    out
+}
+
+/// A fault's code.
+fn code<R: Abort + AllocGlobal>(rt: &R, fault: EreFault) -> String {
+    formatted(rt, format!(in rt.alloc(); "{fault}"))
+}
+
+/// Asserts that a text, which is named so, was read as wanted.
+fn expect_reading(rt: &impl Abort, name: &str, got: &str, want: &str) {
+    assert!(rt; got == want, "{name} reads as {got}");
+}
+
+/// Asserts what a text reads as.
+fn expect_pattern<R: Abort + AllocGlobal>(rt: &R, name: &str, text: &[u8], want: &str) {
+    let got = reading(rt, text);
+    expect_reading(rt, name, got.as_str(), want);
 }
 
 /// Each line of the table has a pattern, and behind ` => ` what it reads as.
-fn expect_table(rt: &impl Abort, alloc: Global, table: &str) -> Result<usize, AllocError> {
+fn expect_table<R: Abort + AllocGlobal>(rt: &R, table: &str) -> usize {
     let mut count = 0usize;
     for line in table.lines() {
         if let Some((pattern, want)) = line.split_once(" => ") {
-            expect_pattern(rt, alloc, pattern, want)?;
+            expect_pattern(rt, pattern, pattern.as_bytes(), want);
             count = count.saturating_add(1);
         }
     }
-    Ok(count)
+    count
 }
 
 const ESCAPES: &str = r#"
@@ -310,6 +323,7 @@ a/\n => [97] $
 ^a|b => ^ ([97]|[98])
 a|b$ => ([97]|[98]) $
 x*$ => [120]{0,} $
+^a(b|"cd"){Digit}[e-f]*x{2}|yz$ => ^ ((((([97] ([98]|([99] [100]))) <Digit>) [101-102]{0,}) [120]){2,2}|([121] [122])) $
 {D}$ => <D> $
 \n$ => [10] $
 a{2}$ => [97]{2,2} $
@@ -469,24 +483,22 @@ const TABLES: &[(&str, usize)] = &[
     (ESCAPES, 50),
     (LEXEMES, 53),
     (GRAMMAR, 70),
-    (ANCHORS, 31),
+    (ANCHORS, 32),
     (BRACKETS, 72),
     (BRACKETED, 51),
 ];
 
 /// Asserts what a table's patterns read as, and how many it has.
-fn expect_rows(rt: &impl Abort, alloc: Global, table: &str, rows: usize) -> Result<(), AllocError> {
-    let count = expect_table(rt, alloc, table)?;
-    assert_eq!(rt; count, rows);
-    Ok(())
+fn expect_rows<R: Abort + AllocGlobal>(rt: &R, table: &str, rows: usize) {
+    let count = expect_table(rt, table);
+    assert!(rt; count == rows, "{count} rows");
 }
 
 #[test]
-fn patterns_read_as_the_grammar_says(rt: HostRuntime) -> Result<(), AllocError> {
+fn patterns_read_as_the_grammar_says(rt: HostRuntime) {
     for (table, rows) in TABLES {
-        expect_rows(&rt, rt.alloc(), table, *rows)?;
+        expect_rows(&rt, table, *rows);
     }
-    Ok(())
 }
 
 const NO_TEXT: &[(&[u8], &str)] = &[
@@ -503,19 +515,11 @@ const NO_TEXT: &[(&[u8], &str)] = &[
     (b"\\\n", "E10"),
 ];
 
-/// Asserts what bytes read as.
-fn expect_bytes(rt: &impl Abort, alloc: Global, text: &[u8], want: &str) -> Result<(), AllocError> {
-    let got = reading(alloc, text)?;
-    assert_eq!(rt; got.as_str(), want);
-    Ok(())
-}
-
 #[test]
-fn bytes_outside_of_text_are_read(rt: HostRuntime) -> Result<(), AllocError> {
+fn bytes_outside_of_text_are_read(rt: HostRuntime) {
     for (text, want) in NO_TEXT {
-        expect_bytes(&rt, rt.alloc(), text, want)?;
+        expect_pattern(&rt, want, text, want);
     }
-    Ok(())
 }
 
 const SUBSTITUTES: &[(&str, &str)] = &[
@@ -530,52 +534,46 @@ const SUBSTITUTES: &[(&str, &str)] = &[
 ];
 
 /// What a text reads as where no anchors may stand, or the fault's code.
-fn substitute(alloc: Global, text: &str) -> Result<String, AllocError> {
-    let mut got = String::new(alloc);
-    match read_substitute(alloc, text.as_bytes()) {
-        Ok(expr) => show(&mut got, &expr)?,
-        Err(fault) => write!(&mut got, "{fault}")?,
+fn substitute<R: Abort + AllocGlobal>(rt: &R, text: &[u8]) -> String {
+    match read_substitute(rt.alloc(), text) {
+        Ok(expr) => shown_expr(rt, &expr),
+        Err(fault) => code(rt, fault),
     }
-    Ok(got)
+}
+
+/// An expression as a text.
+fn shown_expr<R: Abort + AllocGlobal>(rt: &R, expr: &Expr) -> String {
+    let mut out = String::new(rt.alloc());
+    show(rt, &mut out, expr);
+    out
 }
 
 /// Asserts it.
-fn expect_substitute(
-    rt: &impl Abort,
-    alloc: Global,
-    text: &str,
-    want: &str,
-) -> Result<(), AllocError> {
-    let got = substitute(alloc, text)?;
-    assert_eq!(rt; got.as_str(), want);
-    Ok(())
+fn expect_substitute<R: Abort + AllocGlobal>(rt: &R, text: &str, want: &str) {
+    let got = substitute(rt, text.as_bytes());
+    expect_reading(rt, text, got.as_str(), want);
 }
 
 #[test]
-fn substitutes_have_no_anchors(rt: HostRuntime) -> Result<(), AllocError> {
+fn substitutes_have_no_anchors(rt: HostRuntime) {
     for (text, want) in SUBSTITUTES {
-        expect_substitute(&rt, rt.alloc(), text, want)?;
+        expect_substitute(&rt, text, want);
     }
-    Ok(())
 }
 
 /// A front, a middle and a back, the first and last repeated.
-fn nested(
-    alloc: Global,
+fn nested<R: Abort + AllocGlobal>(
+    rt: &R,
     front: &str,
     times: usize,
     middle: &str,
     back: &str,
-) -> Result<String, AllocError> {
-    let mut text = String::new(alloc);
-    for _ in 0..times {
-        text.push_str(front)?;
-    }
-    text.push_str(middle)?;
-    for _ in 0..times {
-        text.push_str(back)?;
-    }
-    Ok(text)
+) -> String {
+    let mut text = String::new(rt.alloc());
+    put_times(rt, &mut text, front, times);
+    put(rt, &mut text, middle);
+    put_times(rt, &mut text, back, times);
+    text
 }
 
 /// A front, how often it stands, a middle, a back, and whether the text is read.
@@ -595,30 +593,34 @@ const DEEP: &[Deep] = &[
     ("\\xa", 341, "", "", true),
 ];
 
+/// Whether a text is read as a pattern.
+fn is_pattern<R: AllocGlobal>(rt: &R, text: &[u8]) -> bool {
+    read_pattern(rt.alloc(), text).is_ok()
+}
+
+/// Whether a text is read as a substitute.
+fn is_substitute<R: AllocGlobal>(rt: &R, text: &[u8]) -> bool {
+    read_substitute(rt.alloc(), text).is_ok()
+}
+
 /// Asserts whether a text is read.
-fn expect_read(rt: &impl Abort, alloc: Global, text: &[u8], reads: bool, front: &str) {
-    let pattern = read_pattern(alloc, text);
-    let substitute = read_substitute(alloc, text);
-    assert!(rt;
-        pattern.is_ok() == reads && substitute.is_ok() == reads,
-        "{front}"
-    );
+fn expect_read<R: Abort + AllocGlobal>(rt: &R, text: &[u8], reads: bool, front: &str) {
+    holds(rt, is_pattern(rt, text) == reads, front);
+    holds(rt, is_substitute(rt, text) == reads, front);
 }
 
 /// Asserts it of a deep text.
-fn expect_deep(rt: &impl Abort, alloc: Global, deep: &Deep) -> Result<(), AllocError> {
+fn expect_deep<R: Abort + AllocGlobal>(rt: &R, deep: &Deep) {
     let (front, times, middle, back, reads) = *deep;
-    let text = nested(alloc, front, times, middle, back)?;
-    expect_read(rt, alloc, text.as_bytes(), reads, front);
-    Ok(())
+    let text = nested(rt, front, times, middle, back);
+    expect_read(rt, text.as_bytes(), reads, front);
 }
 
 #[test]
-fn deep_trees_are_read_and_dropped(rt: HostRuntime) -> Result<(), AllocError> {
+fn deep_trees_are_read_and_dropped(rt: HostRuntime) {
     for deep in DEEP {
-        expect_deep(&rt, rt.alloc(), deep)?;
+        expect_deep(&rt, deep);
     }
-    Ok(())
 }
 
 /// Texts, and where the pattern ends that they begin with.
@@ -657,7 +659,7 @@ const ENDS: &[(&str, usize)] = &[
 
 /// Asserts where a pattern ends.
 fn expect_end(rt: &impl Abort, text: &str, want: usize) {
-    assert_eq!(rt; pattern_end(text.as_bytes()), want, "{text:?}");
+    holds(rt, pattern_end(text.as_bytes()) == want, text);
 }
 
 #[test]
@@ -667,20 +669,32 @@ fn patterns_end_at_the_first_blank_outside(rt: HostRuntime) {
     }
 }
 
-/// Asserts that a pattern is shown so, where there is memory for it.
-fn expect_shown(rt: &impl Abort, alloc: Global, pattern: &Pattern, want: &str) {
-    if let Ok(got) = show_pattern(alloc, pattern) {
-        assert_eq!(rt; got.as_str(), want);
+/// Whether memory was refused to a reading.
+fn lacks_memory(read: &Result<Pattern, EreFault>) -> bool {
+    matches!(read, Err(EreFault::Memory))
+}
+
+/// Whether both readings gave the same pattern.
+fn are_equal(one: &Result<Pattern, EreFault>, other: &Result<Pattern, EreFault>) -> bool {
+    match (one, other) {
+        (Ok(pattern), Ok(same)) => pattern == same,
+        _ => false,
     }
+}
+
+/// Asserts that two readings of one text are equal, or that memory was refused to one.
+fn expect_answered(
+    rt: &impl Abort,
+    one: &Result<Pattern, EreFault>,
+    other: &Result<Pattern, EreFault>,
+) {
+    assert!(rt; lacks_memory(one) || lacks_memory(other) || are_equal(one, other));
 }
 
 #[test]
 fn refused_memory_is_answered_as_such(rt: HostRuntime) {
     let text = b"^a(b|\"cd\"){Digit}[e-f]*x{2}|yz$";
-    let want =
-        "^ ((((([97] ([98]|([99] [100]))) <Digit>) [101-102]{0,}) [120]){2,2}|([121] [122])) $";
-    match read_pattern(rt.alloc(), text) {
-        Ok(pattern) => expect_shown(&rt, rt.alloc(), &pattern, want),
-        Err(fault) => assert!(rt; matches!(fault, EreFault::Memory)),
-    }
+    let one = read_pattern(rt.alloc(), text);
+    let other = read_pattern(rt.alloc(), text);
+    expect_answered(&rt, &one, &other);
 }

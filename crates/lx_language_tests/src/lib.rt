@@ -2,8 +2,6 @@
 #![tactic(auto)]
 
 #[cfg(test)]
-mod automata;
-#[cfg(test)]
 mod equality;
 #[cfg(test)]
 mod expressions;
@@ -21,3 +19,5 @@ mod table_limits;
 mod table_texts;
 #[cfg(test)]
 mod tables;
+#[cfg(test)]
+mod texts;

@@ -1,12 +1,11 @@
 //! The scanner over tables: items with their lines, matches and places, and tables that are of no specification.
 
-use lx_fixtures::tables_of;
+use crate::table_texts::{tables_by, tables_in};
+use crate::texts::holds;
 use lx_scan::{Item, Match, Place, next_match, scan};
 use lx_spec::Kind;
 use lx_tables::Tables;
-use std::alloc::{AllocError, Global};
 use std::process::Abort;
-use std::test::Fail;
 
 const LINE_END: &str = "%%\nfoo return F;\nfoo$ return E;\n";
 
@@ -51,35 +50,21 @@ const TWO_ENDS: &[Item] = &[
 ];
 
 /// Asserts that a text has these items by the tables.
-fn scans(
-    rt: &impl Abort,
-    alloc: Global,
-    tables: &Tables,
-    text: &[u8],
-    wanted: &[Item],
-) -> Result<(), AllocError> {
-    let items = scan(alloc, tables, text)?;
-    assert_eq!(rt; items.as_slice(), wanted);
-    Ok(())
+fn scans<R: Abort + AllocGlobal>(rt: &R, tables: &Tables, text: &[u8], wanted: &[Item]) {
+    let items = scan(rt.alloc(), tables, text).expect(rt, "memory");
+    holds(rt, items.as_slice() == wanted, "items");
 }
 
 /// Asserts that a text has these items by the tables of a specification.
-fn scans_by(
-    rt: &impl Abort,
-    alloc: Global,
-    spec: &str,
-    text: &[u8],
-    wanted: &[Item],
-) -> Result<(), Fail> {
-    let tables = tables_of(alloc, spec)?;
-    scans(rt, alloc, &tables, text, wanted)?;
-    Ok(())
+fn scans_by<R: Abort + AllocGlobal>(rt: &R, spec: &str, text: &[u8], wanted: &[Item]) {
+    let tables = tables_by(rt, spec);
+    scans(rt, &tables, text, wanted);
 }
 
 #[test]
-fn items_have_the_lines_on_which_they_begin(rt: HostRuntime) -> Result<(), Fail> {
-    scans_by(&rt, rt.alloc(), TWO_LINES, b"a\nb", TWO_TOKENS)?;
-    scans_by(&rt, rt.alloc(), LINE_END, b"foo\nfoo", TWO_ENDS)
+fn items_have_the_lines_on_which_they_begin(rt: HostRuntime) {
+    scans_by(&rt, TWO_LINES, b"a\nb", TWO_TOKENS);
+    scans_by(&rt, LINE_END, b"foo\nfoo", TWO_ENDS);
 }
 
 /// The first match of two lines of `foo`.
@@ -100,16 +85,19 @@ const BEHIND: Place = Place {
 /// Asserts what the first match of two lines of `foo` is, and that an empty text has none.
 fn matches_first(rt: &impl Abort, tables: &Tables) {
     let _conditions = tables.conditions();
-    let next = next_match(tables, b"foo\nfoo", Place::begin());
-    assert_eq!(rt; next, Some((FOUND, BEHIND)));
-    assert!(rt; next_match(tables, b"", Place::begin()).is_none());
+    let first = next_match(tables, b"foo\nfoo", Place::begin());
+    holds(rt, first == Some((FOUND, BEHIND)), "foo");
+    holds(
+        rt,
+        next_match(tables, b"", Place::begin()).is_none(),
+        "nothing",
+    );
 }
 
 #[test]
-fn a_match_leads_to_the_place_behind_it(rt: HostRuntime) -> Result<(), Fail> {
-    let tables = tables_of(rt.alloc(), LINE_END)?;
+fn a_match_leads_to_the_place_behind_it(rt: HostRuntime) {
+    let tables = tables_by(&rt, LINE_END);
     matches_first(&rt, &tables);
-    Ok(())
 }
 
 /// A rule that ends with `$`, and steps that take no newline: after an `a` alone there is no token.
@@ -131,8 +119,7 @@ const TWO_ECHOES: &[Item] = &[
 ];
 
 #[test]
-fn tables_of_no_specification_are_scanned_by_to_the_end(rt: HostRuntime) -> Result<(), Fail> {
-    let tables = Tables::read(rt.alloc(), MADE_UP.as_bytes())?;
-    scans(&rt, rt.alloc(), &tables, b"aa", TWO_ECHOES)?;
-    Ok(())
+fn tables_of_no_specification_are_scanned_by_to_the_end(rt: HostRuntime) {
+    let tables = tables_in(&rt, MADE_UP);
+    scans(&rt, &tables, b"aa", TWO_ECHOES);
 }

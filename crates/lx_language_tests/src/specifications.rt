@@ -1,85 +1,94 @@
 //! Worked specifications: what each says, or its fault.
 
 use crate::expressions::{show, show_pattern};
-use lx_spec::{Code, Spec, SpecFault, read_spec};
-use std::alloc::{AllocError, Global};
+use crate::texts::{formatted, holds, put, put_name, put_number};
+use lx_spec::{Code, Definition, Rule, Spec, SpecFault, Step, read_spec};
 use std::fmt::Write;
 use std::process::Abort;
 
-fn show_name(out: &mut String, name: &[u8]) -> Result<(), AllocError> {
-    for byte in name {
-        out.push(char::from(*byte))?;
+/// A name, with `!` before it where it is of an exclusive condition.
+fn show_name(rt: &impl Abort, out: &mut String, name: &[u8], exclusive: bool) {
+    if exclusive {
+        put(rt, out, "!");
     }
-    out.push(' ')
+    put_name(rt, out, name);
+    put(rt, out, " ");
 }
 
-/// The conditions and the kinds by their names, an exclusive condition with `!`.
-fn show_names(out: &mut String, spec: &Spec) -> Result<(), AllocError> {
+/// The conditions and the kinds by their names.
+fn show_names(rt: &impl Abort, out: &mut String, spec: &Spec) {
     for condition in &spec.conditions {
-        if condition.exclusive {
-            out.push('!')?;
-        }
-        show_name(out, condition.name.as_slice())?;
+        show_name(rt, out, condition.name.as_slice(), condition.exclusive);
     }
-    out.push_str("/ ")?;
+    put(rt, out, "/ ");
     for kind in &spec.kinds {
-        show_name(out, kind.as_slice())?;
+        show_name(rt, out, kind.as_slice(), false);
     }
-    out.push('\n')
+    put(rt, out, "\n");
 }
 
-/// The definitions, one a line.
-fn show_definitions(out: &mut String, spec: &Spec) -> Result<(), AllocError> {
+/// A definition.
+fn show_definition(rt: &impl Abort, out: &mut String, definition: &Definition) {
+    show_name(rt, out, definition.name.as_slice(), false);
+    show(rt, out, &definition.expr);
+    put(rt, out, "\n");
+}
+
+/// The conditions and the steps of a rule.
+fn show_action(rt: &impl Abort, out: &mut String, conditions: &Option<Vec<u16>>, action: &[Step]) {
+    writeln!(out, " {conditions:?} {action:?}").expect(rt, "memory");
+}
+
+/// A rule: the first line, the pattern, the conditions and the steps.
+fn show_rule(rt: &impl Abort, out: &mut String, rule: &Rule) {
+    put_number(rt, out, rule.line);
+    put(rt, out, " ");
+    show_pattern(rt, out, &rule.pattern);
+    show_action(rt, out, &rule.conditions, rule.action.as_slice());
+}
+
+/// The definitions and the rules, one a line.
+fn show_lines(rt: &impl Abort, out: &mut String, spec: &Spec) {
     for definition in &spec.definitions {
-        show_name(out, definition.name.as_slice())?;
-        show(out, &definition.expr)?;
-        out.push('\n')?;
+        show_definition(rt, out, definition);
     }
-    Ok(())
+    for rule in &spec.rules {
+        show_rule(rt, out, rule);
+    }
 }
 
-/// The rules, one a line: the first line, the pattern, the conditions and the steps.
-fn show_rules(alloc: Global, out: &mut String, spec: &Spec) -> Result<(), AllocError> {
-    for rule in &spec.rules {
-        let pattern = show_pattern(alloc, &rule.pattern)?;
-        let (line, conditions, action) = (rule.line, &rule.conditions, rule.action.as_slice());
-        writeln!(out, "{line} {pattern} {conditions:?} {action:?}")?;
-    }
-    Ok(())
+/// What a specification says.
+fn shown<R: Abort + AllocGlobal>(rt: &R, spec: &Spec) -> String {
+    let mut out = String::new(rt.alloc());
+    show_names(rt, &mut out, spec);
+    show_lines(rt, &mut out, spec);
+    out
 }
 
 /// What a text says, or its fault.
-fn saying(alloc: Global, text: &[u8]) -> Result<String, AllocError> {
-    let mut out = String::new(alloc);
-    match read_spec(alloc, text) {
-        Ok(spec) => {
-            show_names(&mut out, &spec)?;
-            show_definitions(&mut out, &spec)?;
-            show_rules(alloc, &mut out, &spec)?;
-        }
-        Err(fault) => write!(&mut out, "{fault}")?,
+fn saying<R: Abort + AllocGlobal>(rt: &R, text: &[u8]) -> String {
+    match read_spec(rt.alloc(), text) {
+        Ok(spec) => shown(rt, &spec),
+        Err(fault) => fault_of(rt, &fault),
     }
-    Ok(out)
+}
+
+/// A fault as it is printed.
+fn fault_of<R: Abort + AllocGlobal>(rt: &R, fault: &SpecFault) -> String {
+    formatted(rt, format!(in rt.alloc(); "{fault}"))
 }
 
 /// Asserts that a text says this.
-fn expect_saying(
-    rt: &impl Abort,
-    alloc: Global,
-    text: &[u8],
-    want: &str,
-) -> Result<(), AllocError> {
-    let got = saying(alloc, text)?;
-    assert_eq!(rt; got.as_str(), want);
-    Ok(())
+fn expect_saying<R: Abort + AllocGlobal>(rt: &R, text: &[u8], want: &str) {
+    let got = saying(rt, text);
+    holds(rt, got.as_str() == want, got.as_str());
 }
 
 /// Asserts that each text says what stands behind it.
-fn expect(rt: &impl Abort, alloc: Global, rows: &[(&[u8], &str)]) -> Result<(), AllocError> {
+fn expect<R: Abort + AllocGlobal>(rt: &R, rows: &[(&[u8], &str)]) {
     for (text, want) in rows {
-        expect_saying(rt, alloc, text, want)?;
+        expect_saying(rt, text, want);
     }
-    Ok(())
 }
 
 /// Rules that are refused.
@@ -144,29 +153,31 @@ const CR_LF: &[(&[u8], &str)] = &[
 ];
 
 #[test]
-fn specifications_say_what_was_worked_out_by_hand(rt: HostRuntime) -> Result<(), AllocError> {
-    expect(&rt, rt.alloc(), REFUSED_RULES)?;
-    expect(&rt, rt.alloc(), REFUSED_DEFINITIONS)?;
-    expect(&rt, rt.alloc(), READ)?;
-    expect(&rt, rt.alloc(), CR_LF)
+fn specifications_say_what_was_worked_out_by_hand(rt: HostRuntime) {
+    expect(&rt, REFUSED_RULES);
+    expect(&rt, REFUSED_DEFINITIONS);
+    expect(&rt, READ);
+    expect(&rt, CR_LF);
 }
 
 #[test]
 fn refused_memory_is_answered_as_such(rt: HostRuntime) {
     let text = b"%x C\nD [0-9]\nE {D}+\n%%\na |\n<C,0>{E} { ECHO; BEGIN C; return AB; }\n";
-    match read_spec(rt.alloc(), text) {
-        Ok(spec) => assert!(rt; spec.definitions.len() == 2 && spec.rules.len() == 2),
-        Err(fault) => assert!(rt; fault.code == Code::Memory && fault.line == 0, "{fault}"),
-    }
+    let is_so = match read_spec(rt.alloc(), text) {
+        Ok(spec) => spec.definitions.len() == 2 && spec.rules.len() == 2,
+        Err(fault) => fault.code == Code::Memory && fault.line == 0,
+    };
+    assert!(rt; is_so);
 }
 
+/// A fault that is of a line.
+const NO_ACTION: SpecFault = SpecFault {
+    code: Code::NoAction,
+    line: 7,
+};
+
 #[test]
-fn faults_print_their_code_and_line(rt: HostRuntime) -> Result<(), AllocError> {
-    let fault = SpecFault {
-        code: Code::NoAction,
-        line: 7,
-    };
-    let text = format!(in rt.alloc(); "{fault}")?;
-    assert_eq!(rt; text.as_str(), "E20 at line 7");
-    Ok(())
+fn faults_print_their_code_and_line(rt: HostRuntime) {
+    let text = fault_of(&rt, &NO_ACTION);
+    holds(&rt, text.as_str() == "E20 at line 7", text.as_str());
 }

@@ -1,10 +1,9 @@
 //! Single changes of the texts of three rules, and whether what is then written is a table's text.
 
 use crate::table_texts::expect_read;
+use crate::texts::formatted;
 use lx_fixtures::THREE_RULES_TEXTS;
-use std::alloc::Global;
 use std::process::Abort;
-use std::test::Fail;
 
 /// What stands in a text, what is written in its place, and whether that is a table's text too.
 type Change = (&'static str, &'static str, bool);
@@ -207,40 +206,35 @@ const CLASSES: &[Change] = &[
 ];
 
 /// The text with another piece in the place of the first one that is so.
-fn changed(alloc: Global, text: &str, old: &str, new: &str) -> Result<String, Fail> {
-    let (front, back) = text.split_once(old).ok_or("the text has no such piece")?;
-    Ok(format!(in alloc; "{front}{new}{back}")?)
+fn changed<R: Abort + AllocGlobal>(rt: &R, text: &str, old: &str, new: &str) -> String {
+    let (front, back) = text.split_once(old).expect(rt, old);
+    formatted(rt, format!(in rt.alloc(); "{front}{new}{back}"))
 }
 
 /// Asserts of a changed text whether it is a table's.
-fn reads_change<R: Abort + AllocGlobal>(rt: &R, text: &str, change: &Change) -> Result<(), Fail> {
+fn reads_change<R: Abort + AllocGlobal>(rt: &R, text: &str, change: &Change) {
     let (old, new, accepted) = *change;
-    let text = changed(rt.alloc(), text, old, new)?;
-    expect_read(rt, text.as_str(), accepted)
+    let text = changed(rt, text, old, new);
+    expect_read(rt, text.as_str(), accepted);
 }
 
 /// Asserts of each changed text whether it is a table's.
-fn reads_changes<R: Abort + AllocGlobal>(
-    rt: &R,
-    text: &str,
-    changes: &[Change],
-) -> Result<(), Fail> {
+fn reads_changes<R: Abort + AllocGlobal>(rt: &R, text: &str, changes: &[Change]) {
     for change in changes {
-        reads_change(rt, text, change)?;
+        reads_change(rt, text, change);
     }
-    Ok(())
 }
 
 /// Asserts it of the changes of both versions, and of these.
-fn reads_all<R: Abort + AllocGlobal>(rt: &R, text: &str, own: &[Change]) -> Result<(), Fail> {
-    reads_changes(rt, text, NAMES)?;
-    reads_changes(rt, text, RULES)?;
-    reads_changes(rt, text, own)
+fn reads_all<R: Abort + AllocGlobal>(rt: &R, text: &str, own: &[Change]) {
+    reads_changes(rt, text, NAMES);
+    reads_changes(rt, text, RULES);
+    reads_changes(rt, text, own);
 }
 
 #[test]
-fn a_changed_text_is_read_where_it_is_a_tables_text(rt: HostRuntime) -> Result<(), Fail> {
+fn a_changed_text_is_read_where_it_is_a_tables_text(rt: HostRuntime) {
     let (first, second) = THREE_RULES_TEXTS;
-    reads_all(&rt, first, RANGES)?;
-    reads_all(&rt, second, CLASSES)
+    reads_all(&rt, first, RANGES);
+    reads_all(&rt, second, CLASSES);
 }

@@ -1,74 +1,76 @@
 //! Damaged texts of tables: fronts, and each byte changed in every way.
 
 use crate::table_texts::{SAMPLES, read_text};
-use std::alloc::{AllocError, Global};
 use std::process::Abort;
-use std::test::Fail;
+
+/// Asserts that a front of a text is not read.
+fn reads_not<R: Abort + AllocGlobal>(rt: &R, front: &[u8]) {
+    let read = read_text(rt, front);
+    assert!(rt; read.is_none(), "{front:?}");
+}
 
 /// Asserts that no front of a text is read.
-fn reads_no_front<R: Abort + AllocGlobal>(rt: &R, text: &[u8]) -> Result<(), Fail> {
+fn reads_no_front<R: Abort + AllocGlobal>(rt: &R, text: &[u8]) {
     for end in 0..text.len() {
-        let read = read_text(rt.alloc(), &text[..end])?;
-        assert!(rt; read.is_none(), "{end} bytes");
+        reads_not(rt, &text[..end]);
     }
-    Ok(())
 }
 
 #[test]
-fn no_front_of_a_text_is_read(rt: HostRuntime) -> Result<(), Fail> {
+fn no_front_of_a_text_is_read(rt: HostRuntime) {
     for (_, (first, second)) in SAMPLES {
-        reads_no_front(&rt, first.as_bytes())?;
-        reads_no_front(&rt, second.as_bytes())?;
+        reads_no_front(&rt, first.as_bytes());
+        reads_no_front(&rt, second.as_bytes());
     }
-    Ok(())
+}
+
+/// Adds bytes to a text.
+fn put_bytes(rt: &impl Abort, out: &mut Vec<u8>, bytes: &[u8]) {
+    out.extend_from_slice(bytes).expect(rt, "memory");
 }
 
 /// These in a row.
-fn joined(alloc: Global, front: &[u8], middle: &[u8], back: &[u8]) -> Result<Vec<u8>, AllocError> {
-    let mut all = Vec::from_slice(alloc, front)?;
-    all.extend_from_slice(middle)?;
-    all.extend_from_slice(back)?;
-    Ok(all)
+fn joined<R: Abort + AllocGlobal>(rt: &R, front: &[u8], middle: &[u8], back: &[u8]) -> Vec<u8> {
+    let mut all = Vec::new(rt.alloc());
+    put_bytes(rt, &mut all, front);
+    put_bytes(rt, &mut all, middle);
+    put_bytes(rt, &mut all, back);
+    all
 }
 
 /// Asserts that a text is no table's, or is printed again.
-fn reads_as_itself<R: Abort + AllocGlobal>(rt: &R, text: &[u8]) -> Result<(), Fail> {
-    if let Some(printed) = read_text(rt.alloc(), text)? {
-        assert_eq!(rt; printed.as_slice(), text);
+fn reads_as_itself<R: Abort + AllocGlobal>(rt: &R, text: &[u8]) {
+    if let Some(printed) = read_text(rt, text) {
+        assert!(rt; printed.as_slice() == text, "{text:?}");
     }
-    Ok(())
 }
 
 /// Asserts that a text, with this in place of one of its bytes, is no table's, or is printed again.
-fn reads_nothing_else<R: Abort + AllocGlobal>(
-    rt: &R,
-    front: &[u8],
-    middle: &[u8],
-    back: &[u8],
-) -> Result<(), Fail> {
-    let damaged = joined(rt.alloc(), front, middle, back)?;
-    reads_as_itself(rt, &damaged)
+fn reads_nothing_else<R: Abort + AllocGlobal>(rt: &R, front: &[u8], middle: &[u8], back: &[u8]) {
+    let damaged = joined(rt, front, middle, back);
+    reads_as_itself(rt, &damaged);
 }
 
-/// Asserts it of each byte of a text, turned into each other one, left out, and doubled.
-fn reads_no_damage<R: Abort + AllocGlobal>(rt: &R, text: &[u8]) -> Result<(), Fail> {
-    for at in 0..text.len() {
-        let byte = text[at];
-        let (front, back) = (&text[..at], &text[at + 1..]);
-        for other in 0..=u8::MAX {
-            reads_nothing_else(rt, front, &[other], back)?;
-        }
-        reads_nothing_else(rt, front, &[], back)?;
-        reads_nothing_else(rt, front, &[byte, byte], back)?;
+/// Asserts it of a byte of a text, turned into each other one, left out, and doubled.
+fn reads_no_damaged_byte<R: Abort + AllocGlobal>(rt: &R, front: &[u8], byte: u8, back: &[u8]) {
+    for other in 0..=u8::MAX {
+        reads_nothing_else(rt, front, &[other], back);
     }
-    Ok(())
+    reads_nothing_else(rt, front, &[], back);
+    reads_nothing_else(rt, front, &[byte, byte], back);
+}
+
+/// Asserts it of each byte of a text.
+fn reads_no_damage<R: Abort + AllocGlobal>(rt: &R, text: &[u8]) {
+    for at in 0..text.len() {
+        reads_no_damaged_byte(rt, &text[..at], text[at], &text[at + 1..]);
+    }
 }
 
 #[test]
-fn a_damaged_byte_gives_the_tables_of_that_text_or_none(rt: HostRuntime) -> Result<(), Fail> {
+fn a_damaged_byte_gives_the_tables_of_that_text_or_none(rt: HostRuntime) {
     for (_, (first, second)) in SAMPLES {
-        reads_no_damage(&rt, first.as_bytes())?;
-        reads_no_damage(&rt, second.as_bytes())?;
+        reads_no_damage(&rt, first.as_bytes());
+        reads_no_damage(&rt, second.as_bytes());
     }
-    Ok(())
 }

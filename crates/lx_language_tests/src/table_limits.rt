@@ -1,30 +1,26 @@
 //! Texts of tables at the limits and just above them, and counts that promise more than there is.
 
 use crate::table_texts::expect_read;
-use std::alloc::{AllocError, Global};
-use std::fmt::Write;
+use crate::texts::{formatted, put, put_char, put_number};
 use std::process::Abort;
-use std::test::Fail;
 
 /// Adds a line in which each `#` is a number.
-fn add_line(text: &mut String, line: &str, number: u32) -> Result<(), AllocError> {
+fn put_line(rt: &impl Abort, text: &mut String, line: &str, number: u32) {
     for letter in line.chars() {
         if letter == '#' {
-            write!(text, "{number}")?;
+            put_number(rt, text, number);
         } else {
-            text.push(letter)?;
+            put_char(rt, text, letter);
         }
     }
-    Ok(())
 }
 
 /// Adds a line with a count, and as many lines with their numbers.
-fn add_lines(text: &mut String, head: &str, count: u32, line: &str) -> Result<(), AllocError> {
-    add_line(text, head, count)?;
+fn put_lines(rt: &impl Abort, text: &mut String, head: &str, count: u32, line: &str) {
+    put_line(rt, text, head, count);
     for number in 0..count {
-        add_line(text, line, number)?;
+        put_line(rt, text, line, number);
     }
-    Ok(())
 }
 
 /// The lines of a text of tables: the one of each condition, kind, rule and state.
@@ -33,33 +29,20 @@ type Lines = [&'static str; 4];
 /// How many conditions, kinds, rules and states there are.
 type Counts = [u32; 4];
 
-/// Adds all lines behind the first.
-fn add_all(
-    text: &mut String,
-    classes: &str,
-    counts: Counts,
-    lines: Lines,
-) -> Result<(), AllocError> {
+/// A text of tables: of version 1 where no lines of classes are given, else of version 2.
+fn made<R: Abort + AllocGlobal>(rt: &R, classes: &str, counts: Counts, lines: Lines) -> String {
     let [conditions, kinds, rules, states] = counts;
     let [start, kind, rule, state] = lines;
-    add_lines(text, "conditions #\n", conditions, start)?;
-    add_lines(text, "kinds #\n", kinds, kind)?;
-    add_lines(text, "rules #\n", rules, rule)?;
-    text.push_str(classes)?;
-    add_lines(text, "states #\n", states, state)?;
-    text.push_str("end\n")
-}
-
-/// A text of tables: of version 1 where no lines of classes are given, else of version 2.
-fn made(alloc: Global, classes: &str, counts: Counts, lines: Lines) -> Result<String, AllocError> {
-    let head = if classes.is_empty() {
-        "lx-tables 1\n"
-    } else {
-        "lx-tables 2\n"
-    };
-    let mut text = String::from_str(alloc, head)?;
-    add_all(&mut text, classes, counts, lines)?;
-    Ok(text)
+    let version = if classes.is_empty() { 1 } else { 2 };
+    let mut text = String::new(rt.alloc());
+    put_line(rt, &mut text, "lx-tables #\n", version);
+    put_lines(rt, &mut text, "conditions #\n", conditions, start);
+    put_lines(rt, &mut text, "kinds #\n", kinds, kind);
+    put_lines(rt, &mut text, "rules #\n", rules, rule);
+    put(rt, &mut text, classes);
+    put_lines(rt, &mut text, "states #\n", states, state);
+    put(rt, &mut text, "end\n");
+    text
 }
 
 /// One class of all bytes.
@@ -147,66 +130,73 @@ fn expect_made<R: Abort + AllocGlobal>(
     counts: Counts,
     lines: Lines,
     accepted: bool,
-) -> Result<(), Fail> {
-    let text = made(rt.alloc(), classes, counts, lines)?;
-    expect_read(rt, text.as_str(), accepted)
+) {
+    let text = made(rt, classes, counts, lines);
+    expect_read(rt, text.as_str(), accepted);
 }
 
 /// Asserts it of the texts in both versions.
-fn reads_both<R: Abort + AllocGlobal>(rt: &R) -> Result<(), Fail> {
+fn reads_both<R: Abort + AllocGlobal>(rt: &R) {
     for (counts, lines, accepted) in BOTH {
-        expect_made(rt, "", *counts, *lines, *accepted)?;
-        expect_made(rt, ONE_CLASS, *counts, *lines, *accepted)?;
+        expect_made(rt, "", *counts, *lines, *accepted);
+        expect_made(rt, ONE_CLASS, *counts, *lines, *accepted);
     }
-    Ok(())
 }
 
 /// Asserts it of the texts of 16,512 states.
-fn reads_states<R: Abort + AllocGlobal>(rt: &R) -> Result<(), Fail> {
+fn reads_states<R: Abort + AllocGlobal>(rt: &R) {
     for (classes, state, accepted) in STATES {
         let lines = ["start 16511 0\n", "", "", *state];
-        expect_made(rt, classes, [1, 0, 0, 16_512], lines, *accepted)?;
+        expect_made(rt, classes, [1, 0, 0, 16_512], lines, *accepted);
     }
-    Ok(())
 }
 
 #[test]
-fn counts_and_numbers_are_read_up_to_their_limits(rt: HostRuntime) -> Result<(), Fail> {
-    reads_both(&rt)?;
-    reads_states(&rt)
+fn counts_and_numbers_are_read_up_to_their_limits(rt: HostRuntime) {
+    reads_both(&rt);
+    reads_states(&rt);
 }
 
+/// What stands before the classes, which are those of all bytes, and before the states, in the text of either version, and a step in it.
+type Full = (&'static str, &'static str, &'static str, &'static str);
+
+const FULL: &[Full] = &[
+    (
+        "lx-tables 1\nconditions 1\nstart 0 0\nkinds 0\nrules 0\n",
+        "",
+        "states 256\nstate -",
+        " #-#:#",
+    ),
+    (
+        "lx-tables 2\nconditions 1\nstart 0 0\nkinds 0\nrules 0\nclasses 256\nclass",
+        " #-#:#",
+        "\nstates 256\nstate -",
+        " #:#",
+    ),
+];
+
 /// Tables with a class for each byte: on each byte the first state steps to the state of its number.
-fn full_classes(alloc: Global, first: bool) -> Result<String, AllocError> {
-    let mut text = String::from_str(
-        alloc,
-        if first {
-            "lx-tables 1\nconditions 1\nstart 0 0\nkinds 0\nrules 0\n"
-        } else {
-            "lx-tables 2\nconditions 1\nstart 0 0\nkinds 0\nrules 0\nclasses 256\nclass"
-        },
-    )?;
-    if !first {
-        add_lines(&mut text, "", 256, " #-#:#")?;
-        text.push('\n')?;
-    }
-    text.push_str("states 256\nstate -")?;
-    add_lines(&mut text, "", 256, if first { " #-#:#" } else { " #:#" })?;
-    add_lines(&mut text, "\n", 255, "state -\n")?;
-    text.push_str("end\n")?;
-    Ok(text)
+fn full_classes<R: Abort + AllocGlobal>(rt: &R, full: &Full) -> String {
+    let (head, class, states, step) = *full;
+    let mut text = String::new(rt.alloc());
+    put_lines(rt, &mut text, head, 256, class);
+    put_lines(rt, &mut text, states, 256, step);
+    put_lines(rt, &mut text, "\n", 255, "state -\n");
+    put(rt, &mut text, "end\n");
+    text
 }
 
 /// Asserts that such tables are read.
-fn reads_full<R: Abort + AllocGlobal>(rt: &R, first: bool) -> Result<(), Fail> {
-    let text = full_classes(rt.alloc(), first)?;
-    expect_read(rt, text.as_str(), true)
+fn reads_full<R: Abort + AllocGlobal>(rt: &R, full: &Full) {
+    let text = full_classes(rt, full);
+    expect_read(rt, text.as_str(), true);
 }
 
 #[test]
-fn each_byte_may_have_a_class_of_its_own(rt: HostRuntime) -> Result<(), Fail> {
-    reads_full(&rt, true)?;
-    reads_full(&rt, false)
+fn each_byte_may_have_a_class_of_its_own(rt: HostRuntime) {
+    for full in FULL {
+        reads_full(&rt, full);
+    }
 }
 
 /// Counts behind which the text ends.
@@ -226,20 +216,18 @@ const PROMISES: &[&str] = &[
 ];
 
 /// Asserts twenty times that a text with such a count is refused.
-fn refuses_promise<R: Abort + AllocGlobal>(rt: &R, head: &str, promise: &str) -> Result<(), Fail> {
-    let text = format!(in rt.alloc(); "{head}{promise}")?;
+fn refuses_promise<R: Abort + AllocGlobal>(rt: &R, head: &str, promise: &str) {
+    let text = formatted(rt, format!(in rt.alloc(); "{head}{promise}"));
     for _time in 0..20 {
-        expect_read(rt, text.as_str(), false)?;
+        expect_read(rt, text.as_str(), false);
     }
-    Ok(())
 }
 
 /// Each is read many times: a count costs no more than a text with as much.
 #[test]
-fn counts_that_promise_too_much_are_refused_at_once(rt: HostRuntime) -> Result<(), Fail> {
+fn counts_that_promise_too_much_are_refused_at_once(rt: HostRuntime) {
     for promise in PROMISES {
-        refuses_promise(&rt, "lx-tables 1\n", promise)?;
-        refuses_promise(&rt, "lx-tables 2\n", promise)?;
+        refuses_promise(&rt, "lx-tables 1\n", promise);
+        refuses_promise(&rt, "lx-tables 2\n", promise);
     }
-    Ok(())
 }

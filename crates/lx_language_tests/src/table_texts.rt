@@ -1,10 +1,9 @@
 //! The texts of tables, worked out by hand: specifications print them, and what is read is printed again.
 
+use crate::texts::holds;
 use lx_fixtures::{NO_RULES, NO_RULES_TEXTS, THREE_RULES, THREE_RULES_TEXTS, Texts, tables_of};
 use lx_tables::{TableFault, Tables};
-use std::alloc::Global;
 use std::process::Abort;
-use std::test::Fail;
 
 const AT_LINE_END: Texts = (
     "lx-tables 1\nconditions 1\nstart 0 0\nkinds 1\nkind E\nrules 1\nrule 1 k0\nstates 3\nstate - 97-97:1\nstate - 10-10:2\nstate 0\nend\n",
@@ -25,84 +24,79 @@ pub(crate) const SAMPLES: &[(&str, Texts)] = &[
 ];
 
 /// The text of version 1, or of version 2.
-fn text_of(alloc: Global, tables: &Tables, first: bool) -> Result<Vec<u8>, Fail> {
-    let mut out = Vec::new(alloc);
-    if first {
-        tables.print_first(&mut out)?;
+fn text_of<R: Abort + AllocGlobal>(rt: &R, tables: &Tables, first: bool) -> Vec<u8> {
+    let mut out = Vec::new(rt.alloc());
+    let printed = if first {
+        tables.print_first(&mut out)
     } else {
-        tables.print(&mut out)?;
-    }
-    Ok(out)
+        tables.print(&mut out)
+    };
+    printed.expect(rt, "memory");
+    out
 }
 
 /// The text of the tables that are read from a text, in the version that it says; None where it is no table's.
-pub(crate) fn read_text(alloc: Global, text: &[u8]) -> Result<Option<Vec<u8>>, Fail> {
-    let tables = match Tables::read(alloc, text) {
-        Err(TableFault::NoTables) => return Ok(None),
-        read => read?,
-    };
-    let first = !text.starts_with(b"lx-tables 2");
-    Ok(Some(text_of(alloc, &tables, first)?))
+pub(crate) fn read_text<R: Abort + AllocGlobal>(rt: &R, text: &[u8]) -> Option<Vec<u8>> {
+    match Tables::read(rt.alloc(), text) {
+        Ok(tables) => Some(text_of(rt, &tables, !text.starts_with(b"lx-tables 2"))),
+        Err(TableFault::NoTables) => None,
+        Err(TableFault::Memory) => panic!(rt; "memory"),
+    }
 }
 
 /// Asserts that a text is a table's, which is printed again, or that it is none.
-pub(crate) fn expect_read<R: Abort + AllocGlobal>(
-    rt: &R,
-    text: &str,
-    accepted: bool,
-) -> Result<(), Fail> {
-    match read_text(rt.alloc(), text.as_bytes())? {
-        Some(printed) => assert!(rt; accepted && printed.as_slice() == text.as_bytes(), "{text}"),
-        None => assert!(rt; !accepted, "{text}"),
-    }
-    Ok(())
+pub(crate) fn expect_read<R: Abort + AllocGlobal>(rt: &R, text: &str, accepted: bool) {
+    let is_so = match read_text(rt, text.as_bytes()) {
+        Some(printed) => accepted && printed.as_slice() == text.as_bytes(),
+        None => !accepted,
+    };
+    holds(rt, is_so, text);
 }
 
 /// Asserts that this is the text of version 1, or of version 2.
-fn has_text<R: Abort + AllocGlobal>(
-    rt: &R,
-    tables: &Tables,
-    first: bool,
-    wanted: &str,
-) -> Result<(), Fail> {
-    let printed = text_of(rt.alloc(), tables, first)?;
-    assert_eq!(rt; printed.as_slice(), wanted.as_bytes());
-    Ok(())
+fn has_text<R: Abort + AllocGlobal>(rt: &R, tables: &Tables, first: bool, wanted: &str) {
+    let printed = text_of(rt, tables, first);
+    holds(rt, printed.as_slice() == wanted.as_bytes(), wanted);
 }
 
 /// Asserts that tables have these texts.
-fn has_texts<R: Abort + AllocGlobal>(
-    rt: &R,
-    tables: &Tables,
-    (first, second): Texts,
-) -> Result<(), Fail> {
-    has_text(rt, tables, true, first)?;
-    has_text(rt, tables, false, second)
+pub(crate) fn has_texts<R: Abort + AllocGlobal>(rt: &R, tables: &Tables, texts: Texts) {
+    has_text(rt, tables, true, texts.0);
+    has_text(rt, tables, false, texts.1);
+}
+
+/// The tables of a specification, with as few states as may be.
+pub(crate) fn tables_by<R: Abort + AllocGlobal>(rt: &R, spec: &str) -> Tables {
+    tables_of(rt.alloc(), spec).expect(rt, spec)
+}
+
+/// The tables that a text reads as.
+pub(crate) fn tables_in<R: Abort + AllocGlobal>(rt: &R, text: &str) -> Tables {
+    Tables::read(rt.alloc(), text.as_bytes()).expect(rt, text)
 }
 
 /// Asserts that the tables which a text reads as have these texts.
-fn reads_to<R: Abort + AllocGlobal>(rt: &R, text: &str, texts: Texts) -> Result<(), Fail> {
-    let tables = Tables::read(rt.alloc(), text.as_bytes())?;
-    has_texts(rt, &tables, texts)
+fn reads_to<R: Abort + AllocGlobal>(rt: &R, text: &str, texts: Texts) {
+    let tables = tables_in(rt, text);
+    has_texts(rt, &tables, texts);
 }
 
 /// Asserts that the tables of a specification have these texts.
-fn makes<R: Abort + AllocGlobal>(rt: &R, spec: &str, texts: Texts) -> Result<(), Fail> {
-    let tables = tables_of(rt.alloc(), spec)?;
-    has_texts(rt, &tables, texts)
+fn makes<R: Abort + AllocGlobal>(rt: &R, spec: &str, texts: Texts) {
+    let tables = tables_by(rt, spec);
+    has_texts(rt, &tables, texts);
 }
 
-/// Asserts it of a specification and of both texts.
-fn makes_and_reads<R: Abort + AllocGlobal>(rt: &R, spec: &str, texts: Texts) -> Result<(), Fail> {
-    makes(rt, spec, texts)?;
-    reads_to(rt, texts.0, texts)?;
-    reads_to(rt, texts.1, texts)
+/// Asserts it of the tables of a specification, and of those that both texts read as.
+fn makes_and_reads<R: Abort + AllocGlobal>(rt: &R, spec: &str, texts: Texts) {
+    makes(rt, spec, texts);
+    reads_to(rt, texts.0, texts);
+    reads_to(rt, texts.1, texts);
 }
 
 #[test]
-fn both_texts_are_printed_and_read_byte_for_byte(rt: HostRuntime) -> Result<(), Fail> {
+fn both_texts_are_printed_and_read_byte_for_byte(rt: HostRuntime) {
     for (spec, texts) in SAMPLES {
-        makes_and_reads(&rt, spec, *texts)?;
+        makes_and_reads(&rt, spec, *texts);
     }
-    Ok(())
 }
