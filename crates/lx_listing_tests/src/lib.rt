@@ -3,6 +3,8 @@
 #![tactic(auto)]
 
 #[cfg(test)]
+mod asserts;
+#[cfg(test)]
 mod commands;
 #[cfg(test)]
 mod cut_files;
@@ -12,6 +14,8 @@ mod lines;
 mod listing;
 #[cfg(test)]
 mod outputs;
+#[cfg(test)]
+mod plans;
 #[cfg(test)]
 mod readers;
 #[cfg(test)]

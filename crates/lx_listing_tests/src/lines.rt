@@ -1,9 +1,21 @@
 //! Lines by both ways in which they are made: placed behind one another, or field by field, as those of long texts and of texts near the end of a
 //! file are.
 
-use lx_fixtures::plan_of;
-use lx_tool::print_listing;
-use std::test::Fail;
+ghost use Rattle.std.specs.Prelude.{◌<◌, ◌≤◌, length};
+
+use crate::asserts::same_bytes;
+use crate::plans::{listing_of, made, put, put_times};
+use std::process::Abort;
+
+/// Asserts that files have this listing by the rules.
+fn lists<R: Abort + AllocGlobal>(rt: &R, spec: &str, files: &[(&[u8], bool)], wanted: &[u8])
+    requires some_files { 0 < length files.now }
+    requires few_files { length files.now ≤ 65536 }
+{
+    let plan = made(rt, spec, files, 256);
+    let out = listing_of(rt, &plan);
+    same_bytes(rt, out.as_slice(), wanted, &spec);
+}
 
 /// Kinds by name and by number, two of which share the place where the front of their lines is kept, and one with a name that is too long to be kept.
 const FIELD_RULES: &str = "\
@@ -17,12 +29,12 @@ const FIELD_RULES: &str = "\
 ";
 
 /// The same text at the front of a file, with more behind it than is read at once, and as a file.
-const FIELD_FILES: [(&[u8], bool); 2] = [
+const FIELD_FILES: &[(&[u8], bool)] = &[
     (b"ab 12+!+-\\\n\x01\xE9cd                        ", false),
     (b"ab 12+!+-\\\n\x01\xE9cd", false),
 ];
 
-const FIELD_LISTING: &str = "\
+const FIELD_LISTING: &[u8] = b"\
 0 T WORD 1 0 2 ab
 0 T 300 1 3 2 12
 0 T 43 1 5 1 +
@@ -48,62 +60,86 @@ const FIELD_LISTING: &str = "\
 ";
 
 #[test]
-fn lists_a_text_alike_wherever_its_file_ends(rt: HostRuntime) -> Result<(), Fail> {
-    let alloc = rt.alloc();
-    let plan = plan_of(alloc, FIELD_RULES, FIELD_FILES.as_slice(), 256)?;
-    let mut out = Vec::new(alloc);
-    print_listing(alloc, &plan, &mut out)?;
-    assert_eq!(rt; out.as_slice(), FIELD_LISTING.as_bytes());
-    Ok(())
+fn lists_a_text_alike_wherever_its_file_ends(rt: HostRuntime) {
+    lists(&rt, FIELD_RULES, FIELD_FILES, FIELD_LISTING);
 }
 
 /// Words, and all else is skipped.
 const WORDS: &str = "%%\n[^ \\n]+ return 1;\n[ \\n]+ ;\n";
 
+/// Asserts that a file has this listing by the rule of words.
+fn lists_words<R: Abort + AllocGlobal>(rt: &R, text: &[u8], wanted: &[u8]) {
+    lists(rt, WORDS, &[(text, false)], wanted);
+}
+
+/// Adds the front of the line of a word.
+fn put_front<R: Abort + AllocGlobal>(
+    rt: &R,
+    wanted: &mut Vec<u8>,
+    line: u32,
+    start: usize,
+    len: usize,
+) {
+    let front = format!(in rt.alloc(); "0 T 1 {line} {start} {len} ").expect(rt, "memory");
+    put(rt, wanted, front.as_bytes());
+}
+
+/// Adds the line of the word `a`.
+fn put_line<R: Abort + AllocGlobal>(rt: &R, wanted: &mut Vec<u8>, line: u32, start: usize) {
+    put_front(rt, wanted, line, start, 1);
+    put(rt, wanted, b"a\n");
+}
+
 #[test]
-fn goes_on_with_the_digits_of_line_and_start(rt: HostRuntime) -> Result<(), Fail> {
-    let alloc = rt.alloc();
-    let mut text = Vec::new(alloc);
-    let mut wanted = Vec::new(alloc);
+fn goes_on_with_the_digits_of_line_and_start(rt: HostRuntime) {
+    let mut text = Vec::new(rt.alloc());
+    let mut wanted = Vec::new(rt.alloc());
+    put_times(&rt, &mut text, b"a\n", 5_100);
     for i in 0..5_100_u32 {
-        text.extend_from_slice(b"a\n")?;
-        wanted.extend_from_slice(format!(in alloc; "0 T 1 {} {} 1 a\n", i + 1, i * 2)?.as_bytes())?;
+        put_line(&rt, &mut wanted, i + 1, i as usize * 2);
     }
-    let plan = plan_of(alloc, WORDS, &[(text.as_slice(), false)], 256)?;
-    let mut out = Vec::new(alloc);
-    print_listing(alloc, &plan, &mut out)?;
-    assert!(rt; out == wanted);
-    Ok(())
+    lists_words(&rt, &text, &wanted);
 }
 
 /// Lengths about those at which a text is placed in another way, or isn't placed.
-const LENGTHS: [usize; 12] = [1, 2, 15, 16, 17, 31, 32, 33, 96, 97, 192, 193];
+const LENGTHS: &[usize] = &[1, 2, 15, 16, 17, 31, 32, 33, 96, 97, 192, 193];
 
-#[test]
-fn escapes_a_byte_at_any_place_of_a_text(rt: HostRuntime) -> Result<(), Fail> {
-    let alloc = rt.alloc();
-    let mut text = Vec::new(alloc);
-    let mut wanted = Vec::new(alloc);
-    for len in LENGTHS {
-        for place in [0, len / 2, len - 1, len] {
-            let line = format!(in alloc; "0 T 1 1 {} {len} ", text.len())?;
-            wanted.extend_from_slice(line.as_bytes())?;
-            for i in 0..len {
-                if i == place {
-                    text.push(b'\\')?;
-                    wanted.extend_from_slice(b"\\\\")?;
-                } else {
-                    text.push(b'a')?;
-                    wanted.push(b'a')?;
-                }
-            }
-            text.push(b' ')?;
-            wanted.push(b'\n')?;
+/// Adds a word of so many bytes, of which the one at a place, if there is one, is escaped, and its line.
+fn put_word<R: Abort + AllocGlobal>(
+    rt: &R,
+    text: &mut Vec<u8>,
+    wanted: &mut Vec<u8>,
+    len: usize,
+    place: usize,
+) {
+    put_front(rt, wanted, 1, text.len(), len);
+    for i in 0..len {
+        if i == place {
+            put(rt, text, b"\\");
+            put(rt, wanted, b"\\\\");
+        } else {
+            put(rt, text, b"a");
+            put(rt, wanted, b"a");
         }
     }
-    let plan = plan_of(alloc, WORDS, &[(text.as_slice(), false)], 256)?;
-    let mut out = Vec::new(alloc);
-    print_listing(alloc, &plan, &mut out)?;
-    assert_eq!(rt; out.as_slice(), wanted.as_slice());
-    Ok(())
+    put(rt, text, b" ");
+    put(rt, wanted, b"\n");
+}
+
+/// Adds four words of so many bytes, of which the first, the middle one, the last and none is escaped.
+fn put_words<R: Abort + AllocGlobal>(rt: &R, text: &mut Vec<u8>, wanted: &mut Vec<u8>, len: usize) {
+    put_word(rt, text, wanted, len, 0);
+    put_word(rt, text, wanted, len, len / 2);
+    put_word(rt, text, wanted, len, len.saturating_sub(1));
+    put_word(rt, text, wanted, len, len);
+}
+
+#[test]
+fn escapes_a_byte_at_any_place_of_a_text(rt: HostRuntime) {
+    let mut text = Vec::new(rt.alloc());
+    let mut wanted = Vec::new(rt.alloc());
+    for len in LENGTHS {
+        put_words(&rt, &mut text, &mut wanted, *len);
+    }
+    lists_words(&rt, &text, &wanted);
 }

@@ -1,214 +1,264 @@
 //! Listings of plans: each form of line, pieces of later files, writers that take a part or fail.
 
-use crate::writers::failing_writer;
+ghost use Rattle.std.specs.Prelude.{◌<◌, ◌≤◌};
+
+use crate::asserts::{holds, same, same_bytes};
+use crate::plans::{listing_of, made, mixed, put, put_times};
+use crate::writers::{Failing, failing_writer};
 use lx_fixtures::{
-    MIXED_FILES, MIXED_LISTING, MIXED_RULES, NO_RULES, inputs, last_file_first, mixed_plan,
-    plan_of, tables_of, take_first,
+    MIXED_FILES, MIXED_LISTING, MIXED_RULES, NO_RULES, inputs, last_file_first, tables_of,
+    take_first,
 };
 use lx_piece::{ListArrivals, Plan, Reader, ReaderFault, relay};
 use lx_post::RunFault;
 use lx_tool::{LineWrites, Listing, list_files, list_plan, print_listing};
-use std::alloc::{AllocError, Global};
 use std::io::Write;
 use std::process::Abort;
-use std::test::Fail;
+use std::sync::Wait;
+use std::thread::Threads;
 
-#[test]
-fn lists_each_form_of_line_whatever_the_pieces_are(rt: HostRuntime) -> Result<(), Fail> {
-    let alloc = rt.alloc();
-    for per_piece in [1, 2, 256] {
-        let plan = mixed_plan(alloc, per_piece)?;
-        let mut out = Vec::new(alloc);
-        print_listing(alloc, &plan, &mut out)?;
-        assert_eq!(rt;
-            out.as_slice(),
-            MIXED_LISTING.as_bytes(),
-            "with {per_piece} items a piece"
-        );
-    }
-    Ok(())
+/// Asserts how the mixed files are listed in pieces of so many items.
+fn lists_mixed<R: Abort + AllocGlobal>(rt: &R, per_piece: u32)
+    requires some_items { 0 < per_piece }
+    requires few_items { per_piece ≤ 4096 }
+{
+    let plan = mixed(rt, per_piece);
+    let out = listing_of(rt, &plan);
+    same_bytes(rt, out.as_slice(), MIXED_LISTING.as_bytes(), &per_piece);
 }
 
 #[test]
-fn lists_files_by_tables(rt: HostRuntime) -> Result<(), Fail> {
-    let alloc = rt.alloc();
-    for per_piece in [1, 256] {
-        let tables = tables_of(alloc, MIXED_RULES)?;
-        let files = inputs(alloc, MIXED_FILES.as_slice())?;
-        let mut out = Vec::new(alloc);
-        list_files(
-            &rt,
-            alloc,
-            tables,
-            files,
-            per_piece,
-            2,
-            LineWrites::Whole,
-            &mut out,
-        )?;
-        assert_eq!(rt;
-            out.as_slice(),
-            MIXED_LISTING.as_bytes(),
-            "by 2 workers, with {per_piece} items a piece"
-        );
-    }
-    Ok(())
+fn lists_each_form_of_line_whatever_the_pieces_are(rt: HostRuntime) {
+    lists_mixed(&rt, 1);
+    lists_mixed(&rt, 2);
+    lists_mixed(&rt, 256);
+}
+
+/// Asserts how they are listed by their tables.
+fn lists_by_tables<R: Abort + AllocGlobal + Threads + Wait + Sync>(rt: &R, per_piece: u32)
+    requires some_items { 0 < per_piece }
+    requires few_items { per_piece ≤ 4096 }
+{
+    let tables = tables_of(rt.alloc(), MIXED_RULES).expect(rt, "tables");
+    let files = inputs(rt.alloc(), MIXED_FILES.as_slice()).expect(rt, "memory");
+    let mut out = Vec::new(rt.alloc());
+    let whole = LineWrites::Whole;
+    let listed = list_files(rt, rt.alloc(), tables, files, per_piece, 2, whole, &mut out);
+    same(rt, &listed, &Ok(()));
+    same_bytes(rt, out.as_slice(), MIXED_LISTING.as_bytes(), &per_piece);
 }
 
 #[test]
-fn writes_each_line_by_itself_or_many_at_once(rt: HostRuntime) -> Result<(), Fail> {
-    let alloc = rt.alloc();
-    let plan = mixed_plan(alloc, 256)?;
-    for (writes, calls) in [(LineWrites::EachLine, 14), (LineWrites::Whole, 1)] {
-        for workers in [0, 2] {
-            let mut out = failing_writer(alloc, 4_096, 0, false);
-            list_plan(&rt, alloc, &plan, workers, writes, &mut out)?;
-            assert_eq!(rt;
-                out.held.as_slice(),
-                MIXED_LISTING.as_bytes(),
-                "{writes:?}, {workers} workers"
-            );
-            assert_eq!(rt; out.calls, calls, "{writes:?}, {workers} workers");
-        }
-    }
-    let mut out = failing_writer(alloc, 4_096, 0, false);
-    print_listing(alloc, &plan, &mut out)?;
-    assert_eq!(rt; out.calls, 14, "print_listing");
-    Ok(())
+fn lists_files_by_tables(rt: HostRuntime) {
+    lists_by_tables(&rt, 1);
+    lists_by_tables(&rt, 256);
 }
 
-// Puts these bytes behind the others so many times.
-fn push_times(text: &mut Vec<u8>, bytes: &[u8], times: u32) -> Result<(), AllocError> {
-    for _ in 0..times {
-        text.extend_from_slice(bytes)?;
-    }
-    Ok(())
+/// Asserts what was written, in so many calls.
+fn wrote(rt: &impl Abort, out: &Failing, wanted: &[u8], calls: u64) {
+    same(rt, &out.calls, &calls);
+    holds(rt, out.held.as_slice() == wanted, calls);
+}
+
+/// Asserts what a listing by so many workers writes, in so many calls.
+fn writes<R: Abort + AllocGlobal + Threads + Wait + Sync>(
+    rt: &R,
+    plan: &Plan,
+    workers: u8,
+    writes: LineWrites,
+    wanted: &[u8],
+    calls: u64,
+)
+    requires { workers ≤ 8 }
+{
+    let mut out = failing_writer(rt.alloc(), 1_000_000, 0, false);
+    let listed = list_plan(rt, rt.alloc(), plan, workers, writes, &mut out);
+    same(rt, &listed, &Ok(()));
+    wrote(rt, &out, wanted, calls);
+}
+
+/// Asserts it without workers and of two, where each line is written by itself, and where many are at once.
+fn writes_in<R: Abort + AllocGlobal + Threads + Wait + Sync>(
+    rt: &R,
+    plan: &Plan,
+    wanted: &[u8],
+    each: u64,
+    whole: u64,
+) {
+    writes(rt, plan, 0, LineWrites::EachLine, wanted, each);
+    writes(rt, plan, 2, LineWrites::EachLine, wanted, each);
+    writes(rt, plan, 0, LineWrites::Whole, wanted, whole);
+    writes(rt, plan, 2, LineWrites::Whole, wanted, whole);
+}
+
+/// Asserts what `print_listing` writes, so many bytes a call, in so many calls.
+fn prints<R: Abort + AllocGlobal>(rt: &R, plan: &Plan, out: &mut Failing) {
+    same(rt, &print_listing(rt.alloc(), plan, out), &Ok(()));
+}
+
+#[test]
+fn writes_each_line_by_itself_or_many_at_once(rt: HostRuntime) {
+    let plan = mixed(&rt, 256);
+    writes_in(&rt, &plan, MIXED_LISTING.as_bytes(), 14, 1);
+    let mut out = failing_writer(rt.alloc(), 4_096, 0, false);
+    prints(&rt, &plan, &mut out);
+    same(&rt, &out.calls, &14);
+}
+
+/// What stands in the long text.
+const LONG: u32 = 40_000;
+
+/// Adds the line of a long text, in its escaped form.
+fn put_long<R: Abort>(rt: &R, wanted: &mut Vec<u8>, front: &[u8]) {
+    put(rt, wanted, front);
+    put_times(rt, wanted, b"\\x01a", LONG);
+    put(rt, wanted, b">\n");
 }
 
 /// An Echo and a token have the same text of 80,002 bytes, which is escaped. Each of its 20 parts is a write, and so is what stands before the
 /// first, between the two and behind the last one.
 #[test]
-fn writes_long_texts_in_parts(rt: HostRuntime) -> Result<(), Fail> {
-    let alloc = rt.alloc();
-    let mut text = Vec::new(alloc);
-    text.extend_from_slice(b"ab <")?;
-    push_times(&mut text, b"\x01a", 40_000)?;
-    text.extend_from_slice(b"> cd")?;
-    let mut wanted = Vec::new(alloc);
-    wanted.extend_from_slice(b"0 T ID 1 0 2 ab\n0 E - 1 3 80002 <")?;
-    push_times(&mut wanted, b"\\x01a", 40_000)?;
-    wanted.extend_from_slice(b">\n0 T 65 1 3 80002 <")?;
-    push_times(&mut wanted, b"\\x01a", 40_000)?;
-    wanted.extend_from_slice(b">\n0 T ID 1 80006 2 cd\n0 ! cut\n")?;
-    let plan = plan_of(alloc, MIXED_RULES, &[(text.as_slice(), true)], 256)?;
-    for (writes, calls) in [(LineWrites::EachLine, 5), (LineWrites::Whole, 43)] {
-        for workers in [0, 2] {
-            let mut out = failing_writer(alloc, 1_000_000, 0, false);
-            list_plan(&rt, alloc, &plan, workers, writes, &mut out)?;
-            let is_whole = out.held.as_slice() == wanted.as_slice();
-            assert!(rt; is_whole, "{writes:?}, {workers} workers");
-            assert_eq!(rt; out.calls, calls, "{writes:?}, {workers} workers");
-        }
-    }
-    Ok(())
+fn writes_long_texts_in_parts(rt: HostRuntime) {
+    let mut text = Vec::new(rt.alloc());
+    put(&rt, &mut text, b"ab <");
+    put_times(&rt, &mut text, b"\x01a", LONG);
+    put(&rt, &mut text, b"> cd");
+    let mut wanted = Vec::new(rt.alloc());
+    put(&rt, &mut wanted, b"0 T ID 1 0 2 ab\n");
+    put_long(&rt, &mut wanted, b"0 E - 1 3 80002 <");
+    put_long(&rt, &mut wanted, b"0 T 65 1 3 80002 <");
+    put(&rt, &mut wanted, b"0 T ID 1 80006 2 cd\n0 ! cut\n");
+    writes_cut(&rt, text.as_slice(), wanted.as_slice());
+}
+
+/// Asserts what is written of such a text, which is cut.
+fn writes_cut<R: Abort + AllocGlobal + Threads + Wait + Sync>(rt: &R, text: &[u8], wanted: &[u8]) {
+    let plan = made(rt, MIXED_RULES, &[(text, true)], 256);
+    writes_in(rt, &plan, wanted, 5, 43);
+}
+
+/// Asserts that a listing by the main thread, whose writer fails at this call or never, ends so with two calls, and how much it has written.
+fn gathers<R: Abort + AllocGlobal + Threads + Wait + Sync>(
+    rt: &R,
+    plan: &Plan,
+    wanted: &[u8],
+    fails_at: u64,
+    ended: Result<(), RunFault>,
+    held: usize,
+) {
+    let mut out = failing_writer(rt.alloc(), 1_000_000, fails_at, false);
+    let answer = list_plan(rt, rt.alloc(), plan, 0, LineWrites::Whole, &mut out);
+    same(rt, &(answer, out.calls), &(ended, 2));
+    holds(rt, wanted.starts_with(out.held.as_slice()), fails_at);
+    same(rt, &out.held.len(), &held);
+}
+
+/// Asserts it of a plan whose listing has 100,890 bytes.
+fn gathers_lines<R: Abort + AllocGlobal + Threads + Wait + Sync>(rt: &R, plan: &Plan) {
+    let wanted = listing_of(rt, plan);
+    same(rt, &wanted.len(), &151_890);
+    gathers(rt, plan, &wanted, 0, Ok(()), 151_890);
+    gathers(rt, plan, &wanted, 2, Err(RunFault::Reader), 134_703);
+}
+
+/// Asserts it of the plan of these Echoes.
+fn gathers_echoes<R: Abort + AllocGlobal + Threads + Wait + Sync>(rt: &R, text: &[u8]) {
+    let plan = made(rt, NO_RULES, &[(text, false)], 256);
+    gathers_lines(rt, &plan);
 }
 
 /// The listing of 9,000 Echoes of one byte has 151,890 bytes. Its first 7,989 lines leave together, behind which less room is left in 135,168 bytes
 /// than a line may take.
 #[test]
-fn gathers_lines_until_they_are_worth_a_write(rt: HostRuntime) -> Result<(), Fail> {
-    let alloc = rt.alloc();
-    let mut text = Vec::new(alloc);
-    push_times(&mut text, b"h", 9_000)?;
-    let plan = plan_of(alloc, NO_RULES, &[(text.as_slice(), false)], 256)?;
-    let mut wanted = Vec::new(alloc);
-    print_listing(alloc, &plan, &mut wanted)?;
-    assert_eq!(rt; wanted.len(), 151_890);
-    for (fails_at, ended) in [(0, Ok(())), (2, Err(RunFault::Reader))] {
-        let mut out = failing_writer(alloc, 1_000_000, fails_at, false);
-        let answer = list_plan(&rt, alloc, &plan, 0, LineWrites::Whole, &mut out);
-        assert!(rt; answer == ended && out.calls == 2);
-        assert!(rt; wanted.as_slice().starts_with(out.held.as_slice()));
-        let held = if fails_at == 0 { 151_890 } else { 134_703 };
-        assert_eq!(rt; out.held.len(), held);
-    }
-    Ok(())
+fn gathers_lines_until_they_are_worth_a_write(rt: HostRuntime) {
+    let mut text = Vec::new(rt.alloc());
+    put_times(&rt, &mut text, b"h", 9_000);
+    gathers_echoes(&rt, text.as_slice());
 }
 
 #[test]
-fn writes_the_rest_of_what_was_taken_in_part(rt: HostRuntime) -> Result<(), Fail> {
-    let alloc = rt.alloc();
-    let plan = mixed_plan(alloc, 1)?;
-    let mut out = failing_writer(alloc, 1, 0, true);
-    print_listing(alloc, &plan, &mut out)?;
-    assert_eq!(rt; out.held.as_slice(), MIXED_LISTING.as_bytes());
-    Ok(())
+fn writes_the_rest_of_what_was_taken_in_part(rt: HostRuntime) {
+    let plan = mixed(&rt, 1);
+    let mut out = failing_writer(rt.alloc(), 1, 0, true);
+    prints(&rt, &plan, &mut out);
+    same_bytes(&rt, out.held.as_slice(), MIXED_LISTING.as_bytes(), &1);
 }
 
-/// The lines of the text `hi` without rules; where it is cut a third one stands behind them.
-const HI: &str = "0 E - 1 0 1 h\n0 E - 1 1 1 i\n";
+/// The calls at which a writer fails, and the lines of the text `hi` without rules that were written by then; where it is cut a third one stands
+/// behind them.
+const HI: &[(u64, &str)] = &[
+    (1, ""),
+    (2, "0 E - 1 0 1 h\n"),
+    (3, "0 E - 1 0 1 h\n0 E - 1 1 1 i\n"),
+];
+
+/// Asserts what was written where the writer fails at a call.
+fn ends_at<R: Abort + AllocGlobal>(
+    rt: &R,
+    plan: &Plan,
+    takes_nothing: bool,
+    call: u64,
+    lines: &str,
+) {
+    let mut out = failing_writer(rt.alloc(), 4_096, call, takes_nothing);
+    let ended = print_listing(rt.alloc(), plan, &mut out);
+    same(rt, &ended, &Err(RunFault::Reader));
+    wrote(rt, &out, lines.as_bytes(), call);
+}
 
 #[test]
-fn ends_where_the_writer_fails(rt: HostRuntime) -> Result<(), Fail> {
-    let alloc = rt.alloc();
-    let plan = plan_of(alloc, NO_RULES, &[(b"hi", true)], 256)?;
-    for takes_nothing in [false, true] {
-        for (call, lines) in [(1, ""), (2, "0 E - 1 0 1 h\n"), (3, HI)] {
-            let mut out = failing_writer(alloc, 4_096, call, takes_nothing);
-            let ended = print_listing(alloc, &plan, &mut out);
-            assert!(rt;
-                ended == Err(RunFault::Reader) && out.calls == call,
-                "{call}"
-            );
-            assert_eq!(rt; out.held.as_slice(), lines.as_bytes(), "{call}");
-        }
+fn ends_where_the_writer_fails(rt: HostRuntime) {
+    let plan = made(&rt, NO_RULES, &[(b"hi", true)], 256);
+    for (call, lines) in HI {
+        ends_at(&rt, &plan, false, *call, lines);
+        ends_at(&rt, &plan, true, *call, lines);
     }
-    Ok(())
 }
 
 // The writer's type is a parameter, since a listing that is made over a lent local isn't covered by the prover.
-fn relay_last_file_first<W: Write + Drop>(alloc: Global, plan: &Plan, out: W) -> Result<u64, Fail> {
-    let mut listing = Listing::new(alloc, plan, out)?;
-    let mut arrivals = ListArrivals::new(plan, last_file_first(alloc, plan)?);
-    relay(alloc, plan, &mut arrivals, &mut listing)?;
-    Ok(listing.faults())
+fn relay_last_file_first<R: Abort + AllocGlobal, W: Write + Drop>(
+    rt: &R,
+    plan: &Plan,
+    out: W,
+) -> u64 {
+    let pieces = last_file_first(rt.alloc(), plan).expect(rt, "memory");
+    let mut listing = Listing::new(rt.alloc(), plan, out).expect(rt, "memory");
+    let mut arrivals = ListArrivals::new(plan, pieces);
+    let _replies = relay(rt.alloc(), plan, &mut arrivals, &mut listing).expect(rt, "replies");
+    listing.faults()
+}
+
+/// Asserts how such a relay of the mixed files writes them.
+fn holds_pieces<R: Abort + AllocGlobal>(rt: &R, per_piece: u32)
+    requires some_items { 0 < per_piece }
+    requires few_items { per_piece ≤ 4096 }
+{
+    let plan = mixed(rt, per_piece);
+    let mut out = failing_writer(rt.alloc(), 4_096, 0, false);
+    same(rt, &relay_last_file_first(rt, &plan, &mut out), &0);
+    wrote(rt, &out, MIXED_LISTING.as_bytes(), 14);
 }
 
 /// It writes each line by itself, also where a piece has several.
 #[test]
-fn holds_the_pieces_of_later_files(rt: HostRuntime) -> Result<(), Fail> {
-    let alloc = rt.alloc();
-    for per_piece in [1, 256] {
-        let plan = mixed_plan(alloc, per_piece)?;
-        let mut out = failing_writer(alloc, 4_096, 0, false);
-        let faults = relay_last_file_first(alloc, &plan, &mut out)?;
-        assert_eq!(rt; faults, 0);
-        assert_eq!(rt; out.held.as_slice(), MIXED_LISTING.as_bytes());
-        assert_eq!(rt; out.calls, 14, "with {per_piece} items a piece");
-    }
-    Ok(())
+fn holds_the_pieces_of_later_files(rt: HostRuntime) {
+    holds_pieces(&rt, 1);
+    holds_pieces(&rt, 256);
 }
 
-fn take_twice<R: Abort, W: Write + Drop>(
-    rt: &R,
-    alloc: Global,
-    plan: &Plan,
-    out: W,
-) -> Result<(), Fail> {
-    let mut listing = Listing::new(alloc, plan, out)?;
-    let first = take_first(alloc, plan, &mut listing)?;
+/// Asserts that a new listing whose writer fails answers so at the first piece, and when it is handed that again.
+fn take_twice<R: Abort + AllocGlobal, W: Write + Drop>(rt: &R, plan: &Plan, out: W) {
+    let mut listing = Listing::new(rt.alloc(), plan, out).expect(rt, "memory");
+    let first = take_first(rt.alloc(), plan, &mut listing).expect(rt, "memory");
     assert!(rt; first == Err(ReaderFault::Device) && listing.faults() == 1);
-    let second = take_first(alloc, plan, &mut listing)?;
+    let second = take_first(rt.alloc(), plan, &mut listing).expect(rt, "memory");
     assert!(rt; second == Err(ReaderFault::Device) && listing.faults() == 2);
-    Ok(())
 }
 
 #[test]
-fn answers_device_once_it_has_failed(rt: HostRuntime) -> Result<(), Fail> {
-    let alloc = rt.alloc();
-    let plan = mixed_plan(alloc, 1)?;
-    let mut out = failing_writer(alloc, 4_096, 1, false);
-    take_twice(&rt, alloc, &plan, &mut out)?;
-    assert!(rt; out.calls == 1 && out.held.is_empty());
-    Ok(())
+fn answers_device_once_it_has_failed(rt: HostRuntime) {
+    let plan = mixed(&rt, 1);
+    let mut out = failing_writer(rt.alloc(), 4_096, 1, false);
+    take_twice(&rt, &plan, &mut out);
+    wrote(&rt, &out, b"", 1);
 }

@@ -1,141 +1,157 @@
 //! Outputs that fail at one of their calls: the program ends there with status 4, and a front of what it writes was written.
 
-use crate::running::status_over;
+use crate::asserts::{holds, same_bytes};
+use crate::running::{FILES, status_over};
 use crate::writers::{Failing, failing_writer};
-use lx_fixtures::{THREE_FILES_LISTING, THREE_RULES, THREE_RULES_TEXTS};
+use lx_fixtures::{THREE_FILES_LISTING, THREE_RULES_TEXTS};
 use lx_tables::Tables;
-use std::alloc::AllocError;
 use std::process::Abort;
 use std::sync::Wait;
-use std::test::Fail;
 use std::thread::Threads;
 
 /// How a writer fails: so many bytes are taken at a time, and a call fails by taking nothing, or by an error.
 type Way = (usize, bool);
 
-const WAYS: [Way; 4] = [(4_096, false), (4_096, true), (1, false), (1, true)];
+const WAYS: &[Way] = &[(4_096, false), (4_096, true), (1, false), (1, true)];
 
-/// The three rules and their tables, three files of which the second is empty, and no rules with a text.
-fn files() -> [(&'static str, &'static [u8]); 7] {
-    [
-        ("S", THREE_RULES.as_bytes()),
-        ("T", THREE_RULES_TEXTS.0.as_bytes()),
-        ("a", b"a"),
-        ("empty", b""),
-        ("n", b"1\n2"),
-        ("none", b"%%\n"),
-        ("hi", b"hi!"),
-    ]
+/// Whether a run was done before the call at which its output fails. Where it wasn't, it said that it can't write, and nothing else.
+fn is_done(rt: &impl Abort, status: u8, err: &[u8], call: u64) -> bool {
+    let done = status == 0;
+    let said = if done { "" } else { "lx: cannot write\n" };
+    same_bytes(rt, err, said.as_bytes(), &call);
+    holds(rt, done || status == 4, call);
+    done
 }
 
-/// Runs the program over these files, with an output that fails so at this call: whether it was done before, and the output. Where it
-/// wasn't, it said that it can't write, and nothing else.
+/// Runs the program with an output that fails at this call: whether it was done before.
 fn run_failing<R: Abort + AllocGlobal + Threads + Wait + Sync>(
     rt: &R,
     words: &[&str],
-    (most, takes_nothing): Way,
+    out: &mut Failing,
     call: u64,
-) -> Result<(bool, Failing), AllocError> {
-    let mut out = failing_writer(rt.alloc(), most, call, takes_nothing);
+) -> bool {
     let mut err: Vec<u8> = Vec::new(rt.alloc());
-    let status = status_over(rt, words, &files(), &mut out, &mut err)?;
-    let done = status == 0;
-    let said = if done { "" } else { "lx: cannot write\n" };
-    assert_eq!(rt; err.as_slice(), said.as_bytes(), "call {call}");
-    assert!(rt; done || status == 4, "call {call}");
-    Ok((done, out))
+    let status = status_over(rt, words, FILES, out, &mut err);
+    is_done(rt, status, err.as_slice(), call)
 }
 
 /// Asserts that a writer that fails at this call, and takes so many bytes at a time, holds the text where it was done before that
 /// call, and else a front of it.
-fn holds_front<R: Abort>(rt: &R, out: &Failing, most: usize, call: u64, text: &[u8], done: bool) {
-    let held = out.held.as_slice();
-    assert!(rt;
-        done == (out.calls < call) && out.calls <= call,
-        "call {call}"
-    );
-    assert!(rt;
-        text.starts_with(held) && done == (held.len() == text.len()),
-        "call {call}"
-    );
-    assert!(rt;
-        done || most != 1 || held.len() as u64 == call.saturating_sub(1),
-        "call {call}"
-    );
+fn holds_front(rt: &impl Abort, out: &Failing, most: usize, call: u64, text: &[u8], done: bool) {
+    let (held, calls) = (out.held.as_slice(), out.calls);
+    let is_whole = held.len() == text.len();
+    let is_call = held.len() as u64 == call.saturating_sub(1);
+    holds(rt, done == (calls < call) && calls <= call, call);
+    holds(rt, text.starts_with(held) && done == is_whole, call);
+    holds(rt, done || most != 1 || is_call, call);
 }
 
+/// Asserts it of a run of the program.
+fn writes_front<R: Abort + AllocGlobal + Threads + Wait + Sync>(
+    rt: &R,
+    words: &[&str],
+    way: Way,
+    call: u64,
+    text: &[u8],
+) {
+    let mut out = failing_writer(rt.alloc(), way.0, call, way.1);
+    let done = run_failing(rt, words, &mut out, call);
+    holds_front(rt, &out, way.0, call, text, done);
+}
+
+/// Asserts it of each way and each call.
+fn writes_fronts<R: Abort + AllocGlobal + Threads + Wait + Sync>(
+    rt: &R,
+    words: &[&str],
+    text: &[u8],
+) {
+    for way in WAYS {
+        for call in 1..=text.len() as u64 + 1 {
+            writes_front(rt, words, *way, call, text);
+        }
+    }
+}
+
+/// The ways to list three files, the second of which is empty.
+const LISTINGS: &[&[&str]] = &[
+    &["run", "S", "a", "empty", "lines"],
+    &["scan", "-j", "1", "T", "a", "empty", "lines"],
+    &["scan", "-j", "2", "-b", "1", "T", "a", "empty", "lines"],
+    &["scan", "-j", "8", "-b", "1", "T", "a", "empty", "lines"],
+];
+
 #[test]
-fn a_command_whose_output_fails_has_written_a_front(rt: HostRuntime) -> Result<(), AllocError> {
+fn a_command_whose_output_fails_has_written_a_front(rt: HostRuntime) {
     let tables = THREE_RULES_TEXTS.1.as_bytes();
-    let commands: [(&[&str], &[u8]); 6] = [
-        (&["gen", "S"], tables),
-        (&["up", "T"], tables),
-        (&["run", "S", "a", "empty", "n"], THREE_FILES_LISTING),
-        (
-            &["scan", "-j", "1", "T", "a", "empty", "n"],
-            THREE_FILES_LISTING,
-        ),
-        (
-            &["scan", "-j", "2", "-b", "1", "T", "a", "empty", "n"],
-            THREE_FILES_LISTING,
-        ),
-        (
-            &["scan", "-j", "8", "-b", "1", "T", "a", "empty", "n"],
-            THREE_FILES_LISTING,
-        ),
-    ];
-    for (words, text) in commands {
-        for way in WAYS {
-            for call in 1..=text.len() as u64 + 1 {
-                let (done, out) = run_failing(&rt, words, way, call)?;
-                holds_front(&rt, &out, way.0, call, text, done);
-            }
+    writes_fronts(&rt, &["gen", "S"], tables);
+    writes_fronts(&rt, &["up", "T"], tables);
+    for words in LISTINGS {
+        writes_fronts(&rt, words, THREE_FILES_LISTING);
+    }
+}
+
+/// The first lines of the listing of three files.
+const TWO_LINES: &[u8] = b"0 T ID 1 0 1 a\n2 T NUM 1 0 1 1\n";
+
+/// The words of a run, the call of its output that fails, and what was written by then.
+const LINES: &[(&[&str], u64, &[u8])] = &[
+    (&["run", "S", "a", "empty", "lines"], 1, b""),
+    (&["run", "S", "a", "empty", "lines"], 2, b"0 T ID 1 0 1 a\n"),
+    (&["run", "S", "a", "empty", "lines"], 3, TWO_LINES),
+    (&["scan", "T", "a", "empty", "lines"], 3, TWO_LINES),
+    (&["run", "none", "hi"], 1, b""),
+    (&["run", "none", "hi"], 2, b"0 E - 1 0 1 h\n"),
+    (&["run", "none", "hi"], 3, b"0 E - 1 0 1 h\n0 E - 1 1 1 i\n"),
+    (&["--help"], 1, b""),
+    (&[], 1, b""),
+];
+
+/// Asserts what a run has written by the call at which its output fails.
+fn writes_by<R: Abort + AllocGlobal + Threads + Wait + Sync>(
+    rt: &R,
+    words: &[&str],
+    call: u64,
+    written: &[u8],
+) {
+    let mut out = failing_writer(rt.alloc(), 4_096, call, false);
+    let done = run_failing(rt, words, &mut out, call);
+    holds(rt, !done, call);
+    same_bytes(rt, out.held.as_slice(), written, &words);
+}
+
+#[test]
+fn a_line_goes_out_in_one_write(rt: HostRuntime) {
+    for (words, call, written) in LINES {
+        writes_by(&rt, words, *call, written);
+    }
+}
+
+/// Asserts that printing tables in their first or second version to a writer that fails at this call leaves a front of the text there.
+fn prints_front<R: Abort + AllocGlobal>(rt: &R, tables: &Tables, first: bool, way: Way, call: u64) {
+    let (text, other) = THREE_RULES_TEXTS;
+    let mut out = failing_writer(rt.alloc(), way.0, call, way.1);
+    if first {
+        let done = tables.print_first(&mut out).is_ok();
+        holds_front(rt, &out, way.0, call, text.as_bytes(), done);
+    } else {
+        let done = tables.print(&mut out).is_ok();
+        holds_front(rt, &out, way.0, call, other.as_bytes(), done);
+    }
+}
+
+/// Asserts it of each way and each call.
+fn prints_fronts<R: Abort + AllocGlobal>(rt: &R, tables: &Tables, calls: u64) {
+    for way in WAYS {
+        for call in 1..=calls {
+            prints_front(rt, tables, true, *way, call);
+            prints_front(rt, tables, false, *way, call);
         }
     }
-    Ok(())
 }
 
 #[test]
-fn a_line_goes_out_in_one_write(rt: HostRuntime) -> Result<(), AllocError> {
-    let rows: [(&[&str], u64, &[u8]); 9] = [
-        (&["run", "S", "a", "empty", "n"], 1, b""),
-        (&["run", "S", "a", "empty", "n"], 2, b"0 T ID 1 0 1 a\n"),
-        (
-            &["run", "S", "a", "empty", "n"],
-            3,
-            b"0 T ID 1 0 1 a\n2 T NUM 1 0 1 1\n",
-        ),
-        (
-            &["scan", "T", "a", "empty", "n"],
-            3,
-            b"0 T ID 1 0 1 a\n2 T NUM 1 0 1 1\n",
-        ),
-        (&["run", "none", "hi"], 1, b""),
-        (&["run", "none", "hi"], 2, b"0 E - 1 0 1 h\n"),
-        (&["run", "none", "hi"], 3, b"0 E - 1 0 1 h\n0 E - 1 1 1 i\n"),
-        (&["--help"], 1, b""),
-        (&[], 1, b""),
-    ];
-    for (words, call, written) in rows {
-        let (done, out) = run_failing(&rt, words, (4_096, false), call)?;
-        assert!(rt; !done && out.held.as_slice() == written, "call {call}");
-    }
-    Ok(())
-}
-
-#[test]
-fn a_writer_that_fails_has_a_front_of_either_text(rt: HostRuntime) -> Result<(), Fail> {
+fn a_writer_that_fails_has_a_front_of_either_text(rt: HostRuntime) {
     let (first, second) = THREE_RULES_TEXTS;
-    let tables = Tables::read(rt.alloc(), first.as_bytes())?;
-    for (most, takes_nothing) in WAYS {
-        for call in 1..=second.len() as u64 + 1 {
-            let mut out = failing_writer(rt.alloc(), most, call, takes_nothing);
-            let done = tables.print_first(&mut out).is_ok();
-            holds_front(&rt, &out, most, call, first.as_bytes(), done);
-            let mut out = failing_writer(rt.alloc(), most, call, takes_nothing);
-            let done = tables.print(&mut out).is_ok();
-            holds_front(&rt, &out, most, call, second.as_bytes(), done);
-        }
-    }
-    Ok(())
+    let tables = Tables::read(rt.alloc(), first.as_bytes()).expect(&rt, "tables");
+    prints_fronts(&rt, &tables, second.len() as u64 + 1);
 }

@@ -1,8 +1,10 @@
 //! Readers, read to their end, or as far as they can be read.
 
+use crate::asserts::{same, same_bytes};
 use lx_tool::{SourceFault, read_to_end};
 use std::io;
 use std::io::{ErrorKind, Read};
+use std::process::Abort;
 
 /// What one read does.
 #[derive(Clone, Copy)]
@@ -37,7 +39,7 @@ impl Read for Turns {
 /// What a reader does, the bytes that are read, whether they are cut, and how many turns are left.
 type Row = (&'static [Turn], &'static [u8], bool, usize);
 
-const ROWS: [Row; 5] = [
+const ROWS: &[Row] = &[
     (&[], b"", false, 0),
     (&[Turn::Gives(b"ab"), Turn::Gives(b"c")], b"abc", false, 0),
     (
@@ -63,20 +65,28 @@ const ROWS: [Row; 5] = [
     (&[Turn::Fails(ErrorKind::IsADirectory)], b"", true, 0),
 ];
 
-#[test]
-fn a_reader_is_read_to_its_end_or_to_its_fault(rt: HostRuntime) -> Result<(), SourceFault> {
-    for (turns, bytes, cut, left) in ROWS {
-        let mut reader = Turns { rest: turns };
-        let input = read_to_end(rt.alloc(), &mut reader)?;
-        assert_eq!(rt; (input.bytes.as_slice(), input.cut), (bytes, cut));
-        assert_eq!(rt; reader.rest.len(), left);
-    }
-    Ok(())
+/// Asserts what is read by a reader.
+fn reads<R: Abort + AllocGlobal>(rt: &R, row: &Row) {
+    let (turns, bytes, cut, left) = *row;
+    let mut reader = Turns { rest: turns };
+    let input = read_to_end(rt.alloc(), &mut reader).expect(rt, "memory");
+    same_bytes(rt, input.bytes.as_slice(), bytes, &left);
+    same(rt, &input.cut, &cut);
+    same(rt, &reader.rest.len(), &left);
 }
 
 #[test]
+fn a_reader_is_read_to_its_end_or_to_its_fault(rt: HostRuntime) {
+    for row in ROWS {
+        reads(&rt, row);
+    }
+}
+
+/// What a reader does for which memory is refused.
+const REFUSED: &[Turn] = &[Turn::Gives(b"ab"), Turn::Fails(ErrorKind::OutOfMemory)];
+
+#[test]
 fn a_reader_for_which_memory_is_refused_gives_no_input(rt: HostRuntime) {
-    let turns = &[Turn::Gives(b"ab"), Turn::Fails(ErrorKind::OutOfMemory)];
-    let read = read_to_end(rt.alloc(), &mut Turns { rest: turns });
+    let read = read_to_end(rt.alloc(), &mut Turns { rest: REFUSED });
     assert!(rt; matches!(read, Err(SourceFault::Memory)));
 }

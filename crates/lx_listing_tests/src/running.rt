@@ -1,72 +1,94 @@
 //! Runs of the program over sources and streams of a test's own.
 
+use crate::asserts::{same, same_bytes};
 use lx_tool::{ListSources, Sources, run};
-use std::alloc::{AllocError, Global};
 use std::io::Write;
 use std::process::Abort;
 use std::sync::Wait;
 use std::thread::Threads;
 
-pub(crate) fn words_of(alloc: Global, words: &[&str]) -> Result<Vec<String>, AllocError> {
-    let mut all = Vec::new(alloc);
-    all.push(String::from_str(alloc, "lx")?)?;
+/// Adds a word.
+fn put_word<R: Abort + AllocGlobal>(rt: &R, words: &mut Vec<String>, word: &str) {
+    let word = String::from_str(rt.alloc(), word).expect(rt, "memory");
+    words.push(word).expect(rt, "memory");
+}
+
+/// The name of the program, and these words behind it.
+fn words_of<R: Abort + AllocGlobal>(rt: &R, words: &[&str]) -> Vec<String> {
+    let mut all = Vec::new(rt.alloc());
+    put_word(rt, &mut all, "lx");
     for word in words {
-        all.push(String::from_str(alloc, word)?)?;
+        put_word(rt, &mut all, word);
     }
-    Ok(all)
+    all
 }
 
 /// The status of a run of the program with these words behind its name.
-pub(crate) fn status_of<R: AllocGlobal + Threads + Wait + Sync, S: Sources, O: Write, E: Write>(
-    rt: &R,
-    words: &[&str],
-    sources: &mut S,
-    out: &mut O,
-    err: &mut E,
-) -> Result<u8, AllocError> {
-    let alloc = rt.alloc();
-    let words = words_of(alloc, words)?;
-    Ok(run(rt, alloc, &words, sources, out, err))
+pub(crate) fn status_of<
+    R: Abort + AllocGlobal + Threads + Wait + Sync,
+    S: Sources,
+    O: Write,
+    E: Write,
+>(rt: &R, words: &[&str], sources: &mut S, out: &mut O, err: &mut E) -> u8 {
+    let words = words_of(rt, words);
+    run(rt, rt.alloc(), &words, sources, out, err)
 }
 
 /// The status of such a run over these files.
-pub(crate) fn status_over<R: AllocGlobal + Threads + Wait + Sync, O: Write, E: Write>(
+pub(crate) fn status_over<R: Abort + AllocGlobal + Threads + Wait + Sync, O: Write, E: Write>(
     rt: &R,
     words: &[&str],
     files: &[(&str, &[u8])],
     out: &mut O,
     err: &mut E,
-) -> Result<u8, AllocError> {
+) -> u8 {
     status_of(rt, words, &mut ListSources::new(files), out, err)
 }
 
-/// The status of such a run over these files, of which those with these names are cut.
-pub(crate) fn status_with_cut<R: AllocGlobal + Threads + Wait + Sync, O: Write, E: Write>(
-    rt: &R,
-    words: &[&str],
-    files: &[(&str, &[u8])],
-    cut: &[&str],
-    out: &mut O,
-    err: &mut E,
-) -> Result<u8, AllocError> {
-    status_of(rt, words, &mut ListSources::with_cut(files, cut), out, err)
-}
+/// The words of a run, the files that are cut, and its status, output and lines on the error stream.
+pub(crate) type Row = (
+    &'static [&'static str],
+    &'static [&'static str],
+    u8,
+    &'static str,
+    &'static str,
+);
 
-/// Asserts that a run of the program with these words over these files has this status, and writes this to the output and to the error stream.
+/// Asserts that a run over files, some of which are cut, ends so.
 pub(crate) fn expect<R: Abort + AllocGlobal + Threads + Wait + Sync>(
     rt: &R,
-    words: &[&str],
     files: &[(&str, &[u8])],
-    status: u8,
-    out: &[u8],
-    err: &str,
-) -> Result<(), AllocError> {
-    let mut written: Vec<u8> = Vec::new(rt.alloc());
-    let mut said: Vec<u8> = Vec::new(rt.alloc());
-    let ended = status_over(rt, words, files, &mut written, &mut said)?;
-    assert_eq!(rt;
-        (ended, written.as_slice(), said.as_slice()),
-        (status, out, err.as_bytes())
-    );
-    Ok(())
+    row: &Row,
+) {
+    let (words, cut, wanted, listing, lines) = *row;
+    let mut sources = ListSources::with_cut(files, cut);
+    let mut out: Vec<u8> = Vec::new(rt.alloc());
+    let mut err: Vec<u8> = Vec::new(rt.alloc());
+    let status = status_of(rt, words, &mut sources, &mut out, &mut err);
+    same(rt, &status, &wanted);
+    same_bytes(rt, out.as_slice(), listing.as_bytes(), &words);
+    same_bytes(rt, err.as_slice(), lines.as_bytes(), &words);
 }
+
+/// The three rules, a specification that is refused, and one without rules; tables of the three rules of the first version; and files.
+pub(crate) const FILES: &[(&str, &[u8])] = &[
+    (
+        "S",
+        b"%%\n[a-z]+ return ID;\n[0-9]+ return NUM;\n[ \\n]+ ;\n",
+    ),
+    ("refused", b"%%\na/b ;\n"),
+    ("none", b"%%\n"),
+    (
+        "T",
+        b"lx-tables 1\nconditions 1\nstart 0 0\nkinds 2\nkind ID\nkind NUM\nrules 3\nrule 0 k0\nrule 0 k1\nrule 0\nstates 4\nstate - 10-10:1 32-32:1 48-57:2 97-122:3\nstate 2 10-10:1 32-32:1\nstate 1 48-57:2\nstate 0 97-122:3\nend\n",
+    ),
+    (
+        "no-rules",
+        b"lx-tables 1\nconditions 1\nstart 0 0\nkinds 0\nrules 0\nstates 1\nstate -\nend\n",
+    ),
+    ("words", b"ab 12"),
+    ("a", b"a"),
+    ("empty", b""),
+    ("lines", b"1\n2"),
+    ("hi", b"hi!"),
+];

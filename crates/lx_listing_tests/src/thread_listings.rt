@@ -2,15 +2,16 @@
 
 ghost use Rattle.std.specs.Prelude.{◌<◌, ◌≤◌};
 
-use lx_fixtures::{MIXED_FILES, MIXED_LISTING, MIXED_RULES, THREE_RULES, plan_of};
+use crate::asserts::{same, same_bytes};
+use crate::plans::{listing_of, made, mixed};
+use lx_fixtures::{MIXED_LISTING, THREE_RULES};
 use lx_piece::{Plan, Reader};
 use lx_post::{Gate, OpenGate, RunFault, scan_all};
-use lx_tool::{Listing, print_listing};
+use lx_tool::Listing;
 use std::alloc::{AllocError, Global};
 use std::io::Write;
 use std::process::Abort;
 use std::sync::Wait;
-use std::test::Fail;
 use std::thread::Threads;
 
 /// Lists a plan's files by workers. The writer's type is a parameter, since a listing that is made over a lent local isn't covered by the prover.
@@ -30,63 +31,89 @@ pub(crate) fn scan_over<R: Threads + Wait + Sync, G: Gate + Sync, W: Write + Dro
     Ok((ended, listing.faults()))
 }
 
-/// Asserts that a plan's files are listed so by one thread, and by 1, 2 and 8 workers.
-fn lists<R: Threads + Wait + Abort + Sync>(
+/// Asserts that a plan's files are listed so by so many workers.
+fn lists_by<R: Abort + AllocGlobal + Threads + Wait + Sync>(
     rt: &R,
-    alloc: Global,
     plan: &Plan,
-    wanted: &str,
-) -> Result<(), Fail> {
-    let mut alone = Vec::new(alloc);
-    print_listing(alloc, plan, &mut alone)?;
-    assert_eq!(rt; alone.as_slice(), wanted.as_bytes());
-    for workers in [1, 2, 8] {
-        let mut out = Vec::new(alloc);
-        let ended = scan_over(rt, alloc, plan, workers, &OpenGate, &mut out)?;
-        assert_eq!(rt; ended, (Ok(()), 0), "{workers} workers");
-        assert_eq!(rt; out.as_slice(), alone.as_slice(), "{workers} workers");
-    }
-    Ok(())
+    workers: u8,
+    wanted: &[u8],
+)
+    requires some_workers { 0 < workers }
+    requires few_workers { workers ≤ 8 }
+{
+    let mut out = Vec::new(rt.alloc());
+    let ended = scan_over(rt, rt.alloc(), plan, workers, &OpenGate, &mut out).expect(rt, "memory");
+    same(rt, &ended, &(Ok(()), 0));
+    same_bytes(rt, out.as_slice(), wanted, &workers);
 }
 
-/// A specification, files with whether their reading failed, and their listing.
-type Row = (&'static str, &'static [(&'static [u8], bool)], &'static str);
+/// Asserts that a plan's files are listed so by one thread, and by 1, 2 and 8 workers.
+fn lists<R: Abort + AllocGlobal + Threads + Wait + Sync>(rt: &R, plan: &Plan, wanted: &[u8]) {
+    let alone = listing_of(rt, plan);
+    same_bytes(rt, alone.as_slice(), wanted, &0);
+    lists_by(rt, plan, 1, wanted);
+    lists_by(rt, plan, 2, wanted);
+    lists_by(rt, plan, 8, wanted);
+}
 
-const ROWS: [Row; 7] = [
+/// Files with whether their reading failed, and their listing by the three rules.
+type Row = (&'static [(&'static [u8], bool)], &'static [u8]);
+
+const ROWS: &[Row] = &[
     (
-        THREE_RULES,
         &[(b"a", false), (b"", false), (b"1\n2", false)],
-        "0 T ID 1 0 1 a\n2 T NUM 1 0 1 1\n2 T NUM 2 2 1 2\n",
+        b"0 T ID 1 0 1 a\n2 T NUM 1 0 1 1\n2 T NUM 2 2 1 2\n",
     ),
     (
-        THREE_RULES,
         &[(b"a", true), (b"", false), (b"1\n2", false)],
-        "0 T ID 1 0 1 a\n0 ! cut\n2 T NUM 1 0 1 1\n2 T NUM 2 2 1 2\n",
+        b"0 T ID 1 0 1 a\n0 ! cut\n2 T NUM 1 0 1 1\n2 T NUM 2 2 1 2\n",
     ),
     (
-        THREE_RULES,
         &[(b"ab 12\n", false)],
-        "0 T ID 1 0 2 ab\n0 T NUM 1 3 2 12\n",
+        b"0 T ID 1 0 2 ab\n0 T NUM 1 3 2 12\n",
     ),
     (
-        THREE_RULES,
         &[(b"ab 12", true)],
-        "0 T ID 1 0 2 ab\n0 T NUM 1 3 2 12\n0 ! cut\n",
+        b"0 T ID 1 0 2 ab\n0 T NUM 1 3 2 12\n0 ! cut\n",
     ),
-    (THREE_RULES, &[(b"", false)], ""),
-    (THREE_RULES, &[(b"", true)], "0 ! cut\n"),
-    (MIXED_RULES, &MIXED_FILES, MIXED_LISTING),
+    (&[(b"", false)], b""),
+    (&[(b"", true)], b"0 ! cut\n"),
 ];
 
-#[test]
-fn workers_list_as_one_thread_does(rt: HostRuntime) -> Result<(), Fail> {
-    let alloc = rt.alloc();
-    for (spec, files, wanted) in ROWS {
-        assert!(rt; !files.is_empty() && files.len() < 9);
-        for per_piece in [1, 2, 256] {
-            let plan = plan_of(alloc, spec, files, per_piece)?;
-            lists(&rt, alloc, &plan, wanted)?;
-        }
+/// Asserts it of a row in pieces of so many items.
+fn lists_row<R: Abort + AllocGlobal + Threads + Wait + Sync>(rt: &R, row: &Row, per_piece: u32)
+    requires some_items { 0 < per_piece }
+    requires few_items { per_piece ≤ 4096 }
+{
+    let (files, wanted) = *row;
+    assert!(rt; !files.is_empty() && files.len() < 9);
+    let plan = made(rt, THREE_RULES, files, per_piece);
+    lists(rt, &plan, wanted);
+}
+
+/// Asserts it of the mixed files.
+fn lists_mixed<R: Abort + AllocGlobal + Threads + Wait + Sync>(rt: &R, per_piece: u32)
+    requires some_items { 0 < per_piece }
+    requires few_items { per_piece ≤ 4096 }
+{
+    let plan = mixed(rt, per_piece);
+    lists(rt, &plan, MIXED_LISTING.as_bytes());
+}
+
+/// Asserts it of all files in pieces of so many items.
+fn lists_all<R: Abort + AllocGlobal + Threads + Wait + Sync>(rt: &R, per_piece: u32)
+    requires some_items { 0 < per_piece }
+    requires few_items { per_piece ≤ 4096 }
+{
+    for row in ROWS {
+        lists_row(rt, row, per_piece);
     }
-    Ok(())
+    lists_mixed(rt, per_piece);
+}
+
+#[test]
+fn workers_list_as_one_thread_does(rt: HostRuntime) {
+    lists_all(&rt, 1);
+    lists_all(&rt, 2);
+    lists_all(&rt, 256);
 }

@@ -4,6 +4,7 @@
 
 ghost use Rattle.std.specs.Prelude.{◌<◌, ◌≤◌};
 
+use crate::asserts::same;
 use crate::thread_listings::scan_over;
 use lx_fixtures::{THREE_FILES, THREE_FILES_LISTING, THREE_RULES, plan_of};
 use lx_piece::Plan;
@@ -24,6 +25,21 @@ enum Outcome {
     Untried,
 }
 
+/// Asserts that a run which wrote this listed all, or a prefix for want of memory.
+fn outcome_of(rt: &impl Abort, ended: Result<(), RunFault>, written: &[u8]) -> Outcome {
+    match ended {
+        Ok(()) => {
+            same(rt, &written, &THREE_FILES_LISTING);
+            Outcome::Whole
+        }
+        Err(fault) => {
+            same(rt, &fault, &RunFault::Memory);
+            same(rt, &THREE_FILES_LISTING.starts_with(written), &true);
+            Outcome::Part
+        }
+    }
+}
+
 /// Lists these files by so many workers, into memory that is reserved.
 fn list_three<R: Threads + Wait + Abort + Sync>(
     rt: &R,
@@ -40,25 +56,30 @@ fn list_three<R: Threads + Wait + Abort + Sync>(
     let Ok((ended, faults)) = scan_over(rt, alloc, plan, workers, &OpenGate, &mut out) else {
         return Outcome::Untried;
     };
-    assert_eq!(rt; faults, 0);
-    if ended.is_ok() {
-        assert_eq!(rt; out.as_slice(), THREE_FILES_LISTING);
-        return Outcome::Whole;
+    same(rt, &faults, &0);
+    outcome_of(rt, ended, out.as_slice())
+}
+
+/// Lists them, and all again where only a part was listed.
+fn list_again<R: Threads + Wait + Abort + Sync>(rt: &R, alloc: Global, plan: &Plan, workers: u8)
+    requires some_workers { 0 < workers }
+    requires few_workers { workers ≤ 8 }
+{
+    if list_three(rt, alloc, plan, workers) == Outcome::Part {
+        same(rt, &list_three(rt, alloc, plan, workers), &Outcome::Whole);
     }
-    assert_eq!(rt; ended, Err(RunFault::Memory));
-    assert!(rt; THREE_FILES_LISTING.starts_with(out.as_slice()));
-    Outcome::Part
+}
+
+/// Lists them by one worker, by two and by eight.
+fn list_by_each<R: Threads + Wait + Abort + Sync>(rt: &R, alloc: Global, plan: &Plan) {
+    list_again(rt, alloc, plan, 1);
+    list_again(rt, alloc, plan, 2);
+    list_again(rt, alloc, plan, 8);
 }
 
 #[test]
 fn a_run_lists_a_prefix_where_memory_is_refused(rt: HostRuntime) {
-    let alloc = rt.alloc();
-    let Ok(plan) = plan_of(alloc, THREE_RULES, THREE_FILES.as_slice(), 1) else {
-        return;
-    };
-    for workers in [1, 2, 8] {
-        if list_three(&rt, alloc, &plan, workers) == Outcome::Part {
-            assert_eq!(rt; list_three(&rt, alloc, &plan, workers), Outcome::Whole);
-        }
+    if let Ok(plan) = plan_of(rt.alloc(), THREE_RULES, THREE_FILES.as_slice(), 1) {
+        list_by_each(&rt, rt.alloc(), &plan);
     }
 }

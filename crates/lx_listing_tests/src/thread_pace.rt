@@ -1,16 +1,13 @@
 //! How much of later files a run holds while an earlier one stands still.
 
-ghost use Rattle.std.specs.Prelude.{◌<◌};
-
+use crate::asserts::same;
 use crate::thread_listings::scan_over;
 use lx_fixtures::{NO_RULES, tables_of};
 use lx_piece::{Input, Plan};
 use lx_post::Gate;
-use std::alloc::{AllocError, Global};
 use std::process::Abort;
 use std::sync::Wait;
 use std::sync::atomic::{AtomicU64, Ordering};
-use std::test::Fail;
 use std::thread;
 use std::thread::Threads;
 
@@ -69,56 +66,62 @@ impl Gate for StillGate {
     }
 }
 
-// A file of few bytes, and these behind it.
-fn files_of_echoes(alloc: Global, later: usize, bytes: usize) -> Result<Vec<Input>, AllocError>
-    requires { later < 100 }
-{
-    let mut files = Vec::new(alloc);
-    files.push(Input {
-        bytes: vec![in alloc; b'x'; 1]?,
+// A file of so many bytes.
+fn file_of<R: Abort + AllocGlobal>(rt: &R, bytes: usize) -> Input {
+    Input {
+        bytes: vec![in rt.alloc(); b'x'; bytes].expect(rt, "memory"),
         cut: false,
-    })?;
-    for _file in 0..later {
-        let bytes = vec![in alloc; b'x'; bytes]?;
-        files.push(Input { bytes, cut: false })?;
     }
-    Ok(files)
 }
 
-// How many pieces of these later files come while the first file stands still.
-fn held_pieces<T: Threads + Wait + Sync + Abort>(
-    rt: &T,
-    alloc: Global,
-    later: usize,
-    bytes: usize,
-) -> Result<u64, Fail>
-    requires { later < 100 }
-{
-    let files = files_of_echoes(alloc, later, bytes)?;
+// A file of one byte, and these behind it.
+fn files_of_echoes<R: Abort + AllocGlobal>(rt: &R, later: usize, bytes: usize) -> Vec<Input> {
+    let mut files = Vec::new(rt.alloc());
+    files.push(file_of(rt, 1)).expect(rt, "memory");
+    for _file in 0..later {
+        files.push(file_of(rt, bytes)).expect(rt, "memory");
+    }
+    files
+}
+
+// Their plan.
+fn plan_of_echoes<R: Abort + AllocGlobal>(rt: &R, later: usize, bytes: usize) -> Plan {
+    let files = files_of_echoes(rt, later, bytes);
     assert!(rt; !files.is_empty() && files.len() <= 100);
-    let plan = Plan::new(tables_of(alloc, NO_RULES)?, files, ITEMS, 1);
+    let tables = tables_of(rt.alloc(), NO_RULES).expect(rt, "tables");
+    Plan::new(tables, files, ITEMS, 1)
+}
+
+// How many pieces of the later files of a plan come while the first file stands still.
+fn held_pieces<R: Abort + AllocGlobal + Threads + Wait + Sync>(rt: &R, plan: &Plan) -> u64 {
     let gate = StillGate {
         others: AtomicU64::new(0),
         by_then: AtomicU64::new(0),
     };
-    let mut out = Vec::new(alloc);
-    let ended = scan_over(rt, alloc, &plan, 2, &gate, &mut out)?;
-    assert_eq!(rt; ended, (Ok(()), 0));
-    Ok(gate.by_then.load(Ordering::SeqCst))
+    let mut out = Vec::new(rt.alloc());
+    let ended = scan_over(rt, rt.alloc(), plan, 2, &gate, &mut out).expect(rt, "memory");
+    same(rt, &ended, &(Ok(()), 0));
+    gate.by_then.load(Ordering::SeqCst)
+}
+
+// Asserts that so many pieces of these later files come.
+fn holds_between<R: Abort + AllocGlobal + Threads + Wait + Sync>(
+    rt: &R,
+    later: usize,
+    bytes: usize,
+    least: u64,
+    most: u64,
+) {
+    let plan = plan_of_echoes(rt, later, bytes);
+    let held = held_pieces(rt, &plan);
+    assert!(rt;
+        least <= held && held <= most,
+        "{held} pieces of {later} files"
+    );
 }
 
 #[test]
-fn few_pieces_of_later_files_are_held(rt: HostRuntime) -> Result<(), Fail> {
-    let alloc = rt.alloc();
-    let many = held_pieces(&rt, alloc, 40, BYTES)?;
-    assert!(rt;
-        (LEAST_OF_MANY..=MOST_OF_MANY).contains(&many),
-        "{many} pieces of many files"
-    );
-    let one = held_pieces(&rt, alloc, 1, 40 * BYTES)?;
-    assert!(rt;
-        (LEAST_OF_ONE..=MOST_OF_ONE).contains(&one),
-        "{one} pieces of one file"
-    );
-    Ok(())
+fn few_pieces_of_later_files_are_held(rt: HostRuntime) {
+    holds_between(&rt, 40, BYTES, LEAST_OF_MANY, MOST_OF_MANY);
+    holds_between(&rt, 1, 40 * BYTES, LEAST_OF_ONE, MOST_OF_ONE);
 }
