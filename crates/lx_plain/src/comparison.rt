@@ -48,6 +48,21 @@ fn compare_pieces(
     holds(found.as_slice() == items, "the items of pieces")
 }
 
+/// Compares the items of pieces of so many, by tables that are read from a printed text.
+fn compare_printed_pieces(
+    alloc: Global,
+    printed: &[u8],
+    text: &[u8],
+    items: &[Item],
+    per_piece: u32,
+) -> Result<(), Fault>
+    requires some_items { 0 < per_piece }
+    requires few_items { per_piece ≤ 4096 }
+{
+    let tables = Tables::read(alloc, printed)?;
+    compare_pieces(alloc, tables, text, items, per_piece)
+}
+
 /// Compares what a printed text of tables gives, once it is read.
 fn compare_printed(
     alloc: Global,
@@ -55,28 +70,34 @@ fn compare_printed(
     text: &[u8],
     items: &[Item],
 ) -> Result<(), Fault> {
-    for per_piece in [1, 2, 256] {
-        let tables = Tables::read(alloc, printed)?;
-        compare_pieces(alloc, tables, text, items, per_piece)?;
-    }
+    compare_printed_pieces(alloc, printed, text, items, 1)?;
+    compare_printed_pieces(alloc, printed, text, items, 2)?;
+    compare_printed_pieces(alloc, printed, text, items, 256)?;
     let tables = Tables::read(alloc, printed)?;
-    let found = scan(alloc, &tables, text)?;
-    holds(found.as_slice() == items, "the items by printed tables")
+    compare_scanned(alloc, &tables, text, items, "the items by printed tables")
 }
 
 /// Compares both texts of the tables that are read from a printed text with those that were printed.
 fn compare_texts(alloc: Global, printed: &[u8], first: &[u8], second: &[u8]) -> Result<(), Fault> {
     let tables = Tables::read(alloc, printed)?;
-    let mut again = Vec::new(alloc);
-    tables.print_first(&mut again)?;
+    compare_first(alloc, &tables, first)?;
+    compare_second(alloc, &tables, second)
+}
+
+/// Compares the first text of tables with the one that was printed.
+fn compare_first(alloc: Global, tables: &Tables, printed: &[u8]) -> Result<(), Fault> {
+    let again = first_text_of(alloc, tables)?;
     holds(
-        again.as_slice() == first,
+        again.as_slice() == printed,
         "the first text of printed tables",
-    )?;
-    again.clear();
-    tables.print(&mut again)?;
+    )
+}
+
+/// Compares the second text of tables with the one that was printed.
+fn compare_second(alloc: Global, tables: &Tables, printed: &[u8]) -> Result<(), Fault> {
+    let again = second_text_of(alloc, tables)?;
     holds(
-        again.as_slice() == second,
+        again.as_slice() == printed,
         "the second text of printed tables",
     )
 }
@@ -121,6 +142,33 @@ fn second_text_of(alloc: Global, tables: &Tables) -> Result<Vec<u8>, Fault> {
     Ok(text)
 }
 
+/// Compares all that a printed text of tables gives, once it is read.
+fn compare_read(
+    alloc: Global,
+    printed: &[u8],
+    texts: (&[u8], &[u8]),
+    text: &[u8],
+    items: &[Item],
+) -> Result<(), Fault> {
+    compare_texts(alloc, printed, texts.0, texts.1)?;
+    compare_printed(alloc, printed, text, items)
+}
+
+/// Compares the items of a text by tables, and by both of their texts.
+fn compare_tables(
+    alloc: Global,
+    tables: &Tables,
+    text: &[u8],
+    items: &[Item],
+) -> Result<(), Fault> {
+    compare_scanned(alloc, tables, text, items, "the items by tables")?;
+    let first = first_text_of(alloc, tables)?;
+    let second = second_text_of(alloc, tables)?;
+    let texts = (first.as_slice(), second.as_slice());
+    compare_read(alloc, texts.0, texts, text, items)?;
+    compare_read(alloc, texts.1, texts, text, items)
+}
+
 /// Compares the items of a text by a specification with those that all ways by tables lead to.
 pub(crate) fn compare(
     alloc: Global,
@@ -130,12 +178,5 @@ pub(crate) fn compare(
 ) -> Result<(), Fault> {
     compare_unmerged(alloc, spec, text, items)?;
     let tables = merged_tables(alloc, spec)?;
-    compare_scanned(alloc, &tables, text, items, "the items by tables")?;
-    let first = first_text_of(alloc, &tables)?;
-    let second = second_text_of(alloc, &tables)?;
-    for printed in [&first, &second] {
-        compare_texts(alloc, printed, &first, &second)?;
-        compare_printed(alloc, printed, text, items)?;
-    }
-    Ok(())
+    compare_tables(alloc, &tables, text, items)
 }

@@ -56,7 +56,13 @@ fn chosen<'a>(
 
 // How many of the bytes are newlines.
 fn newlines_in(bytes: &[u8]) -> u64 {
-    bytes.iter().filter(|byte| **byte == b'\n').count() as u64
+    let mut count: u64 = 0;
+    for byte in bytes {
+        if *byte == b'\n' {
+            count = count.saturating_add(1);
+        }
+    }
+    count
 }
 
 /// The items of the text by the rules of the specification.
