@@ -153,7 +153,7 @@ fn gathers<R: Abort + AllocGlobal + Threads + Wait + Sync>(
     same(rt, &out.held.len(), &held);
 }
 
-/// Asserts it of a plan whose listing has 100,890 bytes.
+/// Asserts it of a plan whose listing has 151,890 bytes.
 fn gathers_lines<R: Abort + AllocGlobal + Threads + Wait + Sync>(rt: &R, plan: &Plan) {
     let wanted = listing_of(rt, plan);
     same(rt, &wanted.len(), &151_890);
