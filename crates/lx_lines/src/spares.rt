@@ -53,7 +53,7 @@ impl Spares for Alone {
 }
 
 // So many pieces are on their way before workers make lines.
-const MANY: u64 = 8;
+const MANY: u64 = 16;
 
 // A list or a block. One type for both, since the prover refuses a function with queues of two types.
 #[derive(Drop)]
