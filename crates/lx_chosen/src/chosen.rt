@@ -6,6 +6,7 @@ ghost use Rattle.lx_chosen.specs.Chosen.{AreFlagsOf, IsChosenIn, IsEverChosen};
 ghost use Rattle.lx_chosen.specs.Taken.{AreCounted, IsCounted, IsTaken};
 
 use lx_reached::reached::{reached, targets_of};
+use lx_tables::well_formed::tables_are_well_formed;
 use lx_tables::{State, Tables};
 use std::alloc::{AllocError, Global};
 
@@ -66,7 +67,7 @@ pub fn chosen_in(alloc: Global, tables: &Tables, condition: u16) -> Result<Vec<b
     requires { condition < length tables.now.machine.starts }
     ensures { IfOk result (λ flags. AreFlagsOf (length tables.now.rules) (IsChosenIn tables.now condition) flags.items) }
 {
-    // its contract says what holds of all tables
-    let _conditions = tables.conditions();
+    // a law, that conditions are few
+    tables_are_well_formed(tables);
     taken(alloc, tables, condition, condition + 1)
 }

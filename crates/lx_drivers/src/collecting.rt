@@ -7,6 +7,7 @@ use crate::rows::{FILE_OF_TWO_WORDS, plan_of};
 use crate::stop::{Stop, printed, refuse_from_here, say, say_fault, unless_refused};
 use lx_fixtures::{NO_RULES, THREE_RULES, piece};
 use lx_piece::{Collector, Cutter, Mark, Piece, Plan, Refused, Why};
+use lx_plan::plans_are_well_formed;
 use std::alloc::{AllocError, Global};
 
 pub(crate) fn print_piece(rt: &impl Print, piece: &Piece) -> Result<(), Stop> {
@@ -39,7 +40,7 @@ fn print_next(rt: &impl Print, plan: &Plan, cutter: &mut Cutter) -> Result<(), S
 
 /// Prints three times what a cutter of the first file gives.
 fn print_first_pieces(rt: &impl Print, alloc: Global, plan: &Plan) -> Result<(), Stop> {
-    let _files = plan.files();
+    plans_are_well_formed(plan);
     let mut cutter = Cutter::new(alloc, plan, 0);
     print_next(rt, plan, &mut cutter)?;
     print_next(rt, plan, &mut cutter)?;

@@ -12,6 +12,7 @@ use lx_piece::{Arrivals, Cutter, Input, ListArrivals, Plan};
 use lx_scan::{Item, Place, next_match};
 use lx_spec::{Kind, Step};
 use lx_tables::Tables;
+use lx_tables::well_formed::tables_are_well_formed;
 use std::alloc::{AllocError, Global};
 use std::io;
 
@@ -110,7 +111,7 @@ pub(crate) fn prints_first(rt: &impl Print, alloc: Global) -> Result<(), Stop> {
 
 /// Prints the first match of a text.
 fn print_match(rt: &impl Print, tables: &Tables, text: &[u8]) -> Result<(), Stop> {
-    let _conditions = tables.conditions();
+    tables_are_well_formed(tables);
     let found = next_match(tables, text, Place::begin());
     printed(println!(rt; "{found:?}"))
 }

@@ -32,8 +32,6 @@ fn meet_behind(
     ensures more { OnOk result (length met.old.numbers.items ≤ length met.new.numbers.items) }
     ensures front { OnOk result ((i : ℕ) → i < length met.old.numbers.items → slice_index met.new.numbers.items i ≡ slice_index met.old.numbers.items i) }
 {
-    // its contract says what holds of all tables
-    let _conditions = tables.conditions();
     for rule in 0..tables.rules() {
         if flags[rule as usize] {
             meet(met, condition_behind(tables.steps(rule), condition) as u32)?;

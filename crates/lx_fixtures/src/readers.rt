@@ -4,6 +4,7 @@ ghost use Rattle.std.specs.Prelude.{◌≡◌, ◌+◌, ◌<◌, ◌≤◌, IfOk
 ghost use Rattle.lx_plan.specs.Plans.{files_of};
 
 use lx_piece::{Cutter, Plan, Reader, ReaderFault};
+use lx_plan::plans_are_well_formed;
 use std::alloc::{AllocError, Global};
 
 /// Hands a reader that took nothing the first piece of the first file.
@@ -19,7 +20,7 @@ pub fn take_first<R: Reader>(
     ensures counts { IfOk result (λ taken. OnErr taken (R.counts reader.new ≡ replicate (files_of plan.now) 0)) }
     ensures faults { R.fault_count reader.new ≤ R.fault_count reader.old + 1 }
 {
-    let _files = plan.files();
+    plans_are_well_formed(plan);
     let mut cutter = Cutter::new(alloc, plan, 0);
     match cutter.next_piece(plan)? {
         Some(piece) => Ok(reader.take(piece)),

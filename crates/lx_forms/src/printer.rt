@@ -11,6 +11,7 @@ use crate::form::Form;
 use crate::lines::refill;
 use lx_lines::LineSink;
 use lx_piece::{Items, KeepItems, Piece, Plan, ReaderFault, Taker};
+use lx_plan::plans_are_well_formed;
 use std::alloc::Global;
 use std::snapshot::Snapshot;
 
@@ -82,8 +83,8 @@ impl<'a, S: LineSink> Taker<KeepItems> for FormPrinter<'a, S> {
         ensures follows { OnOk result (PrintsOn S.wrote (printing_in (form_view self.old.form.now) self.old.plan.value self.old.file self.old.number self.old.sink) (printing_in (form_view self.new.form.now) self.new.plan.value self.new.file self.new.number self.new.sink)) }
         ensures fails { IfErr result (λ fault. PrintsSome S.wrote (printing_in (form_view self.old.form.now) self.old.plan.value self.old.file self.old.number self.old.sink) (printing_in (form_view self.new.form.now) self.new.plan.value self.new.file self.new.number self.new.sink)) }
     {
-        // what holds of every plan
-        let _files = whole.files();
+        // a law, that its files' items are items of these
+        plans_are_well_formed(whole);
         let closes = piece.is_closing();
         let Ok(()) = refill(&mut self.block, self.form, whole, &piece) else {
             return Err(ReaderFault::Memory);

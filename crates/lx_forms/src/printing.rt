@@ -2,7 +2,7 @@
 
 ghost use Rattle.std.specs.Prelude.{◌≡◌, ◌<◌, ◌≤◌, OnOk, OnErr};
 ghost use Rattle.std.specs.Io.KnownBytes.{Appends};
-ghost use Rattle.lx_plan.specs.Plans.{IsPlan, max_workers};
+ghost use Rattle.lx_plan.specs.Plans.{max_workers};
 ghost use Rattle.lx_writing.specs.Appending.{AppendsPrefix};
 ghost use Rattle.lx_lines.specs.Printing.{WrotePrefix};
 ghost use Rattle.lx_forms.specs.FormListings.{listing_in};
@@ -25,7 +25,6 @@ fn print_all<'f, S: LineSink + Drop>(
     plan: &Plan,
     printer: FormPrinter<'f, S>,
 ) -> (FormPrinter<'f, S>, Result<(), RelayFault>)
-    requires valid { IsPlan plan.now }
     requires plan { printer.plan.value ≡ plan.now }
     requires file { printer.file ≡ 0 }
     requires number { printer.number ≡ 0 }
@@ -52,8 +51,6 @@ fn print_to<'w, W: Write>(
     ensures ok { OnOk result.1 (Appends (W.contents sink.entry.out.now) (W.contents result.0.out.now) (listing_in (form_view form.now) plan.now)) }
     ensures err { OnErr result.1 (AppendsPrefix (W.contents sink.entry.out.now) (W.contents result.0.out.now) (listing_in (form_view form.now) plan.now)) }
 {
-    // what holds of every plan
-    let _files = plan.files();
     let printer = FormPrinter::new(alloc, plan, form, sink);
     let (printer, answer) = print_all(alloc, plan, printer);
     let answer = match answer {
@@ -73,7 +70,6 @@ fn scan_all_to<'f, T: Threads + Wait + Sync, S: LineSink + Drop>(
 ) -> (FormPrinter<'f, S>, Result<(), RunFault>)
     requires some_workers { 0 < workers }
     requires few_workers { workers ≤ max_workers }
-    requires valid { IsPlan plan.now }
     requires plan { printer.plan.value ≡ plan.now }
     requires file { printer.file ≡ 0 }
     requires number { printer.number ≡ 0 }
@@ -104,8 +100,6 @@ fn scan_to<'w, T: Threads + Wait + Sync, W: Write>(
     ensures ok { OnOk result.1 (Appends (W.contents sink.entry.out.now) (W.contents result.0.out.now) (listing_in (form_view form.now) plan.now)) }
     ensures err { OnErr result.1 (AppendsPrefix (W.contents sink.entry.out.now) (W.contents result.0.out.now) (listing_in (form_view form.now) plan.now)) }
 {
-    // what holds of every plan
-    let _files = plan.files();
     let printer = FormPrinter::new(alloc, plan, form, sink);
     let (printer, answer) = scan_all_to(rt, alloc, plan, workers, printer);
     (printer.into_sink(), answer)

@@ -5,6 +5,7 @@ use crate::texts::holds;
 use lx_scan::{Item, Match, Place, next_match, scan};
 use lx_spec::Kind;
 use lx_tables::Tables;
+use lx_tables::well_formed::tables_are_well_formed;
 use std::process::Abort;
 
 const LINE_END: &str = "%%\nfoo return F;\nfoo$ return E;\n";
@@ -84,7 +85,7 @@ const BEHIND: Place = Place {
 
 /// Asserts what the first match of two lines of `foo` is, and that an empty text has none.
 fn matches_first(rt: &impl Abort, tables: &Tables) {
-    let _conditions = tables.conditions();
+    tables_are_well_formed(tables);
     let first = next_match(tables, b"foo\nfoo", Place::begin());
     holds(rt, first == Some((FOUND, BEHIND)), "foo");
     holds(

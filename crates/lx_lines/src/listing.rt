@@ -75,8 +75,6 @@ impl<'a, W: Write> Listing<'a, W> {
         // By what it has taken nothing is due yet.
         ensures due { IfOk result (λ listing. IsDue plan.now listing.progress.counts []) }
     {
-        // what holds of every plan
-        let _files = plan.files();
         let sink = Owned {
             out,
             writes: LineWrites::EachLine,

@@ -11,6 +11,7 @@ use crate::shown_lines::{write_cut, write_shown};
 use crate::sink::LineSink;
 use lx_line::PlanDraft;
 use lx_piece::{Piece, Plan, ReaderFault, Taker};
+use lx_plan::plans_are_well_formed;
 use lx_shown::{LineMaker, Shown, Spares};
 use std::alloc::Global;
 
@@ -109,8 +110,8 @@ impl<Y: Spares, S: LineSink> Taker<LineMaker<Y>> for Printer<Y, S> {
         ensures fails { IfErr result (λ fault. PrintsPart S.wrote (printing self.old.draft self.old.file self.old.number self.old.sink) fault (printing self.new.draft self.new.file self.new.number self.new.sink)) }
     {
         self.spares.receive(self.file, self.number);
-        // what holds of every plan
-        let _files = whole.files();
+        // a law, that its files' items are items of these
+        plans_are_well_formed(whole);
         let closes = piece.is_closing();
         write_piece(
             self.alloc,

@@ -2,7 +2,7 @@
 
 ghost use Rattle.std.specs.Prelude.{◌≡◌, ◌<◌, ◌≤◌, OnOk, OnErr};
 ghost use Rattle.std.specs.Io.KnownBytes.{Appends};
-ghost use Rattle.lx_plan.specs.Plans.{IsPlan, max_workers};
+ghost use Rattle.lx_plan.specs.Plans.{max_workers};
 ghost use Rattle.lx_writing.specs.Appending.{AppendsPrefix};
 ghost use Rattle.lx_lines.specs.Listings.{listing_of};
 ghost use Rattle.lx_lines.specs.Printing.{WrotePrefix};
@@ -31,7 +31,6 @@ fn print_all<Y: Spares + Drop, S: LineSink + Drop>(
     maker: LineMaker<Y>,
     printer: Printer<Y, S>,
 ) -> (Printer<Y, S>, Result<(), RelayFault>)
-    requires valid { IsPlan plan.now }
     requires plan { printer.draft ≡ plan.now }
     requires file { printer.file ≡ 0 }
     requires number { printer.number ≡ 0 }
@@ -52,8 +51,6 @@ fn print_to<S: LineSink + Drop>(alloc: Global, plan: &Plan, sink: S) -> (S, Resu
     ensures ok { OnOk result.1 (S.wrote sink (listing_of plan.now) result.0) }
     ensures part { WrotePrefix S.wrote sink (listing_of plan.now) result.0 }
 {
-    // what holds of every plan
-    let _files = plan.files();
     let spares = Alone::new();
     let printer = Printer::new(alloc, plan, &spares, sink);
     let (printer, answer) = print_all(alloc, plan, LineMaker::new(alloc, &spares), printer);
@@ -75,7 +72,6 @@ fn scan_all_to<T: Threads + Wait + Sync, Y: Spares + Copy + Drop + Sync, S: Line
 ) -> (Printer<Y, S>, Result<(), RunFault>)
     requires some_workers { 0 < workers }
     requires few_workers { workers ≤ max_workers }
-    requires valid { IsPlan plan.now }
     requires plan { printer.draft ≡ plan.now }
     requires file { printer.file ≡ 0 }
     requires number { printer.number ≡ 0 }
@@ -104,8 +100,6 @@ fn scan_to<T: Threads + Wait + Sync, S: LineSink + Drop>(
     ensures ok { OnOk result.1 (S.wrote sink (listing_of plan.now) result.0) }
     ensures part { WrotePrefix S.wrote sink (listing_of plan.now) result.0 }
 {
-    // what holds of every plan
-    let _files = plan.files();
     let Ok(spares) = Shared::new(rt, alloc, SPARES) else {
         return (sink, Err(RunFault::Memory));
     };

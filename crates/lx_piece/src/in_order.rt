@@ -4,7 +4,7 @@ ghost use Rattle.std.specs.Prelude.{◌≡◌, ◌+◌, ◌<◌, Err, OnOk, OnEr
 ghost use Rattle.lx_delivery.specs.Waiting.{counted};
 ghost use Rattle.lx_piece.specs.Passing.{PassesOn};
 ghost use Rattle.lx_plan.specs.Pieces.{top_number};
-ghost use Rattle.lx_plan.specs.Plans.{files_of};
+ghost use Rattle.lx_plan.specs.Plans.{IsPlan, files_of};
 ghost use Rattle.lx_delivery.specs.NextPiece.{IsNextPieceBy};
 ghost use Rattle.lx_delivery.specs.Turns.{first_turn};
 ghost use Rattle.lx_delivery.specs.declared.reader.ReaderFault.{ReaderFault};
@@ -38,6 +38,7 @@ impl<'a, M: Maker, T: Taker<M>> InOrder<'a, M, T> {
     pub fn new(alloc: Global, plan: &'a Plan, taker: T) -> Result<InOrder<'a, M, T>, AllocFailed<T>>
         requires plan { T.plan taker ≡ plan.now }
         requires turn { T.turn taker ≡ first_turn }
+        ensures valid { IsPlan plan.now }
         ensures ok { IfOk result (λ order. order ≡ record { taker = taker; counts = replicate (files_of plan.now) 0; faults = 0; failed = false }) }
         ensures back { IfErr result (λ refused. refused.value ≡ taker) }
     {

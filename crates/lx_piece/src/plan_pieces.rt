@@ -11,7 +11,7 @@ ghost use Rattle.lx_piece.specs.Relayed.{AreAllTaken, TakesAllInOrder};
 use crate::arrivals_of::ArrivalsOf;
 use crate::relaying::relay_of;
 use lx_delivery::{ReaderOf, RelayFault};
-use lx_plan::{Cutter, Maker, Piece, Plan};
+use lx_plan::{Cutter, Maker, Piece, Plan, plans_are_well_formed};
 use std::alloc::{AllocError, Global};
 use std::marker::Model;
 
@@ -75,7 +75,8 @@ impl<'a, M: Maker> PlanPieces<'a, M> {
         ensures pieces { result ≡ record { plan = plan.now; cut = []; refused = false } }
         ensures plan { IsPlan plan.now }
     {
-        let _files = plan.files();
+        // a law, that there is a first file
+        plans_are_well_formed(plan);
         PlanPieces {
             alloc,
             plan,

@@ -2,7 +2,7 @@
 
 ghost use Rattle.std.specs.Prelude.{◌≡◌, ◌+◌, ◌<◌, [], Err, OnOk, OnErr, IfOk, IfErr, replicate, true, false};
 ghost use Rattle.lx_plan.specs.Pieces.{top_number};
-ghost use Rattle.lx_plan.specs.Plans.{files_of};
+ghost use Rattle.lx_plan.specs.Plans.{IsPlan, files_of};
 ghost use Rattle.lx_delivery.specs.NextPiece.{IsNextPieceBy};
 ghost use Rattle.lx_delivery.specs.Turns.{first_turn};
 ghost use Rattle.lx_delivery.specs.Waiting.{counted, queued};
@@ -60,6 +60,7 @@ impl<M: Maker, T: Taker<M>> TurnQueue<M, T> {
     pub fn new(alloc: Global, plan: &Plan, taker: T) -> Result<TurnQueue<M, T>, AllocFailed<T>>
         requires plan { T.plan taker ≡ plan.now }
         requires turn { T.turn taker ≡ first_turn }
+        ensures valid { IsPlan plan.now }
         ensures ok { IfOk result (λ queue. queue ≡ record { taker = taker; counts = replicate (files_of plan.now) 0; faults = 0; failed = false }) }
         ensures back { IfErr result (λ refused. refused.value ≡ taker) }
     {

@@ -10,7 +10,7 @@ ghost use Rattle.lx_plan.specs.Plans.{bytes_of, files_of, is_cut};
 
 use crate::maker::{KeepItems, Maker};
 use crate::piece::{Mark, Piece};
-use crate::plan::Plan;
+use crate::plan::{Plan, plans_are_well_formed};
 use lx_scan::{Cursor, Item, ItemList, ScanMemory};
 use lx_tables::Tables;
 use std::alloc::{AllocError, Global};
@@ -112,8 +112,8 @@ impl Cutter {
         ensures file { result.file ≡ file }
         ensures first { result.next ≡ 0 }
     {
-        // its contract says that the plan's tables are tables
-        let _files = plan.files();
+        // a law, that the plan's tables have a condition
+        plans_are_well_formed(plan);
         Cutter {
             alloc,
             plan: Snapshot::of(plan),
@@ -154,8 +154,6 @@ impl Cutter {
         ensures err { OnErr result (self.new ≡ self.old) }
     {
         let most = plan.per_piece();
-        // its contract says that the items of a plan's files are items of these
-        let _files = plan.files();
         if self.number > 0 && self.ahead.is_none() {
             return Ok(None);
         }

@@ -13,4 +13,4 @@ pub use input::Input;
 pub use items::Items;
 pub use maker::{KeepItems, Maker};
 pub use piece::{Mark, Piece};
-pub use plan::{MAX_FILES, MAX_ITEMS, MAX_WORKERS, Plan};
+pub use plan::{MAX_FILES, MAX_ITEMS, MAX_WORKERS, Plan, plans_are_well_formed};

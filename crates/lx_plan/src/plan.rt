@@ -4,6 +4,7 @@ ghost use Rattle.lx_plan.specs.Plans.{IsPlan, files_of, bytes_of, input_view, is
 use crate::input::Input;
 use lx_scan::lines::items_have_their_lines;
 use lx_tables::Tables;
+use lx_tables::well_formed::tables_are_well_formed;
 use std::marker::Model;
 
 /// The most files that a plan has.
@@ -45,9 +46,9 @@ impl Plan {
         requires few_items { per_piece ≤ max_items }
         ensures { result ≡ record { run = run; per_piece = per_piece; table = tables; inputs = map input_view files.items } }
     {
-        // a law and a fact, that a plan's items are what it says of them
+        // laws, that a plan's items are what it says of them
         items_have_their_lines();
-        let _conditions = tables.conditions();
+        tables_are_well_formed(&tables);
         Plan {
             tables,
             files,
@@ -107,7 +108,16 @@ impl Plan {
         ensures count { result ≡ self.now.per_piece }
         ensures some { 0 < result }
         ensures few { result ≤ max_items }
+        ensures plan { IsPlan self.now }
     {
         self.per_piece
     }
+}
+
+/// A law: plans are well formed, as their type has it.
+pub fn plans_are_well_formed(plan: &Plan)
+    ensures { IsPlan plan.now }
+{
+    // a field opens them
+    let _files = &plan.files;
 }

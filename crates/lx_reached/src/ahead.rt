@@ -75,8 +75,6 @@ fn earlier(rule: Option<u16>, other: Option<u16>) -> Option<u16>
 fn first_rule(alloc: Global, tables: &Tables, state: State) -> Result<Option<u16>, AllocError>
     requires { state.0 < state_count tables.now.machine }
 {
-    // its contract says what holds of all tables
-    let _conditions = tables.conditions();
     let mut met = none_met(alloc, tables.states() as usize)?;
     meet(&mut met, state.0)?;
     let mut rule = None;

@@ -19,8 +19,6 @@ fn meet_starts(tables: &Tables, first: u16, end: u16, met: &mut Met) -> Result<(
     ensures there { OnOk result ((s : ℕ) → IsStart tables.now.machine first end s → slice_index met.new.places.items s ≢ 0) }
     ensures only { OnOk result ((s : ℕ) → slice_index met.new.places.items s ≢ 0 → IsStart tables.now.machine first end s) }
 {
-    // its contract says what holds of all tables
-    let _conditions = tables.conditions();
     for condition in first..end {
         meet(met, tables.start(condition, false).0)?;
         meet(met, tables.start(condition, true).0)?;
@@ -41,8 +39,6 @@ pub fn meet_targets(tables: &Tables, met: &mut Met, state: u32) -> Result<(), Al
     ensures more { OnOk result (length met.old.numbers.items ≤ length met.new.numbers.items) }
     ensures front { OnOk result ((i : ℕ) → i < length met.old.numbers.items → slice_index met.new.numbers.items i ≡ slice_index met.old.numbers.items i) }
 {
-    // its contract says what holds of all tables
-    let _conditions = tables.conditions();
     for byte in 0..256u16 {
         if let Some(target) = tables.step(State(state), byte as u8) {
             meet(met, target.0)?;

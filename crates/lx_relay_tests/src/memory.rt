@@ -11,6 +11,7 @@ use crate::relay::{fresh_tally, relay_list};
 use crate::thread_pieces::head;
 use lx_fixtures::{echo, last_file_first};
 use lx_piece::{Collector, Cutter, Items, Mark, Piece, Plan, Refused, RelayFault, Reply, Why};
+use lx_plan::plans_are_well_formed;
 use std::alloc::{AllocError, Global};
 use std::process::Abort;
 
@@ -192,7 +193,7 @@ fn expect_piece<R: Abort>(
 
 /// Asserts that these are the pieces of a file of 600 items.
 fn expect_three(rt: &impl Abort, alloc: Global, plan: &Plan) {
-    let _files = plan.files();
+    plans_are_well_formed(plan);
     let mut cutter = Cutter::new(alloc, plan, 0);
     expect_piece(rt, &mut cutter, plan, 0, 256, Mark::More);
     expect_piece(rt, &mut cutter, plan, 1, 256, Mark::More);

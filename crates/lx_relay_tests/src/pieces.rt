@@ -7,17 +7,18 @@ use crate::asserts::{holds, same};
 use crate::plans::{echoes, plan_of};
 use lx_fixtures::{MIXED_FILES, MIXED_RULES, THREE_RULES, TWO_WORDS, last_file_first};
 use lx_piece::{Cutter, Mark, Piece, Plan};
+use lx_plan::plans_are_well_formed;
 use lx_scan::Item;
 use lx_spec::Kind;
 use std::process::Abort;
 
 /// An item's kind, `None` for an Echo, its line, its first byte and how many bytes it has.
-type Spot = (Option<Kind>, u64, usize, usize);
+type ItemParts = (Option<Kind>, u64, usize, usize);
 
 /// A piece's file, number and mark, how many items it has, and the first and the last of them.
-type Shape = (u32, u64, Mark, usize, Option<Spot>, Option<Spot>);
+type Shape = (u32, u64, Mark, usize, Option<ItemParts>, Option<ItemParts>);
 
-fn spot(item: Item) -> Spot {
+fn item_parts(item: Item) -> ItemParts {
     match item {
         Item::Token {
             kind,
@@ -29,16 +30,16 @@ fn spot(item: Item) -> Spot {
     }
 }
 
-fn spot_of(item: Option<&Item>) -> Option<Spot> {
+fn item_parts_of(item: Option<&Item>) -> Option<ItemParts> {
     match item {
-        Some(item) => Some(spot(*item)),
+        Some(item) => Some(item_parts(*item)),
         None => None,
     }
 }
 
 fn shape(piece: &Piece) -> Shape {
     let items = piece.items.as_slice();
-    let (first, last) = (spot_of(items.first()), spot_of(items.last()));
+    let (first, last) = (item_parts_of(items.first()), item_parts_of(items.last()));
     (
         piece.file,
         piece.number,
@@ -328,7 +329,7 @@ fn ends_behind<R: Abort>(rt: &R, plan: &Plan, cutter: &mut Cutter, pieces: u32)
 
 /// Asserts it of the cutter of a plan's first file.
 fn first_ends_behind<R: Abort + AllocGlobal>(rt: &R, plan: &Plan, pieces: u32) {
-    let _files = plan.files();
+    plans_are_well_formed(plan);
     let mut cutter = Cutter::new(rt.alloc(), plan, 0);
     ends_behind(rt, plan, &mut cutter, pieces);
 }

@@ -85,7 +85,6 @@ pub(crate) fn append_runs(
     ends: &mut [End],
     items: &mut ItemList,
 ) -> Result<Reached, AllocError>
-    requires table { IsTable tables.now }
     requires place { IsPlace tables.now text.now from }
     requires few { length items.old ≤ most }
     ensures place { IfOk result (λ reached. IsPlace tables.now text.now reached.place) }

@@ -40,7 +40,8 @@ fn latest(
 #[tactic(auto, using(crate::proofs::Stepping::scan_steps))]
 fn last_accepted(tables: &Tables, condition: u16, begin: bool, text: &[u8]) -> Option<(u16, usize)>
     requires { condition < length tables.now.machine.starts }
-    ensures { result ≡ furthest tables.now condition begin text.now (length text.now) }
+    ensures read { result ≡ furthest tables.now condition begin text.now (length text.now) }
+    ensures table { IsTable tables.now }
 {
     let mut state = tables.start(condition, begin);
     let mut last = None;
@@ -70,9 +71,9 @@ pub(crate) fn choose(
     begin: bool,
     text: &[u8],
 ) -> Option<(u16, usize)>
-    requires table { IsTable tables.now }
-    requires condition { condition < length tables.now.machine.starts }
-    ensures { result ≡ choice_of tables.now condition begin text.now }
+    requires { condition < length tables.now.machine.starts }
+    ensures choice { result ≡ choice_of tables.now condition begin text.now }
+    ensures table { IsTable tables.now }
 {
     let (rule, read) = last_accepted(tables, condition, begin, text)?;
     Some((rule, len_of_token(tables, rule, read)))

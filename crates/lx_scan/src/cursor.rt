@@ -181,8 +181,6 @@ impl Cursor {
         ensures items { OnOk result (Appends items.old items.new (items_left tables.now text.now self.old) (items_left tables.now text.now self.new)) }
         ensures most { OnOk result (length items.new ≤ most) }
     {
-        // its contract says what holds of all tables
-        let _conditions = tables.conditions();
         if self.place.offset < memory.stop || self.done < steps_of_match(tables, self.found).len() {
             return Ok(());
         }

@@ -47,7 +47,6 @@ fn accept_at(tables: &Tables, state: State, at: usize, read: usize, found: &mut 
 #[tactic(auto, using(crate::proofs::Failing::run_steps))]
 #[inline(never)]
 fn run_from(tables: &Tables, text: &[u8], place: Place, memory: &ScanMemory) -> (Found, usize)
-    requires table { IsTable tables.now }
     requires known { place.condition < length tables.now.machine.starts }
     requires within { place.offset ≤ length text.now }
     requires memory { IsMemoryOf tables.now text.now memory.now }
@@ -56,6 +55,7 @@ fn run_from(tables: &Tables, text: &[u8], place: Place, memory: &ScanMemory) -> 
     ensures state { result.0.state.0 < state_count tables.now.machine }
     ensures order { result.0.since ≤ result.1 }
     ensures end { result.1 ≤ length text.now }
+    ensures table { IsTable tables.now }
 {
     let mut state = tables.start(place.condition, place.at_line_begin);
     let mut found = Found {
@@ -133,10 +133,10 @@ pub(crate) fn choose_by(
     place: Place,
     memory: &mut ScanMemory,
 ) -> Option<(u16, usize)>
-    requires table { IsTable tables.now }
     requires known { place.condition < length tables.now.machine.starts }
     requires within { place.offset ≤ length text.now }
     requires memory { IsMemoryOf tables.now text.now memory.old }
+    ensures table { IsTable tables.now }
     ensures choice { result ≡ choice_at tables.now (drop place.offset text.now) place }
     ensures memory { IsMemoryOf tables.now text.now memory.new }
 {

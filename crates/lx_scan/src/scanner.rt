@@ -17,6 +17,7 @@ use crate::memory::ScanMemory;
 use crate::place::{Match, Place};
 use lx_rules::rule::Step;
 use lx_tables::Tables;
+use lx_tables::well_formed::tables_are_well_formed;
 use std::alloc::{AllocError, Global};
 
 // So many items are found at once.
@@ -64,10 +65,10 @@ fn match_of(start: usize, choice: Option<(u16, usize)>) -> Match
 
 // The match at a place with this rest of the text.
 fn match_at(tables: &Tables, rest: &[u8], place: Place) -> Match
-    requires table { IsTable tables.now }
     requires known { place.condition < length tables.now.machine.starts }
     requires more { 0 < length rest.now }
-    ensures { IsFound tables.now rest.now place result }
+    ensures table { IsTable tables.now }
+    ensures found { IsFound tables.now rest.now place result }
 {
     let choice = choose(tables, place.condition, place.at_line_begin, rest);
     match_of(place.offset, choice)
@@ -75,10 +76,10 @@ fn match_at(tables: &Tables, rest: &[u8], place: Place) -> Match
 
 // The match at a place of a text, by what is remembered of it.
 fn match_by(tables: &Tables, text: &[u8], place: Place, memory: &mut ScanMemory) -> Match
-    requires table { IsTable tables.now }
     requires known { place.condition < length tables.now.machine.starts }
     requires more { place.offset < length text.now }
     requires memory { IsMemoryOf tables.now text.now memory.old }
+    ensures table { IsTable tables.now }
     ensures found { IsFound tables.now (drop place.offset text.now) place result }
     ensures memory { IsMemoryOf tables.now text.now memory.new }
 {
@@ -117,8 +118,6 @@ pub fn next_match(tables: &Tables, text: &[u8], place: Place) -> Option<(Match, 
     requires line_few { place.line ≤ place.offset + 1 }
     ensures { MatchOption result (place.offset ≡ length text.now) (λ found. GoesOn tables.now text.now place found.0 found.1) }
 {
-    // its contract says what holds of all tables
-    let _conditions = tables.conditions();
     if place.offset == text.len() {
         return None;
     }
@@ -143,8 +142,6 @@ pub(crate) fn next_match_by(
     ensures found { MatchOption result (place.offset ≡ length text.now) (λ found. GoesOn tables.now text.now place found.0 found.1) }
     ensures memory { IsMemoryOf tables.now text.now memory.new }
 {
-    // its contract says what holds of all tables
-    let _conditions = tables.conditions();
     if place.offset == text.len() {
         return None;
     }
@@ -157,8 +154,8 @@ pub(crate) fn next_match_by(
 pub fn scan(alloc: Global, tables: &Tables, text: &[u8]) -> Result<Vec<Item>, AllocError>
     ensures { IfOk result (λ items. items.items ≡ items_of tables.now text.now) }
 {
-    // its contract says that there is a condition
-    let _conditions = tables.conditions();
+    // a law: that there is a condition
+    tables_are_well_formed(tables);
     let mut cursor = Cursor::begin();
     let mut memory = ScanMemory::new(alloc);
     let mut list = ItemList::new(alloc);

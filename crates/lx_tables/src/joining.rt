@@ -301,8 +301,6 @@ impl Tables {
         ensures state { result ≡ begun self.now condition at_line_begin class newline }
         ensures known { IsJoinedState self.now result }
     {
-        // its contract says what holds of all tables
-        let _conditions = self.conditions();
         let start = self.start(condition, at_line_begin);
         JoinedState {
             condition,
@@ -317,8 +315,6 @@ impl Tables {
         ensures row { result ≡ joined_number self.now q * joined_width self.now }
         ensures within { result + joined_width self.now ≤ joined_len self.now }
     {
-        // its contract says what holds of all tables
-        let _conditions = self.conditions();
         let start = usize::from(q.condition) * 2 + bit(q.newline);
         let number = start * (self.states() as usize + 1) + encoded(q.state);
         number * (usize::from(self.classes()) + 1)
@@ -329,8 +325,6 @@ impl Tables {
         requires { row < joined_len self.now }
         ensures { (q : JoinedState) → IsJoinedState self.now q → row ≡ joined_number self.now q * joined_width self.now → result ≡ q.condition }
     {
-        // its contract says what holds of all tables
-        let _conditions = self.conditions();
         let number = row / (usize::from(self.classes()) + 1);
         (number / (self.states() as usize + 1) / 2) as u16
     }

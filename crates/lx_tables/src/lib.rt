@@ -14,6 +14,7 @@ pub mod printing;
 pub mod read;
 pub mod tables;
 pub mod uniqueness;
+pub mod well_formed;
 mod writing;
 
 pub use crate::fault::TableFault;

@@ -5,7 +5,7 @@ ghost use Rattle.lx_rules.specs.views.Specs.{spec_view};
 ghost use Rattle.lx_automaton.specs.Equivalence.{AreEquivalentMachines};
 ghost use Rattle.lx_automaton.specs.Leading.{AreAllLedTo};
 ghost use Rattle.lx_automaton.specs.Meaning.{IsAutomatonOf};
-ghost use Rattle.lx_table_texts.specs.Model.{AreTablesOf};
+ghost use Rattle.lx_table_texts.specs.Model.{AreTablesOf, IsTable};
 
 use crate::copying::{kinds_of, rules_of};
 use crate::tables::Tables;
@@ -22,6 +22,7 @@ impl Tables {
     pub fn of(alloc: Global, spec: &Spec, automaton: &Automaton) -> Result<Tables, AllocError>
         requires { IsAutomatonOf (spec_view spec.now) automaton.now }
         ensures tables { IfOk result (λ tables. AreTablesOf (spec_view spec.now) tables) }
+        ensures table { IfOk result (λ tables. IsTable tables) }
         ensures answers { IfOk result (λ tables. AreEquivalentMachines automaton.now tables.machine) }
         ensures led_to { IfOk result (λ tables. AreAllLedTo automaton.now → AreAllLedTo tables.machine) }
     {
@@ -37,6 +38,7 @@ impl Tables {
     ) -> Result<Tables, AllocError>
         requires { IsAutomatonOf (spec_view spec.now) automaton.now }
         ensures tables { IfOk result (λ tables. AreTablesOf (spec_view spec.now) tables) }
+        ensures table { IfOk result (λ tables. IsTable tables) }
         ensures answers { IfOk result (λ tables. AreEquivalentMachines automaton.now tables.machine) }
         ensures led_to { IfOk result (λ tables. AreAllLedTo automaton.now → AreAllLedTo tables.machine) }
     {

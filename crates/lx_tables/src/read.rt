@@ -2,6 +2,7 @@
 
 ghost use Rattle.std.specs.Prelude.{◌≡◌, ◌↔◌, IsTrue, IfOk, IfErr};
 ghost use Rattle.lx_table_texts.specs.Limits.{HasLimits};
+ghost use Rattle.lx_table_texts.specs.Model.{IsTable};
 ghost use Rattle.lx_table_texts.specs.Reading.{IsTextOf, IsNoText, own_text, IsClassed};
 ghost use Rattle.lx_table_texts.specs.Texts.{text_1, text_2};
 ghost use Rattle.lx_table_texts.specs.Views.{raw_view};
@@ -15,7 +16,8 @@ use std::alloc::{AllocError, Global};
 /// Tables of lists that were tested, over byte classes.
 fn classed(alloc: Global, raw: RawTables) -> Result<Tables, AllocError>
     requires { HasLimits (raw_view raw) }
-    ensures { IfOk result (λ tables. IsClassed (raw_view raw) tables) }
+    ensures classed { IfOk result (λ tables. IsClassed (raw_view raw) tables) }
+    ensures table { IfOk result (λ tables. IsTable tables) }
 {
     let automaton = Automaton::over_byte_classes(
         alloc,
@@ -65,6 +67,7 @@ impl Tables {
     /// number has a leading zero, say, or a byte stands behind the end; and with [`TableFault::Memory`], B90, where memory is refused.
     pub fn read(alloc: Global, text: &[u8]) -> Result<Tables, TableFault>
         ensures tables { IfOk result (λ tables. IsTextOf tables text.now) }
+        ensures table { IfOk result (λ tables. IsTable tables) }
         ensures refused { IfErr result (λ fault. fault ≡ TableFault.NoTables → IsNoText text.now) }
     {
         let raw = read_leniently(alloc, text)?;

@@ -43,7 +43,8 @@ impl Tables {
         rules: Vec<TableRule>,
     ) -> Tables
         requires { IsTable (record { machine = automaton; kinds = names_view kinds.items; rules = rules_view rules.items }) }
-        ensures { result ≡ record { machine = automaton; kinds = names_view kinds.items; rules = rules_view rules.items } }
+        ensures parts { result ≡ record { machine = automaton; kinds = names_view kinds.items; rules = rules_view rules.items } }
+        ensures table { IsTable result }
     {
         Tables {
             automaton,
@@ -66,13 +67,15 @@ impl Tables {
         requires { condition < length self.now.machine.starts }
         ensures start { result.0 ≡ start_of self.now.machine condition at_line_begin }
         ensures state { result.0 < state_count self.now.machine }
+        ensures table { IsTable self.now }
     {
         self.automaton.start(condition, at_line_begin)
     }
 
     /// How many states there are: 1 to 16,512.
     pub fn states(&self) -> u32
-        ensures { result ≡ state_count self.now.machine }
+        ensures count { result ≡ state_count self.now.machine }
+        ensures table { IsTable self.now }
     {
         self.automaton.states()
     }
@@ -104,6 +107,7 @@ impl Tables {
         requires { state.0 < state_count self.now.machine }
         ensures target { option_map (λ s. s.0) result ≡ target_of self.now.machine state.0 byte }
         ensures state { IfSome result (λ s. s.0 < state_count self.now.machine) }
+        ensures table { IsTable self.now }
     {
         self.automaton.step(state, byte)
     }
@@ -119,7 +123,8 @@ impl Tables {
 
     /// How many rules there are: at most 4,096.
     pub fn rules(&self) -> u16
-        ensures { result ≡ length self.now.rules }
+        ensures count { result ≡ length self.now.rules }
+        ensures table { IsTable self.now }
     {
         self.rules.len() as u16
     }
@@ -161,6 +166,7 @@ impl Tables {
         ensures count { result ≡ self.now.machine.width }
         ensures few { result ≤ 256 }
         ensures classes { AreByteClasses self.now.machine }
+        ensures table { IsTable self.now }
     {
         self.automaton.classes()
     }
@@ -175,7 +181,8 @@ impl Tables {
 
     /// The joined table of the same automaton and rules, if it is kept.
     pub fn joined(&self) -> Option<&Joined>
-        ensures { IfSome result (λ j. IsJoined self.now j.now.columns.items j.now.entries.items j.now.labels.items) }
+        ensures joined { IfSome result (λ j. IsJoined self.now j.now.columns.items j.now.entries.items j.now.labels.items) }
+        ensures table { IsTable self.now }
     {
         self.joined.as_ref()
     }

@@ -203,8 +203,6 @@ pub fn list_by_specification<'a, T: Threads + Wait + Sync, S: Sources, W: Write>
 {
     items_are_by_rules();
     let tables = tables_of_text(alloc, text)?;
-    // its contract says what holds of all tables
-    let _conditions = tables.conditions();
     list_given(
         rt, alloc, tables, names, workers, per_piece, sources, writes, out,
     )

@@ -342,8 +342,6 @@ fn list_stored<'a, R: Threads + Wait + Sync, O: Write>(
 {
     listings_are_by_rules();
     let tables = tables_of_text(alloc, STORED_SPECIFICATION)?;
-    // its contract says what holds of all tables
-    let _conditions = tables.conditions();
     let file = make_input(alloc, STORED_TEXT, false)?;
     list_files(
         rt,
@@ -376,8 +374,6 @@ fn list_by_rules_of<'a, R: Threads + Wait + Sync, S: Sources, O: Write>(
     judge_words(order)?;
     let text = read_whole(alloc, sources, order.rules)?;
     let tables = tables_named(alloc, order.rules, &text, notes)?;
-    // its contract says what holds of all tables
-    let _conditions = tables.conditions();
     list_asked(rt, alloc, tables, order, sources, list, writes, out)
 }
 

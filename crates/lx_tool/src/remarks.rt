@@ -3,6 +3,7 @@
 ghost use Rattle.std.specs.Prelude.{ℕ, List, IfOk, IfErr};
 ghost use Rattle.lx_rules.specs.views.Specs.{spec_view};
 ghost use Rattle.lx_spec.specs.Whole.{IsRead};
+ghost use Rattle.lx_table_texts.specs.Model.{IsTable};
 ghost use Rattle.lx_tool.specs.Given.{IsNoTable};
 ghost use Rattle.lx_tool.specs.Tabling.{AreTablesIn, AreTablesOfText, HasNoTables};
 
@@ -86,6 +87,7 @@ pub(crate) fn tables_named<'a>(
     notes: &mut Vec<u8>,
 ) -> Result<Tables, Failure<'a>>
     ensures ok { IfOk result (λ tables. AreTablesOfText text.now tables) }
+    ensures table { IfOk result (λ tables. IsTable tables) }
     ensures err { IfErr result (λ failure. HasNoTables text.now failure) }
 {
     let ended = tables_of_text(alloc, text);

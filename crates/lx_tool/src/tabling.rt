@@ -3,7 +3,7 @@
 ghost use Rattle.std.specs.Prelude.{ℕ, List, IfOk, IfErr};
 ghost use Rattle.lx_rules.specs.views.Specs.{spec_view};
 ghost use Rattle.lx_spec.specs.Whole.{IsRead};
-ghost use Rattle.lx_table_texts.specs.Model.{AreTablesOf};
+ghost use Rattle.lx_table_texts.specs.Model.{AreTablesOf, IsTable};
 ghost use Rattle.lx_tool.specs.Given.{IsNoTable};
 ghost use Rattle.lx_tool.specs.Tabling.{AreTablesIn, AreTablesOfText, HasNoTables};
 
@@ -17,6 +17,7 @@ use std::alloc::Global;
 /// and E31 where it is too large.
 pub fn tables_of_text<'a>(alloc: Global, text: &[u8]) -> Result<Tables, Failure<'a>>
     ensures ok { IfOk result (λ tables. AreTablesOfText text.now tables) }
+    ensures table { IfOk result (λ tables. IsTable tables) }
     ensures err { IfErr result (λ failure. HasNoTables text.now failure) }
 {
     let spec = specification_of(alloc, text)?;
@@ -34,6 +35,7 @@ pub(crate) fn specification_of<'a>(alloc: Global, text: &[u8]) -> Result<Spec, F
 /// The tables of a specification. E30 and E31 come where it is too large.
 pub(crate) fn tables_of<'a>(alloc: Global, spec: &Spec) -> Result<Tables, Failure<'a>>
     ensures ok { IfOk result (λ tables. AreTablesOf (spec_view spec.now) tables) }
+    ensures table { IfOk result (λ tables. IsTable tables) }
     ensures err { IfErr result (λ failure. (text : List ℕ) → IsRead text (spec_view spec.now) → HasNoTables text failure) }
 {
     let automaton = merged_automaton(alloc, spec)?;
@@ -54,8 +56,5 @@ pub(crate) fn read_tables<'a>(alloc: Global, text: &[u8]) -> Result<Tables, Fail
     ensures ok { IfOk result (λ tables. AreTablesIn text.now tables) }
     ensures err { IfErr result (λ failure. IsNoTable text.now failure) }
 {
-    let tables = Tables::read(alloc, text)?;
-    // its contract says what holds of all tables
-    let _conditions = tables.conditions();
-    Ok(tables)
+    Ok(Tables::read(alloc, text)?)
 }

@@ -6,7 +6,7 @@ use Rattle.lx_entered.proofs.entered.meet_behind.Goals as goal
 
 pub meet-requires-clause-number : goal.meet-requires-clause-number
 meet-requires-clause-number c =
-    let known = behind_known c.args.tables.now c.loop-rule.rule c.args.condition c.conditions-conditions.ensures.table c.requires.condition in
+    let known = behind_known c.args.tables.now c.loop-rule.rule c.args.condition c.rules-rule-end.ensures.table c.requires.condition in
     let is : c.condition_behind.result ≡ condition_after (rule_at c.args.tables.now c.loop-rule.rule).steps c.args.condition =
     c.condition_behind.ensures ∙ ap (λ steps. condition_after steps c.args.condition) c.steps.ensures in
     let long = c.loop-rule.invariant.long in

@@ -15,7 +15,7 @@ returns-in-Ok-clause-ok g c =
     let first = ap (λ n. turn_of n s.number) c.requires.file ∙ ap (λ n. turn_of 0 n) c.requires.number in
     on_ok_weaker c.relay_plan-answer.result
     (λ all. subst (λ t. g.S.LineSink.wrote s.sink (listing_in form plan) t.sink) (sym c.into_taker.ensures)
-    (all_listed g.S.LineSink.wrote s (λ t. printing_in (form_view t.form.now) t.plan.value t.file t.number t.sink) (record { form = form; plan = plan }) c.in-Ok.order c.relay_plan-answer.new.reader c.requires.valid
+    (all_listed g.S.LineSink.wrote s (λ t. printing_in (form_view t.form.now) t.plan.value t.file t.number t.sink) (record { form = form; plan = plan }) c.in-Ok.order c.relay_plan-answer.new.reader c.in-Ok.ensures.valid
     (ap (λ p. record { form = form; plan = p }) c.requires.plan) first c.in-Ok.ensures.ok c.relay_plan-answer.ensures.follows all))
     c.relay_plan-answer.ensures.ok
 
@@ -26,7 +26,7 @@ returns-in-Ok-clause-part g c =
     let plan = c.args.plan.now in
     let first = ap (λ n. turn_of n s.number) c.requires.file ∙ ap (λ n. turn_of 0 n) c.requires.number in
     subst (λ t. WrotePrefix g.S.LineSink.wrote s.sink (listing_in form plan) t.sink) (sym c.into_taker.ensures)
-    (part_listed g.S.LineSink.wrote s (λ t. printing_in (form_view t.form.now) t.plan.value t.file t.number t.sink) (record { form = form; plan = plan }) c.in-Ok.order c.relay_plan-answer.new.reader c.requires.valid
+    (part_listed g.S.LineSink.wrote s (λ t. printing_in (form_view t.form.now) t.plan.value t.file t.number t.sink) (record { form = form; plan = plan }) c.in-Ok.order c.relay_plan-answer.new.reader c.in-Ok.ensures.valid
     (ap (λ p. record { form = form; plan = p }) c.requires.plan) first c.in-Ok.ensures.ok c.relay_plan-answer.ensures.follows)
 
 pub returns-in-Err-clause-part : goal.returns-in-Err-clause-part

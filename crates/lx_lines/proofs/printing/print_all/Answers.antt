@@ -12,7 +12,7 @@ returns-in-Ok-clause-ok g c =
     let first = ap (λ n. turn_of n s.number) c.requires.file ∙ ap (λ n. turn_of 0 n) c.requires.number in
     on_ok_weaker c.relay_plan-answer.result
     (λ all. subst (λ t. g.S.LineSink.wrote s.sink (listing_of plan) t.sink) (sym c.into_taker.ensures)
-    (all_listed g.S.LineSink.wrote s (λ t. printing t.draft t.file t.number t.sink) plan c.in-Ok.order c.relay_plan-answer.new.reader c.requires.valid c.requires.plan first c.in-Ok.ensures.ok c.relay_plan-answer.ensures.follows all))
+    (all_listed g.S.LineSink.wrote s (λ t. printing t.draft t.file t.number t.sink) plan c.in-Ok.order c.relay_plan-answer.new.reader c.in-Ok.ensures.valid c.requires.plan first c.in-Ok.ensures.ok c.relay_plan-answer.ensures.follows all))
     c.relay_plan-answer.ensures.ok
 
 pub returns-in-Ok-clause-part : goal.returns-in-Ok-clause-part
@@ -21,7 +21,7 @@ returns-in-Ok-clause-part g c =
     let plan = c.args.plan.now in
     let first = ap (λ n. turn_of n s.number) c.requires.file ∙ ap (λ n. turn_of 0 n) c.requires.number in
     subst (λ t. WrotePrefix g.S.LineSink.wrote s.sink (listing_of plan) t.sink) (sym c.into_taker.ensures)
-    (part_listed g.S.LineSink.wrote s (λ t. printing t.draft t.file t.number t.sink) plan c.in-Ok.order c.relay_plan-answer.new.reader c.requires.valid c.requires.plan first c.in-Ok.ensures.ok c.relay_plan-answer.ensures.follows)
+    (part_listed g.S.LineSink.wrote s (λ t. printing t.draft t.file t.number t.sink) plan c.in-Ok.order c.relay_plan-answer.new.reader c.in-Ok.ensures.valid c.requires.plan first c.in-Ok.ensures.ok c.relay_plan-answer.ensures.follows)
 
 pub returns-in-Err-clause-part : goal.returns-in-Err-clause-part
 returns-in-Err-clause-part g c =

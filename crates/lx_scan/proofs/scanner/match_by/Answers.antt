@@ -7,4 +7,4 @@ returns-clause-found c =
     let m = c.match_of.ensures in
     let place = c.args.place in
     let text = c.args.text.now in
-    found_is c.args.tables.now c.requires.table (drop place.offset text) place c.match_of.result (omega (arith, c.requires.more, length-drop place.offset text)) m.start (m.choice ∙ c.choose_by-choice.ensures.choice) m.alone
+    found_is c.args.tables.now c.choose_by-choice.ensures.table (drop place.offset text) place c.match_of.result (omega (arith, c.requires.more, length-drop place.offset text)) m.start (m.choice ∙ c.choose_by-choice.ensures.choice) m.alone

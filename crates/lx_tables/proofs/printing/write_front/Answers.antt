@@ -25,10 +25,10 @@ returns-in_err-write_kinds-clause-err g c =
 pub returns-in_err-write_count-3-clause-err : goal.returns-in_err-write_count-3-clause-err
 returns-in_err-write_count-3-clause-err g c =
     let p = err_from_is_err_and c.from_residual-in_err-write_count-3.result c.from_residual-in_err-write_count-3.ensures.1 in
-    rw p.1 (prefix_more _ (prefix_then (wrote_both (wrote_both (wrote_both (rw (c.from.ensures, c.conditions.ensures.count) at c.in_ok-write_count.ensures.ok) c.in_ok-write_starts.ensures.ok) (rw c.kinds.ensures at c.in_ok-write_count-2.ensures.ok)) c.in_ok-write_kinds.ensures.ok) (rw (c.from-2.ensures, c.rules.ensures) at c.in_err-write_count-3.ensures.err)))
+    rw p.1 (prefix_more _ (prefix_then (wrote_both (wrote_both (wrote_both (rw (c.from.ensures, c.conditions.ensures.count) at c.in_ok-write_count.ensures.ok) c.in_ok-write_starts.ensures.ok) (rw c.kinds.ensures at c.in_ok-write_count-2.ensures.ok)) c.in_ok-write_kinds.ensures.ok) (rw (c.from-2.ensures, c.rules.ensures.count) at c.in_err-write_count-3.ensures.err)))
 
 pub returns-clause-err : goal.returns-clause-err
-returns-clause-err g c = on_err_weaker c.write_rules.result (λ h. (prefix_then (wrote_both (wrote_both (wrote_both (wrote_both (rw (c.from.ensures, c.conditions.ensures.count) at c.in_ok-write_count.ensures.ok) c.in_ok-write_starts.ensures.ok) (rw c.kinds.ensures at c.in_ok-write_count-2.ensures.ok)) c.in_ok-write_kinds.ensures.ok) (rw (c.from-2.ensures, c.rules.ensures) at c.in_ok-write_count-3.ensures.ok)) h)) c.write_rules.ensures.err
+returns-clause-err g c = on_err_weaker c.write_rules.result (λ h. (prefix_then (wrote_both (wrote_both (wrote_both (wrote_both (rw (c.from.ensures, c.conditions.ensures.count) at c.in_ok-write_count.ensures.ok) c.in_ok-write_starts.ensures.ok) (rw c.kinds.ensures at c.in_ok-write_count-2.ensures.ok)) c.in_ok-write_kinds.ensures.ok) (rw (c.from-2.ensures, c.rules.ensures.count) at c.in_ok-write_count-3.ensures.ok)) h)) c.write_rules.ensures.err
 
 pub returns-clause-ok : goal.returns-clause-ok
-returns-clause-ok g c = on_ok_weaker c.write_rules.result (λ h. (wrote_both (wrote_both (wrote_both (wrote_both (wrote_both (rw (c.from.ensures, c.conditions.ensures.count) at c.in_ok-write_count.ensures.ok) c.in_ok-write_starts.ensures.ok) (rw c.kinds.ensures at c.in_ok-write_count-2.ensures.ok)) c.in_ok-write_kinds.ensures.ok) (rw (c.from-2.ensures, c.rules.ensures) at c.in_ok-write_count-3.ensures.ok)) h)) c.write_rules.ensures.ok
+returns-clause-ok g c = on_ok_weaker c.write_rules.result (λ h. (wrote_both (wrote_both (wrote_both (wrote_both (wrote_both (rw (c.from.ensures, c.conditions.ensures.count) at c.in_ok-write_count.ensures.ok) c.in_ok-write_starts.ensures.ok) (rw c.kinds.ensures at c.in_ok-write_count-2.ensures.ok)) c.in_ok-write_kinds.ensures.ok) (rw (c.from-2.ensures, c.rules.ensures.count) at c.in_ok-write_count-3.ensures.ok)) h)) c.write_rules.ensures.ok

@@ -16,7 +16,7 @@ returns-clause-ok g c =
     let law : GiveItems = record { by_rules = c.items_are_by_rules.ensures } in
     IfOk-weaker c.list_given.result _ _
     (λ cut. listed_as_well g.S.Sources.gives (λ inputs. ListsBy table inputs old new) (λ inputs. ListsByRules c.args.text.now inputs old new)
-    (λ inputs. by_rules c.args.text.now table inputs old new law c.conditions-conditions.ensures.table c.in_ok-tables.ensures.ok)
+    (λ inputs. by_rules c.args.text.now table inputs old new law c.in_ok-tables.ensures.table c.in_ok-tables.ensures.ok)
     names c.args.sources.now c.list_given.new.sources (map (λ (name : Bor (List ℕ)). name.now) cut.items))
     c.list_given.ensures.ok
 
@@ -32,7 +32,7 @@ returns-clause-err g c =
     let Part = ArePartlyListed g.S.Sources.gives (λ inputs. ListsPrefixBy table inputs old new) names before after in
     let PartByRules = ArePartlyListed g.S.Sources.gives (λ inputs. ListsPrefixByRules c.args.text.now inputs old new) names before after in
     let part : Part → PartByRules = partly_as_well g.S.Sources.gives (λ inputs. ListsPrefixBy table inputs old new) (λ inputs. ListsPrefixByRules c.args.text.now inputs old new)
-    (λ inputs. prefix_by_rules c.args.text.now table inputs old new law c.conditions-conditions.ensures.table c.in_ok-tables.ensures.ok) names before after in
+    (λ inputs. prefix_by_rules c.args.text.now table inputs old new law c.in_ok-tables.ensures.table c.in_ok-tables.ensures.ok) names before after in
     IfErr-weaker c.list_given.result _ _
     (fails_as_well (λ _. ⊥) (HasNoTables c.args.text.now) Part PartByRules names before after old new (λ failure h. absurd h) part)
     c.list_given.ensures.err

@@ -27,7 +27,7 @@ returns-clause-ok g c =
       named = h.named;
       judged = h.judged;
       listed = listed_as_well gives (λ inputs. ListsAsked order.form table h.names inputs old new) (λ inputs. ListsByRulesIn order.form text h.names inputs old new)
-          (λ inputs. asked_by_rules order.form text table h.names inputs old new law c.conditions-conditions.ensures.table made) h.names h.behind c.list_asked.new.sources _ h.listed;
+          (λ inputs. asked_by_rules order.form text table h.names inputs old new law c.in_ok-tables.ensures.table made) h.names h.behind c.list_asked.new.sources _ h.listed;
     })
     c.list_asked.ensures.ok
 

@@ -19,5 +19,5 @@ returns-clause-ok g c =
     let new = g.O.Write.contents c.list_files.new.out in
     let table = c.in_ok-tables.tables in
     let inputs = ap (λ (files : List Input). map input_view files) c.in_ok-vec.ensures.items ∙ ap (λ (input : PlainInput). input ∷ []) c.in_ok-file.ensures in
-    c.listings_are_by_rules.ensures stored_specification table (whole stored_text ∷ []) old new c.conditions-conditions.ensures.table c.in_ok-tables.ensures.ok stored_bytes
+    c.listings_are_by_rules.ensures stored_specification table (whole stored_text ∷ []) old new c.in_ok-tables.ensures.table c.in_ok-tables.ensures.ok stored_bytes
     (subst (λ (inputs : List PlainInput). ListsBy table inputs old new) inputs (subst (λ t. ListsBy t (map input_view c.in_ok-vec.field-0.items) old new) c.tables.view_is c.in_ok-list_files.ensures.ok))

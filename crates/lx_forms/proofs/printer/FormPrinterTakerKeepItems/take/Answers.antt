@@ -18,7 +18,7 @@ returns-in_err-write_lines-clause-fails g c =
     let s = c.args.self.now in
     let form = form_view s.form.now in
     let p = err_from_is_err_and c.from_residual.result c.from_residual.ensures.1 in
-    rw p.1 (prints_in_part g.S.LineSink.wrote (record { form = form; plan = s.plan.value }) (turn_of s.file s.number) s.sink c.write_lines.new.self c.args.piece c.as_slice.result.now (subst IsPlan c.requires.same c.files-files.ensures.plan) c.requires.turn
+    rw p.1 (prints_in_part g.S.LineSink.wrote (record { form = form; plan = s.plan.value }) (turn_of s.file s.number) s.sink c.write_lines.new.self c.args.piece c.as_slice.result.now (subst IsPlan c.requires.same c.plans_are_well_formed.ensures) c.requires.turn
     (c.as_slice.ensures.value ∙ c.in-Ok.ensures ∙ ap (λ (plan : Planned). piece_lines_in form plan c.args.piece) c.requires.same) c.in_err-write_lines.ensures.err)
 
 pub returns-then-closes-clause-follows : goal.returns-then-closes-clause-follows
@@ -26,7 +26,7 @@ returns-then-closes-clause-follows g c =
     let s = c.args.self.now in
     let form = form_view s.form.now in
     let turn = turn_of s.file s.number in
-    prints_piece g.S.LineSink.wrote (record { form = form; plan = s.plan.value }) turn (turn_of (s.file + 1) 0) s.sink c.write_lines.new.self c.args.piece c.as_slice.result.now (subst IsPlan c.requires.same c.files-files.ensures.plan) c.requires.turn
+    prints_piece g.S.LineSink.wrote (record { form = form; plan = s.plan.value }) turn (turn_of (s.file + 1) 0) s.sink c.write_lines.new.self c.args.piece c.as_slice.result.now (subst IsPlan c.requires.same c.plans_are_well_formed.ensures) c.requires.turn
     (c.as_slice.ensures.value ∙ c.in-Ok.ensures ∙ ap (λ (plan : Planned). piece_lines_in form plan c.args.piece) c.requires.same)
     (turn_closed s.plan.value turn c.args.piece c.requires.turn (sym c.is_closing-closes.ensures ∙ c.if-closes.true)) c.in_ok-write_lines.ensures.ok
 
@@ -35,6 +35,6 @@ returns-clause-follows g c =
     let s = c.args.self.now in
     let form = form_view s.form.now in
     let turn = turn_of s.file s.number in
-    prints_piece g.S.LineSink.wrote (record { form = form; plan = s.plan.value }) turn (turn_of s.file (s.number + 1)) s.sink c.write_lines.new.self c.args.piece c.as_slice.result.now (subst IsPlan c.requires.same c.files-files.ensures.plan) c.requires.turn
+    prints_piece g.S.LineSink.wrote (record { form = form; plan = s.plan.value }) turn (turn_of s.file (s.number + 1)) s.sink c.write_lines.new.self c.args.piece c.as_slice.result.now (subst IsPlan c.requires.same c.plans_are_well_formed.ensures) c.requires.turn
     (c.as_slice.ensures.value ∙ c.in-Ok.ensures ∙ ap (λ (plan : Planned). piece_lines_in form plan c.args.piece) c.requires.same)
     (turn_open s.plan.value turn c.args.piece c.requires.turn (sym c.is_closing-closes.ensures ∙ c.if-closes.false)) c.in_ok-write_lines.ensures.ok

@@ -37,7 +37,7 @@ make-requires-clause-items g c =
     let before : Cutting = record { plan = c.self.inside.plan.value; file = c.self.inside.file; next = c.self.inside.number; cursor = c.self.inside.cursor; ahead = c.self.inside.ahead } in
     let is : IsCutterOf c.args.plan.now before = subst (λ (k : Cutting). IsCutterOf c.args.plan.now k) (sym c.self.view_is) c.requires in
     items_taken c.args.plan.now before c.take_items.new.items c.tables.result.now c.bytes-text.result.now c.per_piece-most.result
-    c.tables.ensures c.bytes-text.ensures c.per_piece-most.ensures.count is c.in_ok-ahead.ensures.items c.files-files.ensures.plan
+    c.tables.ensures c.bytes-text.ensures c.per_piece-most.ensures.count is c.in_ok-ahead.ensures.items c.per_piece-most.ensures.plan
 
 pub returns-clause-cutter : goal.returns-clause-cutter
 returns-clause-cutter g c =

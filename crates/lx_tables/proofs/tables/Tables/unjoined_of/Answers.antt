@@ -53,7 +53,7 @@ returns-clause-tables c =
     let seen = length-map c.args.spec.now.rules.items rule_view in
     let same : c.len.result ≡ length spec.rules = omega (arith, c.len.ensures) in
     let few : c.len.result ≤ 4096 = (let f = well.few_rules in omega arith) in
-    rw (c.of_parts.ensures, c.of-reordered.ensures) (rw (c.in_ok-classes.ensures, c.from-width.ensures, c.classes.ensures.count, c.in_ok-kinds.ensures, c.in_ok-rules.ensures)
+    rw (c.of_parts.ensures.parts, c.of-reordered.ensures) (rw (c.in_ok-classes.ensures, c.from-width.ensures, c.classes.ensures.count, c.in_ok-kinds.ensures, c.in_ok-rules.ensures)
     (made_of c.args.automaton.now n.states.items n.encoded_options.items c.in_ok-starts.starts.items c.in_ok-accepted.accepted.items c.in_ok-targets.targets.items c.len.result
     c.classes.ensures.machine c.classes.ensures.classes c.in_ok-state_order.ensures.met c.in_ok-state_order.ensures.long c.in_ok-starts.ensures c.in_ok-accepted.ensures c.in_ok-targets.ensures few spec c.requires same well))
 
@@ -66,7 +66,7 @@ returns-clause-answers c =
     let seen = length-map c.args.spec.now.rules.items rule_view in
     let same : c.len.result ≡ length spec.rules = omega (arith, c.len.ensures) in
     let few : c.len.result ≤ 4096 = (let f = well.few_rules in omega arith) in
-    rw (c.of_parts.ensures, c.of-reordered.ensures) (rw (c.in_ok-classes.ensures, c.from-width.ensures, c.classes.ensures.count)
+    rw (c.of_parts.ensures.parts, c.of-reordered.ensures) (rw (c.in_ok-classes.ensures, c.from-width.ensures, c.classes.ensures.count)
     (made_alike c.args.automaton.now n.states.items n.encoded_options.items c.in_ok-starts.starts.items c.in_ok-accepted.accepted.items c.in_ok-targets.targets.items c.len.result
     c.classes.ensures.machine c.classes.ensures.classes c.in_ok-state_order.ensures.met c.in_ok-state_order.ensures.long c.in_ok-starts.ensures c.in_ok-accepted.ensures c.in_ok-targets.ensures few spec c.requires same well))
 
@@ -79,6 +79,6 @@ returns-clause-led_to c =
     let seen = length-map c.args.spec.now.rules.items rule_view in
     let same : c.len.result ≡ length spec.rules = omega (arith, c.len.ensures) in
     let few : c.len.result ≤ 4096 = (let f = well.few_rules in omega arith) in
-    rw (c.of_parts.ensures, c.of-reordered.ensures) (rw (c.in_ok-classes.ensures, c.from-width.ensures, c.classes.ensures.count)
+    rw (c.of_parts.ensures.parts, c.of-reordered.ensures) (rw (c.in_ok-classes.ensures, c.from-width.ensures, c.classes.ensures.count)
     (made_led c.args.automaton.now n.states.items n.encoded_options.items c.in_ok-starts.starts.items c.in_ok-accepted.accepted.items c.in_ok-targets.targets.items c.len.result
     c.classes.ensures.machine c.classes.ensures.classes c.in_ok-state_order.ensures.met c.in_ok-state_order.ensures.long c.in_ok-starts.ensures c.in_ok-accepted.ensures c.in_ok-targets.ensures few spec c.requires same well))
