@@ -1,3 +1,4 @@
+pub mod FileLines
 mod HandedOn
 pub mod Parting
 pub mod Stepping

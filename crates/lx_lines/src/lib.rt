@@ -1,6 +1,7 @@
 //! The listing: the lines of a plan's pieces, printed in the plan's order, on the calling thread or by workers.
 #![tactic(auto)]
 
+mod direct;
 mod gathering;
 mod listing;
 mod parts;

@@ -7,12 +7,13 @@ ghost use Rattle.lx_writing.specs.Appending.{AppendsPrefix};
 ghost use Rattle.lx_lines.specs.Listings.{listing_of};
 ghost use Rattle.lx_lines.specs.Printing.{WrotePrefix};
 
+use crate::direct::write_files;
 use crate::gathering::Gathering;
 use crate::printer::Printer;
 use crate::sink::{Lent, LineSink};
-use crate::spares::{Alone, Shared};
+use crate::spares::Shared;
 use lx_line::LineBuffer;
-use lx_piece::{InOrder, Plan, RelayFault, relay_plan};
+use lx_piece::{InOrder, Plan, ReaderFault};
 use lx_post::{OpenGate, RunFault, scan_made};
 use lx_shown::{LineMaker, Spares};
 use lx_writing::LineWrites;
@@ -24,41 +25,18 @@ use std::thread::Threads;
 // So many lists of items and blocks of lines are kept to be used again: about as many as are on their way at once.
 const SPARES: usize = 512;
 
-// Hands a new printer all pieces of the plan. It comes back, so that what a lent writer holds in the end is known.
-fn print_all<Y: Spares + Drop, S: LineSink + Drop>(
-    alloc: Global,
-    plan: &Plan,
-    maker: LineMaker<Y>,
-    printer: Printer<Y, S>,
-) -> (Printer<Y, S>, Result<(), RelayFault>)
-    requires plan { printer.draft ≡ plan.now }
-    requires file { printer.file ≡ 0 }
-    requires number { printer.number ≡ 0 }
-    ensures ok { OnOk result.1 (S.wrote printer.sink (listing_of plan.now) result.0.sink) }
-    ensures part { WrotePrefix S.wrote printer.sink (listing_of plan.now) result.0.sink }
-{
-    match InOrder::<LineMaker<Y>, Printer<Y, S>>::new(alloc, plan, printer) {
-        Ok(mut order) => {
-            let answer = relay_plan(alloc, plan, maker, &mut order);
-            (order.into_taker(), answer)
-        }
-        Err(refused) => (refused.value, Err(RelayFault::Memory)),
-    }
-}
-
-// Hands all pieces of the plan to a new printer.
+// Writes the lines of the plan's files on this thread.
 fn print_to<S: LineSink + Drop>(alloc: Global, plan: &Plan, sink: S) -> (S, Result<(), RunFault>)
     ensures ok { OnOk result.1 (S.wrote sink (listing_of plan.now) result.0) }
     ensures part { WrotePrefix S.wrote sink (listing_of plan.now) result.0 }
 {
-    let spares = Alone::new();
-    let printer = Printer::new(alloc, plan, &spares, sink);
-    let (printer, answer) = print_all(alloc, plan, LineMaker::new(alloc, &spares), printer);
-    let answer = match answer {
+    let mut sink = sink;
+    let answer = match write_files(alloc, plan, &mut sink) {
         Ok(()) => Ok(()),
-        Err(fault) => Err(RunFault::from(fault)),
+        Err(ReaderFault::Memory) => Err(RunFault::Memory),
+        Err(ReaderFault::Device) => Err(RunFault::Reader),
     };
-    (printer.into_sink(), answer)
+    (sink, answer)
 }
 
 // Hands a new printer all pieces of the plan, as workers cut them. It comes back, so that what a lent writer holds in the end is known.

@@ -82,7 +82,7 @@ impl Plan {
     }
 
     /// Whether the reading of a file failed behind its bytes.
-    pub(crate) fn is_cut(&self, file: u32) -> bool
+    pub fn is_cut(&self, file: u32) -> bool
         requires { file < files_of self.now }
         ensures { result ≡ is_cut self.now file }
     {
@@ -90,7 +90,7 @@ impl Plan {
     }
 
     /// The tables by which the files are scanned.
-    pub(crate) fn tables(&self) -> &Tables
+    pub fn tables(&self) -> &Tables
         ensures { result.now ≡ self.now.table }
     {
         &self.tables
