@@ -1,6 +1,7 @@
 // From the marked positions of a rule to those that can be read next.
-ghost use Rattle.std.specs.Prelude.{◌≡◌, ◌+◌, ◌<◌, ◌≤◌, ◌^◌, ◌↔◌, ℕ, IfOk, OnOk, true, false, length};
+ghost use Rattle.std.specs.Prelude.{◌≡◌, ◌+◌, ◌<◌, ◌≤◌, ◌^◌, ◌↔◌, [], ◌∷◌, ℕ, IfOk, OnOk, true, false, length, reverse};
 ghost use Rattle.lx_auto.specs.Marking as plain;
+ghost use Rattle.lx_auto.specs.NodeViews.{nodes_view};
 ghost use Rattle.lx_auto.specs.PositionSets.{NumberedRule};
 ghost use Rattle.lx_auto.specs.Positions.{CanEnd};
 ghost use Rattle.lx_auto.specs.RuleParts.{IsPartOf, AreReadsOf};
@@ -10,8 +11,44 @@ ghost use Rattle.lx_auto.specs.Following.{FollowsMarked, EndsMarked, ReadsRule};
 
 use crate::block_steps::{find_all_ends, last_flags, read_blocks};
 use crate::marking::{ends_of, flag, has_flag, mark_reads, set_flag};
+use crate::node::Node;
 use crate::rule_part::RulePart;
 use std::alloc::{AllocError, Global};
+
+// For each node of an outline whether a word can end there that ends in one of its blocks: nowhere, where none does, as in most sets.
+fn outline_ends(
+    alloc: Global,
+    outline: &[Node],
+    nulls: &[bool],
+    at_blocks: &[bool],
+) -> Result<Vec<bool>, AllocError>
+    ensures { IfOk result (λ ends. ends.items ≡ plain.ends_from nulls.now at_blocks.now 0 (nodes_view outline.now) []) }
+{
+    if has_flag(at_blocks, 0, at_blocks.len()) {
+        return ends_of(alloc, outline, nulls, at_blocks, 0);
+    }
+    vec![in alloc; false; outline.len()]
+}
+
+// Sets for each block of an outline whether it is entered: none, where the outline isn't entered and nothing ends in it.
+fn mark_entered(
+    alloc: Global,
+    outline: &[Node],
+    nulls: &[bool],
+    ends: &[bool],
+    entered: bool,
+    end: usize,
+    enters: &mut Vec<bool>,
+) -> Result<(), AllocError>
+    requires clear { (q : ℕ) → plain.flag enters.old.items q ≡ false }
+    ensures long { OnOk result (length enters.new.items ≡ length enters.old.items) }
+    ensures set { OnOk result (enters.new.items ≡ plain.reads_from nulls.now ends.now (reverse (nodes_view outline.now)) (entered ∷ []) end enters.old.items) }
+{
+    if entered || has_flag(ends, 0, ends.len()) {
+        return mark_reads(alloc, outline, nulls, ends, entered, end, enters);
+    }
+    Ok(())
+}
 
 impl RulePart<'_> {
     /// Whether a position of the rule is marked.
@@ -40,10 +77,10 @@ impl RulePart<'_> {
         let at_blocks = last_flags(alloc, &at_nodes)?;
         let outline = self.outline.as_slice();
         let nulls = self.nulls.as_slice();
-        let at_outline = ends_of(alloc, outline, nulls, &at_blocks, 0)?;
+        let at_outline = outline_ends(alloc, outline, nulls, &at_blocks)?;
         let ends = at_outline.as_slice();
         let mut enters = vec![in alloc; false; blocks.len()]?;
-        mark_reads(
+        mark_entered(
             alloc,
             outline,
             nulls,

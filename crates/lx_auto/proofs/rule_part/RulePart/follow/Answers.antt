@@ -37,7 +37,7 @@ returns-clause-reads c = λ r is room clear.
     let count : length c.as_slice-blocks.result.now ≡ length part.blocks.items = ap length blocks in
     let long : length first ≡ length part.blocks.items =
     (let len = c.in_ok-enters.ensures.len in let ok = c.in_ok-enters.enters.ok.0 in omega arith) in
-    let enter = c.deref-4.ensures.value ∙ c.in_ok-mark_reads.ensures.set
+    let enter = c.deref-4.ensures.value ∙ c.in_ok-mark_entered.ensures.set
     ∙ ap₂ (λ x y. reads_from x ends (reverse (nodes_view y)) (c.args.entered ∷ []) (length c.as_slice-blocks.result.now) first) c.as_slice-nulls.ensures.value
     c.as_slice-outline.ensures.value
     ∙ ap (λ (n : ℕ). reads_from part.nulls.items ends (reverse (nodes_view part.outline.items)) (c.args.entered ∷ []) n first) count in
