@@ -15,7 +15,7 @@ use lx_plan::plans_are_well_formed;
 use lx_scan::{Cursor, ItemList, ScanMemory};
 use std::alloc::Global;
 
-// So many items are found at once. By a quarter of them a listing of C takes 6 % longer (docs/SPEED.md).
+// So many items are found at once. Where pieces had a quarter of them, a listing of C took 6 % longer (docs/SPEED.md).
 const AT_ONCE: usize = 1024;
 
 // Writes the lines of a file's items. What the list and the block hold means nothing before and after.
