@@ -1,4 +1,4 @@
-//! The listing: the lines of a plan's pieces, printed in the plan's order, on the calling thread or by workers.
+//! The listing: the lines of a plan's files in order, of the pieces that workers cut, or of items that the calling thread finds.
 #![tactic(auto)]
 
 mod direct;
