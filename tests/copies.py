@@ -4,6 +4,8 @@ import os
 import pathlib
 import shutil
 
+from early_cutoff import mark_unmoved
+
 TOP = pathlib.Path(__file__).resolve().parent.parent
 PARTS = ["src", "specs", "proofs", "data"]
 
@@ -52,4 +54,5 @@ def copy_of(crate, room):
             if (folder / part).is_dir():
                 shutil.copytree(folder / part, there / part)
         link(folder / "out/rlib", there / "out/rlib")
+    mark_unmoved(room)
     return room / "crates" / crate
