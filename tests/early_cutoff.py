@@ -48,12 +48,18 @@ def given_by(library):
     return sum_of([(str(path.relative_to(rlib)), hashlib.sha256(path.read_bytes()).digest()) for path in paths])
 
 
-def made_of(library, given):
-    """A sum of what a library is made of: its own texts, and what those below it give; None where that isn't known of one of them."""
+@functools.cache
+def own_sum(library):
+    """A sum of a library's own texts, of what crates.txt has of it, and of the toolchain."""
     alone = copy.copy(library)
     alone.deps = []
+    return alone.stamp()
+
+
+def made_of(library, given):
+    """A sum of what a library is made of: its own texts, and what those below it give; None where that isn't known of one of them."""
     below = [given.get(low.name) for low in library.below()]
-    return None if None in below else sum_of([alone.stamp(), below])
+    return None if None in below else sum_of([own_sum(library), below])
 
 
 def unmoved_libraries(folder):
