@@ -10,7 +10,7 @@ use Rattle.lx_auto.specs.NodeLeaves.{leaves_in}
 use Rattle.lx_auto.specs.Marking.{flag, nulls_from, ends_from, reads_from}
 use Rattle.lx_auto.specs.Passing.{HasNoEmptyPart, node_count, ended, end_list, EndsAt, read_list}
 use Rattle.lx_auto.specs.Outlines.{positions_of, HaveEnded, read_blocks}
-use Rattle.lx_auto.specs.Blocks.{IsBlockOver, AreBlocksOver, leaf_total, IsBlock, AreBlocks, HasEnds, HaveEnds, last_flag, IsClear}
+use Rattle.lx_auto.specs.Blocks.{IsBlockOver, AreBlocksOver, leaf_total, IsBlock, AreBlocks, HasEnds, HaveEnds, last_flag, IsClear, shifted}
 use Rattle.lx_auto.specs.Chunks.{block_nodes}
 use Rattle.lx_auto.specs.declared.block.Block.{Block}
 use Rattle.lx_auto.specs.declared.node.Node.{Node}
@@ -18,6 +18,7 @@ use Rattle.lx_auto.proofs.FlagLemmas.{flag_right, length_joined}
 use Rattle.lx_auto.proofs.LeafOrder.{tree_long}
 use Rattle.lx_auto.proofs.PassResults.{some_nodes, end_length, ends_at, reads_pass}
 use Rattle.lx_auto.proofs.RulePartLists.{slice_get_push}
+use Rattle.lx_auto.proofs.Sequences.{IsSequence, sequence_ended, sequence_reads}
 use Rattle.lx_auto.proofs.Readable.{ended_means, reads_apart}
 use Rattle.lx_auto.proofs.RuleRead.{nulls_hold, no_empty_ends, ended_at_last}
 use Rattle.lx_auto.proofs.Words.{in_last}
@@ -85,24 +86,24 @@ module _ (marks : List Bool) where
 
   -- the two passes over a block
   pub no_ends : (block : Block) (e : Unfolded) (ends : List Bool) → IsBlock block e → ends ≡ [] →
-      ((q : ℕ) → block.base ≤ q → q < block.base + block.count → flag marks q ≡ false) → HasEnds marks ends e block.base
+      ((q : ℕ) → block.base ≤ q → q < block.base + block.count → flag marks q ≡ false) → HasEnds marks ends block e
   no_ends block e ends is nil none =
       let k = is.count in
       let bare : (q : ℕ) → block.base ≤ q → q < block.base + position_count e → flag marks q ≡ false = λ q l h. none q l (omega arith) in
       record {
-        at = subst (λ l. EndsAt marks l 0 e block.base) (sym nil) (untouched_at e 0 block.base bare);
+        at = λ other. subst (λ l. EndsAt marks l 0 e block.base) (sym nil) (untouched_at e 0 block.base bare);
         last = ap (λ l. flag l (length l - 1)) nil ∙ sym (untouched_ended e block.base bare);
         untouched = λ h. bare;
       }
 
   pub block_ends : (block : Block) (e : Unfolded) (nodes : List PlainNode) (nulls ends : List Bool) → IsBlock block e → nodes ≡ nodes_of e → nulls ≡ nulls_from (nodes_of e) [] →
-      ends ≡ ends_from nulls marks block.base nodes [] → HasEnds marks ends e block.base
+      ends ≡ ends_from nulls marks block.base nodes [] → HasEnds marks ends block e
   block_ends block e nodes nulls ends is n m to =
       let all : ends ≡ ends_from (nulls_from (nodes_of e) []) marks block.base (nodes_of e) [] =
       to ∙ ap₂ (λ x y. ends_from x marks block.base y []) m n in
       let list = all ∙ no_empty_ends marks e block.base is.no_empty in
       record {
-        at = ends_at marks e [] [] ends 0 block.base is.no_empty (list ∙ sym (append-nil (end_list marks e block.base))) refl;
+        at = λ other. ends_at marks e [] [] ends 0 block.base is.no_empty (list ∙ sym (append-nil (end_list marks e block.base))) refl;
         last = ended_at_last marks e block.base ends (inr is.no_empty) all;
         untouched = λ nil.
             let long = ap length (sym list ∙ nil) in
@@ -112,16 +113,32 @@ module _ (marks : List Bool) where
       }
 
   pub block_reads : (block : Block) (e : Unfolded) (nodes : List PlainNode) (nulls ends reads : List Bool) (f : Bool) → IsBlock block e → nodes ≡ nodes_of e →
-      nulls ≡ nulls_from (nodes_of e) [] → HasEnds marks ends e block.base →
+      nulls ≡ nulls_from (nodes_of e) [] → HasEnds marks ends block e → block.is_sequence ≡ false →
       reads_from nulls ends (reverse nodes) (f ∷ []) (block.base + block.count) reads ≡ read_list marks e f block.base reads
-  block_reads block e nodes nulls ends reads f is n m has =
+  block_reads block e nodes nulls ends reads f is n m has other =
       let real = nulls_from (nodes_of e) [] in
       ap₂ (λ x y. reads_from x ends (reverse y) (f ∷ []) (block.base + block.count) reads) m n
       ∙ ap (λ l. reads_from real ends l (f ∷ []) (block.base + block.count) reads) (sym (append-nil (reverse (nodes_of e))))
-      ∙ reads_pass marks real ends e [] f [] block.base (block.base + block.count) reads is.no_empty (ap (λ n. block.base + n) is.count) (nulls_hold marks e block.base is.no_empty) has.at
+      ∙ reads_pass marks real ends e [] f [] block.base (block.base + block.count) reads is.no_empty (ap (λ n. block.base + n) is.count) (nulls_hold marks e block.base is.no_empty) (has.at other)
+
+  -- a sequence
+  pub last_end : (block : Block) (e : Unfolded) (ends : List Bool) → IsBlock block e → block.is_sequence ≡ true →
+      ends ≡ flag marks (block.base + block.count - 1) ∷ [] → HasEnds marks ends block e
+  last_end block e ends is sequence to =
+      let all : IsSequence e = sym is.is_sequence ∙ sequence in
+      record {
+        at = λ other. let no : true ≡ false = sym sequence ∙ other in absurd (cc);
+        last = ap (λ l. flag l (length l - 1)) to ∙ ap (λ n. flag marks (block.base + n - 1)) is.count ∙ sym (sequence_ended marks e block.base is.no_empty all);
+        untouched = λ nil. let no : flag marks (block.base + block.count - 1) ∷ [] ≡ [] = sym to ∙ nil in absurd (cc);
+      }
+
+  pub sequence_block_reads : (block : Block) (e : Unfolded) (reads : List Bool) (f : Bool) → IsBlock block e → block.is_sequence ≡ true →
+      shifted marks f block.base block.count reads ≡ read_list marks e f block.base reads
+  sequence_block_reads block e reads f is sequence =
+      ap (λ n. shifted marks f block.base n reads) is.count ∙ sequence_reads marks e f block.base reads is.no_empty (sym is.is_sequence ∙ sequence)
 
   -- nothing can be read in a block that isn't touched and isn't entered
-  pub block_stays : (block : Block) (e : Unfolded) (ends reads : List Bool) (f : Bool) → IsBlock block e → HasEnds marks ends e block.base → ends ≡ [] → f ≡ false →
+  pub block_stays : (block : Block) (e : Unfolded) (ends reads : List Bool) (f : Bool) → IsBlock block e → HasEnds marks ends block e → ends ≡ [] → f ≡ false →
       IsClear reads block.base (block.base + block.count) → reads ≡ read_list marks e f block.base reads
   block_stays block e ends reads f is has nil out clear =
       let k = is.count in
@@ -130,7 +147,7 @@ module _ (marks : List Bool) where
 
 -- one block more
 pub ends_more : (marks : List Bool) (blocks : List Block) (ends : List (Vec Bool Global)) (n : ℕ) (block : Block) (own : Vec Bool Global) → HaveEnds marks blocks ends n →
-    slice_get blocks n ≡ Some block → ((e : Unfolded) → IsBlock block e → HasEnds marks own.items e block.base) → HaveEnds marks blocks (ends ++ own ∷ []) (n + 1)
+    slice_get blocks n ≡ Some block → ((e : Unfolded) → IsBlock block e → HasEnds marks own.items block e) → HaveEnds marks blocks (ends ++ own ∷ []) (n + 1)
 ends_more marks blocks ends n block own have here more = record {
   long = length_joined ends (own ∷ []) ∙ ap (λ l. l + 1) have.long;
   each = λ i b x e at found is. elim (slice_get_push ends own x i found) [
@@ -140,8 +157,8 @@ ends_more marks blocks ends n block own have here more = record {
         let same : i ≡ n = omega arith in
         let both : Some b ≡ Some block = sym at ∙ ap (λ j. slice_get blocks j) same ∙ here in
         let one : b ≡ block = cc in
-        subst (λ y. HasEnds marks y.items e b.base) (sym h.1)
-        (subst (λ (y : Block). HasEnds marks own.items e y.base) (sym one) (more e (subst (λ y. IsBlock y e) one is)))
+        subst (λ y. HasEnds marks y.items b e) (sym h.1)
+        (subst (λ (y : Block). HasEnds marks own.items y e) (sym one) (more e (subst (λ y. IsBlock y e) one is)))
   ];
 }
 
@@ -154,7 +171,7 @@ no_ends_yet marks blocks ends nil = record {
 -- what the flags of blocks say of their expressions
 flags_tell : (marks flags front : List Bool) (blocks : List Block) (ends : List (Vec Bool Global)) (es : List Unfolded) (j k : ℕ) → AreBlocks blocks es k →
     length ends ≡ length blocks →
-    ((i : ℕ) (b : Block) (x : Vec Bool Global) (e : Unfolded) → slice_get blocks i ≡ Some b → slice_get ends i ≡ Some x → IsBlock b e → HasEnds marks x.items e b.base) →
+    ((i : ℕ) (b : Block) (x : Vec Bool Global) (e : Unfolded) → slice_get blocks i ≡ Some b → slice_get ends i ≡ Some x → IsBlock b e → HasEnds marks x.items b e) →
     flags ≡ front ++ map last_flag ends → j ≡ length front → HaveEnded marks flags es j k
 flags_tell marks flags front [] ends [] j k are long each is at = tt
 flags_tell marks flags front [] ends (e ∷ es) j k are long each is at = absurd are
@@ -226,9 +243,9 @@ all_read marks entered reads es k n long = ap (λ l. read_blocks marks entered l
     none_left (e ∷ es) (suc n) h = none_left es n (omega arith)
 
 pub block_turn : (marks entered old mid new own : List Bool) (blocks : List Block) (es : List Unfolded) (k n r : ℕ) (block : Block) → r ≡ suc n →
-    AreBlocks blocks es k → slice_get blocks n ≡ Some block → ((e : Unfolded) → IsBlock block e → HasEnds marks own e block.base) →
+    AreBlocks blocks es k → slice_get blocks n ≡ Some block → ((e : Unfolded) → IsBlock block e → HasEnds marks own block e) →
     IsClear old k (k + positions_of es) → mid ≡ read_blocks marks entered (drop r es) r (k + positions_of (take r es)) old →
-    ((e : Unfolded) → IsBlock block e → HasEnds marks own e block.base → IsClear mid block.base (block.base + block.count) →
+    ((e : Unfolded) → IsBlock block e → HasEnds marks own block e → IsClear mid block.base (block.base + block.count) →
     new ≡ read_list marks e (flag entered n) block.base mid) →
     new ≡ read_blocks marks entered (drop n es) n (k + positions_of (take n es)) old
 block_turn marks entered old mid new own blocks es k n r block next are here has clear so_far turn =
@@ -280,7 +297,7 @@ over_trees [] [] k no_empty are = tt
 over_trees [] (e ∷ es) k no_empty are = absurd are
 over_trees (b ∷ bs) [] k no_empty are = absurd are
 over_trees (b ∷ bs) (e ∷ es) k no_empty are = (
-  record { nodes = are.0.nodes; nulls = are.0.nulls; count = are.0.count ∙ tree_long e; no_empty = no_empty.0 },
+  record { nodes = are.0.nodes; nulls = are.0.nulls; count = are.0.count ∙ tree_long e; is_sequence = are.0.is_sequence; no_empty = no_empty.0 },
   are.0.base,
   over_trees bs es (k + position_count e) no_empty.1 (subst (λ n. AreBlocksOver bs (map nodes_of es) (k + n)) (tree_long e) are.1),
 )

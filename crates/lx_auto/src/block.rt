@@ -12,6 +12,8 @@ pub(crate) struct Block<'s> {
     pub(crate) base: usize,
     /// How many positions it has.
     pub(crate) count: usize,
+    /// Whether they stand one behind the other: nothing in it is an alternative, optional or repeated.
+    pub(crate) is_sequence: bool,
     pub ghost small: { base < 2 ^ 32 },
     pub ghost few: { count < 2 ^ 32 },
 }

@@ -1,13 +1,13 @@
 // From the marked positions of blocks to those of their positions that can be read next.
-ghost use Rattle.std.specs.Prelude.{◌≡◌, ◌+◌, ◌<◌, ◌≤◌, ℕ, List, IfOk, OnOk, Bool, false, length, map};
-ghost use Rattle.lx_auto.specs.Blocks.{IsBlock, AreBlocks, HasEnds, HaveEnds, IsClear, last_flag};
+ghost use Rattle.std.specs.Prelude.{◌≡◌, ◌+◌, ◌-◌, ◌<◌, ◌≤◌, ℕ, List, [], ◌∷◌, IfOk, OnOk, Bool, false, length, map};
+ghost use Rattle.lx_auto.specs.Blocks.{IsBlock, AreBlocks, HasEnds, HaveEnds, IsClear, last_flag, shifted};
 ghost use Rattle.lx_auto.specs.Marking as plain;
 ghost use Rattle.lx_auto.specs.Outlines as outlines;
 ghost use Rattle.lx_auto.specs.Passing.{read_list};
 ghost use Rattle.lx_auto.specs.Unfolded.{Unfolded};
 
 use crate::block::Block;
-use crate::marking::{ends_of, flag, has_flag, mark_reads};
+use crate::marking::{ends_of, flag, has_flag, mark_reads, set_flag};
 use std::alloc::{AllocError, Global};
 
 impl Block<'_> {
@@ -18,15 +18,45 @@ impl Block<'_> {
         has_flag(marks, self.base, self.count)
     }
 
-    // For each node whether a marked position can stand last in it, and nothing where no position of the block is marked.
+    // Of a sequence, whether a marked position can stand last in it: whether its last one is marked.
+    fn find_last(&self, alloc: Global, marks: &[bool]) -> Result<Vec<bool>, AllocError>
+        ensures { IfOk result (λ ends. ends.items ≡ plain.flag marks.now (self.now.base + self.now.count - 1) ∷ []) }
+    {
+        let last = (self.base + self.count).saturating_sub(1);
+        let mut ends = Vec::new(alloc);
+        ends.push(flag(marks, last))?;
+        Ok(ends)
+    }
+
+    // For each node whether a marked position can stand last in it, of a sequence for the last node alone, and nothing where no position of
+    // the block is marked.
     fn find_ends(&self, alloc: Global, marks: &[bool]) -> Result<Vec<bool>, AllocError>
-        ensures { (e : Unfolded) → IsBlock self.now e → IfOk result (λ ends. HasEnds marks.now ends.items e self.now.base) }
+        ensures { (e : Unfolded) → IsBlock self.now e → IfOk result (λ ends. HasEnds marks.now ends.items self.now e) }
     {
         if !self.is_touched(marks) {
             return Ok(Vec::new(alloc));
         }
+        if self.is_sequence {
+            let last = self.find_last(alloc, marks)?;
+            return Ok(last);
+        }
         let ends = ends_of(alloc, &self.nodes, &self.nulls, marks, self.base)?;
         Ok(ends)
+    }
+
+    // Of a sequence: its first position can be read where it is entered, and each other one behind the one before it.
+    fn read_sequence(&self, marks: &[bool], entered: bool, reads: &mut Vec<bool>)
+        ensures set { reads.new.items ≡ shifted marks.now entered self.now.base self.now.count reads.old.items }
+        ensures long { length reads.new.items ≡ length reads.old.items }
+    {
+        let mut rest = self.count;
+        'down: while 1 < rest {
+            rest -= 1;
+            set_flag(reads, self.base + rest, flag(marks, self.base + rest - 1));
+        }
+        if 0 < rest {
+            set_flag(reads, self.base, entered);
+        }
     }
 
     // Sets for each position of the block whether it can be read next. None can be where the block isn't entered and no position of it
@@ -34,14 +64,19 @@ impl Block<'_> {
     fn read(
         &self,
         alloc: Global,
+        marks: &[bool],
         ends: &[bool],
         entered: bool,
         reads: &mut Vec<bool>,
     ) -> Result<(), AllocError>
-        ensures set { (marks : List Bool) (e : Unfolded) → IsBlock self.now e → HasEnds marks ends.now e self.now.base → IsClear reads.old.items self.now.base (self.now.base + self.now.count) → OnOk result (reads.new.items ≡ read_list marks e entered self.now.base reads.old.items) }
+        ensures set { (e : Unfolded) → IsBlock self.now e → HasEnds marks.now ends.now self.now e → IsClear reads.old.items self.now.base (self.now.base + self.now.count) → OnOk result (reads.new.items ≡ read_list marks.now e entered self.now.base reads.old.items) }
         ensures long { OnOk result (length reads.new.items ≡ length reads.old.items) }
     {
         if !entered && ends.is_empty() {
+            return Ok(());
+        }
+        if self.is_sequence {
+            self.read_sequence(marks, entered, reads);
             return Ok(());
         }
         let nodes = self.nodes.as_slice();
@@ -83,18 +118,19 @@ pub(crate) fn last_flags(alloc: Global, ends: &[Vec<bool>]) -> Result<Vec<bool>,
 pub(crate) fn read_blocks(
     alloc: Global,
     blocks: &[Block],
+    marks: &[bool],
     ends: &[Vec<bool>],
     entered: &[bool],
     reads: &mut Vec<bool>,
 ) -> Result<(), AllocError>
     requires { length ends.now ≡ length blocks.now }
-    ensures set { (marks : List Bool) (es : List Unfolded) (k : ℕ) → AreBlocks blocks.now es k → HaveEnds marks blocks.now ends.now (length blocks.now) → IsClear reads.old.items k (k + outlines.positions_of es) → OnOk result (reads.new.items ≡ outlines.read_blocks marks entered.now es 0 k reads.old.items) }
+    ensures set { (es : List Unfolded) (k : ℕ) → AreBlocks blocks.now es k → HaveEnds marks.now blocks.now ends.now (length blocks.now) → IsClear reads.old.items k (k + outlines.positions_of es) → OnOk result (reads.new.items ≡ outlines.read_blocks marks.now entered.now es 0 k reads.old.items) }
     ensures long { OnOk result (length reads.new.items ≡ length reads.old.items) }
 {
     let mut rest = blocks.len();
     'down: while 0 < rest {
         rest -= 1;
-        blocks[rest].read(alloc, &ends[rest], flag(entered, rest), reads)?;
+        blocks[rest].read(alloc, marks, &ends[rest], flag(entered, rest), reads)?;
     }
     Ok(())
 }

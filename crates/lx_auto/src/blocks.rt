@@ -1,8 +1,8 @@
 // Blocks of an expression, numbered one behind the other.
 ghost use Rattle.std.specs.Prelude.{◌≡◌, ◌+◌, ◌<◌, ◌^◌, length, IfOk};
-ghost use Rattle.lx_auto.specs.Blocks.{IsBlockOver, AreBlocksOver, leaf_total};
+ghost use Rattle.lx_auto.specs.Blocks.{IsBlockOver, AreBlocksOver, leaf_total, is_sequence_node, are_sequence_nodes};
 ghost use Rattle.lx_auto.specs.NodeLeaves.{leaves_in};
-ghost use Rattle.lx_auto.specs.NodeViews.{nodes_view};
+ghost use Rattle.lx_auto.specs.NodeViews.{node_view, nodes_view};
 ghost use Rattle.lx_auto.specs.Chunks.{block_nodes};
 
 use crate::block::Block;
@@ -22,6 +22,26 @@ pub(crate) fn count_leaves(nodes: &[Node]) -> usize
     count
 }
 
+fn is_leaf_or_joins(node: &Node) -> bool
+    ensures { result ≡ is_sequence_node (node_view node.now) }
+{
+    match *node {
+        Node::Leaf(_) | Node::Cat(_) => true,
+        Node::Alt(_) | Node::Optional | Node::Repeated => false,
+    }
+}
+
+// Whether the positions of nodes stand one behind the other.
+fn are_sequence(nodes: &[Node]) -> bool
+    ensures { result ≡ are_sequence_nodes (nodes_view nodes.now) }
+{
+    let mut is_sequence = true;
+    for node in nodes {
+        is_sequence = is_sequence && is_leaf_or_joins(node);
+    }
+    is_sequence
+}
+
 // What is kept of a block whose positions are numbered from the base on.
 fn block_of<'s>(alloc: Global, nodes: &[Node<'s>], base: usize) -> Result<Block<'s>, AllocError>
     requires small { base + length (leaves_in (nodes_view nodes.now)) < 2 ^ 32 }
@@ -29,12 +49,14 @@ fn block_of<'s>(alloc: Global, nodes: &[Node<'s>], base: usize) -> Result<Block<
 {
     let nulls = nulls_of(alloc, nodes)?;
     let count = count_leaves(nodes);
+    let is_sequence = are_sequence(nodes);
     let own = Vec::from_slice(alloc, nodes)?;
     Ok(Block {
         nodes: own,
         nulls,
         base,
         count,
+        is_sequence,
     })
 }
 

@@ -89,7 +89,7 @@ impl RulePart<'_> {
             blocks.len(),
             &mut enters,
         )?;
-        read_blocks(alloc, blocks, &at_nodes, &enters, reads)?;
+        read_blocks(alloc, blocks, marks, &at_nodes, &enters, reads)?;
         Ok(flag(ends, ends.len().saturating_sub(1)))
     }
 

@@ -1,11 +1,14 @@
 use Rattle.std.proofs.Common.{◌∙◌, ap}
 use Rattle.lx_auto.specs.NodeViews.{nodes_view}
-use Rattle.lx_auto.proofs.BlockRead.{no_ends, block_ends}
+use Rattle.lx_auto.proofs.BlockRead.{no_ends, block_ends, last_end}
 use Rattle.lx_auto.proofs.block.Block.find_ends.Goals as goal
 
 pub returns-then-not-is_touched : goal.returns-then-not-is_touched
 returns-then-not-is_touched c = λ e is.
     no_ends c.args.marks.now c.args.self.now e c.new.result.items is c.new.ensures.items (c.is_touched.ensures c.if-not-is_touched.true)
+
+pub returns-then-self : goal.returns-then-self
+returns-then-self c = λ e is. last_end c.args.marks.now c.args.self.now e c.in_ok-last.last.items is c.if-self.true c.in_ok-last.ensures
 
 pub returns : goal.returns
 returns c = λ e is.

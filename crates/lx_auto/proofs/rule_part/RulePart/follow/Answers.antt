@@ -43,6 +43,6 @@ returns-clause-reads c = λ r is room clear.
     ∙ ap (λ (n : ℕ). reads_from part.nulls.items ends (reverse (nodes_view part.outline.items)) (c.args.entered ∷ []) n first) count in
     rule_reads part r marks flags ends own is have tell to c.args.entered first c.deref-4.result.now c.args.reads.now.items c.read_blocks.new.reads.items long
     enter
-    (λ es k are bare. c.in_ok-read_blocks.ensures.set marks es k (subst (λ l. AreBlocks l es k) (sym blocks) are)
+    (λ es k are bare. c.in_ok-read_blocks.ensures.set es k (subst (λ l. AreBlocks l es k) (sym blocks) are)
     (subst (λ l. HaveEnds marks c.as_slice-blocks.result.now l (length c.as_slice-blocks.result.now)) (sym c.deref-3.ensures.value) c.in_ok-at_nodes.ensures) bare)
     room clear
