@@ -2,12 +2,12 @@
 
 ghost use Rattle.std.specs.Prelude.{◌≡◌, ◌<◌, ◌≤◌, IfOk, length};
 ghost use Rattle.lx_plan.specs.Cutting.{IsCutterOf};
+ghost use Rattle.lx_plan.specs.Plans.{IsPlan};
 
 use crate::rows::{FILE_OF_TWO_WORDS, plan_of};
 use crate::stop::{Stop, printed, refuse_from_here, say, say_fault, unless_refused};
 use lx_fixtures::{NO_RULES, THREE_RULES, piece};
 use lx_piece::{Collector, Cutter, Mark, Piece, Plan, Refused, Why};
-use lx_plan::plans_are_well_formed;
 use std::alloc::{AllocError, Global};
 
 pub(crate) fn print_piece(rt: &impl Print, piece: &Piece) -> Result<(), Stop> {
@@ -39,8 +39,9 @@ fn print_next(rt: &impl Print, plan: &Plan, cutter: &mut Cutter) -> Result<(), S
 }
 
 /// Prints three times what a cutter of the first file gives.
-fn print_first_pieces(rt: &impl Print, alloc: Global, plan: &Plan) -> Result<(), Stop> {
-    plans_are_well_formed(plan);
+fn print_first_pieces(rt: &impl Print, alloc: Global, plan: &Plan) -> Result<(), Stop>
+    requires { IsPlan plan.now }
+{
     let mut cutter = Cutter::new(alloc, plan, 0);
     print_next(rt, plan, &mut cutter)?;
     print_next(rt, plan, &mut cutter)?;
@@ -50,19 +51,26 @@ fn print_first_pieces(rt: &impl Print, alloc: Global, plan: &Plan) -> Result<(),
 /// A file of so many bytes, each of which is an Echo, in pieces of 256.
 fn echo_plan(alloc: Global, len: usize) -> Result<Plan, Stop>
     requires { len ≤ 512 }
+    ensures { IfOk result IsPlan }
 {
     let bytes = [b'x'; 512];
     plan_of(alloc, NO_RULES, &[(&bytes[..len], false)], 256)
 }
 
 /// Prints the first pieces of two plans.
-fn print_two(rt: &impl Print, alloc: Global, first: &Plan, second: &Plan) -> Result<(), Stop> {
+fn print_two(rt: &impl Print, alloc: Global, first: &Plan, second: &Plan) -> Result<(), Stop>
+    requires first { IsPlan first.now }
+    requires second { IsPlan second.now }
+{
     print_first_pieces(rt, alloc, first)?;
     print_first_pieces(rt, alloc, second)
 }
 
 /// Makes two plans more, and prints the first pieces of all.
-fn cuts_with(rt: &impl Print, alloc: Global, full: &Plan, one_more: &Plan) -> Result<(), Stop> {
+fn cuts_with(rt: &impl Print, alloc: Global, full: &Plan, one_more: &Plan) -> Result<(), Stop>
+    requires full { IsPlan full.now }
+    requires one_more { IsPlan one_more.now }
+{
     let two = echo_plan(alloc, 512)?;
     let words = plan_of(alloc, THREE_RULES, FILE_OF_TWO_WORDS, 1)?;
     match print_two(rt, alloc, full, one_more) {

@@ -1,5 +1,7 @@
 //! Listings.
 
+ghost use Rattle.lx_plan.specs.Plans.{IsPlan};
+
 use crate::rows::{FILE_OF_TWO_WORDS, plan_of};
 use crate::stop::{Stop, printed, refuse_from_here, say_fault, unless_refused};
 use lx_fixtures::{THREE_RULES, take_first};
@@ -110,7 +112,9 @@ fn take_once<W: Write + Drop>(
     alloc: Global,
     plan: &Plan,
     written: W,
-) -> Result<Result<(), ReaderFault>, Stop> {
+) -> Result<Result<(), ReaderFault>, Stop>
+    requires { IsPlan plan.now }
+{
     let Ok(mut listing) = Listing::new(alloc, plan, written) else {
         return Err(Stop::NotBegun);
     };

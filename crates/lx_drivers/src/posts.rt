@@ -10,7 +10,6 @@ use crate::rows::{FILE_OF_TWO_WORDS, plan_of};
 use crate::stop::{Stop, printed, refuse_from_here, say, unless_refused};
 use lx_fixtures::{THREE_FILES, THREE_RULES, first_piece};
 use lx_piece::{Arrivals, Piece, Plan};
-use lx_plan::plans_are_well_formed;
 use lx_post::{ClaimSeat, Claims, Note, Post, PostArrivals, SendPass, TakePass, finish};
 use std::alloc::{AllocError, Global};
 use std::sync::Wait;
@@ -244,7 +243,6 @@ fn send_and_receive<R: Print + Wait>(
 /// `send`, `receive` and `finish` of one worker.
 pub(crate) fn sends<R: Print + Wait>(rt: &R, alloc: Global) -> Result<(), Stop> {
     let plan = plan_of(alloc, THREE_RULES, FILE_OF_TWO_WORDS, 256)?;
-    plans_are_well_formed(&plan);
     let Ok(piece) = first_piece(alloc, &plan, 0) else {
         return Err(Stop::NotBegun);
     };
@@ -309,7 +307,6 @@ fn post_of_one<R: Wait>(
 /// `PostArrivals::new`, `next` and `into_pass` of one worker.
 pub(crate) fn arrives<R: Print + Wait>(rt: &R, alloc: Global) -> Result<(), Stop> {
     let plan = plan_of(alloc, THREE_RULES, FILE_OF_TWO_WORDS, 256)?;
-    plans_are_well_formed(&plan);
     let Ok(piece) = first_piece(alloc, &plan, 0) else {
         return Err(Stop::NotBegun);
     };

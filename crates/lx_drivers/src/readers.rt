@@ -12,7 +12,6 @@ use lx_piece::{Arrivals, Cutter, Input, ListArrivals, Plan};
 use lx_scan::{Item, Place, next_match};
 use lx_spec::{Kind, Step};
 use lx_tables::Tables;
-use lx_tables::well_formed::tables_are_well_formed;
 use std::alloc::{AllocError, Global};
 use std::io;
 
@@ -109,11 +108,17 @@ pub(crate) fn prints_first(rt: &impl Print, alloc: Global) -> Result<(), Stop> {
     printed(tables.print_first(&mut io::writer(rt)))
 }
 
-/// Prints the first match of a text.
+/// Prints the first match of a text in each condition.
 fn print_match(rt: &impl Print, tables: &Tables, text: &[u8]) -> Result<(), Stop> {
-    tables_are_well_formed(tables);
-    let found = next_match(tables, text, Place::begin());
-    printed(println!(rt; "{found:?}"))
+    for condition in 0..tables.conditions() {
+        let place = Place {
+            condition,
+            ..Place::begin()
+        };
+        let found = next_match(tables, text, place);
+        printed(println!(rt; "{found:?}"))?;
+    }
+    Ok(())
 }
 
 /// `next_match` from `Place::begin` on, the first match alone.

@@ -1,6 +1,7 @@
 //! Plans of files by the tables of specifications, and their pieces.
 
 ghost use Rattle.std.specs.Prelude.{◌≡◌, ◌<◌, ◌≤◌, IfOk, length, vec_len};
+ghost use Rattle.lx_plan.specs.Plans.{IsPlan};
 ghost use Rattle.lx_collector.specs.Arrivals.{AreHonest};
 
 use crate::rules::{MIXED_FILES, MIXED_RULES};
@@ -54,7 +55,8 @@ pub fn plan_of(
     requires few_files { length files.now ≤ 65536 }
     requires some_items { 0 < per_piece }
     requires few_items { per_piece ≤ 4096 }
-    ensures { IfOk result (λ plan. plan.run ≡ 1) }
+    ensures run { IfOk result (λ plan. plan.run ≡ 1) }
+    ensures plan { IfOk result IsPlan }
 {
     let tables = tables_of(alloc, spec)?;
     Ok(Plan::new(tables, inputs(alloc, files)?, per_piece, 1))
@@ -64,7 +66,8 @@ pub fn plan_of(
 pub fn mixed_plan(alloc: Global, per_piece: u32) -> Result<Plan, NoPlan>
     requires some_items { 0 < per_piece }
     requires few_items { per_piece ≤ 4096 }
-    ensures { IfOk result (λ plan. plan.run ≡ 1) }
+    ensures run { IfOk result (λ plan. plan.run ≡ 1) }
+    ensures plan { IfOk result IsPlan }
 {
     plan_of(alloc, MIXED_RULES, MIXED_FILES.as_slice(), per_piece)
 }

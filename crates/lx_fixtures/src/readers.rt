@@ -1,10 +1,9 @@
 //! Readers that are handed a piece.
 
 ghost use Rattle.std.specs.Prelude.{◌≡◌, ◌+◌, ◌<◌, ◌≤◌, IfOk, OnErr, replicate};
-ghost use Rattle.lx_plan.specs.Plans.{files_of};
+ghost use Rattle.lx_plan.specs.Plans.{IsPlan, files_of};
 
 use lx_piece::{Cutter, Plan, Reader, ReaderFault};
-use lx_plan::plans_are_well_formed;
 use std::alloc::{AllocError, Global};
 
 /// Hands a reader that took nothing the first piece of the first file.
@@ -13,14 +12,14 @@ pub fn take_first<R: Reader>(
     plan: &Plan,
     reader: &mut R,
 ) -> Result<Result<(), ReaderFault>, AllocError>
-    requires plan { R.plan reader.old ≡ plan.now }
+    requires plan { IsPlan plan.now }
+    requires same { R.plan reader.old ≡ plan.now }
     requires counts { R.counts reader.old ≡ replicate (files_of plan.now) 0 }
     requires faults { R.fault_count reader.old < 9 }
     ensures plan { R.plan reader.new ≡ plan.now }
     ensures counts { IfOk result (λ taken. OnErr taken (R.counts reader.new ≡ replicate (files_of plan.now) 0)) }
     ensures faults { R.fault_count reader.new ≤ R.fault_count reader.old + 1 }
 {
-    plans_are_well_formed(plan);
     let mut cutter = Cutter::new(alloc, plan, 0);
     match cutter.next_piece(plan)? {
         Some(piece) => Ok(reader.take(piece)),

@@ -5,7 +5,6 @@ use crate::texts::holds;
 use lx_scan::{Item, Match, Place, next_match, scan};
 use lx_spec::Kind;
 use lx_tables::Tables;
-use lx_tables::well_formed::tables_are_well_formed;
 use std::process::Abort;
 
 const LINE_END: &str = "%%\nfoo return F;\nfoo$ return E;\n";
@@ -83,16 +82,21 @@ const BEHIND: Place = Place {
     line: 1,
 };
 
-/// Asserts what the first match of two lines of `foo` is, and that an empty text has none.
+/// Asserts what the first match of two lines of `foo` is in each condition, and that an empty text has none.
 fn matches_first(rt: &impl Abort, tables: &Tables) {
-    tables_are_well_formed(tables);
-    let first = next_match(tables, b"foo\nfoo", Place::begin());
-    holds(rt, first == Some((FOUND, BEHIND)), "foo");
-    holds(
-        rt,
-        next_match(tables, b"", Place::begin()).is_none(),
-        "nothing",
-    );
+    for condition in 0..tables.conditions() {
+        let place = Place {
+            condition,
+            ..Place::begin()
+        };
+        let behind = Place {
+            condition,
+            ..BEHIND
+        };
+        let first = next_match(tables, b"foo\nfoo", place);
+        holds(rt, first == Some((FOUND, behind)), "foo");
+        holds(rt, next_match(tables, b"", place).is_none(), "nothing");
+    }
 }
 
 #[test]

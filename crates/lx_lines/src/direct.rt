@@ -1,7 +1,7 @@
 //! The listing of a plan's files on the calling thread, for which no pieces are cut.
 
 ghost use Rattle.std.specs.Prelude.{◌≡◌, ◌<◌, IfErr, OnErr, OnOk};
-ghost use Rattle.lx_plan.specs.Plans.{files_of, items_of};
+ghost use Rattle.lx_plan.specs.Plans.{IsPlan, files_of, items_of};
 ghost use Rattle.lx_lines.specs.Lines.{file_lines, lines_of};
 ghost use Rattle.lx_lines.specs.Listings.{listing_of};
 ghost use Rattle.lx_lines.specs.Parts.{WrotePart};
@@ -11,7 +11,6 @@ use crate::shown_lines::write_cut;
 use crate::sink::LineSink;
 use lx_line::PlanDraft;
 use lx_piece::{Plan, ReaderFault};
-use lx_plan::plans_are_well_formed;
 use lx_scan::{Cursor, ItemList, ScanMemory};
 use std::alloc::Global;
 
@@ -28,14 +27,13 @@ fn write_items_of<S: LineSink>(
     block: &mut Vec<u8>,
     sink: &mut S,
 ) -> Result<(), ReaderFault>
+    requires plan { IsPlan plan.now }
     requires draft { draft.old ≡ plan.now }
     requires file { file < files_of plan.now }
     ensures draft { draft.new ≡ draft.old }
     ensures ok { OnOk result (S.wrote sink.old (lines_of plan.now file (items_of plan.now file)) sink.new) }
     ensures part { IfErr result (λ fault. WrotePart S.wrote sink.old fault (lines_of plan.now file (items_of plan.now file)) sink.new) }
 {
-    // a law, that the file's items are items of it
-    plans_are_well_formed(plan);
     let tables = plan.tables();
     let text = plan.bytes(file);
     let mut cursor = Cursor::begin();
@@ -62,6 +60,7 @@ fn write_file<S: LineSink>(
     block: &mut Vec<u8>,
     sink: &mut S,
 ) -> Result<(), ReaderFault>
+    requires plan { IsPlan plan.now }
     requires draft { draft.old ≡ plan.now }
     requires file { file < files_of plan.now }
     ensures draft { draft.new ≡ draft.old }

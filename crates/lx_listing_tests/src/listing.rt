@@ -1,6 +1,7 @@
 //! Listings of plans: each form of line, pieces of later files, writers that take a part or fail.
 
 ghost use Rattle.std.specs.Prelude.{◌<◌, ◌≤◌};
+ghost use Rattle.lx_plan.specs.Plans.{IsPlan};
 
 use crate::asserts::{holds, same, same_bytes};
 use crate::plans::{listing_of, made, mixed, put, put_times};
@@ -247,7 +248,9 @@ fn holds_the_pieces_of_later_files(rt: HostRuntime) {
 }
 
 /// Asserts that a new listing whose writer fails answers so at the first piece, and when it is handed that again.
-fn take_twice<R: Abort + AllocGlobal, W: Write + Drop>(rt: &R, plan: &Plan, out: W) {
+fn take_twice<R: Abort + AllocGlobal, W: Write + Drop>(rt: &R, plan: &Plan, out: W)
+    requires { IsPlan plan.now }
+{
     let mut listing = Listing::new(rt.alloc(), plan, out).expect(rt, "memory");
     let first = take_first(rt.alloc(), plan, &mut listing).expect(rt, "memory");
     assert!(rt; first == Err(ReaderFault::Device) && listing.faults() == 1);

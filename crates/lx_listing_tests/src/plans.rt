@@ -1,6 +1,7 @@
 //! Plans, their listings, and texts. Where there is no memory for one, the test ends there.
 
 ghost use Rattle.std.specs.Prelude.{◌<◌, ◌≤◌, length};
+ghost use Rattle.lx_plan.specs.Plans.{IsPlan};
 
 use lx_fixtures::{mixed_plan, plan_of};
 use lx_piece::Plan;
@@ -18,6 +19,7 @@ pub(crate) fn made<R: Abort + AllocGlobal>(
     requires few_files { length files.now ≤ 65536 }
     requires some_items { 0 < per_piece }
     requires few_items { per_piece ≤ 4096 }
+    ensures { IsPlan result }
 {
     plan_of(rt.alloc(), spec, files, per_piece).expect(rt, "a plan")
 }
@@ -26,6 +28,7 @@ pub(crate) fn made<R: Abort + AllocGlobal>(
 pub(crate) fn mixed<R: Abort + AllocGlobal>(rt: &R, per_piece: u32) -> Plan
     requires some_items { 0 < per_piece }
     requires few_items { per_piece ≤ 4096 }
+    ensures { IsPlan result }
 {
     mixed_plan(rt.alloc(), per_piece).expect(rt, "a plan")
 }

@@ -72,11 +72,9 @@ impl<'a, M: Maker> PlanPieces<'a, M> {
     fn new(alloc: Global, plan: &'a Plan, maker: M) -> Self
     where
         M: Drop,
-        ensures pieces { result ≡ record { plan = plan.now; cut = []; refused = false } }
-        ensures plan { IsPlan plan.now }
+        requires { IsPlan plan.now }
+        ensures { result ≡ record { plan = plan.now; cut = []; refused = false } }
     {
-        // a law, that there is a first file
-        plans_are_well_formed(plan);
         PlanPieces {
             alloc,
             plan,
@@ -146,6 +144,8 @@ pub fn relay_plan<M: Maker + Drop, R: ReaderOf<M>>(
     ensures reader_fault { result ≡ Err RelayFault.Reader → R.fault_count reader.old < R.fault_count reader.new }
     ensures no_fault { OnOk result (R.fault_count reader.new ≡ R.fault_count reader.old) }
 {
+    // a law, that there is a first file
+    plans_are_well_formed(plan);
     let mut pieces = PlanPieces::new(alloc, plan, maker);
     let _replies = relay_of(alloc, plan, &mut pieces, reader)?;
     if pieces.is_refused() {

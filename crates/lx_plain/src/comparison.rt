@@ -1,12 +1,12 @@
 //! All ways to the items of a text: by tables with and without merging, by both of their texts read again, in one scan and piece by piece.
 
 ghost use Rattle.std.specs.Prelude.{◌<◌, ◌≤◌};
+ghost use Rattle.lx_plan.specs.Plans.{IsPlan};
 
 use crate::fault::Fault;
 use lx_auto::{build, merge};
 use lx_fixtures::inputs;
 use lx_piece::{Cutter, Plan};
-use lx_plan::plans_are_well_formed;
 use lx_rules::spec::Spec;
 use lx_scan::{Item, scan};
 use lx_tables::Tables;
@@ -22,8 +22,9 @@ fn holds(is_same: bool, what: &'static str) -> Result<(), Fault> {
 }
 
 /// The items of the pieces of a plan's first file, one piece after the other.
-fn items_of_pieces(alloc: Global, plan: &Plan) -> Result<Vec<Item>, AllocError> {
-    plans_are_well_formed(plan);
+fn items_of_pieces(alloc: Global, plan: &Plan) -> Result<Vec<Item>, AllocError>
+    requires { IsPlan plan.now }
+{
     let mut items = Vec::new(alloc);
     let mut cutter = Cutter::new(alloc, plan, 0);
     while let Some(piece) = cutter.next_piece(plan)? {

@@ -44,7 +44,8 @@ impl Plan {
         requires few_files { vec_len files ≤ max_files }
         requires some_items { 0 < per_piece }
         requires few_items { per_piece ≤ max_items }
-        ensures { result ≡ record { run = run; per_piece = per_piece; table = tables; inputs = map input_view files.items } }
+        ensures parts { result ≡ record { run = run; per_piece = per_piece; table = tables; inputs = map input_view files.items } }
+        ensures plan { IsPlan result }
     {
         // laws, that a plan's items are what it says of them
         items_have_their_lines();

@@ -3,6 +3,7 @@
 
 ghost use Rattle.std.specs.Prelude.{◌<◌};
 ghost use Rattle.lx_plan.specs.Cutting.{IsCutterOf};
+ghost use Rattle.lx_plan.specs.Plans.{IsPlan};
 
 use crate::asserts::{holds, same};
 use crate::collector::{expect_delivery, expect_reply};
@@ -11,7 +12,6 @@ use crate::relay::{fresh_tally, relay_list};
 use crate::thread_pieces::head;
 use lx_fixtures::{echo, last_file_first};
 use lx_piece::{Collector, Cutter, Items, Mark, Piece, Plan, Refused, RelayFault, Reply, Why};
-use lx_plan::plans_are_well_formed;
 use std::alloc::{AllocError, Global};
 use std::process::Abort;
 
@@ -192,8 +192,9 @@ fn expect_piece<R: Abort>(
 }
 
 /// Asserts that these are the pieces of a file of 600 items.
-fn expect_three(rt: &impl Abort, alloc: Global, plan: &Plan) {
-    plans_are_well_formed(plan);
+fn expect_three(rt: &impl Abort, alloc: Global, plan: &Plan)
+    requires { IsPlan plan.now }
+{
     let mut cutter = Cutter::new(alloc, plan, 0);
     expect_piece(rt, &mut cutter, plan, 0, 256, Mark::More);
     expect_piece(rt, &mut cutter, plan, 1, 256, Mark::More);

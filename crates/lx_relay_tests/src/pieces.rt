@@ -2,12 +2,12 @@
 
 ghost use Rattle.std.specs.Prelude.{◌<◌, ◌≤◌, length};
 ghost use Rattle.lx_plan.specs.Cutting.{IsCutterOf};
+ghost use Rattle.lx_plan.specs.Plans.{IsPlan};
 
 use crate::asserts::{holds, same};
 use crate::plans::{echoes, plan_of};
 use lx_fixtures::{MIXED_FILES, MIXED_RULES, THREE_RULES, TWO_WORDS, last_file_first};
 use lx_piece::{Cutter, Mark, Piece, Plan};
-use lx_plan::plans_are_well_formed;
 use lx_scan::Item;
 use lx_spec::Kind;
 use std::process::Abort;
@@ -70,6 +70,7 @@ fn made<R: Abort + AllocGlobal>(rt: &R, spec: &str, files: &[(&[u8], bool)], per
     requires few_files { length files.now ≤ 65536 }
     requires some_items { 0 < per_piece }
     requires few_items { per_piece ≤ 4096 }
+    ensures { IsPlan result }
 {
     plan_of(rt.alloc(), spec, files, per_piece).expect(rt, "memory")
 }
@@ -328,8 +329,9 @@ fn ends_behind<R: Abort>(rt: &R, plan: &Plan, cutter: &mut Cutter, pieces: u32)
 }
 
 /// Asserts it of the cutter of a plan's first file.
-fn first_ends_behind<R: Abort + AllocGlobal>(rt: &R, plan: &Plan, pieces: u32) {
-    plans_are_well_formed(plan);
+fn first_ends_behind<R: Abort + AllocGlobal>(rt: &R, plan: &Plan, pieces: u32)
+    requires { IsPlan plan.now }
+{
     let mut cutter = Cutter::new(rt.alloc(), plan, 0);
     ends_behind(rt, plan, &mut cutter, pieces);
 }

@@ -1,6 +1,7 @@
 //! Plans for the tests. Only want of memory may keep one from being made, so that is what a test is told.
 
 ghost use Rattle.std.specs.Prelude.{◌≡◌, ◌<◌, ◌≤◌, IfOk, length, vec_len};
+ghost use Rattle.lx_plan.specs.Plans.{IsPlan};
 
 use lx_fixtures::{NO_RULES, inputs, tables_of};
 use lx_piece::{Input, Plan};
@@ -18,7 +19,8 @@ pub(crate) fn plan_by(
     requires few_files { vec_len files ≤ 65536 }
     requires some_items { 0 < per_piece }
     requires few_items { per_piece ≤ 4096 }
-    ensures { IfOk result (λ plan. plan.run ≡ 1) }
+    ensures run { IfOk result (λ plan. plan.run ≡ 1) }
+    ensures plan { IfOk result IsPlan }
 {
     match tables_of(alloc, spec) {
         Ok(tables) => Ok(Plan::new(tables, files, per_piece, 1)),
@@ -44,7 +46,8 @@ pub(crate) fn echo_plan(alloc: Global, lens: &[usize], per_piece: u32) -> Result
     requires few_files { length lens.now ≤ 65536 }
     requires some_items { 0 < per_piece }
     requires few_items { per_piece ≤ 4096 }
-    ensures { IfOk result (λ plan. plan.run ≡ 1) }
+    ensures run { IfOk result (λ plan. plan.run ≡ 1) }
+    ensures plan { IfOk result IsPlan }
 {
     let files = inputs_of_lens(alloc, lens)?;
     plan_by(alloc, NO_RULES, files, per_piece)
@@ -61,7 +64,8 @@ pub(crate) fn plan_of(
     requires few_files { length files.now ≤ 65536 }
     requires some_items { 0 < per_piece }
     requires few_items { per_piece ≤ 4096 }
-    ensures { IfOk result (λ plan. plan.run ≡ 1) }
+    ensures run { IfOk result (λ plan. plan.run ≡ 1) }
+    ensures plan { IfOk result IsPlan }
 {
     let files = inputs(alloc, files)?;
     plan_by(alloc, spec, files, per_piece)
@@ -73,6 +77,7 @@ pub(crate) fn echoes<R: Abort + AllocGlobal>(rt: &R, lens: &[usize], per_piece: 
     requires few_files { length lens.now ≤ 65536 }
     requires some_items { 0 < per_piece }
     requires few_items { per_piece ≤ 4096 }
+    ensures { IsPlan result }
 {
     echo_plan(rt.alloc(), lens, per_piece).expect(rt, "memory")
 }

@@ -9,7 +9,6 @@ use crate::asserts::{holds, same};
 use crate::plans::echoes;
 use lx_fixtures::first_piece;
 use lx_piece::{Arrivals, Piece, Plan};
-use lx_plan::plans_are_well_formed;
 use lx_post::{Note, Post, PostArrivals, SendPass, TakePass, Unfinished, WorkerFault, finish};
 use std::process::Abort;
 use std::sync::Wait;
@@ -207,7 +206,6 @@ fn piece_of<R: Abort + AllocGlobal>(rt: &R, plan: &Plan, file: u32) -> Piece
 #[test]
 fn a_post_with_room_for_one_note_finishes_once_every_end_came(rt: HostRuntime) {
     let plan = echoes(&rt, &[1], 1);
-    plans_are_well_formed(&plan);
     let piece = piece_of(&rt, &plan, 0);
     finishes_once_every_end_came(&rt, &plan, piece);
 }

@@ -11,5 +11,5 @@ take-requires-clause-next g c =
     let e = rw c.in-Some.is at c.in_ok-piece.ensures.piece in
     let cutter = c.new-cutter.result in
     let first = e.1 ∙ ap (λ (file : ℕ). piece_at plan file cutter.next) c.new-cutter.ensures.file ∙ ap (λ (n : ℕ). piece_at plan 0 n) c.new-cutter.ensures.first in
-    subst (λ (p : Planned). IsNextPiece p (g.R.Reader.counts c.args.reader.now) c.in-Some.piece) (sym c.requires.plan)
-    (first_next plan (g.R.Reader.counts c.args.reader.now) 0 c.in-Some.piece c.plans_are_well_formed.ensures e.0 first c.requires.counts)
+    subst (λ (p : Planned). IsNextPiece p (g.R.Reader.counts c.args.reader.now) c.in-Some.piece) (sym c.requires.same)
+    (first_next plan (g.R.Reader.counts c.args.reader.now) 0 c.in-Some.piece c.requires.plan e.0 first c.requires.counts)

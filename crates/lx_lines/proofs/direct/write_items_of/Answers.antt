@@ -21,7 +21,7 @@ write_items-requires-clause-items g c =
     let text = c.bytes-text.result.now in
     let found = found_are c.clear.new.self c.next_items.new.items (items_left table text c.further.cursor) (items_left table text c.next_items.new.self) c.in-Ok.ensures.items c.clear.ensures in
     subst (λ (items : List Item). All (IsItemOf (kinds_of c.args.plan.now) (bytes_of c.args.plan.now c.args.file)) items) (sym c.as_slice.ensures)
-    (listed_known g.S.LineSink.wrote c.args.plan.now c.args.file c.args.sink.now c.further.sink (items_left table text c.further.cursor) c.next_items.new.items (items_left table text c.next_items.new.self) c.plans_are_well_formed.ensures c.further.invariant.listed found)
+    (listed_known g.S.LineSink.wrote c.args.plan.now c.args.file c.args.sink.now c.further.sink (items_left table text c.further.cursor) c.next_items.new.items (items_left table text c.next_items.new.self) c.requires.plan c.further.invariant.listed found)
 
 pub returns-in_err-write_items-clause-part : goal.returns-in_err-write_items-clause-part
 returns-in_err-write_items-clause-part g c =

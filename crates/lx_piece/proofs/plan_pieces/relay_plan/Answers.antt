@@ -12,6 +12,6 @@ returns-clause-ok g c = λ file within.
     let plan = c.args.plan.now in
     let came : (f : ℕ) → f < files_of plan → AreAllAmongBy g.M.Maker.made plan f e.ok.came = elim e.ended [
       | inl refused ↦ absurd (both_ways c.relay_of.new.arrivals.refused (sym c.is_refused.ensures ∙ c.if-is_refused.false) refused)
-      | inr done ↦ all_came g.M.Maker.made plan c.new-pieces.result c.relay_of.new.arrivals e.ok.came c.new-pieces.ensures.pieces e.ok.led done
+      | inr done ↦ all_came g.M.Maker.made plan c.new-pieces.result c.relay_of.new.arrivals e.ok.came c.new-pieces.ensures e.ok.led done
     ] in
     e.ok.whole file within (came file within)
