@@ -1,8 +1,9 @@
 # Early cutoff (Mokhov, Mitchell and Peyton Jones, "Build Systems à la Carte") over the libraries of a copy of the repository.
 #
-# rt makes a library anew where a text below it has changed. But a library reads of those below it their interfaces, definitions and laws alone, and no body
-# (`rattle build --help`, "--extern"): only what links code, a program or tests, needs the bodies. So beside each library stands what it was made of and
-# what it gives to those above it, and rt is told of one that would be made of the same that it is up to date.
+# rt makes a library anew where a text below it has changed. But a library reads of those below it their interfaces, definitions and laws alone, no body
+# (`rattle build --help`, "--extern") and none of the answers by which a body is proved: only what links code, a program or tests, needs the bodies. So
+# beside each library stands what it was made of and what it gives to those above it, and rt is told of one that would be made of the same that it is up
+# to date.
 import copy
 import functools
 import hashlib
@@ -14,6 +15,8 @@ import shutil
 
 # What the libraries above read of one, but for the sums of all its files.
 READ_PARTS = ["interface", "below", "lang/antt"]
+# The answers to a function's own goals, and the invariants of its loops: no other crate cites them.
+OWN_PROOFS = {"Answers.antt", "Invariants.antt"}
 SUMS = "made.json"
 # It stands in out/rlib, which rt removes before it makes a library: so it never outlives the library of which it tells.
 NOTE = "out/rlib/early_cutoff.json"
@@ -41,11 +44,16 @@ def sum_of(parts):
     return hashlib.sha256(repr(parts).encode()).hexdigest()
 
 
+def is_read(path):
+    """Whether the libraries above may read a file of one."""
+    return path.name != SUMS and not (path.name in OWN_PROOFS and "proofs" in path.parts)
+
+
 def given_by(library):
     """A sum of what the libraries above read of this one."""
     rlib = pathlib.Path(library.rlib)
-    paths = [path for part in READ_PARTS for path in sorted((rlib / part).rglob("*")) if path.is_file() and path.name != SUMS]
-    return sum_of([(str(path.relative_to(rlib)), hashlib.sha256(path.read_bytes()).digest()) for path in paths])
+    files = [path.relative_to(rlib) for part in READ_PARTS for path in sorted((rlib / part).rglob("*")) if path.is_file()]
+    return sum_of([(str(path), hashlib.sha256((rlib / path).read_bytes()).digest()) for path in files if is_read(path)])
 
 
 @functools.cache
