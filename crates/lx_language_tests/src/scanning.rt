@@ -82,21 +82,16 @@ const BEHIND: Place = Place {
     line: 1,
 };
 
-/// Asserts what the first match of two lines of `foo` is in each condition, and that an empty text has none.
+/// Asserts what the first match of two lines of `foo` is, and that an empty text has none.
 fn matches_first(rt: &impl Abort, tables: &Tables) {
-    for condition in 0..tables.conditions() {
-        let place = Place {
-            condition,
-            ..Place::begin()
-        };
-        let behind = Place {
-            condition,
-            ..BEHIND
-        };
-        let first = next_match(tables, b"foo\nfoo", place);
-        holds(rt, first == Some((FOUND, behind)), "foo");
-        holds(rt, next_match(tables, b"", place).is_none(), "nothing");
-    }
+    holds(rt, tables.conditions() == 1, "one condition");
+    let first = next_match(tables, b"foo\nfoo", Place::begin());
+    holds(rt, first == Some((FOUND, BEHIND)), "foo");
+    holds(
+        rt,
+        next_match(tables, b"", Place::begin()).is_none(),
+        "nothing",
+    );
 }
 
 #[test]
