@@ -1,8 +1,9 @@
 -- Counts of the definitions, which stop at one more than a specification may have.
-use Rattle.std.specs.Prelude.{ℕ, min, List, Option, Some, None, map, get_or}
+use Rattle.std.specs.Prelude.{ℕ, ◌+◌, min, List, Option, Some, None, map, get_or}
 use Rattle.lx_lexemes.specs.Regex.{regex_of}
 use Rattle.lx_rules.specs.views.Rules.{definition_view}
 use Rattle.lx_rules.specs.declared.definition.Definition.{Definition}
+use Rattle.lx_rules.specs.Limits.{max_positions}
 use Rattle.lx_auto.specs.Counts.{count_in, count_of_name}
 use Rattle.lx_auto.specs.NameViews.{place_of}
 
@@ -16,8 +17,8 @@ looked_up definitions counts name = count_of_place counts (place_of definitions 
 
 -- of each definition as many as it has by such a list
 abbrev pub counts_behind : List Definition → List ℕ → List ℕ
-counts_behind definitions counts = map (λ d. min 16385 (count_in (looked_up definitions counts) (regex_of d.expr))) definitions
+counts_behind definitions counts = map (λ d. min (max_positions + 1) (count_in (looked_up definitions counts) (regex_of d.expr))) definitions
 
 -- of each definition, where names in it are unfolded at most n deep
 unfoldable pub counts_at : List Definition → ℕ → List ℕ
-counts_at definitions n = map (λ d. min 16385 (count_in (count_of_name (map definition_view definitions) n) (regex_of d.expr))) definitions
+counts_at definitions n = map (λ d. min (max_positions + 1) (count_in (count_of_name (map definition_view definitions) n) (regex_of d.expr))) definitions

@@ -3,6 +3,7 @@ use Rattle.std.specs.Prelude.{ℕ, zero, suc, ◌+◌, ◌*◌, max, Bool, true,
 use Rattle.lx_lexemes.specs.Regex.{Regex, nil, one_of, then, or, times, named}
 use Rattle.lx_rules.specs.Plain.{PlainDefinition, PlainRule, PlainSpec}
 use Rattle.lx_rules.specs.Nesting.{tree_named}
+use Rattle.lx_rules.specs.Limits.{max_name_depth}
 
 -- as many copies as the high bound says; without one as many as have to stand there, and one at least
 abbrev pub copies_of : ℕ → Option ℕ → ℕ
@@ -26,9 +27,9 @@ abbrev pub count_of_name : List PlainDefinition → ℕ → List ℕ → ℕ
 count_of_name definitions zero name = 0
 count_of_name definitions (suc n) name = count_if_defined (count_of_name definitions n) (tree_named definitions name)
 
--- the positions of a pattern: names are at most 32 deep
+-- the positions of a pattern: names are nested at most so deep as is allowed
 unfoldable pub count_of_pattern : List PlainDefinition → Regex → ℕ
-count_of_pattern definitions tree = count_in (count_of_name definitions 32) tree
+count_of_pattern definitions tree = count_in (count_of_name definitions max_name_depth) tree
 
 -- with a line end the newline is one position more
 abbrev pub newline_count : Bool → ℕ

@@ -24,8 +24,11 @@ pub record AreMatchedBelow (spec : PlainSpec) (tree_of : Regex → Unfolded) (se
   pub long : length matched ≡ n
   pub each : (j : ℕ) → j < n → IsEarliestMatched (numbered tree_of 0 spec.rules) (set_of sets j) (slice_index_or matched j None)
 
+-- the sets that were reached by the steps of these positions, and the steps of the first n states
+abbrev pub IsExploredBy : PlainSpec → (Regex → Unfolded) → PositionTable → List Positions → List (Option ℕ) → ℕ → Type 0
+IsExploredBy spec tree_of positions sets targets n = IsExplored spec tree_of (leaves_view positions.leaves.items) positions.groups.representatives.items sets targets n
+
 -- all sets are reached, the steps of all states are known, and the rule that each set matches
 pub record AreStatesOf (spec : PlainSpec) (tree_of : Regex → Unfolded) (positions : PositionTable) (explored : Explored) : Type 0 where
-  pub steps : IsExplored spec tree_of (leaves_view positions.leaves.items) positions.groups.representatives.items explored.table.sets.items explored.targets.items
-      (start_count spec + length explored.table.sets.items)
+  pub steps : IsExploredBy spec tree_of positions explored.table.sets.items explored.targets.items (start_count spec + length explored.table.sets.items)
   pub matched : AreMatchedBelow spec tree_of explored.table.sets.items explored.matched.items (length explored.table.sets.items)

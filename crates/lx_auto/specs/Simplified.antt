@@ -4,6 +4,7 @@ use Rattle.std.specs.Prelude.{ℕ, zero, suc, Bool, true, false, List, Option, S
 use Rattle.lx_lexemes.specs.Regex.{Regex, nil, one_of, then, or, times, named}
 use Rattle.lx_rules.specs.Plain.{PlainDefinition}
 use Rattle.lx_rules.specs.Nesting.{tree_named}
+use Rattle.lx_rules.specs.Limits.{max_name_depth}
 use Rattle.lx_auto.specs.Unfolded.{Unfolded, empty, leaf, cat, alt, opt, plus, nullable}
 
 -- optional, unless it matches the empty word already
@@ -65,4 +66,4 @@ simplified_name definitions zero name = empty
 simplified_name definitions (suc n) name = simplified_if_defined (simplified_name definitions n) (tree_named definitions name)
 
 unfoldable pub simplified_pattern : List PlainDefinition → Regex → Unfolded
-simplified_pattern definitions tree = simplified (simplified_name definitions 32) tree
+simplified_pattern definitions tree = simplified (simplified_name definitions max_name_depth) tree

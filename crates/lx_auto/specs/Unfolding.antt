@@ -5,6 +5,7 @@ use Rattle.lx_rules.specs.Nesting.{is_within, holds_of}
 use Rattle.lx_rules.specs.Plain.{PlainDefinition}
 use Rattle.lx_rules.specs.views.Rules.{definition_view}
 use Rattle.lx_rules.specs.declared.definition.Definition.{Definition}
+use Rattle.lx_rules.specs.Limits.{max_name_depth}
 use Rattle.lx_auto.specs.Nodes.{PlainNode}
 use Rattle.lx_auto.specs.Simplified.{simplified, simplified_if_defined, simplified_name}
 use Rattle.lx_auto.specs.NodeViews.{nodes_view, Appends}
@@ -22,4 +23,4 @@ pub record UnfoldsName (definitions : List PlainDefinition) (depth : ℕ) (tree 
 -- each fragment has the nodes of its definition
 pub record AreFragments (definitions : List Definition) (fragments : List (Option Fragment)) : Type 0 where
   pub at : (i : ℕ) (f : Fragment) (d : Definition) → slice_get fragments i ≡ Some (Some f) → slice_get definitions i ≡ Some d
-      → Unfolds (map definition_view definitions) 32 (regex_of d.expr) [] (nodes_view f.nodes.items) f.part
+      → Unfolds (map definition_view definitions) max_name_depth (regex_of d.expr) [] (nodes_view f.nodes.items) f.part

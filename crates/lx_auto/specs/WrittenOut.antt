@@ -4,6 +4,7 @@ use Rattle.std.specs.Prelude.{ℕ, zero, suc, List, Option, Some, None}
 use Rattle.lx_lexemes.specs.Regex.{Regex, nil, one_of, then, or, times, named}
 use Rattle.lx_rules.specs.Plain.{PlainDefinition}
 use Rattle.lx_rules.specs.Nesting.{tree_named}
+use Rattle.lx_rules.specs.Limits.{max_name_depth}
 use Rattle.lx_auto.specs.Unfolded.{Unfolded, empty, leaf, cat, alt, opt, plus}
 
 -- low copies, and then up to high in all, each only behind the one before
@@ -40,6 +41,6 @@ abbrev pub name_written_out : List PlainDefinition → ℕ → List ℕ → Unfo
 name_written_out definitions zero name = empty
 name_written_out definitions (suc n) name = written_if_defined (name_written_out definitions n) (tree_named definitions name)
 
--- the expression of a pattern: names are at most 32 deep
+-- the expression of a pattern: names are nested at most so deep as is allowed
 unfoldable pub pattern_written_out : List PlainDefinition → Regex → Unfolded
-pattern_written_out definitions tree = written_out (name_written_out definitions 32) tree
+pattern_written_out definitions tree = written_out (name_written_out definitions max_name_depth) tree

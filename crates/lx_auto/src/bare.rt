@@ -1,4 +1,5 @@
-// Positions between two members of a set.
+//! Positions between two members of a set.
+
 ghost use Rattle.std.specs.Prelude.{◌≡◌, ◌<◌, ◌≤◌, ◌⊎◌, ℕ, Contains, true, length, slice_index};
 ghost use Rattle.lx_auto.specs.SetSteps.{IsRising};
 ghost use Rattle.lx_auto.specs.BarePositions.{IsBareIn};

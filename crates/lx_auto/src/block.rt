@@ -1,4 +1,5 @@
-// What is kept of a block, a part of a rule's expression, to follow its positions.
+//! What is kept of a block, a part of a rule's expression, to follow its positions.
+
 ghost use Rattle.std.specs.Prelude.{◌<◌, ◌^◌};
 
 use crate::node::Node;

@@ -1,4 +1,5 @@
-// From the marked positions of blocks to those of their positions that can be read next.
+//! From the marked positions of blocks to those of their positions that can be read next.
+
 ghost use Rattle.std.specs.Prelude.{◌≡◌, ◌+◌, ◌-◌, ◌<◌, ◌≤◌, ℕ, List, [], ◌∷◌, IfOk, OnOk, Bool, false, length, map};
 ghost use Rattle.lx_auto.specs.Blocks.{IsBlock, AreBlocks, HasEnds, HaveEnds, IsClear, last_flag, shifted};
 ghost use Rattle.lx_auto.specs.Marking as plain;

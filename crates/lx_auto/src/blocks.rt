@@ -1,4 +1,5 @@
-// Blocks of an expression, numbered one behind the other.
+//! Blocks of an expression, numbered one behind the other.
+
 ghost use Rattle.std.specs.Prelude.{◌≡◌, ◌+◌, ◌<◌, ◌^◌, length, IfOk};
 ghost use Rattle.lx_auto.specs.Blocks.{IsBlockOver, AreBlocksOver, leaf_total, is_sequence_node, are_sequence_nodes};
 ghost use Rattle.lx_auto.specs.NodeLeaves.{leaves_in};

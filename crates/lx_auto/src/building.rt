@@ -2,11 +2,13 @@
 
 ghost use Rattle.std.specs.Prelude.{◌≡◌, ◌<◌, ◌≤◌, IfOk, IfErr};
 ghost use Rattle.lx_rules.specs.views.Specs.{spec_view};
+ghost use Rattle.lx_rules.specs.Limits.{max_positions, max_reached_sets};
 ghost use Rattle.lx_automaton.specs.Automata.{IsMachine};
 ghost use Rattle.lx_auto.specs.Counts.{count_of_spec};
 ghost use Rattle.lx_automaton.specs.Meaning.{IsAutomatonOf};
 ghost use Rattle.lx_automaton.specs.Leading.{AreAllLedTo};
 ghost use Rattle.lx_auto.specs.PositionSets.{HasMoreReachedSets};
+ghost use Rattle.lx_auto.specs.TooLarge.{HasTooManyPositions, HasTooManySets};
 
 use crate::drafting::draft_of;
 use crate::explore::explore;
@@ -25,10 +27,10 @@ fn draft(alloc: Global, spec: &Spec) -> Result<Draft, BuildFault>
     ensures machine { IfOk result (λ a. IsMachine a) }
     ensures automaton { IfOk result (λ a. IsAutomatonOf (spec_view spec.now) a) }
     ensures led_to { IfOk result (λ a. AreAllLedTo a) }
-    ensures few_positions { IfOk result (λ _. count_of_spec (spec_view spec.now) ≤ 16384) }
-    ensures few_sets { IfOk result (λ _. HasMoreReachedSets (spec_view spec.now) 16384 → ⊥) }
-    ensures positions { IfErr result (λ e. e ≡ BuildFault.TooManyPositions → 16384 < count_of_spec (spec_view spec.now)) }
-    ensures sets { IfErr result (λ e. e ≡ BuildFault.TooManySets → (count_of_spec (spec_view spec.now) ≤ 16384) × HasMoreReachedSets (spec_view spec.now) 16384) }
+    ensures few_positions { IfOk result (λ _. count_of_spec (spec_view spec.now) ≤ max_positions) }
+    ensures few_sets { IfOk result (λ _. HasMoreReachedSets (spec_view spec.now) max_reached_sets → ⊥) }
+    ensures positions { IfErr result (λ e. e ≡ BuildFault.TooManyPositions → HasTooManyPositions (spec_view spec.now)) }
+    ensures sets { IfErr result (λ e. e ≡ BuildFault.TooManySets → HasTooManySets (spec_view spec.now)) }
 {
     specs_are_well_formed();
     let positions = positions_of(alloc, spec)?;
@@ -48,10 +50,10 @@ fn draft(alloc: Global, spec: &Spec) -> Result<Draft, BuildFault>
 pub fn build(alloc: Global, spec: &Spec) -> Result<Automaton, BuildFault>
     ensures automaton { IfOk result (λ a. IsAutomatonOf (spec_view spec.now) a) }
     ensures led_to { IfOk result (λ a. AreAllLedTo a) }
-    ensures few_positions { IfOk result (λ _. count_of_spec (spec_view spec.now) ≤ 16384) }
-    ensures few_sets { IfOk result (λ _. HasMoreReachedSets (spec_view spec.now) 16384 → ⊥) }
-    ensures positions { IfErr result (λ e. e ≡ BuildFault.TooManyPositions → 16384 < count_of_spec (spec_view spec.now)) }
-    ensures sets { IfErr result (λ e. e ≡ BuildFault.TooManySets → (count_of_spec (spec_view spec.now) ≤ 16384) × HasMoreReachedSets (spec_view spec.now) 16384) }
+    ensures few_positions { IfOk result (λ _. count_of_spec (spec_view spec.now) ≤ max_positions) }
+    ensures few_sets { IfOk result (λ _. HasMoreReachedSets (spec_view spec.now) max_reached_sets → ⊥) }
+    ensures positions { IfErr result (λ e. e ≡ BuildFault.TooManyPositions → HasTooManyPositions (spec_view spec.now)) }
+    ensures sets { IfErr result (λ e. e ≡ BuildFault.TooManySets → HasTooManySets (spec_view spec.now)) }
 {
     let draft = draft(alloc, spec)?;
     let automaton = with_byte_classes(alloc, &draft)?;

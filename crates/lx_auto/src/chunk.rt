@@ -1,4 +1,4 @@
-// Parts of an expression while it is split into blocks.
+//! Parts of an expression while it is split into blocks.
 
 use crate::node::Node;
 use lx_lexemes::set::ByteSet;

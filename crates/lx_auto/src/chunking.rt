@@ -1,4 +1,5 @@
-// Expressions split into blocks of few nodes: where a set of positions touches few blocks, only these are gone over.
+//! Expressions split into blocks of few nodes: where a set of positions touches few blocks, only these are gone over.
+
 ghost use Rattle.std.specs.Prelude.{◌≡◌, ◌++◌, [], true, List, IfOk, OnOk, reverse};
 ghost use Rattle.lx_auto.specs.Unfolded.{Unfolded, leaf};
 ghost use Rattle.lx_auto.specs.Nodes.{nodes_of};

@@ -1,7 +1,10 @@
-// How many positions a specification has, counted before anything is unfolded.
+//! How many positions a specification has, counted before anything is unfolded.
+
 ghost use Rattle.std.specs.Prelude.{◌≡◌, ◌+◌, ◌*◌, ◌≤◌, min, map, get_or, IfOk};
 ghost use Rattle.lx_lexemes.specs.Regex.{regex_of};
+ghost use Rattle.lx_lexemes.specs.Limits.{max_interval_bound};
 ghost use Rattle.lx_rules.specs.views.Rules.{definition_view, rule_view};
+ghost use Rattle.lx_rules.specs.Limits.{max_positions};
 ghost use Rattle.lx_auto.specs.Counts.{copies_of, count_in, count_of_pattern, count_of_rules, newline_count as newline_of};
 ghost use Rattle.lx_auto.specs.CountViews.{looked_up, counts_behind, counts_at};
 
@@ -15,9 +18,9 @@ pub(crate) const TOO_MANY: u32 = 16_385;
 
 // Both counts together.
 fn sum(left: u32, right: u32) -> u32
-    requires left { left ≤ 16385 }
-    requires right { right ≤ 16385 }
-    ensures { result ≡ min 16385 (left + right) }
+    requires left { left ≤ max_positions + 1 }
+    requires right { right ≤ max_positions + 1 }
+    ensures { result ≡ min (max_positions + 1) (left + right) }
 {
     (left + right).min(TOO_MANY)
 }
@@ -25,7 +28,7 @@ fn sum(left: u32, right: u32) -> u32
 // How many copies of its body a repeat is unfolded to.
 fn copies(low: u8, high: Option<u8>) -> u32
     ensures value { result ≡ copies_of low high }
-    ensures few { result ≤ 255 }
+    ensures few { result ≤ max_interval_bound }
 {
     match high {
         Some(high) => high as u32,
@@ -35,16 +38,16 @@ fn copies(low: u8, high: Option<u8>) -> u32
 
 // The positions of so many copies.
 fn product(copies: u32, count: u32) -> u32
-    requires copies { copies ≤ 255 }
-    requires count { count ≤ 16385 }
-    ensures { result ≡ min 16385 (copies * count) }
+    requires copies { copies ≤ max_interval_bound }
+    requires count { count ≤ max_positions + 1 }
+    ensures { result ≡ min (max_positions + 1) (copies * count) }
 {
     (copies * count).min(TOO_MANY)
 }
 
 // The positions of an expression, by those of the definitions; none for a definition that isn't among them.
 fn count(expr: &Expr, names: &Names<'_>, counts: &[u32]) -> u32
-    ensures { result ≡ min 16385 (count_in (looked_up names.now.definitions.now counts.now) (regex_of expr.now)) }
+    ensures { result ≡ min (max_positions + 1) (count_in (looked_up names.now.definitions.now counts.now) (regex_of expr.now)) }
 {
     match expr {
         Expr::Nil => 0,
@@ -104,7 +107,7 @@ fn newline_count(line_end: bool) -> u32
 /// The positions of these rules, by those of the definitions.
 pub(crate) fn count_rules(rules: &[Rule], names: &Names<'_>, counts: &[u32]) -> u32
     requires { counts.now ≡ counts_at names.now.definitions.now 31 }
-    ensures { result ≡ min 16385 (count_of_rules (map definition_view names.now.definitions.now) (map rule_view rules.now)) }
+    ensures { result ≡ min (max_positions + 1) (count_of_rules (map definition_view names.now.definitions.now) (map rule_view rules.now)) }
 {
     let mut total = 0;
     for rule in rules {

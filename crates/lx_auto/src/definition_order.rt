@@ -1,5 +1,6 @@
-// In which order definitions are unfolded: names after what they name, so that no unfolding goes from name to name. No
-// contract speaks of it, since in any other order the nodes would be the same.
+//! In which order definitions are unfolded: names after what they name, so that no unfolding goes from name to name. No
+//! contract speaks of it, since in any other order the nodes would be the same.
+
 use crate::fragment::Fragment;
 use crate::names::Names;
 use crate::repeat::has_no_copy;

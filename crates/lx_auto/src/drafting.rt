@@ -1,7 +1,8 @@
-// The draft of an automaton: a state for each start and for each position set.
+//! The draft of an automaton: a state for each start and for each position set.
 
 ghost use Rattle.std.specs.Prelude.{◌≡◌, ◌+◌, ◌*◌, ◌<◌, ◌≤◌, ◌++◌, IfOk, IfSome, None, length, map, replicate};
 ghost use Rattle.std.specs.Option.{option_map};
+ghost use Rattle.lx_rules.specs.Limits.{max_start_conditions, max_rules, max_reached_sets};
 ghost use Rattle.lx_automaton.specs.Automata.{Machine, IsMachine};
 ghost use Rattle.lx_auto.specs.Drafting.{AreAllBelow, AreStartStates, IsDrafted};
 ghost use Rattle.lx_automaton.specs.EncodedOptions.{decoded_option};
@@ -13,7 +14,7 @@ use std::alloc::{AllocError, Global};
 
 // The states of the starts, two for each condition.
 fn start_states(alloc: Global, conditions: usize) -> Result<Vec<(u32, u32)>, AllocError>
-    requires { conditions ≤ 64 }
+    requires { conditions ≤ max_start_conditions }
     ensures { IfOk result (λ starts. AreStartStates starts.items conditions) }
 {
     let mut starts = Vec::new(alloc);
@@ -26,7 +27,7 @@ fn start_states(alloc: Global, conditions: usize) -> Result<Vec<(u32, u32)>, All
 
 // A rule, encoded: 0 for none, else one more than its number.
 fn encoded_rule(rule: Option<usize>) -> u16
-    requires { IfSome rule (λ r. r < 4096) }
+    requires { IfSome rule (λ r. r < max_rules) }
     ensures { decoded_option result ≡ rule }
 {
     match rule {
@@ -37,8 +38,8 @@ fn encoded_rule(rule: Option<usize>) -> u16
 
 // The state of a set, behind so many starts, encoded likewise.
 fn encoded_state(starts: usize, set: Option<usize>) -> u16
-    requires starts { starts ≤ 128 }
-    requires set { IfSome set (λ j. j < 16384) }
+    requires starts { starts ≤ 2 * max_start_conditions }
+    requires set { IfSome set (λ j. j < max_reached_sets) }
     ensures { decoded_option result ≡ option_map (λ j. starts + j) set }
 {
     match set {
@@ -53,7 +54,7 @@ fn encoded_accepted(
     starts: usize,
     matched: &[Option<usize>],
 ) -> Result<Vec<u16>, AllocError>
-    requires { AreAllBelow matched.now 4096 }
+    requires { AreAllBelow matched.now max_rules }
     ensures { IfOk result (λ encoded. map decoded_option encoded.items ≡ replicate starts None ++ matched.now) }
 {
     let mut encoded = vec![in alloc; 0u16; starts]?;
@@ -69,8 +70,8 @@ fn encoded_targets(
     starts: usize,
     targets: &[Option<usize>],
 ) -> Result<Vec<u16>, AllocError>
-    requires starts { starts ≤ 128 }
-    requires sets { AreAllBelow targets.now 16384 }
+    requires starts { starts ≤ 2 * max_start_conditions }
+    requires sets { AreAllBelow targets.now max_reached_sets }
     ensures { IfOk result (λ encoded. map decoded_option encoded.items ≡ map (option_map (λ j. starts + j)) targets.now) }
 {
     let mut encoded = Vec::with_capacity(alloc, targets.len())?;
@@ -87,9 +88,9 @@ pub(crate) fn draft_of(
     groups: &Groups,
     explored: &Explored,
 ) -> Result<Draft, AllocError>
-    requires conditions { conditions ≤ 64 }
-    requires rules { AreAllBelow explored.now.matched.items 4096 }
-    requires sets { AreAllBelow explored.now.targets.items 16384 }
+    requires conditions { conditions ≤ max_start_conditions }
+    requires rules { AreAllBelow explored.now.matched.items max_rules }
+    requires sets { AreAllBelow explored.now.targets.items max_reached_sets }
     requires machine { (m : Machine) → IsDrafted conditions groups.now.classes.items (length groups.now.representatives.items) explored.now.matched.items explored.now.targets.items m → IsMachine m }
     ensures { IfOk result (λ draft. IsDrafted conditions groups.now.classes.items (length groups.now.representatives.items) explored.now.matched.items explored.now.targets.items draft) }
 {

@@ -1,9 +1,10 @@
-// Position sets, reached one after the other from the starts (Rabin and Scott 1959: the subset construction).
+//! Position sets, reached one after the other from the starts (Rabin and Scott 1959: the subset construction).
+
 ghost use Rattle.std.specs.Prelude.{◌≡◌, ◌≢◌, ◌+◌, ◌*◌, ◌<◌, ◌≤◌, ◌⊎◌, [], ℕ, List, IfOk, IfErr, OnOk, length, true, false};
 ghost use Rattle.lx_lexemes.specs.Regex.{Regex};
 ghost use Rattle.lx_rules.specs.Plain.{PlainSpec};
 ghost use Rattle.lx_rules.specs.views.Specs.{spec_view};
-ghost use Rattle.lx_auto.specs.PositionTables.{AreStatesOf, ArePositionsOf};
+ghost use Rattle.lx_auto.specs.PositionTables.{AreStatesOf, ArePositionsOf, IsExploredBy};
 ghost use Rattle.lx_auto.specs.Sets.{IsEarliestMatched};
 ghost use Rattle.lx_auto.specs.Unfolded.{Unfolded};
 ghost use Rattle.lx_auto.specs.Leaves as plain_leaves;
@@ -12,7 +13,7 @@ ghost use Rattle.lx_auto.specs.Marking as plain_flags;
 ghost use Rattle.lx_auto.specs.PositionSets.{numbered};
 ghost use Rattle.lx_auto.specs.SetTable.{IsExtendedBy, IsNumbering, IsTarget, set_of};
 ghost use Rattle.lx_auto.specs.Exploring as plain;
-ghost use Rattle.lx_auto.specs.Exploring.{AddsTarget, AreReachedSets, HasMoreSets, HaveSteps, IsExplored, IsRowOf, start_count, start_number};
+ghost use Rattle.lx_auto.specs.Exploring.{AddsTarget, AreReachedSets, HasMoreSets, HaveSteps, IsRowOf, start_count, start_number};
 
 use crate::explored::Explored;
 use crate::fault::BuildFault;
@@ -196,8 +197,8 @@ fn add_start(
     ensures numbering { OnOk result (IsNumbering table.new.sets.items table.new.numbers) }
     ensures room { OnOk result (length table.new.sets.items ≤ limit) }
     ensures few { IfErr result (λ e. e ≢ BuildFault.TooManyPositions) }
-    ensures explored { (tree_of : Regex → Unfolded) → ArePositionsOf (spec_view spec.now) tree_of positions.now → IsExplored (spec_view spec.now) tree_of (leaves_view positions.now.leaves.items) positions.now.groups.representatives.items table.old.sets.items targets.old.items (start_number condition at_line_begin) → OnOk result (IsExplored (spec_view spec.now) tree_of (leaves_view positions.now.leaves.items) positions.now.groups.representatives.items table.new.sets.items targets.new.items (start_number condition at_line_begin + 1)) }
-    ensures many { (tree_of : Regex → Unfolded) → ArePositionsOf (spec_view spec.now) tree_of positions.now → IsExplored (spec_view spec.now) tree_of (leaves_view positions.now.leaves.items) positions.now.groups.representatives.items table.old.sets.items targets.old.items (start_number condition at_line_begin) → IfErr result (λ e. e ≡ BuildFault.TooManySets → HasMoreSets (spec_view spec.now) (numbered tree_of 0 (spec_view spec.now).rules) limit) }
+    ensures explored { (tree_of : Regex → Unfolded) → ArePositionsOf (spec_view spec.now) tree_of positions.now → IsExploredBy (spec_view spec.now) tree_of positions.now table.old.sets.items targets.old.items (start_number condition at_line_begin) → OnOk result (IsExploredBy (spec_view spec.now) tree_of positions.now table.new.sets.items targets.new.items (start_number condition at_line_begin + 1)) }
+    ensures many { (tree_of : Regex → Unfolded) → ArePositionsOf (spec_view spec.now) tree_of positions.now → IsExploredBy (spec_view spec.now) tree_of positions.now table.old.sets.items targets.old.items (start_number condition at_line_begin) → IfErr result (λ e. e ≡ BuildFault.TooManySets → HasMoreSets (spec_view spec.now) (numbered tree_of 0 (spec_view spec.now).rules) limit) }
 {
     let Ok(active) = active_rules(alloc, spec, condition, at_line_begin) else {
         return Err(BuildFault::Memory);
@@ -247,8 +248,8 @@ fn add_set_row(
     ensures long_reads { OnOk result (length reads.new.items ≡ length reads.old.items) }
     ensures clear_marks { OnOk result ((q : ℕ) → plain_flags.flag marks.new.items q ≡ false) }
     ensures clear_reads { (spec : PlainSpec) (tree_of : Regex → Unfolded) → ArePositionsOf spec tree_of positions.now → ((q : ℕ) → plain_flags.flag reads.old.items q ≡ false) → OnOk result ((q : ℕ) → plain_flags.flag reads.new.items q ≡ false) }
-    ensures explored { (spec : PlainSpec) (tree_of : Regex → Unfolded) → ArePositionsOf spec tree_of positions.now → ((q : ℕ) → plain_flags.flag reads.old.items q ≡ false) → IsExplored spec tree_of (leaves_view positions.now.leaves.items) positions.now.groups.representatives.items table.old.sets.items targets.old.items (start_count spec + number) → OnOk result (IsExplored spec tree_of (leaves_view positions.now.leaves.items) positions.now.groups.representatives.items table.new.sets.items targets.new.items (start_count spec + number + 1)) }
-    ensures many { (spec : PlainSpec) (tree_of : Regex → Unfolded) → ArePositionsOf spec tree_of positions.now → ((q : ℕ) → plain_flags.flag reads.old.items q ≡ false) → IsExplored spec tree_of (leaves_view positions.now.leaves.items) positions.now.groups.representatives.items table.old.sets.items targets.old.items (start_count spec + number) → IfErr result (λ e. e ≡ BuildFault.TooManySets → HasMoreSets spec (numbered tree_of 0 spec.rules) limit) }
+    ensures explored { (spec : PlainSpec) (tree_of : Regex → Unfolded) → ArePositionsOf spec tree_of positions.now → ((q : ℕ) → plain_flags.flag reads.old.items q ≡ false) → IsExploredBy spec tree_of positions.now table.old.sets.items targets.old.items (start_count spec + number) → OnOk result (IsExploredBy spec tree_of positions.now table.new.sets.items targets.new.items (start_count spec + number + 1)) }
+    ensures many { (spec : PlainSpec) (tree_of : Regex → Unfolded) → ArePositionsOf spec tree_of positions.now → ((q : ℕ) → plain_flags.flag reads.old.items q ≡ false) → IsExploredBy spec tree_of positions.now table.old.sets.items targets.old.items (start_count spec + number) → IfErr result (λ e. e ≡ BuildFault.TooManySets → HasMoreSets spec (numbered tree_of 0 spec.rules) limit) }
 {
     let set = table.sets[number].as_slice();
     let Ok(found) = follow(alloc, &positions.parts, rules_at, set, marks, reads) else {

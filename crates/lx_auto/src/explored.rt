@@ -1,4 +1,4 @@
-// What exploring gives.
+//! What exploring gives.
 
 use crate::set_table::SetTable;
 

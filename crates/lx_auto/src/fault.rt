@@ -1,4 +1,5 @@
-// Why an automaton isn't built.
+//! Why an automaton isn't built.
+
 ghost use Rattle.std.specs.Prelude.{◌≡◌};
 ghost use Rattle.lx_auto.specs.declared.fault.BuildFault.TheVariants.{Memory};
 

@@ -1,4 +1,5 @@
-// Nodes of the definitions that rules need.
+//! Nodes of the definitions that rules need.
+
 ghost use Rattle.std.specs.Prelude.{◌≡◌, [], map, IfOk, Some, slice_get};
 ghost use Rattle.lx_lexemes.specs.Regex.{regex_of};
 ghost use Rattle.lx_rules.specs.views.Rules.{definition_view};

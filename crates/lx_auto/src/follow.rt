@@ -1,4 +1,5 @@
-// What follows a set of positions, and what a start begins with.
+//! What follows a set of positions, and what a start begins with.
+
 ghost use Rattle.std.specs.Prelude.{◌≡◌, ◌≤◌, ◌<◌, ◌+◌, ℕ, Bool, true, false, List, IfOk, OnOk, length};
 ghost use Rattle.lx_rules.specs.Plain.{PlainSpec};
 ghost use Rattle.lx_auto.specs.Blocks.{IsClear};

@@ -1,4 +1,4 @@
-// Nodes of definitions, so that a definition is unfolded once and then copied.
+//! Nodes of definitions, so that a definition is unfolded once and then copied.
 
 use crate::node::Node;
 use crate::part::Part;

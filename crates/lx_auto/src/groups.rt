@@ -1,4 +1,5 @@
-// Groups of bytes that no position tells apart.
+//! Groups of bytes that no position tells apart.
+
 ghost use Rattle.std.specs.Prelude.{◌≡◌, ◌≤◌, ◌<◌, ◌+◌, ℕ, List, true, false, All, IfOk, OnOk, MatchOption, length, slice_index};
 ghost use Rattle.lx_auto.specs.Leaves.{PlainLeaf, AreGroupsOf};
 ghost use Rattle.lx_auto.specs.LeafViews.{leaf_view, leaves_view};

@@ -1,4 +1,5 @@
-// The leaves of the positions, in order.
+//! The leaves of the positions, in order.
+
 ghost use Rattle.std.specs.Prelude.{◌≡◌, ◌++◌, ℕ, List, true, IfOk, OnOk};
 ghost use Rattle.lx_lexemes.specs.Regex.{Regex};
 ghost use Rattle.lx_rules.specs.Plain.{PlainRule};

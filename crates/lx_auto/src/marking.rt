@@ -1,4 +1,5 @@
-// Where a set of positions can end in an expression, and which positions can be read next: two passes over its nodes.
+//! Where a set of positions can end in an expression, and which positions can be read next: two passes over its nodes.
+
 ghost use Rattle.std.specs.Prelude.{◌≡◌, ◌+◌, ◌<◌, ◌≤◌, ◌^◌, ◌∷◌, [], ℕ, false, IfOk, OnOk, reverse, slice_set, length};
 ghost use Rattle.lx_auto.specs.Marking as plain;
 ghost use Rattle.lx_auto.specs.Marking.{null_of, nulls_from, end_of, ends_from, behind_node, before_node, first_flag, other_flags, entered_children, read_at, reads_from};

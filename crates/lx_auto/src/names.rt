@@ -1,4 +1,5 @@
-// Definitions by their names.
+//! Definitions by their names.
+
 ghost use Rattle.std.specs.Prelude.{◌≡◌, ℕ, List, IfOk};
 ghost use Rattle.lx_rules.specs.views.NameTables.{number_at};
 ghost use Rattle.lx_auto.specs.NameViews.{place_of};

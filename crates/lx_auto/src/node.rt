@@ -1,4 +1,4 @@
-// Nodes of unfolded expressions, in post-order.
+//! Nodes of unfolded expressions, in post-order.
 
 use lx_lexemes::set::ByteSet;
 

@@ -1,4 +1,5 @@
-// Expressions whose nodes were appended last, and what is made of them.
+//! Expressions whose nodes were appended last, and what is made of them.
+
 ghost use Rattle.std.specs.Prelude.{◌≡◌, ◌+◌, ◌&&◌, ◌||◌, min, false, IfOk};
 ghost use Rattle.lx_auto.specs.Simplified.{cat_of, alt_of, opt_of, plus_of};
 ghost use Rattle.lx_auto.specs.NodeViews.{nodes_view, Joins, Changes};

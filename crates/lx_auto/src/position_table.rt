@@ -1,4 +1,5 @@
-// What is known of a specification's positions before sets of them are reached.
+//! What is known of a specification's positions before sets of them are reached.
+
 ghost use Rattle.std.specs.Prelude.{◌≤◌};
 
 use crate::groups::Groups;

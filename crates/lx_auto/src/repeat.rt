@@ -1,4 +1,5 @@
-// Repeats, written out.
+//! Repeats, written out.
+
 ghost use Rattle.std.specs.Prelude.{◌≡◌, ◌↔◌, ◌-◌, ◌<◌, ◌≤◌, false, ◌++◌, drop, length, IsTrue, IfOk, OnOk};
 ghost use Rattle.lx_auto.specs.Simplified.{simplified_counted, simplified_unbounded, simplified_repeated};
 ghost use Rattle.lx_auto.specs.NodeViews.{nodes_view, Joins, Changes};

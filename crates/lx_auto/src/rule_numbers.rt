@@ -1,9 +1,9 @@
-// Of which rule a position is. Nothing rests on it: it is where a search for the rule begins.
+//! Of which rule a position is. Nothing rests on it: it is where a search for the rule begins.
 
 use crate::rule_part::RulePart;
 use std::alloc::{AllocError, Global};
 
-// There are no rules behind this one.
+// The greatest number that can be kept; no specification has a rule of this number.
 const LAST_RULE: usize = 65_535;
 
 // Adds the number of a rule for each of its positions.

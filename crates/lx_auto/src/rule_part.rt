@@ -1,4 +1,5 @@
-// What is kept of a rule to follow its positions.
+//! What is kept of a rule to follow its positions.
+
 ghost use Rattle.std.specs.Prelude.{◌<◌};
 
 use crate::block::Block;

@@ -1,4 +1,5 @@
-// From the marked positions of a rule to those that can be read next.
+//! From the marked positions of a rule to those that can be read next.
+
 ghost use Rattle.std.specs.Prelude.{◌≡◌, ◌+◌, ◌<◌, ◌≤◌, ◌^◌, ◌↔◌, [], ◌∷◌, ℕ, IfOk, OnOk, true, false, length, reverse};
 ghost use Rattle.lx_auto.specs.Marking as plain;
 ghost use Rattle.lx_auto.specs.NodeViews.{nodes_view};

@@ -1,9 +1,11 @@
-// The rules of a specification, unfolded and numbered.
+//! The rules of a specification, unfolded and numbered.
+
 ghost use Rattle.std.specs.Prelude.{◌≡◌, ◌+◌, ◌≤◌, ◌<◌, ◌^◌, ◌⊎◌, ◌∷◌, [], length, map, IsTrue, IfOk, IfErr};
 ghost use Rattle.lx_lexemes.specs.Regex.{regex_of};
 ghost use Rattle.lx_rules.specs.Nesting.{are_nested, expressions_of};
 ghost use Rattle.lx_rules.specs.views.Rules.{definition_view, rule_view};
 ghost use Rattle.lx_rules.specs.views.Specs.{spec_view};
+ghost use Rattle.lx_rules.specs.Limits.{max_positions};
 ghost use Rattle.lx_auto.specs.Counts.{count_of_rules, count_of_spec, newline_count};
 ghost use Rattle.lx_auto.specs.Nodes.{nodes_of};
 ghost use Rattle.lx_auto.specs.NodeLeaves.{leaves_in};
@@ -13,6 +15,7 @@ ghost use Rattle.lx_auto.specs.RuleParts.{ArePartsOf, IsPartOver, AreNodes};
 ghost use Rattle.lx_auto.specs.Simplified.{simplified_pattern};
 ghost use Rattle.lx_auto.specs.Unfolding.{AreFragments};
 ghost use Rattle.lx_auto.specs.declared.fault.BuildFault.{BuildFault};
+ghost use Rattle.lx_auto.specs.TooLarge.{HasTooManyPositions};
 
 use crate::blocks::{count_leaves, number_blocks};
 use crate::chunking::split_into_blocks;
@@ -90,7 +93,7 @@ fn unfold_each<'s>(
 ) -> Result<UnfoldedRules<'s>, AllocError>
     requires fragments { AreFragments names.now.definitions.now fragments.now }
     requires nested { IsTrue (are_nested (map definition_view names.now.definitions.now) (expressions_of (map rule_view rules.now))) }
-    requires few { count_of_rules (map definition_view names.now.definitions.now) (map rule_view rules.now) ≤ 16384 }
+    requires few { count_of_rules (map definition_view names.now.definitions.now) (map rule_view rules.now) ≤ max_positions }
     ensures parts { IfOk result (λ u. ArePartsOf u.parts.items (numbered (simplified_pattern (map definition_view names.now.definitions.now)) 0 (map rule_view rules.now)) u.total) }
     ensures total { IfOk result (λ u. u.total ≡ count_of_rules (map definition_view names.now.definitions.now) (map rule_view rules.now)) }
 {
@@ -116,11 +119,11 @@ pub(crate) fn unfold_rules<'s>(
     alloc: Global,
     spec: &'s Spec,
 ) -> Result<UnfoldedRules<'s>, BuildFault>
-    ensures too_many { IfErr result (λ e. e ≡ BuildFault.TooManyPositions → 16384 < count_of_spec (spec_view spec.now)) }
+    ensures too_many { IfErr result (λ e. e ≡ BuildFault.TooManyPositions → HasTooManyPositions (spec_view spec.now)) }
     ensures memory { IfErr result (λ e. (e ≡ BuildFault.TooManyPositions) ⊎ (e ≡ BuildFault.Memory)) }
-    ensures few { IfOk result (λ _. count_of_spec (spec_view spec.now) ≤ 16384) }
+    ensures few { IfOk result (λ _. count_of_spec (spec_view spec.now) ≤ max_positions) }
     ensures parts { IfOk result (λ u. ArePartsOf u.parts.items (numbered (simplified_pattern (spec_view spec.now).definitions) 0 (spec_view spec.now).rules) u.total) }
-    ensures total { IfOk result (λ u. u.total ≤ 16384) }
+    ensures total { IfOk result (λ u. u.total ≤ max_positions) }
 {
     let names = index_names(alloc, &spec.definitions)?;
     let counts = count_definitions(alloc, &names)?;

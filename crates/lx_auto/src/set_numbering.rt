@@ -1,4 +1,5 @@
-// The number of a set in a table.
+//! The number of a set in a table.
+
 ghost use Rattle.std.specs.Prelude.{◌≡◌, ◌≢◌, ◌<◌, ◌≤◌, ◌⊎◌, ◌++◌, ◌∷◌, [], ℕ, None, IfOk, IfErr, OnOk, length};
 ghost use Rattle.std.specs.HashMap.{get};
 ghost use Rattle.lx_auto.specs.SetTable.{IsExtendedBy, IsNumbering, same, set_of};

@@ -1,4 +1,5 @@
-// From a set of positions to those that can be read next, and to the rule that has matched.
+//! From a set of positions to those that can be read next, and to the rule that has matched.
+
 ghost use Rattle.std.specs.Prelude.{◌≡◌, ◌+◌, ◌++◌, ◌<◌, ◌≤◌, ◌↔◌, [], ℕ, List, IfOk, OnOk, Contains, true, false, length, take, drop, min, if◌then◌else◌};
 ghost use Rattle.lx_rules.specs.Plain.{PlainSpec};
 ghost use Rattle.lx_auto.specs.Blocks.{IsClear};

@@ -1,4 +1,4 @@
-// A table of position sets, each of which has its number.
+//! A table of position sets, each of which has its number.
 
 use smallvec::SmallVec;
 use std::collections::HashMap;

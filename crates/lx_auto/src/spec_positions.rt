@@ -1,9 +1,12 @@
-// The positions of a specification, with what is known of them.
-ghost use Rattle.std.specs.Prelude.{◌≡◌, ◌<◌, ◌≤◌, ◌⊎◌, min, IfOk, IfErr};
+//! The positions of a specification, with what is known of them.
+
+ghost use Rattle.std.specs.Prelude.{◌≡◌, ◌+◌, ◌<◌, ◌≤◌, ◌⊎◌, min, IfOk, IfErr};
 ghost use Rattle.lx_rules.specs.views.Specs.{spec_view};
+ghost use Rattle.lx_rules.specs.Limits.{max_positions};
 ghost use Rattle.lx_auto.specs.Counts.{count_of_spec};
 ghost use Rattle.lx_auto.specs.PositionTables.{ArePositionsOf};
 ghost use Rattle.lx_auto.specs.Simplified.{simplified_pattern};
+ghost use Rattle.lx_auto.specs.TooLarge.{HasTooManyPositions};
 
 use crate::count::{count_definitions, count_rules};
 use crate::fault::BuildFault;
@@ -24,9 +27,9 @@ pub(crate) fn positions_of<'s>(
     alloc: Global,
     spec: &'s Spec,
 ) -> Result<PositionTable<'s>, BuildFault>
-    ensures too_many { IfErr result (λ e. e ≡ BuildFault.TooManyPositions → 16384 < count_of_spec (spec_view spec.now)) }
+    ensures too_many { IfErr result (λ e. e ≡ BuildFault.TooManyPositions → HasTooManyPositions (spec_view spec.now)) }
     ensures memory { IfErr result (λ e. (e ≡ BuildFault.TooManyPositions) ⊎ (e ≡ BuildFault.Memory)) }
-    ensures few { IfOk result (λ _. count_of_spec (spec_view spec.now) ≤ 16384) }
+    ensures few { IfOk result (λ _. count_of_spec (spec_view spec.now) ≤ max_positions) }
     ensures stands { IfOk result (λ it. ArePositionsOf (spec_view spec.now) (simplified_pattern (spec_view spec.now).definitions) it) }
 {
     let unfolded = unfold_rules(alloc, spec)?;
@@ -43,7 +46,7 @@ pub(crate) fn positions_of<'s>(
 
 /// How many positions a specification has, before anything is unfolded; 16,385 stands for all numbers above 16,384. Err: memory was refused.
 pub fn count_positions(alloc: Global, spec: &Spec) -> Result<u32, AllocError>
-    ensures { IfOk result (λ count. count ≡ min 16385 (count_of_spec (spec_view spec.now))) }
+    ensures { IfOk result (λ count. count ≡ min (max_positions + 1) (count_of_spec (spec_view spec.now))) }
 {
     let names = index_names(alloc, &spec.definitions)?;
     let counts = count_definitions(alloc, &names)?;

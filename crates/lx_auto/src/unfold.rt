@@ -1,7 +1,9 @@
-// Expressions, unfolded to nodes.
+//! Expressions, unfolded to nodes.
+
 ghost use Rattle.std.specs.Prelude.{◌≡◌, ◌≤◌, ◌++◌, map, IfOk, OnOk, Some};
 ghost use Rattle.lx_lexemes.specs.Regex.{regex_of};
 ghost use Rattle.lx_rules.specs.views.Rules.{definition_view};
+ghost use Rattle.lx_rules.specs.Limits.{max_name_depth};
 ghost use Rattle.lx_auto.specs.NameViews.{tree_at};
 ghost use Rattle.lx_auto.specs.NodeViews.{nodes_view, Appends};
 ghost use Rattle.lx_auto.specs.Unfolded.{leaf};
@@ -25,7 +27,7 @@ pub(crate) fn unfold<'s>(
     expr: &'s Expr,
     nodes: &mut Vec<Node<'s>>,
 ) -> Result<Part, AllocError>
-    requires shallow { depth ≤ 32 }
+    requires shallow { depth ≤ max_name_depth }
     requires fragments { AreFragments names.now.definitions.now fragments.now }
     ensures { IfOk result (λ part. Unfolds (map definition_view names.now.definitions.now) depth (regex_of expr.now) (nodes_view nodes.old.items) (nodes_view nodes.new.items) part) }
 {
@@ -66,7 +68,7 @@ fn unfold_definition<'s>(
     number: usize,
     nodes: &mut Vec<Node<'s>>,
 ) -> Result<Part, AllocError>
-    requires shallow { depth ≤ 32 }
+    requires shallow { depth ≤ max_name_depth }
     requires fragments { AreFragments names.now.definitions.now fragments.now }
     ensures { IfOk result (λ part. UnfoldsName (map definition_view names.now.definitions.now) depth (tree_at names.now.definitions.now (Some number)) (nodes_view nodes.old.items) (nodes_view nodes.new.items) part) }
 {

@@ -1,4 +1,4 @@
-// The rules of a specification, unfolded.
+//! The rules of a specification, unfolded.
 
 use crate::rule_part::RulePart;
 

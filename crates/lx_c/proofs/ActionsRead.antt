@@ -14,7 +14,7 @@ use Rattle.lx_rules.specs.declared.rule.Step.TheVariants.{Echo, Begin, Return}
 use Rattle.lx_table_texts.specs.Model.{TableRule, Table, IsTable, rule_at}
 use Rattle.lx_c.specs.Options.{Options, has_file}
 use Rattle.lx_numbering.specs.Numbers.{above, first_kind, returned_by}
-use Rattle.lx_c.specs.Actions.{step_word, step_entry, action_word, action_entry, cut_entry}
+use Rattle.lx_c.specs.Actions.{step_word, step_entry, action_word, action_entry, line_end_entry}
 use Rattle.lx_c.specs.Reading.{read_words, read_signed, step_number, action_number, HaveTheActions}
 use Rattle.lx_numbering.proofs.Numbers.{above-append}
 use Rattle.lx_c.proofs.Reading.{read_on, own}
@@ -69,15 +69,15 @@ actions_read o first table a (suc n) e small =
     ∙ (action_read o first table steps (10 ∷ more) e (small a (omega arith))
     ∙ ap (λ ns. action_number first steps ∷ ns) (actions_read o first table (a + 1) n e (λ r l. small r (omega (arith, l)))))
 
-cut_read : (line_end : Bool) (behind : List ℕ) → read_words 0 (cut_entry line_end ++ behind) ≡ (if line_end then 1 else 0) ∷ read_words 0 behind
-cut_read true behind = refl
-cut_read false behind = refl
+line_end_read : (line_end : Bool) (behind : List ℕ) → read_words 0 (line_end_entry line_end ++ behind) ≡ (if line_end then 1 else 0) ∷ read_words 0 behind
+line_end_read true behind = refl
+line_end_read false behind = refl
 
-cuts_read : (table : Table) (a n : ℕ) → read_words 0 (flat_map (λ r. cut_entry (rule_at table r).line_end) (range_with_len a n)) ≡ map (λ r. if (rule_at table r).line_end then 1 else 0) (range_with_len a n)
-cuts_read table a zero = refl
-cuts_read table a (suc n) =
-    cut_read (rule_at table a).line_end (flat_map (λ r. cut_entry (rule_at table r).line_end) (range_with_len (a + 1) n))
-    ∙ ap (λ (ns : List ℕ). (if (rule_at table a).line_end then 1 else 0) ∷ ns) (cuts_read table (a + 1) n)
+line_ends_read : (table : Table) (a n : ℕ) → read_words 0 (flat_map (λ r. line_end_entry (rule_at table r).line_end) (range_with_len a n)) ≡ map (λ r. if (rule_at table r).line_end then 1 else 0) (range_with_len a n)
+line_ends_read table a zero = refl
+line_ends_read table a (suc n) =
+    line_end_read (rule_at table a).line_end (flat_map (λ r. line_end_entry (rule_at table r).line_end) (range_with_len (a + 1) n))
+    ∙ ap (λ (ns : List ℕ). (if (rule_at table a).line_end then 1 else 0) ∷ ns) (line_ends_read table (a + 1) n)
 
 -- steps that name conditions and kinds that are there have small numbers
 small_kind : (first kinds : ℕ) (kind : _) → first ≤ 2147483648 → kinds ≤ 4096 → is_kind kinds kind ≡ true → (step_number first (Return kind)).1 < 8589934592
@@ -128,5 +128,5 @@ have_the_actions o table h e =
     record {
       steps = λ r l. steps_read o first table (rule_at table r).steps (codes "-1};\n") none (small r l) ∙ append-nil (map (step_number first) (rule_at table r).steps);
       actions = actions_read o first table 0 (length table.rules) none (λ r l. small r (omega (arith, l)));
-      cuts = cuts_read table 0 (length table.rules);
+      line_ends = line_ends_read table 0 (length table.rules);
     }

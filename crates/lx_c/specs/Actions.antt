@@ -10,7 +10,7 @@ use Rattle.lx_table_texts.specs.Model.{Table, rule_at, kind_at}
 use Rattle.lx_c.specs.Options.{Options, has_file}
 use Rattle.lx_numbering.specs.Numbers.{first_kind}
 use Rattle.lx_c.specs.Templates.{filled, number_then}
-use Rattle.lx_c.specs.declared.templates.TheConstants.{STEP_ARRAY, STEPS_OF, STEPS, ACTIONS, CUTS, NAMES, KINDS, CUT, NO_CUT, PENDING, NOTHING_PENDING}
+use Rattle.lx_c.specs.declared.templates.TheConstants.{STEP_ARRAY, STEPS_OF, STEPS, ACTIONS, LINE_ENDS, NAMES, KINDS, LINE_END, NO_LINE_END, PENDING, NOTHING_PENDING}
 
 -- a kind: its number, where the first kind has this one, and its name where a file declares the kinds
 abbrev pub kind_word : Options → ℕ → Table → ℕ → List ℕ
@@ -53,8 +53,8 @@ abbrev pub action_entry : Options → ℕ → Table → List Step → List ℕ
 action_entry o first table steps = action_word o first table steps ++ codes ",\n"
 
 -- 1 where the rule ends with `$`, so that one byte of a match is left away
-abbrev pub cut_entry : Bool → List ℕ
-cut_entry line_end = if line_end then codes "1,\n" else codes "0,\n"
+abbrev pub line_end_entry : Bool → List ℕ
+line_end_entry line_end = if line_end then codes "1,\n" else codes "0,\n"
 
 abbrev pub name_entry : List ℕ → List ℕ
 name_entry kind = codes "\"" ++ kind ++ codes "\",\n"
@@ -74,14 +74,14 @@ abbrev pub array_text : Options → List ℕ → List ℕ → List ℕ
 array_text o head entries = filled o.prefix head ++ entries ++ codes "0};\n"
 
 -- whether some rule ends with `$`
-abbrev pub has_cuts : Table → Bool
-has_cuts table = list_any (λ rule. rule.line_end) table.rules
+abbrev pub has_line_ends : Table → Bool
+has_line_ends table = list_any (λ rule. rule.line_end) table.rules
 
-abbrev pub cut_entries : Table → List ℕ
-cut_entries table = of_rules table (λ r. cut_entry (rule_at table r).line_end)
+abbrev pub line_end_entries : Table → List ℕ
+line_end_entries table = of_rules table (λ r. line_end_entry (rule_at table r).line_end)
 
-abbrev pub cuts_text : Options → Table → List ℕ
-cuts_text o table = if has_cuts table then filled o.prefix CUT.now ++ array_text o CUTS.now (cut_entries table) else filled o.prefix NO_CUT.now
+abbrev pub line_ends_text : Options → Table → List ℕ
+line_ends_text o table = if has_line_ends table then filled o.prefix LINE_END.now ++ array_text o LINE_ENDS.now (line_end_entries table) else filled o.prefix NO_LINE_END.now
 
 -- whether some action has an ECHO, behind whose token it goes on; behind a return none goes on
 abbrev pub is_echo : Step → Bool
@@ -115,7 +115,7 @@ action_entries o first table = of_rules table (λ r. action_entry o first table 
 abbrev pub actions_from : Options → ℕ → Table → List ℕ
 actions_from o first table =
     steps_arrays o first table ++ steps_text o table ++ array_text o ACTIONS.now (action_entries o first table)
-    ++ cuts_text o table ++ pending_text o table ++ array_text o NAMES.now (of_kinds table name_entry) ++ kinds_array o table
+    ++ line_ends_text o table ++ pending_text o table ++ array_text o NAMES.now (of_kinds table name_entry) ++ kinds_array o table
 
 abbrev pub actions_text : Options → Table → List ℕ
 actions_text o table = actions_from o (first_kind table) table

@@ -168,6 +168,10 @@ how s (Some t) = if t == s then 1 else 2
 abbrev pub mark : Machine → ℕ → ℕ → ℕ
 mark m s b = if nat_lt s (state_count m) then how s (target_of m s b) else 0
 
+-- the greatest number of a group of four states of which each has a number of 32 bits
+abbrev pub max_group : ℕ
+max_group = 1073741823
+
 abbrev pub mark_byte : Machine → ℕ → ℕ → ℕ
 mark_byte m g b = mark m (4 * g) b + 4 * mark m (4 * g + 1) b + 16 * mark m (4 * g + 2) b + 64 * mark m (4 * g + 3) b
 

@@ -55,9 +55,13 @@ abbrev pub first_name_fault : Options → ℕ → List (List ℕ) → Option Kin
 first_name_fault o k [] = None
 first_name_fault o k (kind ∷ kinds) = or_else (name_fault o k kind) (first_name_fault o (k + 1) kinds)
 
+-- the greatest int of 32 bits
+abbrev pub max_int : ℕ
+max_int = 2147483647
+
 -- the numbers of kinds pass what an int of 32 bits can be
 abbrev pub pass_the_limit : Options → Table → Bool
-pass_the_limit o table = if has_file o.include then false else nat_lt 2147483647 (first_kind table + (length table.kinds - 1))
+pass_the_limit o table = if has_file o.include then false else nat_lt max_int (first_kind table + (length table.kinds - 1))
 
 -- code for each state is asked for, and the states are too many
 abbrev pub are_too_many : Options → ℕ → Bool

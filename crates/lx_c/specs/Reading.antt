@@ -9,7 +9,7 @@ use Rattle.lx_rules.specs.declared.rule.Step.TheVariants.{Echo, Begin, Return}
 use Rattle.lx_table_texts.specs.Model.{Table, rule_at}
 use Rattle.lx_c.specs.Options.{Options}
 use Rattle.lx_numbering.specs.Numbers.{first_kind}
-use Rattle.lx_c.specs.Actions.{step_entry, action_entries, cut_entries}
+use Rattle.lx_c.specs.Actions.{step_entry, action_entries, line_end_entries}
 use Rattle.lx_c.specs.Rows.{class_entries, rows_text, start_lines}
 use Rattle.lx_numbering.specs.Words.{row_width, row_of, target_word, rule_word}
 
@@ -65,15 +65,15 @@ action_number first (Begin c ∷ steps) = (true, 4)
 abbrev pub action_of : Table → ℕ → Bool × ℕ
 action_of table r = action_number (first_kind table) (rule_at table r).steps
 
-abbrev pub cut_of : Table → ℕ → ℕ
-cut_of table r = if (rule_at table r).line_end then 1 else 0
+abbrev pub line_end_of : Table → ℕ → ℕ
+line_end_of table r = if (rule_at table r).line_end then 1 else 0
 
 -- the numbers of the arrays of actions are those of the table's rules, in their order
 pub record HaveTheActions (o : Options) (table : Table) : Type 0 where
   pub steps : (r : ℕ) → r < length table.rules →
       read_signed false 0 (flat_map (step_entry o (first_kind table) table) (rule_at table r).steps ++ codes "-1};\n") ≡ map (step_number (first_kind table)) (rule_at table r).steps
   pub actions : read_signed false 0 (action_entries o (first_kind table) table) ≡ map (action_of table) (range_with_len 0 (length table.rules))
-  pub cuts : read_words 0 (cut_entries table) ≡ map (cut_of table) (range_with_len 0 (length table.rules))
+  pub line_ends : read_words 0 (line_end_entries table) ≡ map (line_end_of table) (range_with_len 0 (length table.rules))
 
 -- Automata of one width whose arrays are printed alike are the same.
 pub record IsOneToOne : Type 0 where

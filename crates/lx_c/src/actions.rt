@@ -1,19 +1,21 @@
-// The arrays of what rules do.
+//! The arrays of what rules do.
 
 ghost use Rattle.lx_c.specs.Actions as actions;
-ghost use Rattle.lx_c.specs.Actions.{action_entries, action_entry, action_word, actions_from, array_text, cut_entries, cut_entry, cuts_text, kind_entry, kind_word, kinds_array, name_entry, of_kinds, pending_text, step_entry, step_word, steps_array, steps_entry, steps_text};
+ghost use Rattle.lx_c.specs.Actions.{action_entries, action_entry, action_word, actions_from, array_text, line_end_entries, line_end_entry, line_ends_text, kind_entry, kind_word, kinds_array, name_entry, of_kinds, pending_text, step_entry, step_word, steps_array, steps_entry, steps_text};
 ghost use Rattle.lx_c.specs.Templates.{filled, number_then};
-ghost use Rattle.lx_c.specs.declared.templates.TheConstants.{ACTIONS, CUT, CUTS, KINDS, NAMES, STEPS_OF, STEP_ARRAY};
+ghost use Rattle.lx_c.specs.declared.templates.TheConstants.{ACTIONS, LINE_END, LINE_ENDS, KINDS, NAMES, STEPS_OF, STEP_ARRAY};
 ghost use Rattle.lx_table_texts.specs.Model.{kind_at, rule_at};
 ghost use Rattle.lx_tables.specs.Output.{Wrote, WrotePrefix};
 ghost use Rattle.lx_table_texts.specs.Texts.{number};
 ghost use Rattle.std.specs.List.{flat_map, range_with_len};
 ghost use Rattle.std.specs.Prelude.{OnErr, OnOk, [], codes, length, ◌++◌, ◌+◌, ◌≡◌, ◌≤◌};
+ghost use Rattle.lx_numbering.specs.Numbers.{max_first_kind};
 
 use crate::filling::write_filled;
 use crate::options::Options;
 use crate::templates::{
-    ACTIONS, CUT, CUTS, KINDS, NAMES, NO_CUT, NOTHING_PENDING, PENDING, STEP_ARRAY, STEPS, STEPS_OF,
+    ACTIONS, KINDS, LINE_END, LINE_ENDS, NAMES, NO_LINE_END, NOTHING_PENDING, PENDING, STEP_ARRAY,
+    STEPS, STEPS_OF,
 };
 use crate::writing::{write_bytes, write_number, write_number_then, write_numbered, write_parts};
 use lx_numbering::kind_name;
@@ -29,8 +31,8 @@ fn is_simple(steps: &[Step]) -> bool
 }
 
 /// Whether some rule ends with `$`.
-fn has_cuts(tables: &Tables) -> bool
-    ensures { result ≡ actions.has_cuts tables.now }
+fn has_line_ends(tables: &Tables) -> bool
+    ensures { result ≡ actions.has_line_ends tables.now }
 {
     for rule in 0..tables.rules() {
         if tables.cut(rule) {
@@ -47,7 +49,7 @@ fn write_kind_word<W: Write>(
     tables: &Tables,
     place: u32,
 ) -> Result<(), io::Error>
-    requires { first ≤ 4294967296 }
+    requires { first ≤ max_first_kind }
     ensures ok { OnOk result (Wrote (W.contents out.old) (W.contents out.new) (kind_word options.now first tables.now place)) }
     ensures err { OnErr result (WrotePrefix (W.contents out.old) (W.contents out.new) (kind_word options.now first tables.now place)) }
 {
@@ -59,7 +61,7 @@ fn write_kind_word<W: Write>(
 }
 
 fn write_number_of_kind<W: Write>(out: &mut W, first: u64, place: u32) -> Result<(), io::Error>
-    requires { first ≤ 4294967296 }
+    requires { first ≤ max_first_kind }
     ensures ok { OnOk result (Wrote (W.contents out.old) (W.contents out.new) (number (first + place))) }
     ensures err { OnErr result (WrotePrefix (W.contents out.old) (W.contents out.new) (number (first + place))) }
 {
@@ -80,7 +82,7 @@ fn write_step_word<W: Write>(
     tables: &Tables,
     step: Step,
 ) -> Result<(), io::Error>
-    requires { first ≤ 4294967296 }
+    requires { first ≤ max_first_kind }
     ensures ok { OnOk result (Wrote (W.contents out.old) (W.contents out.new) (step_word options.now first tables.now step)) }
     ensures err { OnErr result (WrotePrefix (W.contents out.old) (W.contents out.new) (step_word options.now first tables.now step)) }
 {
@@ -99,7 +101,7 @@ fn write_step_entry<W: Write>(
     tables: &Tables,
     step: Step,
 ) -> Result<(), io::Error>
-    requires { first ≤ 4294967296 }
+    requires { first ≤ max_first_kind }
     ensures ok { OnOk result (Wrote (W.contents out.old) (W.contents out.new) (step_entry options.now first tables.now step)) }
     ensures err { OnErr result (WrotePrefix (W.contents out.old) (W.contents out.new) (step_entry options.now first tables.now step)) }
 {
@@ -114,7 +116,7 @@ fn write_step_entries<W: Write>(
     tables: &Tables,
     steps: &[Step],
 ) -> Result<(), io::Error>
-    requires { first ≤ 4294967296 }
+    requires { first ≤ max_first_kind }
     ensures ok { OnOk result (Wrote (W.contents out.old) (W.contents out.new) (flat_map (step_entry options.now first tables.now) steps.now)) }
     ensures err { OnErr result (WrotePrefix (W.contents out.old) (W.contents out.new) (flat_map (step_entry options.now first tables.now) steps.now)) }
 {
@@ -132,7 +134,7 @@ fn write_own_steps<W: Write>(
     rule: u64,
     steps: &[Step],
 ) -> Result<(), io::Error>
-    requires { first ≤ 4294967296 }
+    requires { first ≤ max_first_kind }
     ensures ok { OnOk result (Wrote (W.contents out.old) (W.contents out.new) (filled options.now.prefix STEP_ARRAY.now ++ number_then rule (codes "[] = {") ++ flat_map (step_entry options.now first tables.now) steps.now ++ codes "-1};\n")) }
     ensures err { OnErr result (WrotePrefix (W.contents out.old) (W.contents out.new) (filled options.now.prefix STEP_ARRAY.now ++ number_then rule (codes "[] = {") ++ flat_map (step_entry options.now first tables.now) steps.now ++ codes "-1};\n")) }
 {
@@ -150,7 +152,7 @@ fn write_steps_array<W: Write>(
     rule: u64,
     steps: &[Step],
 ) -> Result<(), io::Error>
-    requires { first ≤ 4294967296 }
+    requires { first ≤ max_first_kind }
     ensures ok { OnOk result (Wrote (W.contents out.old) (W.contents out.new) (steps_array options.now first tables.now rule steps.now)) }
     ensures err { OnErr result (WrotePrefix (W.contents out.old) (W.contents out.new) (steps_array options.now first tables.now rule steps.now)) }
 {
@@ -167,7 +169,7 @@ fn write_steps_arrays<W: Write>(
     first: u64,
     tables: &Tables,
 ) -> Result<(), io::Error>
-    requires { first ≤ 4294967296 }
+    requires { first ≤ max_first_kind }
     ensures ok { OnOk result (Wrote (W.contents out.old) (W.contents out.new) (flat_map (λ r. steps_array options.now first tables.now r (rule_at tables.now r).steps) (range_with_len 0 (length tables.now.rules)))) }
     ensures err { OnErr result (WrotePrefix (W.contents out.old) (W.contents out.new) (flat_map (λ r. steps_array options.now first tables.now r (rule_at tables.now r).steps) (range_with_len 0 (length tables.now.rules)))) }
 {
@@ -233,7 +235,7 @@ fn write_action_word<W: Write>(
     tables: &Tables,
     steps: &[Step],
 ) -> Result<(), io::Error>
-    requires { first ≤ 4294967296 }
+    requires { first ≤ max_first_kind }
     ensures ok { OnOk result (Wrote (W.contents out.old) (W.contents out.new) (action_word options.now first tables.now steps.now)) }
     ensures err { OnErr result (WrotePrefix (W.contents out.old) (W.contents out.new) (action_word options.now first tables.now steps.now)) }
 {
@@ -253,7 +255,7 @@ fn write_action_entry<W: Write>(
     tables: &Tables,
     steps: &[Step],
 ) -> Result<(), io::Error>
-    requires { first ≤ 4294967296 }
+    requires { first ≤ max_first_kind }
     ensures ok { OnOk result (Wrote (W.contents out.old) (W.contents out.new) (action_entry options.now first tables.now steps.now)) }
     ensures err { OnErr result (WrotePrefix (W.contents out.old) (W.contents out.new) (action_entry options.now first tables.now steps.now)) }
 {
@@ -267,7 +269,7 @@ fn write_action_entries<W: Write>(
     first: u64,
     tables: &Tables,
 ) -> Result<(), io::Error>
-    requires { first ≤ 4294967296 }
+    requires { first ≤ max_first_kind }
     ensures ok { OnOk result (Wrote (W.contents out.old) (W.contents out.new) (flat_map (λ r. action_entry options.now first tables.now (rule_at tables.now r).steps) (range_with_len 0 (length tables.now.rules)))) }
     ensures err { OnErr result (WrotePrefix (W.contents out.old) (W.contents out.new) (flat_map (λ r. action_entry options.now first tables.now (rule_at tables.now r).steps) (range_with_len 0 (length tables.now.rules)))) }
 {
@@ -277,9 +279,9 @@ fn write_action_entries<W: Write>(
     Ok(())
 }
 
-fn write_cut_entry<W: Write>(out: &mut W, line_end: bool) -> Result<(), io::Error>
-    ensures ok { OnOk result (Wrote (W.contents out.old) (W.contents out.new) (cut_entry line_end)) }
-    ensures err { OnErr result (WrotePrefix (W.contents out.old) (W.contents out.new) (cut_entry line_end)) }
+fn write_line_end_entry<W: Write>(out: &mut W, line_end: bool) -> Result<(), io::Error>
+    ensures ok { OnOk result (Wrote (W.contents out.old) (W.contents out.new) (line_end_entry line_end)) }
+    ensures err { OnErr result (WrotePrefix (W.contents out.old) (W.contents out.new) (line_end_entry line_end)) }
 {
     if line_end {
         write_bytes(out, b"1,\n")
@@ -288,12 +290,12 @@ fn write_cut_entry<W: Write>(out: &mut W, line_end: bool) -> Result<(), io::Erro
     }
 }
 
-fn write_cut_entries<W: Write>(out: &mut W, tables: &Tables) -> Result<(), io::Error>
-    ensures ok { OnOk result (Wrote (W.contents out.old) (W.contents out.new) (flat_map (λ r. cut_entry (rule_at tables.now r).line_end) (range_with_len 0 (length tables.now.rules)))) }
-    ensures err { OnErr result (WrotePrefix (W.contents out.old) (W.contents out.new) (flat_map (λ r. cut_entry (rule_at tables.now r).line_end) (range_with_len 0 (length tables.now.rules)))) }
+fn write_line_end_entries<W: Write>(out: &mut W, tables: &Tables) -> Result<(), io::Error>
+    ensures ok { OnOk result (Wrote (W.contents out.old) (W.contents out.new) (flat_map (λ r. line_end_entry (rule_at tables.now r).line_end) (range_with_len 0 (length tables.now.rules)))) }
+    ensures err { OnErr result (WrotePrefix (W.contents out.old) (W.contents out.new) (flat_map (λ r. line_end_entry (rule_at tables.now r).line_end) (range_with_len 0 (length tables.now.rules)))) }
 {
     for rule in 0..tables.rules() {
-        write_cut_entry(out, tables.cut(rule))?;
+        write_line_end_entry(out, tables.cut(rule))?;
     }
     Ok(())
 }
@@ -347,7 +349,7 @@ fn write_actions_array<W: Write>(
     first: u64,
     tables: &Tables,
 ) -> Result<(), io::Error>
-    requires { first ≤ 4294967296 }
+    requires { first ≤ max_first_kind }
     ensures ok { OnOk result (Wrote (W.contents out.old) (W.contents out.new) (array_text options.now ACTIONS.now (action_entries options.now first tables.now))) }
     ensures err { OnErr result (WrotePrefix (W.contents out.old) (W.contents out.new) (array_text options.now ACTIONS.now (action_entries options.now first tables.now))) }
 {
@@ -356,39 +358,43 @@ fn write_actions_array<W: Write>(
     write_bytes(out, b"0};\n")
 }
 
-fn write_cuts_array<W: Write>(
+fn write_line_ends_array<W: Write>(
     out: &mut W,
     options: &Options,
     tables: &Tables,
 ) -> Result<(), io::Error>
-    ensures ok { OnOk result (Wrote (W.contents out.old) (W.contents out.new) (array_text options.now CUTS.now (cut_entries tables.now))) }
-    ensures err { OnErr result (WrotePrefix (W.contents out.old) (W.contents out.new) (array_text options.now CUTS.now (cut_entries tables.now))) }
+    ensures ok { OnOk result (Wrote (W.contents out.old) (W.contents out.new) (array_text options.now LINE_ENDS.now (line_end_entries tables.now))) }
+    ensures err { OnErr result (WrotePrefix (W.contents out.old) (W.contents out.new) (array_text options.now LINE_ENDS.now (line_end_entries tables.now))) }
 {
-    write_filled(out, options, CUTS)?;
-    write_cut_entries(out, tables)?;
+    write_filled(out, options, LINE_ENDS)?;
+    write_line_end_entries(out, tables)?;
     write_bytes(out, b"0};\n")
 }
 
-fn write_some_cuts<W: Write>(
+fn write_some_line_ends<W: Write>(
     out: &mut W,
     options: &Options,
     tables: &Tables,
 ) -> Result<(), io::Error>
-    ensures ok { OnOk result (Wrote (W.contents out.old) (W.contents out.new) (filled options.now.prefix CUT.now ++ array_text options.now CUTS.now (cut_entries tables.now))) }
-    ensures err { OnErr result (WrotePrefix (W.contents out.old) (W.contents out.new) (filled options.now.prefix CUT.now ++ array_text options.now CUTS.now (cut_entries tables.now))) }
+    ensures ok { OnOk result (Wrote (W.contents out.old) (W.contents out.new) (filled options.now.prefix LINE_END.now ++ array_text options.now LINE_ENDS.now (line_end_entries tables.now))) }
+    ensures err { OnErr result (WrotePrefix (W.contents out.old) (W.contents out.new) (filled options.now.prefix LINE_END.now ++ array_text options.now LINE_ENDS.now (line_end_entries tables.now))) }
 {
-    write_filled(out, options, CUT)?;
-    write_cuts_array(out, options, tables)
+    write_filled(out, options, LINE_END)?;
+    write_line_ends_array(out, options, tables)
 }
 
-fn write_cuts<W: Write>(out: &mut W, options: &Options, tables: &Tables) -> Result<(), io::Error>
-    ensures ok { OnOk result (Wrote (W.contents out.old) (W.contents out.new) (cuts_text options.now tables.now)) }
-    ensures err { OnErr result (WrotePrefix (W.contents out.old) (W.contents out.new) (cuts_text options.now tables.now)) }
+fn write_line_ends<W: Write>(
+    out: &mut W,
+    options: &Options,
+    tables: &Tables,
+) -> Result<(), io::Error>
+    ensures ok { OnOk result (Wrote (W.contents out.old) (W.contents out.new) (line_ends_text options.now tables.now)) }
+    ensures err { OnErr result (WrotePrefix (W.contents out.old) (W.contents out.new) (line_ends_text options.now tables.now)) }
 {
-    if has_cuts(tables) {
-        write_some_cuts(out, options, tables)
+    if has_line_ends(tables) {
+        write_some_line_ends(out, options, tables)
     } else {
-        write_filled(out, options, NO_CUT)
+        write_filled(out, options, NO_LINE_END)
     }
 }
 
@@ -479,14 +485,14 @@ pub(crate) fn write_actions<W: Write>(
     first: u64,
     tables: &Tables,
 ) -> Result<(), io::Error>
-    requires { first ≤ 4294967296 }
+    requires { first ≤ max_first_kind }
     ensures ok { OnOk result (Wrote (W.contents out.old) (W.contents out.new) (actions_from options.now first tables.now)) }
     ensures err { OnErr result (WrotePrefix (W.contents out.old) (W.contents out.new) (actions_from options.now first tables.now)) }
 {
     write_steps_arrays(out, options, first, tables)?;
     write_steps(out, options, tables)?;
     write_actions_array(out, options, first, tables)?;
-    write_cuts(out, options, tables)?;
+    write_line_ends(out, options, tables)?;
     write_pending(out, options, tables)?;
     write_names(out, options, tables)?;
     write_kinds_array(out, options, tables)

@@ -1,4 +1,4 @@
-// The declarations of a scanner in C.
+//! The declarations of a scanner in C.
 
 ghost use Rattle.lx_c.specs.Declarations.{condition_line, conditions_text, first_kind_text, header_from, include_text, kind_line, kind_lines, kinds_text};
 ghost use Rattle.lx_c.specs.Kinds.{capital, capitals, name_in_c};
@@ -9,6 +9,7 @@ ghost use Rattle.lx_tables.specs.Output.{Wrote, WrotePrefix};
 ghost use Rattle.lx_table_texts.specs.Texts.{number};
 ghost use Rattle.std.specs.List.{flat_map, range_with_len};
 ghost use Rattle.std.specs.Prelude.{OnErr, OnOk, [], codes, length, option_map, ◌++◌, ◌+◌, ◌<◌, ◌∷◌, ◌≡◌, ◌≤◌};
+ghost use Rattle.lx_numbering.specs.Numbers.{max_first_kind};
 
 use crate::filling::write_filled;
 use crate::options::Options;
@@ -88,7 +89,7 @@ pub(crate) fn write_name<W: Write>(
 }
 
 fn write_kind_number<W: Write>(out: &mut W, first: u64, place: u32) -> Result<(), io::Error>
-    requires { first ≤ 4294967296 }
+    requires { first ≤ max_first_kind }
     ensures ok { OnOk result (Wrote (W.contents out.old) (W.contents out.new) (codes " = " ++ number (first + place))) }
     ensures err { OnErr result (WrotePrefix (W.contents out.old) (W.contents out.new) (codes " = " ++ number (first + place))) }
 {
@@ -102,7 +103,7 @@ fn write_kind_line<W: Write>(
     kind: &[u8],
     place: u32,
 ) -> Result<(), io::Error>
-    requires { first ≤ 4294967296 }
+    requires { first ≤ max_first_kind }
     ensures ok { OnOk result (Wrote (W.contents out.old) (W.contents out.new) (kind_line options.now first kind.now place)) }
     ensures err { OnErr result (WrotePrefix (W.contents out.old) (W.contents out.new) (kind_line options.now first kind.now place)) }
 {
@@ -117,7 +118,7 @@ fn write_kind_list<W: Write>(
     first: u64,
     tables: &Tables,
 ) -> Result<(), io::Error>
-    requires { first ≤ 4294967296 }
+    requires { first ≤ max_first_kind }
     ensures ok { OnOk result (Wrote (W.contents out.old) (W.contents out.new) (flat_map (λ k. kind_line options.now first (kind_at tables.now k) k) (range_with_len 0 (length tables.now.kinds)))) }
     ensures err { OnErr result (WrotePrefix (W.contents out.old) (W.contents out.new) (flat_map (λ k. kind_line options.now first (kind_at tables.now k) k) (range_with_len 0 (length tables.now.kinds)))) }
 {
@@ -133,7 +134,7 @@ fn write_kind_lines<W: Write>(
     first: u64,
     tables: &Tables,
 ) -> Result<(), io::Error>
-    requires { first ≤ 4294967296 }
+    requires { first ≤ max_first_kind }
     ensures ok { OnOk result (Wrote (W.contents out.old) (W.contents out.new) (kind_lines options.now first tables.now)) }
     ensures err { OnErr result (WrotePrefix (W.contents out.old) (W.contents out.new) (kind_lines options.now first tables.now)) }
 {
@@ -169,7 +170,7 @@ fn write_kinds<W: Write>(
     first: u64,
     tables: &Tables,
 ) -> Result<(), io::Error>
-    requires { first ≤ 4294967296 }
+    requires { first ≤ max_first_kind }
     ensures ok { OnOk result (Wrote (W.contents out.old) (W.contents out.new) (kinds_text options.now first tables.now)) }
     ensures err { OnErr result (WrotePrefix (W.contents out.old) (W.contents out.new) (kinds_text options.now first tables.now)) }
 {
@@ -239,7 +240,7 @@ pub(crate) fn write_header<W: Write>(
     first: u64,
     tables: &Tables,
 ) -> Result<(), io::Error>
-    requires { first ≤ 4294967296 }
+    requires { first ≤ max_first_kind }
     ensures ok { OnOk result (Wrote (W.contents out.old) (W.contents out.new) (header_from options.now first tables.now)) }
     ensures err { OnErr result (WrotePrefix (W.contents out.old) (W.contents out.new) (header_from options.now first tables.now)) }
 {

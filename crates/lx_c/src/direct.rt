@@ -1,4 +1,4 @@
-// Code for each state.
+//! Code for each state.
 
 ghost use Rattle.lx_automaton.specs.Automata.{accepted_by, class_target, start_of, state_count, target_of};
 ghost use Rattle.lx_c.specs.DirectCode as direct;
@@ -37,7 +37,7 @@ fn is_it(wanted: Option<u32>, state: u32) -> bool
     }
 }
 
-/// How many steps lead to a state, or two.
+/// How many steps lead to a state; two where there is none yet, since fewer than three are tested one by one.
 fn weight(tables: &Tables, state: u32, best: Option<u32>) -> u32
     requires { state < state_count tables.now.machine }
     ensures { result ≡ direct.weight tables.now.machine state best }
@@ -107,7 +107,7 @@ fn mark(tables: &Tables, state: u32, byte: u8) -> u64
 
 /// The marks of four states.
 fn mark_byte(tables: &Tables, group: u32, byte: u8) -> u64
-    requires { group ≤ 1073741823 }
+    requires { group ≤ direct.max_group }
     ensures { result ≡ direct.mark_byte tables.now.machine group byte }
 {
     mark(tables, 4 * group, byte)
@@ -142,7 +142,7 @@ fn write_mark<W: Write>(
     group: u32,
     byte: u16,
 ) -> Result<(), io::Error>
-    requires group { group ≤ 1073741823 }
+    requires group { group ≤ direct.max_group }
     requires byte { byte < 256 }
     ensures ok { OnOk result (Wrote (W.contents out.old) (W.contents out.new) (entry_text (direct.mark_byte tables.now.machine group byte))) }
     ensures err { OnErr result (WrotePrefix (W.contents out.old) (W.contents out.new) (entry_text (direct.mark_byte tables.now.machine group byte))) }
@@ -151,7 +151,7 @@ fn write_mark<W: Write>(
 }
 
 fn write_marks_of<W: Write>(out: &mut W, tables: &Tables, group: u32) -> Result<(), io::Error>
-    requires { group ≤ 1073741823 }
+    requires { group ≤ direct.max_group }
     ensures ok { OnOk result (Wrote (W.contents out.old) (W.contents out.new) (flat_map (λ b. entry_text (mark_byte tables.now.machine group b)) (range_with_len 0 (256)))) }
     ensures err { OnErr result (WrotePrefix (W.contents out.old) (W.contents out.new) (flat_map (λ b. entry_text (mark_byte tables.now.machine group b)) (range_with_len 0 (256)))) }
 {
@@ -162,7 +162,7 @@ fn write_marks_of<W: Write>(out: &mut W, tables: &Tables, group: u32) -> Result<
 }
 
 fn write_mark_line<W: Write>(out: &mut W, tables: &Tables, group: u32) -> Result<(), io::Error>
-    requires { group ≤ 1073741823 }
+    requires { group ≤ direct.max_group }
     ensures ok { OnOk result (Wrote (W.contents out.old) (W.contents out.new) (mark_line tables.now.machine group)) }
     ensures err { OnErr result (WrotePrefix (W.contents out.old) (W.contents out.new) (mark_line tables.now.machine group)) }
 {

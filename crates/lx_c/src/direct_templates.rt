@@ -1,4 +1,4 @@
-// The constant text of code for each state, with `@` for the prefix.
+//! The constant text of code for each state, with `@` for the prefix.
 
 /// The first line of a scanner in this form.
 pub(crate) const DIRECT_FIRST_LINE: &[u8] =

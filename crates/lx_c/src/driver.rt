@@ -1,4 +1,4 @@
-// The driver: the calls of a scanner, the same for all tables, with `@` for the prefix. What looks for the next match differs by the form.
+//! The driver: the calls of a scanner, the same for all tables, with `@` for the prefix. What looks for the next match differs by the form.
 
 /// What the calls stand on.
 pub(crate) const HELPERS: &[u8] = br#"

@@ -1,4 +1,5 @@
-// Why no scanner in C is printed.
+//! Why no scanner in C is printed.
+
 ghost use Rattle.std.specs.Prelude.{◌≡◌};
 ghost use Rattle.lx_c.specs.declared.fault.KindFault.TheVariants.{Memory};
 

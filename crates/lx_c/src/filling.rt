@@ -1,4 +1,4 @@
-// Constant text with the prefix put in.
+//! Constant text with the prefix put in.
 
 ghost use Rattle.std.specs.Prelude.{OnOk, OnErr};
 ghost use Rattle.lx_tables.specs.Output.{Wrote, WrotePrefix};

@@ -1,4 +1,4 @@
-// The loop of a state, and the step that is asked for before all others.
+//! The loop of a state, and the step that is asked for before all others.
 
 ghost use Rattle.lx_automaton.specs.Automata.{accepted_by, state_count};
 ghost use Rattle.lx_c.specs.DirectCode as direct;
@@ -17,7 +17,7 @@ use lx_numbering::rule_word;
 use lx_tables::Tables;
 use std::io::{self, Write};
 
-/// Whether a state steps to itself on a byte, or whether it doesn't.
+/// Whether a state steps to itself on a byte; where `staying` is false, whether it doesn't.
 fn stays(tables: &Tables, state: u32, staying: bool, byte: u16) -> bool
     requires state { state < state_count tables.now.machine }
     requires byte { byte < 256 }

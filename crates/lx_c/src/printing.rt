@@ -4,6 +4,7 @@ ghost use Rattle.lx_c.specs.Declarations.{header_text};
 ghost use Rattle.lx_c.specs.Scanner.{arrays_text, c_from, c_text, calls_text, driver_text, first_line_text, further_text, helpers_text, last_lines_text, name_text, walk_text};
 ghost use Rattle.lx_tables.specs.Output.{Wrote, WrotePrefix};
 ghost use Rattle.std.specs.Prelude.{OnErr, OnOk, ◌≤◌};
+ghost use Rattle.lx_numbering.specs.Numbers.{max_first_kind};
 
 use crate::actions::write_actions;
 use crate::declarations::write_header;
@@ -117,7 +118,7 @@ fn write_scanner<W: Write>(
     first: u64,
     tables: &Tables,
 ) -> Result<(), io::Error>
-    requires { first ≤ 4294967296 }
+    requires { first ≤ max_first_kind }
     ensures ok { OnOk result (Wrote (W.contents out.old) (W.contents out.new) (c_from options.now first tables.now)) }
     ensures err { OnErr result (WrotePrefix (W.contents out.old) (W.contents out.new) (c_from options.now first tables.now)) }
 {

@@ -1,4 +1,4 @@
-// The automaton as arrays.
+//! The automaton as arrays.
 
 ghost use Rattle.lx_automaton.specs.Automata.{accepted_by, class_target, start_of, state_count};
 ghost use Rattle.lx_c.specs.Rows as rows;

@@ -1,4 +1,4 @@
-// What code for each state asks of the states.
+//! What code for each state asks of the states.
 
 ghost use Rattle.lx_automaton.specs.Automata.{class_target, state_count, target_of};
 ghost use Rattle.lx_c.specs.DirectCode as direct;

@@ -1,4 +1,4 @@
-// The constant text of the declarations and of the arrays, with `@` for the prefix.
+//! The constant text of the declarations and of the arrays, with `@` for the prefix.
 
 /// The first line of a scanner.
 pub(crate) const FIRST_LINE: &[u8] = br#"/* @: a scanner printed by lx gen --c; form classes. */
@@ -118,15 +118,15 @@ pub(crate) const ACTIONS: &[u8] = br#"static const int @__action[] = {
 "#;
 
 /// How many bytes of a match of a rule are left away.
-pub(crate) const CUT: &[u8] = br#"#define @__CUT(rule) @__cut[rule]
+pub(crate) const LINE_END: &[u8] = br#"#define @__CUT(rule) @__cut[rule]
 "#;
 
 /// The same where no rule ends with `$`.
-pub(crate) const NO_CUT: &[u8] = br#"#define @__CUT(rule) 0
+pub(crate) const NO_LINE_END: &[u8] = br#"#define @__CUT(rule) 0
 "#;
 
 /// Whether each rule ends with `$`.
-pub(crate) const CUTS: &[u8] = br#"static const unsigned char @__cut[] = {
+pub(crate) const LINE_ENDS: &[u8] = br#"static const unsigned char @__cut[] = {
 0,
 "#;
 

@@ -1,4 +1,4 @@
-// Words of C and C++ that can be no kind.
+//! Words of C and C++ that can be no kind.
 
 /// The keywords, and the names that standard headers define, where a kind behind its prefix could be one; each between blanks.
 pub(crate) const WORDS: &[u8] = b" \

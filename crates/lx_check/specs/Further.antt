@@ -24,10 +24,14 @@ pub data AreFurther : ℕ → ℕ → Option (List ℕ) → List Finding → Typ
   found : (most left : ℕ) (text : List ℕ) (fault : SpecFault) (more : List Finding) → length text ≤ left → IsFault text fault →
       AreFurther most (left - length text) (without text fault) more → AreFurther (suc most) left (Some text) (Specification fault ∷ more)
 
+-- the most bytes that are read of a text and of those in which its faults are out of action
+abbrev pub max_read_bytes : ℕ
+max_read_bytes = 2000000
+
 -- What is found in a text that is refused: that it says a specification which is too large, or its first fault and what is found behind it.
 pub data AreFindings (most : ℕ) (text : List ℕ) : List Finding → Type 0 where
   too_large : (finding : Finding) → SaysTooLarge text finding → AreFindings most text (finding ∷ [])
-  faults : (fault : SpecFault) (more : List Finding) → IsFault text fault → AreFurther (most - 1) (2000000 - length text) (without text fault) more →
+  faults : (fault : SpecFault) (more : List Finding) → IsFault text fault → AreFurther (most - 1) (max_read_bytes - length text) (without text fault) more →
       AreFindings most text (Specification fault ∷ more)
 
 -- further findings stand behind these

@@ -3,6 +3,7 @@
 ghost use Rattle.std.specs.Prelude.{◌≡◌, ◌≤◌, IfOk, length};
 ghost use Rattle.lx_auto.specs.Counts.{count_of_spec};
 ghost use Rattle.lx_rules.specs.views.Specs.{spec_view};
+ghost use Rattle.lx_rules.specs.Limits.{max_positions};
 ghost use Rattle.lx_table_texts.specs.Model.{AreTablesOf};
 ghost use Rattle.lx_chosen.specs.Chosen.{AreFlagsOf, IsEverChosenBy};
 ghost use Rattle.lx_entered.specs.Entered.{IsEntered};
@@ -24,7 +25,7 @@ use std::alloc::{AllocError, Global};
 
 // How much a specification and its tables have.
 fn counts_of(alloc: Global, spec: &Spec, tables: &Tables) -> Result<Counts, AllocError>
-    requires { count_of_spec (spec_view spec.now) ≤ 16384 }
+    requires { count_of_spec (spec_view spec.now) ≤ max_positions }
     ensures { IfOk result (AreCounts (spec_view spec.now) tables.now) }
 {
     let positions = count_positions(alloc, spec)?;
@@ -54,7 +55,7 @@ fn looked_up(
     tables: &Tables,
 ) -> Result<LookedUp, AllocError>
     requires tables { AreTablesOf (spec_view spec.now) tables.now }
-    requires few_positions { count_of_spec (spec_view spec.now) ≤ 16384 }
+    requires few_positions { count_of_spec (spec_view spec.now) ≤ max_positions }
     ensures counts { IfOk result (λ looked. AreCounts (spec_view spec.now) tables.now looked.counts) }
     ensures chosen { IfOk result (λ looked. AreFlagsOf (length (spec_view spec.now).rules) (IsEverChosenBy (spec_view spec.now)) looked.chosen.items) }
     ensures entered { IfOk result (λ looked. AreFlagsOf (length (spec_view spec.now).conditions) (IsEntered tables.now) looked.entered.items) }
@@ -75,7 +76,7 @@ fn looked_up(
 // A specification that has tables, and the text that says it.
 fn accepted(alloc: Global, text: &[u8], spec: Spec, tables: Tables) -> Result<Accepted, AllocError>
     requires tables { AreTablesOf (spec_view spec) tables }
-    requires few_positions { count_of_spec (spec_view spec) ≤ 16384 }
+    requires few_positions { count_of_spec (spec_view spec) ≤ max_positions }
     ensures spec { IfOk result (λ accepted. spec_view accepted.spec ≡ spec_view spec) }
     ensures tables { IfOk result (λ accepted. AreTablesOf (spec_view accepted.spec) accepted.tables) }
     ensures chosen { IfOk result TellsChosen }

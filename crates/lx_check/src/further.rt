@@ -1,4 +1,4 @@
-// What is wrong with a text behind its first fault.
+//! What is wrong with a text behind its first fault.
 
 ghost use Rattle.std.specs.Prelude.{◌≡◌, ◌-◌, ◌∷◌, [], IfOk, length, option_map};
 ghost use Rattle.lx_spec.specs.Whole.{IsFault};

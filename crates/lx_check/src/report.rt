@@ -1,4 +1,4 @@
-// What is to be said of the text of a specification.
+//! What is to be said of the text of a specification.
 
 use lx_reached::Takers;
 use lx_spec::Spec;

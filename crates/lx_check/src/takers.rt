@@ -1,4 +1,4 @@
-// Which rules take the texts of those that are never chosen.
+//! Which rules take the texts of those that are never chosen.
 
 use bstr::ByteSlice;
 use lx_reached::{Takers, takers_of};

@@ -1,3 +1,5 @@
+//! A worker's right to draw files.
+
 ghost use Rattle.std.specs.Prelude.{◌≡◌, [], if◌then◌else◌};
 ghost use Rattle.lx_claims.specs.Draws.{seat_view};
 

@@ -1,3 +1,4 @@
+-- Arrivals: pieces of a plan and strangers, which of them count, and what is answered to each.
 use Rattle.std.specs.Prelude.{ℕ, ◌≡◌, ◌<◌, ◌==◌, Bool, true, false, not, ◌&&◌, ◌||◌, if◌then◌else◌, nat_lt, List, [], ◌∷◌, ◌++◌, Option, Some, None, All}
 use Rattle.std.specs.List.{list_any}
 use Rattle.lx_plan.specs.declared.piece.Piece.{Piece}

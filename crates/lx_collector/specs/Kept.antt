@@ -1,3 +1,4 @@
+-- What a collector keeps, and what it is to keep of the arrivals that came.
 use Rattle.std.specs.Prelude.{ℕ, ◌≡◌, ◌+◌, ◌<◌, ◌≤◌, ◌==◌, Bool, true, false, ◌||◌, nat_lt, is_some, List, [], ◌∷◌, Option, Some, None, Contains, length, slice_get, slice_set, map, sum_by, if◌then◌else◌}
 use Rattle.std.specs.Ordering.{nat_cmp}
 use Rattle.std.specs.BTreeMap.{is_at}

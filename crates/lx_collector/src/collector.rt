@@ -1,3 +1,5 @@
+//! The pieces of a run, put in order.
+
 ghost use Rattle.std.specs.Prelude.{◌≡◌, ◌<◌, ◌≤◌, ◌⊎◌, ℕ, List, [], ◌∷◌, ◌++◌, length, MatchOption, MatchResult, OnOk, IfErr, IfOk, IfNone, IsTrue, slice_get, slice_index, false, true, All, replicate, ◌↔◌, Some, None};
 ghost use Rattle.lx_plan.specs.declared.piece.Piece.{Piece};
 ghost use Rattle.lx_collector.specs.Arrivals.{IsClosedBelow, IsTruncatedBelow};

@@ -1,3 +1,5 @@
+//! The pieces of one file that wait for those before them.
+
 ghost use Rattle.std.specs.Prelude.{◌≡◌, ◌<◌, ◌≤◌, ℕ, List, OnOk, IfErr, IfNone, IfSome, IsTrue, IsSome, None, false};
 ghost use Rattle.lx_plan.specs.declared.piece.Piece.{Piece};
 ghost use Rattle.lx_collector.specs.Arrivals.{cause_among};

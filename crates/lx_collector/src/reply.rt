@@ -1,3 +1,5 @@
+//! What a collector answers.
+
 use lx_plan::{Items, Piece};
 use thiserror::Error;
 

@@ -1,3 +1,5 @@
+//! What takes pieces in order.
+
 ghost use Rattle.std.specs.Prelude.{◌≡◌, ◌+◌, ◌<◌, ℕ, List, OnOk, OnErr, slice_set, slice_index};
 ghost use Rattle.lx_plan.specs.Plans.{Planned};
 ghost use Rattle.lx_plan.specs.Pieces.{top_number};

@@ -1,4 +1,4 @@
-// Causes of actions without a form (E20).
+//! Causes of actions without a form (E20).
 
 ghost use Rattle.std.specs.Prelude.{◌≤◌};
 
@@ -61,7 +61,7 @@ fn may_be_pattern(text: &[u8], words: Span) -> bool {
 }
 
 // Whether the action has a form behind some of its words, which then belong to the pattern.
-fn is_pattern_cut(alloc: Global, text: &[u8], rule: RuleExtent) -> Result<bool, AllocError> {
+fn is_pattern_split(alloc: Global, text: &[u8], rule: RuleExtent) -> Result<bool, AllocError> {
     let (start, end) = (rule.action.start, rule.action.end());
     let mut blanks = 0;
     for at in start..rule.line.end() {
@@ -117,7 +117,7 @@ fn border_cause(
         };
         return Ok(Some((ActionCause::GroupAsAction, found_at(group))));
     }
-    if is_pattern_cut(alloc, text, rule)? {
+    if is_pattern_split(alloc, text, rule)? {
         let blank = one_byte(rule.pattern.end());
         return Ok(Some((
             ActionCause::BlankInPattern,

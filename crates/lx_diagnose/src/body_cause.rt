@@ -1,4 +1,4 @@
-// Causes of expressions that have no reading (E10): where reading stops, and why.
+//! Causes of expressions that have no reading (E10): where reading stops, and why.
 
 use crate::brace_cause::brace_cause;
 use crate::bracket_cause::bracket_cause;

@@ -1,4 +1,4 @@
-// Causes of what stands in braces (E10).
+//! Causes of what stands in braces (E10).
 
 use crate::causes::PatternCause;
 use crate::found::{Found, found_at, found_byte};

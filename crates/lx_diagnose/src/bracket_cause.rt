@@ -1,4 +1,4 @@
-// Causes of bracket expressions (E10).
+//! Causes of bracket expressions (E10).
 
 use crate::causes::PatternCause;
 use crate::escape_cause::{escape_cause, escape_len};

@@ -1,4 +1,4 @@
-// Causes: why a specification is refused, one kind for each code.
+//! Causes: why a specification is refused, one kind for each code.
 
 /// Why no line begins Rules.
 #[derive(Clone, Copy)]

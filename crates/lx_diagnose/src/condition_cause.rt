@@ -1,4 +1,4 @@
-// Causes of conditions that aren't declared (E13).
+//! Causes of conditions that aren't declared (E13).
 
 use crate::causes::ConditionCause;
 use crate::found::{Found, found_at, found_named};

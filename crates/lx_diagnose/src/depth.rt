@@ -1,4 +1,4 @@
-// Names that are nested too deep, or in a circle.
+//! Names that are nested too deep, or in a circle.
 
 use crate::names::{Visit, names_in, number_of, substitute_of};
 use crate::outline::Outline;

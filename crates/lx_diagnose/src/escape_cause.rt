@@ -1,4 +1,4 @@
-// Causes of escapes and of quoted strings (E10).
+//! Causes of escapes and of quoted strings (E10).
 
 use crate::causes::PatternCause;
 use crate::found::{Found, found_at, found_byte};

@@ -1,4 +1,4 @@
-// What a cause is about.
+//! What a cause is about.
 
 use crate::places::Span;
 

@@ -1,4 +1,4 @@
-// The cause that says no more than its code.
+//! The cause that says no more than its code.
 
 ghost use Rattle.std.specs.Prelude.{◌≡◌};
 ghost use Rattle.lx_diagnose.specs.Causes.{code_of};

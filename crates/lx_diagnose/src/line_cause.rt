@@ -1,4 +1,4 @@
-// Causes of lines of Definitions without a form (E04).
+//! Causes of lines of Definitions without a form (E04).
 
 use crate::causes::LineCause;
 use crate::found::{Found, found_at, found_byte, found_named};

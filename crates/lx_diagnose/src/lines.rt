@@ -1,4 +1,4 @@
-// The lines of a text, and places in them.
+//! The lines of a text, and places in them.
 
 ghost use Rattle.std.specs.Prelude.{◌≡◌, ◌+◌, ◌-◌, ◌<◌, ◌≤◌, length};
 ghost use Rattle.std.specs.List.{prefix_len};

@@ -1,4 +1,4 @@
-// Causes of names that aren't defined (E11), or are nested too deep (E12).
+//! Causes of names that aren't defined (E11), or are nested too deep (E12).
 
 use crate::causes::{DepthCause, NameCause};
 use crate::depth::{Depth, depth_from, mentions_of};

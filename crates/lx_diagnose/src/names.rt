@@ -1,4 +1,4 @@
-// The names in braces of patterns and substitutes, and where they lead.
+//! The names in braces of patterns and substitutes, and where they lead.
 
 use crate::outline::{DefinitionLine, Outline};
 use crate::places::{Span, between};

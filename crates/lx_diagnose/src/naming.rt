@@ -1,4 +1,4 @@
-// The names of causes, as `explain` knows them; nothing where the words of the code are all that is said.
+//! The names of causes, as `explain` knows them; nothing where the words of the code are all that is said.
 
 use crate::causes::{
     ActionCause, Cause, ConditionCause, LineCause, NameCause, OpenCause, PatternCause, RulesCause,

@@ -1,4 +1,4 @@
-// Causes of what is open where the text ends (E03).
+//! Causes of what is open where the text ends (E03).
 
 use crate::causes::OpenCause;
 use crate::found::{Found, found_at};

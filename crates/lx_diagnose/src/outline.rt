@@ -1,4 +1,4 @@
-// The outline of a text: which names are declared where, and where the parts of one rule stand.
+//! The outline of a text: which names are declared where, and where the parts of one rule stand.
 
 use crate::places::{Span, between};
 use crate::scan::{is_at, is_blank_at, next_blank, part};

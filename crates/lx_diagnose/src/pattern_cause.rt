@@ -1,4 +1,4 @@
-// Causes of patterns and substitutes that have no reading (E10).
+//! Causes of patterns and substitutes that have no reading (E10).
 
 use crate::body_cause::{Body, body_cause};
 use crate::causes::PatternCause;

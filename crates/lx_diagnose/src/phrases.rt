@@ -1,5 +1,5 @@
-// Words of causes that have something of the text in them: `@` stands for the name, `~` for the other name, and `#` for the line of that. Nothing where what
-// `explain` says in general is all.
+//! Words of causes that have something of the text in them: `@` stands for the name, `~` for the other name, and `#` for the line of that. Nothing where what
+//! `explain` says in general is all.
 
 use crate::causes::{
     ActionCause, Cause, ConditionCause, DepthCause, LimitCause, LineCause, NameCause, OpenCause,

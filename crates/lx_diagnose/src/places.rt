@@ -1,4 +1,4 @@
-// Places: where something stands.
+//! Places: where something stands.
 
 /// A part of the text: where it begins, and how many bytes it has.
 #[derive(Clone, Copy)]

@@ -1,4 +1,4 @@
-// Causes of what stands before a pattern (E10).
+//! Causes of what stands before a pattern (E10).
 
 use crate::causes::PatternCause;
 use crate::found::{Found, found_at, found_byte, found_named};

@@ -1,4 +1,4 @@
-// Causes of names that are declared twice (E05), of limits (E06), and of a text without Rules (E02).
+//! Causes of names that are declared twice (E05), of limits (E06), and of a text without Rules (E02).
 
 use crate::causes::{LimitCause, RulesCause, TwiceCause};
 use crate::found::{Found, found_at, found_noted};

@@ -43,7 +43,7 @@ fn is_specification(text: &[u8]) -> bool {
 }
 
 // Whether the last line is another than the end of a table.
-fn is_cut(text: &[u8]) -> bool {
+fn is_truncated(text: &[u8]) -> bool {
     let end = text.len();
     let last = end.saturating_sub(LAST_LINE.len() + 2);
     !(begins_at(text, last, b"\nend\n") && last.saturating_add(LAST_LINE.len() + 2) == end)
@@ -68,7 +68,7 @@ pub fn table_cause(text: &[u8]) -> TableCause {
     if is_at(text, end.saturating_sub(1), b'\r') {
         return TableCause::CarriageReturns;
     }
-    if is_cut(text) {
+    if is_truncated(text) {
         TableCause::Cut
     } else {
         TableCause::NoTable

@@ -1,4 +1,4 @@
-// What `explain` says of a cause.
+//! What `explain` says of a cause.
 
 ghost use Rattle.std.specs.Prelude.{◌≡◌};
 ghost use Rattle.lx_diagnose.specs.Causes.{code_of};

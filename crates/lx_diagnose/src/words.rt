@@ -1,4 +1,4 @@
-// The words of an action with their places, and where they stop being statements.
+//! The words of an action with their places, and where they stop being statements.
 
 use crate::places::{Span, between};
 use crate::scan::{is_at, part};

@@ -1,7 +1,7 @@
 //! Specifications, tables and plans for the calls: where they can't be made, the call isn't begun.
 
 ghost use Rattle.std.specs.Prelude.{◌≡◌, ◌<◌, ◌≤◌, IfOk, length};
-ghost use Rattle.lx_plan.specs.Plans.{IsPlan};
+ghost use Rattle.lx_plan.specs.Plans.{IsPlan, max_items};
 
 use crate::stop::Stop;
 use lx_fixtures::THREE_RULES;
@@ -39,7 +39,7 @@ pub(crate) fn plan_of(
     requires some_files { 0 < length files.now }
     requires few_files { length files.now ≤ 65536 }
     requires some_items { 0 < per_piece }
-    requires few_items { per_piece ≤ 4096 }
+    requires few_items { per_piece ≤ max_items }
     ensures run { IfOk result (λ plan. plan.run ≡ 1) }
     ensures plan { IfOk result IsPlan }
 {

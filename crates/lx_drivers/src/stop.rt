@@ -1,3 +1,5 @@
+//! How a driver ends, and what it says.
+
 use std::alloc::{AllocError, Global};
 use std::fmt::Display;
 use std::io;

@@ -1,5 +1,5 @@
-// All that is said: a paragraph for each code and for each cause, and two empty lines between the codes. A paragraph begins with the name, of a cause with its code
-// behind it in parentheses, and then has a line that says what is wrong, one that says what to do, and mostly one with an example.
+//! All that is said: a paragraph for each code and for each cause, and two empty lines between the codes. A paragraph begins with the name, of a cause with its code
+//! behind it in parentheses, and then has a line that says what is wrong, one that says what to do, and mostly one with an example.
 
 pub(crate) const TOPICS: &str = r#"E01
     the text is longer than 1,048,576 bytes

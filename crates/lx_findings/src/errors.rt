@@ -1,4 +1,4 @@
-// Faults of a specification, as lines.
+//! Faults of a specification, as lines.
 
 ghost use Rattle.std.specs.Prelude.{◌≡◌, OnOk};
 ghost use Rattle.lx_diagnose.specs.Causes as diagnose;

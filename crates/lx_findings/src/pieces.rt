@@ -1,4 +1,4 @@
-// Parts of a report, put behind a text. Where memory is refused a part of them stands there.
+//! Parts of a report, put behind a text. Where memory is refused a part of them stands there.
 
 ghost use Rattle.std.specs.Prelude.{◌≡◌, ◌++◌, OnOk};
 ghost use Rattle.lx_findings.specs.Said.{Extends};

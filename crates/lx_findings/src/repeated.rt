@@ -1,4 +1,4 @@
-// Faults that say again what one before them says.
+//! Faults that say again what one before them says.
 
 use lx_check::Finding;
 use lx_diagnose::scan::part;

@@ -1,4 +1,4 @@
-// What is said of a specification, as SARIF 2.1.0.
+//! What is said of a specification, as SARIF 2.1.0.
 
 use crate::pieces::{place_of, push};
 use crate::repeated::new_findings;

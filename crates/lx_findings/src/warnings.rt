@@ -1,4 +1,4 @@
-// The warnings and the counts of a specification that is accepted.
+//! The warnings and the counts of a specification that is accepted.
 
 use crate::pieces::{place_of, push_count, push_line, push_shown_and, push_source};
 use crate::style::Style;

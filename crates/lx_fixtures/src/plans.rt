@@ -1,7 +1,7 @@
 //! Plans of files by the tables of specifications, and their pieces.
 
 ghost use Rattle.std.specs.Prelude.{◌≡◌, ◌<◌, ◌≤◌, IfOk, length, vec_len};
-ghost use Rattle.lx_plan.specs.Plans.{IsPlan};
+ghost use Rattle.lx_plan.specs.Plans.{IsPlan, max_items};
 ghost use Rattle.lx_collector.specs.Arrivals.{AreHonest};
 
 use crate::rules::{MIXED_FILES, MIXED_RULES};
@@ -54,7 +54,7 @@ pub fn plan_of(
     requires some_files { 0 < length files.now }
     requires few_files { length files.now ≤ 65536 }
     requires some_items { 0 < per_piece }
-    requires few_items { per_piece ≤ 4096 }
+    requires few_items { per_piece ≤ max_items }
     ensures run { IfOk result (λ plan. plan.run ≡ 1) }
     ensures plan { IfOk result IsPlan }
 {
@@ -65,7 +65,7 @@ pub fn plan_of(
 /// The plan of the mixed files by the mixed rules.
 pub fn mixed_plan(alloc: Global, per_piece: u32) -> Result<Plan, NoPlan>
     requires some_items { 0 < per_piece }
-    requires few_items { per_piece ≤ 4096 }
+    requires few_items { per_piece ≤ max_items }
     ensures run { IfOk result (λ plan. plan.run ≡ 1) }
     ensures plan { IfOk result IsPlan }
 {

@@ -8,9 +8,10 @@ use crate::report::{Cause, Reports, Stop, stopped};
 use lx_flex_pattern::Options;
 use std::alloc::{AllocError, Global};
 
-/// The most definitions, and the most start conditions.
+/// The most definitions.
 const MAX_DEFINITIONS: usize = 1024;
 
+/// The most start conditions.
 const MAX_CONDITIONS: usize = 64;
 
 /// A definition as it is written.

@@ -1,3 +1,5 @@
+//! The forms that `--format` names.
+
 /// The format of a listing's lines.
 #[derive(Clone, Copy, Debug, PartialEq, Eq)]
 pub enum Format {

@@ -1,3 +1,4 @@
+-- Decimal digits, as lines are placed from them.
 use Rattle.std.specs.Prelude.{ℕ, ◌+◌, ◌/◌, ◌%◌, ◌==◌, ◌<◌, ◌≤◌, if◌then◌else◌, List, [], ◌∷◌, decimal}
 
 -- the two digits of a number below 100

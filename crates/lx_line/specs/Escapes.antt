@@ -1,3 +1,4 @@
+-- How bytes of a text stand in a line.
 use Rattle.std.specs.Prelude.{ℕ, ◌+◌, ◌/◌, ◌%◌, ◌==◌, ◌&&◌, nat_lt, nat_le, if◌then◌else◌, List, [], ◌∷◌, ◌++◌, codes}
 
 -- an upper-case hexadecimal digit

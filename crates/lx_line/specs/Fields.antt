@@ -1,3 +1,4 @@
+-- The fields of a line behind its prefix.
 use Rattle.std.specs.Prelude.{ℕ, List, ◌++◌, codes, decimal, drop, take}
 use Rattle.std.specs.List.{flat_map}
 use Rattle.lx_line.specs.Decimals.{IsAmong}

@@ -1,3 +1,4 @@
+-- The lines of a listing, one by one.
 use Rattle.std.specs.Prelude.{ℕ, List, ◌++◌, codes, decimal}
 use Rattle.std.specs.List.{flat_map}
 use Rattle.lx_rules.specs.declared.rule.Kind.{Kind}

@@ -1,3 +1,4 @@
+-- The lines of pieces and of files.
 use Rattle.std.specs.Prelude.{ℕ, Bool, if◌then◌else◌, List, [], ◌++◌}
 use Rattle.std.specs.List.{flat_map}
 use Rattle.lx_plan.specs.Pieces.{ItemPiece, is_cut_short}

@@ -1,3 +1,4 @@
+-- The listing of a plan, and what a listing has written of it.
 use Rattle.std.specs.Prelude.{ℕ, zero, suc, ◌≡◌, ◌≤◌, ◌⊎◌, Bool, true, false, List, [], ◌∷◌, ◌++◌, Option, slice_index}
 use Rattle.std.specs.Io.KnownBytes.{Appends}
 use Rattle.lx_plan.specs.Plans.{Planned, IsPlan, files_of}

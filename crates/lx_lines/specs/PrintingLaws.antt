@@ -1,3 +1,4 @@
+-- Laws of what a printer writes between two turns.
 use Rattle.std.proofs.Common.{ℕ, ◌≡◌, inl, inr, List, [], ◌∷◌, ◌++◌, refl, sym, ◌∙◌, ap, subst, arith, append_assoc, append-nil}
 use Rattle.std.proofs.lemmas.Bool.{cases_lt}
 use Rattle.lx_delivery.specs.declared.reader.ReaderFault.{ReaderFault}

@@ -1,7 +1,7 @@
 //! Listings of plans: each form of line, pieces of later files, writers that take a part or fail.
 
 ghost use Rattle.std.specs.Prelude.{◌<◌, ◌≤◌};
-ghost use Rattle.lx_plan.specs.Plans.{IsPlan};
+ghost use Rattle.lx_plan.specs.Plans.{IsPlan, max_items};
 
 use crate::asserts::{holds, same, same_bytes};
 use crate::plans::{listing_of, made, mixed, put, put_times};
@@ -21,7 +21,7 @@ use std::thread::Threads;
 /// Asserts how the mixed files are listed in pieces of so many items.
 fn lists_mixed<R: Abort + AllocGlobal>(rt: &R, per_piece: u32)
     requires some_items { 0 < per_piece }
-    requires few_items { per_piece ≤ 4096 }
+    requires few_items { per_piece ≤ max_items }
 {
     let plan = mixed(rt, per_piece);
     let out = listing_of(rt, &plan);
@@ -38,7 +38,7 @@ fn lists_each_form_of_line_whatever_the_pieces_are(rt: HostRuntime) {
 /// Asserts how they are listed by their tables.
 fn lists_by_tables<R: Abort + AllocGlobal + Threads + Wait + Sync>(rt: &R, per_piece: u32)
     requires some_items { 0 < per_piece }
-    requires few_items { per_piece ≤ 4096 }
+    requires few_items { per_piece ≤ max_items }
 {
     let tables = tables_of(rt.alloc(), MIXED_RULES).expect(rt, "tables");
     let files = inputs(rt.alloc(), MIXED_FILES.as_slice()).expect(rt, "memory");
@@ -232,7 +232,7 @@ fn relay_last_file_first<R: Abort + AllocGlobal, W: Write + Drop>(
 /// Asserts how such a relay of the mixed files writes them.
 fn holds_pieces<R: Abort + AllocGlobal>(rt: &R, per_piece: u32)
     requires some_items { 0 < per_piece }
-    requires few_items { per_piece ≤ 4096 }
+    requires few_items { per_piece ≤ max_items }
 {
     let plan = mixed(rt, per_piece);
     let mut out = failing_writer(rt.alloc(), 4_096, 0, false);

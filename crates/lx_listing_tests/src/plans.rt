@@ -1,7 +1,7 @@
 //! Plans, their listings, and texts. Where there is no memory for one, the test ends there.
 
 ghost use Rattle.std.specs.Prelude.{◌<◌, ◌≤◌, length};
-ghost use Rattle.lx_plan.specs.Plans.{IsPlan};
+ghost use Rattle.lx_plan.specs.Plans.{IsPlan, max_items};
 
 use lx_fixtures::{mixed_plan, plan_of};
 use lx_piece::Plan;
@@ -18,7 +18,7 @@ pub(crate) fn made<R: Abort + AllocGlobal>(
     requires some_files { 0 < length files.now }
     requires few_files { length files.now ≤ 65536 }
     requires some_items { 0 < per_piece }
-    requires few_items { per_piece ≤ 4096 }
+    requires few_items { per_piece ≤ max_items }
     ensures { IsPlan result }
 {
     plan_of(rt.alloc(), spec, files, per_piece).expect(rt, "a plan")
@@ -27,7 +27,7 @@ pub(crate) fn made<R: Abort + AllocGlobal>(
 /// The plan of the mixed files by the mixed rules.
 pub(crate) fn mixed<R: Abort + AllocGlobal>(rt: &R, per_piece: u32) -> Plan
     requires some_items { 0 < per_piece }
-    requires few_items { per_piece ≤ 4096 }
+    requires few_items { per_piece ≤ max_items }
     ensures { IsPlan result }
 {
     mixed_plan(rt.alloc(), per_piece).expect(rt, "a plan")

@@ -1,6 +1,7 @@
 //! Listings of files that several threads scan: the same bytes as by one thread.
 
 ghost use Rattle.std.specs.Prelude.{◌<◌, ◌≤◌};
+ghost use Rattle.lx_plan.specs.Plans.{max_items};
 
 use crate::asserts::{same, same_bytes};
 use crate::plans::{listing_of, made, mixed};
@@ -83,7 +84,7 @@ const ROWS: &[Row] = &[
 /// Asserts it of a row in pieces of so many items.
 fn lists_row<R: Abort + AllocGlobal + Threads + Wait + Sync>(rt: &R, row: &Row, per_piece: u32)
     requires some_items { 0 < per_piece }
-    requires few_items { per_piece ≤ 4096 }
+    requires few_items { per_piece ≤ max_items }
 {
     let (files, wanted) = *row;
     assert!(rt; !files.is_empty() && files.len() < 9);
@@ -94,7 +95,7 @@ fn lists_row<R: Abort + AllocGlobal + Threads + Wait + Sync>(rt: &R, row: &Row, 
 /// Asserts it of the mixed files.
 fn lists_mixed<R: Abort + AllocGlobal + Threads + Wait + Sync>(rt: &R, per_piece: u32)
     requires some_items { 0 < per_piece }
-    requires few_items { per_piece ≤ 4096 }
+    requires few_items { per_piece ≤ max_items }
 {
     let plan = mixed(rt, per_piece);
     lists(rt, &plan, MIXED_LISTING.as_bytes());
@@ -103,7 +104,7 @@ fn lists_mixed<R: Abort + AllocGlobal + Threads + Wait + Sync>(rt: &R, per_piece
 /// Asserts it of all files in pieces of so many items.
 fn lists_all<R: Abort + AllocGlobal + Threads + Wait + Sync>(rt: &R, per_piece: u32)
     requires some_items { 0 < per_piece }
-    requires few_items { per_piece ≤ 4096 }
+    requires few_items { per_piece ≤ max_items }
 {
     for row in ROWS {
         lists_row(rt, row, per_piece);

@@ -1,4 +1,4 @@
-// Between which states those of a block stand.
+//! Between which states those of a block stand.
 
 ghost use Rattle.std.specs.Prelude.{◌≡◌, ◌<◌, ◌≤◌, ◌++◌, ◌∷◌, [], ℕ, IfOk, OnOk, length, max, min, slice_index, slice_set};
 ghost use Rattle.lx_partition.specs.Completion.{IsComplete};

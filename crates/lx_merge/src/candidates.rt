@@ -1,7 +1,7 @@
-// The states among which those are that step into a set.
+//! The states among which those are that step into a set.
 
 ghost use Rattle.std.specs.Prelude.{◌≡◌, ◌<◌, ◌≤◌, ℕ, true, IfOk, OnOk, Contains, length};
-ghost use Rattle.lx_partition.specs.Completion.{total, IsComplete};
+ghost use Rattle.lx_partition.specs.Completion.{total, IsComplete, max_complete_states};
 ghost use Rattle.lx_partition.specs.Partitions.{flag};
 ghost use Rattle.lx_merge.specs.Sources.{AddsBelow, AreAllListed, AreSourcesOf, AreStatesBelow, ContainPreimage};
 
@@ -11,7 +11,7 @@ use std::alloc::{AllocError, Global};
 
 /// All states.
 pub(crate) fn all_states(alloc: Global, count: usize) -> Result<Vec<u16>, AllocError>
-    requires { count ≤ 16513 }
+    requires { count ≤ max_complete_states }
     ensures { IfOk result (λ states. AreStatesBelow count states.items) }
 {
     let mut states = Vec::with_capacity(alloc, count)?;

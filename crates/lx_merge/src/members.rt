@@ -1,7 +1,8 @@
-// The states of blocks, looked for 32 at a time.
+//! The states of blocks, looked for 32 at a time.
 
 ghost use Rattle.std.specs.Prelude.{◌≡◌, ◌≢◌, ◌<◌, ◌≤◌, ◌+◌, ℕ, true, false, IfOk, IfSome, IfNone, Contains, length, slice_index};
 ghost use Rattle.lx_partition.specs.Partitions.{AreFlags, flag};
+ghost use Rattle.lx_partition.specs.Completion.{max_complete_states};
 
 use std::alloc::{AllocError, Global};
 use std::simd::prelude::*;
@@ -63,7 +64,7 @@ pub(crate) fn members_between(
     low: u16,
     high: u16,
 ) -> Result<Members, AllocError>
-    requires small { length blocks.now ≤ 16513 }
+    requires small { length blocks.now ≤ max_complete_states }
     requires low { (s : ℕ) → s < length blocks.now → slice_index blocks.now s ≡ number → low ≤ s }
     requires high { (s : ℕ) → s < length blocks.now → slice_index blocks.now s ≡ number → s ≤ high }
     ensures flags { IfOk result (λ members. AreFlags blocks.now number (length blocks.now) members.inside.items) }
@@ -83,7 +84,7 @@ pub(crate) fn members_between(
 
 /// The states of a block.
 pub(crate) fn members_of(alloc: Global, blocks: &[u16], number: u16) -> Result<Members, AllocError>
-    requires { length blocks.now ≤ 16513 }
+    requires { length blocks.now ≤ max_complete_states }
     ensures flags { IfOk result (λ members. AreFlags blocks.now number (length blocks.now) members.inside.items) }
     ensures listed { IfOk result (λ members. (s : ℕ) → s < length blocks.now → flag members.inside.items s ≡ true → Contains members.states.items s) }
 {

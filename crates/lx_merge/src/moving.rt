@@ -1,4 +1,4 @@
-// States that move out of their block, and classes on which states of a block step apart.
+//! States that move out of their block, and classes on which states of a block step apart.
 
 ghost use Rattle.std.specs.Prelude.{◌≡◌, ◌≢◌, ◌<◌, ◌↔◌, ℕ, Bool, IsTrue, IfOk, IfSome, IfNone, length, slice_index, Contains};
 ghost use Rattle.lx_partition.specs.Completion.{total, step_of, IsComplete};

@@ -1,4 +1,4 @@
-// The automaton of the blocks of a partition.
+//! The automaton of the blocks of a partition.
 
 ghost use Rattle.std.specs.Prelude.{◌≡◌, ◌≢◌, ◌<◌, ◌≤◌, ◌+◌, ◌*◌, ℕ, Bool, true, false, if◌then◌else◌, IfOk, OnOk, length, slice_index};
 ghost use Rattle.lx_automaton.specs.Automata.{IsMachine, state_count};

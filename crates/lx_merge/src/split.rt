@@ -1,4 +1,4 @@
-// Splitting blocks until states of one block step to the same blocks.
+//! Splitting blocks until states of one block step to the same blocks.
 
 ghost use Rattle.std.specs.Prelude.{◌≡◌, ◌≢◌, ◌<◌, ◌+◌, ◌^◌, ◌++◌, ◌∷◌, [], ℕ, Bool, true, false, None, IfOk, IfSome, OnOk, length, slice_index, slice_set};
 ghost use Rattle.lx_partition.specs.Completion.{total, step_of, IsComplete};

@@ -1,8 +1,8 @@
-// The worklist by which blocks are split (Hopcroft 1971): blocks that are still to be used as splitters, where of two
-// parts the smaller one gets the new number and is used. What is proved of the partition doesn't rest on their order.
+//! The worklist by which blocks are split (Hopcroft 1971): blocks that are still to be used as splitters, where of two
+//! parts the smaller one gets the new number and is used. What is proved of the partition doesn't rest on their order.
 
 ghost use Rattle.std.specs.Prelude.{◌≡◌, ◌<◌, ◌≤◌, ◌+◌, ◌-◌, ◌*◌, ◌++◌, ◌∷◌, [], ℕ, true, Contains, IfOk, OnOk, length, vec_len};
-ghost use Rattle.lx_partition.specs.Completion.{total, IsComplete};
+ghost use Rattle.lx_partition.specs.Completion.{total, IsComplete, max_complete_states};
 ghost use Rattle.lx_partition.specs.Partitions.{block_count, AreFlags, IsSound, IsSplitter, flag};
 ghost use Rattle.lx_merge.specs.BlockBounds.{AreBounds};
 ghost use Rattle.lx_merge.specs.SplitMeasure.{splits_left};
@@ -211,7 +211,7 @@ fn members_by(
     bounds: &Bounds,
     block: u16,
 ) -> Result<Members, AllocError>
-    requires small { length p.now.block_of.items ≤ 16513 }
+    requires small { length p.now.block_of.items ≤ max_complete_states }
     requires bounds { AreBounds p.now bounds.now }
     ensures flags { IfOk result (λ members. AreFlags p.now.block_of.items block (length p.now.block_of.items) members.inside.items) }
     ensures listed { IfOk result (λ members. (s : ℕ) → s < length p.now.block_of.items → flag members.inside.items s ≡ true → Contains members.states.items s) }

@@ -1,3 +1,5 @@
+//! What a worker sends.
+
 use lx_piece::{Items, Piece};
 use thiserror::Error;
 

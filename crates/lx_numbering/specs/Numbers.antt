@@ -16,6 +16,10 @@ returned_number (Return (Number n)) = n ∷ []
 abbrev pub returned_by : List Step → List ℕ
 returned_by steps = flat_map returned_number steps
 
+-- the most that the number of the first kind can be: one above the greatest number of 32 bits
+abbrev pub max_first_kind : ℕ
+max_first_kind = 4294967296
+
 -- n, or one above the greatest of the numbers
 abbrev pub above : ℕ → List ℕ → ℕ
 above n [] = n

@@ -3,15 +3,16 @@
 ghost use Rattle.std.specs.Prelude.{◌≡◌, ◌≤◌, ◌<◌, length};
 ghost use Rattle.lx_table_texts.specs.Model.{rule_at, kind_at};
 ghost use Rattle.lx_numbering.specs.Numbers as kinds;
+ghost use Rattle.lx_numbering.specs.Numbers.{max_first_kind};
 
 use lx_rules::rule::{Kind, Step};
 use lx_tables::Tables;
 
 /// The number, or one more than what the step returns.
 fn above_step(number: u64, step: Step) -> u64
-    requires { number ≤ 4294967296 }
+    requires { number ≤ max_first_kind }
     ensures number { result ≡ kinds.above number (kinds.returned_number step) }
-    ensures small { result ≤ 4294967296 }
+    ensures small { result ≤ max_first_kind }
 {
     match step {
         Step::Return(Kind::Number(n)) if number <= u64::from(n) => u64::from(n) + 1,
@@ -21,9 +22,9 @@ fn above_step(number: u64, step: Step) -> u64
 
 /// The number, or one more than the greatest that the steps return.
 fn above_steps(number: u64, steps: &[Step]) -> u64
-    requires { number ≤ 4294967296 }
+    requires { number ≤ max_first_kind }
     ensures number { result ≡ kinds.above number (kinds.returned_by steps.now) }
-    ensures small { result ≤ 4294967296 }
+    ensures small { result ≤ max_first_kind }
 {
     let mut first = number;
     for step in steps {
@@ -35,7 +36,7 @@ fn above_steps(number: u64, steps: &[Step]) -> u64
 /// The number of the first kind: 256, or one more than the greatest number that an action returns.
 pub fn first_kind(tables: &Tables) -> u64
     ensures number { result ≡ kinds.first_kind tables.now }
-    ensures small { result ≤ 4294967296 }
+    ensures small { result ≤ max_first_kind }
 {
     let mut first = 256;
     for rule in 0..tables.rules() {

@@ -13,12 +13,16 @@ label_of m s = slice_index m.labels.items s
 abbrev pub step_of : Complete → ℕ → ℕ → ℕ
 step_of m s c = slice_index m.next.items (s * m.width + c)
 
+-- the most states of such an automaton: that of missing steps is one more
+abbrev pub max_complete_states : ℕ
+max_complete_states = 16513
+
 -- every state steps to a state on every class; state 0 accepts nothing and steps to itself
 pub record IsComplete (m : Complete) : Type 0 where
   pub rows : length m.next.items ≡ total m * m.width
   pub closed : (s c : ℕ) → s < total m → c < m.width → step_of m s c < total m
   pub some : 0 < total m
-  pub small : total m ≤ 16513
+  pub small : total m ≤ max_complete_states
   pub narrow : m.width ≤ 256
   pub unlabelled : label_of m 0 ≡ 0
   pub stays : (c : ℕ) → c < m.width → step_of m 0 c ≡ 0

@@ -1,4 +1,4 @@
-// Automata in which no step is missing.
+//! Automata in which no step is missing.
 
 ghost use Rattle.std.specs.Prelude.{◌≡◌, ◌<◌, ◌+◌, ◌*◌, ◌++◌, ◌∷◌, IfOk, length, replicate};
 ghost use Rattle.lx_partition.specs.Completion.{total, step_of, label_of, IsComplete, IsCompletion};

@@ -1,4 +1,4 @@
-// Divisions of states into blocks, of which the first is by the states' labels.
+//! Divisions of states into blocks, of which the first is by the states' labels.
 
 ghost use Rattle.std.specs.Prelude.{◌≡◌, ◌≢◌, ◌<◌, ◌≤◌, ◌+◌, ◌++◌, ◌∷◌, [], ℕ, IfOk, OnOk, length, slice_index};
 ghost use Rattle.lx_partition.specs.Completion.{total, label_of, IsComplete};

@@ -1,3 +1,4 @@
+-- What of a plan's files was taken.
 use Rattle.std.specs.Prelude.{ℕ, ◌≡◌, ◌≢◌, ◌<◌, ◌≤◌, true, List, [], ◌∷◌, ◌++◌, Contains, length, slice_index}
 use Rattle.lx_plan.specs.declared.piece.Piece.{Piece}
 use Rattle.lx_collector.specs.declared.reply.Reply.{Reply}

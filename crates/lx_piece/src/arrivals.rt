@@ -1,3 +1,5 @@
+//! Where pieces come from.
+
 ghost use Rattle.std.specs.Prelude.{◌≡◌, List, [], ◌∷◌, ◌++◌, MatchOption, IfSome};
 ghost use Rattle.lx_plan.specs.Pieces.{ItemPiece};
 ghost use Rattle.lx_plan.specs.Plans.{Planned};

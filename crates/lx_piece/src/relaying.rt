@@ -1,3 +1,5 @@
+//! Pieces that arrive in any order, handed on in order.
+
 ghost use Rattle.std.specs.Prelude.{◌≡◌, ◌<◌, replicate, OnOk, OnErr, IfOk, Err};
 ghost use Rattle.lx_plan.specs.Plans.{files_of};
 ghost use Rattle.lx_plan.specs.Pieces.{top_number};

@@ -135,8 +135,8 @@ ends_map L M text starts ends into from e = record {
 }
 
 -- one language behind another
-pub ends_then : (L M : List ℕ → Type 0) (text : List ℕ) (starts cuts ends : BTreeSet ℕ) → AreEnds L text starts cuts → AreEnds M text cuts ends → AreEnds (Splits L M) text starts ends
-ends_then L M text starts cuts ends a b = record {
+pub ends_then : (L M : List ℕ → Type 0) (text : List ℕ) (starts middles ends : BTreeSet ℕ) → AreEnds L text starts middles → AreEnds M text middles ends → AreEnds (Splits L M) text starts ends
+ends_then L M text starts middles ends a b = record {
   sound = λ j h. let second = b.sound j h in let first = a.sound (second.from) (second.start) in
       record { from = first.from; start = first.start; between = between_join L M text (first.from) (second.from) j (first.between) (second.between) };
   whole = λ j r. let c = between_cut L M text (r.from) j (r.between) in

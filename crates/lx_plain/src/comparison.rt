@@ -1,7 +1,7 @@
 //! All ways to the items of a text: by tables with and without merging, by both of their texts read again, in one scan and piece by piece.
 
 ghost use Rattle.std.specs.Prelude.{◌<◌, ◌≤◌};
-ghost use Rattle.lx_plan.specs.Plans.{IsPlan};
+ghost use Rattle.lx_plan.specs.Plans.{IsPlan, max_items};
 
 use crate::fault::Fault;
 use lx_auto::{build, merge};
@@ -42,7 +42,7 @@ fn compare_pieces(
     per_piece: u32,
 ) -> Result<(), Fault>
     requires some_items { 0 < per_piece }
-    requires few_items { per_piece ≤ 4096 }
+    requires few_items { per_piece ≤ max_items }
 {
     let files = inputs(alloc, &[(text, false)])?;
     let plan = Plan::new(tables, files, per_piece, 1);
@@ -59,7 +59,7 @@ fn compare_printed_pieces(
     per_piece: u32,
 ) -> Result<(), Fault>
     requires some_items { 0 < per_piece }
-    requires few_items { per_piece ≤ 4096 }
+    requires few_items { per_piece ≤ max_items }
 {
     let tables = Tables::read(alloc, printed)?;
     compare_pieces(alloc, tables, text, items, per_piece)

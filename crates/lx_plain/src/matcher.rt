@@ -34,8 +34,8 @@ pub(crate) fn ends(
         Expr::Nil => copy_of(starts),
         Expr::Set(set) => behind_byte(alloc, set, text, starts),
         Expr::Then(first, second) => {
-            let cuts = ends(alloc, definitions, depth, first, text, starts)?;
-            ends(alloc, definitions, depth, second, text, &cuts)
+            let middles = ends(alloc, definitions, depth, first, text, starts)?;
+            ends(alloc, definitions, depth, second, text, &middles)
         }
         Expr::Or(one, other) => {
             let mut both = ends(alloc, definitions, depth, one, text, starts)?;

@@ -1,4 +1,5 @@
-// Sets of places of a text.
+//! Sets of places of a text.
+
 ghost use Rattle.std.specs.Prelude.{◌≡◌, ℕ, ◌+◌, false, ◌∷◌, [], ◌||◌, ◌&&◌, not, IsTrue, IfOk, OnOk};
 ghost use Rattle.std.specs.FinSet as set;
 ghost use Rattle.std.specs.Ordering.{nat_cmp};

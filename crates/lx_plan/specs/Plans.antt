@@ -1,3 +1,4 @@
+-- A plan as plain values: its files, its tables, and the items of its files.
 use Rattle.std.specs.Prelude.{ℕ, ◌<◌, ◌≤◌, All, Bool, false, List, [], length, slice_index_or}
 use Rattle.lx_table_texts.specs.Model.{Table, IsTable, kind_at}
 use Rattle.lx_scan.specs.declared.item.Item.{Item}

@@ -1,3 +1,5 @@
+//! What is read of a file.
+
 /// A file as far as it was read.
 #[derive(Debug, Drop)]
 pub struct Input {

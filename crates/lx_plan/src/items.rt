@@ -1,3 +1,5 @@
+//! The items of a piece, as other programs read them.
+
 ghost use Rattle.std.specs.Prelude.{◌≡◌};
 
 use lx_scan::Item;

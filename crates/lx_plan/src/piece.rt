@@ -1,3 +1,5 @@
+//! A piece of a file, and its mark.
+
 ghost use Rattle.std.specs.Prelude.{◌≡◌};
 
 use crate::items::Items;

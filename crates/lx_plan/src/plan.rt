@@ -1,3 +1,5 @@
+//! The plan of a run: its files, its tables, and how many items a piece has.
+
 ghost use Rattle.std.specs.Prelude.{◌≡◌, ◌<◌, ◌≤◌, length, map, vec_len};
 ghost use Rattle.lx_plan.specs.Plans.{IsPlan, files_of, bytes_of, input_view, is_cut, kind_of, kinds_of, max_files, max_items};
 

@@ -3,6 +3,10 @@ use Rattle.std.specs.Prelude.{◌≡◌, ℕ, ◌<◌, ◌≤◌, Bool, All, Lis
 use Rattle.lx_automaton.specs.Automata.{Machine, answer, start_of, state_after, state_count}
 use Rattle.lx_reached.specs.declared.takers.Pair.{Pair}
 
+-- the most pairs of states that are looked at
+abbrev pub max_pairs : ℕ
+max_pairs = 20000
+
 -- A text of one byte or more that the rule alone matches is answered by this rule where all are asked.
 pub record IsTaker (alone all : Machine) (rule : ℕ) : Type 0 where
   pub condition : ℕ

@@ -1,6 +1,7 @@
 //! Numbers that are met one after the other, each once: states, or conditions.
 
 ghost use Rattle.std.specs.Prelude.{◌≡◌, ◌≢◌, ◌<◌, ◌≤◌, ◌⊎◌, ℕ, IfOk, OnOk, length, slice_index};
+ghost use Rattle.lx_automaton.specs.Automata.{max_states};
 ghost use Rattle.lx_reached.specs.Reached.{AreMet};
 
 use std::alloc::{AllocError, Global};
@@ -30,7 +31,7 @@ pub fn none_met(alloc: Global, count: usize) -> Result<Met, AllocError>
 pub fn meet(met: &mut Met, number: u32) -> Result<(), AllocError>
     requires met { AreMet met.old.numbers.items met.old.places.items }
     requires number { number < length met.old.places.items }
-    requires few { length met.old.places.items ≤ 16512 }
+    requires few { length met.old.places.items ≤ max_states }
     ensures met { OnOk result (AreMet met.new.numbers.items met.new.places.items) }
     ensures long { OnOk result (length met.new.places.items ≡ length met.old.places.items) }
     ensures there { OnOk result (slice_index met.new.places.items number ≢ 0) }

@@ -1,7 +1,7 @@
 //! Which rules take the texts of a rule that is never chosen.
 
 ghost use Rattle.std.specs.Prelude.{◌≡◌, ◌+◌, ◌<◌, ◌≤◌, All, IfOk, IfSome, OnOk, length};
-ghost use Rattle.lx_reached.specs.Takers.{IsPair, IsTaker};
+ghost use Rattle.lx_reached.specs.Takers.{IsPair, IsTaker, max_pairs};
 
 use lx_tables::{State, Tables};
 use std::alloc::{AllocError, Global};
@@ -47,9 +47,9 @@ struct Search {
 fn meet(search: &mut Search, alone: &Tables, all: &Tables, pair: Pair) -> Result<(), AllocError>
     requires pair { IsPair alone.now.machine all.now.machine pair }
     requires pairs { All (IsPair alone.now.machine all.now.machine) search.old.pairs.items }
-    requires few { length search.old.pairs.items ≤ 20000 }
+    requires few { length search.old.pairs.items ≤ max_pairs }
     ensures pairs { OnOk result (All (IsPair alone.now.machine all.now.machine) search.new.pairs.items) }
-    ensures few { OnOk result (length search.new.pairs.items ≤ 20000) }
+    ensures few { OnOk result (length search.new.pairs.items ≤ max_pairs) }
     ensures more { OnOk result (length search.old.pairs.items ≤ length search.new.pairs.items) }
 {
     if search.pairs.len() >= MAX_PAIRS {
@@ -101,9 +101,9 @@ fn behind(alone: &Tables, all: &Tables, pair: Pair, place: usize, byte: u8) -> O
 
 fn meet_starts(search: &mut Search, alone: &Tables, all: &Tables) -> Result<(), AllocError>
     requires pairs { All (IsPair alone.now.machine all.now.machine) search.old.pairs.items }
-    requires few { length search.old.pairs.items ≤ 20000 }
+    requires few { length search.old.pairs.items ≤ max_pairs }
     ensures pairs { OnOk result (All (IsPair alone.now.machine all.now.machine) search.new.pairs.items) }
-    ensures few { OnOk result (length search.new.pairs.items ≤ 20000) }
+    ensures few { OnOk result (length search.new.pairs.items ≤ max_pairs) }
 {
     let conditions = all.conditions().min(alone.conditions());
     for condition in 0..conditions {
@@ -122,9 +122,9 @@ fn meet_behind(
 ) -> Result<(), AllocError>
     requires pair { IsPair alone.now.machine all.now.machine pair }
     requires pairs { All (IsPair alone.now.machine all.now.machine) search.old.pairs.items }
-    requires few { length search.old.pairs.items ≤ 20000 }
+    requires few { length search.old.pairs.items ≤ max_pairs }
     ensures pairs { OnOk result (All (IsPair alone.now.machine all.now.machine) search.new.pairs.items) }
-    ensures few { OnOk result (length search.new.pairs.items ≤ 20000) }
+    ensures few { OnOk result (length search.new.pairs.items ≤ max_pairs) }
     ensures more { OnOk result (length search.old.pairs.items ≤ length search.new.pairs.items) }
 {
     for byte in 0..=255 {

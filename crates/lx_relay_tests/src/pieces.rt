@@ -2,7 +2,7 @@
 
 ghost use Rattle.std.specs.Prelude.{◌<◌, ◌≤◌, length};
 ghost use Rattle.lx_plan.specs.Cutting.{IsCutterOf};
-ghost use Rattle.lx_plan.specs.Plans.{IsPlan};
+ghost use Rattle.lx_plan.specs.Plans.{IsPlan, max_items};
 
 use crate::asserts::{holds, same};
 use crate::plans::{echoes, plan_of};
@@ -69,7 +69,7 @@ fn made<R: Abort + AllocGlobal>(rt: &R, spec: &str, files: &[(&[u8], bool)], per
     requires some_files { 0 < length files.now }
     requires few_files { length files.now ≤ 65536 }
     requires some_items { 0 < per_piece }
-    requires few_items { per_piece ≤ 4096 }
+    requires few_items { per_piece ≤ max_items }
     ensures { IsPlan result }
 {
     plan_of(rt.alloc(), spec, files, per_piece).expect(rt, "memory")
@@ -86,7 +86,7 @@ fn expect_of<R: Abort + AllocGlobal>(
     requires some_files { 0 < length files.now }
     requires few_files { length files.now ≤ 65536 }
     requires some_items { 0 < per_piece }
-    requires few_items { per_piece ≤ 4096 }
+    requires few_items { per_piece ≤ max_items }
 {
     let plan = made(rt, spec, files, per_piece);
     expect(rt, &plan, wanted);

@@ -1,7 +1,7 @@
 //! Plans for the tests. Only want of memory may keep one from being made, so that is what a test is told.
 
 ghost use Rattle.std.specs.Prelude.{◌≡◌, ◌<◌, ◌≤◌, IfOk, length, vec_len};
-ghost use Rattle.lx_plan.specs.Plans.{IsPlan};
+ghost use Rattle.lx_plan.specs.Plans.{IsPlan, max_items};
 
 use lx_fixtures::{NO_RULES, inputs, tables_of};
 use lx_piece::{Input, Plan};
@@ -18,7 +18,7 @@ pub(crate) fn plan_by(
     requires some_files { 0 < vec_len files }
     requires few_files { vec_len files ≤ 65536 }
     requires some_items { 0 < per_piece }
-    requires few_items { per_piece ≤ 4096 }
+    requires few_items { per_piece ≤ max_items }
     ensures run { IfOk result (λ plan. plan.run ≡ 1) }
     ensures plan { IfOk result IsPlan }
 {
@@ -45,7 +45,7 @@ pub(crate) fn echo_plan(alloc: Global, lens: &[usize], per_piece: u32) -> Result
     requires some_files { 0 < length lens.now }
     requires few_files { length lens.now ≤ 65536 }
     requires some_items { 0 < per_piece }
-    requires few_items { per_piece ≤ 4096 }
+    requires few_items { per_piece ≤ max_items }
     ensures run { IfOk result (λ plan. plan.run ≡ 1) }
     ensures plan { IfOk result IsPlan }
 {
@@ -63,7 +63,7 @@ pub(crate) fn plan_of(
     requires some_files { 0 < length files.now }
     requires few_files { length files.now ≤ 65536 }
     requires some_items { 0 < per_piece }
-    requires few_items { per_piece ≤ 4096 }
+    requires few_items { per_piece ≤ max_items }
     ensures run { IfOk result (λ plan. plan.run ≡ 1) }
     ensures plan { IfOk result IsPlan }
 {
@@ -76,7 +76,7 @@ pub(crate) fn echoes<R: Abort + AllocGlobal>(rt: &R, lens: &[usize], per_piece: 
     requires some_files { 0 < length lens.now }
     requires few_files { length lens.now ≤ 65536 }
     requires some_items { 0 < per_piece }
-    requires few_items { per_piece ≤ 4096 }
+    requires few_items { per_piece ≤ max_items }
     ensures { IsPlan result }
 {
     echo_plan(rt.alloc(), lens, per_piece).expect(rt, "memory")

@@ -1,6 +1,7 @@
 //! What is handed on of many files that several threads cut: the pieces of each file, in order, as one thread cuts them.
 
 ghost use Rattle.std.specs.Prelude.{◌≡◌, ◌<◌, ◌≤◌, IfSome, length, vec_len};
+ghost use Rattle.lx_plan.specs.Plans.{max_items};
 
 use crate::asserts::{holds, same};
 use crate::keeper::fresh_keeper;
@@ -54,7 +55,7 @@ fn many_files<R: Abort + AllocGlobal>(rt: &R) -> Vec<Input>
 /// Their plan.
 fn plan_of_many<R: Abort + AllocGlobal>(rt: &R, per_piece: u32) -> Plan
     requires some_items { 0 < per_piece }
-    requires few_items { per_piece ≤ 4096 }
+    requires few_items { per_piece ≤ max_items }
 {
     let files = many_files(rt);
     plan_by(rt.alloc(), MIXED_RULES, files, per_piece).expect(rt, "memory")
@@ -136,7 +137,7 @@ fn hands_on_by_each<R: Abort + AllocGlobal + Threads + Wait + Sync>(rt: &R, plan
 /// Asserts it of the many files in pieces of so many items.
 fn hands_on_many<R: Abort + AllocGlobal + Threads + Wait + Sync>(rt: &R, per_piece: u32)
     requires some_items { 0 < per_piece }
-    requires few_items { per_piece ≤ 4096 }
+    requires few_items { per_piece ≤ max_items }
 {
     let plan = plan_of_many(rt, per_piece);
     hands_on_by_each(rt, &plan);

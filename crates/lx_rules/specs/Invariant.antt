@@ -4,7 +4,7 @@ use Rattle.std.specs.List.{list_all, list_any, flat_map}
 use Rattle.std.specs.Cmp.Lexicographic.{pointwise}
 use Rattle.lx_lexemes.specs.Regex.{Regex}
 use Rattle.lx_ere.specs.Bounds.{has_ordered_bounds}
-use Rattle.lx_rules.specs.Limits.{max_definitions, max_rules, max_start_conditions}
+use Rattle.lx_rules.specs.Limits.{max_definitions, max_rules, max_start_conditions, returned_number_limit}
 use Rattle.lx_rules.specs.Plain.{StartCondition, PlainDefinition, PlainRule, PlainSpec}
 use Rattle.lx_rules.specs.Identifiers.{is_identifier}
 use Rattle.lx_rules.specs.Nesting.{are_nested, expressions_of}
@@ -42,7 +42,7 @@ are_ordered definitions trees = list_all (λ d. has_ordered_bounds d.tree) defin
 -- the kind is one of so many identifiers, or a number below 2 ^ 31
 abbrev pub is_kind : ℕ → Kind → Bool
 is_kind kinds (Name n) = nat_lt n kinds
-is_kind kinds (Number n) = nat_lt n 2147483648
+is_kind kinds (Number n) = nat_lt n returned_number_limit
 
 -- the steps name conditions and kinds that are there, and a return stands last
 abbrev pub are_steps : ℕ → ℕ → List Step → Bool

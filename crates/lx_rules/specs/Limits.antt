@@ -18,3 +18,19 @@ max_rules = 4096
 -- the most names in a row: one in an expression, one in the substitute that it stands for, and so on
 abbrev pub max_name_depth : ℕ
 max_name_depth = 32
+
+-- numbers that actions return are below
+abbrev pub returned_number_limit : ℕ
+returned_number_limit = 2147483648
+
+-- the most positions: sets of bytes and letters of all patterns, with repeats written out and names unfolded, and one for each line end
+abbrev pub max_positions : ℕ
+max_positions = 16384
+
+-- the most sets of positions at which a text can stand
+abbrev pub max_reached_sets : ℕ
+max_reached_sets = 16384
+
+-- the most kinds that have names: a rule returns one at most
+abbrev pub max_kinds : ℕ
+max_kinds = 4096

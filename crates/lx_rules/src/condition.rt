@@ -1,4 +1,4 @@
-// Start conditions.
+//! Start conditions.
 
 /// A start condition (XCU `lex`, "Definitions in lex": `%s` and `%x`).
 #[derive(Drop)]

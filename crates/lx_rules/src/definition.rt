@@ -1,4 +1,4 @@
-// Definitions.
+//! Definitions.
 
 use lx_lexemes::expr::Expr;
 

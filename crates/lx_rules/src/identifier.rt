@@ -1,4 +1,5 @@
-// Identifiers, and the bytes of which they are made.
+//! Identifiers, and the bytes of which they are made.
+
 ghost use Rattle.std.specs.Prelude.{◌≡◌};
 ghost use Rattle.std.specs.List.{list_all};
 ghost use Rattle.lx_rules.specs.Identifiers as bytes;

@@ -1,4 +1,4 @@
-// Rules, and what they do.
+//! Rules, and what they do.
 
 use crate::steps::Steps;
 use lx_lexemes::expr::Pattern;

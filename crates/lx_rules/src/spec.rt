@@ -1,4 +1,5 @@
-// A specification, read.
+//! A specification, read.
+
 ghost use Rattle.std.specs.Prelude.{◌<◌, ◌≤◌, length, map, IsTrue};
 ghost use Rattle.std.specs.List.{list_all};
 ghost use Rattle.lx_rules.specs.views.Conditions.{condition_view};

@@ -1,4 +1,5 @@
-// The steps of rules, which several rules may share.
+//! The steps of rules, which several rules may share.
+
 ghost use Rattle.std.specs.Prelude.{◌≡◌, IfOk};
 
 use crate::rule::Step;

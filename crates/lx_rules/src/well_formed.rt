@@ -1,4 +1,5 @@
-// What every specification keeps.
+//! What every specification keeps.
+
 ghost use Rattle.lx_rules.specs.Invariant.{IsWellFormed};
 ghost use Rattle.lx_rules.specs.views.Specs.{spec_view};
 

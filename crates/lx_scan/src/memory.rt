@@ -14,11 +14,11 @@ const SPACING: usize = 32;
 // So many are kept of a place.
 const STATES: usize = 4;
 
+// Of states that find no room at their place so many are kept, of all places together.
+const OTHERS: usize = 65_536;
+
 // So many ends of matches are found at once.
 const ENDS: usize = 256;
-
-// Of those that find no room there so many are kept, of all places together.
-const OTHERS: usize = 65_536;
 
 /// A state from which nothing more is accepted before a byte of the text.
 #[derive(Clone, Copy, Debug, PartialEq, Eq)]

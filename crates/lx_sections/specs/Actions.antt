@@ -3,6 +3,7 @@ use Rattle.std.specs.Prelude.{◌≡◌, ℕ, suc, Bool, true, false, not, ◌&&
 use Rattle.std.specs.List.{list_all}
 use Rattle.std.specs.Cmp.Lexicographic.{pointwise}
 use Rattle.lx_rules.specs.Identifiers.{is_digit, is_identifier}
+use Rattle.lx_rules.specs.Limits.{returned_number_limit}
 use Rattle.lx_sections.specs.Lines.{is_empty}
 use Rattle.lx_sections.specs.Constants.{decimal_below}
 use Rattle.lx_sections.specs.ActionWords.{Word, letters, byte, bar, semicolon, open_brace, close_brace, open_group, close_group, AreWords}
@@ -30,7 +31,7 @@ number_or_none (Some n) = Some (number n)
 -- the value of letters and digits: an identifier, or a decimal number below 2 ^ 31
 abbrev pub letters_value : List ℕ → Option Value
 letters_value text =
-    if is_identifier text then Some (name text) else if is_decimal text then number_or_none (decimal_below 2147483648 text) else None
+    if is_identifier text then Some (name text) else if is_decimal text then number_or_none (decimal_below returned_number_limit text) else None
 
 -- what a word is where a value is asked for
 abbrev pub value_of : Word → Option Value

@@ -1,4 +1,5 @@
-// Actions: their statements (XCU `lex`, "Actions in lex").
+//! Actions: their statements (XCU `lex`, "Actions in lex").
+
 ghost use Rattle.std.specs.Prelude.{◌≡◌, ◌+◌, ◌≤◌, length, drop, IfSome, OnSome, IfOk, MatchOption, List};
 ghost use Rattle.std.specs.List.{list_all};
 ghost use Rattle.std.specs.Option.{option_map};

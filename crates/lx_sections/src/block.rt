@@ -1,4 +1,5 @@
-// Where an action ends.
+//! Where an action ends.
+
 ghost use Rattle.std.specs.Prelude.{◌≡◌, ◌+◌, ◌<◌, ◌≤◌, length};
 ghost use Rattle.lx_sections.specs.Blocks as plain;
 

@@ -1,4 +1,5 @@
-// The specification that rules without a fault say.
+//! The specification that rules without a fault say.
+
 ghost use Rattle.std.specs.Prelude.{◌≡◌, [], ◌∷◌, Some, ◌+◌, ◌<◌, ◌≤◌, length, map, IfOk, vec_len};
 ghost use Rattle.std.specs.Option.{option_map};
 ghost use Rattle.lx_rules.specs.views.Conditions.{condition_view};

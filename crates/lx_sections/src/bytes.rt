@@ -1,4 +1,5 @@
-// Bytes and words.
+//! Bytes and words.
+
 ghost use Rattle.std.specs.Prelude.{◌≡◌, ◌≤◌, length};
 ghost use Rattle.std.specs.List.{prefix_len};
 ghost use Rattle.lx_rules.specs.Identifiers.{is_alphanumeric, is_word_byte};

@@ -1,4 +1,5 @@
-// What can be wrong with a rule, cause by cause in the order in which it is answered.
+//! What can be wrong with a rule, cause by cause in the order in which it is answered.
+
 ghost use Rattle.std.specs.Prelude.{◌≡◌, ◌<◌, ◌∷◌, [], length, IfOk, map};
 ghost use Rattle.std.specs.List.{list_all};
 ghost use Rattle.lx_lexemes.specs.Regex.{reading_of};

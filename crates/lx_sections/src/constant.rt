@@ -1,13 +1,15 @@
-// Decimal numbers and character constants (XCU `lex`, "Actions in lex").
+//! Decimal numbers and character constants (XCU `lex`, "Actions in lex").
+
 ghost use Rattle.std.specs.Prelude.{◌≡◌, ◌<◌, ◌≤◌, length, IfSome};
 ghost use Rattle.std.specs.Option.{option_map};
+ghost use Rattle.lx_rules.specs.Limits.{returned_number_limit};
 ghost use Rattle.lx_sections.specs.Constants as plain;
 
 use lx_lexemes::escape::escape_at;
 
 /// The number that decimal digits spell, where it is below the limit.
 pub(crate) fn decimal_below(limit: u32, digits: &[u8]) -> Option<u32>
-    requires { limit ≤ 2147483648 }
+    requires { limit ≤ returned_number_limit }
     ensures value { result ≡ plain.decimal_below limit digits.now }
     ensures below { IfSome result (λ n. n < limit) }
 {

@@ -1,4 +1,5 @@
-// Where each definition leads: to a substitute without a reading, to a name that isn't defined, or along 33 names.
+//! Where each definition leads: to a substitute without a reading, to a name that isn't defined, or along 33 names.
+
 ghost use Rattle.std.specs.Prelude.{◌≡◌, ℕ, ◌<◌, ◌↔◌, length, map, IsTrue, IfOk, Contains, slice_index, nat_le};
 ghost use Rattle.lx_rules.specs.Limits.{max_name_depth};
 ghost use Rattle.lx_sections.specs.Dictionary.{unreadable_marks};

@@ -1,4 +1,5 @@
-// What the definitions read as, and which mentions which.
+//! What the definitions read as, and which mentions which.
+
 ghost use Rattle.std.specs.Prelude.{◌≡◌, ◌<◌, ◌++◌, Some, None, Ok, Err, map, length, IfOk, OnOk};
 ghost use Rattle.lx_lexemes.specs.Regex.{regex_of};
 ghost use Rattle.lx_sections.specs.Dictionary as plain;

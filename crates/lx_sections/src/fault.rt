@@ -1,4 +1,5 @@
-// Why a specification isn't read.
+//! Why a specification isn't read.
+
 ghost use Rattle.std.specs.Prelude.{◌≡◌};
 ghost use Rattle.lx_sections.specs.Faults.{out_of_memory};
 

@@ -1,4 +1,5 @@
-// Which definitions mention which, by their numbers, and what follows from that.
+//! Which definitions mention which, by their numbers, and what follows from that.
+
 ghost use Rattle.std.specs.Prelude.{◌≡◌, ℕ, ◌+◌, ◌<◌, ◌≤◌, ◌↔◌, [], slice_index, Contains, IsTrue, IfOk, OnOk, vec_len};
 ghost use Rattle.lx_rules.specs.Limits.{max_name_depth};
 ghost use Rattle.lx_sections.specs.Graph.{IsMention, AreBelow, Leads, AreMarked, list_at, is_marked, Follow, AreSound, Reach};

@@ -1,4 +1,5 @@
-// What a line of the first section says by itself (XCU `lex`, "Definitions in lex").
+//! What a line of the first section says by itself (XCU `lex`, "Definitions in lex").
+
 ghost use Rattle.std.specs.Prelude.{◌≡◌, ◌≤◌, length};
 ghost use Rattle.std.specs.List.{list_all, prefix_len};
 ghost use Rattle.std.specs.Option.{option_map};

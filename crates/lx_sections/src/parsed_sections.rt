@@ -1,4 +1,5 @@
-// What the sections say, entry by entry.
+//! What the sections say, entry by entry.
+
 ghost use Rattle.std.specs.Prelude.{◌<◌, ◌≤◌, length};
 ghost use Rattle.lx_rules.specs.Limits.{max_definitions, max_rules, max_start_conditions};
 

@@ -1,4 +1,5 @@
-// The conditions that a rule names (XCU `lex`, "Regular Expressions in lex": `<state>`).
+//! The conditions that a rule names (XCU `lex`, "Regular Expressions in lex": `<state>`).
+
 ghost use Rattle.std.specs.Prelude.{◌≡◌, ◌<◌, ◌≤◌, ◌∷◌, [], MatchOption, length, map, nat_eq, is_some, IfOk, IfSome};
 ghost use Rattle.std.specs.List.{list_all, prefix_len, position};
 ghost use Rattle.std.specs.Cmp.Lexicographic.{pointwise};

@@ -1,4 +1,5 @@
-// Which definitions rules reach, and the list of them.
+//! Which definitions rules reach, and the list of them.
+
 ghost use Rattle.std.specs.Prelude.{◌≡◌, ℕ, ◌<◌, ◌≤◌, ◌↔◌, false, map, reverse, length, IfOk, OnOk, IsTrue, Contains, vec_len, slice_index};
 ghost use Rattle.std.specs.List.{flat_map};
 ghost use Rattle.lx_rules.specs.views.Rules.{definition_view};

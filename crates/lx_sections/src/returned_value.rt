@@ -1,12 +1,14 @@
-// What actions return (XCU `lex`, "Actions in lex": `return`).
+//! What actions return (XCU `lex`, "Actions in lex": `return`).
+
 ghost use Rattle.std.specs.Prelude.{◌<◌, IsTrue};
 ghost use Rattle.lx_rules.specs.Identifiers.{is_identifier};
+ghost use Rattle.lx_rules.specs.Limits.{returned_number_limit};
 
 /// A number below 2,147,483,648.
 #[derive(Clone, Copy)]
 pub struct KindNumber {
     pub value: u32,
-    pub ghost below: { value < 2147483648 },
+    pub ghost below: { value < returned_number_limit },
 }
 
 /// An identifier.

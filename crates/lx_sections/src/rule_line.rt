@@ -1,4 +1,5 @@
-// What a line of the second section says by itself (XCU `lex`, "Rules in lex").
+//! What a line of the second section says by itself (XCU `lex`, "Rules in lex").
+
 ghost use Rattle.std.specs.Prelude.{◌≡◌, ◌≤◌, length};
 ghost use Rattle.std.specs.List.{prefix_len};
 ghost use Rattle.lx_sections.specs.RuleLines as plain;

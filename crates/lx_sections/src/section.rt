@@ -1,4 +1,5 @@
-// The sections: what they say, or their first fault.
+//! The sections: what they say, or their first fault.
+
 ghost use Rattle.std.specs.Prelude.{◌≡◌, ◌+◌, ◌<◌, ◌≤◌, List, ℕ, length, nat_eq, IfOk, IfErr, Err, []};
 ghost use Rattle.std.specs.List.{list_any};
 ghost use Rattle.std.specs.Cmp.Lexicographic.{pointwise};

@@ -1,4 +1,4 @@
-// The symbol table: what the rules stand on.
+//! The symbol table: what the rules stand on.
 
 use crate::definition_faults::DefinitionFaults;
 use crate::definition_index::DefinitionIndex;

@@ -1,4 +1,5 @@
-// The words of an action (XCU `lex`, "Actions in lex").
+//! The words of an action (XCU `lex`, "Actions in lex").
+
 ghost use Rattle.std.specs.Prelude.{◌≡◌, ◌+◌, ◌<◌, ◌≤◌, length, IfSome, IfOk, MatchOption, List};
 ghost use Rattle.std.specs.List.{prefix_len};
 ghost use Rattle.std.specs.Option.{option_map};

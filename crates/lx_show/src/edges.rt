@@ -1,4 +1,4 @@
-// The edges from a state to others.
+//! The edges from a state to others.
 
 ghost use Rattle.std.specs.Prelude.{◌≡◌, ◌<◌, ◌≤◌, ◌++◌, OnOk, option_map, decimal};
 ghost use Rattle.std.specs.List.{flat_map};

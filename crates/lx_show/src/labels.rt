@@ -1,4 +1,4 @@
-// What stands at the nodes and the edges of the graph, put behind a text. Where memory is refused a part of it stands there.
+//! What stands at the nodes and the edges of the graph, put behind a text. Where memory is refused a part of it stands there.
 
 ghost use Rattle.std.specs.Prelude.{◌≡◌, ◌<◌, ◌++◌, OnOk, codes, decimal, length, map, option_map};
 ghost use Rattle.std.specs.List.{flat_map};

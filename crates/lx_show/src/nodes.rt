@@ -1,4 +1,4 @@
-// The nodes of states and of start conditions.
+//! The nodes of states and of start conditions.
 
 ghost use Rattle.std.specs.Prelude.{◌≡◌, ◌<◌, ◌++◌, OnOk, decimal, length};
 ghost use Rattle.lx_automaton.specs.Automata.{state_count};

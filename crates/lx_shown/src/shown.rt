@@ -1,3 +1,5 @@
+//! What a piece of a listing carries.
+
 ghost use Rattle.std.specs.Prelude.{◌≡◌, All};
 ghost use Rattle.lx_scan.specs.ItemParts.{IsItemOf};
 ghost use Rattle.lx_plan.specs.Plans.{bytes_of, kinds_of};

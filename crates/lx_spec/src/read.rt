@@ -1,4 +1,5 @@
-// Specifications, read whole.
+//! Specifications, read whole.
+
 ghost use Rattle.std.specs.Prelude.{◌≡◌, ◌≢◌, ◌⊎◌, ℕ, List, Option, map, IfOk, IfErr};
 ghost use Rattle.lx_ere.specs.PatternEnd.{pattern_end};
 ghost use Rattle.lx_ere.specs.PatternGrammar.{IsPatternEnd};

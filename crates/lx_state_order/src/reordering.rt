@@ -1,6 +1,7 @@
-// The lists of an automaton, with its states in another order.
+//! The lists of an automaton, with its states in another order.
 
 ghost use Rattle.std.specs.Prelude.{◌≡◌, ◌<◌, ◌≤◌, ◌+◌, ◌*◌, ℕ, IfOk, OnOk, length, slice_index};
+ghost use Rattle.lx_rules.specs.Limits.{max_rules};
 ghost use Rattle.lx_automaton.specs.Automata.{state_count, accepted_by, class_target};
 ghost use Rattle.lx_automaton.specs.EncodedOptions.{decoded_option};
 ghost use Rattle.lx_state_order.specs.Numbered.{AreAllMet, AreStarts, AreAccepted, AreRows, encoded_option_of, rule_below};
@@ -51,7 +52,7 @@ pub fn classes_of(alloc: Global, automaton: &Automaton) -> Result<Vec<u8>, Alloc
 /// The encoded option of the rule that a state accepts, where it is one of so many: of a state to which no text leads nothing is known.
 fn encoded_rule(automaton: &Automaton, state: u32, rules: u16) -> u16
     requires state { state < state_count automaton.now }
-    requires rules { rules ≤ 4096 }
+    requires rules { rules ≤ max_rules }
     ensures { decoded_option result ≡ rule_below rules (accepted_by automaton.now state) }
 {
     match automaton.accepts(State(state)) {
@@ -69,7 +70,7 @@ pub fn accepted_of(
 ) -> Result<Vec<u16>, AllocError>
     requires met { AreAllMet state_order.now.states.items state_order.now.encoded_options.items }
     requires long { length state_order.now.encoded_options.items ≡ state_count automaton.now }
-    requires rules { rules ≤ 4096 }
+    requires rules { rules ≤ max_rules }
     ensures { IfOk result (λ accepted. AreAccepted automaton.now rules state_order.now.states.items accepted.items (length state_order.now.states.items)) }
 {
     let mut accepted = Vec::new(alloc);

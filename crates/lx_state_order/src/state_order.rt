@@ -1,8 +1,8 @@
-// The order in which tables have the states of an automaton: the starts in the order of the conditions, for each first without line begin and
-// then at line begin, each state when it is first met; then those to which the states in order step, by rising class.
+//! The order in which tables have the states of an automaton: the starts in the order of the conditions, for each first without line begin and
+//! then at line begin, each state when it is first met; then those to which the states in order step, by rising class.
 
 ghost use Rattle.std.specs.Prelude.{◌≡◌, ◌≢◌, ◌<◌, ◌≤◌, ℕ, IfOk, OnOk, length, slice_index};
-ghost use Rattle.lx_automaton.specs.Automata.{state_count};
+ghost use Rattle.lx_automaton.specs.Automata.{state_count, max_states};
 ghost use Rattle.lx_state_order.specs.Numbered.{AreMet, AreAllMet};
 
 use lx_automaton::{Automaton, State};
@@ -21,7 +21,7 @@ pub struct StateOrder {
 fn meet(state_order: &mut StateOrder, state: u32) -> Result<(), AllocError>
     requires met { AreMet state_order.old.states.items state_order.old.encoded_options.items }
     requires state { state < length state_order.old.encoded_options.items }
-    requires few { length state_order.old.encoded_options.items ≤ 16512 }
+    requires few { length state_order.old.encoded_options.items ≤ max_states }
     ensures met { OnOk result (AreMet state_order.new.states.items state_order.new.encoded_options.items) }
     ensures long { OnOk result (length state_order.new.encoded_options.items ≡ length state_order.old.encoded_options.items) }
     ensures there { OnOk result (slice_index state_order.new.encoded_options.items state ≢ 0) }

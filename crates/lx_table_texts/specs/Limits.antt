@@ -3,7 +3,8 @@ use Rattle.std.specs.Prelude.{◌≡◌, ℕ, ◌*◌, ◌<◌, ◌≤◌, ◌==
 use Rattle.std.specs.List.{list_all}
 use Rattle.lx_rules.specs.Identifiers.{is_identifier}
 use Rattle.lx_rules.specs.Invariant.{are_distinct, are_steps}
-use Rattle.lx_automaton.specs.Automata.{Machine, IsMachine, accepted_by}
+use Rattle.lx_rules.specs.Limits.{max_start_conditions, max_kinds, max_rules}
+use Rattle.lx_automaton.specs.Automata.{Machine, IsMachine, accepted_by, max_states}
 use Rattle.lx_table_texts.specs.Model.{TableRule, Table}
 
 -- the machine is one, and each rule that it accepts is one of so many
@@ -13,7 +14,7 @@ pub record IsMachineFor (rules : ℕ) (m : Machine) : Type 0 where
 
 -- the names are few, identifiers, and each once
 pub record AreKinds (kinds : List (List ℕ)) : Type 0 where
-  pub few : length kinds ≤ 4096
+  pub few : length kinds ≤ max_kinds
   pub identifiers : IsTrue (list_all is_identifier kinds)
   pub distinct : IsTrue (are_distinct kinds)
 
@@ -24,7 +25,7 @@ are_rules conditions kinds rules = list_all (λ rule. are_steps conditions kinds
 pub record HasLimits (table : Table) : Type 0 where
   pub machine : IsMachineFor (length table.rules) table.machine
   pub kinds : AreKinds table.kinds
-  pub few_rules : length table.rules ≤ 4096
+  pub few_rules : length table.rules ≤ max_rules
   pub steps : IsTrue (are_rules (length table.machine.starts) (length table.kinds) table.rules)
 
 -- both states of a start are below
@@ -34,7 +35,7 @@ is_start states start = nat_lt start.0 states && nat_lt start.1 states
 -- the lists are as long as they are to be
 abbrev pub have_lengths : List (ℕ × ℕ) → List ℕ → ℕ → List ℕ → List ℕ → Bool
 have_lengths starts classes width accepted targets =
-    nat_lt 0 (length starts) && (nat_le (length starts) 64 && (length classes == 256 && (nat_le width 256 && (nat_le (length accepted) 16512 && length targets == length accepted * width))))
+    nat_lt 0 (length starts) && (nat_le (length starts) max_start_conditions && (length classes == 256 && (nat_le width 256 && (nat_le (length accepted) max_states && length targets == length accepted * width))))
 
 -- the numbers and encoded options in them are in range, where there are so many rules
 abbrev pub are_in_range : ℕ → List (ℕ × ℕ) → List ℕ → ℕ → List ℕ → List ℕ → Bool

@@ -6,6 +6,7 @@ use Rattle.lx_rules.specs.Plain.{PlainRule, PlainSpec}
 use Rattle.lx_rules.specs.Identifiers.{is_identifier}
 use Rattle.lx_rules.specs.Invariant.{are_distinct, are_steps}
 use Rattle.lx_rules.specs.declared.rule.Step.{Step}
+use Rattle.lx_rules.specs.Limits.{max_kinds, max_rules}
 use Rattle.lx_automaton.specs.Automata.{Machine, IsMachine, HasByteClasses, state_count, accepted_by, target_of, are_numbered}
 use Rattle.lx_automaton.specs.Meaning.{IsAutomatonOf}
 
@@ -34,10 +35,10 @@ kind_at table kind = slice_index_or table.kinds kind []
 pub record IsTable (table : Table) : Type 0 where
   pub machine : IsMachine table.machine
   pub classes : HasByteClasses table.machine
-  pub few_kinds : length table.kinds ≤ 4096
+  pub few_kinds : length table.kinds ≤ max_kinds
   pub identifiers : IsTrue (list_all is_identifier table.kinds)
   pub distinct : IsTrue (are_distinct table.kinds)
-  pub few_rules : length table.rules ≤ 4096
+  pub few_rules : length table.rules ≤ max_rules
   pub steps : IsTrue (list_all (λ rule. are_steps (length table.machine.starts) (length table.kinds) rule.steps) table.rules)
   pub accepted : (s r : ℕ) → accepted_by table.machine s ≡ Some r → r < length table.rules
 

@@ -7,7 +7,8 @@ use Rattle.std.specs.Char.{is_ascii_digit}
 use Rattle.lx_rules.specs.declared.rule.Kind.TheVariants.{Name, Number}
 use Rattle.lx_rules.specs.declared.rule.Step.{Step}
 use Rattle.lx_rules.specs.declared.rule.Step.TheVariants.{Echo, Begin, Return}
-use Rattle.lx_automaton.specs.Automata.{state_count, target_of}
+use Rattle.lx_rules.specs.Limits.{max_start_conditions, max_kinds, max_rules}
+use Rattle.lx_automaton.specs.Automata.{state_count, target_of, max_states}
 use Rattle.lx_table_texts.specs.Model.{TableRule, Table}
 use Rattle.lx_table_texts.specs.Texts.{all_bytes}
 use Rattle.lx_table_texts.specs.declared.version.Version.{Version}
@@ -63,7 +64,7 @@ read_kind text = read_line (drop 5 text)
 -- the step of a letter with a number
 abbrev pub step_of : ℕ → ℕ → Step
 step_of letter n =
-    if letter == 98 then (if nat_lt n 64 then Begin n else Echo)
+    if letter == 98 then (if nat_lt n max_start_conditions then Begin n else Echo)
     else if letter == 107 then Return (Name n) else Return (Number n)
 
 -- a step behind its space
@@ -92,14 +93,14 @@ pub record Front : Type 0 where
 
 abbrev pub read_front : List ℕ → Front × List ℕ
 read_front text =
-    let starts = read_list 64 11 read_start text in
-    let kinds = read_list 4096 6 read_kind starts.1 in
-    let rules = read_list 4096 6 read_rule kinds.1 in
+    let starts = read_list max_start_conditions 11 read_start text in
+    let kinds = read_list max_kinds 6 read_kind starts.1 in
+    let rules = read_list max_rules 6 read_rule kinds.1 in
     (record { starts = starts.0; kinds = kinds.0; rules = rules.0 }, rules.1)
 
 -- `-`, or a rule
 abbrev pub read_accepts : List ℕ → Option ℕ × List ℕ
-read_accepts text = let n = read_digits 0 text in if slice_index n.1 0 == 45 then (None, drop 1 n.1) else (below 4096 n.0, n.1)
+read_accepts text = let n = read_digits 0 text in if slice_index n.1 0 == 45 then (None, drop 1 n.1) else (below max_rules n.0, n.1)
 
 -- one range: its first byte, the one behind its last, and its value
 abbrev pub read_range : List ℕ → (ℕ × ℕ × ℕ) × List ℕ
@@ -131,7 +132,7 @@ read_row version width (suc most) from text =
     let low = within from width run.0.0 in
     let end = within low width run.0.1 in
     let more = read_row version width most end run.1 in
-    (replicate (low - from) None ++ replicate (end - low) (below 16512 run.0.2) ++ more.0, more.1))
+    (replicate (low - from) None ++ replicate (end - low) (below max_states run.0.2) ++ more.0, more.1))
     else (replicate (width - from) None, text)
 
 -- the line of a state: the rule that it accepts, and its row
@@ -155,7 +156,7 @@ read_lines version width (suc n) text =
 
 -- a count of states and their lines, which have at least 8 bytes each
 abbrev pub read_states : Version → ℕ → List ℕ → List (Option ℕ) × List (Option ℕ)
-read_states version width text = let n = read_count (min 16512 (length text / 8)) 7 text in read_lines version width n.0 n.1
+read_states version width text = let n = read_count (min max_states (length text / 8)) 7 text in read_lines version width n.0 n.1
 
 -- the class that was read for a byte
 abbrev pub class_of : Option ℕ → ℕ

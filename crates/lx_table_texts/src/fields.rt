@@ -1,9 +1,11 @@
-// The fields of a table's text, read leniently: each function answers for every text, with a value and what stands behind it.
+//! The fields of a table's text, read leniently: each function answers for every text, with a value and what stands behind it.
 
 ghost use Rattle.std.specs.Prelude.{◌≡◌, ◌<◌, ◌≤◌, ◌==◌, drop, slice_index};
 ghost use Rattle.lx_automaton.specs.EncodedOptions.{decoded_option};
+ghost use Rattle.lx_automaton.specs.Automata.{max_states};
 ghost use Rattle.lx_table_texts.specs.Readers.{read_digits, read_count, read_start, read_line, read_kind, read_step, read_accepts, read_range, read_entry, read_run, below, within, step_of};
 
+use crate::limits::{MAX_RULES, MAX_START_CONDITIONS, MAX_STATES};
 use crate::version::Version;
 use lx_rules::rule::{Kind, Step};
 
@@ -96,7 +98,7 @@ fn numbered_step(letter: u8, n: u32) -> Step
     ensures { result ≡ step_of letter n }
 {
     match letter {
-        b'b' if n < 64 => Step::Begin(n as u16),
+        b'b' if n < MAX_START_CONDITIONS as u32 => Step::Begin(n as u16),
         b'b' => Step::Echo,
         b'k' => Step::Return(Kind::Name(n)),
         _ => Step::Return(Kind::Number(n)),
@@ -125,7 +127,7 @@ pub(crate) fn accepts(text: &[u8]) -> (u16, &[u8])
     if byte_at(rest, 0) == b'-' {
         return (0, behind(rest, 1));
     }
-    (encoded_option_below(4096, rule), rest)
+    (encoded_option_below(MAX_RULES as u32, rule), rest)
 }
 
 /// A range of bytes: its first, the one behind its last, and its value.
@@ -159,7 +161,7 @@ pub(crate) fn run(text: &[u8], version: Version) -> ((u32, u32, u32), &[u8])
 
 /// A run's value as an encoded option, which is 0 where that is no number of a state.
 pub(crate) fn encoded_value(value: u32) -> u16
-    ensures { decoded_option result ≡ below 16512 value }
+    ensures { decoded_option result ≡ below max_states value }
 {
-    encoded_option_below(16512, value)
+    encoded_option_below(MAX_STATES as u32, value)
 }

@@ -1,7 +1,8 @@
-// A table's text, read leniently: each function answers for every text, with the lists that it has if it is one.
+//! A table's text, read leniently: each function answers for every text, with the lists that it has if it is one.
 
 ghost use Rattle.std.specs.Prelude.{◌≡◌, ◌++◌, ◌≤◌, ◌/◌, IfOk, OnOk, length, map, min, replicate};
 ghost use Rattle.lx_rules.specs.views.Rules.{names_view};
+ghost use Rattle.lx_rules.specs.Limits.{max_kinds, max_rules, max_start_conditions};
 ghost use Rattle.lx_automaton.specs.EncodedOptions.{decoded_option};
 ghost use Rattle.lx_table_texts.specs.Readers.{onto, state_onto, read_list, read_start, read_kind, read_rule, read_steps, read_front, read_row, read_state, read_lines, read_states, read_1, read_2, read_text, read_classes, class_of};
 ghost use Rattle.lx_table_texts.specs.Texts.{all_bytes};
@@ -10,6 +11,7 @@ ghost use Rattle.lx_table_texts.specs.Views.{rule_view, rules_view, front_view, 
 use crate::fields::{
     accepts, behind, byte_at, clamped, count, encoded_value, kind, run, start, step,
 };
+use crate::limits::{MAX_KINDS, MAX_RULES, MAX_START_CONDITIONS, MAX_STATES};
 use crate::raw::{RawFront, RawTables};
 use crate::table_rule::TableRule;
 use crate::version::Version;
@@ -19,9 +21,9 @@ use std::alloc::{AllocError, Global};
 
 /// A count of conditions and their starts.
 fn starts(alloc: Global, text: &[u8]) -> Result<(Vec<(u32, u32)>, &[u8]), AllocError>
-    ensures { IfOk result (λ r. (r.0.items, r.1.now) ≡ read_list 64 11 read_start text.now) }
+    ensures { IfOk result (λ r. (r.0.items, r.1.now) ≡ read_list max_start_conditions 11 read_start text.now) }
 {
-    let (many, first) = count(text, 11, 64);
+    let (many, first) = count(text, 11, MAX_START_CONDITIONS as u32);
     let mut starts = Vec::new(alloc);
     let mut rest = first;
     for _ in 0..many {
@@ -34,9 +36,9 @@ fn starts(alloc: Global, text: &[u8]) -> Result<(Vec<(u32, u32)>, &[u8]), AllocE
 
 /// A count of kinds and their names.
 fn kinds(alloc: Global, text: &[u8]) -> Result<(Vec<Vec<u8>>, &[u8]), AllocError>
-    ensures { IfOk result (λ r. (names_view r.0.items, r.1.now) ≡ read_list 4096 6 read_kind text.now) }
+    ensures { IfOk result (λ r. (names_view r.0.items, r.1.now) ≡ read_list max_kinds 6 read_kind text.now) }
 {
-    let (many, first) = count(text, 6, 4096);
+    let (many, first) = count(text, 6, MAX_KINDS as u32);
     let mut kinds = Vec::new(alloc);
     let mut rest = first;
     for _ in 0..many {
@@ -75,9 +77,9 @@ fn rule(alloc: Global, text: &[u8]) -> Result<(TableRule, &[u8]), AllocError>
 
 /// A count of rules and their lines.
 fn rules(alloc: Global, text: &[u8]) -> Result<(Vec<TableRule>, &[u8]), AllocError>
-    ensures { IfOk result (λ r. (rules_view r.0.items, r.1.now) ≡ read_list 4096 6 read_rule text.now) }
+    ensures { IfOk result (λ r. (rules_view r.0.items, r.1.now) ≡ read_list max_rules 6 read_rule text.now) }
 {
-    let (many, first) = count(text, 6, 4096);
+    let (many, first) = count(text, 6, MAX_RULES as u32);
     let mut rules = Vec::new(alloc);
     let mut rest = first;
     for _ in 0..many {
@@ -170,7 +172,7 @@ fn states(
 ) -> Result<(Vec<u16>, Vec<u16>), AllocError>
     ensures { IfOk result (λ r. (map decoded_option r.0.items, map decoded_option r.1.items) ≡ read_states version width text.now) }
 {
-    let (many, first) = count(text, 7, (text.len() / 8).min(16512) as u32);
+    let (many, first) = count(text, 7, (text.len() / 8).min(MAX_STATES) as u32);
     let mut accepted = Vec::new(alloc);
     let mut targets = Vec::new(alloc);
     let mut rest = first;

@@ -1,10 +1,11 @@
-// Tests of lists that were read: whether they can be those of tables.
+//! Tests of lists that were read: whether they can be those of tables.
 
 ghost use Rattle.std.specs.Prelude.{◌≡◌, ◌≤◌, ◌↔◌, nat_lt, nat_le, IsTrue, IfOk, length};
 ghost use Rattle.std.specs.List.{list_all};
 ghost use Rattle.lx_rules.specs.Identifiers.{is_identifier};
 ghost use Rattle.lx_rules.specs.Invariant as invariant;
 ghost use Rattle.lx_rules.specs.views.Rules.{names_view};
+ghost use Rattle.lx_rules.specs.Limits.{max_rules};
 ghost use Rattle.lx_automaton.specs.EncodedOptions.{machine_of};
 ghost use Rattle.lx_table_texts.specs.Limits as limits;
 ghost use Rattle.lx_table_texts.specs.Limits.{AreKinds, HasLimits, IsMachineFor};
@@ -18,15 +19,27 @@ use lx_rules::rule::{Kind, Step};
 use std::alloc::{AllocError, Global};
 use std::collections::BTreeMap;
 
+/// The most start conditions of tables.
+pub(crate) const MAX_START_CONDITIONS: usize = 64;
+
+/// The most kinds that have names.
+pub(crate) const MAX_KINDS: usize = 4_096;
+
+/// The most rules.
+pub(crate) const MAX_RULES: usize = 4_096;
+
+/// The most states.
+pub(crate) const MAX_STATES: usize = 16_512;
+
 // Whether the lists are as long as they are to be. What is read leniently is, but for the conditions; to test it is cheaper than to prove that.
 fn have_lengths(raw: &RawTables) -> bool
     ensures { result ≡ limits.have_lengths raw.now.starts.items raw.now.classes.items raw.now.width raw.now.accepted.items raw.now.targets.items }
 {
     !raw.starts.is_empty()
-        && raw.starts.len() <= 64
+        && raw.starts.len() <= MAX_START_CONDITIONS
         && raw.classes.len() == 256
         && raw.width <= 256
-        && raw.accepted.len() <= 16512
+        && raw.accepted.len() <= MAX_STATES
         && raw.targets.len() == raw.accepted.len() * raw.width
 }
 
@@ -62,7 +75,7 @@ fn are_in_range(raw: &RawTables) -> bool
 }
 
 fn is_machine(raw: &RawTables) -> bool
-    requires { length raw.now.rules.items ≤ 4096 }
+    requires { length raw.now.rules.items ≤ max_rules }
     ensures { IsTrue result ↔ IsMachineFor (length raw.now.rules.items) (raw_view raw.now).machine }
 {
     have_lengths(raw) && are_in_range(raw)
@@ -130,7 +143,7 @@ fn are_distinct(alloc: Global, names: &[Vec<u8>]) -> Result<bool, AllocError>
 fn are_kinds(alloc: Global, names: &[Vec<u8>]) -> Result<bool, AllocError>
     ensures { IfOk result (λ yes. IsTrue yes ↔ AreKinds (names_view names.now)) }
 {
-    if names.len() > 4096 {
+    if names.len() > MAX_KINDS {
         return Ok(false);
     }
     if !are_identifiers(names) {
@@ -143,7 +156,7 @@ fn are_kinds(alloc: Global, names: &[Vec<u8>]) -> Result<bool, AllocError>
 pub fn has_limits(alloc: Global, raw: &RawTables) -> Result<bool, AllocError>
     ensures { IfOk result (λ yes. IsTrue yes ↔ HasLimits (raw_view raw.now)) }
 {
-    if raw.rules.len() > 4096 {
+    if raw.rules.len() > MAX_RULES {
         return Ok(false);
     }
     if !is_machine(raw) {

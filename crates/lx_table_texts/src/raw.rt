@@ -1,4 +1,4 @@
-// The lists of a table as they were read, which nothing has tested yet.
+//! The lists of a table as they were read, which nothing has tested yet.
 
 use crate::table_rule::TableRule;
 

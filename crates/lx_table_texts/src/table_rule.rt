@@ -1,4 +1,4 @@
-// What tables keep of a rule.
+//! What tables keep of a rule.
 
 use lx_rules::steps::Steps;
 

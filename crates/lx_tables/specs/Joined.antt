@@ -108,6 +108,10 @@ joined_states table = length table.machine.starts * 2 * (state_count table.machi
 abbrev pub joined_len : Table → ℕ
 joined_len table = joined_states table * joined_width table
 
+-- tables with more entries have no joined table
+abbrev pub max_joined_entries : ℕ
+max_joined_entries = 524288
+
 -- an entry: where the row of the state begins, and what has ended
 abbrev pub joined_entry : Table → ℕ × JoinedState → Transition
 joined_entry table found = record { row = joined_number table found.1 * joined_width table; code = found.0 }

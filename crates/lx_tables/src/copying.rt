@@ -1,4 +1,4 @@
-// What tables have of a specification: its kinds, and of its rules the line ends and the steps.
+//! What tables have of a specification: its kinds, and of its rules the line ends and the steps.
 
 ghost use Rattle.std.specs.Prelude.{◌≡◌, IfOk, map};
 ghost use Rattle.lx_rules.specs.views.Specs.{spec_view};

@@ -1,4 +1,5 @@
-// Why tables aren't read.
+//! Why tables aren't read.
+
 ghost use Rattle.std.specs.Prelude.{◌≡◌};
 ghost use Rattle.lx_tables.specs.declared.fault.TableFault.TheVariants.{Memory};
 

@@ -3,7 +3,7 @@
 ghost use Rattle.std.specs.Prelude.{if◌then◌else◌, ◌≡◌, ◌<◌, ◌≤◌, ◌+◌, ◌*◌, ◌/◌, ℕ, IfOk, OnOk, length, nat_eq, slice_index, Some};
 ghost use Rattle.std.specs.Option.{ForSome};
 ghost use Rattle.lx_automaton.specs.Automata.{state_count, accepted_at, class_target};
-ghost use Rattle.lx_tables.specs.Joined.{AreEntries, AreLabels, IsJoined, IsJoinedState, begun, class_of_column, column_of, condition_behind, condition_behind_rule, encoded, ended, giving, item_count, joined_entry, joined_len, joined_number, joined_state_at, joined_states, joined_step, joined_width, rule_ended, target_from};
+ghost use Rattle.lx_tables.specs.Joined.{AreEntries, AreLabels, IsJoined, IsJoinedState, begun, class_of_column, column_of, condition_behind, condition_behind_rule, encoded, ended, giving, item_count, joined_entry, joined_len, joined_number, joined_state_at, joined_states, joined_step, joined_width, rule_ended, target_from, max_joined_entries};
 ghost use Rattle.lx_tables.specs.Labels.{step_of_label};
 ghost use Rattle.lx_table_texts.specs.Model.{IsTable};
 
@@ -185,7 +185,7 @@ fn step(
 // The entry of a state in a column.
 fn entry(tables: &Tables, q: JoinedState, ending: Ending, column: u16) -> Transition
     requires table { IsTable tables.now }
-    requires room { joined_len tables.now ≤ 524288 }
+    requires room { joined_len tables.now ≤ max_joined_entries }
     requires known { IsJoinedState tables.now q }
     requires column { column < joined_width tables.now }
     requires code { ending.code ≡ ended tables.now q.state }
@@ -209,7 +209,7 @@ fn entry(tables: &Tables, q: JoinedState, ending: Ending, column: u16) -> Transi
 // Adds the row of a state.
 fn add_row(tables: &Tables, number: usize, entries: &mut Vec<Transition>) -> Result<(), AllocError>
     requires table { IsTable tables.now }
-    requires room { joined_len tables.now ≤ 524288 }
+    requires room { joined_len tables.now ≤ max_joined_entries }
     requires number { number < joined_states tables.now }
     requires entries { AreEntries tables.now entries.old.items (number * joined_width tables.now) }
     ensures { OnOk result (AreEntries tables.now entries.new.items ((number + 1) * joined_width tables.now)) }
@@ -225,7 +225,7 @@ fn add_row(tables: &Tables, number: usize, entries: &mut Vec<Transition>) -> Res
 // The entries of all states.
 fn entries_of(alloc: Global, tables: &Tables, states: usize) -> Result<Vec<Transition>, AllocError>
     requires table { IsTable tables.now }
-    requires room { joined_len tables.now ≤ 524288 }
+    requires room { joined_len tables.now ≤ max_joined_entries }
     requires states { states ≡ joined_states tables.now }
     ensures { IfOk result (λ entries. AreEntries tables.now entries.items (joined_len tables.now)) }
 {

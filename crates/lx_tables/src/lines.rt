@@ -1,4 +1,4 @@
-// The lines of a table's text.
+//! The lines of a table's text.
 
 ghost use Rattle.std.specs.Prelude.{◌≡◌, ◌<◌, ◌≤◌, ◌+◌, ◌++◌, ◌∷◌, ℕ, List, OnOk, OnErr, codes, drop, length};
 ghost use Rattle.std.specs.List.{flat_map};

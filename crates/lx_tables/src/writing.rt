@@ -1,4 +1,4 @@
-// Bytes and numbers, written without memory. A write of 0 bytes or an error is a fault, behind which a prefix was written.
+//! Bytes and numbers, written without memory. A write of 0 bytes or an error is a fault, behind which a prefix was written.
 
 ghost use Rattle.std.specs.Prelude.{◌++◌, OnOk, OnErr};
 ghost use Rattle.std.specs.List.{flat_map};

@@ -1,12 +1,11 @@
 -- What tables a text has, and why it has none.
-use Rattle.std.specs.Prelude.{◌≡◌, ◌≢◌, ℕ, ◌<◌, ◌≤◌, ⊤, List}
+use Rattle.std.specs.Prelude.{◌≡◌, ◌≢◌, ℕ, ⊤, List}
 use Rattle.lx_rules.specs.Plain.{PlainSpec}
 use Rattle.lx_spec.specs.Whole.{IsFault, IsRead}
 use Rattle.lx_sections.specs.declared.fault.Code.TheVariants as code
-use Rattle.lx_auto.specs.Counts.{count_of_spec}
-use Rattle.lx_auto.specs.PositionSets.{HasMoreReachedSets}
 use Rattle.lx_auto.specs.declared.fault.BuildFault.{BuildFault}
 use Rattle.lx_auto.specs.declared.fault.BuildFault.TheVariants as build
+use Rattle.lx_auto.specs.TooLarge.{HasTooManyPositions, HasTooManySets}
 use Rattle.lx_table_texts.specs.Model.{Table, IsTable, AreTablesOf}
 use Rattle.lx_table_texts.specs.Reading.{IsTextOf}
 use Rattle.lx_tool.specs.declared.failure.Failure.{Failure}
@@ -27,8 +26,8 @@ pub record IsTooLarge (text : List ℕ) (fault : BuildFault) : Type 0 where
   pub spec : PlainSpec
   pub read : IsRead text spec
   pub known : fault ≢ build.Memory
-  pub positions : fault ≡ build.TooManyPositions → 16384 < count_of_spec spec
-  pub sets : fault ≡ build.TooManySets → (count_of_spec spec ≤ 16384) × HasMoreReachedSets spec 16384
+  pub positions : fault ≡ build.TooManyPositions → HasTooManyPositions spec
+  pub sets : fault ≡ build.TooManySets → HasTooManySets spec
 
 -- why a text has no tables: what is wrong with it, or that memory was refused
 abbrev pub HasNoTables : List ℕ → Failure → Type 0

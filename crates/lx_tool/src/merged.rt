@@ -1,11 +1,10 @@
 //! The automaton that a specification's files are scanned by.
 
 ghost use Rattle.std.specs.Prelude.{◌≡◌, ◌<◌, ◌≤◌, IfOk, IfErr};
-ghost use Rattle.lx_auto.specs.Counts.{count_of_spec};
 ghost use Rattle.lx_automaton.specs.Equivalence.{IsMinimal, HasLiveSteps};
 ghost use Rattle.lx_automaton.specs.Meaning.{IsAutomatonOf};
-ghost use Rattle.lx_auto.specs.PositionSets.{HasMoreReachedSets};
 ghost use Rattle.lx_rules.specs.views.Specs.{spec_view};
+ghost use Rattle.lx_auto.specs.TooLarge.{HasTooManyPositions, HasTooManySets};
 
 use lx_auto::{BuildFault, build, merge};
 use lx_automaton::Automaton;
@@ -18,8 +17,8 @@ pub(crate) fn merged_automaton(alloc: Global, spec: &Spec) -> Result<Automaton, 
     ensures automaton { IfOk result (λ a. IsAutomatonOf (spec_view spec.now) a) }
     ensures minimal { IfOk result (λ a. IsMinimal a) }
     ensures live { IfOk result (λ a. HasLiveSteps a) }
-    ensures positions { IfErr result (λ e. e ≡ BuildFault.TooManyPositions → 16384 < count_of_spec (spec_view spec.now)) }
-    ensures sets { IfErr result (λ e. e ≡ BuildFault.TooManySets → (count_of_spec (spec_view spec.now) ≤ 16384) × HasMoreReachedSets (spec_view spec.now) 16384) }
+    ensures positions { IfErr result (λ e. e ≡ BuildFault.TooManyPositions → HasTooManyPositions (spec_view spec.now)) }
+    ensures sets { IfErr result (λ e. e ≡ BuildFault.TooManySets → HasTooManySets (spec_view spec.now)) }
 {
     let built = build(alloc, spec)?;
     Ok(merge(alloc, &built)?)

@@ -272,7 +272,7 @@ fn say<'a, O: Write>(
     }
 }
 
-// Does what a request asks for. Nothing but a listing has files.
+// Does what a request asks for. Of all requests a listing alone tells of files that were cut short.
 fn carry_out<'a, R: Threads + Wait + Sync, S: Sources, T: Targets, O: Write>(
     rt: &R,
     alloc: Global,

@@ -1,7 +1,6 @@
 -- What is wrong with the text of a specification.
-use Rattle.std.specs.Prelude.{ℕ, ◌<◌, ◌≤◌, List}
-use Rattle.lx_auto.specs.Counts.{count_of_spec}
-use Rattle.lx_auto.specs.PositionSets.{HasMoreReachedSets}
+use Rattle.std.specs.Prelude.{ℕ, List}
+use Rattle.lx_auto.specs.TooLarge.{HasTooManyPositions, HasTooManySets}
 use Rattle.lx_rules.specs.Plain.{PlainSpec}
 use Rattle.lx_spec.specs.Whole.{IsFault, IsRead}
 use Rattle.lx_verdict.specs.declared.finding.Finding.{Finding}
@@ -10,8 +9,8 @@ use Rattle.lx_verdict.specs.declared.finding.Finding.TheVariants.{Specification,
 -- in which way a specification is too large for tables: of positions, or of reached sets
 abbrev pub IsTooLarge : PlainSpec → Finding → Type 0
 IsTooLarge spec (Specification fault) = ⊥
-IsTooLarge spec TooManyPositions = 16384 < count_of_spec spec
-IsTooLarge spec TooManySets = (count_of_spec spec ≤ 16384) × HasMoreReachedSets spec 16384
+IsTooLarge spec TooManyPositions = HasTooManyPositions spec
+IsTooLarge spec TooManySets = HasTooManySets spec
 
 -- the text says a specification that is too large
 pub record SaysTooLarge (text : List ℕ) (finding : Finding) : Type 0 where

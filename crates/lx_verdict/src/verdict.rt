@@ -2,10 +2,11 @@
 
 ghost use Rattle.std.specs.Prelude.{◌≡◌, ◌<◌, ◌≤◌, ℕ, List, IfOk, IfErr};
 ghost use Rattle.lx_auto.specs.Counts.{count_of_spec};
-ghost use Rattle.lx_auto.specs.PositionSets.{HasMoreReachedSets};
 ghost use Rattle.lx_automaton.specs.Meaning.{IsAutomatonOf};
 ghost use Rattle.lx_rules.specs.views.Specs.{spec_view};
+ghost use Rattle.lx_rules.specs.Limits.{max_positions};
 ghost use Rattle.lx_spec.specs.Whole.{IsFault, IsRead};
+ghost use Rattle.lx_auto.specs.TooLarge.{HasTooManyPositions, HasTooManySets};
 ghost use Rattle.lx_table_texts.specs.Model.{AreTablesOf};
 ghost use Rattle.lx_verdict.specs.Verdicts.{IsTooLarge};
 
@@ -35,9 +36,9 @@ pub fn read(alloc: Global, text: &[u8]) -> Result<Result<Spec, SpecFault>, Alloc
 // The merged automaton of a specification.
 fn automaton_of(alloc: Global, spec: &Spec) -> Result<Automaton, BuildFault>
     ensures automaton { IfOk result (λ a. IsAutomatonOf (spec_view spec.now) a) }
-    ensures few_positions { IfOk result (λ _. count_of_spec (spec_view spec.now) ≤ 16384) }
-    ensures positions { IfErr result (λ e. e ≡ BuildFault.TooManyPositions → 16384 < count_of_spec (spec_view spec.now)) }
-    ensures sets { IfErr result (λ e. e ≡ BuildFault.TooManySets → (count_of_spec (spec_view spec.now) ≤ 16384) × HasMoreReachedSets (spec_view spec.now) 16384) }
+    ensures few_positions { IfOk result (λ _. count_of_spec (spec_view spec.now) ≤ max_positions) }
+    ensures positions { IfErr result (λ e. e ≡ BuildFault.TooManyPositions → HasTooManyPositions (spec_view spec.now)) }
+    ensures sets { IfErr result (λ e. e ≡ BuildFault.TooManySets → HasTooManySets (spec_view spec.now)) }
 {
     let built = build(alloc, spec)?;
     Ok(merge(alloc, &built)?)
@@ -46,7 +47,7 @@ fn automaton_of(alloc: Global, spec: &Spec) -> Result<Automaton, BuildFault>
 /// The tables of a specification, or why it has none: it is too large. Err: memory was refused.
 pub fn tables_of(alloc: Global, spec: &Spec) -> Result<Result<Tables, Finding>, AllocError>
     ensures ok { IfOk result (λ made. IfOk made (λ tables. AreTablesOf (spec_view spec.now) tables)) }
-    ensures few_positions { IfOk result (λ made. IfOk made (λ _. count_of_spec (spec_view spec.now) ≤ 16384)) }
+    ensures few_positions { IfOk result (λ made. IfOk made (λ _. count_of_spec (spec_view spec.now) ≤ max_positions)) }
     ensures err { IfOk result (λ made. IfErr made (IsTooLarge (spec_view spec.now))) }
 {
     match automaton_of(alloc, spec) {

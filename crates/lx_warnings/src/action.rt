@@ -1,4 +1,4 @@
-// Actions.
+//! Actions.
 
 use crate::kinds::{KindSet, WarningKind};
 use crate::suspects::{Suspect, push_part};

@@ -1,4 +1,4 @@
-// Comments that switch warnings off for what stands on the next line.
+//! Comments that switch warnings off for what stands on the next line.
 
 use crate::kinds::{KindSet, kind_named};
 use lx_diagnose::Span;

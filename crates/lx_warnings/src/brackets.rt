@@ -1,4 +1,4 @@
-// Bracket expressions that may mean something else to their writer.
+//! Bracket expressions that may mean something else to their writer.
 
 use crate::kinds::{KindSet, WarningKind};
 use crate::suspects::{Suspect, push_part};

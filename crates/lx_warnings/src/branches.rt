@@ -1,4 +1,4 @@
-// The branches of a pattern, as its lexemes are read.
+//! The branches of a pattern, as its lexemes are read.
 
 use lx_diagnose::Span;
 use lx_lexemes::lexeme::Lexeme;

@@ -1,4 +1,4 @@
-// Escapes that may mean something else to their writer.
+//! Escapes that may mean something else to their writer.
 
 use crate::kinds::{KindSet, WarningKind};
 use crate::suspects::{Suspect, push_part};

@@ -1,4 +1,4 @@
-// Where the parts of a specification stand, of which it is known that it is accepted.
+//! Where the parts of a specification stand, of which it is known that it is accepted.
 
 use crate::allowing::allowed_by;
 use crate::kinds::KindSet;

@@ -1,4 +1,4 @@
-// Lexemes of a pattern that may mean something else to their writer.
+//! Lexemes of a pattern that may mean something else to their writer.
 
 use crate::brackets::{character_before, look_at_brackets};
 use crate::branches::{Branch, Branches};

@@ -1,4 +1,4 @@
-// What is said of a rule that is never chosen.
+//! What is said of a rule that is never chosen.
 
 use crate::warnings::Known;
 use lx_diagnose::wording::{Fillings, filled};

@@ -1,4 +1,4 @@
-// Patterns and what stands for names, lexeme by lexeme as they are read.
+//! Patterns and what stands for names, lexeme by lexeme as they are read.
 
 use crate::branches::{branches_at, take_lexeme};
 use crate::kinds::KindSet;

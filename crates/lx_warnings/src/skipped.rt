@@ -1,4 +1,4 @@
-// Lines that are skipped and look like rules.
+//! Lines that are skipped and look like rules.
 
 use crate::kinds::{KindSet, WarningKind};
 use crate::layout::Layout;

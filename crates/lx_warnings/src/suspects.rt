@@ -1,4 +1,4 @@
-// What was found so far, without words.
+//! What was found so far, without words.
 
 use crate::kinds::{KindSet, WarningKind};
 use lx_diagnose::Span;

@@ -1,4 +1,4 @@
-// All that is suspicious about a text.
+//! All that is suspicious about a text.
 
 ghost use Rattle.std.specs.Prelude.{◌<◌, length};
 

@@ -1,3 +1,5 @@
+//! Where a worker may be held.
+
 /// Where a worker may be held. Each worker passes it before it cuts a piece, up to and with the last piece of the file.
 pub trait Gate {
     /// Worker `worker` is about to cut the piece with this number of this file.

@@ -1,3 +1,5 @@
+//! What a worker is given, and what becomes of it.
+
 use crate::run_fault::RunFault;
 use lx_claims::ClaimSeat;
 use lx_notes::{SendPass, TakePass};

@@ -1,3 +1,5 @@
+//! A gate for tests, at which two workers meet.
+
 ghost use Rattle.std.specs.Prelude.{◌<◌};
 
 use crate::gate::Gate;

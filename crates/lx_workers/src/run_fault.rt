@@ -1,3 +1,5 @@
+//! Why a run failed.
+
 use lx_piece::RelayFault;
 use std::alloc::AllocError;
 use thiserror::Error;

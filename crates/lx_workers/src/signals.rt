@@ -1,3 +1,5 @@
+//! What the threads of a run tell each other beside the post.
+
 ghost use Rattle.std.specs.Prelude.{◌<◌};
 ghost use Rattle.lx_plan.specs.Plans.{max_workers};
 

@@ -2,11 +2,10 @@ use Rattle.std.proofs.Common.{◌≡◌, ◌≤◌, ◌+◌, ◌*◌, ◌-◌, �
 use Rattle.lx_lexemes.specs.Regex.{Regex}
 use Rattle.lx_rules.specs.views.Specs.{spec_view}
 use Rattle.lx_auto.specs.Unfolded.{Unfolded}
-use Rattle.lx_auto.specs.LeafViews.{leaves_view}
 use Rattle.lx_auto.specs.Marking.{flag}
 use Rattle.lx_auto.specs.SetTable.{IsNumbering}
-use Rattle.lx_auto.specs.Exploring.{IsExplored, start_count}
-use Rattle.lx_auto.specs.PositionTables.{ArePositionsOf, AreMatchedBelow}
+use Rattle.lx_auto.specs.Exploring.{start_count}
+use Rattle.lx_auto.specs.PositionTables.{ArePositionsOf, AreMatchedBelow, IsExploredBy}
 use Rattle.lx_auto.proofs.explore.explore.Given as goal
 
 abbrev pub invariant-starts : goal.invariant-starts
@@ -14,7 +13,7 @@ invariant-starts l = record {
   numbering : IsNumbering l.table.sets.items l.table.numbers;
   room : length l.table.sets.items ≤ l.limit;
   explored : (tree_of : Regex → Unfolded) → ArePositionsOf (spec_view l.spec) tree_of l.positions →
-      IsExplored (spec_view l.spec) tree_of (leaves_view l.positions.leaves.items) l.positions.groups.representatives.items l.table.sets.items l.targets.items (2 * l.condition);
+      IsExploredBy (spec_view l.spec) tree_of l.positions l.table.sets.items l.targets.items (2 * l.condition);
 }
 
 abbrev pub invariant-sets : goal.invariant-sets
@@ -27,8 +26,7 @@ invariant-sets l = record {
   clear_marks : (q : ℕ) → flag l.marks.items q ≡ false;
   clear_reads : (tree_of : Regex → Unfolded) → ArePositionsOf (spec_view l.spec) tree_of l.positions → (q : ℕ) → flag l.reads.items q ≡ false;
   explored : (tree_of : Regex → Unfolded) → ArePositionsOf (spec_view l.spec) tree_of l.positions →
-      IsExplored (spec_view l.spec) tree_of (leaves_view l.positions.leaves.items) l.positions.groups.representatives.items l.table.sets.items l.targets.items
-      (start_count (spec_view l.spec) + length l.matched.items);
+      IsExploredBy (spec_view l.spec) tree_of l.positions l.table.sets.items l.targets.items (start_count (spec_view l.spec) + length l.matched.items);
   matched : (tree_of : Regex → Unfolded) → ArePositionsOf (spec_view l.spec) tree_of l.positions →
       AreMatchedBelow (spec_view l.spec) tree_of l.table.sets.items l.matched.items (length l.matched.items);
 }

@@ -17,23 +17,23 @@ returns-in_err-write_actions_array-clause-err g c =
     let p = err_from_is_err_and c.from_residual-in_err-write_actions_array.result c.from_residual-in_err-write_actions_array.ensures.1 in
     rw p.1 (prefix_more _ (prefix_more _ (prefix_more _ (prefix_more _ (prefix_then (wrote_both c.in_ok-write_steps_arrays.ensures.ok c.in_ok-write_steps.ensures.ok) c.in_err-write_actions_array.ensures.err)))))
 
-pub returns-in_err-write_cuts-clause-err : goal.returns-in_err-write_cuts-clause-err
-returns-in_err-write_cuts-clause-err g c =
-    let p = err_from_is_err_and c.from_residual-in_err-write_cuts.result c.from_residual-in_err-write_cuts.ensures.1 in
-    rw p.1 (prefix_more _ (prefix_more _ (prefix_more _ (prefix_then (wrote_both (wrote_both c.in_ok-write_steps_arrays.ensures.ok c.in_ok-write_steps.ensures.ok) c.in_ok-write_actions_array.ensures.ok) c.in_err-write_cuts.ensures.err))))
+pub returns-in_err-write_line_ends-clause-err : goal.returns-in_err-write_line_ends-clause-err
+returns-in_err-write_line_ends-clause-err g c =
+    let p = err_from_is_err_and c.from_residual-in_err-write_line_ends.result c.from_residual-in_err-write_line_ends.ensures.1 in
+    rw p.1 (prefix_more _ (prefix_more _ (prefix_more _ (prefix_then (wrote_both (wrote_both c.in_ok-write_steps_arrays.ensures.ok c.in_ok-write_steps.ensures.ok) c.in_ok-write_actions_array.ensures.ok) c.in_err-write_line_ends.ensures.err))))
 
 pub returns-in_err-write_pending-clause-err : goal.returns-in_err-write_pending-clause-err
 returns-in_err-write_pending-clause-err g c =
     let p = err_from_is_err_and c.from_residual-in_err-write_pending.result c.from_residual-in_err-write_pending.ensures.1 in
-    rw p.1 (prefix_more _ (prefix_more _ (prefix_then (wrote_both (wrote_both (wrote_both c.in_ok-write_steps_arrays.ensures.ok c.in_ok-write_steps.ensures.ok) c.in_ok-write_actions_array.ensures.ok) c.in_ok-write_cuts.ensures.ok) c.in_err-write_pending.ensures.err)))
+    rw p.1 (prefix_more _ (prefix_more _ (prefix_then (wrote_both (wrote_both (wrote_both c.in_ok-write_steps_arrays.ensures.ok c.in_ok-write_steps.ensures.ok) c.in_ok-write_actions_array.ensures.ok) c.in_ok-write_line_ends.ensures.ok) c.in_err-write_pending.ensures.err)))
 
 pub returns-in_err-write_names-clause-err : goal.returns-in_err-write_names-clause-err
 returns-in_err-write_names-clause-err g c =
     let p = err_from_is_err_and c.from_residual-in_err-write_names.result c.from_residual-in_err-write_names.ensures.1 in
-    rw p.1 (prefix_more _ (prefix_then (wrote_both (wrote_both (wrote_both (wrote_both c.in_ok-write_steps_arrays.ensures.ok c.in_ok-write_steps.ensures.ok) c.in_ok-write_actions_array.ensures.ok) c.in_ok-write_cuts.ensures.ok) c.in_ok-write_pending.ensures.ok) c.in_err-write_names.ensures.err))
+    rw p.1 (prefix_more _ (prefix_then (wrote_both (wrote_both (wrote_both (wrote_both c.in_ok-write_steps_arrays.ensures.ok c.in_ok-write_steps.ensures.ok) c.in_ok-write_actions_array.ensures.ok) c.in_ok-write_line_ends.ensures.ok) c.in_ok-write_pending.ensures.ok) c.in_err-write_names.ensures.err))
 
 pub returns-clause-err : goal.returns-clause-err
-returns-clause-err g c = on_err_weaker c.write_kinds_array.result (λ h. prefix_then (wrote_both (wrote_both (wrote_both (wrote_both (wrote_both c.in_ok-write_steps_arrays.ensures.ok c.in_ok-write_steps.ensures.ok) c.in_ok-write_actions_array.ensures.ok) c.in_ok-write_cuts.ensures.ok) c.in_ok-write_pending.ensures.ok) c.in_ok-write_names.ensures.ok) h) c.write_kinds_array.ensures.err
+returns-clause-err g c = on_err_weaker c.write_kinds_array.result (λ h. prefix_then (wrote_both (wrote_both (wrote_both (wrote_both (wrote_both c.in_ok-write_steps_arrays.ensures.ok c.in_ok-write_steps.ensures.ok) c.in_ok-write_actions_array.ensures.ok) c.in_ok-write_line_ends.ensures.ok) c.in_ok-write_pending.ensures.ok) c.in_ok-write_names.ensures.ok) h) c.write_kinds_array.ensures.err
 
 pub returns-clause-ok : goal.returns-clause-ok
-returns-clause-ok g c = on_ok_weaker c.write_kinds_array.result (λ h. wrote_both (wrote_both (wrote_both (wrote_both (wrote_both (wrote_both c.in_ok-write_steps_arrays.ensures.ok c.in_ok-write_steps.ensures.ok) c.in_ok-write_actions_array.ensures.ok) c.in_ok-write_cuts.ensures.ok) c.in_ok-write_pending.ensures.ok) c.in_ok-write_names.ensures.ok) h) c.write_kinds_array.ensures.ok
+returns-clause-ok g c = on_ok_weaker c.write_kinds_array.result (λ h. wrote_both (wrote_both (wrote_both (wrote_both (wrote_both (wrote_both c.in_ok-write_steps_arrays.ensures.ok c.in_ok-write_steps.ensures.ok) c.in_ok-write_actions_array.ensures.ok) c.in_ok-write_line_ends.ensures.ok) c.in_ok-write_pending.ensures.ok) c.in_ok-write_names.ensures.ok) h) c.write_kinds_array.ensures.ok

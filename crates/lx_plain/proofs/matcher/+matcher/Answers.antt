@@ -66,7 +66,7 @@ ends-returns-in-Set t c =
     rw c.in-Set.is (IfOk-weaker c.behind_byte.result _ (AreEnds (Matches names (one_of c.in-Set.set)) c.args.text.now c.args.starts.now) (λ ends. ends_byte names c.in-Set.set c.args.text.now c.args.starts.now ends) c.behind_byte.ensures)
 
 pub ends-ends-requires-in-Then : goal.ends-ends-requires-in-Then
-ends-ends-requires-in-Then t c = (search rules, ends_within _ c.args.text.now c.args.starts.now c.in_ok-cuts-in-Then.cuts c.requires c.in_ok-cuts-in-Then.ensures)
+ends-ends-requires-in-Then t c = (search rules, ends_within _ c.args.text.now c.args.starts.now c.in_ok-middles-in-Then.middles c.requires c.in_ok-middles-in-Then.ensures)
 
 pub ends-returns-in-Then : goal.ends-returns-in-Then
 ends-returns-in-Then t c =
@@ -74,7 +74,7 @@ ends-returns-in-Then t c =
     let L : List ℕ → Type 0 = Matches names (regex_of c.in-Then.first.value) in
     let M : List ℕ → Type 0 = Matches names (regex_of c.in-Then.second.value) in
     rw c.in-Then.is (IfOk-weaker c.ends-in-Then.result _ (AreEnds (Splits L M) c.args.text.now c.args.starts.now)
-    (λ ends. ends_then L M c.args.text.now c.args.starts.now c.in_ok-cuts-in-Then.cuts ends (rw c.deref.ensures at c.in_ok-cuts-in-Then.ensures))
+    (λ ends. ends_then L M c.args.text.now c.args.starts.now c.in_ok-middles-in-Then.middles ends (rw c.deref.ensures at c.in_ok-middles-in-Then.ensures))
     (rw c.deref-in-Then.ensures at c.ends-in-Then.ensures))
 
 pub ends-any_number-requires : goal.ends-any_number-requires

@@ -5,8 +5,8 @@ use Rattle.std.proofs.lemmas.Result.{IfOk-weaker}
 use Rattle.lx_rules.specs.Identifiers.{is_identifier}
 use Rattle.lx_table_texts.proofs.limits.are_kinds.Goals as goal
 
-pub returns-then-names-gt4096 : goal.returns-then-names-gt4096
-returns-then-names-gt4096 c = ((λ yes. cc), (λ are. let long = length-map c.args.names.now (λ name. name.items) in let few = are.few in absurd (omega arith)))
+pub returns-then-names-gt-MAX_KINDS : goal.returns-then-names-gt-MAX_KINDS
+returns-then-names-gt-MAX_KINDS c = ((λ yes. cc), (λ are. let long = length-map c.args.names.now (λ name. name.items) in let few = are.few in absurd (omega arith)))
 
 pub returns-then-not-are_identifiers : goal.returns-then-not-are_identifiers
 returns-then-not-are_identifiers c =

@@ -7,8 +7,8 @@ use Rattle.lx_table_texts.specs.Views.{rule_view}
 use Rattle.lx_table_texts.proofs.Tested.{steps_are}
 use Rattle.lx_table_texts.proofs.limits.has_limits.Goals as goal
 
-pub returns-then-len-gt4096 : goal.returns-then-len-gt4096
-returns-then-len-gt4096 c =
+pub returns-then-len-gt-MAX_RULES : goal.returns-then-len-gt-MAX_RULES
+returns-then-len-gt-MAX_RULES c =
     let raw = c.args.raw.now in
     let held = raw.rules.ok.0 in
     ((λ yes. cc), (λ has. let few = has.few_rules in let long = length-map raw.rules.items rule_view in absurd (omega arith)))
