@@ -23,7 +23,7 @@ use std::{env, io};
 // in writes of as many and more, which go to the stream without a copy.
 const GATHERED: usize = 65_536;
 
-// And so many where workers make the lines: a block of lines is longer, as a rule, and goes to the stream without a copy too.
+// And so many where workers make the lines: a block of long lines, which isn't gathered with others, goes to the stream without a copy too.
 const GATHERED_OF_WORKERS: usize = 4_096;
 
 // The exit statuses where the program's own work doesn't begin: the words can't be had, or memory is refused.

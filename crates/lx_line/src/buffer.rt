@@ -14,10 +14,10 @@ use std::alloc::{AllocError, Global};
 use std::marker::Model;
 
 // So many bytes are worth a write.
-const FULL: usize = 131_072;
+const FULL: usize = 98_304;
 
-// A block with more bytes is worth a write of its own.
-const SHORT: usize = 4_096;
+// A block with more bytes is worth a write of its own. To copy a shorter one takes less time than a call of the system.
+const SHORT: usize = 32_768;
 
 // A shorter one has room until the bytes before it are worth a write.
 const ROOM: usize = FULL + SHORT;
@@ -36,7 +36,7 @@ impl Model for LineBuffer {
 
     ghost view = { λ s. take s.len s.bytes.items };
 
-    ghost invariant = { λ s. (length s.bytes.items ≡ 135168) × (s.len ≤ 135168) };
+    ghost invariant = { λ s. (length s.bytes.items ≡ 131072) × (s.len ≤ 131072) };
 }
 
 impl LineBuffer {

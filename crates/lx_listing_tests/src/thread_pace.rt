@@ -17,17 +17,17 @@ const ITEMS: u32 = 256;
 // Bytes of which each is an item of 40 bytes.
 const BYTES: usize = 50_000;
 
-// With many files a worker draws no further one where 16 MB are held, or 8 MB where it is the second. The file that it cut, a piece by each of two
+// With many files a worker draws no further one where 12 MB are held, or 6 MB where it is the second. The file that it cut, a piece by each of two
 // workers and 256 between the threads come on top.
-const MOST_OF_MANY: u64 = (1 << 24) / (40 * 256) + 196 + 2 + 256;
+const MOST_OF_MANY: u64 = (3 << 22) / (40 * 256) + 196 + 2 + 256;
 
 // The bound is reached before the first file is done: a list takes at most twice the memory of its items.
-const LEAST_OF_MANY: u64 = (1 << 23) / (2 * 40 * 256);
+const LEAST_OF_MANY: u64 = (3 << 21) / (2 * 40 * 256);
 
-// Within a file 32 MB are held.
-const MOST_OF_ONE: u64 = (1 << 25) / (40 * 256) + 2 + 256;
+// Within a file 24 MB are held.
+const MOST_OF_ONE: u64 = (3 << 23) / (40 * 256) + 2 + 256;
 
-const LEAST_OF_ONE: u64 = (1 << 25) / (2 * 40 * 256);
+const LEAST_OF_ONE: u64 = (3 << 23) / (2 * 40 * 256);
 
 // So many turns without a pass of another worker: it stands still.
 const TURNS: u32 = 200_000;

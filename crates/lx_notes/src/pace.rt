@@ -7,7 +7,7 @@ use std::sync::Wait;
 use std::sync::atomic::{AtomicBool, AtomicU64, Ordering};
 
 // So many bytes a reader may hold of files behind the one that it waits for before workers wait.
-const MOST_HELD: u64 = 1 << 25;
+const MOST_HELD: u64 = 3 << 23;
 
 // So many bytes before the first worker draws no further file; half as many before the second one doesn't, and so on.
 const ENOUGH_HELD: u64 = MOST_HELD / 2;
