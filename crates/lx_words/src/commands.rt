@@ -1,4 +1,4 @@
-// The commands of `lx` and their words, as tables.
+//! The commands of `lx` and their words, as tables.
 
 use crate::request::MOST_TOLD;
 use lx_plan::{MAX_ITEMS, MAX_WORKERS};
@@ -52,25 +52,25 @@ pub(crate) struct Subcommand {
 const SPEC: Argument = Argument {
     id: "SPEC",
     form: Form::Needed,
-    help: "The specification",
+    help: "The specification; - is standard input",
 };
 
 const TABLES: Argument = Argument {
     id: "TABLES",
     form: Form::Needed,
-    help: "The tables, in either version of their text",
+    help: "The tables, in either version of their text; - is standard input",
 };
 
 const RULES: Argument = Argument {
     id: "RULES",
     form: Form::Needed,
-    help: "The specification, or tables, whose text begins with lx-tables",
+    help: "The specification, or tables, whose text begins with lx-tables; - is standard input",
 };
 
 const FLEX: Argument = Argument {
     id: "FLEX",
     form: Form::Needed,
-    help: "The specification for flex",
+    help: "The specification for flex; - is standard input",
 };
 
 const FILES: Argument = Argument {
@@ -156,7 +156,7 @@ const ITEMS: Argument = Argument {
             default: Some("256"),
         },
     ),
-    help: "How many items a piece has, from 1 to 4096",
+    help: "How many items are handed on at a time, from 1 to 4096; the listing is the same",
 };
 
 const NAMES: Argument = Argument {
@@ -219,7 +219,7 @@ const QUIET: Argument = Argument {
 const WARNINGS: Argument = Argument {
     id: "warnings",
     form: Form::Values(Name::Short('W'), "NAME"),
-    help: "Switches a warning on, or off as no-NAME; all, and error: warnings are errors",
+    help: "Switches a warning on, or off as no-NAME; all stands for each, and with error they are errors; lx explain warning lists them",
 };
 
 const MOST: Argument = Argument {
