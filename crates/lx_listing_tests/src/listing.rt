@@ -107,7 +107,7 @@ fn writes_each_line_by_itself_or_many_at_once(rt: HostRuntime) {
 }
 
 /// What stands in the long text.
-const LONG: u32 = 40_000;
+const LONG: u32 = 60_000;
 
 /// Adds the line of a long text, in its escaped form.
 fn put_long<R: Abort>(rt: &R, wanted: &mut Vec<u8>, front: &[u8]) {
@@ -116,8 +116,8 @@ fn put_long<R: Abort>(rt: &R, wanted: &mut Vec<u8>, front: &[u8]) {
     put(rt, wanted, b">\n");
 }
 
-/// An Echo and a token have the same text of 80,002 bytes, which is escaped. Each of its 20 parts is a write, and so is what stands before the
-/// first, between the two and behind the last one.
+/// An Echo and a token have the same text of 120,002 bytes, which is escaped. Its 30 parts have 10,240 bytes at most, and what is gathered goes on
+/// once it has more than 98,304. Were a line made whole, it would be a write of its own, and there would be four.
 #[test]
 fn writes_long_texts_in_parts(rt: HostRuntime) {
     let mut text = Vec::new(rt.alloc());
@@ -126,16 +126,16 @@ fn writes_long_texts_in_parts(rt: HostRuntime) {
     put(&rt, &mut text, b"> cd");
     let mut wanted = Vec::new(rt.alloc());
     put(&rt, &mut wanted, b"0 T ID 1 0 2 ab\n");
-    put_long(&rt, &mut wanted, b"0 E - 1 3 80002 <");
-    put_long(&rt, &mut wanted, b"0 T 65 1 3 80002 <");
-    put(&rt, &mut wanted, b"0 T ID 1 80006 2 cd\n0 ! cut\n");
+    put_long(&rt, &mut wanted, b"0 E - 1 3 120002 <");
+    put_long(&rt, &mut wanted, b"0 T 65 1 3 120002 <");
+    put(&rt, &mut wanted, b"0 T ID 1 120006 2 cd\n0 ! cut\n");
     writes_cut(&rt, text.as_slice(), wanted.as_slice());
 }
 
 /// Asserts what is written of such a text, which is cut.
 fn writes_cut<R: Abort + AllocGlobal + Threads + Wait + Sync>(rt: &R, text: &[u8], wanted: &[u8]) {
     let plan = made(rt, MIXED_RULES, &[(text, true)], 256);
-    writes_in(rt, &plan, wanted, 5, 43);
+    writes_in(rt, &plan, wanted, 5, 6);
 }
 
 /// Asserts that a listing by the main thread, whose writer fails at this call or never, ends so with two calls, and how much it has written.
@@ -159,7 +159,7 @@ fn gathers_lines<R: Abort + AllocGlobal + Threads + Wait + Sync>(rt: &R, plan: &
     let wanted = listing_of(rt, plan);
     same(rt, &wanted.len(), &151_890);
     gathers(rt, plan, &wanted, 0, Ok(()), 151_890);
-    gathers(rt, plan, &wanted, 2, Err(RunFault::Reader), 134_703);
+    gathers(rt, plan, &wanted, 2, Err(RunFault::Reader), 130_606);
 }
 
 /// Asserts it of the plan of these Echoes.
@@ -168,7 +168,7 @@ fn gathers_echoes<R: Abort + AllocGlobal + Threads + Wait + Sync>(rt: &R, text: 
     gathers_lines(rt, &plan);
 }
 
-/// The listing of 9,000 Echoes of one byte has 151,890 bytes. Its first 7,989 lines leave together, behind which less room is left in 135,168 bytes
+/// The listing of 9,000 Echoes of one byte has 151,890 bytes. Its first 7,748 lines leave together, behind which less room is left in 131,072 bytes
 /// than a line may take.
 #[test]
 fn gathers_lines_until_they_are_worth_a_write(rt: HostRuntime) {
