@@ -50,7 +50,7 @@ fn write_piece<Y: Spares, S: LineSink>(
     let Piece { file, items, .. } = piece;
     let mut block = write_shown(items, alloc, spares, draft, plan, file, sink)?;
     write_cut(sink, &mut block, file, ends_cut)?;
-    spares.give_block(block);
+    spares.give_block(file, block);
     Ok(())
 }
 

@@ -53,13 +53,13 @@ pub(crate) fn write_shown<Y: Spares, S: LineSink>(
 {
     match shown.into_form() {
         Form::Bare(items) => {
-            let mut block = emptied(alloc, spares.take_block());
+            let mut block = emptied(alloc, spares.take_block(file));
             sink.write_items(&mut block, draft, plan, file, items.as_slice())?;
-            spares.give_list(items);
+            spares.give_list(file, items);
             Ok(block)
         }
         Form::Given(items) => {
-            let mut block = emptied(alloc, spares.take_block());
+            let mut block = emptied(alloc, spares.take_block(file));
             write_given(items.as_slice(), &mut block, plan, file, sink)?;
             Ok(block)
         }

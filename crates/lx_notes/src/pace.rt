@@ -29,6 +29,13 @@ pub struct Pace {
     is_over: AtomicBool,
 }
 
+// Stores a number where it is another one than before: what isn't stored stays in the caches of the threads that look at it.
+fn note_in(noted: &AtomicU64, number: u64) {
+    if noted.load(Ordering::Relaxed) != number {
+        noted.store(number, Ordering::SeqCst);
+    }
+}
+
 impl Pace {
     /// That of a reader that holds nothing.
     pub fn new() -> Pace {
@@ -39,10 +46,10 @@ impl Pace {
         }
     }
 
-    /// Notes what the reader holds.
+    /// Notes what the reader holds. One thread does.
     pub fn note(&self, held: Held) {
-        self.file.store(u64::from(held.file), Ordering::SeqCst);
-        self.bytes.store(held.bytes, Ordering::SeqCst);
+        note_in(&self.file, u64::from(held.file));
+        note_in(&self.bytes, held.bytes);
     }
 
     /// Lets all workers go on, now and from now on.

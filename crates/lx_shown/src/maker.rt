@@ -43,7 +43,7 @@ impl<Y: Spares> Maker for LineMaker<Y> {
     ghost made = { shown };
 
     fn room(&mut self, alloc: Global, items: usize) -> Result<ItemList, AllocError> {
-        let mut list = emptied_list(alloc, self.spares.take_list());
+        let mut list = emptied_list(alloc, self.spares.take_list(self.file));
         list.reserve(items)?;
         Ok(list)
     }
@@ -53,16 +53,16 @@ impl<Y: Spares> Maker for LineMaker<Y> {
             self.file = file;
             self.sent = 0;
         }
+        self.spares.send(self.sent);
         self.sent = self.sent.wrapping_add(1);
-        self.spares.send();
         if !self.spares.are_many(file, self.sent) || are_long(items.as_slice(), MOST) {
             return Ok(Shown::of_items(plan, file, items));
         }
-        let mut block = emptied(self.alloc, self.spares.take_block());
+        let mut block = emptied(self.alloc, self.spares.take_block(file));
         match push_lines(&mut block, plan, file, items.as_slice()) {
             Ok(()) => {
                 let made = Shown::of_lines(plan, file, &items, block);
-                self.spares.give_list(items);
+                self.spares.give_list(file, items);
                 Ok(made)
             }
             // where memory is refused the items will do

@@ -6,20 +6,21 @@ use lx_scan::ItemList;
 use std::alloc::Global;
 
 /// Lists of items and blocks of lines to be used again, and how many pieces are on their way to the printer. What such a list or
-/// block holds means nothing: it is emptied first. No contract speaks of any of this.
+/// block holds means nothing: it is emptied first. Each call has the file that is cut or printed, so that threads which are at different files
+/// needn't get into each other's way. No contract speaks of any of this.
 pub trait Spares {
-    fn take_list(&self) -> Option<ItemList>;
+    fn take_list(&self, file: u32) -> Option<ItemList>;
 
     /// It is dropped where there are enough.
-    fn give_list(&self, list: ItemList);
+    fn give_list(&self, file: u32, list: ItemList);
 
-    fn take_block(&self) -> Option<Vec<u8>>;
+    fn take_block(&self, file: u32) -> Option<Vec<u8>>;
 
     /// It is dropped where there are enough.
-    fn give_block(&self, block: Vec<u8>);
+    fn give_block(&self, file: u32, block: Vec<u8>);
 
-    /// One piece more is on its way.
-    fn send(&self);
+    /// The piece of this number of a file is on its way.
+    fn send(&self, number: u64);
 
     /// The printer has come to the piece of this number of this file.
     fn receive(&self, file: u32, number: u64);
@@ -55,24 +56,24 @@ pub(crate) fn emptied_list(alloc: Global, spare: Option<ItemList>) -> ItemList
 }
 
 impl<'s, Y: Spares> Spares for &'s Y {
-    fn take_list(&self) -> Option<ItemList> {
-        (**self).take_list()
+    fn take_list(&self, file: u32) -> Option<ItemList> {
+        (**self).take_list(file)
     }
 
-    fn give_list(&self, list: ItemList) {
-        (**self).give_list(list);
+    fn give_list(&self, file: u32, list: ItemList) {
+        (**self).give_list(file, list);
     }
 
-    fn take_block(&self) -> Option<Vec<u8>> {
-        (**self).take_block()
+    fn take_block(&self, file: u32) -> Option<Vec<u8>> {
+        (**self).take_block(file)
     }
 
-    fn give_block(&self, block: Vec<u8>) {
-        (**self).give_block(block);
+    fn give_block(&self, file: u32, block: Vec<u8>) {
+        (**self).give_block(file, block);
     }
 
-    fn send(&self) {
-        (**self).send();
+    fn send(&self, number: u64) {
+        (**self).send(number);
     }
 
     fn receive(&self, file: u32, number: u64) {
