@@ -50,8 +50,11 @@ impl Spares for Alone {
     }
 }
 
-// So many pieces are on their way before workers make lines.
-const MANY: u64 = 16;
+// So many pieces of the file that is printed are on their way before the worker that cuts it makes lines too.
+const MANY: u64 = 32;
+
+// So many of all files before a worker that cuts a later file does.
+const MANY_OF_ALL: u64 = 16;
 
 // Of so many pieces of a file the first one is counted: a count that has changed comes from the other thread's cache, which takes time.
 const COUNTED: u64 = 4;
@@ -189,6 +192,6 @@ impl Spares for Shared {
         if self.file.load(Ordering::Relaxed) == u64::from(file) {
             return sent.saturating_sub(self.printed.load(Ordering::Relaxed)) >= MANY;
         }
-        self.pieces.load(Ordering::Relaxed) >= MANY / COUNTED
+        self.pieces.load(Ordering::Relaxed) >= MANY_OF_ALL / COUNTED
     }
 }

@@ -6,8 +6,8 @@ use lx_scan::ItemList;
 use std::alloc::Global;
 
 /// Lists of items and blocks of lines to be used again, and how many pieces are on their way to the printer. What such a list or
-/// block holds means nothing: it is emptied first. Each call has the file that is cut or printed, so that threads which are at different files
-/// needn't get into each other's way. No contract speaks of any of this.
+/// block holds means nothing: it is emptied first. Who takes or gives one names the file that is cut or printed, so that threads which are at
+/// different files needn't get into each other's way. No contract speaks of any of this.
 pub trait Spares {
     fn take_list(&self, file: u32) -> Option<ItemList>;
 
