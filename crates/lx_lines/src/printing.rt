@@ -22,9 +22,6 @@ use std::io::Write;
 use std::sync::Wait;
 use std::thread::Threads;
 
-// So many lists of items and so many blocks of lines are kept on a shelf to be used again.
-const SPARES: usize = 32;
-
 // Writes the lines of the plan's files on this thread.
 fn print_to<S: LineSink + Drop>(alloc: Global, plan: &Plan, sink: S) -> (S, Result<(), RunFault>)
     ensures ok { OnOk result.1 (S.wrote sink (listing_of plan.now) result.0) }
@@ -78,7 +75,7 @@ fn scan_to<T: Threads + Wait + Sync, S: LineSink + Drop>(
     ensures ok { OnOk result.1 (S.wrote sink (listing_of plan.now) result.0) }
     ensures part { WrotePrefix S.wrote sink (listing_of plan.now) result.0 }
 {
-    let Ok(spares) = Shared::new(alloc, SPARES) else {
+    let Ok(spares) = Shared::new(alloc) else {
         return (sink, Err(RunFault::Memory));
     };
     let printer = Printer::new(alloc, plan, &spares, sink);

@@ -96,32 +96,54 @@ impl<T> Stack<T> {
         self.enter()?.pop()
     }
 
-    fn give(&self, spare: T)
+    // It comes back where there is no room, or another thread is at the stack.
+    fn give(&self, spare: T) -> Option<T>
     where
         T: Drop,
     {
-        if let Some(mut kept) = self.enter() {
-            if kept.len() < kept.capacity() {
-                let _refused = kept.push(spare);
-            }
+        let Some(mut kept) = self.enter() else {
+            return Some(spare);
+        };
+        if kept.len() == kept.capacity() {
+            return Some(spare);
         }
+        let _refused = kept.push(spare);
+        None
     }
 }
 
-/// The lists and the blocks of the files whose numbers leave the same rest.
+/// Lists and blocks.
 #[derive(Drop)]
 struct Shelf {
     lists: Stack<ItemList>,
     blocks: Stack<Vec<u8>>,
 }
 
+impl Shelf {
+    // Room for so many of each.
+    fn new(alloc: Global, most: usize) -> Result<Shelf, AllocError> {
+        Ok(Shelf {
+            lists: Stack::new(alloc, most)?,
+            blocks: Stack::new(alloc, most)?,
+        })
+    }
+}
+
 // There are so many shelves, so that workers, which are mostly at files that follow one another, are seldom at the same one.
 const SHELVES: u32 = 8;
+
+// Each has room for so many lists and so many blocks. A file seldom needs more of them at once.
+const ON_A_SHELF: usize = 32;
+
+// What has no room there goes to a shelf for all files. The post has room for 256 notes, so the pieces of one file that wait have no more than it holds.
+const FOR_ALL: usize = 288;
 
 /// What the workers and the printer share.
 #[derive(Drop)]
 pub struct Shared {
+    // The files whose numbers leave the same rest share one.
     shelves: Vec<Shelf>,
+    for_all: Shelf,
     // How many pieces are on their way, of those that are counted.
     pieces: AtomicU64,
     // The file that is printed, and how many of its pieces the printer has come to, or a few fewer.
@@ -130,47 +152,59 @@ pub struct Shared {
 }
 
 impl Shared {
-    /// Keeps so many lists and so many blocks at most on each shelf.
-    pub fn new(alloc: Global, most: usize) -> Result<Shared, AllocError> {
+    /// Empty shelves.
+    pub fn new(alloc: Global) -> Result<Shared, AllocError> {
         let mut shelves = Vec::with_capacity(alloc, SHELVES as usize)?;
         for _ in 0..SHELVES {
-            shelves.push(Shelf {
-                lists: Stack::new(alloc, most)?,
-                blocks: Stack::new(alloc, most)?,
-            })?;
+            shelves.push(Shelf::new(alloc, ON_A_SHELF)?)?;
         }
         Ok(Shared {
             shelves,
+            for_all: Shelf::new(alloc, FOR_ALL)?,
             pieces: AtomicU64::new(0),
             file: AtomicU64::new(0),
             printed: AtomicU64::new(0),
         })
     }
 
-    fn shelf(&self, file: u32) -> Option<&Shelf> {
-        self.shelves.get((file % SHELVES) as usize)
+    fn shelf(&self, file: u32) -> &Shelf {
+        match self.shelves.get((file % SHELVES) as usize) {
+            Some(shelf) => shelf,
+            None => &self.for_all,
+        }
+    }
+}
+
+// From the first stack, or where it has none from the other one.
+fn take_from<T>(first: &Stack<T>, other: &Stack<T>) -> Option<T> {
+    match first.take() {
+        Some(spare) => Some(spare),
+        None => other.take(),
+    }
+}
+
+// To the first stack, or where it takes no more to the other one. It is dropped where neither does.
+fn give_to<T: Drop>(first: &Stack<T>, other: &Stack<T>, spare: T) {
+    if let Some(spare) = first.give(spare) {
+        let _dropped = other.give(spare);
     }
 }
 
 impl Spares for Shared {
     fn take_list(&self, file: u32) -> Option<ItemList> {
-        self.shelf(file)?.lists.take()
+        take_from(&self.shelf(file).lists, &self.for_all.lists)
     }
 
     fn give_list(&self, file: u32, list: ItemList) {
-        if let Some(shelf) = self.shelf(file) {
-            shelf.lists.give(list);
-        }
+        give_to(&self.shelf(file).lists, &self.for_all.lists, list);
     }
 
     fn take_block(&self, file: u32) -> Option<Vec<u8>> {
-        self.shelf(file)?.blocks.take()
+        take_from(&self.shelf(file).blocks, &self.for_all.blocks)
     }
 
     fn give_block(&self, file: u32, block: Vec<u8>) {
-        if let Some(shelf) = self.shelf(file) {
-            shelf.blocks.give(block);
-        }
+        give_to(&self.shelf(file).blocks, &self.for_all.blocks, block);
     }
 
     fn send(&self, number: u64) {
