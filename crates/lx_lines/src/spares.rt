@@ -135,7 +135,7 @@ const SHELVES: u32 = 8;
 // Each has room for so many lists and so many blocks. A file seldom needs more of them at once.
 const ON_A_SHELF: usize = 32;
 
-// What has no room there goes to a shelf for all files. The post has room for 256 notes, so the pieces of one file that wait have no more than it holds.
+// What has no room there goes to a shelf for all files. The post has room for 256 notes, so the pieces of the file that is printed have no more than it holds.
 const FOR_ALL: usize = 288;
 
 /// What the workers and the printer share.
