@@ -2,6 +2,8 @@
 import json
 import time
 
+from measuring import TOP
+
 NOUNS = "buffer cursor entry field group item key line node offset page queue record stream table value".split()
 VERBS = "add check clear close copy count find join load move open pop push read split write".split()
 TYPES = ["int", "long", "unsigned char", "double", "struct node *", "const char *", "size_t"]
@@ -131,9 +133,20 @@ def log_lines():
         yield f"{moment} {level} {who}: {message}\n{behind}"
 
 
+# By the names of the specifications in examples/.
+EXAMPLES = {"c": c_functions, "json": json_records, "log": log_lines}
+
+
 def fill(file, size, texts):
     """Goes on with texts until the file has as many bytes."""
     for text in texts:
         if file.tell() >= size:
             break
         file.write(text.encode())
+
+
+def write_example(name, size, path):
+    """The input of an example, and more of its kind behind it."""
+    with open(path, "wb") as file:
+        file.write((TOP / f"examples/{name}.txt").read_bytes())
+        fill(file, size, EXAMPLES[name]())

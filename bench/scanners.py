@@ -1,6 +1,8 @@
-# What bench/peers and bench/threads have in common: scanners are built by flex and re2c, and what they list has to be what lx lists.
+# What the scripts that compare programs have in common: scanners are built by flex and re2c, what they list has to be what lx lists, and instructions
+# are counted.
 import filecmp
 import itertools
+import re
 import shutil
 import subprocess
 import sys
@@ -51,3 +53,21 @@ def compare(program, listing, expected):
         for number, (line, due) in enumerate(itertools.zip_longest(other, wanted, fillvalue=b""), 1):
             if line != due:
                 raise Failed(f"line {number} of {program} is {line[:200]!r}, and of lx run {due[:200]!r}")
+
+
+def instructions(command, folder):
+    """Those of a run, by valgrind's callgrind."""
+    counts = folder / "counts"
+    with open(folder / "listing", "wb") as listing:
+        counting = ["valgrind", "--tool=callgrind", f"--callgrind-out-file={counts}", *command]
+        run = subprocess.run(counting, stdout=listing, stderr=subprocess.PIPE, check=False)
+    if run.returncode != 0:
+        raise Failed(run.stderr.decode("latin-1"))
+    return int(re.search(r"(?m)^(?:totals|summary): (\d+)", counts.read_text())[1])
+
+
+def instructions_a_byte(commands, one, two, folder):
+    """Of each command, with the text behind it: those for two MB less those for one MB, so that what is done once isn't seen."""
+    size = two.stat().st_size - one.stat().st_size
+    counted = {name: [instructions([*command, text], folder) for text in (one, two)] for name, command in commands.items()}
+    return {name: (more - less) / size for name, (less, more) in counted.items()}
