@@ -148,7 +148,17 @@ static inline void lx__read(lx__reader *r, lx_tables *t) { /* where it is stored
     t->steps = r->steps, t->letters = r->names;
 }
 
-/* Reads tables into memory, or judges them where that is NULL: how many bytes they want, or 0 where the text is refused. */
+/* Returns 1 where no two classes lead to the same states, as in each text that lx prints. */
+static inline int lx__are_classes_apart(const lx_tables *t) {
+    const size_t height = (size_t)t->states + 1;
+    int one, other;
+    for (one = 1; one < t->classes; one++)
+        for (other = 0; other < one; other++)
+            if (memcmp(t->steps + (size_t)one * height, t->steps + (size_t)other * height, height * sizeof *t->steps) == 0) return 0;
+    return 1;
+}
+
+/* Reads tables into memory, or judges them where that is NULL, but for their classes: how many bytes they want, or 0 where the text is refused. */
 static inline size_t lx_tables_read(lx_tables *t, void *memory, const char *text, size_t n, lx_error *error) {
     lx__reader r = {text, text + n, NULL, 1, 0, 0, 255, NULL, NULL, NULL}, storing = r;
     size_t steps;
@@ -161,6 +171,7 @@ static inline size_t lx_tables_read(lx_tables *t, void *memory, const char *text
         storing.memory = (int *)memory, storing.steps = (unsigned short *)(storing.memory + r.words), storing.names = (char *)(storing.steps + steps);
         memset(storing.steps, 0, steps * sizeof *r.steps + r.letters);
         lx__read(&storing, t);
+        if (!lx__are_classes_apart(t)) return error->line = storing.line, error->message = "two classes lead to the same states", 0;
     }
     return r.words * sizeof *r.memory + steps * sizeof *r.steps + r.letters;
 }
@@ -195,9 +206,10 @@ static inline void lx__take(lx_scanner *s, size_t length, size_t lines) { /* as 
     while (end[-1] != '\n') end--;
     s->line += lines, s->line_start = s->last.start + (size_t)(end - from);
 }
-static inline void lx_less(lx_scanner *s, const lx_token *t, size_t length) { /* yyless: goes on behind the first bytes of the last token, one at least */
+/* yyless: goes on after the first bytes of the last token, one at least. Further items of the same action get the shorter text. */
+static inline void lx_less(lx_scanner *s, const lx_token *t, size_t length) {
     if (t->start != s->last.start || length == 0 || length > s->last.length) return;
-    s->at = t->start - s->before, s->line = t->line, s->line_start = t->line_start, s->pending = 0;
+    s->at = t->start - s->before, s->line = t->line, s->line_start = t->line_start;
     lx__take(s, length, lx__lines(t->text, length));
 }
 static inline int lx__perform(lx_scanner *s, int place) { /* the steps of an action up to one that gives an item */

@@ -99,6 +99,8 @@ class Tables:
         reader.word(b"\nend\n", 'the line "end" is due')
         if reader.at < len(reader.text):
             reader.refuse("nothing may follow the end")
+        if len({tuple(id(row[number]) for row in rows) for number in range(count)}) < count:
+            raise Damaged(reader.line, "two classes lead to the same states")
         self.starts = [(rows[plain], rows[at_line_begin]) for plain, at_line_begin in starts]
 
     @staticmethod

@@ -79,7 +79,10 @@ impl Tables {
         tables.columns.iter_mut().for_each(|column| *column *= height as u32);
         if !lines.after("end")?.is_empty() { return lines.refuse("the line's end is due"); }
         lines.number += 1;
-        if lines.rest.is_empty() { Ok(tables) } else { lines.refuse("nothing may follow the end") }
+        if !lines.rest.is_empty() { return lines.refuse("nothing may follow the end"); }
+        let column = |class: usize| &tables.next[class * height..][..=states];
+        if (1..classes).any(|one| (0..one).any(|other| column(one) == column(other))) { return lines.refuse("two classes lead to the same states"); }
+        Ok(tables)
     }
     fn read_kind(&mut self, lines: &mut Lines) -> Result<(), Error> {
         let name = lines.after("kind ")?;

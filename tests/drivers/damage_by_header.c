@@ -11,12 +11,13 @@ static void try_text(const unsigned char *text, size_t size, const struct file *
     lx_error error;
     const size_t room = lx_tables_size(block, size, &error);
     void *const memory = room ? malloc(room) : NULL;
-    if (room && !memory) exit(5);
-    if (!room || !lx_tables_read(&tables, memory, block, size, &error)) printf("= refused at line %lu\n", (unsigned long)error.line);
+    const int is_taken = memory && lx_tables_read(&tables, memory, block, size, &error);
     free(block);
-    if (!room) return;
-    puts("= taken");
-    lx_list(0, file->bytes, file->size, "whole");
+    if (room && !memory) exit(5);
+    if (is_taken) {
+        puts("= taken");
+        lx_list(0, file->bytes, file->size, "whole");
+    } else printf("= refused at line %lu\n", (unsigned long)error.line);
     free(memory);
 }
 
