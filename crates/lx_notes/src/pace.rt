@@ -1,5 +1,7 @@
 //! What the reader holds, and workers that wait where it holds much.
 
+ghost use Rattle.std.specs.Prelude.{◌≡◌, ◌<◌, ◌≤◌, ◌↔◌, IsTrue, false};
+
 use crate::backoff::Backoff;
 use lx_piece::Held;
 use lx_plan::MAX_WORKERS;
@@ -18,7 +20,8 @@ const NAP: u64 = 500;
 /// What a reader holds. One that needs the files in order holds what it takes of files behind the one that it waits for, which is nearly
 /// everything where that file is slow. So a worker that cuts such a file waits while much is held. The worker of the file that is waited for
 /// never waits, and files are drawn in order, so that it gets on. Where workers are faster than the reader, the last ones draw no further file
-/// for a while: threads that aren't needed take the processor of the thread that reads. No contract speaks of this: it only takes time.
+/// for a while: threads that aren't needed take the processor of the thread that reads. It only takes time: of what is read no contract speaks here, but `is_to_wait` says by its own that
+/// the worker of the file that is waited for never waits, and nobody once the pace is ended.
 #[derive(Drop)]
 pub struct Pace {
     // The file that is waited for.
@@ -27,6 +30,28 @@ pub struct Pace {
     bytes: AtomicU64,
     // Nobody waits any more: the reader takes nothing more, or a file stays open.
     is_over: AtomicBool,
+}
+
+// A worker's view of a pace.
+#[derive(Clone, Copy)]
+struct Seen {
+    file: u64,
+    bytes: u64,
+    is_over: bool,
+}
+
+// Returns true where the worker of a file waits: it is behind the one that is waited for, much is held, and the pace isn't ended.
+fn is_to_wait(seen: Seen, file: u32) -> bool
+    ensures { IsTrue result ↔ ((seen.file < file) × (MOST_HELD ≤ seen.bytes) × (seen.is_over ≡ false)) }
+{
+    seen.file < u64::from(file) && seen.bytes >= MOST_HELD && !seen.is_over
+}
+
+// Returns true where a worker waits before it draws a file: enough is held, and the pace isn't ended.
+fn is_to_wait_to_draw(seen: Seen, enough: u64) -> bool
+    ensures { IsTrue result ↔ ((enough ≤ seen.bytes) × (seen.is_over ≡ false)) }
+{
+    seen.bytes >= enough && !seen.is_over
 }
 
 // Stores a number where it is another one than before: what isn't stored stays in the caches of the threads that look at it.
@@ -61,23 +86,19 @@ impl Pace {
     pub fn wait<W: Wait>(&self, rt: &W, file: u32) {
         let mut backoff = Backoff::new();
         for _ in rt.forever() {
-            if !self.is_far_ahead(file) {
+            if !is_to_wait(self.look(), file) {
                 return;
             }
             backoff.turn(rt);
         }
         unreachable!()
-    }
-
-    fn is_far_ahead(&self, file: u32) -> bool {
-        self.holds(MOST_HELD) && self.file.load(Ordering::SeqCst) < u64::from(file)
     }
 
     /// Has a worker wait before it draws a file, while enough is held: the reader waits for no file of its.
     pub fn wait_to_draw<W: Wait>(&self, rt: &W, worker: u8) {
         let mut backoff = Backoff::of_naps(NAP);
         for _ in rt.forever() {
-            if !self.holds(ENOUGH_HELD >> worker.min(MAX_WORKERS)) {
+            if !is_to_wait_to_draw(self.look(), ENOUGH_HELD >> worker.min(MAX_WORKERS)) {
                 return;
             }
             backoff.turn(rt);
@@ -85,8 +106,11 @@ impl Pace {
         unreachable!()
     }
 
-    // Whether so much is held, and workers wait.
-    fn holds(&self, bytes: u64) -> bool {
-        self.bytes.load(Ordering::SeqCst) >= bytes && !self.is_over.load(Ordering::SeqCst)
+    fn look(&self) -> Seen {
+        Seen {
+            file: self.file.load(Ordering::SeqCst),
+            bytes: self.bytes.load(Ordering::SeqCst),
+            is_over: self.is_over.load(Ordering::SeqCst),
+        }
     }
 }
