@@ -1,8 +1,11 @@
 /* Delays threads at random places, so that they meet in orders that are rare otherwise. It is loaded before the C library, whose calls it stands in
  * for: malloc, calloc, realloc, aligned_alloc, posix_memalign, memalign and sched_yield. Before one call of 32, on average, the thread sleeps for up
- * to 300 microseconds; the environment's DELAYS_SEED says which, with the number of the thread. */
+ * to 300 microseconds; the environment's DELAYS_SEED says which, with the number of the thread. Where DELAYS_THREADS is a number, each thread starts a
+ * fifth of a second late, and after so many threads none can be started. */
 #define _GNU_SOURCE
+#include <dlfcn.h>
 #include <errno.h>
+#include <pthread.h>
 #include <stdatomic.h>
 #include <stddef.h>
 #include <stdint.h>
@@ -89,6 +92,21 @@ int posix_memalign(void **block, size_t alignment, size_t size)
         return ENOMEM;
     *block = found;
     return 0;
+}
+
+int pthread_create(pthread_t *thread, const pthread_attr_t *attributes, void *(*start)(void *), void *argument)
+{
+    static atomic_uint begun;
+    const struct timespec late = {0, 200000000};
+    const char *most = getenv("DELAYS_THREADS");
+    int (*create)(pthread_t *, const pthread_attr_t *, void *(*)(void *), void *);
+    if (most != NULL) {
+        nanosleep(&late, NULL);
+        if (++begun > (unsigned)strtoul(most, NULL, 10))
+            return EAGAIN;
+    }
+    *(void **)&create = dlsym(RTLD_NEXT, "pthread_create");
+    return create(thread, attributes, start, argument);
 }
 
 int sched_yield(void)

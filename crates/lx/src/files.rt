@@ -1,33 +1,65 @@
 //! Real files as the program's sources.
 
+use crate::names::text_of;
 use lx_piece::Input;
-use lx_tool::{STANDARD_INPUT, SourceFault, Sources, read_names, read_to_end};
+use lx_tool::{STANDARD_INPUT, SourceFault, Sources, name_bytes, read_names, read_to_end};
 use std::alloc::Global;
 use std::fs::File;
 use std::io;
 use std::io::{Error, ErrorKind, Input as StandardInput, Read};
 use std::rt::Files;
 
-// How much of a file is wanted.
+// An error keeps no longer message than 80 bytes.
+const NOT_UTF8: &str = "its name isn't UTF-8; name a link to it, or read it as -";
+
+// The part of a file that is wanted.
 #[derive(Clone, Copy)]
 enum Wanted {
     All,
-    /// Names with this separator, so many at most.
+    /// At most `most` names with this separator.
     Names { separator: u8, most: usize },
+}
+
+// Why a file couldn't be opened, or be read to its end.
+#[derive(Clone, Copy)]
+enum Reason {
+    // The system's number.
+    System(i32),
+    // The standard library opens no file by a name that isn't UTF-8.
+    NotUtf8,
+}
+
+impl Reason {
+    fn of(error: &Error) -> Option<Reason> {
+        error.raw_os_error().map(Reason::System)
+    }
+
+    fn error(self) -> Error {
+        match self {
+            Reason::System(number) => Error::from_raw_os_error(number),
+            Reason::NotUtf8 => Error::new(ErrorKind::InvalidFilename, NOT_UTF8),
+        }
+    }
 }
 
 /// The files of the system, by their paths, and standard input.
 #[derive(Drop)]
 pub struct FileSources<'a, R> {
     rt: &'a R,
-    // Why the last file couldn't be opened, or be read to its end, as a number of the system's.
-    reason: Option<i32>,
+    // The one of the last file.
+    reason: Option<Reason>,
+    // The same of each file that was cut short, in the order in which they were read.
+    cut_reasons: Vec<Option<Reason>>,
 }
 
-impl<'a, R: Files + StandardInput> FileSources<'a, R> {
+impl<'a, R: AllocGlobal + Files + StandardInput> FileSources<'a, R> {
     /// The files that the runtime reaches.
     pub fn new(rt: &'a R) -> FileSources<'a, R> {
-        FileSources { rt, reason: None }
+        FileSources {
+            rt,
+            reason: None,
+            cut_reasons: Vec::new(rt.alloc()),
+        }
     }
 
     // Reads as much as is wanted, and keeps why that failed.
@@ -43,7 +75,34 @@ impl<'a, R: Files + StandardInput> FileSources<'a, R> {
             Wanted::Names { separator, most } => read_names(alloc, &mut noting, separator, most),
         };
         self.reason = noting.reason;
-        input
+        let input = input?;
+        if input.cut {
+            self.cut()?;
+        }
+        Ok(input)
+    }
+
+    // Keeps the reason of a file that is cut short.
+    fn cut(&mut self) -> Result<(), SourceFault> {
+        self.cut_reasons
+            .push(self.reason)
+            .map_err(|_| SourceFault::Memory)
+    }
+
+    // Keeps why a file can't be opened.
+    fn refuse(&mut self, error: &Error) -> Result<Input, SourceFault> {
+        self.reason = Reason::of(error);
+        Err(fault_of(error))
+    }
+
+    // Answers that a file is cut before its first byte, so that the other files of a folder are listed.
+    fn leave_out(&mut self, alloc: Global) -> Result<Input, SourceFault> {
+        self.reason = Some(Reason::NotUtf8);
+        self.cut()?;
+        Ok(Input {
+            bytes: Vec::new(alloc),
+            cut: true,
+        })
     }
 
     // Reads as much of the file with this name as is wanted.
@@ -57,17 +116,18 @@ impl<'a, R: Files + StandardInput> FileSources<'a, R> {
             let input = self.rt.reader();
             return self.read_file(alloc, input, wanted);
         }
-        match File::open(self.rt, name) {
+        let bytes = name_bytes(alloc, name)?;
+        let Ok(path) = str::from_utf8(&bytes) else {
+            return self.leave_out(alloc);
+        };
+        match File::open(self.rt, path) {
             Ok(file) => self.read_file(alloc, file, wanted),
-            Err(error) => {
-                self.reason = error.raw_os_error();
-                Err(fault_of(&error))
-            }
+            Err(error) => self.refuse(&error),
         }
     }
 }
 
-impl<R: Files + StandardInput> Sources for FileSources<'_, R> {
+impl<R: AllocGlobal + Files + StandardInput> Sources for FileSources<'_, R> {
     ghost use Rattle.std.specs.Prelude.{⊤};
 
     // Nothing is claimed of what the system gives for a path.
@@ -84,11 +144,22 @@ impl<R: Files + StandardInput> Sources for FileSources<'_, R> {
         separator: u8,
         most: usize,
     ) -> Result<Input, SourceFault> {
-        self.read_wanted(alloc, name, Wanted::Names { separator, most })
+        let mut list = self.read_wanted(alloc, name, Wanted::Names { separator, most })?;
+        if str::from_utf8(&list.bytes).is_err() {
+            list.bytes = text_of(alloc, &list.bytes)?.into_bytes();
+        }
+        Ok(list)
     }
 
     fn reason(&self) -> Option<Error> {
-        self.reason.map(Error::from_raw_os_error)
+        self.reason.map(Reason::error)
+    }
+
+    fn cut_reason(&self, number: usize) -> Option<Error> {
+        match self.cut_reasons.get(number) {
+            Some(reason) => reason.map(Reason::error),
+            None => None,
+        }
     }
 }
 
@@ -103,7 +174,7 @@ fn fault_of(error: &Error) -> SourceFault {
 #[derive(Drop)]
 struct Noting<F> {
     file: F,
-    reason: Option<i32>,
+    reason: Option<Reason>,
 }
 
 impl<F: Read> Read for Noting<F> {
@@ -111,7 +182,7 @@ impl<F: Read> Read for Noting<F> {
         match self.file.read(bytes) {
             Ok(count) => Ok(count),
             Err(error) => {
-                self.reason = error.raw_os_error();
+                self.reason = Reason::of(&error);
                 Err(error)
             }
         }

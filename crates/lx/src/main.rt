@@ -2,22 +2,25 @@
 #![tactic(auto)]
 
 mod files;
+mod names;
 mod output;
+mod same_file;
 mod targets;
 mod words;
 
 use crate::files::FileSources;
+use crate::names::ShownNames;
 use crate::output::PipeOutput;
 use crate::targets::FileTargets;
-use crate::words::{tell_refused_word, want_workers};
+use crate::words::{read_words, want_workers};
 use lx_tool::run_with;
-use std::io::{BufWriter, ErrorKind, Input, Print, Write};
+use std::io;
+use std::io::{BufWriter, Input, Print, Write};
 use std::process::ExitCode;
 use std::random::RandomSource;
 use std::rt::{Env, Files};
 use std::sync::Wait;
 use std::thread::Threads;
-use std::{env, io};
 
 // So many bytes of output are gathered where one thread does all the work: so there are few calls of the system. The lines of a listing come
 // in writes of as many and more, which go to the stream without a copy.
@@ -26,34 +29,26 @@ const GATHERED: usize = 65_536;
 // And so many where workers make the lines: a block of long lines, which isn't gathered with others, goes to the stream without a copy too.
 const GATHERED_OF_WORKERS: usize = 4_096;
 
-// The exit statuses where the program's own work doesn't begin: the words can't be had, or memory is refused.
-const NO_WORDS: u8 = 2;
-
+// The exit status where the program's own work doesn't begin, since memory is refused for the words or the buffer.
 const NO_MEMORY: u8 = 5;
 
 fn main(rt: HostRuntime) -> ExitCode {
-    match start(&rt, &mut rt.stderr()) {
+    match start(&rt, &mut ShownNames::new(rt.stderr())) {
         Ok(status) => ExitCode::from(status),
-        Err(error) if error.kind() == ErrorKind::OutOfMemory => {
+        Err(_) => {
             let _ = eprintln!(rt; "lx: out of memory");
             ExitCode::from(NO_MEMORY)
-        }
-        Err(_) => {
-            let mut err = rt.stderr();
-            let _ = writeln!(err, "lx: a word of the command line isn't UTF-8");
-            let _ = tell_refused_word(&rt, &mut err);
-            ExitCode::from(NO_WORDS)
         }
     }
 }
 
-// Two faults there are here: a word isn't UTF-8, or memory is refused for the words or the buffer.
+// Runs the program over the system's files and streams. The one fault is memory.
 fn start<
     R: AllocGlobal + Env + Files + Input + Print + RandomSource + Threads + Wait + Sync,
     E: Write,
 >(rt: &R, err: &mut E) -> io::Result<u8> {
     let alloc = rt.alloc();
-    let words: Vec<String> = env::args(rt)?.collect(alloc)?;
+    let words = read_words(rt, alloc)?;
     let gathered = if want_workers(&words) {
         GATHERED_OF_WORKERS
     } else {

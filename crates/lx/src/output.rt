@@ -1,18 +1,21 @@
 //! The standard output as the program's.
 
+ghost use Rattle.std.specs.Prelude.{◌≡◌, [], OnOk};
+ghost use Rattle.std.specs.Io.KnownBytes.{Keeps};
+
 use lx_tool::Output;
 use std::io;
-use std::io::{ErrorKind, Write};
+use std::io::{BufWriter, ErrorKind, Write};
 
-/// A writer that remembers whether the other end of its pipe was closed.
+/// A buffered writer that remembers that the other end of its pipe was closed.
 #[derive(Drop)]
-pub struct PipeOutput<W: Write> {
-    out: W,
+pub struct PipeOutput<W: Write + Drop> {
+    out: BufWriter<W>,
     is_closed: bool,
 }
 
-impl<W: Write> PipeOutput<W> {
-    pub fn new(out: W) -> PipeOutput<W> {
+impl<W: Write + Drop> PipeOutput<W> {
+    pub fn new(out: BufWriter<W>) -> PipeOutput<W> {
         PipeOutput {
             out,
             is_closed: false,
@@ -20,7 +23,7 @@ impl<W: Write> PipeOutput<W> {
     }
 }
 
-// Whether the other end of a pipe was closed, as a call answered.
+// Returns true where a call answered that the other end of a pipe was closed.
 fn is_broken<T>(answer: &io::Result<T>) -> bool {
     match answer {
         Ok(_) => false,
@@ -28,7 +31,7 @@ fn is_broken<T>(answer: &io::Result<T>) -> bool {
     }
 }
 
-impl<W: Write> Write for PipeOutput<W> {
+impl<W: Write + Drop> Write for PipeOutput<W> {
     fn write(&mut self, bytes: &[u8]) -> io::Result<usize> {
         let answer = self.out.write(bytes);
         self.is_closed |= is_broken(&answer);
@@ -36,13 +39,23 @@ impl<W: Write> Write for PipeOutput<W> {
     }
 
     fn flush(&mut self) -> io::Result<()> {
+        self.send()
+    }
+}
+
+impl<W: Write + Drop> Output for PipeOutput<W> {
+    ghost use Rattle.std.specs.Prelude.{◌≡◌, []};
+    ghost use Rattle.std.specs.Io.Buffered.{writer_buffer};
+
+    // The buffer is empty.
+    ghost sent = { λ output. writer_buffer output.out ≡ [] };
+
+    fn send(&mut self) -> io::Result<()> {
         let answer = self.out.flush();
         self.is_closed |= is_broken(&answer);
         answer
     }
-}
 
-impl<W: Write> Output for PipeOutput<W> {
     fn is_closed(&self) -> bool {
         self.is_closed
     }

@@ -1,46 +1,75 @@
 //! Real files as the program's targets.
 
+use crate::names::carries_bytes;
+use crate::same_file::is_same_file;
 use lx_tool::{TargetFault, Targets};
+use std::alloc::AllocError;
 use std::fs::{File, OpenOptions, Permissions};
 use std::io::{Error, ErrorKind, Write};
 use std::random::RandomSource;
 use std::rt::Files;
 use std::{fs, io};
 
+// The system's number for bytes that are no text, which a new file's name may not have here.
+const NO_TEXT: i32 = 84;
+
+/// The file that was not made, and the system's reason as its number.
+#[derive(Drop)]
+struct Fault {
+    name: String,
+    reason: i32,
+}
+
 /// The files of the system, by their paths. A file is replaced by a new one beside it, which takes its name once it is whole.
 #[derive(Drop)]
 pub struct FileTargets<'a, R> {
     rt: &'a R,
-    // Why the last file couldn't be made, as a number of the system's.
-    reason: Option<i32>,
+    // The last file that was not made, as far as it is known.
+    fault: Option<Fault>,
 }
 
 impl<'a, R> FileTargets<'a, R> {
     /// The files that the runtime reaches.
     pub fn new(rt: &'a R) -> FileTargets<'a, R> {
-        FileTargets { rt, reason: None }
+        FileTargets { rt, fault: None }
     }
 }
 
 impl<R: AllocGlobal + Files + RandomSource> Targets for FileTargets<'_, R> {
     ghost use Rattle.std.specs.Prelude.{⊤};
 
-    // Nothing is claimed of what the system does with a file.
+    // Nothing is claimed of what the system does with a file, and of which file has which name.
     ghost places = { λ _ _ _ _. ⊤ };
+
+    ghost same = { λ _ _ _ _. ⊤ };
 
     fn place(&mut self, name: &str, bytes: &[u8]) -> Result<(), TargetFault> {
         match put(self.rt, name, bytes) {
             Ok(()) => Ok(()),
             Err(error) => {
-                self.reason = error.raw_os_error();
+                self.fault = fault_at(self.rt, name, &error);
                 Err(fault_of(&error))
             }
         }
     }
 
-    fn reason(&self) -> Option<Error> {
-        self.reason.map(Error::from_raw_os_error)
+    fn is_same_file(&self, name: &str, other: &str) -> Result<bool, AllocError> {
+        is_same_file(self.rt, name, other)
     }
+
+    fn tell_fault<E: Write>(&self, err: &mut E) {
+        if let Some(fault) = &self.fault {
+            let reason = Error::from_raw_os_error(fault.reason);
+            let _ = writeln!(err, "lx: {}: {reason}", fault.name.as_str());
+        }
+    }
+}
+
+// Returns a fault with its reason, where the system gave one and memory isn't refused.
+fn fault_at<R: AllocGlobal>(rt: &R, name: &str, error: &Error) -> Option<Fault> {
+    let reason = error.raw_os_error()?;
+    let name = String::from_str(rt.alloc(), name).ok()?;
+    Some(Fault { name, reason })
 }
 
 fn fault_of(error: &Error) -> TargetFault {
@@ -50,27 +79,58 @@ fn fault_of(error: &Error) -> TargetFault {
     }
 }
 
-// Puts the bytes under a name. Through a symbolic link the file behind it is replaced, and what is there and no regular file is written to.
+// Puts the bytes under a name, as `>` of a shell does: through a symbolic link into the file that it names, be it there or not, and never into a
+// file that can't be written. A regular file is replaced, and another one that is there is written to.
 fn put<R: AllocGlobal + Files + RandomSource>(rt: &R, name: &str, bytes: &[u8]) -> io::Result<()> {
+    if carries_bytes(name) {
+        return Err(Error::from_raw_os_error(NO_TEXT));
+    }
     match fs::metadata(rt, name) {
         Ok(old) if old.is_file() => {
-            let path = fs::canonicalize(rt, name)?;
-            replace(rt, path.as_str(), bytes, Some(old.permissions()))
+            OpenOptions::new().write(true).open(rt, name)?;
+            replace_behind_links(rt, name, bytes, Some(old.permissions()))
         }
         Ok(_) => write_to(&mut OpenOptions::new().write(true).open(rt, name)?, bytes),
         Err(error) if error.kind() == ErrorKind::NotFound && !is_there(rt, name) => {
             replace(rt, name, bytes, None)
         }
+        Err(error) if error.kind() == ErrorKind::NotFound => put_behind_link(rt, name, bytes),
         Err(error) => Err(error),
     }
 }
 
-// Whether there is something with this name, be it a link to nothing.
+// Returns true where there is something with this name, be it a link to nothing.
 fn is_there<R: Files>(rt: &R, name: &str) -> bool {
     fs::symlink_metadata(rt, name).is_ok()
 }
 
-// Writes the bytes to a new file beside the one with this path, which then takes its place; behind a fault it is removed.
+// Replaces the file with this name, or the one that a link with this name leads to.
+fn replace_behind_links<R: AllocGlobal + Files + RandomSource>(
+    rt: &R,
+    name: &str,
+    bytes: &[u8],
+    permissions: Option<Permissions>,
+) -> io::Result<()> {
+    let path = fs::canonicalize(rt, name)?;
+    replace(rt, path.as_str(), bytes, permissions)
+}
+
+// Makes the file that a link names which isn't there. It is made empty first, so that its path is known; after a fault it is removed.
+fn put_behind_link<R: AllocGlobal + Files + RandomSource>(
+    rt: &R,
+    name: &str,
+    bytes: &[u8],
+) -> io::Result<()> {
+    OpenOptions::new().write(true).create(true).open(rt, name)?;
+    let path = fs::canonicalize(rt, name)?;
+    let done = replace(rt, path.as_str(), bytes, None);
+    if done.is_err() {
+        let _ = fs::remove_file(rt, path.as_str());
+    }
+    done
+}
+
+// Writes the bytes to a new file beside the one with this path, which then takes its place; after a fault it is removed.
 fn replace<R: AllocGlobal + Files + RandomSource>(
     rt: &R,
     path: &str,

@@ -1,43 +1,51 @@
-//! What the program itself looks at in the words of the command line.
+//! The words of the command line, of any bytes.
 
-ghost use Rattle.std.specs.Prelude.{◌≤◌, length};
-
-use std::io;
-use std::io::Write;
+use crate::names::text_of;
+use std::alloc::{AllocError, Global};
+use std::env::FillError;
 use std::rt::Env;
 
-// A longer word isn't shown: no name of a file is.
-const MOST_BYTES: usize = 4_096;
+// No name of a file is longer. A longer word is read once more.
+const FEW_BYTES: usize = 4_096;
 
-// Writes bytes as the listing has them: those outside 32 to 126, and the backslash, are escaped.
-fn write_escaped<E: Write>(err: &mut E, bytes: &[u8]) -> io::Result<()> {
-    for byte in bytes {
-        match *byte {
-            b'\\' => write!(err, "\\\\")?,
-            plain @ b' '..=b'~' => write!(err, "{}", char::from(plain))?,
-            other => write!(err, "\\x{other:02X}")?,
-        }
-    }
-    Ok(())
-}
+// The system takes no longer word.
+const MOST_BYTES: usize = 131_072;
 
-/// Shows the first word that isn't UTF-8.
-pub fn tell_refused_word<R: Env, E: Write>(rt: &R, err: &mut E) -> io::Result<()> {
-    let mut word = [0u8; MOST_BYTES];
+/// Returns the words. One that isn't UTF-8 is a text that stands for its bytes.
+pub fn read_words<R: Env>(rt: &R, alloc: Global) -> Result<Vec<String>, AllocError> {
+    let mut words = Vec::new(alloc);
     for i in 0..usize::MAX {
-        let Ok(len) = rt.arg(i, &mut word) else {
-            return Ok(());
-        };
-        if len <= MOST_BYTES && str::from_utf8(&word[..len]).is_err() {
-            write!(err, "lx: ")?;
-            write_escaped(err, &word[..len])?;
-            return writeln!(err, "");
+        match read_word(rt, alloc, i)? {
+            Some(word) => words.push(word)?,
+            None => break,
         }
     }
-    Ok(())
+    Ok(words)
 }
 
-/// Whether words ask for workers. What is gathered of the output goes by it, and nothing else: a file may have such a name.
+// Returns the word of this number, from 0; none, where there are fewer.
+fn read_word<R: Env>(rt: &R, alloc: Global, number: usize) -> Result<Option<String>, AllocError> {
+    let mut few = [0u8; FEW_BYTES];
+    match rt.arg(number, &mut few) {
+        Ok(len) => Ok(Some(text_of(alloc, &few[..len.min(FEW_BYTES)])?)),
+        Err(FillError::NotPresent) => Ok(None),
+        Err(FillError::TooLong) => read_long_word(rt, alloc, number),
+    }
+}
+
+fn read_long_word<R: Env>(
+    rt: &R,
+    alloc: Global,
+    number: usize,
+) -> Result<Option<String>, AllocError> {
+    let mut bytes = vec![in alloc; 0u8; MOST_BYTES]?;
+    match rt.arg(number, &mut bytes) {
+        Ok(len) => Ok(Some(text_of(alloc, &bytes[..len.min(MOST_BYTES)])?)),
+        Err(_) => Err(AllocError),
+    }
+}
+
+/// Returns true where words ask for workers, by which the output is gathered, and nothing else goes: a file may have such a name.
 pub fn want_workers(words: &[String]) -> bool {
     words.iter().any(|word| word.as_str() == "scan" || word.as_str().starts_with("-j"))
 }

@@ -10,7 +10,8 @@ pub(crate) const WORDS: &[u8] = b" \
     reinterpret_cast requires restrict return short signed sizeof static static_assert \
     static_cast struct switch template this thread_local throw true try typedef typeid typename \
     typeof typeof_unqual union unsigned using virtual void volatile wchar_t while xor xor_eq \
-    _Alignas _Alignof _Atomic _Bool _Complex _Generic _Imaginary _Noreturn _Static_assert \
+    _Alignas _Alignof _Atomic _BitInt _Bool _Complex _Decimal128 _Decimal32 _Decimal64 _Float128 \
+    _Float16 _Float32 _Float32x _Float64 _Float64x _Generic _Imaginary _Noreturn _Static_assert \
     _Thread_local NULL max_align_t nullptr_t offsetof ptrdiff_t size_t CHAR_BIT CHAR_MAX \
     CHAR_MIN INT_MAX INT_MIN LLONG_MAX LLONG_MIN LONG_MAX LONG_MIN MB_LEN_MAX SCHAR_MAX \
     SCHAR_MIN SHRT_MAX SHRT_MIN UCHAR_MAX UINT_MAX ULLONG_MAX ULONG_MAX USHRT_MAX INT8_C \
@@ -22,5 +23,5 @@ pub(crate) const WORDS: &[u8] = b" \
     FLT_RADIX FLT_ROUNDS DBL_DIG DBL_EPSILON DBL_MANT_DIG DBL_MAX DBL_MIN LDBL_DIG LDBL_EPSILON \
     LDBL_MANT_DIG LDBL_MAX LDBL_MIN DECIMAL_DIG FILENAME_MAX FOPEN_MAX L_tmpnam SEEK_CUR \
     SEEK_END SEEK_SET TMP_MAX EXIT_FAILURE EXIT_SUCCESS MB_CUR_MAX RAND_MAX LC_ALL LC_COLLATE \
-    LC_CTYPE LC_MONETARY LC_NUMERIC LC_TIME CLOCKS_PER_SEC HUGE_VAL FP_INFINITE FP_NAN \
-    FP_NORMAL FP_SUBNORMAL FP_ZERO ";
+    LC_CTYPE LC_MONETARY LC_NUMERIC LC_TIME CLOCKS_PER_SEC HUGE_VAL FP_INFINITE FP_NAN FP_NORMAL \
+    FP_SUBNORMAL FP_ZERO ";

@@ -78,6 +78,12 @@ fn is_pattern_split(alloc: Global, text: &[u8], rule: RuleExtent) -> Result<bool
     Ok(false)
 }
 
+// Returns whether the pattern begins with a string and another quote stands behind its end.
+fn is_string_split(text: &[u8], rule: RuleExtent) -> bool {
+    is_at(text, rule.pattern.start, b'"')
+        && find(text, rule.action.start, rule.line.end(), b"\"").is_some()
+}
+
 // Where the first word of the action is, that stands at the pattern's end with no blank before it.
 fn joined_word(
     alloc: Global,
@@ -119,10 +125,12 @@ fn border_cause(
     }
     if is_pattern_split(alloc, text, rule)? {
         let blank = one_byte(rule.pattern.end());
-        return Ok(Some((
-            ActionCause::BlankInPattern,
-            found_named(blank, rule.pattern),
-        )));
+        let cause = if is_string_split(text, rule) {
+            ActionCause::QuoteSplits
+        } else {
+            ActionCause::BlankInPattern
+        };
+        return Ok(Some((cause, found_named(blank, rule.pattern))));
     }
     if let Some(word) = joined_word(alloc, text, rule, b"return")? {
         return Ok(Some((ActionCause::NoBlank, found_at(word))));

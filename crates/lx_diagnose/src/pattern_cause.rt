@@ -7,6 +7,7 @@ use crate::names::{body_of, substitute_of, visits_of};
 use crate::outline::Outline;
 use crate::places::Span;
 use crate::prefix_cause::prefix_cause;
+use crate::scan::is_at;
 use crate::sectioning::RuleExtent;
 use std::alloc::{AllocError, Global};
 
@@ -32,7 +33,22 @@ fn text_cause(
             PatternCause::NothingButAnchors,
             found_at(whole),
         ))),
-        cause => Ok(cause),
+        Some((cause, found)) => Ok(Some((cause_by_quotes(text, span, cause, found), found))),
+        None => Ok(None),
+    }
+}
+
+// Returns the cause, and of a string that is empty or open that a quote before it was to be a byte, where an expression begins with a quote.
+fn cause_by_quotes(text: &[u8], span: Span, cause: PatternCause, found: Found) -> PatternCause {
+    let at = found.at.start;
+    if !is_at(text, span.start, b'"') {
+        return cause;
+    }
+    match cause {
+        PatternCause::QuoteEmpty if at > span.start || is_at(text, at.saturating_add(2), b'"') =>
+            PatternCause::QuoteInside,
+        PatternCause::QuoteOpen if at > span.start => PatternCause::QuoteInside,
+        _ => cause,
     }
 }
 

@@ -49,6 +49,8 @@ pub(crate) fn phrase_of(cause: Cause) -> &'static str {
         Cause::NoCondition(ConditionCause::BeginVariable) =>
             "BEGIN takes a condition by its name, and `@` is none",
         Cause::NoAction(ActionCause::BlankInPattern) => "the pattern `@` ends at this blank",
+        Cause::NoAction(ActionCause::QuoteSplits) =>
+            "a quote ends a string, so that the pattern `@` ends at this blank",
         Cause::NoAction(ActionCause::FlexCall) => "`@` is not there",
         Cause::NoAction(ActionCause::FlexVariable) => "`@` can't be used: an action runs no code",
         Cause::NoAction(ActionCause::C) => "`@` is C, which an action doesn't run",

@@ -113,8 +113,8 @@ fn push_phrase(text: &mut Vec<u8>, phrase: &[u8], fillings: &Fillings) -> Result
     Ok(())
 }
 
-/// Some bytes as they are shown.
-pub(crate) fn printed(alloc: Global, bytes: &[u8]) -> Result<Vec<u8>, AllocError>
+/// Some bytes as they are shown. Err: memory was refused.
+pub fn printed(alloc: Global, bytes: &[u8]) -> Result<Vec<u8>, AllocError>
     ensures value { IfOk result (λ words. words.items ≡ specs.shown bytes.now) }
     ensures printed { IfOk result (λ words. ArePrinted words.items) }
 {

@@ -236,6 +236,11 @@ quote-empty (E10)
     To do: leave it out
     As in: a""b ;
 
+quote-inside (E10)
+    a quote ends the string before it, and begins one that is empty or not closed
+    To do: write \" for the byte
+    As in: "say "hi"" ;
+
 quote-open (E10)
     a string is not closed
     To do: close it, or write \" for the byte
@@ -394,6 +399,11 @@ blank-in-pattern (E20)
     the pattern ends at a blank
     To do: quote the blank: "else if"
     As in: else if return ELIF;
+
+quote-splits (E20)
+    a quote ends a string, so that the pattern ends at the blank behind it
+    To do: write \" for the byte
+    As in: "say "hi there"" return HI;
 
 no-blank (E20)
     no blank stands between pattern and action
@@ -594,7 +604,7 @@ dead-statement (warning)
 
 skipped-rule (warning)
     a line of Rules looks like a rule, and begins with a blank, so it is skipped
-    To do: begin it at the margin
+    To do: begin it at the margin; where the blank is of the pattern, write " " or [ ]
     As in:  a return A;
 
 skipped-line (warning)

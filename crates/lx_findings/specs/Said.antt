@@ -1,13 +1,18 @@
 -- What is said of a specification.
-use Rattle.std.specs.Prelude.{◌≡◌, ℕ, ⊤, List, [], ◌∷◌, ◌++◌, codes}
+use Rattle.std.specs.Prelude.{◌≡◌, ◌<◌, ℕ, ⊤, All, Bool, true, false, List, [], ◌∷◌, ◌++◌, codes}
 use Rattle.lx_verdict.specs.declared.finding.Finding.{Finding}
 use Rattle.lx_verdict.specs.declared.finding.Finding.TheVariants as finding
 use Rattle.lx_check.specs.declared.report.Report.{Report}
 use Rattle.lx_check.specs.declared.report.Report.TheVariants as report
 use Rattle.lx_diagnose.specs.CodeWords.{word_of}
-use Rattle.lx_report.specs.Lines.{code_text, head_text}
+use Rattle.lx_report.specs.Lines.{code_text, finding_line, head_text, shown}
 use Rattle.lx_report.specs.declared.finding.Place.{Place}
-use Rattle.lx_report.specs.declared.finding.Severity.TheVariants.{Error}
+use Rattle.lx_report.specs.declared.finding.Severity.TheVariants.{Error, Warning}
+use Rattle.lx_warnings.specs.Kinds.{has_kind}
+use Rattle.lx_warnings.specs.Names.{name_text}
+use Rattle.lx_warnings.specs.declared.kinds.KindSet.{KindSet}
+use Rattle.lx_warnings.specs.declared.kinds.WarningKind.{WarningKind}
+use Rattle.lx_warnings.specs.declared.warnings.Warning.{Warning as WarningTold}
 
 -- the code of a finding
 abbrev pub code_of : Finding → List ℕ
@@ -42,3 +47,37 @@ TellsFirst file (finding ∷ more) said = TellsFault file (code_of finding) (lin
 abbrev pub TellsVerdict : List ℕ → Report → List ℕ → Type 0
 TellsVerdict file (report.Refused findings) said = TellsFirst file findings.items said
 TellsVerdict file (report.Accepted accepted) said = ⊤
+
+-- ---- the warnings of a text that is accepted
+
+-- These warnings are of kinds of the set.
+abbrev pub AreAsked : KindSet → List WarningTold → Type 0
+AreAsked asked told = All (λ warning. has_kind asked warning.kind ≡ true) told
+
+-- Behind a text stands the line of a warning of this kind.
+pub record TellsWarning (file : List ℕ) (kind : WarningKind) (old new : List ℕ) : Type 0 where
+  pub place : Place
+  pub words : List ℕ
+  pub rest : List ℕ
+  pub said : new ≡ old ++ (finding_line file Warning place [] words (name_text kind) ++ rest)
+
+-- A warning of a kind that is asked for is told first.
+pub record BeginsWithWarning (file : List ℕ) (is_asked : WarningKind → Bool) (said : List ℕ) : Type 0 where
+  pub kind : WarningKind
+  pub asked : is_asked kind ≡ true
+  pub told : TellsWarning file kind [] said
+
+-- Behind a text stands that the file is accepted.
+pub record TellsSummary (file old new : List ℕ) : Type 0 where
+  pub rest : List ℕ
+  pub said : new ≡ old ++ (shown file ++ (codes ": accepted: " ++ rest))
+
+-- No warning is told: nothing, or first that the file is accepted.
+abbrev pub TellsNoWarning : List ℕ → Bool → List ℕ → Type 0
+TellsNoWarning file true said = said ≡ []
+TellsNoWarning file false said = TellsSummary file [] said
+
+-- So many warnings are found: where there is one, the first one is told first, and else none.
+pub record TellsWarnings (file : List ℕ) (quiet : Bool) (is_asked : WarningKind → Bool) (count : ℕ) (said : List ℕ) : Type 0 where
+  pub none : count ≡ 0 → TellsNoWarning file quiet said
+  pub some : 0 < count → BeginsWithWarning file is_asked said

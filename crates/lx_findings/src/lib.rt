@@ -2,6 +2,7 @@
 #![tactic(auto)]
 
 mod errors;
+mod ordering;
 mod pieces;
 mod repeated;
 mod sarif;

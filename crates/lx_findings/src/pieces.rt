@@ -1,7 +1,9 @@
 //! Parts of a report, put behind a text. Where memory is refused a part of them stands there.
 
 ghost use Rattle.std.specs.Prelude.{◌≡◌, ◌++◌, OnOk};
+ghost use Rattle.std.specs.List.{flat_map};
 ghost use Rattle.lx_findings.specs.Said.{Extends};
+ghost use Rattle.lx_report.specs.Bytes.{shown_byte};
 ghost use Rattle.lx_report.specs.Lines.{finding_line};
 
 use lx_diagnose::{Place as TextPlace, line_bytes};
@@ -21,7 +23,8 @@ pub(crate) fn push_shown_and(
     shown: &[u8],
     behind: &[u8],
 ) -> Result<(), AllocError>
-    ensures { OnOk result (Extends text.old.items text.new.items) }
+    ensures value { OnOk result (text.new.items ≡ text.old.items ++ (flat_map shown_byte shown.now ++ behind.now)) }
+    ensures extends { OnOk result (Extends text.old.items text.new.items) }
 {
     push_shown(text, shown)?;
     push(text, behind)

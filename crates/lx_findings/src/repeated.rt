@@ -1,6 +1,7 @@
 //! Faults that say again what one before them says.
 
 use lx_check::Finding;
+use lx_diagnose::causes::LineCause;
 use lx_diagnose::scan::part;
 use lx_diagnose::{Cause, Diagnosis, Place, diagnose};
 use std::alloc::{AllocError, Global};
@@ -53,7 +54,16 @@ fn is_new(
     Ok(true)
 }
 
+// Returns whether tables are given in the place of a specification.
+fn are_tables(told: &[Diagnosis]) -> bool {
+    match told.first() {
+        Some(diagnosis) => matches!(diagnosis.cause, Cause::NoForm(LineCause::TablesGiven)),
+        None => false,
+    }
+}
+
 /// Those of further findings that say something new: a definition without a reading is told with the first rule that reaches it, and a name that is missing at its first use.
+/// Where the text is one of tables, nothing else is told.
 pub(crate) fn new_findings(
     alloc: Global,
     source: &[u8],
@@ -63,6 +73,9 @@ pub(crate) fn new_findings(
     let mut told = Vec::new(alloc);
     is_new(alloc, source, &mut told, first)?;
     let mut new = Vec::new(alloc);
+    if are_tables(&told) {
+        return Ok(new);
+    }
     for finding in more {
         if is_new(alloc, source, &mut told, *finding)? {
             new.push(*finding)?;

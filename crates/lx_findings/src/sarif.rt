@@ -1,7 +1,7 @@
 //! What is said of a specification, as SARIF 2.1.0.
 
+use crate::ordering::{Entry, Rest, rest_of};
 use crate::pieces::{place_of, push};
-use crate::repeated::new_findings;
 use crate::saying::Said;
 use crate::style::Style;
 use crate::warnings::warnings_in;
@@ -76,22 +76,43 @@ fn push_warning_result(
     push_result(text, style.file, &finding)
 }
 
+fn push_entry_result(
+    alloc: Global,
+    text: &mut Vec<u8>,
+    style: &Style<'_>,
+    source: &[u8],
+    rest: &Rest,
+    entry: Entry,
+) -> Result<(), AllocError> {
+    match entry {
+        Entry::Error(fault) => push_error_result(alloc, text, style, source, fault),
+        Entry::Warning(number) => {
+            if number < rest.warnings.told.len() {
+                return push_warning_result(text, style, &rest.warnings.told[number]);
+            }
+            Ok(())
+        }
+    }
+}
+
+// The result is the number of warnings.
 fn push_error_results(
     alloc: Global,
     text: &mut Vec<u8>,
     style: &Style<'_>,
     source: &[u8],
     faults: &[Fault],
-) -> Result<(), AllocError> {
+) -> Result<usize, AllocError> {
     let Some((first, more)) = faults.split_first() else {
-        return Ok(());
+        return Ok(0);
     };
     push_error_result(alloc, text, style, source, *first)?;
-    for fault in &new_findings(alloc, source, *first, more)? {
+    let rest = rest_of(alloc, style, source, *first, more)?;
+    for entry in &rest.entries {
         push(text, b",\n")?;
-        push_error_result(alloc, text, style, source, *fault)?;
+        push_entry_result(alloc, text, style, source, &rest, *entry)?;
     }
-    Ok(())
+    Ok(rest.warnings.count)
 }
 
 fn push_warning_results(
@@ -123,10 +144,7 @@ pub fn sarif_of(
     let mut text = Vec::new(alloc);
     push_sarif_start(&mut text, version)?;
     let warnings = match report {
-        Report::Refused(faults) => {
-            push_error_results(alloc, &mut text, style, source, faults)?;
-            0
-        }
+        Report::Refused(faults) => { push_error_results(alloc, &mut text, style, source, faults)? }
         Report::Accepted(accepted) => {
             push_warning_results(alloc, &mut text, style, source, accepted)?
         }

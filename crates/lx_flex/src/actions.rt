@@ -32,9 +32,16 @@ pub(crate) enum Action {
         line: u32,
         /// The conditions that it begins in any case.
         begins: Vec<Step>,
-        /// What lx can't do.
-        problem: Option<Cause>,
+        /// What lx can't do, in the order of the text.
+        problems: Vec<Problem>,
     },
+}
+
+/// What lx can't do, and the line on which it is.
+#[derive(Clone, Copy, PartialEq, Eq)]
+pub(crate) struct Problem {
+    pub(crate) line: u32,
+    pub(crate) cause: Cause,
 }
 
 /// Whether the bytes are a decimal number below 2,147,483,648 without a zero before it.
@@ -212,22 +219,39 @@ const PROBLEMS: &[(&[u8], Cause)] = &[
     (b"yy_scan_string", Cause::OtherBuffer),
     (b"yy_scan_bytes", Cause::OtherBuffer),
     (b"yy_scan_buffer", Cause::OtherBuffer),
+    (b"yy_flush_buffer", Cause::OtherBuffer),
+    (b"yy_set_bol", Cause::LineBegin),
 ];
 
-/// What lx can't do in the place of a word of flex's; `called` says that a parenthesis follows.
-fn problem_of(word: &[u8], called: bool) -> Option<Cause> {
-    if word == b"REJECT".as_slice() {
-        return Some(Cause::Reject);
-    }
-    if !called {
-        return None;
-    }
-    for (name, problem) in PROBLEMS {
+/// The same by the macros of flex's that take no arguments.
+const MACRO_PROBLEMS: &[(&[u8], Cause)] = &[
+    (b"REJECT", Cause::Reject),
+    (b"YY_FLUSH_BUFFER", Cause::OtherBuffer),
+    (b"YY_NEW_FILE", Cause::OtherBuffer),
+];
+
+/// Finds the word in a table.
+fn cause_in(table: &[(&[u8], Cause)], word: &[u8]) -> Option<Cause> {
+    for (name, cause) in table {
         if word == *name {
-            return Some(*problem);
+            return Some(*cause);
         }
     }
     None
+}
+
+/// What lx can't do in the place of a word of flex's; `called` says that a parenthesis follows.
+fn problem_of(word: &[u8], called: bool) -> Option<Cause> {
+    match cause_in(MACRO_PROBLEMS, word) {
+        Some(cause) => Some(cause),
+        None => {
+            if called {
+                cause_in(PROBLEMS, word)
+            } else {
+                None
+            }
+        }
+    }
 }
 
 /// The words behind which C text may be left out.
@@ -244,6 +268,8 @@ const BRANCHING: &[&[u8]] = &[
     b"break",
     b"continue",
     b"return",
+    b"REJECT",
+    b"yyterminate",
 ];
 
 /// Whether what stands behind the word may be left out.
@@ -259,17 +285,21 @@ fn is_branching_mark(mark: u8) -> bool {
 /// What was found in C text.
 #[derive(Drop)]
 struct Found {
+    /// The line on which the text begins.
+    first_line: u32,
     begins: Vec<Step>,
-    problem: Option<Cause>,
+    problems: Vec<Problem>,
     /// Whether what follows may be left out.
     branching: bool,
 }
 
-/// The first problem stays.
-fn note(found: &mut Found, problem: Cause) {
-    if found.problem.is_none() {
-        found.problem = Some(problem);
+/// Adds a problem, once for each line.
+fn note(found: &mut Found, line: u32, cause: Cause) -> Result<(), AllocError> {
+    let problem = Problem { line, cause };
+    if !found.problems.as_slice().contains(&problem) {
+        found.problems.push(problem)?;
     }
+    Ok(())
 }
 
 /// What a `BEGIN` in C text does.
@@ -278,17 +308,16 @@ fn note_begin(
     tokens: &mut Tokens,
     conditions: &[StartCondition],
 ) -> Result<(), AllocError> {
+    let line = tokens.line_from(found.first_line);
     let place = match operand(tokens) {
         Some(token) => begun(conditions, token),
         None => None,
     };
     let Some(place) = place else {
-        note(found, Cause::UnknownBegin);
-        return Ok(());
+        return note(found, line, Cause::UnknownBegin);
     };
     if found.branching {
-        note(found, Cause::ConditionalBegin);
-        return Ok(());
+        return note(found, line, Cause::ConditionalBegin);
     }
     found.begins.push(Step::Begin(place))?;
     Ok(())
@@ -313,22 +342,25 @@ fn note_word(
     }
     let mut ahead = *tokens;
     let called = ahead.next() == Some(Token::Mark(b'('));
-    if let Some(problem) = problem_of(word, called) {
-        note(found, problem);
+    match problem_of(word, called) {
+        Some(cause) => note(found, tokens.line_from(found.first_line), cause),
+        None => Ok(()),
     }
-    Ok(())
 }
 
-/// What C text does that lx has to do, or can't.
+/// Finds what C text does that lx has to do, or can't. `branching` says that all of it may be left out.
 fn look_through(
     alloc: Global,
     text: &[u8],
+    line: u32,
     conditions: &[StartCondition],
+    branching: bool,
 ) -> Result<Found, AllocError> {
     let mut found = Found {
+        first_line: line,
         begins: Vec::new(alloc),
-        problem: None,
-        branching: false,
+        problems: Vec::new(alloc),
+        branching,
     };
     let mut tokens = Tokens::new(text);
     let mut before: u8 = 0;
@@ -365,14 +397,34 @@ pub(crate) fn action_of(
         return Ok(Action::Steps(steps));
     }
     let Found {
+        first_line: _,
         begins,
-        problem,
+        problems,
         branching: _,
-    } = look_through(alloc, text, conditions)?;
+    } = look_through(alloc, text, line, conditions, false)?;
     Ok(Action::Code {
         text: Vec::from_slice(alloc, text)?,
         line,
         begins,
-        problem,
+        problems,
     })
+}
+
+/// Returns what the code before the first rule does that lx can't. flex runs it at each call, so no rule can have its BEGIN.
+pub(crate) fn problems_before_rules(
+    alloc: Global,
+    text: &[u8],
+    line: u32,
+    conditions: &[StartCondition],
+) -> Result<Vec<Problem>, AllocError> {
+    let found = look_through(alloc, text, line, conditions, true)?;
+    let mut problems = Vec::new(alloc);
+    for problem in found.problems.as_slice() {
+        let cause = match problem.cause {
+            Cause::ConditionalBegin | Cause::UnknownBegin => Cause::BeginBeforeRules,
+            other => other,
+        };
+        problems.push(Problem { cause, ..*problem })?;
+    }
+    Ok(problems)
 }

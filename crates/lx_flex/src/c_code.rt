@@ -213,6 +213,20 @@ pub(crate) fn tidy(text: &[u8]) -> &[u8] {
     between(start, end, text)
 }
 
+/// Counts the lines that end before the first byte that isn't blank.
+pub(crate) fn lines_before(text: &[u8]) -> u32 {
+    let mut lines: u32 = 0;
+    for byte in text {
+        if !byte.is_ascii_whitespace() {
+            break;
+        }
+        if *byte == b'\n' {
+            lines = lines.saturating_add(1);
+        }
+    }
+    lines
+}
+
 /// The text behind a mark at its front.
 pub(crate) fn behind_mark<'a>(mark: &[u8], text: &'a [u8]) -> Option<&'a [u8]> {
     if front(mark.len(), text) == mark {

@@ -88,6 +88,9 @@ fn draft_of(
     options: Options,
     reports: &mut Reports,
 ) -> Result<Draft, Stop> {
+    if text.starts_with(b"lx-tables ") {
+        return stopped(0, Cause::Tables);
+    }
     if text.len() > MAX_FILE_BYTES {
         return stopped(0, Cause::TooLong);
     }
@@ -99,7 +102,7 @@ fn draft_of(
     let declared = read_definitions(alloc, &mut cursor, reports)?;
     let Naming { names, definitions } = naming_of(alloc, &declared)?;
     let raw = read_rules(alloc, &mut cursor, &declared, &names, reports)?;
-    let rules = judged(alloc, raw, reports, options.lossy)?;
+    let rules = judged(alloc, raw, reports)?;
     Ok(Draft {
         specification: specification(alloc, &declared, definitions.as_slice(), rules.as_slice())?,
         cases: cases(alloc, options, rules.as_slice())?,
@@ -194,6 +197,7 @@ pub fn import(alloc: Global, text: &[u8], options: Options) -> Result<Imported, 
     let mut reports = Reports {
         list: Vec::new(alloc),
         fatal: false,
+        lossy: options.lossy,
     };
     let draft = match draft_of(alloc, text, options, &mut reports) {
         Ok(draft) => draft,

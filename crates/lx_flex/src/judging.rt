@@ -1,6 +1,6 @@
 //! Rules of a file as rules of lx: what becomes of `<<EOF>>` rules and of actions, and what is to be reported.
 
-use crate::actions::{Action, Step};
+use crate::actions::Action;
 use crate::report::{Cause, Reports, Stop};
 use crate::rules::RawRule;
 use lx_flex_pattern::{Pattern, Reading, Tree, translate};
@@ -96,58 +96,41 @@ fn judge_pattern(
     rule: &ImportedRule,
     trailing: bool,
     behind_bar: bool,
-    lossy: bool,
 ) -> Result<(), AllocError> {
     if trailing {
-        reports.add(rule.line, Cause::TrailingContext, !lossy)?;
+        reports.add_loss(rule.line, Cause::TrailingContext)?;
     }
     if rule.pattern.line_end && behind_bar {
-        reports.add(rule.line, Cause::DollarBehindBar, !lossy)?;
+        reports.add_loss(rule.line, Cause::DollarBehindBar)?;
     }
     if rule.pattern.line_end && matches_nothing(&rule.pattern.tree) {
-        reports.add(rule.line, Cause::EmptyBeforeDollar, !lossy)?;
+        reports.add_loss(rule.line, Cause::EmptyBeforeDollar)?;
     }
     Ok(())
 }
 
-/// The action, with what is to be said of it; with a loss nothing but the rule's number is left of what lx can't do.
+/// Reports what lx can't do of an action. What the action begins in any case, and the rule's number, stay.
 fn judge_action(
-    alloc: Global,
     reports: &mut Reports,
     rule_line: u32,
-    action: Action,
+    action: &Action,
     last: bool,
-    lossy: bool,
-) -> Result<Action, AllocError> {
+) -> Result<(), AllocError> {
     match action {
         Action::Bar => {
             if last {
                 reports.add(rule_line, Cause::DanglingBar, true)?;
             }
-            Ok(Action::Bar)
         }
-        Action::Steps(steps) => Ok(Action::Steps(steps)),
+        Action::Steps(_) => {}
         Action::Code {
-            text,
-            line,
-            begins,
-            problem,
-        } => {
-            let kept: Vec<Step> = match problem {
-                Some(cause) => {
-                    reports.add(line, cause, !lossy)?;
-                    Vec::new(alloc)
-                }
-                None => begins,
-            };
-            Ok(Action::Code {
-                text,
-                line,
-                begins: kept,
-                problem,
-            })
-        }
+            text: _,
+            line: _,
+            begins: _,
+            problems,
+        } => reports.add_losses(problems.as_slice())?,
     }
+    Ok(())
 }
 
 /// The rule's pattern in lx, or none with a report.
@@ -171,7 +154,6 @@ pub(crate) fn judged(
     alloc: Global,
     rules: Vec<RawRule>,
     reports: &mut Reports,
-    lossy: bool,
 ) -> Result<Vec<JudgedRule>, Stop> {
     let kept = without_ends(alloc, rules)?;
     let count = kept.len();
@@ -180,9 +162,9 @@ pub(crate) fn judged(
     let mut number: usize = 0;
     for (rule, trailing, action) in kept {
         number = number.saturating_add(1);
-        judge_pattern(reports, &rule, trailing, behind_bar, lossy)?;
+        judge_pattern(reports, &rule, trailing, behind_bar)?;
         behind_bar = matches!(action, Action::Bar);
-        let action = judge_action(alloc, reports, rule.line, action, number == count, lossy)?;
+        judge_action(reports, rule.line, &action, number == count)?;
         if let Some(text) = text_of(alloc, reports, &rule)? {
             judged.push(JudgedRule { rule, text, action })?;
         }

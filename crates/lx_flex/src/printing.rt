@@ -159,7 +159,7 @@ fn push_action(
             text: _,
             line: _,
             begins,
-            problem: _,
+            problems: _,
         } => push_code(text, conditions, begins.as_slice(), number),
     }
 }
@@ -266,7 +266,7 @@ pub(crate) fn cases(
             text: code,
             line,
             begins: _,
-            problem: _,
+            problems: _,
         } = &judged.action
         {
             push_case(&mut text, options, number, *line, code.as_slice())?;

@@ -1,5 +1,6 @@
 //! What can't be brought over, or only with a loss, and what to do about it.
 
+use crate::actions::Problem;
 use std::alloc::{AllocError, AllocFailed};
 use thiserror::Error;
 
@@ -58,6 +59,14 @@ pub enum Cause {
     UnknownBegin,
     #[error("BEGIN under a condition; write a rule for each case")]
     ConditionalBegin,
+    #[error("BEGIN in the code before the first rule; call the scanner's begin in the program")]
+    BeginBeforeRules,
+    #[error("yy_set_bol; write a start condition for the line's begin")]
+    LineBegin,
+    #[error("the file is tables of lx, and no specification for flex; list files by it with lx scan")]
+    Tables,
+    #[error("there are more than 1,000 of these lines; the others are left out")]
+    Further,
     #[error("lx refuses what would be printed: {0}")]
     Refused(lx_spec::Code),
     #[error("lx reads what would be printed otherwise")]
@@ -121,6 +130,8 @@ const MAX_REPORTS: usize = 1000;
 pub(crate) struct Reports {
     pub(crate) list: Vec<Report>,
     pub(crate) fatal: bool,
+    /// True where a loss is only reported.
+    pub(crate) lossy: bool,
 }
 
 impl Reports {
@@ -145,12 +156,32 @@ impl Reports {
         place
     }
 
-    /// Adds a report, behind those of its line and of earlier ones; those above the limit count, and aren't kept.
+    /// Adds a report, after those of its line and of earlier ones; above the limit the last report says that there are more.
     pub(crate) fn add(&mut self, line: u32, cause: Cause, fatal: bool) -> Result<(), AllocError> {
         self.fatal = self.fatal || fatal;
         if self.list.len() < MAX_REPORTS {
             let at = self.place_of(line).min(self.list.len());
             self.list.insert(at, Report { line, cause, fatal })?;
+        } else if self.list.len() == MAX_REPORTS {
+            self.list.push(Report {
+                line: 0,
+                cause: Cause::Further,
+                fatal,
+            })?;
+        }
+        Ok(())
+    }
+
+    /// Adds a report of what is lost, which is fatal unless losses are only reported.
+    pub(crate) fn add_loss(&mut self, line: u32, cause: Cause) -> Result<(), AllocError> {
+        let fatal = !self.lossy;
+        self.add(line, cause, fatal)
+    }
+
+    /// Adds a report of each of these losses.
+    pub(crate) fn add_losses(&mut self, problems: &[Problem]) -> Result<(), AllocError> {
+        for problem in problems {
+            self.add_loss(problem.line, problem.cause)?;
         }
         Ok(())
     }

@@ -1,9 +1,9 @@
 //! The rules section (flex's manual, "Format of the Rules Section", "Start Conditions").
 
-use crate::actions::{Action, action_of};
-use crate::c_code::{behind_mark, skip_block, take_action, take_block, tidy};
+use crate::actions::{Action, action_of, problems_before_rules};
+use crate::c_code::{behind_mark, lines_before, skip_block, take_action, take_block, tidy};
 use crate::conditions::{joined, name_at, place_of};
-use crate::cursor::{Cursor, blank_run, is_blank, skip};
+use crate::cursor::{Cursor, between, blank_run, is_blank, skip};
 use crate::definitions::Declared;
 use crate::report::{Cause, Reports, Stop, stopped};
 use lx_flex_pattern::{Names, Reading, read_pattern};
@@ -139,7 +139,13 @@ fn read_action(alloc: Global, cursor: &mut Cursor, declared: &Declared) -> Resul
     } else {
         take_action(cursor)?
     };
-    Ok(action_of(alloc, tidy(text), line, declared.conditions.as_slice())?)
+    let first_line = line.saturating_add(lines_before(text));
+    Ok(action_of(
+        alloc,
+        tidy(text),
+        first_line,
+        declared.conditions.as_slice(),
+    )?)
 }
 
 /// The conditions of a rule: those of the scopes and its own.
@@ -386,12 +392,20 @@ pub(crate) fn read_rules(
         list: Vec::new(alloc),
         prologue: true,
     };
+    let (start, line) = (cursor.at, cursor.line);
+    let mut end = start;
     for _ in 0..cursor.text.len() {
         if cursor.is_at_end() || cursor.begins_with(b"%%") {
             break;
         }
         read_line(alloc, cursor, declared, names, reports, &mut rules)?;
+        if rules.prologue {
+            end = cursor.at;
+        }
     }
+    let code = between(start, end, cursor.text);
+    let problems = problems_before_rules(alloc, code, line, declared.conditions.as_slice())?;
+    reports.add_losses(problems.as_slice())?;
     let Rules {
         scopes,
         list,

@@ -104,6 +104,17 @@ impl<'a> Tokens<'a> {
         between(start, self.at, self.text)
     }
 
+    /// The line on which the last word or mark ends, where the text begins on line `first`.
+    pub(crate) fn line_from(&self, first: u32) -> u32 {
+        let mut line = first;
+        for byte in front(self.at, self.text) {
+            if *byte == b'\n' {
+                line = line.saturating_add(1);
+            }
+        }
+        line
+    }
+
     /// Goes on behind blanks and comments.
     fn skip_nothing(&mut self) {
         for _ in 0..self.text.len() {

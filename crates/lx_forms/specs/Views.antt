@@ -7,7 +7,7 @@ use Rattle.lx_forms.specs.Forms.{PlainForm}
 abbrev pub form_view : Form → PlainForm
 form_view form = record {
   first = form.first;
-  names = option_map (λ names. map (λ name. name.now) names.now) form.names;
+  names = option_map (λ names. map (λ name. name.items) names.now) form.names;
   only = form.only;
   text = form.text;
   format = form.format;

@@ -13,8 +13,8 @@ use lx_scan::Item;
 pub struct Form<'a> {
     /// The number of the first file; the next one has the next number.
     pub first: u32,
-    /// The names of the files, in order, where they stand in the place of numbers. A file behind the list has an empty name.
-    pub names: Option<&'a [&'a str]>,
+    /// The names of the files, of any bytes, in order, where they stand in the place of numbers. A file after the list has an empty name.
+    pub names: Option<&'a [Vec<u8>]>,
     /// What alone is printed, where that isn't every item. The lines of files whose reading failed always are.
     pub only: Option<Selection>,
     /// Whether the texts of items are printed.
@@ -68,12 +68,12 @@ impl<'a> Form<'a> {
 }
 
 /// The name of a file.
-pub(crate) fn name_of<'a>(names: &'a [&'a str], file: u32) -> &'a [u8]
-    ensures { result.now ≡ name_of (map (λ name. name.now) names.now) file }
+pub(crate) fn name_of(names: &[Vec<u8>], file: u32) -> &[u8]
+    ensures { result.now ≡ name_of (map (λ name. name.items) names.now) file }
 {
     let file = file as usize;
     if file < names.len() {
-        names[file].as_bytes()
+        names[file].as_slice()
     } else {
         b""
     }

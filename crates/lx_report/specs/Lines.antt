@@ -1,5 +1,5 @@
 -- Findings as lines, in the form in which C's compilers have theirs.
-use Rattle.std.specs.Prelude.{ℕ, ◌-◌, ◌==◌, if◌then◌else◌, List, [], ◌++◌, codes, decimal, length, take, drop}
+use Rattle.std.specs.Prelude.{ℕ, ◌-◌, ◌==◌, Bool, true, false, nat_lt, if◌then◌else◌, List, [], ◌++◌, codes, decimal, length, take, drop}
 use Rattle.std.specs.List.{flat_map}
 use Rattle.lx_report.specs.Bytes.{shown_byte, source_byte, times}
 use Rattle.lx_report.specs.declared.finding.Place.{Place}
@@ -69,9 +69,29 @@ before column line = take (column - 1 - hidden column) (part column line)
 abbrev pub source : List ℕ → List ℕ
 source bytes = flat_map source_byte bytes
 
+-- what shows that a part of the line is left out
+abbrev pub cut : Bool → List ℕ
+cut false = []
+cut true = codes "..."
+
+-- bytes before the part are left out, or bytes behind it
+abbrev pub is_cut_before : ℕ → Bool
+is_cut_before column = nat_lt 0 (hidden column)
+
+abbrev pub is_cut_behind : ℕ → List ℕ → Bool
+is_cut_behind column line = nat_lt most_shown (length line - hidden column)
+
+-- what is printed of a line before the place
+abbrev pub printed_before : ℕ → List ℕ → List ℕ
+printed_before column line = cut (is_cut_before column) ++ source (before column line)
+
+-- what is printed of a line
+abbrev pub printed : ℕ → List ℕ → List ℕ
+printed column line = cut (is_cut_before column) ++ (source (part column line) ++ cut (is_cut_behind column line))
+
 -- the line, with its number before it
 abbrev pub source_line : ℕ → ℕ → List ℕ → List ℕ
-source_line number column line = codes "    " ++ (decimal number ++ (codes " | " ++ (source (part column line) ++ codes "\n")))
+source_line number column line = codes "    " ++ (decimal number ++ (codes " | " ++ (printed column line ++ codes "\n")))
 
 -- blanks as wide as what stands before a line
 abbrev pub margin : ℕ → List ℕ
@@ -83,4 +103,4 @@ mark before width = times 32 before ++ (codes "^" ++ (times 126 (width - 1) ++ c
 
 -- the line, and the mark below it
 abbrev pub marked : ℕ → ℕ → ℕ → List ℕ → List ℕ
-marked number column width line = source_line number column line ++ (margin number ++ mark (length (source (before column line))) width)
+marked number column width line = source_line number column line ++ (margin number ++ mark (length (printed_before column line)) width)

@@ -98,15 +98,44 @@ fn part(column: usize, line: &[u8]) -> &[u8]
     &rest[..MOST_SHOWN.min(rest.len())]
 }
 
-// How many columns are shown before the place.
+// Shows that bytes are left out, where some are.
+fn push_cut(text: &mut Vec<u8>, is_cut: bool) -> Result<(), AllocError>
+    ensures { OnOk result (text.new.items ≡ text.old.items ++ specs.cut is_cut) }
+{
+    if is_cut { push(text, b"...") } else { Ok(()) }
+}
+
+fn is_cut_before(column: usize) -> bool
+    ensures { result ≡ specs.is_cut_before column }
+{
+    0 < hidden(column)
+}
+
+fn is_cut_behind(column: usize, line: &[u8]) -> bool
+    ensures { result ≡ specs.is_cut_behind column line.now }
+{
+    MOST_SHOWN < line.len().saturating_sub(hidden(column))
+}
+
+// Returns the number of columns that are printed before the place.
 fn width_before(alloc: Global, column: usize, line: &[u8]) -> Result<usize, AllocError>
-    ensures { IfOk result (λ width. width ≡ length (specs.source (specs.before column line.now))) }
+    ensures { IfOk result (λ width. width ≡ length (specs.printed_before column line.now)) }
 {
     let shown = part(column, line);
     let before = column.saturating_sub(1) - hidden(column);
     let mut text = Vec::new(alloc);
+    push_cut(&mut text, is_cut_before(column))?;
     push_source(&mut text, &shown[..shown.len().min(before)])?;
     Ok(text.len())
+}
+
+// Prints the part of a line around the column, between dots where more of the line is left out.
+fn push_part(text: &mut Vec<u8>, column: usize, line: &[u8]) -> Result<(), AllocError>
+    ensures { OnOk result (text.new.items ≡ text.old.items ++ specs.printed column line.now) }
+{
+    push_cut(text, is_cut_before(column))?;
+    push_source(text, part(column, line))?;
+    push_cut(text, is_cut_behind(column, line))
 }
 
 fn push_source_line(
@@ -119,7 +148,7 @@ fn push_source_line(
 {
     push_numbered(text, b"    ", number)?;
     push(text, b" | ")?;
-    push_source(text, part(column, line))?;
+    push_part(text, column, line)?;
     push(text, b"\n")
 }
 
@@ -148,7 +177,7 @@ fn push_mark(text: &mut Vec<u8>, before: usize, width: usize) -> Result<(), Allo
 }
 
 /// A line of the source with its number before it, and a line with a mark below so many bytes from the column, which is counted from 1. Bytes that aren't printed
-/// are shown as `\xHH`, a tab as a blank, and of a long line a part around the column. Err: memory was refused.
+/// are shown as `\xHH`, a tab as a blank. Of a long line only a part around the column is shown, with `...` for what is left out. Err: memory was refused.
 pub fn push_marked(
     alloc: Global,
     text: &mut Vec<u8>,

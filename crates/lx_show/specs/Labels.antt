@@ -12,9 +12,9 @@ use Rattle.lx_table_texts.specs.Model.{Table, TableRule, kind_at}
 abbrev pub small_digit : ℕ → ℕ
 small_digit n = if nat_lt n 10 then 48 + n else 87 + n
 
--- the bytes that stand as they are: those of 33 to 126, but for the quote, the backslash, and what stands around ranges
+-- the bytes that stand as they are: those of 33 to 126, but for the quote, the backslash, and what has a meaning of its own in brackets
 abbrev pub is_plain : ℕ → Bool
-is_plain byte = nat_lt 32 byte && (nat_lt byte 127 && not (byte == 34 || (byte == 45 || (byte == 91 || (byte == 92 || byte == 93)))))
+is_plain byte = nat_lt 32 byte && (nat_lt byte 127 && not (byte == 34 || (byte == 45 || (byte == 94 || (byte == 91 || (byte == 92 || byte == 93))))))
 
 -- a byte in a label: as it is, or `\xHH`
 abbrev pub byte_label : ℕ → List ℕ

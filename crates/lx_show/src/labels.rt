@@ -44,7 +44,8 @@ fn is_plain(byte: u8) -> bool
     32 < byte
         && (byte < 127
             && !(byte == b'"'
-                || (byte == b'-' || (byte == b'[' || (byte == b'\\' || byte == b']')))))
+                || (byte == b'-'
+                    || (byte == b'^' || (byte == b'[' || (byte == b'\\' || byte == b']'))))))
 }
 
 fn push_byte(text: &mut Vec<u8>, byte: u8) -> Result<(), AllocError>

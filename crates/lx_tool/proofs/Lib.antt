@@ -1,5 +1,6 @@
 pub mod GivenListed
 pub mod Helped
+pub mod NameBytes
 pub mod NameListLemmas
 pub mod NamesRefused
 pub mod Obeyed

@@ -1,6 +1,6 @@
 -- What was done by what the words ask for, or why it wasn't.
 use Rattle.std.proofs.Common.{ℕ, zero, suc, ◌≡◌, ◌≢◌, ◌<◌, List, [], ◌∷◌, ◌++◌, Option, Some, None, All, Bor, Ok, Err, Result, IfOk, IfErr, inl, inr, length, arith, refl, sym, ◌∙◌, ap, ap₂, subst}
-use Rattle.std.specs.Prelude.{◌⊎◌, Contains, IfSome, MatchOption}
+use Rattle.std.specs.Prelude.{◌⊎◌, Contains, IfSome, IsOk, MatchOption, OnOk}
 use Rattle.std.proofs.lemmas.List.{length-map}
 use Rattle.std.specs.Io.KnownBytes.{Keeps, Appends}
 use Rattle.std.proofs.lemmas.List.Elements.{All-cons, All-nil, All-from_recursion}
@@ -14,6 +14,7 @@ use Rattle.lx_tool.specs.Checking.{IsChecked, IsReported, IsWarningFault}
 use Rattle.lx_tool.specs.Explaining.{IsExplained, IsUnexplained}
 use Rattle.lx_tool.specs.Given.{AreListed, IsNoTable, IsUnread}
 use Rattle.lx_tool.specs.Importing.{AreImportWordsRefused, IsNotImported, IsUnplaced}
+use Rattle.lx_tool.specs.Outputs.{IsRefusedFor}
 use Rattle.lx_tool.specs.Naming.{IsListingRefused, IsWordsFault, input_uses}
 use Rattle.lx_tool.specs.Planning.{AreBytes, ListsByRules, ListsByRulesIn, ListsByTextIn}
 use Rattle.lx_tool.specs.Showing.{HasManyStates, HasNoneShown, IsNotShown, IsShown}
@@ -23,7 +24,8 @@ use Rattle.lx_tool.specs.Printing.{AreKindsRefused, AreScannerWordsRefused, Fail
 use Rattle.lx_tool.specs.Tabling.{HasNoTables}
 use Rattle.lx_tool.specs.declared.failure.Failure.{Failure}
 use Rattle.lx_tool.specs.declared.failure.RequestFault.{RequestFault}
-use Rattle.lx_tool.specs.declared.failure.RequestFault.TheVariants.{NoTargets}
+use Rattle.lx_tool.specs.declared.failure.RequestFault.TheVariants.{NoTargets, Outputs}
+use Rattle.lx_tool.specs.declared.failure.OutputFault.{OutputFault}
 use Rattle.lx_tool.specs.declared.failure.Failure.TheVariants.{Specification, Automaton, Tables, Unprintable, Words, TooManyFiles, InputTwice, Refused, NotRead, Output, Memory}
 
 -- ---- what a writer holds
@@ -113,7 +115,7 @@ module _ (old mid new : Option (List ℕ)) (kept : Keeps mid new) where
     }
     obeyed_kept (Some (gen print)) h = (printed_kept (PrintsSpecification print.c) print h.0, h.1)
     obeyed_kept (Some (up print)) h = (printed_kept (PrintsTables print.c) print h.0, h.1)
-    obeyed_kept (Some (check c)) h = (record { text = h.0.text; given = h.0.given; accepted = h.0.accepted; said = h.0.said; wrote = appends_kept old mid new _ h.0.wrote kept }, h.1)
+    obeyed_kept (Some (check c)) h = (record { text = h.0.text; given = h.0.given; accepted = h.0.accepted; said = h.0.said; tells = h.0.tells; wrote = appends_kept old mid new _ h.0.wrote kept }, h.1)
     obeyed_kept (Some (explain word)) h = (record { said = h.0.said; wrote = appends_kept old mid new _ h.0.wrote kept; begins = h.0.begins }, h.1)
     obeyed_kept (Some (show s)) h = (shown_kept s h.0, h.1)
     obeyed_kept (Some (imports i)) h = (record { text = h.0.text; given = h.0.given; printed = h.0.printed; of_flex = h.0.of_flex; written = written_kept i.target h.0.printed h.0.written }, h.1)
@@ -294,6 +296,11 @@ module _ {S : Type 0} (gives : S → List ℕ → PlainInput → S → Type 0) (
   import_unwritten i target asked (Ok v) h k = tt
   import_unwritten i target asked (Err failure) h k = import_unplaced i target asked failure k h
 
+  -- a file for the output is the input, or another output
+  pub outputs_refused : (asked : Asked) (Is : OutputFault → Type 0) → ((fault : OutputFault) → Is fault → IsFormRefused asked (Outputs fault)) → Keeps old new → (failure : Failure) → IsRefusedFor Is failure → HasFailed gives (Some asked) before old new failure
+  outputs_refused asked Is form kept failure (inl h) = rw h (λ low. absurd (omega (arith, low)))
+  outputs_refused asked Is form kept failure (inr h) = rw h.1 (λ low. record { cause = inl (form h.0 h.2); tells = tt; kept = kept })
+
   -- the stored specification was refused
   pub stored_refused : (failure : Failure) → (status_of failure < 4 → HasNoTables stored_specification failure × Keeps old new) → HasFailed gives (Some stored) before old new failure
   stored_refused failure h = λ low. rules_refused stored (HasNoTables stored_specification) (λ f r. r) (no_tables_tells stored_specification) (h low).1 (λ r. absurd r) (λ r. absurd r) (λ fault r. absurd r) (λ name r. absurd r) (λ error r. absurd r) failure (h low).0 low
@@ -329,6 +336,36 @@ module _ (old mid new : Option (List ℕ)) where
       let failed : HasFailed gives asked before old mid failure = rw wrote.0 at h in
       let refused = failed low in
       record { cause = refused.cause; tells = refused.tells; wrote = kept_wrote (report_in failure) refused.kept wrote.1 }
+
+-- what stands on the output stands there once it was sent on
+module _ (old mid new : Option (List ℕ)) (kept : Keeps mid new) where
+  report_kept : (report : Option (List ℕ)) → MatchOption report (Keeps old mid) (λ bytes. Appends old mid bytes) → MatchOption report (Keeps old new) (λ bytes. Appends old new bytes)
+  report_kept None h = keeps_both old mid new h kept
+  report_kept (Some bytes) h = appends_kept old mid new bytes h kept
+
+  module _ {S V : Type 0} (gives : S → List ℕ → PlainInput → S → Type 0) (before after : S) (asked : Option Asked) where
+    pub sent_ok : (A : Type 0) (names : V → List (List ℕ)) (ended sent : Result V Failure) → IfOk ended (λ cut. HasObeyed gives before after old mid (names cut) asked) →
+        IfOk sent (λ cut. (ended ≡ Ok cut) × A) → IfOk sent (λ cut. HasObeyed gives before after old new (names cut) asked)
+    sent_ok A names ended (Ok cut) h k = let held : HasObeyed gives before after old mid (names cut) asked = rw k.0 at h in obeyed_kept old mid new kept gives before after (names cut) asked held
+    sent_ok A names ended (Err failure) h k = tt
+
+    pub sent_err : (ended sent : Result V Failure) → IfErr ended (HasToldFailure gives asked before old mid) → IfErr sent (λ failure. status_of failure < 4 → ended ≡ Err failure) →
+        IfErr sent (HasToldFailure gives asked before old new)
+    sent_err ended (Ok cut) h k = tt
+    sent_err ended (Err failure) h k = λ low.
+        let told : HasToldFailure gives asked before old mid failure = rw (k low) at h in
+        let t = told low in
+        record { cause = t.cause; tells = t.tells; wrote = report_kept (report_in failure) t.wrote }
+
+pub sent_as_well : {V : Type 0} (A P : Type 0) (ended sent : Result V Failure) → IfOk ended (λ cut. P) → IfOk sent (λ cut. (ended ≡ Ok cut) × A) → IfOk sent (λ cut. P)
+sent_as_well A P ended (Ok cut) h k = rw k.0 at h
+sent_as_well A P ended (Err failure) h k = tt
+
+-- all was sent on where it went well
+pub sent_on : {V U E : Type 0} (P : Type 0) (ended sent : Result V Failure) (answer : Result U E) → IfOk sent (λ cut. (ended ≡ Ok cut) × IsOk answer) → OnOk answer P → IfOk sent (λ cut. P)
+sent_on P ended (Ok cut) (Ok u) k h = h
+sent_on P ended (Ok cut) (Err e) k h = absurd (let is_ok = k.1 in cc)
+sent_on P ended (Err failure) answer k h = tt
 
 -- what is known at an exit status from 1 to 3
 pub has_ended : {S V : Type 0} (gives : S → List ℕ → PlainInput → S → Type 0) (asked : Option Asked) (before after : S) (old new : Option (List ℕ)) (items : V → List (Bor (List ℕ))) (ended : Result V Failure) (status : ℕ) →

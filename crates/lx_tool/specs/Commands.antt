@@ -1,5 +1,5 @@
 -- What the program does, by what its words ask for.
-use Rattle.std.specs.Prelude.{◌≡◌, ◌≢◌, ℕ, ◌<◌, ◌⊎◌, List, [], ◌∷◌, ◌++◌, Option, Some, None, Contains, IsSomeAnd, MatchOption, codes, length}
+use Rattle.std.specs.Prelude.{◌≡◌, ◌≢◌, ℕ, Bool, ◌<◌, ◌⊎◌, List, [], ◌∷◌, ◌++◌, Option, Some, None, Contains, IsSomeAnd, MatchOption, codes, length}
 use Rattle.std.specs.Option.{option_map_or}
 use Rattle.std.specs.Io.KnownBytes.{Keeps}
 use Rattle.lx_table_texts.specs.Model.{Table}
@@ -9,6 +9,7 @@ use Rattle.lx_tool.specs.Checking.{IsChecked, IsReported, IsWarningFault}
 use Rattle.lx_tool.specs.Explaining.{IsExplained, IsUnexplained}
 use Rattle.lx_tool.specs.Given.{AreListed, IsNoTable}
 use Rattle.lx_tool.specs.Importing.{AreImportWordsRefused, HasPlacedImport, IsBroughtOver, IsNotImported}
+use Rattle.lx_tool.specs.Outputs.{IsApart, IsOverwritten}
 use Rattle.lx_tool.specs.Naming.{AreFileNames, AreJudged, IsListingRefused, IsWordsFault, input_count, input_uses}
 use Rattle.lx_tool.specs.Planning.{ListsAsked, ListsByRules, ListsByRulesIn, ListsByTextIn}
 use Rattle.lx_tool.specs.Showing.{IsNotShown, IsShown}
@@ -18,7 +19,8 @@ use Rattle.lx_tool.specs.Printing.{AreKindsOfSpecificationRefused, AreKindsOfTab
 use Rattle.lx_tool.specs.Tabling.{AreTablesIn, AreTablesOfText, HasNoTables}
 use Rattle.lx_tool.specs.declared.failure.Failure.{Failure}
 use Rattle.lx_tool.specs.declared.failure.RequestFault.{RequestFault}
-use Rattle.lx_tool.specs.declared.failure.RequestFault.TheVariants.{NoTargets}
+use Rattle.lx_tool.specs.declared.failure.RequestFault.TheVariants.{NoTargets, Outputs}
+use Rattle.lx_tool.specs.declared.failure.OutputFault.{OutputFault}
 use Rattle.lx_tool.specs.declared.failure.Failure.TheVariants.{Specification, Automaton, Tables, Unprintable, Words, TooManyFiles, InputTwice, Refused, NotRead, Output, Memory}
 
 -- the specification and the file of the stored run
@@ -71,27 +73,28 @@ HasDone gives before after old new cut (imports i) = IsBroughtOver gives i befor
 
 -- ---- what is put into files
 
--- They gave that text, and the file of `-o` got what is printed of it, where it is given; and else none was made.
-pub record HasPlacedText {S T : Type 0} (gives : S → List ℕ → PlainInput → S → Type 0) (places : T → List ℕ → List ℕ → T → Type 0) (Prints : List ℕ → List ℕ → Type 0) (print : PlainPrint) (before : S) (old new : T) : Type 0 where
+-- They gave that text, and the file of `-o`, which isn't the input, got what is printed of it, where it is given; and else none was made.
+pub record HasPlacedText {S T : Type 0} (gives : S → List ℕ → PlainInput → S → Type 0) (places : T → List ℕ → List ℕ → T → Type 0) (same : T → List ℕ → List ℕ → Bool → Type 0) (Prints : List ℕ → List ℕ → Type 0) (print : PlainPrint) (before : S) (old new : T) : Type 0 where
   pub text : List ℕ
   pub after : S
   pub given : gives before print.rules (whole text) after
   pub printed : List ℕ
   pub prints : Prints text printed
+  pub apart : IsApart same old print.target print.rules
   pub placed : IsPlaced places print.target printed old new
 
 -- What files were made for what the words ask for.
-abbrev pub HasPlaced : {S T : Type 0} → (S → List ℕ → PlainInput → S → Type 0) → (T → List ℕ → List ℕ → T → Type 0) → S → T → T → Option Asked → Type 0
-HasPlaced gives places before old new (Some (gen print)) = HasPlacedText gives places (PrintsSpecification print.c) print before old new
-HasPlaced gives places before old new (Some (up print)) = HasPlacedText gives places (PrintsTables print.c) print before old new
-HasPlaced gives places before old new (Some (run order)) = new ≡ old
-HasPlaced gives places before old new (Some (scan order)) = new ≡ old
-HasPlaced gives places before old new (Some stored) = new ≡ old
-HasPlaced gives places before old new (Some (check c)) = new ≡ old
-HasPlaced gives places before old new (Some (explain word)) = new ≡ old
-HasPlaced gives places before old new (Some (show s)) = new ≡ old
-HasPlaced gives places before old new (Some (imports i)) = HasPlacedImport gives places i before old new
-HasPlaced gives places before old new None = new ≡ old
+abbrev pub HasPlaced : {S T : Type 0} → (S → List ℕ → PlainInput → S → Type 0) → (T → List ℕ → List ℕ → T → Type 0) → (T → List ℕ → List ℕ → Bool → Type 0) → S → T → T → Option Asked → Type 0
+HasPlaced gives places same before old new (Some (gen print)) = HasPlacedText gives places same (PrintsSpecification print.c) print before old new
+HasPlaced gives places same before old new (Some (up print)) = HasPlacedText gives places same (PrintsTables print.c) print before old new
+HasPlaced gives places same before old new (Some (run order)) = new ≡ old
+HasPlaced gives places same before old new (Some (scan order)) = new ≡ old
+HasPlaced gives places same before old new (Some stored) = new ≡ old
+HasPlaced gives places same before old new (Some (check c)) = new ≡ old
+HasPlaced gives places same before old new (Some (explain word)) = new ≡ old
+HasPlaced gives places same before old new (Some (show s)) = new ≡ old
+HasPlaced gives places same before old new (Some (imports i)) = HasPlacedImport gives places same i before old new
+HasPlaced gives places same before old new None = new ≡ old
 
 -- ---- why it is not
 
@@ -182,9 +185,9 @@ IsRefusedLater gives before (explain word) failure = ⊥
 IsRefusedLater gives before (show s) failure = ⊥
 IsRefusedLater gives before (imports i) failure = ⊥
 
--- `-o` is given, and no files can be made
+-- `-o` is given, and no files can be made, or its file is the input
 abbrev pub IsTargetRefused : PlainPrint → RequestFault → Type 0
-IsTargetRefused print fault = (fault ≡ NoTargets) × (print.target ≢ None)
+IsTargetRefused print fault = ((fault ≡ NoTargets) × (print.target ≢ None)) ⊎ ((f : OutputFault) × (fault ≡ Outputs f) × IsOverwritten f print.target print.rules)
 
 -- why the text of tables isn't put into a file
 abbrev pub IsPlacingFault : Failure → Type 0

@@ -1,27 +1,37 @@
 -- What `import` prints: a specification made of one for flex.
-use Rattle.std.specs.Prelude.{◌≡◌, ◌≢◌, ◌⊎◌, ℕ, true, false, List, Option, None}
+use Rattle.std.specs.Prelude.{◌≡◌, ◌≢◌, ◌⊎◌, ℕ, Bool, true, false, List, Option, None}
 use Rattle.lx_flex.specs.Imported.{FlexDefinition, FlexRule, IsImported}
 use Rattle.lx_rules.specs.Plain.{StartCondition}
+use Rattle.lx_table_texts.specs.Model.{Table}
 use Rattle.lx_plan.specs.Plans.{PlainInput}
 use Rattle.lx_words.specs.CommandLine.{PlainC, PlainImport}
+use Rattle.lx_tool.specs.Outputs.{AreImportsApart, AreOutputsOfImportRefused}
 use Rattle.lx_tool.specs.Printing.{IsPlaced, IsScannerFault, IsWritten}
 use Rattle.lx_tool.specs.Sources.{whole}
+use Rattle.lx_tool.specs.Tabling.{AreTablesOfText}
 use Rattle.lx_tool.specs.declared.failure.Failure.{Failure}
 use Rattle.lx_tool.specs.declared.failure.Failure.TheVariants.{Unprintable, Output, Memory, Refused}
 use Rattle.lx_tool.specs.declared.failure.PrintFault.TheVariants.{NotImported}
 use Rattle.lx_tool.specs.declared.failure.RequestFault.{RequestFault}
-use Rattle.lx_tool.specs.declared.failure.RequestFault.TheVariants.{NoTargets}
+use Rattle.lx_tool.specs.declared.failure.RequestFault.TheVariants.{NoTargets, Outputs}
+use Rattle.lx_tool.specs.declared.failure.OutputFault.{OutputFault}
 
 -- the words of a scanner in C whose kinds begin as those of the actions do
 abbrev pub kinds_words : PlainImport → PlainC
 kinds_words i = record { scanner = true; header = false; prefix = i.prefix; include = None; direct = false }
 
--- lx accepts the text, and reads it as rules of flex: as many, in their order, each active in the same conditions, with the same anchors and the same texts
+-- The text says a specification that has tables, as `gen` prints them: no verdict on it is left.
+pub record HasTables (text : List ℕ) : Type 0 where
+  pub table : Table
+  pub of_text : AreTablesOfText text table
+
+-- lx accepts the text, has tables of it, and reads it as rules of flex: as many, in their order, each active in the same conditions, with the same anchors and the same texts
 pub record IsOfFlex (text : List ℕ) : Type 0 where
   pub conditions : List StartCondition
   pub definitions : List FlexDefinition
   pub rules : List FlexRule
   pub imported : IsImported conditions definitions rules text
+  pub tables : HasTables text
 
 -- They gave the text that the words name, whole; what is printed is of flex, and went to the output, unless a file gets it.
 pub record IsBroughtOver {S : Type 0} (gives : S → List ℕ → PlainInput → S → Type 0) (i : PlainImport) (before after : S) (old new : Option (List ℕ)) : Type 0 where
@@ -31,8 +41,8 @@ pub record IsBroughtOver {S : Type 0} (gives : S → List ℕ → PlainInput →
   pub of_flex : IsOfFlex printed
   pub written : IsWritten i.target printed old new
 
--- They gave that text; the file of `-c` got some text, where it is given, and behind it the file of `-o` what is printed.
-pub record HasPlacedImport {S T : Type 0} (gives : S → List ℕ → PlainInput → S → Type 0) (places : T → List ℕ → List ℕ → T → Type 0) (i : PlainImport) (before : S) (old new : T) : Type 0 where
+-- They gave that text; the file of `-c` got some text, where it is given, and after it the file of `-o` what is printed. Neither is the input, nor are both one.
+pub record HasPlacedImport {S T : Type 0} (gives : S → List ℕ → PlainInput → S → Type 0) (places : T → List ℕ → List ℕ → T → Type 0) (same : T → List ℕ → List ℕ → Bool → Type 0) (i : PlainImport) (before : S) (old new : T) : Type 0 where
   pub text : List ℕ
   pub after : S
   pub given : gives before i.rules (whole text) after
@@ -40,6 +50,7 @@ pub record HasPlacedImport {S T : Type 0} (gives : S → List ℕ → PlainInput
   pub of_flex : IsOfFlex printed
   pub actions : List ℕ
   pub between : T
+  pub apart : AreImportsApart same old i
   pub first : IsPlaced places i.actions actions old between
   pub second : IsPlaced places i.target printed between new
 
@@ -47,9 +58,9 @@ pub record HasPlacedImport {S T : Type 0} (gives : S → List ℕ → PlainInput
 abbrev pub IsUnplaced : Option (List ℕ) → Failure → Type 0
 IsUnplaced target failure = (failure ≡ Output) ⊎ ((failure ≡ Memory) ⊎ ((failure ≡ Refused NoTargets) × (target ≢ None)))
 
--- files are asked for, and none can be made; or the prefix is refused
+-- files are asked for, and none can be made; or they are the input or one another; or the prefix is refused
 abbrev pub AreImportWordsRefused : PlainImport → RequestFault → Type 0
-AreImportWordsRefused i fault = ((fault ≡ NoTargets) × ((i.actions ≢ None) ⊎ (i.target ≢ None))) ⊎ IsScannerFault (kinds_words i) fault
+AreImportWordsRefused i fault = ((fault ≡ NoTargets) × ((i.actions ≢ None) ⊎ (i.target ≢ None))) ⊎ (((f : OutputFault) × (fault ≡ Outputs f) × AreOutputsOfImportRefused i f) ⊎ IsScannerFault (kinds_words i) fault)
 
 -- what flex reads can't all be brought over
 abbrev pub IsNotImported : Failure → Type 0

@@ -1,5 +1,5 @@
 -- The files that a listing's words name, and those that LIST names behind them; and the form that the words ask for.
-use Rattle.std.specs.Prelude.{◌≡◌, ◌≢◌, ℕ, ◌+◌, ◌-◌, ◌<◌, ◌≤◌, ◌⊎◌, ⊤, Bool, if◌then◌else◌, List, [], ◌∷◌, Option, Some, None, Contains, IsSomeAnd, MatchOption, codes, length}
+use Rattle.std.specs.Prelude.{◌≡◌, ◌≢◌, ℕ, ◌+◌, ◌-◌, ◌<◌, ◌≤◌, ◌⊎◌, ⊤, Bool, if◌then◌else◌, List, [], ◌∷◌, Option, Some, None, Contains, IsSomeAnd, MatchOption, codes, length, map}
 use Rattle.std.specs.Option.{option_map_or}
 use Rattle.std.specs.Str.{bytes_eq}
 use Rattle.lx_table_texts.specs.Model.{Table}
@@ -11,12 +11,13 @@ use Rattle.lx_forms.specs.Forms.{PlainForm, Selected}
 use Rattle.lx_forms.specs.NameLists.{AreNamed, HasMoreNames, IsNoName}
 use Rattle.lx_words.specs.CommandLine.{PlainFormWords, PlainList, PlainOrder, max_number}
 use Rattle.lx_forms.specs.declared.choosing.ChoiceFault.{ChoiceFault}
+use Rattle.lx_tool.specs.Names.{name_bytes}
 use Rattle.lx_tool.specs.Sources.{whole}
 use Rattle.lx_tool.specs.Statuses.{failure_of_choice}
 use Rattle.lx_tool.specs.declared.failure.Failure.{Failure}
 use Rattle.lx_tool.specs.declared.failure.Failure.TheVariants.{Specification, Automaton, Tables, Unprintable, Words, TooManyFiles, InputTwice, Refused, NotRead, Output, Memory}
 use Rattle.lx_tool.specs.declared.failure.RequestFault.{RequestFault}
-use Rattle.lx_tool.specs.declared.failure.RequestFault.TheVariants.{NoKind, EmptyKind, NoFormat, NoFile, NoName, NoScanner, NoTargets, NoWarning, Scanner, ScannerAndHeader, NumberTooLarge}
+use Rattle.lx_tool.specs.declared.failure.RequestFault.TheVariants.{NoKind, EmptyKind, NoFormat, NoFile, NoName, NoScanner, NoTargets, NoWarning, Outputs, Scanner, ScannerAndHeader, NumberTooLarge}
 
 -- ---- the names of files
 
@@ -92,7 +93,7 @@ IsOnly table (Some text) only = IsSomeAnd only (IsChosen table text)
 -- the form that the words ask for, of files with these names, by these tables
 pub record IsFormOf (words : PlainFormWords) (table : Table) (names : List (List ℕ)) (form : PlainForm) : Type 0 where
   pub first : form.first ≡ words.first
-  pub names_are : form.names ≡ (if words.names then Some names else None)
+  pub names_are : form.names ≡ (if words.names then Some (map name_bytes names) else None)
   pub only : IsOnly table words.only form.only
   pub text : form.text ≡ words.text
   pub format : form.format ≡ format_by words.format
@@ -107,6 +108,7 @@ IsWordsFault order (NoKind word) = ⊥
 IsWordsFault order EmptyKind = ⊥
 IsWordsFault order (NoName line list) = ⊥
 IsWordsFault order NoTargets = ⊥
+IsWordsFault order (Outputs f) = ⊥
 IsWordsFault order (NoWarning word) = ⊥
 IsWordsFault order ScannerAndHeader = ⊥
 IsWordsFault order NoScanner = ⊥
@@ -122,6 +124,7 @@ IsListingFault gives order table before EmptyKind = IsSomeAnd order.form.only Is
 IsListingFault gives order table before (NoName line list) =
     IsSomeAnd order.list (λ l. (list.now ≡ l.name) × ListSays gives l before (λ text. IsNoName l.separator text line))
 IsListingFault gives order table before NoTargets = ⊥
+IsListingFault gives order table before (Outputs f) = ⊥
 IsListingFault gives order table before (NoWarning word) = ⊥
 IsListingFault gives order table before ScannerAndHeader = ⊥
 IsListingFault gives order table before NoScanner = ⊥
@@ -157,6 +160,7 @@ IsFormatFault words (NoKind word) = ⊥
 IsFormatFault words EmptyKind = ⊥
 IsFormatFault words (NoName line list) = ⊥
 IsFormatFault words NoTargets = ⊥
+IsFormatFault words (Outputs f) = ⊥
 IsFormatFault words (NoWarning word) = ⊥
 IsFormatFault words ScannerAndHeader = ⊥
 IsFormatFault words NoScanner = ⊥

@@ -1,25 +1,28 @@
 //! Listings that the words of the command line ask for.
 
-ghost use Rattle.std.specs.Prelude.{◌≡◌, ◌<◌, ◌≤◌, IfOk, IfErr, None, OnOk, Some, if◌then◌else◌, length, nat_lt, option_map, vec_len};
+ghost use Rattle.std.specs.Prelude.{◌≡◌, ◌<◌, ◌≤◌, IfOk, IfErr, None, OnOk, Some, if◌then◌else◌, length, map, nat_lt, option_map, vec_len};
 ghost use Rattle.std.specs.Io.KnownBytes.{Keeps};
 ghost use Rattle.lx_plan.specs.Plans.{max_files};
 ghost use Rattle.lx_forms.specs.Views.{form_view};
 ghost use Rattle.lx_words.specs.CommandLine.{plain_form, plain_list, plain_order};
 ghost use Rattle.lx_tool.specs.Commands.{AreListedAs, AreWordsRefused};
+ghost use Rattle.lx_tool.specs.Names.{name_bytes};
 ghost use Rattle.lx_tool.specs.Naming.{AreFileNames, AreJudged, AreListNames, AreNamesRefused, AreNamesUnread, IsFormatFault, IsKnownFormat, IsListingRefused, IsListRefused, IsOnly, IsOnlyRefused, format_by, input_count, input_uses, inputs_among, list_input};
 ghost use Rattle.lx_tool.specs.Sources.{texts_of};
 ghost use Rattle.lx_tool.specs.Statuses.{HidesNoMemory, status_of};
 
 use crate::failure::{Failure, RequestFault};
 use crate::given::{read_given, read_name_list};
+use crate::names::bytes_of_names;
 use crate::planning::list_files_in;
 use crate::source::{STANDARD_INPUT, Sources};
-use lx_forms::{Form, Format, NameListFault, Selection, choose, push_names};
+use crate::suggesting::note_kinds;
+use lx_forms::{ChoiceFault, Form, Format, NameListFault, Selection, choose, push_names};
 use lx_lines::LineWrites;
 use lx_piece::MAX_FILES;
 use lx_tables::Tables;
 use lx_words::{FormWords, ListRequest, ListWords};
-use std::alloc::Global;
+use std::alloc::{AllocError, Global};
 use std::io::Write;
 use std::sync::Wait;
 use std::thread::Threads;
@@ -162,18 +165,27 @@ fn names_of<'a, S: Sources>(
     Ok(names)
 }
 
-// What `--only` lets pass.
+// What `--only` lets pass. Where it has a kind that isn't there, `notes` get those that are.
 fn selection_of<'a>(
     alloc: Global,
     tables: &Tables,
     only: Option<&'a str>,
+    notes: &mut Vec<u8>,
 ) -> Result<Option<Selection>, Failure<'a>>
     ensures ok { IfOk result (λ selection. IsOnly tables.now (option_map (λ text. text.now) only.entry) selection) }
     ensures err { IfErr result (IsOnlyRefused tables.now (option_map (λ text. text.now) only.entry)) }
 {
-    match only {
-        Some(text) => Ok(Some(choose(alloc, tables, text)?)),
-        None => Ok(None),
+    let Some(text) = only else {
+        return Ok(None);
+    };
+    match choose(alloc, tables, text) {
+        Ok(selection) => Ok(Some(selection)),
+        Err(fault) => {
+            if let ChoiceFault::NoKind(word) = fault {
+                note_kinds(notes, tables, word);
+            }
+            Err(Failure::from(fault))
+        }
     }
 }
 
@@ -186,9 +198,24 @@ fn format_of(words: &FormWords<'_>) -> Format
     }
 }
 
+// Returns the names of the files, of any bytes, where they are printed.
+fn names_asked(
+    alloc: Global,
+    words: &FormWords<'_>,
+    names: &[&str],
+) -> Result<Vec<Vec<u8>>, AllocError>
+    ensures { IfOk result (λ bytes. (if words.now.names then Some (map (λ name. name.items) bytes.items) else None) ≡ (if words.now.names then Some (map name_bytes (texts_of names.now)) else None)) }
+{
+    if words.names {
+        bytes_of_names(alloc, names)
+    } else {
+        Ok(Vec::new(alloc))
+    }
+}
+
 // The form that the words ask for.
-fn form_of<'f>(words: &FormWords<'_>, names: &'f [&'f str], only: Option<Selection>) -> Form<'f>
-    ensures { form_view result ≡ record { first = words.now.first; names = if words.now.names then Some (texts_of names.now) else None; only = only; text = words.now.text; format = format_by (plain_form words.now).format } }
+fn form_of<'f>(words: &FormWords<'_>, names: &'f [Vec<u8>], only: Option<Selection>) -> Form<'f>
+    ensures { form_view result ≡ record { first = words.now.first; names = if words.now.names then Some (map (λ name. name.items) names.now) else None; only = only; text = words.now.text; format = format_by (plain_form words.now).format } }
 {
     Form {
         first: words.first,
@@ -208,6 +235,7 @@ pub(crate) fn list_asked<'a, R: Threads + Wait + Sync, S: Sources, O: Write>(
     order: &ListRequest<'a>,
     sources: &mut S,
     text: &'a mut Vec<u8>,
+    notes: &mut Vec<u8>,
     writes: LineWrites,
     out: &mut O,
 ) -> Result<Vec<&'a str>, Failure<'a>>
@@ -216,11 +244,12 @@ pub(crate) fn list_asked<'a, R: Threads + Wait + Sync, S: Sources, O: Write>(
     ensures ok { IfOk result (λ cut. AreListedAs S.gives (plain_order order.now) tables sources.old sources.new (O.contents out.old) (O.contents out.new) (texts_of cut.items)) }
     ensures err { IfErr result (λ failure. status_of failure < 4 → IsListingRefused S.gives (plain_order order.now) tables sources.old failure × HidesNoMemory failure × Keeps (O.contents out.old) (O.contents out.new)) }
 {
-    let only = selection_of(alloc, &tables, order.form.only)?;
+    let only = selection_of(alloc, &tables, order.form.only, notes)?;
     let names = names_of(alloc, order, sources, text)?;
     judge_names(order, &names)?;
     let given = read_given(alloc, sources, &names)?;
-    let form = form_of(&order.form, &names, only);
+    let shown = names_asked(alloc, &order.form, &names)?;
+    let form = form_of(&order.form, &shown, only);
     list_files_in(
         rt,
         alloc,

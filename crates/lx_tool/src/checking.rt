@@ -1,10 +1,13 @@
 //! What `check` says of a specification.
 
-ghost use Rattle.std.specs.Prelude.{◌≡◌, ◌⊎◌, ⊤, [], IfOk, IfErr, IfSome, OnOk, Some, codes, true, false};
+ghost use Rattle.std.specs.Prelude.{◌≡◌, ◌<◌, ◌⊎◌, ◌++◌, ⊤, [], IfOk, IfErr, IfSome, OnOk, Some, codes, true, false, if◌then◌else◌};
+ghost use Rattle.std.specs.Str.{bytes_eq};
 ghost use Rattle.lx_check.specs.Findings.{IfAccepted, IsVerdict, TellsChosen};
-ghost use Rattle.lx_findings.specs.Said.{TellsVerdict};
+ghost use Rattle.lx_findings.specs.Said.{TellsVerdict, TellsWarnings};
+ghost use Rattle.lx_warnings.specs.Kinds.{has_kind};
 ghost use Rattle.lx_words.specs.CommandLine.{plain_check, check as check-asked};
-ghost use Rattle.lx_tool.specs.Checking.{HasErrorWord, IsAccepted, IsAcceptedText, IsReported, IsReportOf, IsWarningFault};
+ghost use Rattle.lx_tool.specs.Checking.{IsAccepted, IsAcceptedText, IsReported, IsReportOf, IsWarningFault, TellsAccepted, has_error};
+ghost use Rattle.lx_tool.specs.Switching.{AreKindsAsked, IsAskedBehind, IsSwitched};
 ghost use Rattle.lx_tool.specs.Commands.{HasDone, HasFailed};
 
 use crate::failure::{Failure, PrintFault, RequestFault};
@@ -27,8 +30,9 @@ struct Asked {
 }
 
 // The same with or without the warning of this name; none, where there is none.
-fn with_named(asked: Asked, name: &str, is_in: bool) -> Option<Asked>
-    ensures { IfSome result (λ new. new.are_errors ≡ asked.are_errors) }
+fn with_named(asked: Asked, name: &[u8], is_in: bool) -> Option<Asked>
+    ensures errors { IfSome result (λ new. new.are_errors ≡ asked.are_errors) }
+    ensures kinds { IfSome result (λ new. IsSwitched name.now is_in asked.kinds new.kinds) }
 {
     let kind = kind_named(name)?;
     Some(Asked {
@@ -37,9 +41,28 @@ fn with_named(asked: Asked, name: &str, is_in: bool) -> Option<Asked>
     })
 }
 
+// Returns the name behind `no-`, where the word begins so.
+fn switched_off(word: &[u8]) -> Option<&[u8]>
+    ensures { IfSome result (λ name. word.now ≡ codes "no-" ++ name.now) }
+{
+    word.strip_prefix(b"no-")
+}
+
+// The same with one word of `-W` more that isn't `all` and `error`; none, where that names no warning.
+fn with_kind_word(asked: Asked, word: &[u8]) -> Option<Asked>
+    ensures errors { IfSome result (λ new. new.are_errors ≡ asked.are_errors) }
+    ensures kinds { IfSome result (λ new. IsAskedBehind word.now asked.kinds new.kinds) }
+{
+    match switched_off(word) {
+        Some(name) => with_named(asked, name, false),
+        None => with_named(asked, word, true),
+    }
+}
+
 // The same with one word of `-W` more; none, where that names no warning.
 fn with_word(asked: Asked, word: &str) -> Option<Asked>
-    ensures { IfSome result (λ new. new.are_errors ≡ true → (asked.are_errors ≡ true) ⊎ (word.now ≡ codes "error")) }
+    ensures errors { IfSome result (λ new. new.are_errors ≡ (if asked.are_errors then true else bytes_eq word.now (codes "error"))) }
+    ensures kinds { IfSome result (λ new. IsAskedBehind word.now asked.kinds new.kinds) }
 {
     if word == "all" {
         return Some(Asked {
@@ -53,14 +76,12 @@ fn with_word(asked: Asked, word: &str) -> Option<Asked>
             are_errors: true,
         });
     }
-    match word.strip_prefix("no-") {
-        Some(name) => with_named(asked, name, false),
-        None => with_named(asked, word, true),
-    }
+    with_kind_word(asked, word.as_bytes())
 }
 
 fn warnings_asked<'a>(words: &CheckWords<'a>) -> Result<Asked, Failure<'a>>
-    ensures errors { IfOk result (λ asked. asked.are_errors ≡ true → HasErrorWord (plain_check words.now)) }
+    ensures errors { IfOk result (λ asked. asked.are_errors ≡ has_error (plain_check words.now).warnings) }
+    ensures kinds { IfOk result (λ asked. AreKindsAsked (plain_check words.now) asked.kinds) }
     ensures err { IfErr result (λ failure. (fault : RequestFault) × (failure ≡ Failure.Refused fault) × IsWarningFault fault) }
 {
     let mut warnings = Asked {
@@ -102,7 +123,8 @@ fn said_by(
     text: &[u8],
     report: &Report,
 ) -> Result<Said, AllocError>
-    ensures { IfOk result (λ said. words.now.json ≡ false → TellsVerdict words.now.rules.now report.now said.text.items) }
+    ensures verdict { IfOk result (λ said. words.now.json ≡ false → TellsVerdict words.now.rules.now report.now said.text.items) }
+    ensures warnings { IfOk result (λ said. words.now.json ≡ false → IfAccepted (λ accepted. TellsWarnings words.now.rules.now words.now.quiet (has_kind warnings.kinds) said.warnings said.text.items) report.now) }
 {
     let style = Style {
         file: words.rules.as_bytes(),
@@ -116,14 +138,24 @@ fn said_by(
     }
 }
 
+// Returns whether some of so many warnings are errors.
+fn has_errors(are_errors: bool, warnings: usize) -> bool
+    ensures yes { result ≡ true → (are_errors ≡ true) × (0 < warnings) }
+    ensures no { result ≡ false → are_errors ≡ true → warnings ≡ 0 }
+{
+    are_errors && 0 < warnings
+}
+
 fn said_of<'a>(
     alloc: Global,
     words: &CheckWords<'_>,
     warnings: Asked,
     text: &[u8],
 ) -> Result<Vec<u8>, Failure<'a>>
-    requires errors { warnings.are_errors ≡ true → HasErrorWord (plain_check words.now) }
+    requires errors { warnings.are_errors ≡ has_error (plain_check words.now).warnings }
+    requires kinds { AreKindsAsked (plain_check words.now) warnings.kinds }
     ensures ok { IfOk result (λ _. IsAcceptedText words.now.most text.now) }
+    ensures tells { IfOk result (λ said. words.now.json ≡ false → TellsAccepted (plain_check words.now) said.items) }
     ensures err { IfErr result (λ failure. (failure ≡ Failure.Memory) ⊎ IsReported (plain_check words.now) text.now failure) }
 {
     let report = check(alloc, text, usize::from(words.most))?;
@@ -131,7 +163,7 @@ fn said_of<'a>(
     if is_refused(&report) {
         return Err(Failure::Unprintable(PrintFault::Reported(said.text)));
     }
-    if warnings.are_errors && 0 < said.warnings {
+    if has_errors(warnings.are_errors, said.warnings) {
         return Err(Failure::Unprintable(PrintFault::Reported(said.text)));
     }
     Ok(said.text)

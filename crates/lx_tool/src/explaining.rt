@@ -9,6 +9,7 @@ ghost use Rattle.lx_tool.specs.declared.failure.PrintFault.TheVariants.{Unexplai
 
 use crate::failure::{Failure, PrintFault};
 use crate::output::write_text;
+use crate::suggesting::note_topics;
 use lx_explain::{all_topics, explain};
 use std::alloc::{AllocError, Global};
 use std::io::Write;
@@ -43,28 +44,32 @@ fn line_of(alloc: Global, said: &str) -> Result<Vec<u8>, AllocError>
     Ok(line)
 }
 
-// What is said of the word.
-fn said_of<'a>(alloc: Global, word: &str) -> Result<Vec<u8>, Failure<'a>>
+// What is said of the word. Where nothing is known of it, `notes` get the nearest one.
+fn said_of<'a>(alloc: Global, word: &str, notes: &mut Vec<u8>) -> Result<Vec<u8>, Failure<'a>>
     ensures ok { IfOk result (λ said. starts_with nat_eq said.items word.now ≡ true) }
     ensures err { IfErr result (λ failure. (failure ≡ Failure.Unprintable Unexplained) ⊎ (failure ≡ Failure.Memory)) }
 {
     match explain(word) {
         Some(said) => Ok(line_of(alloc, said)?),
-        None => Err(Failure::Unprintable(PrintFault::Unexplained)),
+        None => {
+            note_topics(notes, word);
+            Err(Failure::Unprintable(PrintFault::Unexplained))
+        }
     }
 }
 
-/// Prints what a code or a cause means; without a word, a line for each of them.
+/// Prints what a code or a cause means; without a word, a line for each of them. Further lines for the error stream go to `notes`.
 pub(crate) fn explain_named<'a, O: Write>(
     alloc: Global,
     word: Option<&'a str>,
+    notes: &mut Vec<u8>,
     out: &mut O,
 ) -> Result<(), Failure<'a>>
     ensures ok { OnOk result (IsExplained (option_map (λ w. w.now) word.entry) (O.contents out.old) (O.contents out.new)) }
     ensures err { IfErr result (λ failure. status_of failure < 4 → IsUnexplained (option_map (λ w. w.now) word.entry) failure × Keeps (O.contents out.old) (O.contents out.new)) }
 {
     let text = match word {
-        Some(word) => said_of(alloc, word)?,
+        Some(word) => said_of(alloc, word, notes)?,
         None => list_of_topics(alloc)?,
     };
     write_text(&text, out)

@@ -15,6 +15,27 @@ use std::alloc::{AllocError, AllocFailed};
 use std::fmt::{self, Display, Formatter, Write};
 use thiserror::Error;
 
+/// Why a file is refused as an output.
+#[derive(Clone, Copy, Debug, Error)]
+pub enum OutputFault<'a> {
+    /// The file of an option is the input, which it would overwrite.
+    #[error("-{option} {output} would overwrite the input {input}; name another file")]
+    Overwritten {
+        option: char,
+        output: &'a str,
+        input: &'a str,
+    },
+    /// The files of `-o` and `-c` are one.
+    #[error("-o {target} and -c {actions} are one file; name two")]
+    Same {
+        target: &'a str,
+        actions: &'a str,
+    },
+    /// The actions would go to standard output.
+    #[error("-c - isn't supported; name a file")]
+    ActionsOnOutput,
+}
+
 /// Why what the words ask for is refused.
 #[derive(Clone, Copy, Debug, Error)]
 pub enum RequestFault<'a> {
@@ -36,6 +57,9 @@ pub enum RequestFault<'a> {
     /// `-o` is given, and no files can be made.
     #[error("-o isn't served here")]
     NoTargets,
+    /// A file for the output is another file of the words, or none.
+    #[error("{0}")]
+    Outputs(OutputFault<'a>),
     /// Both `--c` and `--header` are given.
     #[error("--c and --header exclude one another")]
     ScannerAndHeader,

@@ -4,18 +4,24 @@ ghost use Rattle.std.specs.Prelude.{◌≡◌, ◌<◌, ◌⊎◌, [], IfOk, IfE
 ghost use Rattle.std.specs.Io.KnownBytes.{Keeps};
 ghost use Rattle.lx_words.specs.CommandLine.{imports, plain_c, plain_import};
 ghost use Rattle.lx_tool.specs.Commands.{HasDone, HasFailed, HasPlaced};
-ghost use Rattle.lx_tool.specs.Importing.{IsOfFlex, IsUnplaced, kinds_words};
+ghost use Rattle.lx_tool.specs.Importing.{HasTables, IsOfFlex, IsUnplaced, kinds_words};
 ghost use Rattle.lx_tool.specs.Printing.{IsPlaced, IsWritten};
 ghost use Rattle.lx_tool.specs.Statuses.{status_of};
+ghost use Rattle.lx_tool.specs.Tabling.{AreTablesOfText};
 ghost use Rattle.lx_tool.specs.declared.failure.PrintFault.TheVariants.{NotImported};
 
 use crate::failure::{Failure, PrintFault};
 use crate::given::read_whole;
 use crate::output::write_text;
+use crate::outputs::judge_outputs_of_import;
 use crate::printing::{judge_scanner_words, prefix_of};
 use crate::source::Sources;
+use crate::tabling::{specification_of, unjoined_tables_of};
 use crate::target::Targets;
+use lx_auto::BuildFault;
+use lx_explain::{to_do, words_of};
 use lx_flex::{Fault, Imported, Options, Report, import};
+use lx_tables::Tables;
 use lx_words::{CWords, ImportWords};
 use std::alloc::{AllocError, Global};
 use std::io::Write;
@@ -52,6 +58,60 @@ fn push_reports(notes: &mut Vec<u8>, name: &str, reports: &[Report]) -> Result<(
     Ok(())
 }
 
+// The tables of what was printed, as `gen` makes them.
+fn tables_printed<'a>(alloc: Global, printed: &[u8]) -> Result<Tables, Failure<'a>>
+    ensures { IfOk result (λ tables. AreTablesOfText printed.now tables) }
+{
+    let spec = specification_of(alloc, printed)?;
+    unjoined_tables_of(alloc, &spec)
+}
+
+fn size_code(fault: BuildFault) -> &'static str {
+    match fault {
+        BuildFault::TooManyPositions => "E30",
+        BuildFault::TooManySets => "E31",
+        BuildFault::Memory => "E90",
+    }
+}
+
+// Adds a line on why what was printed has no tables: its automaton is too large. No line of the file is at fault.
+fn push_verdict(notes: &mut Vec<u8>, name: &str, failure: &Failure<'_>) -> Result<(), AllocError> {
+    let written = match failure {
+        Failure::Automaton(fault) => {
+            let code = size_code(*fault);
+            writeln!(
+                notes,
+                "{name}: error: {code}: {}; write {}",
+                words_of(code),
+                to_do(code)
+            )
+        }
+        other => writeln!(notes, "{name}: error: {other}"),
+    };
+    // a list refuses a write for want of memory alone
+    written.map_err(|_| AllocError)
+}
+
+// Refuses what was printed where `gen` would refuse it, and says why in `notes`.
+fn judge_printed<'a>(
+    alloc: Global,
+    name: &str,
+    printed: &[u8],
+    notes: &mut Vec<u8>,
+) -> Result<(), Failure<'a>>
+    ensures ok { OnOk result (HasTables printed.now) }
+    ensures err { IfErr result (λ failure. (failure ≡ Failure.Memory) ⊎ (failure ≡ Failure.Unprintable NotImported)) }
+{
+    match tables_printed(alloc, printed) {
+        Ok(_tables) => Ok(()),
+        Err(Failure::Memory) => Err(Failure::Memory),
+        Err(failure) => {
+            push_verdict(notes, name, &failure)?;
+            Err(Failure::Unprintable(PrintFault::NotImported))
+        }
+    }
+}
+
 // The specification for lx; what there is to be said of the file goes to `notes`.
 fn imported_of<'a>(
     alloc: Global,
@@ -71,6 +131,7 @@ fn imported_of<'a>(
     match import(alloc, text, options) {
         Ok(imported) => {
             push_reports(notes, words.rules, &imported.reports)?;
+            judge_printed(alloc, words.rules, &imported.specification, notes)?;
             Ok(imported)
         }
         Err(Fault::Refused(reports)) => {
@@ -127,11 +188,12 @@ pub(crate) fn import_named<'a, S: Sources, T: Targets, O: Write>(
     out: &mut O,
 ) -> Result<(), Failure<'a>>
     ensures ok { OnOk result (HasDone S.gives sources.old sources.new (O.contents out.old) (O.contents out.new) [] (imports (plain_import words.now))) }
-    ensures placed { OnOk result (HasPlaced S.gives T.places sources.old targets.old targets.new (Some (imports (plain_import words.now)))) }
+    ensures placed { OnOk result (HasPlaced S.gives T.places T.same sources.old targets.old targets.new (Some (imports (plain_import words.now)))) }
     ensures err { IfErr result (HasFailed S.gives (Some (imports (plain_import words.now))) sources.old (O.contents out.old) (O.contents out.new)) }
 {
     let kinds = scanner_words(words);
     judge_scanner_words(alloc, &kinds)?;
+    judge_outputs_of_import(targets, words)?;
     let text = read_whole(alloc, sources, words.rules)?;
     let imported = imported_of(alloc, words, prefix_of(&kinds), &text, notes)?;
     place_text(words.actions, &imported.cases, targets)?;

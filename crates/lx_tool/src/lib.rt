@@ -8,7 +8,10 @@ mod failure;
 mod given;
 mod importing;
 mod merged;
+mod names;
+mod noting;
 mod output;
+mod outputs;
 mod planning;
 mod printing;
 mod program;
@@ -16,13 +19,15 @@ mod reading;
 mod remarks;
 mod showing;
 mod source;
+mod suggesting;
 mod tabling;
 mod target;
 
-pub use failure::{Failure, PrintFault, RequestFault};
+pub use failure::{Failure, OutputFault, PrintFault, RequestFault};
 pub use given::{list_by_specification, list_by_tables};
 pub use lx_lines::{LineWrites, Listing, list_plan, print_listing};
 pub use lx_words::VERSION;
+pub use names::name_bytes;
 pub use output::Output;
 pub use planning::{
     list_files, list_files_in, listings_are_by_rules, printed_tables_list_by_rules,

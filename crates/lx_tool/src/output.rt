@@ -1,14 +1,22 @@
 //! Where the program's output goes.
 
 ghost use Rattle.std.specs.Prelude.{◌≡◌, IfErr, OnOk};
-ghost use Rattle.std.specs.Io.KnownBytes.{Appends};
+ghost use Rattle.std.specs.Io.KnownBytes.{Appends, Keeps};
 
 use crate::failure::Failure;
-use std::io::Write;
+use std::io::{self, Write};
 
-/// An output that may know whether its other end was closed, as that of a pipe is whose reader has gone.
-pub trait Output {
-    /// Whether a write failed since the other end was closed. By default nothing is known of it.
+/// An output that can send on all that it holds, and may know that its other end was closed, as that of a pipe whose reader has gone.
+pub trait Output: Write {
+    /// Nothing of what was written is held back in the program.
+    ghost sent: { Self → Type 0 };
+
+    /// Sends on all that was written.
+    fn send(&mut self) -> io::Result<()>
+        ensures sent { OnOk result (sent self.new) }
+        ensures bytes { Keeps (Self.contents self.old) (Self.contents self.new) };
+
+    /// Returns true where a write failed since the other end was closed. By default nothing is known of it.
     fn is_closed(&self) -> bool {
         false
     }

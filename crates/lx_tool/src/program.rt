@@ -1,6 +1,6 @@
 //! The program `lx`, but for the real files and streams.
 
-ghost use Rattle.std.specs.Prelude.{◌≡◌, ◌<◌, ◌≤◌, [], ◌∷◌, Some, None, Ok, Err, IfOk, IfErr, OnOk, IfSome, length};
+ghost use Rattle.std.specs.Prelude.{◌≡◌, ◌<◌, ◌≤◌, [], ◌∷◌, Some, None, Ok, Err, IfOk, IfErr, OnOk, IfSome, IsOk, length};
 ghost use Rattle.std.specs.Io.KnownBytes.{Appends, Keeps};
 ghost use Rattle.lx_words.specs.CommandLine.{asked_as, asked_by, plain_order, plain_print, run as run-asked, scan as scan-asked, gen as gen-asked, up as up-asked, words_of};
 ghost use Rattle.lx_tool.specs.Commands.{HasDone, HasEnded, HasFailed, HasObeyed, HasPlaced, stored_specification, stored_text};
@@ -13,15 +13,18 @@ ghost use Rattle.lx_tool.specs.Tabling.{HasNoTables};
 use crate::asked::{judge_words, list_asked};
 use crate::checking::check_named;
 use crate::explaining::explain_named;
-use crate::failure::{Failure, PrintFault};
+use crate::failure::{Failure, PrintFault, RequestFault};
 use crate::given::read_whole;
 use crate::importing::import_named;
+use crate::noting::print_noted;
 use crate::output::{Output, write_text};
+use crate::outputs::judge_output;
 use crate::planning::{list_files, listings_are_by_rules};
 use crate::printing::{judge_scanner_words, named_options, print_asked};
 use crate::remarks::{read_tables_named, specification_named, tables_named, tell_size};
 use crate::showing::show_named;
 use crate::source::{Sources, make_input};
+use crate::suggesting::{tell_formats, tell_warnings};
 use crate::tabling::{tables_of_text, unjoined_tables_of};
 use crate::target::{NoTargets, Targets};
 use lx_c::MAX_DIRECT_STATES;
@@ -31,15 +34,18 @@ use lx_scan::ruling::items_are_by_rules;
 use lx_words::{ALONE, ITEMS, ListRequest, PrintWords, Refusal, Request, read_words};
 use std::alloc::Global;
 use std::io;
-use std::io::Write;
+use std::io::{Cursor, Write};
 use std::sync::Wait;
 use std::thread::Threads;
 
-// The exit status where a specification or tables are refused.
-const REFUSED: u8 = 1;
+// The exit status where the words are refused. At this one, and where a specification or tables are refused, further lines follow.
+const WORDS_REFUSED: u8 = 2;
 
 // The exit status where all is listed and a file was cut short.
 const CUT_SHORT: u8 = 3;
+
+// The system's words for a reason are shorter.
+const REASON_BYTES: usize = 256;
 
 // The specification of the stored run, and its file.
 static STORED_SPECIFICATION: &[u8] = b"%%\n[a-z]+ return ID;\n[0-9]+ return NUM;\n[ \\n]+ ;\n";
@@ -84,6 +90,8 @@ pub fn run<R: Threads + Wait + Sync, S: Sources, O: Write, E: Write>(
         out,
     );
     let ended = say(ended, out);
+    let answer = out.flush();
+    let ended = after_flush(ended, answer);
     tell(ended, &notes, sources, &targets, false, err)
 }
 
@@ -103,8 +111,10 @@ pub fn run_with<R: Threads + Wait + Sync, S: Sources, T: Targets, O: Write + Out
         IfSome (asked_by (words_of words.now)) (HasDone S.gives sources.old sources.new (O.contents out.old) (O.contents out.new) []) }
     // Where they ask for nothing else, it was for the help or the version.
     ensures told { result ≡ 0 → asked_by (words_of words.now) ≡ None → AskForHelp (words_of words.now) }
+    // Nothing of it is held back in the program.
+    ensures sent { result ≡ 0 → O.sent out.new }
     // The file of `-o` was made.
-    ensures placed { result ≡ 0 → HasPlaced S.gives T.places sources.old targets.old targets.new (asked_by (words_of words.now)) }
+    ensures placed { result ≡ 0 → HasPlaced S.gives T.places T.same sources.old targets.old targets.new (asked_by (words_of words.now)) }
     // All was listed and a file was cut short; or the words, the specification, the tables or a file were refused, and nothing was written but the report of `check`.
     ensures ended { 0 < result → result < 4 →
         HasEnded S.gives (asked_by (words_of words.now)) sources.old sources.new (O.contents out.old) (O.contents out.new) result }
@@ -123,6 +133,8 @@ pub fn run_with<R: Threads + Wait + Sync, S: Sources, T: Targets, O: Write + Out
         out,
     );
     let ended = say(ended, out);
+    let answer = out.send();
+    let ended = after_flush(ended, answer);
     tell(ended, &notes, sources, targets, out.is_closed(), err)
 }
 
@@ -141,13 +153,13 @@ fn tell<S: Sources, T: Targets, E: Write>(
     match ended {
         Ok(cut) => {
             let _ = err.write_all(notes);
-            tell_cut(&cut, err)
+            tell_cut(&cut, sources, err)
         }
         Err(failure) => {
             if !(is_closed && matches!(failure, Failure::Output)) {
                 tell_failure(&failure, sources, targets, err);
             }
-            if failure.status() == REFUSED {
+            if failure.status() <= WORDS_REFUSED {
                 let _ = err.write_all(notes);
             }
             failure.status()
@@ -172,8 +184,10 @@ fn tell_failure<S: Sources, T: Targets, E: Write>(
     match failure {
         Failure::Automaton(fault) => tell_size(*fault, err),
         Failure::Unprintable(PrintFault::TooManyForCode(states)) => tell_states(*states, err),
+        Failure::Refused(RequestFault::NoFormat(word)) => tell_formats(word, err),
+        Failure::Refused(RequestFault::NoWarning(word)) => tell_warnings(word, err),
         Failure::NotRead(_) => tell_reason(sources.reason(), err),
-        Failure::Output => tell_reason(targets.reason(), err),
+        Failure::Output => targets.tell_fault(err),
         Failure::TooManyFiles => {
             let _ = writeln!(
                 err,
@@ -199,12 +213,39 @@ fn tell_reason<E: Write>(reason: Option<io::Error>, err: &mut E) {
     }
 }
 
+// Prints the system's words for a reason, without its number.
+fn write_reason<E: Write>(reason: &io::Error, err: &mut E) -> io::Result<()> {
+    let mut text = Cursor::new([0u8; REASON_BYTES]);
+    // what doesn't fit is left out
+    let _ = write!(text, "{reason}");
+    let bytes = text.into_inner();
+    let words = match bytes
+        .as_slice()
+        .split(|byte| *byte == b'(' || *byte == 0)
+        .next()
+    {
+        Some(words) => words,
+        None => &[],
+    };
+    err.write_all(b": ")?;
+    err.write_all(words.trim_ascii_end())
+}
+
+// Names a file that was cut short, with the system's reason, if it is known.
+fn tell_cut_file<E: Write>(name: &str, reason: Option<io::Error>, err: &mut E) {
+    let _ = write!(err, "lx: cut short {name}");
+    if let Some(reason) = reason {
+        let _ = write_reason(&reason, err);
+    }
+    let _ = writeln!(err, "");
+}
+
 // Names the files that were cut short; the result is the exit status.
-fn tell_cut<E: Write>(cut: &[&str], err: &mut E) -> u8
+fn tell_cut<S: Sources, E: Write>(cut: &[&str], sources: &S, err: &mut E) -> u8
     ensures { HasStatusOfCut result cut.now }
 {
-    for name in cut {
-        let _ = writeln!(err, "lx: cut short {name}");
+    for i in 0..cut.len() {
+        tell_cut_file(cut[i], sources.cut_reason(i), err);
     }
     if cut.is_empty() { 0 } else { CUT_SHORT }
 }
@@ -224,16 +265,14 @@ fn execute<'a, R: Threads + Wait + Sync, S: Sources, T: Targets, O: Write>(
 ) -> Result<Vec<&'a str>, Failure<'a>>
     ensures ok { IfOk result (λ cut. HasObeyed S.gives sources.old sources.new (O.contents out.old) (O.contents out.new) (texts_of cut.items) (asked_by (words_of words.now))) }
     ensures told { IfOk result (λ _. asked_by (words_of words.now) ≡ None → AskForHelp (words_of words.now)) }
-    ensures placed { IfOk result (λ _. HasPlaced S.gives T.places sources.old targets.old targets.new (asked_by (words_of words.now))) }
+    ensures placed { IfOk result (λ _. HasPlaced S.gives T.places T.same sources.old targets.old targets.new (asked_by (words_of words.now))) }
     ensures err { IfErr result (HasFailed S.gives (asked_by (words_of words.now)) sources.old (O.contents out.old) (O.contents out.new)) }
 {
-    let cut = match read_words(alloc, words) {
-        Ok(order) => carry_out(rt, alloc, order, sources, targets, list, notes, writes, out)?,
-        Err(Refusal::Words(error)) => return Err(Failure::Words(error)),
-        Err(Refusal::Memory) => return Err(Failure::Memory),
-    };
-    out.flush().map_err(|_| Failure::Output)?;
-    Ok(cut)
+    match read_words(alloc, words) {
+        Ok(order) => carry_out(rt, alloc, order, sources, targets, list, notes, writes, out),
+        Err(Refusal::Words(error)) => Err(Failure::Words(error)),
+        Err(Refusal::Memory) => Err(Failure::Memory),
+    }
 }
 
 // Writes the report that a failure carries.
@@ -242,17 +281,9 @@ fn write_report<'a, O: Write>(failure: &Failure<'_>, out: &mut O) -> Result<(), 
     ensures err { IfErr result (λ other. other ≡ Failure.Output) }
 {
     match failure.report() {
-        Some(report) => write_report_bytes(report, out),
+        Some(report) => write_text(report, out),
         None => Ok(()),
     }
-}
-
-fn write_report_bytes<'a, O: Write>(report: &[u8], out: &mut O) -> Result<(), Failure<'a>>
-    ensures ok { OnOk result (Appends (O.contents out.old) (O.contents out.new) report.now) }
-    ensures err { IfErr result (λ other. other ≡ Failure.Output) }
-{
-    write_text(report, out)?;
-    out.flush().map_err(|_| Failure::Output)
 }
 
 // What happened, once what is to be said of it is on the output.
@@ -272,6 +303,27 @@ fn say<'a, O: Write>(
     }
 }
 
+// Returns what happened, but that the output failed where what was written wasn't sent on.
+fn after_flush<'a>(
+    ended: Result<Vec<&'a str>, Failure<'a>>,
+    answer: io::Result<()>,
+) -> Result<Vec<&'a str>, Failure<'a>>
+    ensures ok { IfOk result (λ cut. (ended.entry ≡ Ok cut) × IsOk answer) }
+    ensures err { IfErr result (λ failure. status_of failure < 4 → ended.entry ≡ Err failure) }
+{
+    match ended {
+        Ok(cut) => {
+            answer.map_err(|_| Failure::Output)?;
+            Ok(cut)
+        }
+        Err(failure) if failure.report().is_some() => {
+            answer.map_err(|_| Failure::Output)?;
+            Err(failure)
+        }
+        Err(failure) => Err(failure),
+    }
+}
+
 // Does what a request asks for. Of all requests a listing alone tells of files that were cut short.
 fn carry_out<'a, R: Threads + Wait + Sync, S: Sources, T: Targets, O: Write>(
     rt: &R,
@@ -285,7 +337,7 @@ fn carry_out<'a, R: Threads + Wait + Sync, S: Sources, T: Targets, O: Write>(
     out: &mut O,
 ) -> Result<Vec<&'a str>, Failure<'a>>
     ensures ok { IfOk result (λ cut. HasObeyed S.gives sources.old sources.new (O.contents out.old) (O.contents out.new) (texts_of cut.items) (asked_as order.entry)) }
-    ensures placed { IfOk result (λ _. HasPlaced S.gives T.places sources.old targets.old targets.new (asked_as order.entry)) }
+    ensures placed { IfOk result (λ _. HasPlaced S.gives T.places T.same sources.old targets.old targets.new (asked_as order.entry)) }
     ensures err { IfErr result (HasFailed S.gives (asked_as order.entry) sources.old (O.contents out.old) (O.contents out.new)) }
 {
     match order {
@@ -316,7 +368,7 @@ fn carry_out<'a, R: Threads + Wait + Sync, S: Sources, T: Targets, O: Write>(
             Ok(Vec::new(alloc))
         }
         Request::Explain(word) => {
-            explain_named(alloc, word, out)?;
+            explain_named(alloc, word, notes, out)?;
             Ok(Vec::new(alloc))
         }
         Request::Show(words) => {
@@ -374,7 +426,7 @@ fn list_by_rules_of<'a, R: Threads + Wait + Sync, S: Sources, O: Write>(
     judge_words(order)?;
     let text = read_whole(alloc, sources, order.rules)?;
     let tables = tables_named(alloc, order.rules, &text, notes)?;
-    list_asked(rt, alloc, tables, order, sources, list, writes, out)
+    list_asked(rt, alloc, tables, order, sources, list, notes, writes, out)
 }
 
 // Lists the request's files by its tables.
@@ -394,7 +446,7 @@ fn list_by_tables_of<'a, R: Threads + Wait + Sync, S: Sources, O: Write>(
     judge_words(order)?;
     let text = read_whole(alloc, sources, order.rules)?;
     let tables = read_tables_named(alloc, &text, notes)?;
-    list_asked(rt, alloc, tables, order, sources, list, writes, out)
+    list_asked(rt, alloc, tables, order, sources, list, notes, writes, out)
 }
 
 // Prints what the words ask for of the specification, or puts it into a file.
@@ -407,15 +459,16 @@ fn generate_named<'a, S: Sources, T: Targets, O: Write>(
     out: &mut O,
 ) -> Result<(), Failure<'a>>
     ensures ok { OnOk result (HasDone S.gives sources.old sources.new (O.contents out.old) (O.contents out.new) [] (gen-asked (plain_print words.entry))) }
-    ensures placed { OnOk result (HasPlaced S.gives T.places sources.old targets.old targets.new (Some (gen-asked (plain_print words.entry)))) }
+    ensures placed { OnOk result (HasPlaced S.gives T.places T.same sources.old targets.old targets.new (Some (gen-asked (plain_print words.entry)))) }
     ensures err { IfErr result (HasFailed S.gives (Some (gen-asked (plain_print words.entry))) sources.old (O.contents out.old) (O.contents out.new)) }
 {
     judge_scanner_words(alloc, &words.c)?;
+    judge_output(targets, 'o', words.target, words.rules)?;
     let text = read_whole(alloc, sources, words.rules)?;
     let spec = specification_named(alloc, words.rules, &text, notes)?;
     let tables = unjoined_tables_of(alloc, &spec)?;
     let options = named_options(alloc, &words.c, &spec)?;
-    print_asked(alloc, &words, &options, &tables, targets, out)
+    print_noted(alloc, &words, &options, &tables, &spec, targets, notes, out)
 }
 
 // Prints what the words ask for of tables, or puts it into a file.
@@ -428,10 +481,11 @@ fn upgrade_named<'a, S: Sources, T: Targets, O: Write>(
     out: &mut O,
 ) -> Result<(), Failure<'a>>
     ensures ok { OnOk result (HasDone S.gives sources.old sources.new (O.contents out.old) (O.contents out.new) [] (up-asked (plain_print words.entry))) }
-    ensures placed { OnOk result (HasPlaced S.gives T.places sources.old targets.old targets.new (Some (up-asked (plain_print words.entry)))) }
+    ensures placed { OnOk result (HasPlaced S.gives T.places T.same sources.old targets.old targets.new (Some (up-asked (plain_print words.entry)))) }
     ensures err { IfErr result (HasFailed S.gives (Some (up-asked (plain_print words.entry))) sources.old (O.contents out.old) (O.contents out.new)) }
 {
     let options = judge_scanner_words(alloc, &words.c)?;
+    judge_output(targets, 'o', words.target, words.rules)?;
     let text = read_whole(alloc, sources, words.rules)?;
     let tables = read_tables_named(alloc, &text, notes)?;
     print_asked(alloc, &words, &options, &tables, targets, out)

@@ -67,6 +67,11 @@ pub trait Sources {
     fn reason(&self) -> Option<io::Error> {
         None
     }
+
+    /// Why a file that was cut short wasn't read to its end, if that is known. Such files are counted from 0, in the order in which they were read.
+    fn cut_reason(&self, _number: usize) -> Option<io::Error> {
+        None
+    }
 }
 
 /// Files that are given as a list of names and bytes; of two with one name the first is read.

@@ -24,12 +24,9 @@ fn names_start(text: &[u8], line: Span) -> Option<usize> {
 
 // The set with the kind of this name, if there is one.
 fn with_named(set: KindSet, name: &[u8]) -> KindSet {
-    match str::from_utf8(name) {
-        Ok(name) => match kind_named(name) {
-            Some(kind) => set.with(kind, true),
-            None => set,
-        },
-        Err(_) => set,
+    match kind_named(name) {
+        Some(kind) => set.with(kind, true),
+        None => set,
     }
 }
 

@@ -28,10 +28,11 @@ pub enum WarningKind {
     UnreadBytes,
 }
 
-// How many kinds there are.
-const KINDS: usize = 18;
+/// The number of kinds.
+pub const KINDS: usize = 18;
 
-const ALL: [WarningKind; KINDS] = [
+/// All kinds.
+pub const ALL: [WarningKind; KINDS] = [
     WarningKind::ConditionWord,
     WarningKind::NeverEntered,
     WarningKind::UnusedDefinition,
@@ -79,11 +80,11 @@ pub fn name_of(kind: WarningKind) -> &'static str
 }
 
 /// The kind with a name; none, where it is no name of one.
-pub fn kind_named(name: &str) -> Option<WarningKind>
+pub fn kind_named(name: &[u8]) -> Option<WarningKind>
     ensures { IfSome result (λ kind. name_text kind ≡ name.now) }
 {
     for kind in &ALL {
-        if name_of(*kind) == name {
+        if name_of(*kind).as_bytes() == name {
             return Some(*kind);
         }
     }

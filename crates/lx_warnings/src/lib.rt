@@ -17,6 +17,6 @@ mod suspicion;
 mod untaken;
 pub mod warnings;
 
-pub use crate::kinds::{KindSet, WarningKind, kind_named, name_of};
+pub use crate::kinds::{ALL, KindSet, WarningKind, kind_named, name_of};
 pub use crate::untaken::untaken_bytes;
-pub use crate::warnings::{Known, Warning, Warnings, warnings_of};
+pub use crate::warnings::{Known, Warning, Warnings, warnings_beside, warnings_of};

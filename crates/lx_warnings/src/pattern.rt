@@ -3,7 +3,7 @@
 use crate::branches::{branches_at, take_lexeme};
 use crate::kinds::KindSet;
 use crate::lexemes::look_at_lexeme;
-use crate::suspects::Suspect;
+use crate::suspects::{Suspect, push_once};
 use lx_diagnose::Span;
 use lx_diagnose::places::between;
 use lx_diagnose::scan::{is_at, part};
@@ -19,8 +19,8 @@ fn behind_caret(text: &[u8], pattern: Span) -> usize {
     }
 }
 
-/// Looks at a pattern that has a reading.
-pub(crate) fn look_at_pattern(
+// Adds what is suspicious about each lexeme of a pattern, as far as that has a reading.
+fn look_at_lexemes(
     alloc: Global,
     text: &[u8],
     found: &mut Vec<Suspect>,
@@ -42,6 +42,23 @@ pub(crate) fn look_at_pattern(
         look_at_lexeme(text, found, allowed, &branches, &lexeme, at)?;
         take_lexeme(&mut branches, &lexeme, at)?;
         rest = behind;
+    }
+    Ok(())
+}
+
+/// Looks at a pattern or a substitute. What is found several times there is told once.
+pub(crate) fn look_at_pattern(
+    alloc: Global,
+    text: &[u8],
+    found: &mut Vec<Suspect>,
+    allowed: &KindSet,
+    pattern: Span,
+) -> Result<(), AllocError> {
+    let mut here = Vec::new(alloc);
+    look_at_lexemes(alloc, text, &mut here, allowed, pattern)?;
+    let first = found.len();
+    for suspect in &here {
+        push_once(text, found, first, *suspect)?;
     }
     Ok(())
 }

@@ -1,14 +1,18 @@
 //! Lines that are skipped and look like rules.
 
 use crate::kinds::{KindSet, WarningKind};
-use crate::layout::Layout;
-use crate::suspects::{Suspect, push_suspect, suspect_at};
+use crate::layout::{Layout, Part};
+use crate::suspects::{Suspect, push_part, push_suspect, suspect_at};
 use lx_diagnose::places::between;
 use lx_diagnose::scan::{behind_blanks, part};
 use lx_ere::{EreFault, read_pattern};
 use lx_sections::action::{Action, Statement, read_action};
 use lx_sections::rule_line::{Prefix, RuleLine, rule_line_of};
 use std::alloc::{AllocError, Global};
+
+// What is said of a line that a blank begins, where the blank may be of the pattern.
+const BLANK_PHRASE: &str =
+    "this line is skipped, since a blank begins it; a rule for a blank begins with \" \" or [ ]";
 
 fn does_anything(statements: &[Statement]) -> bool {
     for statement in statements {
@@ -19,11 +23,30 @@ fn does_anything(statements: &[Statement]) -> bool {
     false
 }
 
-fn is_action(alloc: Global, text: &[u8]) -> Result<bool, AllocError> {
+// Returns whether no statement of C begins as the text does.
+fn is_no_statement(text: &[u8]) -> bool {
+    match text.first() {
+        Some(byte) => matches!(*byte, b'\\' | b'[' | b'^' | b'.' | b'<' | b'"'),
+        None => false,
+    }
+}
+
+// Returns whether the text is an action, with `takes_nothing` also one that does nothing.
+fn is_action(alloc: Global, text: &[u8], takes_nothing: bool) -> Result<bool, AllocError> {
     match read_action(alloc, text)? {
         Some(Action::Shared) => Ok(true),
-        Some(Action::Own(statements)) => Ok(does_anything(&statements)),
+        Some(Action::Own(statements)) => {
+            Ok(does_anything(&statements) || takes_nothing && !statements.is_empty())
+        }
         None => Ok(false),
+    }
+}
+
+// Returns whether an action is all that stands behind the blank that begins a line, so that the blank is the pattern, or one that is repeated.
+fn is_action_behind_blank(alloc: Global, text: &[u8]) -> Result<bool, AllocError> {
+    match text {
+        [b'+' | b'*' | b'?', b' ' | b'\t', action @ ..] => is_action(alloc, action, true),
+        _ => is_action(alloc, text, true),
     }
 }
 
@@ -43,7 +66,9 @@ fn is_rule(alloc: Global, text: &[u8]) -> Result<bool, AllocError> {
             pattern,
             action,
         } => {
-            if matches!(prefix, Prefix::Unclosed) || !is_action(alloc, action)? {
+            if matches!(prefix, Prefix::Unclosed)
+                || !is_action(alloc, action, is_no_statement(text))?
+            {
                 return Ok(false);
             }
             is_pattern(alloc, pattern)
@@ -65,6 +90,28 @@ fn look_at_line(
     Ok(())
 }
 
+// Looks at a line of Rules that a blank begins: whether a rule stands behind the blank, or the blank is the pattern.
+fn look_at_indented(
+    alloc: Global,
+    text: &[u8],
+    found: &mut Vec<Suspect>,
+    line: &Part,
+) -> Result<(), AllocError> {
+    let end = line.at.end();
+    let at = between(behind_blanks(text, line.at.start, end), end);
+    if is_action_behind_blank(alloc, part(text, at))? {
+        let kind = WarningKind::SkippedRule;
+        return push_part(found, &line.allowed, kind, at, BLANK_PHRASE);
+    }
+    let phrase = if is_no_statement(part(text, at)) {
+        "this looks like a rule, and is skipped: a blank begins the line; a blank of a pattern is written \" \" or [ ]"
+    } else {
+        "this looks like a rule, and is skipped: a blank begins the line"
+    };
+    let suspect = suspect_at(WarningKind::SkippedRule, at, phrase);
+    look_at_line(alloc, text, found, &line.allowed, suspect)
+}
+
 /// Looks at the lines of Rules that begin with a blank, and at those behind Rules.
 pub(crate) fn look_at_skipped(
     alloc: Global,
@@ -73,13 +120,7 @@ pub(crate) fn look_at_skipped(
     layout: &Layout,
 ) -> Result<(), AllocError> {
     for line in &layout.skipped {
-        let end = line.at.end();
-        let suspect = suspect_at(
-            WarningKind::SkippedRule,
-            between(behind_blanks(text, line.at.start, end), end),
-            "this looks like a rule, and is skipped: a blank begins the line",
-        );
-        look_at_line(alloc, text, found, &line.allowed, suspect)?;
+        look_at_indented(alloc, text, found, line)?;
     }
     for line in &layout.behind {
         let suspect = suspect_at(

@@ -2,6 +2,7 @@
 
 use crate::kinds::{KindSet, WarningKind};
 use lx_diagnose::Span;
+use lx_diagnose::scan::part;
 use std::alloc::AllocError;
 
 /// What is put into a phrase.
@@ -11,7 +12,7 @@ pub(crate) enum Subject {
     Parts(Span, Span),
     /// A byte, for `@`.
     Byte(u8),
-    /// The bytes that no rule takes in the condition of this number, for `~`, and its name, for `@`.
+    /// Nothing: the words are those on the bytes that no rule takes in the condition of this number.
     Untaken(u16),
     /// Nothing: the words are those on the rules that take the texts of the rule of this number.
     Takers(usize),
@@ -56,5 +57,28 @@ pub(crate) fn push_suspect(
     if !allowed.contains(suspect.kind) {
         found.push(suspect)?;
     }
+    Ok(())
+}
+
+// Returns whether both say the same of the same words. One interval that repeats more than in flex stands for all.
+fn is_again(text: &[u8], suspect: &Suspect, other: &Suspect) -> bool {
+    suspect.phrase == other.phrase
+        && (matches!(suspect.kind, WarningKind::Interval)
+            || part(text, suspect.at) == part(text, other.at))
+}
+
+/// Adds what was found, unless the same was found before, from the suspect of this number on.
+pub(crate) fn push_once(
+    text: &[u8],
+    found: &mut Vec<Suspect>,
+    first: usize,
+    suspect: Suspect,
+) -> Result<(), AllocError> {
+    for i in first..found.len() {
+        if is_again(text, &suspect, &found[i]) {
+            return Ok(());
+        }
+    }
+    found.push(suspect)?;
     Ok(())
 }

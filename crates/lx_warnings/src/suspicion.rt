@@ -43,14 +43,10 @@ fn look_at_declaration(
 }
 
 fn look_at_conditions(
-    text: &[u8],
     found: &mut Vec<Suspect>,
     layout: &Layout,
     entered: &[bool],
 ) -> Result<(), AllocError> {
-    for line in &layout.declarations {
-        look_at_declaration(text, found, line)?;
-    }
     for i in 0..layout.conditions.len() {
         // INITIAL is the first condition, and isn't declared.
         if i + 1 < entered.len() && !entered[i + 1] {
@@ -86,21 +82,21 @@ fn unused_phrase(alloc: Global, substitute: &[u8]) -> Result<&'static str, Alloc
     }
 }
 
-fn look_at_definition(
+// Looks whether a definition is used.
+fn look_at_use(
     alloc: Global,
     text: &[u8],
     found: &mut Vec<Suspect>,
     spec: &Spec,
     definition: &DefinitionPart,
 ) -> Result<(), AllocError> {
-    let allowed = &definition.allowed;
     if is_used(spec, part(text, definition.name)) {
-        return look_at_pattern(alloc, text, found, allowed, definition.substitute);
+        return Ok(());
     }
     let phrase = unused_phrase(alloc, part(text, definition.substitute))?;
     push_part(
         found,
-        allowed,
+        &definition.allowed,
         WarningKind::UnusedDefinition,
         definition.name,
         phrase,
@@ -130,17 +126,13 @@ fn look_at_end_rule(
     push_part(found, allowed, WarningKind::EofRule, pattern, phrase)
 }
 
-fn look_at_rules(
-    alloc: Global,
-    text: &[u8],
+fn look_at_choice(
     found: &mut Vec<Suspect>,
     layout: &Layout,
     chosen: &[bool],
 ) -> Result<(), AllocError> {
-    let mut behind_bar = false;
     for i in 0..layout.rules.len() {
         let rule = &layout.rules[i];
-        let allowed = &rule.allowed;
         if i < chosen.len() && !chosen[i] {
             let never_chosen = Suspect {
                 kind: WarningKind::NeverChosen,
@@ -148,8 +140,21 @@ fn look_at_rules(
                 phrase: "",
                 subject: Subject::Takers(i),
             };
-            push_suspect(found, allowed, never_chosen)?;
+            push_suspect(found, &rule.allowed, never_chosen)?;
         }
+    }
+    Ok(())
+}
+
+fn look_at_rules(
+    alloc: Global,
+    text: &[u8],
+    found: &mut Vec<Suspect>,
+    layout: &Layout,
+) -> Result<(), AllocError> {
+    let mut behind_bar = false;
+    for rule in &layout.rules {
+        let allowed = &rule.allowed;
         look_at_end_rule(text, found, allowed, rule.pattern, behind_bar)?;
         look_at_pattern(alloc, text, found, allowed, rule.pattern)?;
         look_at_action(alloc, text, found, allowed, rule.action)?;
@@ -185,7 +190,7 @@ fn look_at_untaken(
     let suspect = Suspect {
         kind: WarningKind::UnreadBytes,
         at: named.at,
-        phrase: "in @ no rule takes [~]: such bytes are echoed",
+        phrase: "",
         subject: Subject::Untaken(condition),
     };
     push_suspect(found, &named.allowed, suspect)
@@ -226,6 +231,43 @@ fn look_at_runs(
     Ok(())
 }
 
+// Looks at the substitutes of definitions. Those that the specification doesn't use are passed over, where it is known.
+fn look_at_substitutes(
+    alloc: Global,
+    text: &[u8],
+    found: &mut Vec<Suspect>,
+    layout: &Layout,
+    spec: Option<&Spec>,
+) -> Result<(), AllocError> {
+    for definition in &layout.definitions {
+        let is_told = match spec {
+            Some(spec) => is_used(spec, part(text, definition.name)),
+            None => true,
+        };
+        if is_told {
+            let allowed = &definition.allowed;
+            look_at_pattern(alloc, text, found, allowed, definition.substitute)?;
+        }
+    }
+    Ok(())
+}
+
+/// Looks for what is suspicious about the lines of a text by themselves. Of a text that is refused no specification is known.
+pub(crate) fn look_at_lines(
+    alloc: Global,
+    text: &[u8],
+    found: &mut Vec<Suspect>,
+    layout: &Layout,
+    spec: Option<&Spec>,
+) -> Result<(), AllocError> {
+    for line in &layout.declarations {
+        look_at_declaration(text, found, line)?;
+    }
+    look_at_substitutes(alloc, text, found, layout, spec)?;
+    look_at_rules(alloc, text, found, layout)?;
+    look_at_skipped(alloc, text, found, layout)
+}
+
 /// Looks for what is suspicious about the parts of a text; at runs of a byte only where that is asked for, since it takes long.
 pub(crate) fn look_at_text(
     alloc: Global,
@@ -235,12 +277,12 @@ pub(crate) fn look_at_text(
     layout: &Layout,
     known: &Known<'_>,
 ) -> Result<(), AllocError> {
-    look_at_conditions(text, found, layout, known.entered)?;
+    look_at_conditions(found, layout, known.entered)?;
     for definition in &layout.definitions {
-        look_at_definition(alloc, text, found, known.spec, definition)?;
+        look_at_use(alloc, text, found, known.spec, definition)?;
     }
-    look_at_rules(alloc, text, found, layout, known.chosen)?;
-    look_at_skipped(alloc, text, found, layout)?;
+    look_at_choice(found, layout, known.chosen)?;
+    look_at_lines(alloc, text, found, layout, Some(known.spec))?;
     look_at_all_untaken(alloc, found, layout, known)?;
     if asked.contains(WarningKind::FarAhead) {
         look_at_runs(alloc, found, layout, known)?;

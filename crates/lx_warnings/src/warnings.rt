@@ -1,6 +1,6 @@
 //! Warnings, each with its place and its words.
 
-ghost use Rattle.std.specs.Prelude.{◌≡◌, ◌<◌, ◌≤◌, All, IfOk, length, true};
+ghost use Rattle.std.specs.Prelude.{◌≡◌, ◌<◌, All, IfOk, length, min, true};
 ghost use Rattle.lx_diagnose.specs.Printed.{ArePrinted};
 ghost use Rattle.lx_warnings.specs.Kinds.{has_kind};
 ghost use Rattle.lx_warnings.specs.Told.{IsTold};
@@ -9,12 +9,12 @@ use crate::kinds::{KindSet, WarningKind};
 use crate::layout::layout_of;
 use crate::never_chosen::phrase_and_example;
 use crate::suspects::{Subject, Suspect};
-use crate::suspicion::look_at_text;
+use crate::suspicion::{look_at_lines, look_at_text};
 use crate::untaken::untaken_bytes;
 use lx_diagnose::Place;
 use lx_diagnose::lines::place_of;
 use lx_diagnose::scan::part;
-use lx_diagnose::wording::{Fillings, filled, told};
+use lx_diagnose::wording::{Fillings, filled, printed, told};
 use lx_reached::Takers;
 use lx_spec::Spec;
 use lx_tables::Tables;
@@ -66,6 +66,18 @@ fn name_in(spec: &Spec, condition: u16) -> &[u8] {
     }
 }
 
+// Says of a condition which bytes no rule takes there.
+fn untaken_words(alloc: Global, known: &Known<'_>, condition: u16) -> Result<Vec<u8>, AllocError>
+    ensures { IfOk result (λ words. ArePrinted words.items) }
+{
+    let mut words = Vec::from_slice(alloc, b"in ")?;
+    words.extend_from_slice(name_in(known.spec, condition))?;
+    words.extend_from_slice(b" no rule takes [")?;
+    words.extend_from_slice(&untaken_in(alloc, known.tables, condition)?)?;
+    words.extend_from_slice(b"]: such bytes are echoed")?;
+    printed(alloc, &words)
+}
+
 // A phrase with these two for `@` and `~`.
 fn filled_with(
     alloc: Global,
@@ -83,35 +95,34 @@ fn filled_with(
     filled(alloc, phrase, &fillings)
 }
 
+// What is known of the text is nothing where it is refused: then no phrase speaks of it.
 fn phrased(
     alloc: Global,
     text: &[u8],
-    known: &Known<'_>,
+    known: Option<&Known<'_>>,
     suspect: &Suspect,
 ) -> Result<Vec<u8>, AllocError>
     ensures { IfOk result (λ words. ArePrinted words.items) }
 {
     let phrase = suspect.phrase.as_bytes();
-    match suspect.subject {
-        Subject::Parts(name, other) => {
+    match (suspect.subject, known) {
+        (Subject::Parts(name, other), _) => {
             filled_with(alloc, phrase, part(text, name), part(text, other))
         }
-        Subject::Byte(byte) => filled_with(alloc, phrase, &[byte], b""),
-        Subject::Untaken(condition) => {
-            let bytes = untaken_in(alloc, known.tables, condition)?;
-            filled_with(alloc, phrase, name_in(known.spec, condition), &bytes)
-        }
-        Subject::Takers(rule) => {
+        (Subject::Byte(byte), _) => filled_with(alloc, phrase, &[byte], b""),
+        (Subject::Untaken(condition), Some(known)) => { untaken_words(alloc, known, condition) }
+        (Subject::Takers(rule), Some(known)) => {
             let (phrase, example) = phrase_and_example(alloc, known, rule)?;
             filled_with(alloc, &phrase, example, b"")
         }
+        _ => filled_with(alloc, phrase, b"", b""),
     }
 }
 
 fn warning_of(
     alloc: Global,
     text: &[u8],
-    known: &Known<'_>,
+    known: Option<&Known<'_>>,
     suspect: &Suspect,
 ) -> Result<Warning, AllocError>
     ensures told { IfOk result (IsTold text.now) }
@@ -129,14 +140,14 @@ fn warning_of(
 fn told_of(
     alloc: Global,
     text: &[u8],
-    known: &Known<'_>,
+    known: Option<&Known<'_>>,
     suspects: &[Suspect],
     asked: &KindSet,
     most: usize,
 ) -> Result<Warnings, AllocError>
     ensures told { IfOk result (λ warnings. All (IsTold text.now) warnings.told.items) }
     ensures asked { IfOk result (λ warnings. All (λ warning. has_kind asked.now warning.kind ≡ true) warnings.told.items) }
-    ensures most { IfOk result (λ warnings. length warnings.told.items ≤ most) }
+    ensures most { IfOk result (λ warnings. length warnings.told.items ≡ min warnings.count most) }
 {
     let mut told = Vec::new(alloc);
     let mut count: usize = 0;
@@ -164,11 +175,48 @@ pub fn warnings_of(
 ) -> Result<Warnings, AllocError>
     ensures told { IfOk result (λ warnings. All (IsTold text.now) warnings.told.items) }
     ensures asked { IfOk result (λ warnings. All (λ warning. has_kind asked.now warning.kind ≡ true) warnings.told.items) }
-    ensures most { IfOk result (λ warnings. length warnings.told.items ≤ most) }
+    ensures most { IfOk result (λ warnings. length warnings.told.items ≡ min warnings.count most) }
 {
     let layout = layout_of(alloc, text)?;
     let mut suspects = Vec::new(alloc);
     look_at_text(alloc, text, &mut suspects, asked, &layout, known)?;
     suspects.sort_by_key(|suspect| suspect.at.start)?;
-    told_of(alloc, text, known, &suspects, asked, most)
+    told_of(alloc, text, Some(known), &suspects, asked, most)
+}
+
+// Returns those of the suspects that are on none of these lines.
+fn beside(
+    alloc: Global,
+    text: &[u8],
+    suspects: &[Suspect],
+    lines: &[u32],
+) -> Result<Vec<Suspect>, AllocError> {
+    let mut kept = Vec::new(alloc);
+    for suspect in suspects {
+        if !lines.contains(&place_of(text, suspect.at).line) {
+            kept.push(*suspect)?;
+        }
+    }
+    Ok(kept)
+}
+
+/// The warnings of a text that is refused, but whose sections have a form: those that need no more than the lines of the text, by their places, of the kinds
+/// that are asked for. Those on the given lines are left out, since these have errors. The first of them, and their number. Err: memory was refused.
+pub fn warnings_beside(
+    alloc: Global,
+    text: &[u8],
+    lines: &[u32],
+    asked: &KindSet,
+    most: usize,
+) -> Result<Warnings, AllocError>
+    ensures told { IfOk result (λ warnings. All (IsTold text.now) warnings.told.items) }
+    ensures asked { IfOk result (λ warnings. All (λ warning. has_kind asked.now warning.kind ≡ true) warnings.told.items) }
+    ensures most { IfOk result (λ warnings. length warnings.told.items ≡ min warnings.count most) }
+{
+    let layout = layout_of(alloc, text)?;
+    let mut suspects = Vec::new(alloc);
+    look_at_lines(alloc, text, &mut suspects, &layout, None)?;
+    let mut kept = beside(alloc, text, &suspects, lines)?;
+    kept.sort_by_key(|suspect| suspect.at.start)?;
+    told_of(alloc, text, None, &kept, asked, most)
 }

@@ -302,9 +302,16 @@ c_in rows = record {
   direct = flag_in (codes "direct") rows;
 }
 
+-- the file of `-o`, if the text goes to one: `-` is the output
+abbrev pub named_target : Text → Option Text
+named_target name = if bytes_eq name (codes "-") then None else Some name
+
+abbrev pub target_in : List Row → Option Text
+target_in rows = option_and_then named_target (first_of (codes "target") rows)
+
 -- a text that is printed
 abbrev pub print_in : Text → List Row → PlainPrint
-print_in id rows = record { rules = rules_in id rows; target = first_of (codes "target") rows; c = c_in rows }
+print_in id rows = record { rules = rules_in id rows; target = target_in rows; c = c_in rows }
 
 -- the number of `--most`
 abbrev pub most_in : List Row → ℕ
@@ -325,7 +332,7 @@ show_in rows = record { rules = rules_in (codes "RULES") rows; all = flag_in (co
 abbrev pub import_in : List Row → PlainImport
 import_in rows = record {
   rules = rules_in (codes "FLEX") rows;
-  target = first_of (codes "target") rows;
+  target = target_in rows;
   actions = first_of (codes "actions") rows;
   prefix = first_of (codes "prefix") rows;
   lossy = flag_in (codes "lossy") rows;

@@ -83,7 +83,7 @@ const FILES: Argument = Argument {
 const TARGET: Argument = Argument {
     id: "target",
     form: Form::Value(Name::Short('o'), "FILE"),
-    help: "The file that gets the text, all of it or nothing, in the place of the output",
+    help: "Writes the text to FILE, all of it or nothing; - is standard output",
 };
 
 const SCANNER: Argument = Argument {

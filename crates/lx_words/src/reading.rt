@@ -4,7 +4,7 @@ ghost use Rattle.std.specs.Prelude.{◌≡◌, ◌≢◌, ◌≤◌, ◌<◌, If
 ghost use Rattle.clap.specs.Words.{first_of, found_of, kind_of, rows_of, subcommand_rows_of};
 ghost use Rattle.lx_plan.specs.Plans.{max_items, max_workers};
 ghost use Rattle.lx_words.specs.Limits.{most_told};
-ghost use Rattle.lx_words.specs.CommandLine.{IsFault, IsTold, PlainWordsAsk, asked_as, asked_by, asked_of, c_in, check_in, first_in, flag_in, form_in, further_of, import_in, items_in, list_in, most_in, request_in, plain_c, plain_check, plain_form, plain_import, plain_list, plain_order, plain_print, plain_show, print_in, rules_in, show_in, values_in, workers_in, words_of};
+ghost use Rattle.lx_words.specs.CommandLine.{IsFault, IsTold, PlainWordsAsk, asked_as, asked_by, asked_of, c_in, check_in, first_in, flag_in, form_in, further_of, import_in, items_in, list_in, most_in, request_in, plain_c, plain_check, plain_form, plain_import, plain_list, plain_order, plain_print, plain_show, print_in, rules_in, show_in, target_in, values_in, workers_in, words_of};
 
 use crate::app::command;
 use crate::request::{
@@ -116,7 +116,7 @@ fn import_words_of<'a>(found: &ArgMatches<'a>) -> ImportWords<'a>
 {
     ImportWords {
         rules: rules_of(found, "FLEX"),
-        target: value_of(found, "target"),
+        target: target_of(found),
         actions: value_of(found, "actions"),
         prefix: value_of(found, "prefix"),
         lossy: has_flag(found, "lossy"),
@@ -129,7 +129,7 @@ fn print_words_of<'a>(found: &ArgMatches<'a>, rules: &str) -> PrintWords<'a>
 {
     PrintWords {
         rules: rules_of(found, rules),
-        target: value_of(found, "target"),
+        target: target_of(found),
         c: c_words_of(found),
     }
 }
@@ -172,6 +172,16 @@ fn value_of<'a>(found: &ArgMatches<'a>, id: &str) -> Option<&'a str>
     ensures { option_map (λ value. value.now) result ≡ first_of id.now (rows_of (found_of found.now)) }
 {
     found.get_str(id)
+}
+
+// Returns the file of `-o`, if the text goes to one: `-` is the output.
+fn target_of<'a>(found: &ArgMatches<'a>) -> Option<&'a str>
+    ensures { option_map (λ name. name.now) result ≡ target_in (rows_of (found_of found.now)) }
+{
+    match value_of(found, "target") {
+        Some(name) if name != "-" => Some(name),
+        _ => None,
+    }
 }
 
 // Whether a flag is given.

@@ -29,6 +29,7 @@ returns-clause-ok g c =
         given = c.in_ok-text.ensures.ok;
         accepted = rw c.deref.ensures.value at c.in_ok-said.ensures.ok;
         said = c.deref-2.result.now;
+        tells = λ json. rw c.deref-2.ensures.value (c.in_ok-said.ensures.tells json);
         wrote = h;
       },
       refl,

@@ -3,8 +3,9 @@ use Rattle.std.proofs.lemmas.Result.{IfErr-weaker, err_from_is_err_and, on_ok_we
 use Rattle.lx_c.specs.Options.{named}
 use Rattle.lx_rules.specs.views.Specs.{spec_view}
 use Rattle.lx_words.specs.CommandLine.{plain_print, gen}
+use Rattle.lx_tool.specs.Outputs.{IsOverwritten}
 use Rattle.lx_tool.specs.Printing.{condition_names, options_by, printed_text}
-use Rattle.lx_tool.proofs.Obeyed.{keeps_itself, printing_refused, rules_no_tables, scanner_refused}
+use Rattle.lx_tool.proofs.Obeyed.{keeps_itself, outputs_refused, printing_refused, rules_no_tables, scanner_refused}
 use Rattle.lx_tool.proofs.program.generate_named.Goals as goal
 
 pub returns-in_err-judge_scanner_words-clause-err : goal.returns-in_err-judge_scanner_words-clause-err
@@ -39,12 +40,19 @@ returns-in_err-tables-clause-err g c =
     (λ failure none. record { text = c.in_ok-text.text.items; after = c.read_whole.new.sources; given = c.in_ok-text.ensures.ok; refused = inl none }) (keeps_itself held) c.in_err-tables.field-0.0
     (c.in_err-tables.ensures.err c.in_ok-text.text.items (rw c.deref.ensures.value at c.in_ok-spec.ensures.ok)))
 
+pub returns-in_err-judge_output-clause-err : goal.returns-in_err-judge_output-clause-err
+returns-in_err-judge_output-clause-err g c =
+    let p = err_from_is_err_and c.from_residual-in_err-judge_output.result c.from_residual-in_err-judge_output.ensures.1 in
+    let print = plain_print c.args.words in
+    let held = g.O.Write.contents c.args.out.now in
+    rw (p.1, p.2) (outputs_refused g.S.Sources.gives c.args.sources.now held held (gen print) (λ fault. IsOverwritten fault print.target print.rules) (λ fault h. inl (inr (fault, refl, h))) (keeps_itself held) c.in_err-judge_output.field-0.0 c.in_err-judge_output.ensures.err)
+
 pub returns-clause-ok : goal.returns-clause-ok
 returns-clause-ok g c =
     let print = plain_print c.args.words in
     let table = c.in_ok-tables.tables in
     let spec = spec_view c.in_ok-spec.spec in
-    on_ok_weaker c.print_asked.result
+    on_ok_weaker c.print_noted.result
     (λ h. (
       record {
         text = c.in_ok-text.text.items;
@@ -61,14 +69,14 @@ returns-clause-ok g c =
       },
       refl,
     ))
-    (rw c.in_ok-options.ensures.ok at c.print_asked.ensures.ok)
+    (rw c.in_ok-options.ensures.ok at c.print_noted.ensures.ok)
 
 pub returns-clause-placed : goal.returns-clause-placed
 returns-clause-placed g c =
     let print = plain_print c.args.words in
     let table = c.in_ok-tables.tables in
     let spec = spec_view c.in_ok-spec.spec in
-    on_ok_weaker c.print_asked.result
+    on_ok_weaker c.print_noted.result
     (λ h. record {
       text = c.in_ok-text.text.items;
       after = c.read_whole.new.sources;
@@ -81,21 +89,22 @@ returns-clause-placed g c =
         of_spec = c.in_ok-tables.ensures.ok;
         prints = record { words = c.in_ok-judge_scanner_words.ensures.asked; kinds = h.kinds; is = refl };
       };
+      apart = c.in_ok-judge_output.ensures.ok;
       placed = h.placed;
     })
-    (rw c.in_ok-options.ensures.ok at c.print_asked.ensures.placed)
+    (rw c.in_ok-options.ensures.ok at c.print_noted.ensures.placed)
 
 pub returns-clause-err : goal.returns-clause-err
 returns-clause-err g c =
     let print = plain_print c.args.words in
     let table = c.in_ok-tables.tables in
     let spec = spec_view c.in_ok-spec.spec in
-    IfErr-weaker c.print_asked.result _ _
-    (printing_refused g.S.Sources.gives c.args.sources.now (g.O.Write.contents c.args.out.now) (g.O.Write.contents c.print_asked.new.out) (gen print) print.c (named (options_by print.c) (condition_names spec)) table print.target (λ some. inl (refl, some))
+    IfErr-weaker c.print_noted.result _ _
+    (printing_refused g.S.Sources.gives c.args.sources.now (g.O.Write.contents c.args.out.now) (g.O.Write.contents c.print_noted.new.out) (gen print) print.c (named (options_by print.c) (condition_names spec)) table print.target (λ some. inl (inl (refl, some)))
     (λ failure k. record {
       text = c.in_ok-text.text.items;
       after = c.read_whole.new.sources;
       given = c.in_ok-text.ensures.ok;
       refused = inr (record { spec = spec; read = rw c.deref.ensures.value at c.in_ok-spec.ensures.ok; table = table; of_spec = c.in_ok-tables.ensures.ok; refused = k });
     }))
-    (rw c.in_ok-options.ensures.ok at c.print_asked.ensures.err)
+    (rw c.in_ok-options.ensures.ok at c.print_noted.ensures.err)

@@ -1,9 +1,10 @@
 use Rattle.std.proofs.Common.{inl, inr, refl}
 use Rattle.std.proofs.lemmas.Result.{IfErr-weaker, err_from_is_err_and, on_ok_weaker}
 use Rattle.lx_words.specs.CommandLine.{plain_print, up}
+use Rattle.lx_tool.specs.Outputs.{IsOverwritten}
 use Rattle.lx_tool.specs.Printing.{options_by, printed_text}
 use Rattle.lx_tool.specs.Tabling.{AreTablesIn}
-use Rattle.lx_tool.proofs.Obeyed.{keeps_itself, printing_refused, scanner_refused}
+use Rattle.lx_tool.proofs.Obeyed.{keeps_itself, outputs_refused, printing_refused, scanner_refused}
 use Rattle.lx_tool.proofs.program.upgrade_named.Goals as goal
 
 pub returns-in_err-options-clause-err : goal.returns-in_err-options-clause-err
@@ -12,6 +13,13 @@ returns-in_err-options-clause-err g c =
     let print = plain_print c.args.words in
     let held = g.O.Write.contents c.args.out.now in
     rw (p.1, p.2) (scanner_refused g.S.Sources.gives c.args.sources.now held held (up print) print.c (λ fault h. inr h) (keeps_itself held) c.in_err-options.field-0.0 c.in_err-options.ensures.err)
+
+pub returns-in_err-judge_output-clause-err : goal.returns-in_err-judge_output-clause-err
+returns-in_err-judge_output-clause-err g c =
+    let p = err_from_is_err_and c.from_residual-in_err-judge_output.result c.from_residual-in_err-judge_output.ensures.1 in
+    let print = plain_print c.args.words in
+    let held = g.O.Write.contents c.args.out.now in
+    rw (p.1, p.2) (outputs_refused g.S.Sources.gives c.args.sources.now held held (up print) (λ fault. IsOverwritten fault print.target print.rules) (λ fault h. inl (inr (fault, refl, h))) (keeps_itself held) c.in_err-judge_output.field-0.0 c.in_err-judge_output.ensures.err)
 
 pub returns-clause-ok : goal.returns-clause-ok
 returns-clause-ok g c =
@@ -43,6 +51,7 @@ returns-clause-placed g c =
       given = c.in_ok-text.ensures.ok;
       printed = printed_text print.c (options_by print.c) table;
       prints = record { table = table; is_table = made.0; of_text = made.1; prints = record { words = c.in_ok-options.ensures.asked; kinds = h.kinds; is = refl } };
+      apart = c.in_ok-judge_output.ensures.ok;
       placed = h.placed;
     })
     (rw c.in_ok-options.ensures.ok at c.print_asked.ensures.placed)
@@ -53,6 +62,6 @@ returns-clause-err g c =
     let table = c.in_ok-tables.tables in
     let made : AreTablesIn c.in_ok-text.text.items table = rw c.deref.ensures.value at c.in_ok-tables.ensures.ok in
     IfErr-weaker c.print_asked.result _ _
-    (printing_refused g.S.Sources.gives c.args.sources.now (g.O.Write.contents c.args.out.now) (g.O.Write.contents c.print_asked.new.out) (up print) print.c (options_by print.c) table print.target (λ some. inl (refl, some))
+    (printing_refused g.S.Sources.gives c.args.sources.now (g.O.Write.contents c.args.out.now) (g.O.Write.contents c.print_asked.new.out) (up print) print.c (options_by print.c) table print.target (λ some. inl (inl (refl, some)))
     (λ failure k. record { text = c.in_ok-text.text.items; after = c.read_whole.new.sources; given = c.in_ok-text.ensures.ok; refused = inr (record { table = table; is_table = made.0; of_text = made.1; refused = k }) }))
     (rw c.in_ok-options.ensures.ok at c.print_asked.ensures.err)

@@ -1,4 +1,4 @@
-use Rattle.std.proofs.Common.{◌≡◌, ◌≤◌, All, true, ap, subst, sym, ◌∙◌, arith, length}
+use Rattle.std.proofs.Common.{◌≡◌, All, min, true, ap, subst, sym, ◌∙◌, arith, length}
 use Rattle.std.proofs.lemmas.List.{length_push}
 use Rattle.std.proofs.lemmas.List.Elements.{All-push}
 use Rattle.lx_warnings.specs.Kinds.{has_kind}
@@ -17,14 +17,16 @@ loop-suspect-preserved c =
             told = subst (λ items. All (IsTold c.args.text.now) items) is (All-push (IsTold c.args.text.now) c.loop-suspect.told.items _ c.loop-suspect.invariant.told w.in_ok-warning_of.ensures.told);
             asked = subst (λ items. All Asked items) is (All-push Asked c.loop-suspect.told.items _ c.loop-suspect.invariant.asked (ap (λ kind. has_kind c.args.asked.now kind) w.in_ok-warning_of.ensures.kind ∙ sym c.contains.ensures ∙ c.if-not-contains.false));
             most =
-                (let n = length_push c.loop-suspect.told.items w.in_ok-warning_of.field-0 in let l = c.len.ensures in let t = w.if-len-most.true in
-                subst (λ items. length items ≤ c.args.most) is (omega arith));
+                (let n = length_push c.loop-suspect.told.items w.in_ok-warning_of.field-0 in let l = c.len.ensures in let t = w.if-len-most.true in let s = c.saturating_add-count.ensures in
+                subst (λ items. length items ≡ min c.saturating_add-count.result c.args.most) is (omega arith));
           }
       | else-len-most w ↦
           let is = sym (ap (λ v. v.items) w.told-is) in
           record {
             told = subst (λ items. All (IsTold c.args.text.now) items) is c.loop-suspect.invariant.told;
             asked = subst (λ items. All Asked items) is c.loop-suspect.invariant.asked;
-            most = subst (λ items. length items ≤ c.args.most) is c.loop-suspect.invariant.most;
+            most =
+                (let l = c.len.ensures in let t = w.if-len-most.false in let s = c.saturating_add-count.ensures in
+                subst (λ items. length items ≡ min c.saturating_add-count.result c.args.most) is (omega arith));
           }
     ]

@@ -1,0 +1,130 @@
+//! The order of errors and warnings: that of their lines, but that the first error comes first.
+
+use crate::repeated::new_findings;
+use crate::style::Style;
+use crate::warnings::MOST_TOLD;
+use lx_check::Finding;
+use lx_spec::Code;
+use lx_warnings::{Warning, Warnings, warnings_beside};
+use std::alloc::{AllocError, Global};
+
+/// What is told behind the first error of a text that is refused.
+#[derive(Clone, Copy)]
+pub(crate) enum Entry {
+    Error(Finding),
+    /// The warning of this number.
+    Warning(usize),
+}
+
+/// All that is told behind the first error of a text that is refused.
+#[derive(Drop)]
+pub(crate) struct Rest {
+    /// In this order.
+    pub entries: Vec<Entry>,
+    /// The number of errors among them.
+    pub errors: usize,
+    pub warnings: Warnings,
+}
+
+/// The line of a finding, and 0 where it has none.
+fn line_of(finding: &Finding) -> u32 {
+    match finding {
+        Finding::Specification(fault) => fault.line,
+        Finding::TooManyPositions | Finding::TooManySets => 0,
+    }
+}
+
+// Returns whether the sections of a text have a form, so that its rules and definitions are known.
+fn has_sections(first: Finding) -> bool {
+    match first {
+        Finding::Specification(fault) => matches!(
+            fault.code,
+            Code::NoReading
+                | Code::Undefined
+                | Code::TooDeep
+                | Code::NoCondition
+                | Code::NoAction
+                | Code::NoNext
+        ),
+        Finding::TooManyPositions | Finding::TooManySets => true,
+    }
+}
+
+// Returns the lines of errors.
+fn error_lines(alloc: Global, first: Finding, more: &[Finding]) -> Result<Vec<u32>, AllocError> {
+    let mut lines = Vec::new(alloc);
+    lines.push(line_of(&first))?;
+    for finding in more {
+        lines.push(line_of(finding))?;
+    }
+    Ok(lines)
+}
+
+// Returns the warnings on the lines without an error.
+fn warnings_of_refused(
+    alloc: Global,
+    style: &Style<'_>,
+    source: &[u8],
+    first: Finding,
+    more: &[Finding],
+) -> Result<Warnings, AllocError> {
+    if !has_sections(first) {
+        return Ok(Warnings {
+            told: Vec::new(alloc),
+            count: 0,
+        });
+    }
+    let lines = error_lines(alloc, first, more)?;
+    warnings_beside(alloc, source, &lines, &style.asked, MOST_TOLD)
+}
+
+// Adds the warnings from this number on that stand before a line. The result is the number of the first one behind.
+fn push_before(
+    entries: &mut Vec<Entry>,
+    warnings: &[Warning],
+    from: usize,
+    line: u32,
+) -> Result<usize, AllocError> {
+    for number in from..warnings.len() {
+        if line <= warnings[number].place.line {
+            return Ok(number);
+        }
+        entries.push(Entry::Warning(number))?;
+    }
+    Ok(warnings.len())
+}
+
+// Puts errors and warnings in the order of their lines.
+fn entries_of(
+    alloc: Global,
+    errors: &[Finding],
+    warnings: &[Warning],
+) -> Result<Vec<Entry>, AllocError> {
+    let mut entries = Vec::new(alloc);
+    let mut next = 0;
+    for error in errors {
+        next = push_before(&mut entries, warnings, next, line_of(error))?;
+        entries.push(Entry::Error(*error))?;
+    }
+    for number in next..warnings.len() {
+        entries.push(Entry::Warning(number))?;
+    }
+    Ok(entries)
+}
+
+/// What is told behind the first of the findings: further errors that say something new, and the warnings on lines without an error.
+pub(crate) fn rest_of(
+    alloc: Global,
+    style: &Style<'_>,
+    source: &[u8],
+    first: Finding,
+    more: &[Finding],
+) -> Result<Rest, AllocError> {
+    let new = new_findings(alloc, source, first, more)?;
+    let warnings = warnings_of_refused(alloc, style, source, first, more)?;
+    Ok(Rest {
+        entries: entries_of(alloc, &new, &warnings.told)?,
+        errors: new.len(),
+        warnings,
+    })
+}

@@ -1,0 +1,110 @@
+//! Printing, with a further line where a kind can't be one in C: which rule returns it.
+
+ghost use Rattle.std.specs.Prelude.{◌<◌, IfErr, OnOk};
+ghost use Rattle.lx_words.specs.CommandLine.{plain_c, plain_print};
+ghost use Rattle.lx_tool.specs.Printing.{FailsPrinting, PlacesTables, WritesTables};
+ghost use Rattle.lx_tool.specs.Statuses.{status_of};
+
+use crate::failure::{Failure, PrintFault};
+use crate::printing::print_asked;
+use crate::target::Targets;
+use lx_c::Options;
+use lx_rules::Spec;
+use lx_rules::rule::{Kind, Rule, Step};
+use lx_tables::Tables;
+use lx_words::PrintWords;
+use std::alloc::Global;
+use std::io::Write;
+
+// Returns whether a rule returns the kind with this name.
+fn does_return(spec: &Spec, rule: &Rule, name: &[u8]) -> bool {
+    for step in rule.action.as_slice() {
+        if let Step::Return(Kind::Name(kind)) = step {
+            if let Some(found) = spec.kinds.get(*kind as usize) {
+                if found.as_slice() == name {
+                    return true;
+                }
+            }
+        }
+    }
+    false
+}
+
+// Returns the first rule that returns the kind with this name.
+fn rule_returning<'s>(spec: &'s Spec, name: &[u8]) -> Option<&'s Rule> {
+    for rule in &spec.rules {
+        if does_return(spec, rule, name) {
+            return Some(rule);
+        }
+    }
+    None
+}
+
+// Returns the greatest number that a rule returns as a kind, or 0.
+fn greatest_number(rule: &Rule) -> u32 {
+    let mut greatest = 0;
+    for step in rule.action.as_slice() {
+        if let Step::Return(Kind::Number(number)) = step {
+            greatest = greatest.max(*number);
+        }
+    }
+    greatest
+}
+
+// Returns the first of the rules with the greatest number as a kind.
+fn rule_of_greatest(spec: &Spec) -> Option<&Rule> {
+    let mut found = None;
+    let mut greatest = 0;
+    for rule in &spec.rules {
+        let number = greatest_number(rule);
+        if number > greatest {
+            greatest = number;
+            found = Some(rule);
+        }
+    }
+    found
+}
+
+// Adds which rule returns the kind that can't be one in C. Where memory is refused for the line, it is left out.
+fn note_kind(name: &str, spec: &Spec, failure: &Failure<'_>, notes: &mut Vec<u8>) {
+    let Failure::Unprintable(fault) = failure else {
+        return;
+    };
+    let (rule, words) = match fault {
+        PrintFault::Reserved(kind) | PrintFault::Declared(kind) => {
+            (rule_returning(spec, kind), "this rule returns it")
+        }
+        PrintFault::Numbers => (
+            rule_of_greatest(spec),
+            "this rule returns the greatest number",
+        ),
+        _ => (None, ""),
+    };
+    if let Some(rule) = rule {
+        if writeln!(notes, "lx: {name}:{}: {words}", rule.line).is_err() {
+            notes.clear();
+        }
+    }
+}
+
+/// Prints tables as the words ask, as [`print_asked`] does. Where a kind can't be one in C, `notes` get the line of a rule that returns it.
+pub(crate) fn print_noted<'a, T: Targets, O: Write>(
+    alloc: Global,
+    words: &PrintWords<'a>,
+    options: &Options,
+    tables: &Tables,
+    spec: &Spec,
+    targets: &mut T,
+    notes: &mut Vec<u8>,
+    out: &mut O,
+) -> Result<(), Failure<'a>>
+    ensures ok { OnOk result (WritesTables (plain_c words.now.c) options.now tables.now (plain_print words.now).target (O.contents out.old) (O.contents out.new)) }
+    ensures placed { OnOk result (PlacesTables T.places (plain_c words.now.c) options.now tables.now (plain_print words.now).target targets.old targets.new) }
+    ensures err { IfErr result (λ failure. status_of failure < 4 → FailsPrinting (plain_c words.now.c) options.now tables.now (plain_print words.now).target (O.contents out.old) (O.contents out.new) failure) }
+{
+    let ended = print_asked(alloc, words, options, tables, targets, out);
+    if let Err(failure) = &ended {
+        note_kind(words.rules, spec, failure, notes);
+    }
+    ended
+}

@@ -1,0 +1,72 @@
+//! Outputs that would overwrite the input, or one another.
+
+ghost use Rattle.std.specs.Prelude.{◌≡◌, IfErr, OnOk, option_map};
+ghost use Rattle.lx_words.specs.CommandLine.{plain_import};
+ghost use Rattle.lx_tool.specs.Outputs.{AreApart, AreImportsApart, AreOutputsOfImportRefused, IsApart, IsOverwritten, IsRefusedFor};
+ghost use Rattle.lx_tool.specs.declared.failure.RequestFault.TheVariants.{Outputs};
+
+use crate::failure::{Failure, OutputFault, RequestFault};
+use crate::target::Targets;
+use lx_words::ImportWords;
+
+// The name of standard output.
+const STANDARD_OUTPUT: &str = "-";
+
+fn refusal<'a>(fault: OutputFault<'a>) -> Failure<'a>
+    ensures { result ≡ Failure.Refused (Outputs fault.entry) }
+{
+    Failure::Refused(RequestFault::Outputs(fault))
+}
+
+/// Refuses the file of an option where it is the input, which it would overwrite.
+pub(crate) fn judge_output<'a, T: Targets>(
+    targets: &T,
+    option: char,
+    output: Option<&'a str>,
+    input: &'a str,
+) -> Result<(), Failure<'a>>
+    ensures ok { OnOk result (IsApart T.same targets.now (option_map (λ name. name.now) output.entry) input.now) }
+    ensures err { IfErr result (IsRefusedFor (λ fault. IsOverwritten fault (option_map (λ name. name.now) output.entry) input.now)) }
+{
+    let Some(output) = output else {
+        return Ok(());
+    };
+    if targets.is_same_file(output, input)? {
+        return Err(refusal(OutputFault::Overwritten {
+            option,
+            output,
+            input,
+        }));
+    }
+    Ok(())
+}
+
+// Refuses the files of `-o` and `-c` where they are one.
+fn judge_both<'a, T: Targets>(targets: &T, words: &ImportWords<'a>) -> Result<(), Failure<'a>>
+    ensures ok { OnOk result (AreApart T.same targets.now (plain_import words.now)) }
+    ensures err { IfErr result (IsRefusedFor (AreOutputsOfImportRefused (plain_import words.now))) }
+{
+    let (Some(target), Some(actions)) = (words.target, words.actions) else {
+        return Ok(());
+    };
+    if targets.is_same_file(target, actions)? {
+        return Err(refusal(OutputFault::Same { target, actions }));
+    }
+    Ok(())
+}
+
+/// Refuses the outputs of `import` where they are the input, one another, or standard output for the actions.
+pub(crate) fn judge_outputs_of_import<'a, T: Targets>(
+    targets: &T,
+    words: &ImportWords<'a>,
+) -> Result<(), Failure<'a>>
+    ensures ok { OnOk result (AreImportsApart T.same targets.now (plain_import words.now)) }
+    ensures err { IfErr result (IsRefusedFor (AreOutputsOfImportRefused (plain_import words.now))) }
+{
+    if words.actions == Some(STANDARD_OUTPUT) {
+        return Err(refusal(OutputFault::ActionsOnOutput));
+    }
+    judge_output(targets, 'o', words.target, words.rules)?;
+    judge_output(targets, 'c', words.actions, words.rules)?;
+    judge_both(targets, words)
+}
