@@ -3,8 +3,8 @@ use Rattle.std.proofs.Common.{◌↔◌, ℕ, List, Bool, length, ◌∙◌, ap}
 use Rattle.std.proofs.lemmas.List.{length-map}
 use Rattle.lx_rules.specs.Plain.{PlainSpec}
 use Rattle.lx_table_texts.specs.Model.{AreTablesOf, Table, table_rule}
-use Rattle.lx_chosen.specs.Chosen.{AreFlagsOf, IsEverChosen, IsEverChosenBy}
-use Rattle.lx_entered.specs.Entered.{IsEntered}
+use Rattle.lx_reach.specs.Chosen.{AreFlagsOf, IsEverChosen, IsEverChosenBy}
+use Rattle.lx_reach.specs.Entered.{IsEntered}
 
 pub rules_flagged : (spec : PlainSpec) (table : Table) (flags : List Bool) → AreTablesOf spec table → ((rule : ℕ) → IsEverChosen table rule ↔ IsEverChosenBy spec rule) →
     AreFlagsOf (length table.rules) (IsEverChosen table) flags → AreFlagsOf (length spec.rules) (IsEverChosenBy spec) flags

@@ -6,8 +6,8 @@ use Rattle.lx_rules.specs.Plain.{PlainSpec}
 use Rattle.lx_rules.specs.views.Specs.{spec_view}
 use Rattle.lx_spec.specs.Whole.{IsRead}
 use Rattle.lx_table_texts.specs.Model.{AreTablesOf, Table}
-use Rattle.lx_chosen.specs.Chosen.{AreFlagsOf, IsEverChosenBy}
-use Rattle.lx_entered.specs.Entered.{IsEntered}
+use Rattle.lx_reach.specs.Chosen.{AreFlagsOf, IsEverChosenBy}
+use Rattle.lx_reach.specs.Entered.{IsEntered}
 use Rattle.lx_verdict.specs.Verdicts.{IsFinding}
 use Rattle.lx_verdict.specs.declared.finding.Finding.{Finding}
 use Rattle.lx_check.specs.declared.report.Accepted.{Accepted}

@@ -1,6 +1,6 @@
 //! What is to be said of the text of a specification.
 
-use lx_reached::Takers;
+use lx_reach::Takers;
 use lx_spec::Spec;
 use lx_tables::Tables;
 use lx_verdict::Finding;

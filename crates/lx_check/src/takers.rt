@@ -1,7 +1,7 @@
 //! Which rules take the texts of those that are never chosen.
 
 use bstr::ByteSlice;
-use lx_reached::{Takers, takers_of};
+use lx_reach::{Takers, takers_of};
 use lx_recovery::without::MAX_SPECIFICATION_BYTES;
 use lx_sections::parsed_sections::RawRule;
 use lx_sections::rule_line::Prefix;

@@ -2,7 +2,7 @@
 
 use crate::warnings::Known;
 use lx_diagnose::wording::{Fillings, filled};
-use lx_reached::Takers;
+use lx_reach::Takers;
 use lx_spec::Spec;
 use std::alloc::{AllocError, Global};
 

@@ -14,7 +14,7 @@ use lx_diagnose::Span;
 use lx_diagnose::places::between;
 use lx_diagnose::scan::{behind_word, is_listed, part};
 use lx_ere::{EreFault, read_substitute};
-use lx_reached::far_ahead;
+use lx_reach::far_ahead;
 use lx_sections::action::{Action, read_action};
 use lx_spec::Spec;
 use lx_tables::Tables;

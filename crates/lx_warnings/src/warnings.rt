@@ -15,7 +15,7 @@ use lx_diagnose::Place;
 use lx_diagnose::lines::place_of;
 use lx_diagnose::scan::part;
 use lx_diagnose::wording::{Fillings, filled, printed, told};
-use lx_reached::Takers;
+use lx_reach::Takers;
 use lx_spec::Spec;
 use lx_tables::Tables;
 use std::alloc::{AllocError, Global};

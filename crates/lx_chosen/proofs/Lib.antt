@@ -1,2 +1,0 @@
-pub mod ByRules
-pub mod Taking

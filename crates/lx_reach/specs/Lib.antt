@@ -1,0 +1,5 @@
+pub mod Chosen
+pub mod Entered
+pub mod Reached
+pub mod Taken
+pub mod Takers

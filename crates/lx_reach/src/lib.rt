@@ -1,0 +1,15 @@
+//! Which start conditions of a scanner's tables are entered.
+#![tactic(auto)]
+
+pub mod ahead;
+pub mod chosen;
+pub mod entered;
+pub mod met;
+pub mod reached;
+pub mod ruling;
+pub mod takers;
+
+pub use crate::ahead::{FarAhead, far_ahead};
+pub use crate::chosen::{chosen_in, chosen_rules};
+pub use crate::entered::entered_conditions;
+pub use crate::takers::{Takers, takers_of};

@@ -1,3 +1,0 @@
-pub mod Meeting
-pub mod Pairing
-pub mod Reaching
