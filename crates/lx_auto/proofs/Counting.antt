@@ -2,7 +2,7 @@
 use Rattle.std.proofs.Common.{◌≡◌, ◌∙◌, ℕ, zero, suc, ◌+◌, ◌*◌, ◌≤◌, min, List, [], ◌∷◌, ◌++◌, map, get_or, Option, Some, None, refl, ap, ap₂, sym, arith, ◌-◌}
 use Rattle.std.specs.Prelude.{slice_get}
 use Rattle.std.specs.Option.{option_map}
-use Rattle.lx_lexemes.specs.Regex.{Regex, nil, one_of, then, or, times, named, regex_of}
+use Rattle.lx_ere.specs.Regex.{Regex, nil, one_of, then, or, times, named, regex_of}
 use Rattle.lx_rules.specs.Plain.{PlainDefinition, PlainRule}
 use Rattle.lx_rules.specs.views.Rules.{definition_view}
 use Rattle.lx_rules.specs.declared.definition.Definition.{Definition}

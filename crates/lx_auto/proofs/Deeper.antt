@@ -2,7 +2,7 @@
 use Rattle.std.proofs.Common.{◌≡◌, ◌∙◌, ℕ, zero, suc, ◌+◌, ◌*◌, IsTrue, Bool, true, false, List, [], ◌∷◌, Option, Some, None, refl, ap, ap₂, arith}
 use Rattle.std.specs.List.{list_all}
 use Rattle.std.proofs.lemmas.Bool.{false≢true}
-use Rattle.lx_lexemes.specs.Regex.{Regex, nil, one_of, then, or, times, named}
+use Rattle.lx_ere.specs.Regex.{Regex, nil, one_of, then, or, times, named}
 use Rattle.lx_rules.specs.Names.{names_of}
 use Rattle.lx_rules.specs.Nesting.{tree_named, holds_of, is_no_name, is_within}
 use Rattle.lx_rules.specs.Plain.{PlainDefinition}

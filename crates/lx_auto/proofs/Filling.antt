@@ -1,7 +1,7 @@
 -- Fragments, one more of which is filled.
 use Rattle.std.proofs.Common.{◌≡◌, ◌∙◌, ℕ, zero, suc, ◌⊎◌, inl, inr, List, [], ◌∷◌, ◌++◌, Option, Some, None, map, refl, ap, sym, subst}
 use Rattle.std.specs.Prelude.{slice_get, slice_set}
-use Rattle.lx_lexemes.specs.Regex.{regex_of}
+use Rattle.lx_ere.specs.Regex.{regex_of}
 use Rattle.lx_rules.specs.views.Rules.{definition_view}
 use Rattle.lx_rules.specs.declared.definition.Definition.{Definition}
 use Rattle.lx_auto.specs.NodeViews.{nodes_view}

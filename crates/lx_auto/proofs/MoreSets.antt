@@ -1,7 +1,7 @@
 -- The position sets are the same over both forms of the expressions, so where there are too many over the one, there are over the other.
 use Rattle.std.proofs.Common.{◌≡◌, ◌≢◌, ℕ, zero, suc, ◌+◌, ◌<◌, ◌↔◌, inl, inr, Bool, true, false, List, [], ◌∷◌, ◌++◌, length, Some, refl, sym, ◌∙◌, ap, ap₂, subst, arith}
 use Rattle.std.specs.Prelude.{slice_get, slice_index_or, Contains, All}
-use Rattle.lx_lexemes.specs.Regex.{Regex}
+use Rattle.lx_ere.specs.Regex.{Regex}
 use Rattle.lx_rules.specs.Plain.{PlainRule, PlainSpec}
 use Rattle.lx_auto.specs.Unfolded.{Unfolded, position_count, PositionWord, own_position}
 use Rattle.lx_auto.specs.WrittenOut.{pattern_written_out}

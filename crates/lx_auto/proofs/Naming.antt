@@ -2,7 +2,7 @@
 use Rattle.std.proofs.Common.{◌≡◌, ◌∙◌, ℕ, zero, suc, ◌<◌, Bool, true, false, cond, nat_eq, List, [], ◌∷◌, length, map, take, get_or, Option, Some, None, refl, ap, arith}
 use Rattle.std.specs.Cmp.Lexicographic.{pointwise}
 use Rattle.std.specs.Option.{option_or, option_map}
-use Rattle.lx_lexemes.specs.Regex.{regex_of}
+use Rattle.lx_ere.specs.Regex.{regex_of}
 use Rattle.lx_rules.specs.Nesting.{tree_named}
 use Rattle.lx_rules.specs.views.Rules.{definition_view}
 use Rattle.lx_rules.specs.declared.definition.Definition.{Definition}

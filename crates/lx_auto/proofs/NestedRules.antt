@@ -1,7 +1,7 @@
 -- The nodes of one rule more.
 use Rattle.std.proofs.Common.{◌≡◌, ℕ, zero, suc, ◌<◌, IsTrue, Bool, true, false, ◌&&◌, List, [], ◌∷◌, length, get_or, map, refl, sym, subst, arith}
 use Rattle.std.specs.List.{list_all}
-use Rattle.lx_lexemes.specs.Regex.{Regex, regex_of}
+use Rattle.lx_ere.specs.Regex.{Regex, regex_of}
 use Rattle.lx_rules.specs.views.Rules.{rule_view}
 use Rattle.lx_rules.specs.declared.rule.Rule.{Rule}
 use Rattle.lx_rules.specs.Nesting.{is_within, are_nested, expressions_of}

@@ -7,8 +7,8 @@ use Rattle.std.proofs.lemmas.Bool.{false≢true}
 use Rattle.std.proofs.lemmas.Slice.Eq.{bytes_eq-Decides}
 use Rattle.std.proofs.lemmas.Bool.{leb-true}
 use Rattle.lx_ere.specs.Bounds.{is_ordered, has_ordered_bounds}
-use Rattle.lx_lexemes.specs.Regex.{Regex, nil, one_of, then, or, times, named}
-use Rattle.lx_lexemes.specs.Matching.{Splits, Repeats, RepeatsBetween, Matches}
+use Rattle.lx_ere.specs.Regex.{Regex, nil, one_of, then, or, times, named}
+use Rattle.lx_ere.specs.Matching.{Splits, Repeats, RepeatsBetween, Matches}
 use Rattle.lx_rules.specs.Invariant.{are_distinct, are_definitions}
 use Rattle.lx_rules.specs.Names.{names_of, Defines, DefinedMatches, NameMatches}
 use Rattle.lx_rules.specs.Nesting.{tree_named, holds_of, is_no_name, is_within}

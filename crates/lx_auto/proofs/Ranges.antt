@@ -2,7 +2,7 @@
 use Rattle.std.proofs.Common.{◌≡◌, ℕ, zero, suc, ◌+◌, ◌≤◌, ◌<◌, inl, inr, Bool, true, false, IsTrue, List, [], ◌∷◌, Option, Some, None, refl, sym, ◌∙◌, ap, arith}
 use Rattle.std.proofs.lemmas.Bool.{cases_lt}
 use Rattle.std.specs.Prelude.{slice_get}
-use Rattle.lx_lexemes.specs.Regex.{Regex}
+use Rattle.lx_ere.specs.Regex.{Regex}
 use Rattle.lx_rules.specs.Plain.{PlainRule}
 use Rattle.lx_auto.specs.Unfolded.{Unfolded, position_count}
 use Rattle.lx_auto.specs.Positions.{First}

@@ -5,8 +5,8 @@ use Rattle.std.specs.List.{list_all}
 use Rattle.std.proofs.lemmas.Bool.{false≢true}
 use Rattle.std.proofs.Math.Seq.{take-append_seam, take-length}
 use Rattle.lx_ere.specs.Bounds.{has_ordered_bounds}
-use Rattle.lx_lexemes.specs.Regex.{Regex}
-use Rattle.lx_lexemes.specs.Matching.{Matches}
+use Rattle.lx_ere.specs.Regex.{Regex}
+use Rattle.lx_ere.specs.Matching.{Matches}
 use Rattle.lx_rules.specs.Plain.{PlainDefinition, PlainRule, PlainSpec}
 use Rattle.lx_rules.specs.Choice.{SpecNames, Fits, reach}
 use Rattle.lx_rules.specs.Invariant.{are_definitions, are_ordered, IsWellFormed}

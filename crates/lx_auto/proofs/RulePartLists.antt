@@ -1,7 +1,7 @@
 -- The parts of rules, one rule more.
 use Rattle.std.proofs.Common.{◌≡◌, ℕ, zero, suc, ◌+◌, ◌≤◌, ◌<◌, ◌⊎◌, inl, inr, List, [], ◌∷◌, ◌++◌, Some, None, length, map, take, refl, sym, ◌∙◌, ap, subst, arith}
 use Rattle.std.specs.Prelude.{slice_get}
-use Rattle.lx_lexemes.specs.Regex.{Regex}
+use Rattle.lx_ere.specs.Regex.{Regex}
 use Rattle.lx_rules.specs.Plain.{PlainDefinition, PlainRule}
 use Rattle.lx_rules.specs.declared.rule.Rule.{Rule}
 use Rattle.lx_rules.specs.views.Rules.{rule_view}

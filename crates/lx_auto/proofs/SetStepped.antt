@@ -1,7 +1,7 @@
 -- The position set of a word with one byte more follows from that of the word; and which rules match the word can be seen from it.
 use Rattle.std.proofs.Common.{◌≡◌, ◌≢◌, ℕ, ◌↔◌, Bool, List, [], ◌∷◌, ◌++◌, Some, sym, ◌∙◌, subst}
 use Rattle.std.specs.Prelude.{slice_get}
-use Rattle.lx_lexemes.specs.Regex.{Regex}
+use Rattle.lx_ere.specs.Regex.{Regex}
 use Rattle.lx_rules.specs.Plain.{PlainRule, PlainSpec}
 use Rattle.lx_auto.specs.Unfolded.{Unfolded}
 use Rattle.lx_rules.specs.Starts.{IsActiveAt}

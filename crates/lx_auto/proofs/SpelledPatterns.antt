@@ -1,7 +1,7 @@
 -- Paths through the positions of a rule spell the texts of its pattern.
 use Rattle.std.proofs.Common.{◌≡◌, ◌≢◌, ◌↔◌, ℕ, List, [], Some, sym, subst}
 use Rattle.std.specs.Prelude.{slice_get}
-use Rattle.lx_lexemes.specs.Matching.{Matches}
+use Rattle.lx_ere.specs.Matching.{Matches}
 use Rattle.lx_rules.specs.Choice.{SpecNames}
 use Rattle.lx_rules.specs.Invariant.{IsWellFormed}
 use Rattle.lx_rules.specs.Plain.{PlainSpec}

@@ -1,8 +1,8 @@
 -- A number that falls at each call of the unfolding.
 use Rattle.std.proofs.Common.{◌≡◌, ℕ, zero, suc, ◌+◌, ◌-◌, ◌*◌, ◌<◌, ◌≤◌, arith, List, [], ◌∷◌, Some, None}
 use Rattle.std.specs.Prelude.{slice_get}
-use Rattle.lx_lexemes.specs.declared.expr.Expr.{Expr}
-use Rattle.lx_lexemes.specs.declared.expr.Expr.TheVariants.{Nil, Set, Then', Or', Times', Name}
+use Rattle.lx_ere.specs.declared.expr.Expr.{Expr}
+use Rattle.lx_ere.specs.declared.expr.Expr.TheVariants.{Nil, Set, Then', Or', Times', Name}
 use Rattle.lx_rules.specs.declared.definition.Definition.{Definition}
 
 -- how many expressions an expression is made of

@@ -1,6 +1,6 @@
 -- Counts of the definitions, which stop at one more than a specification may have.
 use Rattle.std.specs.Prelude.{ℕ, ◌+◌, min, List, Option, Some, None, map, get_or}
-use Rattle.lx_lexemes.specs.Regex.{regex_of}
+use Rattle.lx_ere.specs.Regex.{regex_of}
 use Rattle.lx_rules.specs.views.Rules.{definition_view}
 use Rattle.lx_rules.specs.declared.definition.Definition.{Definition}
 use Rattle.lx_rules.specs.Limits.{max_positions}

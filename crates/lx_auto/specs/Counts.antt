@@ -1,6 +1,6 @@
 -- How many positions a specification has, counted before anything is unfolded.
 use Rattle.std.specs.Prelude.{ℕ, zero, suc, ◌+◌, ◌*◌, max, Bool, true, false, List, [], ◌∷◌, Option, Some, None}
-use Rattle.lx_lexemes.specs.Regex.{Regex, nil, one_of, then, or, times, named}
+use Rattle.lx_ere.specs.Regex.{Regex, nil, one_of, then, or, times, named}
 use Rattle.lx_rules.specs.Plain.{PlainDefinition, PlainRule, PlainSpec}
 use Rattle.lx_rules.specs.Nesting.{tree_named}
 use Rattle.lx_rules.specs.Limits.{max_name_depth}

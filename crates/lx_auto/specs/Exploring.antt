@@ -1,6 +1,6 @@
 -- What is known while position sets are reached one after the other (Rabin and Scott 1959: the subset construction).
 use Rattle.std.specs.Prelude.{◌≡◌, ◌≢◌, ℕ, ◌+◌, ◌*◌, ◌<◌, ◌⊎◌, Bool, true, false, List, [], ◌∷◌, ◌++◌, length, filter, slice_index, slice_index_or, Option, None, All}
-use Rattle.lx_lexemes.specs.Regex.{Regex}
+use Rattle.lx_ere.specs.Regex.{Regex}
 use Rattle.lx_rules.specs.Plain.{PlainSpec}
 use Rattle.lx_auto.specs.Unfolded.{Unfolded}
 use Rattle.lx_auto.specs.PositionSets.{NumberedRule, StartAndWord, numbered}

@@ -2,7 +2,7 @@
 use Rattle.std.specs.Prelude.{ℕ, suc, nat_eq, if◌then◌else◌, List, [], ◌∷◌, Option, Some, None, slice_get}
 use Rattle.std.specs.Option.{option_map}
 use Rattle.std.specs.Cmp.Lexicographic.{pointwise}
-use Rattle.lx_lexemes.specs.Regex.{Regex, regex_of}
+use Rattle.lx_ere.specs.Regex.{Regex, regex_of}
 use Rattle.lx_rules.specs.declared.definition.Definition.{Definition}
 
 -- the number of the first definition with this name

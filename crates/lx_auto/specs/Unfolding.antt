@@ -1,6 +1,6 @@
 -- What the nodes say that are appended for an expression, where its names are defined and nested no deeper than so.
 use Rattle.std.specs.Prelude.{◌≡◌, ℕ, suc, ◌≤◌, IsTrue, List, [], Option, Some, map, slice_get}
-use Rattle.lx_lexemes.specs.Regex.{Regex, regex_of}
+use Rattle.lx_ere.specs.Regex.{Regex, regex_of}
 use Rattle.lx_rules.specs.Nesting.{is_within, holds_of}
 use Rattle.lx_rules.specs.Plain.{PlainDefinition}
 use Rattle.lx_rules.specs.views.Rules.{definition_view}

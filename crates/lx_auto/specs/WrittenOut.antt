@@ -1,7 +1,7 @@
 -- The expression that a pattern is once names are unfolded and repeats written out: with a high bound so many copies, of which the
 -- first few are used; without one as many as have to stand there, the last of them taken again at will.
 use Rattle.std.specs.Prelude.{ℕ, zero, suc, List, Option, Some, None}
-use Rattle.lx_lexemes.specs.Regex.{Regex, nil, one_of, then, or, times, named}
+use Rattle.lx_ere.specs.Regex.{Regex, nil, one_of, then, or, times, named}
 use Rattle.lx_rules.specs.Plain.{PlainDefinition}
 use Rattle.lx_rules.specs.Nesting.{tree_named}
 use Rattle.lx_rules.specs.Limits.{max_name_depth}

@@ -1,7 +1,7 @@
 //! Parts of an expression while it is split into blocks.
 
 use crate::node::Node;
-use lx_lexemes::set::ByteSet;
+use lx_ere::set::ByteSet;
 
 /// The operator of a node above two expressions.
 #[derive(Clone, Copy)]

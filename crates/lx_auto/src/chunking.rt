@@ -12,7 +12,7 @@ ghost use Rattle.lx_auto.specs.Chunks.{IsSingleBlockOf, IsOutlinedOf, IsGrowingC
 use crate::chunk::{BinaryOperator, Chunk, GrowingChunk, Outlined, SingleBlock, UnaryOperator};
 use crate::marking::{flag, nulls_of};
 use crate::node::Node;
-use lx_lexemes::set::ByteSet;
+use lx_ere::set::ByteSet;
 use std::alloc::{AllocError, Global};
 
 /// How many nodes a block has at most.

@@ -1,15 +1,15 @@
 //! How many positions a specification has, counted before anything is unfolded.
 
 ghost use Rattle.std.specs.Prelude.{◌≡◌, ◌+◌, ◌*◌, ◌≤◌, min, map, get_or, IfOk};
-ghost use Rattle.lx_lexemes.specs.Regex.{regex_of};
-ghost use Rattle.lx_lexemes.specs.Limits.{max_interval_bound};
+ghost use Rattle.lx_ere.specs.Regex.{regex_of};
+ghost use Rattle.lx_ere.specs.Limits.{max_interval_bound};
 ghost use Rattle.lx_rules.specs.views.Rules.{definition_view, rule_view};
 ghost use Rattle.lx_rules.specs.Limits.{max_positions};
 ghost use Rattle.lx_auto.specs.Counts.{copies_of, count_in, count_of_pattern, count_of_rules, newline_count as newline_of};
 ghost use Rattle.lx_auto.specs.CountViews.{looked_up, counts_behind, counts_at};
 
 use crate::names::Names;
-use lx_lexemes::expr::Expr;
+use lx_ere::expr::Expr;
 use lx_rules::rule::Rule;
 use std::alloc::{AllocError, Global};
 

@@ -4,7 +4,7 @@
 use crate::fragment::Fragment;
 use crate::names::Names;
 use crate::repeat::has_no_copy;
-use lx_lexemes::expr::Expr;
+use lx_ere::expr::Expr;
 use lx_rules::rule::Rule;
 use std::alloc::{AllocError, Global};
 

@@ -1,7 +1,7 @@
 //! Position sets, reached one after the other from the starts (Rabin and Scott 1959: the subset construction).
 
 ghost use Rattle.std.specs.Prelude.{◌≡◌, ◌≢◌, ◌+◌, ◌*◌, ◌<◌, ◌≤◌, ◌⊎◌, [], ℕ, List, IfOk, IfErr, OnOk, length, true, false};
-ghost use Rattle.lx_lexemes.specs.Regex.{Regex};
+ghost use Rattle.lx_ere.specs.Regex.{Regex};
 ghost use Rattle.lx_rules.specs.Plain.{PlainSpec};
 ghost use Rattle.lx_rules.specs.views.Specs.{spec_view};
 ghost use Rattle.lx_auto.specs.PositionTables.{AreStatesOf, ArePositionsOf, IsExploredBy};

@@ -1,7 +1,7 @@
 //! Nodes of the definitions that rules need.
 
 ghost use Rattle.std.specs.Prelude.{◌≡◌, [], map, IfOk, Some, slice_get};
-ghost use Rattle.lx_lexemes.specs.Regex.{regex_of};
+ghost use Rattle.lx_ere.specs.Regex.{regex_of};
 ghost use Rattle.lx_rules.specs.views.Rules.{definition_view};
 ghost use Rattle.lx_auto.specs.NodeViews.{nodes_view};
 ghost use Rattle.lx_auto.specs.Unfolding.{Unfolds, AreFragments};
@@ -10,7 +10,7 @@ use crate::definition_order::{Need, find_needs, is_next};
 use crate::fragment::Fragment;
 use crate::names::Names;
 use crate::unfold::unfold;
-use lx_lexemes::expr::Expr;
+use lx_ere::expr::Expr;
 use lx_rules::rule::Rule;
 use std::alloc::{AllocError, Global};
 

@@ -1,7 +1,7 @@
 //! The leaves of the positions, in order.
 
 ghost use Rattle.std.specs.Prelude.{◌≡◌, ◌++◌, ℕ, List, true, IfOk, OnOk};
-ghost use Rattle.lx_lexemes.specs.Regex.{Regex};
+ghost use Rattle.lx_ere.specs.Regex.{Regex};
 ghost use Rattle.lx_rules.specs.Plain.{PlainRule};
 ghost use Rattle.lx_auto.specs.Unfolded.{Unfolded};
 ghost use Rattle.lx_auto.specs.NodeViews.{node_view, nodes_view};
@@ -13,7 +13,7 @@ ghost use Rattle.lx_auto.specs.NodeLeaves.{leaf_in, leaves_in};
 
 use crate::node::Node;
 use crate::rule_part::RulePart;
-use lx_lexemes::set::ByteSet;
+use lx_ere::set::ByteSet;
 use std::alloc::{AllocError, Global};
 
 /// What a position stands for.

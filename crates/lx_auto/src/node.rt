@@ -1,6 +1,6 @@
 //! Nodes of unfolded expressions, in post-order.
 
-use lx_lexemes::set::ByteSet;
+use lx_ere::set::ByteSet;
 
 /// A node: its only child, or its right one, stands before it, and the left one before that.
 #[derive(Clone, Copy)]

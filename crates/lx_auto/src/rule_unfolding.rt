@@ -1,7 +1,7 @@
 //! The rules of a specification, unfolded and numbered.
 
 ghost use Rattle.std.specs.Prelude.{◌≡◌, ◌+◌, ◌≤◌, ◌<◌, ◌^◌, ◌⊎◌, ◌∷◌, [], length, map, IsTrue, IfOk, IfErr};
-ghost use Rattle.lx_lexemes.specs.Regex.{regex_of};
+ghost use Rattle.lx_ere.specs.Regex.{regex_of};
 ghost use Rattle.lx_rules.specs.Nesting.{are_nested, expressions_of};
 ghost use Rattle.lx_rules.specs.views.Rules.{definition_view, rule_view};
 ghost use Rattle.lx_rules.specs.views.Specs.{spec_view};

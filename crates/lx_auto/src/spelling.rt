@@ -1,7 +1,7 @@
 //! What the positions of a specification spell.
 
 ghost use Rattle.std.specs.Prelude.{◌≡◌, ◌≢◌, ◌↔◌, ℕ, List, [], Some, slice_get};
-ghost use Rattle.lx_lexemes.specs.Matching.{Matches};
+ghost use Rattle.lx_ere.specs.Matching.{Matches};
 ghost use Rattle.lx_rules.specs.Choice.{SpecNames};
 ghost use Rattle.lx_rules.specs.Invariant.{IsWellFormed};
 ghost use Rattle.lx_rules.specs.Plain.{PlainSpec};

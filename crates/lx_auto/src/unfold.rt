@@ -1,7 +1,7 @@
 //! Expressions, unfolded to nodes.
 
 ghost use Rattle.std.specs.Prelude.{◌≡◌, ◌≤◌, ◌++◌, map, IfOk, OnOk, Some};
-ghost use Rattle.lx_lexemes.specs.Regex.{regex_of};
+ghost use Rattle.lx_ere.specs.Regex.{regex_of};
 ghost use Rattle.lx_rules.specs.views.Rules.{definition_view};
 ghost use Rattle.lx_rules.specs.Limits.{max_name_depth};
 ghost use Rattle.lx_auto.specs.NameViews.{tree_at};
@@ -14,8 +14,8 @@ use crate::names::Names;
 use crate::node::Node;
 use crate::part::{EMPTY, Part, choose, join};
 use crate::repeat::{has_no_copy, repeat};
-use lx_lexemes::expr::Expr;
-use lx_lexemes::set::ByteSet;
+use lx_ere::expr::Expr;
+use lx_ere::set::ByteSet;
 use std::alloc::AllocError;
 
 /// Appends the nodes of an expression. Names whose nodes are there already are copied, and others are unfolded at most `depth` deep.

@@ -7,7 +7,7 @@ use crate::escape_cause::{escape_cause, quote_cause};
 use crate::found::{Found, found_at, found_byte};
 use crate::places::{Span, between};
 use crate::scan::{is_at, is_blank_at, part};
-use lx_lexemes::lexeme::{Lexeme, lexeme_at};
+use lx_ere::lexeme::{Lexeme, lexeme_at};
 use std::alloc::{AllocError, Global};
 
 /// What is read: the pattern of a rule behind its `^`, or a substitute, which has no anchors.

@@ -5,7 +5,7 @@ use crate::escape_cause::{escape_cause, escape_len};
 use crate::found::{Found, found_at, found_byte, found_named};
 use crate::places::{Span, between};
 use crate::scan::{begins_at, behind_word, find, is_at, is_listed, part};
-use lx_lexemes::escape::escape_at;
+use lx_ere::escape::escape_at;
 
 // The classes of XBD 9.3.5.
 const CLASSES: &[u8] =

@@ -4,7 +4,7 @@ use crate::causes::PatternCause;
 use crate::found::{Found, found_at, found_byte};
 use crate::places::{Span, between};
 use crate::scan::{is_at, part};
-use lx_lexemes::escape::escape_at;
+use lx_ere::escape::escape_at;
 
 fn is_hexadecimal_at(text: &[u8], at: usize) -> bool {
     at < text.len() && text[at].is_ascii_hexdigit()

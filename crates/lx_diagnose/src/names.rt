@@ -4,7 +4,7 @@ use crate::outline::{DefinitionLine, Outline};
 use crate::places::{Span, between};
 use crate::scan::{is_at, part};
 use crate::sectioning::RuleExtent;
-use lx_lexemes::lexeme::{Lexeme, lexeme_at};
+use lx_ere::lexeme::{Lexeme, lexeme_at};
 use std::alloc::{AllocError, Global};
 
 /// A definition to which a rule leads, by its number, and the name in the rule from which it does.

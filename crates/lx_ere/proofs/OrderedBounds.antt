@@ -5,11 +5,11 @@ use Rattle.std.specs.List.{list_all}
 use Rattle.std.proofs.lemmas.Bool.{and_parts}
 use Rattle.std.proofs.lemmas.Bool.Decides.{nat_tests}
 use Rattle.std.proofs.lemmas.List.Folds.{list_all-append}
-use Rattle.lx_lexemes.specs.Bytes.{byte_set}
-use Rattle.lx_lexemes.specs.Regex.{Regex, Reading, one_of, then}
+use Rattle.lx_ere.specs.Bytes.{byte_set}
+use Rattle.lx_ere.specs.Regex.{Regex, Reading, one_of, then}
 use Rattle.lx_ere.specs.Bounds.{is_ordered, has_ordered_bounds}
-use Rattle.lx_lexemes.specs.Grammar.{Lexeme, set_of, quoted, name, interval, open_group, close_group, star, plus, question, bar, joined, IsAlternation, branch_alone, or_branch, IsBranch, unit_alone, then_unit, then_interval, IsUnit, a_set, a_string, a_name, a_group, any_times, some_times, at_most_once}
-use Rattle.lx_lexemes.specs.Spelling.{is_plain, byte_lexeme, Spells, of_byte, of_escape, of_string, of_bracket, of_name, exactly, at_least, between, Lexes}
+use Rattle.lx_ere.specs.Grammar.{Lexeme, set_of, quoted, name, interval, open_group, close_group, star, plus, question, bar, joined, IsAlternation, branch_alone, or_branch, IsBranch, unit_alone, then_unit, then_interval, IsUnit, a_set, a_string, a_name, a_group, any_times, some_times, at_most_once}
+use Rattle.lx_ere.specs.Spelling.{is_plain, byte_lexeme, Spells, of_byte, of_escape, of_string, of_bracket, of_name, exactly, at_least, between, Lexes}
 use Rattle.lx_ere.specs.Pattern.{IsPattern, IsSubstitute}
 
 both : (a b : Bool) → IsTrue a → IsTrue b → IsTrue (a && b)

@@ -2,9 +2,9 @@
 use Rattle.std.proofs.Common.{◌≡◌, ℕ, List, [], ◌∷◌, ◌++◌, Option, Some, None, refl, ap, subst, ◌∙◌, arith, append_assoc}
 use Rattle.std.specs.Option.{option_map, option_and_then}
 use Rattle.std.proofs.lemmas.Grind.{common_steps}
-use Rattle.lx_lexemes.specs.Bytes.{byte_set}
-use Rattle.lx_lexemes.specs.Regex.{Regex, one_of, then, or, times, named}
-use Rattle.lx_lexemes.specs.Grammar.{Lexeme, set_of, quoted, name, interval, open_group, close_group, star, plus, question, bar, joined, IsAlternation, branch_alone, or_branch, IsBranch, unit_alone, then_unit, then_interval, IsUnit, a_set, a_string, a_name, a_group, any_times, some_times, at_most_once}
+use Rattle.lx_ere.specs.Bytes.{byte_set}
+use Rattle.lx_ere.specs.Regex.{Regex, one_of, then, or, times, named}
+use Rattle.lx_ere.specs.Grammar.{Lexeme, set_of, quoted, name, interval, open_group, close_group, star, plus, question, bar, joined, IsAlternation, branch_alone, or_branch, IsBranch, unit_alone, then_unit, then_interval, IsUnit, a_set, a_string, a_name, a_group, any_times, some_times, at_most_once}
 use Rattle.lx_ere.specs.Stacks.{Frame, frame, empty_frame, whole, either, total, push, Stack, stack, again, closed, step, run, finish, parse}
 
 -- one run after the other

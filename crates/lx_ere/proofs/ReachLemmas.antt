@@ -6,18 +6,18 @@ use Rattle.std.specs.FinSet as set
 use Rattle.std.proofs.Math.ListN.{drop_of_length-le}
 use Rattle.std.proofs.lemmas.Bool.{eqb-false, false≢true, and_parts}
 use Rattle.std.proofs.lemmas.Bool.Decides.{nat_tests}
-use Rattle.lx_lexemes.specs.Regex.{Reading}
-use Rattle.lx_lexemes.specs.Grammar.{Lexeme}
-use Rattle.lx_lexemes.specs.Escapes.{is_digit, Escape, letter, octal, hexadecimal, only_x, itself}
-use Rattle.lx_lexemes.specs.Sequences.{Closed, Opened}
-use Rattle.lx_lexemes.specs.Brackets.{BracketPosition, opening, behind_caret, inside, begins_with, Point, plain_point, escaped, first_bracket, outer_dash, collating, RangeEnd, end_point, end_dash, class_ranges, Member, point, range, equivalence, class, Bracket, matching, excluding}
-use Rattle.lx_lexemes.specs.Spelling.{byte_lexeme, QuotedByte, unescaped, escaped_byte, is_name_byte, IsBound, Spells, of_byte, of_escape, of_string, of_bracket, of_name, exactly, at_least, between, Lexes}
+use Rattle.lx_ere.specs.Regex.{Reading}
+use Rattle.lx_ere.specs.Grammar.{Lexeme}
+use Rattle.lx_ere.specs.Escapes.{is_digit, Escape, letter, octal, hexadecimal, only_x, itself}
+use Rattle.lx_ere.specs.Sequences.{Closed, Opened}
+use Rattle.lx_ere.specs.Brackets.{BracketPosition, opening, behind_caret, inside, begins_with, Point, plain_point, escaped, first_bracket, outer_dash, collating, RangeEnd, end_point, end_dash, class_ranges, Member, point, range, equivalence, class, Bracket, matching, excluding}
+use Rattle.lx_ere.specs.Spelling.{byte_lexeme, QuotedByte, unescaped, escaped_byte, is_name_byte, IsBound, Spells, of_byte, of_escape, of_string, of_bracket, of_name, exactly, at_least, between, Lexes}
 use Rattle.lx_ere.specs.Pattern.{IsEnding, nothing, dollar, slash_newline, IsPattern}
 use Rattle.lx_ere.specs.PatternGrammar.{BehindQuotes, quote_closes, quote_escape, quote_byte, BehindMark, mark_closes, mark_byte, BehindBrackets, bracket_closes, bracket_escape, bracket_inner, bracket_byte, skip_first, is_blank, BehindPattern, at_end, past_escape, past_quotes, past_brackets, past_byte, IsPatternEnd}
-use Rattle.lx_lexemes.proofs.Choices.{pick_second}
-use Rattle.lx_lexemes.proofs.EscapeLemmas.{escape_complete}
-use Rattle.lx_lexemes.proofs.BracketLemmas.{alone_is, class_name, opening_no_caret}
-use Rattle.lx_lexemes.proofs.SpellingLemmas.{byte_other, identifier_bytes}
+use Rattle.lx_ere.proofs.Choices.{pick_second}
+use Rattle.lx_ere.proofs.EscapeLemmas.{escape_complete}
+use Rattle.lx_ere.proofs.BracketLemmas.{alone_is, class_name, opening_no_caret}
+use Rattle.lx_ere.proofs.SpellingLemmas.{byte_other, identifier_bytes}
 
 all_imply : (p q : ℕ → Bool) → ((c : ℕ) → p c ≡ true → q c ≡ true) → (xs : List ℕ) → list_all p xs ≡ true → list_all q xs ≡ true
 all_imply p q h [] all = refl

@@ -5,17 +5,17 @@ use Rattle.std.proofs.lemmas.Bool.{eqb-true, or_cases}
 use Rattle.std.proofs.lemmas.Slice.Eq.{bytes_eq-Decides}
 use Rattle.std.specs.Prelude.{codes}
 use Rattle.std.specs.Str.{bytes_eq}
-use Rattle.lx_lexemes.specs.Limits.{max_pattern_bytes}
-use Rattle.lx_lexemes.specs.Regex.{Regex, Reading}
-use Rattle.lx_lexemes.specs.Grammar.{Lexeme, IsAlternation}
-use Rattle.lx_lexemes.specs.Brackets.{begins_with}
-use Rattle.lx_lexemes.specs.Spelling.{Lexes}
+use Rattle.lx_ere.specs.Limits.{max_pattern_bytes}
+use Rattle.lx_ere.specs.Regex.{Regex, Reading}
+use Rattle.lx_ere.specs.Grammar.{Lexeme, IsAlternation}
+use Rattle.lx_ere.specs.Brackets.{begins_with}
+use Rattle.lx_ere.specs.Spelling.{Lexes}
 use Rattle.lx_ere.specs.Pattern.{IsEnding, nothing, dollar, slash_newline, IsPattern, IsSubstitute}
-use Rattle.lx_lexemes.specs.Lexing.{lexeme_at, body_of, ending_at, Reads}
+use Rattle.lx_ere.specs.Lexing.{lexeme_at, body_of, ending_at, Reads}
 use Rattle.lx_ere.specs.Stacks.{empty_frame, Stack, stack, step, run, finish, parse}
-use Rattle.lx_lexemes.proofs.Choices.{no_none, same_some, cases_of, begins_is}
+use Rattle.lx_ere.proofs.Choices.{no_none, same_some, cases_of, begins_is}
 use Rattle.lx_ere.proofs.Parser.{runs, run_fails, parse_sound, parse_complete, one_tree}
-use Rattle.lx_lexemes.proofs.SpellingLemmas.{lexeme_sound, lexeme_complete, spelling_some}
+use Rattle.lx_ere.proofs.SpellingLemmas.{lexeme_sound, lexeme_complete, spelling_some}
 
 -- these lexemes were read of the text, the rest stands behind them, and they lead to this stack
 pub record Reached (text rest : List ℕ) (st : Stack) : Type 0 where

@@ -1,13 +1,13 @@
 -- Whether a text has a reading, as a pattern and as a substitute, is decided by reading it from left to right.
 use Rattle.std.proofs.Common.{◌≡◌, ◌∙◌, ℕ, zero, suc, ◌<◌, ◌≤◌, ◌⊎◌, inl, inr, Bool, List, [], ◌∷◌, Option, Some, None, length, refl, ap, sym, arith}
-use Rattle.lx_lexemes.specs.Limits.{max_pattern_bytes}
-use Rattle.lx_lexemes.specs.Regex.{Regex, Reading}
-use Rattle.lx_lexemes.specs.Grammar.{Lexeme}
-use Rattle.lx_lexemes.specs.Brackets.{begins_with}
+use Rattle.lx_ere.specs.Limits.{max_pattern_bytes}
+use Rattle.lx_ere.specs.Regex.{Regex, Reading}
+use Rattle.lx_ere.specs.Grammar.{Lexeme}
+use Rattle.lx_ere.specs.Brackets.{begins_with}
 use Rattle.lx_ere.specs.Pattern.{IsPattern, IsSubstitute}
-use Rattle.lx_lexemes.specs.Lexing.{lexeme_at, body_of, ending_at, Reads}
+use Rattle.lx_ere.specs.Lexing.{lexeme_at, body_of, ending_at, Reads}
 use Rattle.lx_ere.specs.Stacks.{empty_frame, Stack, stack, step, finish}
-use Rattle.lx_lexemes.proofs.Choices.{no_none}
+use Rattle.lx_ere.proofs.Choices.{no_none}
 use Rattle.lx_ere.proofs.Deciding.{below_or_not, some_or_none}
 use Rattle.lx_ere.proofs.ReadLemmas.{Reached, Reached-start, Reached-step, Reached-end, Reached-no_end, Reached-no_step, lexeme_shorter, one_alternation, ending_complete, ending_sound, parts_of, of_parts, reads_of}
 

@@ -1,6 +1,6 @@
 -- In each interval the low bound is at most the high one (XBD 9.4.6: intervals).
 use Rattle.std.specs.Prelude.{ℕ, Bool, true, ◌&&◌, nat_le, Option, Some, None}
-use Rattle.lx_lexemes.specs.Regex.{Regex, nil, one_of, then, or, times, named}
+use Rattle.lx_ere.specs.Regex.{Regex, nil, one_of, then, or, times, named}
 
 abbrev pub is_ordered : ℕ → Option ℕ → Bool
 is_ordered low None = true

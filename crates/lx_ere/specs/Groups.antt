@@ -1,7 +1,7 @@
 -- What the open groups of the code stand for.
 use Rattle.std.specs.Prelude.{map, reverse}
 use Rattle.std.specs.Option.{option_map}
-use Rattle.lx_lexemes.specs.Regex.{regex_of}
+use Rattle.lx_ere.specs.Regex.{regex_of}
 use Rattle.lx_ere.specs.declared.groups.Frame as code
 use Rattle.lx_ere.specs.declared.groups.Groups.{Groups}
 use Rattle.lx_ere.specs.Stacks.{Frame, frame, Stack, stack}

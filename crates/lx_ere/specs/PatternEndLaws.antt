@@ -4,7 +4,7 @@ use Rattle.std.proofs.Common.{◌≡◌, ◌≢◌, ℕ, zero, suc, ◌+◌, ◌
 use Rattle.std.proofs.lemmas.Bool.{and_parts, true≢false}
 use Rattle.std.proofs.lemmas.Bool.Decides.{nat_tests}
 use Rattle.std.proofs.Math.ListN.{drop_of_length-le}
-use Rattle.lx_lexemes.specs.Brackets.{begins_with, opens_inner}
+use Rattle.lx_ere.specs.Brackets.{begins_with, opens_inner}
 use Rattle.lx_ere.specs.PatternGrammar.{BehindQuotes, quote_closes, quote_open, quote_escape, quote_slash, quote_byte, BehindMark, mark_closes, mark_open, mark_byte, BehindBrackets, bracket_closes, bracket_open, bracket_escape, bracket_slash, bracket_inner, bracket_byte, is_blank, skip_first, BehindPattern, at_end, at_blank, past_escape, past_slash, past_quotes, past_brackets, past_byte, IsPatternEnd}
 
 pick_first : {A : Type 0} (b : Bool) (x y : A) → b ≡ true → cond b x y ≡ x

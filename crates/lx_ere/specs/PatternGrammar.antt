@@ -1,6 +1,6 @@
 -- The end of a rule's pattern, as a grammar: the first blank outside escapes, quotes and brackets (XCU `lex`, "Rules in lex").
 use Rattle.std.specs.Prelude.{◌≡◌, ◌≢◌, ℕ, ◌≤◌, Bool, true, false, ◌&&◌, ◌||◌, nat_eq, if◌then◌else◌, List, [], ◌∷◌, length, drop}
-use Rattle.lx_lexemes.specs.Brackets.{begins_with, opens_inner}
+use Rattle.lx_ere.specs.Brackets.{begins_with, opens_inner}
 
 -- What stands behind a quoted string, of the text behind its opening quote: all behind the next `"` that no backslash takes along;
 -- nothing where the string isn't closed.

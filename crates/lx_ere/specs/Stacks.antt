@@ -1,9 +1,9 @@
 -- Reading lexemes from left to right with a stack of open groups. What it reads is the grammar's one tree (proofs/Parser.antt).
 use Rattle.std.specs.Prelude.{ℕ, List, [], ◌∷◌, Option, Some, None}
 use Rattle.std.specs.Option.{option_map, option_and_then}
-use Rattle.lx_lexemes.specs.Bytes.{byte_set}
-use Rattle.lx_lexemes.specs.Regex.{Regex, one_of, then, or, times, named}
-use Rattle.lx_lexemes.specs.Grammar.{Lexeme, set_of, quoted, name, interval, open_group, close_group, star, plus, question, bar, joined}
+use Rattle.lx_ere.specs.Bytes.{byte_set}
+use Rattle.lx_ere.specs.Regex.{Regex, one_of, then, or, times, named}
+use Rattle.lx_ere.specs.Grammar.{Lexeme, set_of, quoted, name, interval, open_group, close_group, star, plus, question, bar, joined}
 
 -- what was read of a group that isn't closed: the alternatives before the last bar, the branch so far, and its last unit
 pub record Frame : Type 0 where

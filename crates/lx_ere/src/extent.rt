@@ -1,11 +1,11 @@
 //! Where the pattern of a rule ends (POSIX.1-2017, XCU `lex`, "Rules in lex").
 
 ghost use Rattle.std.specs.Prelude.{◌≡◌, ◌≤◌, ◌&&◌, length, false, nat_eq, List, ℕ, MatchOption};
-ghost use Rattle.lx_lexemes.specs.Brackets.{begins_with, opens_inner};
+ghost use Rattle.lx_ere.specs.Brackets.{begins_with, opens_inner};
 ghost use Rattle.lx_ere.specs.PatternEnd.{pattern_end};
 ghost use Rattle.lx_ere.specs.PatternGrammar.{BehindQuotes, BehindMark, BehindBrackets, BehindPattern, IsPatternEnd, IsInner, skip_first, is_blank};
 
-use lx_lexemes::prefix::{begins_with, skip};
+use crate::prefix::{begins_with, skip};
 
 /// The text behind a quoted string, from behind its opening quote on.
 fn behind_quotes(text: &[u8]) -> &[u8]

@@ -2,16 +2,16 @@
 
 ghost use Rattle.std.specs.Prelude.{◌≡◌, IfOk, Some, None, [], List, ℕ};
 ghost use Rattle.std.specs.Option.{option_map};
-ghost use Rattle.lx_lexemes.specs.Bytes.{byte_set};
-ghost use Rattle.lx_lexemes.specs.Regex.{regex_of, one_of};
-ghost use Rattle.lx_lexemes.specs.Grammar.{open_group, close_group, bar, interval, quoted, joined};
+ghost use Rattle.lx_ere.specs.Bytes.{byte_set};
+ghost use Rattle.lx_ere.specs.Regex.{regex_of, one_of};
+ghost use Rattle.lx_ere.specs.Grammar.{open_group, close_group, bar, interval, quoted, joined};
 ghost use Rattle.lx_ere.specs.Stacks.{empty_frame, stack, whole, total, push, again, step, finish};
 ghost use Rattle.lx_ere.specs.Groups.{frame_of, groups_of};
-ghost use Rattle.lx_lexemes.specs.Lexemes.{lexeme_of};
+ghost use Rattle.lx_ere.specs.Lexemes.{lexeme_of};
 
-use lx_lexemes::expr::Expr;
-use lx_lexemes::lexeme::Lexeme;
-use lx_lexemes::set::ByteSet;
+use crate::expr::Expr;
+use crate::lexeme::Lexeme;
+use crate::set::ByteSet;
 use std::alloc::{AllocError, Global};
 
 /// What was read of a group that is not closed.

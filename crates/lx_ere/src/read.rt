@@ -1,20 +1,20 @@
 //! Patterns and substitutes, read from left to right once (POSIX.1-2017, XCU `lex`, "Regular Expressions in lex", "Definitions in lex").
 
 ghost use Rattle.std.specs.Prelude.{◌≡◌, ◌++◌, ◌⊎◌, IfOk, Err, IsTrue, List, length, ℕ};
-ghost use Rattle.lx_lexemes.specs.Regex.{Regex, Reading, regex_of, reading_of};
+ghost use Rattle.lx_ere.specs.Regex.{Regex, Reading, regex_of, reading_of};
 ghost use Rattle.lx_ere.specs.Bounds.{has_ordered_bounds};
-ghost use Rattle.lx_lexemes.specs.Grammar.{Lexeme, IsAlternation};
-ghost use Rattle.lx_lexemes.specs.Brackets.{begins_with};
-ghost use Rattle.lx_lexemes.specs.Spelling.{Spells, Lexes};
+ghost use Rattle.lx_ere.specs.Grammar.{Lexeme, IsAlternation};
+ghost use Rattle.lx_ere.specs.Brackets.{begins_with};
+ghost use Rattle.lx_ere.specs.Spelling.{Spells, Lexes};
 ghost use Rattle.lx_ere.specs.Pattern.{IsPattern, IsSubstitute};
 ghost use Rattle.lx_ere.specs.PatternGrammar.{IsPatternEnd};
-ghost use Rattle.lx_lexemes.specs.Lexing.{lexeme_at, body_of, ending_at, Reads};
+ghost use Rattle.lx_ere.specs.Lexing.{lexeme_at, body_of, ending_at, Reads};
 
 use crate::fault::EreFault;
 use crate::groups::{finish, no_groups, step};
-use lx_lexemes::expr::{Expr, Pattern};
-use lx_lexemes::lexeme::lexeme_at;
-use lx_lexemes::prefix::{begins_with, skip};
+use crate::expr::{Expr, Pattern};
+use crate::lexeme::lexeme_at;
+use crate::prefix::{begins_with, skip};
 use std::alloc::Global;
 
 /// The most bytes that a pattern or a substitute may have.

@@ -1,6 +1,6 @@
 -- Trees of lx that mirror trees of flex, where their parts are equal.
 use Rattle.std.proofs.Common.{ℕ, ◌≡◌, List, Option, Some}
-use Rattle.lx_lexemes.specs.Regex as lx
+use Rattle.lx_ere.specs.Regex as lx
 use Rattle.lx_flex_pattern.specs.Tree as flex
 use Rattle.lx_flex_pattern.specs.Mirror.{Mirrors, empties, repeats, names}
 

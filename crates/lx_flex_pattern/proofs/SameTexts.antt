@@ -2,8 +2,8 @@
 use Rattle.std.proofs.Common.{ℕ, zero, suc, ◌≡◌, ◌<◌, ◌≤◌, inl, inr, arith, Bool, List, [], ◌∷◌, ◌++◌, Option, sym, subst, ◌∙◌}
 use Rattle.std.specs.List.{All}
 use Rattle.std.proofs.lemmas.List.Elements.{All-nil, All-cons, All-head, All-tail}
-use Rattle.lx_lexemes.specs.Regex as lx
-use Rattle.lx_lexemes.specs.Matching.{Splits, Repeats, RepeatsBetween, Matches}
+use Rattle.lx_ere.specs.Regex as lx
+use Rattle.lx_ere.specs.Matching.{Splits, Repeats, RepeatsBetween, Matches}
 use Rattle.lx_flex_pattern.specs.Tree as flex
 use Rattle.lx_flex_pattern.specs.Texts.{Texts}
 use Rattle.lx_flex_pattern.specs.Mirror.{Mirrors, empties, sets, thens, ors, repeats, names}

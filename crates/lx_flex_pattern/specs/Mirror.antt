@@ -2,7 +2,7 @@
 use Rattle.std.specs.Prelude.{◌≡◌, ℕ, ◌<◌, Bool, List, Option, Some}
 use Rattle.std.specs.Ordering.{nat_cmp}
 use Rattle.std.specs.FinSet as set
-use Rattle.lx_lexemes.specs.Regex as lx
+use Rattle.lx_ere.specs.Regex as lx
 use Rattle.lx_flex_pattern.specs.declared.trees.Member.{Member}
 use Rattle.lx_flex_pattern.specs.Sets.{set_has}
 use Rattle.lx_flex_pattern.specs.Tree as flex

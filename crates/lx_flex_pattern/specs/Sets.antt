@@ -1,7 +1,7 @@
 -- The sets of bytes of flex's patterns: `.`, a byte, a bracket expression, and each of them inside `(?i:` (flex's manual, "Patterns").
 use Rattle.std.specs.Prelude.{ℕ, ◌+◌, ◌-◌, Bool, false, not, ◌&&◌, ◌||◌, if◌then◌else◌, List}
 use Rattle.std.specs.List.{list_any}
-use Rattle.lx_lexemes.specs.Bytes.{is_between}
+use Rattle.lx_ere.specs.Bytes.{is_between}
 use Rattle.lx_flex_pattern.specs.declared.classes.Class.{Class}
 use Rattle.lx_flex_pattern.specs.declared.classes.Class.TheVariants.{Alnum, Alpha, Blank, Cntrl, Digit, Graph, Lower, Print, Punct, Space, Upper, Xdigit}
 use Rattle.lx_flex_pattern.specs.declared.trees.Member.{Member}

@@ -1,6 +1,6 @@
 -- What texts a pattern of flex matches. A text is a list of bytes, and a language a fact about texts.
 use Rattle.std.specs.Prelude.{◌≡◌, ℕ, ◌⊎◌, IsTrue, List, [], ◌∷◌}
-use Rattle.lx_lexemes.specs.Matching.{Splits, RepeatsBetween}
+use Rattle.lx_ere.specs.Matching.{Splits, RepeatsBetween}
 use Rattle.lx_flex_pattern.specs.Sets.{set_has}
 use Rattle.lx_flex_pattern.specs.Tree.{Tree, empty, one_of, then, or, times, named}
 

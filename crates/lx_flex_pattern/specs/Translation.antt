@@ -1,8 +1,8 @@
 -- A pattern of lx with the texts of one of flex.
 use Rattle.std.specs.Prelude.{◌≡◌, ℕ, ◌<◌, Bool, IsTrue, List}
 use Rattle.std.specs.List.{All}
-use Rattle.lx_lexemes.specs.Regex.{Regex, Reading}
-use Rattle.lx_lexemes.specs.Matching.{Matches}
+use Rattle.lx_ere.specs.Regex.{Regex, Reading}
+use Rattle.lx_ere.specs.Matching.{Matches}
 use Rattle.lx_ere.specs.Pattern.{IsPattern, IsSubstitute}
 use Rattle.lx_flex_pattern.specs.Tree.{Tree, Pattern}
 use Rattle.lx_flex_pattern.specs.Texts.{Texts}

@@ -1,7 +1,7 @@
 //! The classes of bytes in brackets (flex's manual, "Patterns"), in the locale C.
 
 ghost use Rattle.std.specs.Prelude.{◌≡◌, false};
-ghost use Rattle.lx_lexemes.specs.Bytes.{is_between};
+ghost use Rattle.lx_ere.specs.Bytes.{is_between};
 ghost use Rattle.lx_flex_pattern.specs.Sets as specs;
 ghost use Rattle.lx_flex_pattern.specs.declared.classes.Class.TheVariants.{Punct};
 

@@ -1,7 +1,7 @@
 //! Whether what lx reads is what flex reads.
 
 ghost use Rattle.std.specs.Prelude.{◌≡◌, IsTrue, true};
-ghost use Rattle.lx_lexemes.specs.Regex.{regex_of};
+ghost use Rattle.lx_ere.specs.Regex.{regex_of};
 ghost use Rattle.lx_flex_pattern.specs.Mirror.{Mirrors};
 ghost use Rattle.lx_flex_pattern.specs.views.{tree_of};
 

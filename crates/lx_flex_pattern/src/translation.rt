@@ -2,7 +2,7 @@
 
 ghost use Rattle.std.specs.Prelude.{◌≡◌, true, IfOk, IfSome};
 ghost use Rattle.lx_ere.specs.Pattern.{IsPattern, IsSubstitute};
-ghost use Rattle.lx_lexemes.specs.Regex.{reading_of, regex_of};
+ghost use Rattle.lx_ere.specs.Regex.{reading_of, regex_of};
 ghost use Rattle.lx_flex_pattern.specs.Translation.{HaveSameTexts, IsReadAs, IsTranslation, IsSubstituteOf};
 ghost use Rattle.lx_flex_pattern.specs.views.{pattern_of, tree_of};
 

@@ -12,8 +12,8 @@ use Rattle.std.proofs.lemmas.Map.Keys.{any_passes_from_place}
 use Rattle.std.proofs.lemmas.Map.Views.{length-le_from_below}
 use Rattle.std.proofs.lemmas.Option.{slice_get-get_or}
 use Rattle.std.proofs.Common.{get_or, eq-eqb, ne_eqb, eqb-true, take-append-drop, length-take-le}
-use Rattle.lx_lexemes.specs.Regex.{one_of}
-use Rattle.lx_lexemes.specs.Matching.{Splits, Repeats, RepeatsBetween, Matches}
+use Rattle.lx_ere.specs.Regex.{one_of}
+use Rattle.lx_ere.specs.Matching.{Splits, Repeats, RepeatsBetween, Matches}
 use Rattle.lx_plain.specs.Places.{Between, IsReached, AreEnds, AreWithin, AnyNumber, AtMost, AreBehind, AreLengths, is_byte_at}
 use Rattle.lx_plain.proofs.SetLemmas.{is_empty, at_number}
 

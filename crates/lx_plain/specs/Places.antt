@@ -3,7 +3,7 @@ use Rattle.std.specs.Prelude.{◌≡◌, ℕ, ◌+◌, ◌≤◌, true, false, B
 use Rattle.std.specs.FinSet as set
 use Rattle.std.specs.Ordering.{nat_cmp}
 use Rattle.std.specs.BTreeSet.{BTreeSet, contains}
-use Rattle.lx_lexemes.specs.Matching.{Repeats}
+use Rattle.lx_ere.specs.Matching.{Repeats}
 
 -- the bytes of the text from place i to place j are a word of the language
 pub record Between (L : List ℕ → Type 0) (text : List ℕ) (i j : ℕ) : Type 0 where

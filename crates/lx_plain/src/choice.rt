@@ -3,8 +3,8 @@
 ghost use Rattle.std.specs.Prelude.{◌≡◌, ◌<◌, ◌+◌, ◌^◌, ◌↔◌, ℕ, IsTrue, IfOk, length, nat_eq, slice_get, Some};
 ghost use Rattle.std.specs.Ordering.{nat_cmp};
 ghost use Rattle.std.specs.BTreeSet.{contains};
-ghost use Rattle.lx_lexemes.specs.Regex.{regex_of};
-ghost use Rattle.lx_lexemes.specs.Matching.{Matches};
+ghost use Rattle.lx_ere.specs.Regex.{regex_of};
+ghost use Rattle.lx_ere.specs.Matching.{Matches};
 ghost use Rattle.lx_rules.specs.Choice.{IsActive, IsChoice, SpecNames, reach};
 ghost use Rattle.lx_rules.specs.views.Rules.{rule_view};
 ghost use Rattle.lx_rules.specs.views.Specs.{spec_view};
@@ -12,7 +12,7 @@ ghost use Rattle.lx_plain.specs.Longest.{IsLongest};
 ghost use Rattle.lx_plain.specs.Places.{AreLengths};
 
 use crate::matcher::ends;
-use lx_lexemes::expr::Expr;
+use lx_ere::expr::Expr;
 use lx_rules::rule::Rule;
 use lx_rules::spec::Spec;
 use std::alloc::{AllocError, Global};

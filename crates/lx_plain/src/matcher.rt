@@ -1,14 +1,14 @@
 //! The plain matcher: from sets of places, the places to which the words of an expression lead.
 
 ghost use Rattle.std.specs.Prelude.{◌≡◌, IfOk, map};
-ghost use Rattle.lx_lexemes.specs.Regex.{regex_of};
-ghost use Rattle.lx_lexemes.specs.Matching.{Matches, Repeats};
+ghost use Rattle.lx_ere.specs.Regex.{regex_of};
+ghost use Rattle.lx_ere.specs.Matching.{Matches, Repeats};
 ghost use Rattle.lx_rules.specs.Names.{NameMatches};
 ghost use Rattle.lx_rules.specs.views.Rules.{definition_view};
 ghost use Rattle.lx_plain.specs.Places.{AreEnds, AreWithin, AnyNumber, AtMost};
 
 use crate::places::{add_new, behind_byte, copy_of};
-use lx_lexemes::expr::Expr;
+use lx_ere::expr::Expr;
 use lx_rules::definition::Definition;
 use std::alloc::{AllocError, Global};
 use std::collections::BTreeSet;

@@ -4,11 +4,11 @@ ghost use Rattle.std.specs.Prelude.{◌≡◌, ℕ, ◌+◌, false, ◌∷◌, [
 ghost use Rattle.std.specs.FinSet as set;
 ghost use Rattle.std.specs.Ordering.{nat_cmp};
 ghost use Rattle.std.specs.BTreeSet.{contains, btree_set_len, IsOrdered};
-ghost use Rattle.lx_lexemes.specs.Regex.{one_of};
-ghost use Rattle.lx_lexemes.specs.Matching.{Matches, no_names};
+ghost use Rattle.lx_ere.specs.Regex.{one_of};
+ghost use Rattle.lx_ere.specs.Matching.{Matches, no_names};
 ghost use Rattle.lx_plain.specs.Places.{AreBehind, is_byte_at};
 
-use lx_lexemes::set::ByteSet;
+use lx_ere::set::ByteSet;
 use std::alloc::{AllocError, Global};
 use std::collections::BTreeSet;
 

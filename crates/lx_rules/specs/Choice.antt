@@ -1,7 +1,7 @@
 -- Which rule a scanner chooses, and for how much of the text (XCU `lex`, "Rules in lex").
 use Rattle.std.specs.Prelude.{◌≡◌, ℕ, ◌+◌, ◌<◌, ◌≤◌, ◌⊎◌, Bool, false, IsTrue, if◌then◌else◌, List, Option, Some, MatchOption, Contains, slice_get, length, take}
 use Rattle.std.specs.Option.{option_map}
-use Rattle.lx_lexemes.specs.Matching.{Matches}
+use Rattle.lx_ere.specs.Matching.{Matches}
 use Rattle.lx_rules.specs.Limits.{max_name_depth}
 use Rattle.lx_rules.specs.Names.{NameMatches}
 use Rattle.lx_rules.specs.Plain.{PlainRule, PlainSpec}

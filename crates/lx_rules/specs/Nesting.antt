@@ -2,7 +2,7 @@
 use Rattle.std.specs.Prelude.{ℕ, zero, suc, Bool, true, false, nat_eq, if◌then◌else◌, List, [], ◌∷◌, map, Option, Some, None}
 use Rattle.std.specs.List.{list_all}
 use Rattle.std.specs.Cmp.Lexicographic.{pointwise}
-use Rattle.lx_lexemes.specs.Regex.{Regex}
+use Rattle.lx_ere.specs.Regex.{Regex}
 use Rattle.lx_rules.specs.Limits.{max_name_depth}
 use Rattle.lx_rules.specs.Plain.{PlainDefinition, PlainRule}
 use Rattle.lx_rules.specs.Names.{names_of}

@@ -1,6 +1,6 @@
 -- A specification as plain values, without where it lies in memory.
 use Rattle.std.specs.Prelude.{ℕ, Bool, List, Option}
-use Rattle.lx_lexemes.specs.Regex.{Regex, Reading}
+use Rattle.lx_ere.specs.Regex.{Regex, Reading}
 use Rattle.lx_rules.specs.declared.rule.Step.{Step}
 
 -- a start condition (XCU `lex`, "Definitions in lex": `%s` and `%x`)

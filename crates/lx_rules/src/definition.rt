@@ -1,6 +1,6 @@
 //! Definitions.
 
-use lx_lexemes::expr::Expr;
+use lx_ere::expr::Expr;
 
 /// A name, and the expression that it stands for.
 #[derive(Drop)]

@@ -1,7 +1,7 @@
 //! Rules, and what they do.
 
 use crate::steps::Steps;
-use lx_lexemes::expr::Pattern;
+use lx_ere::expr::Pattern;
 
 /// The kind of a token that an action returns (XCU `lex`, "Actions in lex": `return`).
 #[derive(Debug, Clone, Copy, PartialEq, Eq)]

@@ -3,8 +3,8 @@ use Rattle.std.proofs.Common.{◌≡◌, ℕ, zero, suc, ◌+◌, ◌<◌, ◌�
 use Rattle.std.specs.FinSet as set
 use Rattle.std.specs.Ordering.{nat_cmp}
 use native.Mathlib.Decide.{ℕ_discrete}
-use Rattle.lx_lexemes.specs.Regex.{Regex, nil, one_of, then, or, times, named}
-use Rattle.lx_lexemes.specs.Matching.{Splits, Repeats, RepeatsBetween, Matches}
+use Rattle.lx_ere.specs.Regex.{Regex, nil, one_of, then, or, times, named}
+use Rattle.lx_ere.specs.Matching.{Splits, Repeats, RepeatsBetween, Matches}
 use Rattle.lx_ere.proofs.Deciding.{along, both, either, decide_true, below_or_not, under, decide_below}
 
 -- ---- numbers

@@ -2,8 +2,8 @@
 use Rattle.std.proofs.Common.{◌≡◌, ℕ, ◌≤◌, Bool, true, false, nat_eq, cond, Option, Some, None, List, [], ◌∷◌, length, drop, sym, subst, arith, length-drop}
 use Rattle.std.specs.Prelude.{IfSome, take}
 use Rattle.std.specs.Option.{option_map}
-use Rattle.lx_lexemes.specs.Escapes.{is_digit, letter_byte}
-use Rattle.lx_lexemes.specs.Lexing.{run_len, byte_of, number_at, hexadecimal_at, other_at, letter_or_other, escape_at}
+use Rattle.lx_ere.specs.Escapes.{is_digit, letter_byte}
+use Rattle.lx_ere.specs.Lexing.{run_len, byte_of, number_at, hexadecimal_at, other_at, letter_or_other, escape_at}
 
 -- what was found leaves n bytes at most
 abbrev pub LeavesAtMost : ℕ → Option (ℕ × List ℕ) → Type 0

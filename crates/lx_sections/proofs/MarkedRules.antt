@@ -2,7 +2,7 @@
 use Rattle.std.proofs.Common.{◌≡◌, ◌∙◌, ◌↔◌, ℕ, ◌<◌, Bool, true, false, not, ◌||◌, ◌⊎◌, inl, inr, List, length, sym, ap, subst, arith}
 use Rattle.std.specs.Prelude.{IsTrue, Contains, slice_index}
 use Rattle.std.proofs.lemmas.Bool.{false≢true}
-use Rattle.lx_lexemes.specs.Regex.{Regex, Reading}
+use Rattle.lx_ere.specs.Regex.{Regex, Reading}
 use Rattle.lx_ere.specs.Pattern.{IsPattern}
 use Rattle.lx_rules.specs.Limits.{max_name_depth}
 use Rattle.lx_sections.specs.Dictionary.{row_of, all_defined, mentions_of, unreadable_marks, incomplete_marks}

@@ -12,7 +12,7 @@ use Rattle.lx_sections.specs.Sections.{RawDefinition, RawRule}
 use Rattle.lx_sections.specs.views.Actions.{value_view, statement_view, statements_view, action_view}
 use Rattle.lx_sections.specs.Outcome.{ResolvedRule, AreResolved, AreReached, none, reached, passed, patterns_in, actions_in, first_own, statements_in, returned_by, with_kind, kinds_behind, kinds_of, steps_of, rules_of}
 use Rattle.lx_sections.specs.WellFormed.{are_raw_definitions}
-use Rattle.lx_lexemes.specs.Regex.{Regex}
+use Rattle.lx_ere.specs.Regex.{Regex}
 use Rattle.lx_sections.specs.views.ResolvedRules.{resolved_view}
 use Rattle.lx_sections.specs.views.Sections.{raw_rule_view}
 use Rattle.lx_sections.specs.declared.returned_value.Value.{Value as CodeValue}

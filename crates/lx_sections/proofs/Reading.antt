@@ -2,7 +2,7 @@
 use Rattle.std.proofs.Common.{◌≡◌, ℕ, zero, suc, ◌+◌, ◌≤◌, Bool, List, [], ◌∷◌, ◌++◌, length, map, take, Option, Some, refl, ap, sym, subst, ◌∙◌, append_assoc, arith, add-one, length-append}
 use Rattle.std.specs.Prelude.{slice_get}
 use Rattle.std.proofs.lemmas.List.{append-nil, map_push}
-use Rattle.lx_lexemes.specs.Regex.{Regex}
+use Rattle.lx_ere.specs.Regex.{Regex}
 use Rattle.lx_sections.specs.Sections.{RawDefinition}
 use Rattle.lx_sections.specs.Dictionary.{IsTreeOf, AreTrees, mentions_in, mentions_from, is_incomplete, incomplete_marks}
 use Rattle.lx_sections.specs.views.Dictionaries.{Known, AddsTree, IsDictionary}

@@ -3,7 +3,7 @@ use Rattle.std.specs.Prelude.{slice_get}
 use Rattle.std.proofs.Common.{◌≡◌, ℕ, zero, suc, get_or, arith, ◌+◌, ◌<◌, Bool, not, ◌&&◌, cond, nat_lt, List, [], ◌∷◌, ◌++◌, length, map, Some, None, refl, ap, sym, ◌∙◌, append_assoc}
 use Rattle.std.specs.List.{position, position_or_len, prefix_len, filter_map, list_all}
 use Rattle.std.proofs.lemmas.List.{length-map}
-use Rattle.lx_lexemes.specs.Regex.{Regex}
+use Rattle.lx_ere.specs.Regex.{Regex}
 use Rattle.lx_rules.specs.Names.{names_of}
 use Rattle.lx_sections.specs.Sections.{RawDefinition}
 use Rattle.lx_sections.specs.Dictionary.{number_of, row_of}

@@ -1,6 +1,6 @@
 -- Decimal numbers and character constants of actions (XCU `lex`, "Actions in lex").
 use Rattle.std.specs.Prelude.{ℕ, ◌+◌, ◌-◌, ◌*◌, ◌||◌, nat_eq, nat_lt, if◌then◌else◌, List, [], ◌∷◌, Option, Some, None}
-use Rattle.lx_lexemes.specs.Lexing.{escape_at}
+use Rattle.lx_ere.specs.Lexing.{escape_at}
 
 -- the number that decimal digits spell behind n
 abbrev pub decimal_behind : ℕ → List ℕ → ℕ

@@ -2,7 +2,7 @@
 use Rattle.std.specs.Prelude.{ℕ, suc, Bool, false, true, not, List, [], ◌∷◌, ◌++◌, map, Option, Some, None, is_some, nat_eq}
 use Rattle.std.specs.List.{filter_map, list_all, position}
 use Rattle.std.specs.Cmp.Lexicographic.{pointwise}
-use Rattle.lx_lexemes.specs.Regex.{Regex}
+use Rattle.lx_ere.specs.Regex.{Regex}
 use Rattle.lx_ere.specs.Pattern.{IsSubstitute}
 use Rattle.lx_rules.specs.Names.{names_of}
 use Rattle.lx_sections.specs.Sections.{RawDefinition}

@@ -2,7 +2,7 @@
 use Rattle.std.specs.Prelude.{◌≡◌, ◌≢◌, ℕ, Bool, true, false, IsTrue, not, nat_eq, if◌then◌else◌, List, [], ◌∷◌, ◌++◌, ◌⊎◌, Option, Some, is_some, Result, Ok, Err, Contains}
 use Rattle.std.specs.List.{list_all, position}
 use Rattle.std.specs.Cmp.Lexicographic.{pointwise}
-use Rattle.lx_lexemes.specs.Regex.{Regex, Reading}
+use Rattle.lx_ere.specs.Regex.{Regex, Reading}
 use Rattle.lx_ere.specs.Pattern.{IsPattern}
 use Rattle.lx_rules.specs.Limits.{max_name_depth}
 use Rattle.lx_rules.specs.Plain.{StartCondition}

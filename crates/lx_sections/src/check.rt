@@ -2,7 +2,7 @@
 
 ghost use Rattle.std.specs.Prelude.{◌≡◌, ◌<◌, ◌∷◌, [], length, IfOk, map};
 ghost use Rattle.std.specs.List.{list_all};
-ghost use Rattle.lx_lexemes.specs.Regex.{reading_of};
+ghost use Rattle.lx_ere.specs.Regex.{reading_of};
 ghost use Rattle.lx_ere.specs.Pattern.{IsPattern};
 ghost use Rattle.lx_sections.specs.Actions.{IsAction};
 ghost use Rattle.lx_sections.specs.views.Actions.{action_view, statement_view};
@@ -22,7 +22,7 @@ use crate::rule_line::Prefix;
 use crate::symbol_table::SymbolTable;
 use lx_ere::fault::EreFault;
 use lx_ere::read::{one_reading, read_pattern};
-use lx_lexemes::expr::Pattern;
+use lx_ere::expr::Pattern;
 use std::alloc::Global;
 
 /// What the prefix of a rule lists.

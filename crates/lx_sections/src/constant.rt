@@ -5,7 +5,7 @@ ghost use Rattle.std.specs.Option.{option_map};
 ghost use Rattle.lx_rules.specs.Limits.{returned_number_limit};
 ghost use Rattle.lx_sections.specs.Constants as plain;
 
-use lx_lexemes::escape::escape_at;
+use lx_ere::escape::escape_at;
 
 /// The number that decimal digits spell, where it is below the limit.
 pub(crate) fn decimal_below(limit: u32, digits: &[u8]) -> Option<u32>

@@ -10,7 +10,7 @@ ghost use Rattle.lx_sections.specs.views.DefinitionFaults.{AreDefinitionFaults};
 
 use crate::dictionary::Dictionary;
 use crate::graph::{MAX_NAME_DEPTH, depths_of, spread};
-use lx_lexemes::expr::Expr;
+use lx_ere::expr::Expr;
 use std::alloc::{AllocError, Global};
 
 /// For each definition whether it leads to one whose substitute has no reading, whether it leads to a name that isn't

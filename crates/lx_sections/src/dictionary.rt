@@ -1,7 +1,7 @@
 //! What the definitions read as, and which mentions which.
 
 ghost use Rattle.std.specs.Prelude.{◌≡◌, ◌<◌, ◌++◌, Some, None, Ok, Err, map, length, IfOk, OnOk};
-ghost use Rattle.lx_lexemes.specs.Regex.{regex_of};
+ghost use Rattle.lx_ere.specs.Regex.{regex_of};
 ghost use Rattle.lx_sections.specs.Dictionary as plain;
 ghost use Rattle.lx_sections.specs.Dictionary.{row_of, all_defined};
 ghost use Rattle.lx_sections.specs.views.Sections.{raw_definition_view};
@@ -12,7 +12,7 @@ use crate::definition_index::DefinitionIndex;
 use crate::graph::Mention;
 use lx_ere::fault::EreFault;
 use lx_ere::read::read_substitute;
-use lx_lexemes::expr::Expr;
+use lx_ere::expr::Expr;
 use std::alloc::{AllocError, Global};
 
 /// What the definitions read as, in order: nothing where a substitute has no reading; the mentions of definitions by

@@ -16,7 +16,7 @@ use crate::dictionary::{Dictionary, push_row};
 use crate::graph::{Mention, spread};
 use crate::parsed_sections::RawDefinition;
 use crate::resolved_rule::ResolvedRule;
-use lx_lexemes::expr::Expr;
+use lx_ere::expr::Expr;
 use lx_rules::definition::Definition;
 use std::alloc::{AllocError, Global};
 

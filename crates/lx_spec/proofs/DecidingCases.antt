@@ -1,7 +1,7 @@
 -- Of each thing that can be wrong with a rule it is decided whether it is; so there is a first one, or none.
 use Rattle.std.proofs.Common.{◌≡◌, ℕ, ◌⊎◌, inl, inr, false, List, [], ◌∷◌, subst}
 use Rattle.std.specs.List.{list_all}
-use Rattle.lx_lexemes.specs.Regex.{Regex, Reading}
+use Rattle.lx_ere.specs.Regex.{Regex, Reading}
 use Rattle.lx_ere.specs.Pattern.{IsPattern}
 use Rattle.lx_ere.proofs.Deciding.{along, both, either, decide_not, decide_true, decide_false, decide_in}
 use Rattle.lx_rules.specs.Limits.{max_name_depth}

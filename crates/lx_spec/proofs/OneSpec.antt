@@ -1,6 +1,6 @@
 -- There is one specification that a text without a fault says.
 use Rattle.std.proofs.Common.{◌≡◌, ◌∙◌, ℕ, suc, List, [], ◌∷◌, Option, Some, None, refl, ap, sym, subst}
-use Rattle.lx_lexemes.specs.Regex.{Regex, Reading}
+use Rattle.lx_ere.specs.Regex.{Regex, Reading}
 use Rattle.lx_ere.specs.Pattern.{IsPattern, IsSubstitute}
 use Rattle.lx_rules.specs.Plain.{StartCondition, PlainDefinition, PlainRule, PlainSpec}
 use Rattle.lx_sections.specs.Actions.{Action}

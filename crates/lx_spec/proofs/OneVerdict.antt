@@ -1,6 +1,6 @@
 -- A text has one verdict.
 use Rattle.std.proofs.Common.{◌≡◌, ◌∙◌, ℕ, List, Option, Ok, Err, Result, refl, ap, sym, subst, arith}
-use Rattle.lx_lexemes.specs.Regex.{Regex, Reading}
+use Rattle.lx_ere.specs.Regex.{Regex, Reading}
 use Rattle.lx_ere.specs.Pattern.{IsPattern, IsSubstitute}
 use Rattle.lx_rules.specs.Plain.{PlainSpec}
 use Rattle.lx_sections.specs.First.{IsFirst, here, later, HoldsOfNone}

@@ -1,6 +1,6 @@
 -- Every text has a verdict: a first fault, or a specification that it says.
 use Rattle.std.proofs.Common.{◌≡◌, ℕ, suc, ◌+◌, ◌≤◌, ◌<◌, ◌⊎◌, inl, inr, false, List, [], ◌∷◌, length, Option, Some, None, Result, Ok, Err, refl, subst, arith, true≢false}
-use Rattle.lx_lexemes.specs.Regex.{Regex, Reading}
+use Rattle.lx_ere.specs.Regex.{Regex, Reading}
 use Rattle.lx_ere.specs.Pattern.{IsPattern, IsSubstitute}
 use Rattle.lx_ere.proofs.Deciding.{below_or_not}
 use Rattle.lx_rules.specs.Limits.{max_specification_bytes}

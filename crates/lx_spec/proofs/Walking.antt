@@ -2,7 +2,7 @@
 use Rattle.std.proofs.Common.{◌≡◌, ℕ, zero, suc, ◌<◌, ◌⊎◌, inl, inr, Bool, List, [], ◌∷◌, Option, length, get_or, Contains, refl, sym, subst, arith}
 use Rattle.std.specs.Prelude.{IsTrue}
 use native.Mathlib.Decide.{ℕ_discrete}
-use Rattle.lx_lexemes.specs.Regex.{Regex}
+use Rattle.lx_ere.specs.Regex.{Regex}
 use Rattle.lx_ere.proofs.Deciding.{along as alike, both, either, decide_true, decide_below, decide_in}
 use Rattle.lx_sections.specs.Sections.{RawDefinition}
 use Rattle.lx_sections.specs.Dictionary.{row_of, mentions_of}

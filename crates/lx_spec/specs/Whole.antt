@@ -1,6 +1,6 @@
 -- The verdict on a text: its first fault, or the specification that it says.
 use Rattle.std.specs.Prelude.{◌≡◌, ℕ, ◌<◌, ◌≤◌, List, length, Option, Ok, Err}
-use Rattle.lx_lexemes.specs.Regex.{Regex}
+use Rattle.lx_ere.specs.Regex.{Regex}
 use Rattle.lx_rules.specs.Limits.{max_specification_bytes}
 use Rattle.lx_rules.specs.Plain.{PlainSpec}
 use Rattle.lx_sections.specs.First.{HoldsOfNone}

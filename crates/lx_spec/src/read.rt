@@ -3,7 +3,7 @@
 ghost use Rattle.std.specs.Prelude.{◌≡◌, ◌≢◌, ◌⊎◌, ℕ, List, Option, map, IfOk, IfErr};
 ghost use Rattle.lx_ere.specs.PatternEnd.{pattern_end};
 ghost use Rattle.lx_ere.specs.PatternGrammar.{IsPatternEnd};
-ghost use Rattle.lx_lexemes.specs.Regex.{Regex};
+ghost use Rattle.lx_ere.specs.Regex.{Regex};
 ghost use Rattle.lx_rules.specs.Plain.{PlainSpec};
 ghost use Rattle.lx_rules.specs.views.Specs.{spec_view};
 ghost use Rattle.lx_sections.specs.Dictionary.{AreTrees};

@@ -5,7 +5,7 @@ use crate::suspects::{Suspect, push_part};
 use lx_diagnose::Span;
 use lx_diagnose::places::between;
 use lx_diagnose::scan::{begins_at, behind_word, find, is_at, part};
-use lx_lexemes::escape::escape_at;
+use lx_ere::escape::escape_at;
 use std::alloc::AllocError;
 
 // Whether the byte stands behind the first one of a character of several bytes in UTF-8 (RFC 3629, 3).

@@ -1,7 +1,7 @@
 //! The branches of a pattern, as its lexemes are read.
 
 use lx_diagnose::Span;
-use lx_lexemes::lexeme::Lexeme;
+use lx_ere::lexeme::Lexeme;
 use std::alloc::{AllocError, Global};
 
 /// A branch, as far as it is read. A unit is what flex repeats: a byte, an escape, brackets, a string, a name or a group, with its `* + ?`, or all that an

@@ -8,7 +8,7 @@ use crate::suspects::{Subject, Suspect, push_part, push_suspect};
 use lx_diagnose::Span;
 use lx_diagnose::places::between;
 use lx_diagnose::scan::is_at;
-use lx_lexemes::lexeme::Lexeme;
+use lx_ere::lexeme::Lexeme;
 use std::alloc::AllocError;
 
 // An interval behind several units.

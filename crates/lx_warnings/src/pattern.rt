@@ -7,7 +7,7 @@ use crate::suspects::{Suspect, push_once};
 use lx_diagnose::Span;
 use lx_diagnose::places::between;
 use lx_diagnose::scan::{is_at, part};
-use lx_lexemes::lexeme::lexeme_at;
+use lx_ere::lexeme::lexeme_at;
 use std::alloc::{AllocError, Global};
 
 // What stands behind the `^` of a pattern.

@@ -3,7 +3,7 @@ use Rattle.std.specs.Prelude.{ℕ, List, map}
 use Rattle.std.specs.Option.{option_map}
 use Rattle.std.specs.declared.alloc.Global.{Global}
 use Rattle.std.specs.declared.vec.Vec.{Vec}
-use Rattle.lx_lexemes.specs.Regex.{regex_of, reading_of}
+use Rattle.lx_ere.specs.Regex.{regex_of, reading_of}
 use Rattle.lx_rules.specs.Plain.{PlainDefinition, PlainRule}
 use Rattle.lx_rules.specs.declared.definition.Definition.{Definition}
 use Rattle.lx_rules.specs.declared.rule.Rule.{Rule}

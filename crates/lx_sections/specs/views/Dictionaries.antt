@@ -1,6 +1,6 @@
 -- The dictionary of the code, without where it lies in memory, and what it says of the definitions.
 use Rattle.std.specs.Prelude.{◌≡◌, ℕ, Bool, List, [], ◌∷◌, ◌++◌, Option, Some, slice_get}
-use Rattle.lx_lexemes.specs.Regex.{Regex}
+use Rattle.lx_ere.specs.Regex.{Regex}
 use Rattle.lx_sections.specs.Sections.{RawDefinition}
 use Rattle.lx_sections.specs.Dictionary.{IsTreeOf, AreTrees, mentions_in, mentions_of, is_incomplete, incomplete_marks}
 use Rattle.lx_sections.specs.views.Trees.{trees_view}

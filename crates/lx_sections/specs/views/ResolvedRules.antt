@@ -1,6 +1,6 @@
 -- What rules say, in the code, without where it lies in memory.
 use Rattle.std.specs.Option.{option_map}
-use Rattle.lx_lexemes.specs.Regex.{reading_of}
+use Rattle.lx_ere.specs.Regex.{reading_of}
 use Rattle.lx_sections.specs.Outcome.{ResolvedRule}
 use Rattle.lx_sections.specs.views.Actions.{action_view}
 use Rattle.lx_sections.specs.declared.resolved_rule.ResolvedRule.{ResolvedRule as CodeRule}

@@ -1,8 +1,8 @@
 -- The trees of the code, without where they lie in memory.
 use Rattle.std.specs.Prelude.{List, Option, map}
 use Rattle.std.specs.Option.{option_map}
-use Rattle.lx_lexemes.specs.declared.expr.Expr.{Expr}
-use Rattle.lx_lexemes.specs.Regex.{Regex, regex_of}
+use Rattle.lx_ere.specs.declared.expr.Expr.{Expr}
+use Rattle.lx_ere.specs.Regex.{Regex, regex_of}
 
 abbrev pub tree_view : Option Expr → Option Regex
 tree_view tree = option_map regex_of tree

@@ -1,6 +1,6 @@
 use Rattle.std.proofs.Common.{◌≡◌, ◌∙◌, ◌+◌, ℕ, List, map, take, min, get_or, ap, sym, arith}
 use Rattle.std.proofs.lemmas.List.{map_more}
-use Rattle.lx_lexemes.specs.Regex.{regex_of}
+use Rattle.lx_ere.specs.Regex.{regex_of}
 use Rattle.lx_rules.specs.Plain.{PlainDefinition}
 use Rattle.lx_rules.specs.views.Rules.{definition_view, rule_view}
 use Rattle.lx_rules.specs.declared.rule.Rule.{Rule}

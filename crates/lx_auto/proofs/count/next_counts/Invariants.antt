@@ -1,5 +1,5 @@
 use Rattle.std.proofs.Common.{◌≡◌, min, map, take}
-use Rattle.lx_lexemes.specs.Regex.{regex_of}
+use Rattle.lx_ere.specs.Regex.{regex_of}
 use Rattle.lx_auto.specs.Counts.{count_in}
 use Rattle.lx_auto.specs.CountViews.{looked_up}
 use Rattle.lx_auto.proofs.count.next_counts.Given as goal

@@ -1,5 +1,5 @@
 use Rattle.std.proofs.Common.{[], map, subst}
-use Rattle.lx_lexemes.specs.Regex.{regex_of}
+use Rattle.lx_ere.specs.Regex.{regex_of}
 use Rattle.lx_rules.specs.views.Rules.{definition_view}
 use Rattle.lx_auto.specs.NodeViews.{nodes_view}
 use Rattle.lx_auto.specs.Unfolding.{Unfolds}

@@ -1,7 +1,7 @@
 use Rattle.std.proofs.Common.{◌≡◌, drop}
-use Rattle.lx_lexemes.specs.Bytes.{byte_set}
-use Rattle.lx_lexemes.specs.Regex.{regex_of, one_of}
-use Rattle.lx_lexemes.specs.Grammar.{joined}
+use Rattle.lx_ere.specs.Bytes.{byte_set}
+use Rattle.lx_ere.specs.Regex.{regex_of, one_of}
+use Rattle.lx_ere.specs.Grammar.{joined}
 use Rattle.lx_ere.proofs.groups.joined.Given as goal
 
 abbrev pub invariant-loop-byte : goal.invariant-loop-byte

@@ -1,4 +1,4 @@
-use Rattle.lx_lexemes.proofs.SpellingLemmas as spelling
+use Rattle.lx_ere.proofs.SpellingLemmas as spelling
 use Rattle.lx_ere.proofs.read.one_spelling.Goals as goal
 
 pub returns : goal.returns

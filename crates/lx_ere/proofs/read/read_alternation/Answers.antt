@@ -1,7 +1,7 @@
 use Rattle.std.proofs.Common.{sym}
-use Rattle.lx_lexemes.specs.Regex.{regex_of}
+use Rattle.lx_ere.specs.Regex.{regex_of}
 use Rattle.lx_ere.specs.Groups.{groups_of}
-use Rattle.lx_lexemes.specs.Lexemes.{lexeme_of}
+use Rattle.lx_ere.specs.Lexemes.{lexeme_of}
 use Rattle.lx_ere.proofs.ReadLemmas.{Reached-step, Reached-end, Reached-no_end, Reached-no_step, lexeme_shorter}
 use Rattle.lx_ere.proofs.read.read_alternation.Goals as goal
 

@@ -1,13 +1,13 @@
 use Rattle.std.proofs.Common.{◌≡◌, ◌≤◌, length, sym, ◌∙◌, ap, subst, arith}
 use Rattle.std.specs.Prelude.{Result, Err}
 use Rattle.std.proofs.lemmas.Result.{err_from_is_err_and}
-use Rattle.lx_lexemes.specs.declared.expr.Pattern.{Pattern}
+use Rattle.lx_ere.specs.declared.expr.Pattern.{Pattern}
 use Rattle.lx_ere.specs.declared.fault.EreFault.{EreFault}
 use Rattle.lx_ere.specs.declared.fault.EreFault.TheVariants.{NoReading}
-use Rattle.lx_lexemes.specs.Limits.{max_pattern_bytes}
-use Rattle.lx_lexemes.specs.Regex.{regex_of}
-use Rattle.lx_lexemes.specs.Lexing.{body_of, ending_at, Reads}
-use Rattle.lx_lexemes.proofs.Choices.{no_none}
+use Rattle.lx_ere.specs.Limits.{max_pattern_bytes}
+use Rattle.lx_ere.specs.Regex.{regex_of}
+use Rattle.lx_ere.specs.Lexing.{body_of, ending_at, Reads}
+use Rattle.lx_ere.proofs.Choices.{no_none}
 use Rattle.lx_ere.proofs.ReadLemmas.{parts_of, of_parts, one_alternation, ending_complete, ending_sound}
 use Rattle.lx_ere.proofs.read.read_pattern.Goals as goal
 

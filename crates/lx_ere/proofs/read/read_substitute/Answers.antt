@@ -2,10 +2,10 @@ use Rattle.std.proofs.Common.{◌≡◌, [], nat_eq, length, sym, ◌∙◌, ap}
 use Rattle.std.specs.Prelude.{Result, Err}
 use Rattle.std.proofs.lemmas.Bool.{true≢false}
 use Rattle.std.proofs.lemmas.Result.{err_from_is_err_and}
-use Rattle.lx_lexemes.specs.declared.expr.Expr.{Expr}
+use Rattle.lx_ere.specs.declared.expr.Expr.{Expr}
 use Rattle.lx_ere.specs.declared.fault.EreFault.{EreFault}
 use Rattle.lx_ere.specs.declared.fault.EreFault.TheVariants.{NoReading}
-use Rattle.lx_lexemes.specs.Regex.{regex_of}
+use Rattle.lx_ere.specs.Regex.{regex_of}
 use Rattle.lx_ere.proofs.ReadLemmas.{one_alternation, reads_of}
 use Rattle.lx_ere.proofs.read.read_substitute.Goals as goal
 

@@ -1,7 +1,7 @@
 use Rattle.std.proofs.Common.{ℕ, List}
 use Rattle.std.proofs.lemmas.Result.{IfOk-weaker}
-use Rattle.lx_lexemes.specs.Regex.{regex_of}
-use Rattle.lx_lexemes.specs.Matching.{Matches}
+use Rattle.lx_ere.specs.Regex.{regex_of}
+use Rattle.lx_ere.specs.Matching.{Matches}
 use Rattle.lx_rules.specs.Choice.{SpecNames}
 use Rattle.lx_rules.specs.views.Specs.{spec_view}
 use Rattle.lx_plain.specs.Places.{AreEnds, AreLengths}

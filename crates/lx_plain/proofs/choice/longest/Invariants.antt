@@ -1,8 +1,8 @@
 use Rattle.std.proofs.Common.{◌≡◌, ℕ, ◌≤◌, true, length, take}
 use Rattle.std.specs.Ordering.{nat_cmp}
 use Rattle.std.specs.BTreeSet.{contains, btree_set_len}
-use Rattle.lx_lexemes.specs.Regex.{regex_of}
-use Rattle.lx_lexemes.specs.Matching.{Matches}
+use Rattle.lx_ere.specs.Regex.{regex_of}
+use Rattle.lx_ere.specs.Matching.{Matches}
 use Rattle.lx_rules.specs.Choice.{Fits, SpecNames}
 use Rattle.lx_rules.specs.views.Rules.{rule_view}
 use Rattle.lx_rules.specs.views.Specs.{spec_view}

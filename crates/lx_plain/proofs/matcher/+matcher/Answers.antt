@@ -6,8 +6,8 @@ use Rattle.std.proofs.lemmas.Bool.{false≢true}
 use Rattle.std.proofs.lemmas.List.{length-map}
 use Rattle.std.proofs.lemmas.Option.{slice_get_read}
 use Rattle.std.proofs.lemmas.Result.{IfOk-weaker}
-use Rattle.lx_lexemes.specs.Regex.{regex_of, one_of}
-use Rattle.lx_lexemes.specs.Matching.{Matches, Splits, Repeats, RepeatsBetween}
+use Rattle.lx_ere.specs.Regex.{regex_of, one_of}
+use Rattle.lx_ere.specs.Matching.{Matches, Splits, Repeats, RepeatsBetween}
 use Rattle.lx_rules.specs.Names.{NameMatches}
 use Rattle.lx_rules.specs.Plain.{PlainDefinition}
 use Rattle.lx_rules.specs.views.Rules.{definition_view}

@@ -1,8 +1,8 @@
 use Rattle.std.proofs.Common.{◌+◌, ◌-◌, ◌*◌, length, map, if◌then◌else◌}
 use Rattle.std.specs.BTreeSet.{btree_set_len, IsOrdered}
 use Rattle.std.specs.Ordering.{nat_cmp}
-use Rattle.lx_lexemes.specs.Regex.{regex_of}
-use Rattle.lx_lexemes.specs.Matching.{Matches, Repeats}
+use Rattle.lx_ere.specs.Regex.{regex_of}
+use Rattle.lx_ere.specs.Matching.{Matches, Repeats}
 use Rattle.lx_rules.specs.Names.{NameMatches}
 use Rattle.lx_rules.specs.views.Rules.{definition_view}
 use Rattle.lx_plain.specs.Places.{AreEnds, AreWithin, AtMost}

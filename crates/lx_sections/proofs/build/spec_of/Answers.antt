@@ -1,7 +1,7 @@
 use Rattle.std.proofs.Common.{◌≡◌, ◌∙◌, ℕ, List, length, map, ap, sym, subst, arith}
 use Rattle.std.specs.Prelude.{IsTrue}
 use Rattle.std.proofs.lemmas.List.{length-map}
-use Rattle.lx_lexemes.specs.Regex.{Regex}
+use Rattle.lx_ere.specs.Regex.{Regex}
 use Rattle.lx_rules.specs.Plain.{StartCondition}
 use Rattle.lx_rules.specs.Invariant.{are_start_conditions, are_ordered}
 use Rattle.lx_rules.specs.Nesting.{are_nested}

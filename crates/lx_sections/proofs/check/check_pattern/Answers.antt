@@ -1,5 +1,5 @@
 use Rattle.std.proofs.Common.{◌∙◌, ◌++◌, ◌∷◌, [], List, ℕ, ap, inr}
-use Rattle.lx_lexemes.specs.Regex.{reading_of}
+use Rattle.lx_ere.specs.Regex.{reading_of}
 use Rattle.lx_sections.specs.views.Sections.{raw_rule_view}
 use Rattle.lx_sections.specs.Dictionary.{row_of, unreadable_marks, incomplete_marks}
 use Rattle.lx_sections.specs.Graph.{Leads, Follow, IsMention}

@@ -1,6 +1,6 @@
 use Rattle.std.proofs.Common.{◌≡◌, ◌∙◌, ◌++◌, map, ap, sym, inl, inr}
-use Rattle.lx_lexemes.specs.declared.expr.Expr.{Expr}
-use Rattle.lx_lexemes.specs.Regex.{regex_of}
+use Rattle.lx_ere.specs.declared.expr.Expr.{Expr}
+use Rattle.lx_ere.specs.Regex.{regex_of}
 use Rattle.lx_rules.specs.Names.{names_of}
 use Rattle.lx_sections.specs.views.Sections.{raw_definition_view}
 use Rattle.lx_sections.proofs.Rows.{row-joined}

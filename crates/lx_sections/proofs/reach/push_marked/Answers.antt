@@ -1,7 +1,7 @@
 use Rattle.std.proofs.Common.{◌≡◌, ◌∙◌, [], Some, map, reverse, get_or, ap, sym}
 use Rattle.std.specs.Prelude.{IsTrue}
 use Rattle.std.proofs.lemmas.Bool.{false≢true}
-use Rattle.lx_lexemes.specs.Regex.{regex_of}
+use Rattle.lx_ere.specs.Regex.{regex_of}
 use Rattle.lx_rules.specs.views.Rules.{definition_view}
 use Rattle.lx_sections.specs.Graph.{is_marked}
 use Rattle.lx_sections.specs.Outcome.{passed}

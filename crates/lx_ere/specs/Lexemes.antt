@@ -1,0 +1,16 @@
+-- What the code's lexemes stand for.
+use Rattle.lx_ere.specs.Grammar.{Lexeme, set_of, quoted, name, interval, open_group, close_group, star, plus, question, bar}
+use Rattle.lx_ere.specs.declared.lexeme.Lexeme as code
+use Rattle.lx_ere.specs.declared.lexeme.Lexeme.TheVariants as token
+
+abbrev pub lexeme_of : code.Lexeme → Lexeme
+lexeme_of (token.Set s) = set_of s
+lexeme_of (token.Quoted first more) = quoted first more.items
+lexeme_of (token.Name n) = name n.items
+lexeme_of (token.Interval low high) = interval low high
+lexeme_of token.OpenGroup = open_group
+lexeme_of token.CloseGroup = close_group
+lexeme_of token.Star = star
+lexeme_of token.Plus = plus
+lexeme_of token.Question = question
+lexeme_of token.Bar = bar

@@ -1,0 +1,119 @@
+//! Expressions and patterns (POSIX.1-2017, XBD 9.4; XCU `lex`, "Regular Expressions in lex").
+
+ghost use Rattle.std.specs.Prelude.{◌≡◌, ◌↔◌, IsTrue};
+ghost use Rattle.std.specs.Cmp.{on_equiv, partial_equiv_from_equiv};
+ghost use Rattle.lx_ere.specs.Regex.{regex_of, reading_of};
+ghost use Rattle.lx_ere.specs.Equality.{same_trees, same_readings};
+ghost use Rattle.lx_ere.specs.EqualityLaws.{trees_equivalence, readings_equivalence};
+
+use crate::set::ByteSet;
+
+/// An extended regular expression over bytes.
+#[derive(Debug, Drop)]
+pub enum Expr {
+    /// The empty word.
+    Nil,
+    /// One byte of the set.
+    Set(ByteSet),
+    /// The first expression, then the second.
+    Then(Box<Expr>, Box<Expr>),
+    /// Either expression.
+    Or(Box<Expr>, Box<Expr>),
+    /// The body from `low` to `high` times, each at most 255; where `high` is `None`, `low` times or any number more.
+    Times {
+        /// What is repeated.
+        body: Box<Expr>,
+        /// How often at least.
+        low: u8,
+        /// How often at most, where there is a bound.
+        high: Option<u8>,
+    },
+    /// What a name that was defined elsewhere stands for.
+    Name(Vec<u8>),
+}
+
+/// An expression and its anchors, which apply to the whole of it.
+#[derive(Debug, Drop)]
+pub struct Pattern {
+    /// Whether a match has to begin at the beginning of a line (`^`).
+    pub line_begin: bool,
+    /// Whether a match has to be followed by a newline (`$`).
+    pub line_end: bool,
+    /// What is matched.
+    pub expr: Expr,
+}
+
+/// Whether the two trees have the same form and equal parts.
+fn same_tree(left: &Expr, right: &Expr) -> bool
+    ensures { result ≡ same_trees (regex_of left.now) (regex_of right.now) }
+{
+    match left {
+        Expr::Nil => matches!(right, Expr::Nil),
+        Expr::Set(set) => match right {
+            Expr::Set(other) => set == other,
+            _ => false,
+        },
+        Expr::Then(first, second) => match right {
+            Expr::Then(other_first, other_second) => {
+                same_tree(first, other_first) && same_tree(second, other_second)
+            }
+            _ => false,
+        },
+        Expr::Or(this, that) => match right {
+            Expr::Or(other_this, other_that) => {
+                same_tree(this, other_this) && same_tree(that, other_that)
+            }
+            _ => false,
+        },
+        Expr::Times { body, low, high } => match right {
+            Expr::Times {
+                body: other_body,
+                low: other_low,
+                high: other_high,
+            } => same_tree(body, other_body) && low == other_low && high == other_high,
+            _ => false,
+        },
+        Expr::Name(name) => match right {
+            Expr::Name(other) => name == other,
+            _ => false,
+        },
+    }
+}
+
+impl PartialEq for Expr {
+    ghost eq = { λ a b. same_trees (regex_of a) (regex_of b) };
+
+    ghost laws = { partial_equiv_from_equiv (on_equiv regex_of trees_equivalence) };
+
+    /// Whether the two are the same tree, wherever they lie in memory.
+    fn eq(&self, other: &Expr) -> bool
+        ensures value { result ≡ same_trees (regex_of self.now) (regex_of other.now) }
+        ensures same { IsTrue result ↔ (regex_of self.now ≡ regex_of other.now) }
+    {
+        same_tree(self, other)
+    }
+}
+
+impl Eq for Expr {
+    ghost laws = { on_equiv regex_of trees_equivalence };
+}
+
+impl PartialEq for Pattern {
+    ghost eq = { λ a b. same_readings (reading_of a) (reading_of b) };
+
+    ghost laws = { partial_equiv_from_equiv (on_equiv reading_of readings_equivalence) };
+
+    /// Whether the two have the same anchors and equal trees.
+    fn eq(&self, other: &Pattern) -> bool
+        ensures value { result ≡ same_readings (reading_of self.now) (reading_of other.now) }
+        ensures same { IsTrue result ↔ (reading_of self.now ≡ reading_of other.now) }
+    {
+        self.line_begin == other.line_begin
+            && self.line_end == other.line_end
+            && self.expr == other.expr
+    }
+}
+
+impl Eq for Pattern {
+    ghost laws = { on_equiv reading_of readings_equivalence };
+}

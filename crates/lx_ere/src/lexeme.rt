@@ -1,0 +1,241 @@
+//! Lexemes of a pattern (POSIX.1-2017, XCU `lex`, "Regular Expressions in lex").
+
+ghost use Rattle.std.specs.Prelude.{◌≡◌, IfOk, List, ℕ};
+ghost use Rattle.std.specs.Option.{option_map};
+ghost use Rattle.lx_ere.specs.Spelling.{is_plain, byte_lexeme};
+ghost use Rattle.lx_ere.specs.Lexing.{all_items_at, unescaped_at, quoted_byte_at, string_at, name_at, bound_at, behind_comma_at, behind_low_at, interval_at, starts_digit, brace_at, as_set, as_bracket, as_single, escape_at, bracket_at, lexeme_at};
+ghost use Rattle.lx_ere.specs.Lexemes.{lexeme_of};
+
+use crate::bracket::bracket_at;
+use crate::escape::{digit_run, escape_at, is_digit, number_at};
+use crate::name::{is_identifier, name_run};
+use crate::prefix::{begins_with, behind_byte, skip};
+use crate::set::ByteSet;
+use std::alloc::{AllocError, Global};
+
+/// What a spelling in a pattern means.
+#[derive(Drop)]
+pub enum Lexeme {
+    /// A byte, an escape, a period or a bracket expression.
+    Set(ByteSet),
+    /// A quoted string: its first byte, and those behind it.
+    Quoted(u8, Vec<u8>),
+    /// A name in braces.
+    Name(Vec<u8>),
+    /// Bounds in braces.
+    Interval(u8, Option<u8>),
+    OpenGroup,
+    CloseGroup,
+    Star,
+    Plus,
+    Question,
+    Bar,
+}
+
+/// Whether the byte stands for itself.
+fn is_plain(c: u8) -> bool
+    ensures { result ≡ is_plain c }
+{
+    !matches!(
+        c,
+        b'\n'
+            | b'\t'
+            | b' '
+            | b'"'
+            | b'$'
+            | b'('
+            | b')'
+            | b'*'
+            | b'+'
+            | b'.'
+            | b'/'
+            | b'?'
+            | b'['
+            | b'\\'
+            | b'^'
+            | b'{'
+            | b'|'
+    )
+}
+
+/// The lexeme that one byte is.
+fn byte_lexeme(c: u8) -> Option<Lexeme>
+    ensures { option_map lexeme_of result ≡ byte_lexeme c }
+{
+    match c {
+        b'(' => Some(Lexeme::OpenGroup),
+        b')' => Some(Lexeme::CloseGroup),
+        b'*' => Some(Lexeme::Star),
+        b'+' => Some(Lexeme::Plus),
+        b'?' => Some(Lexeme::Question),
+        b'|' => Some(Lexeme::Bar),
+        b'.' => Some(Lexeme::Set(ByteSet::all_but(b'\n'))),
+        _ if is_plain(c) => Some(Lexeme::Set(ByteSet::of(c))),
+        _ => None,
+    }
+}
+
+/// A byte of a quoted string, and what stands behind it.
+fn quoted_byte_at(text: &[u8]) -> Option<(u8, &[u8])>
+    ensures { option_map (λ f. (f.0, f.1.now)) result ≡ quoted_byte_at text.now }
+{
+    let (first, rest) = text.split_first()?;
+    let c = *first;
+    if c == b'\\' {
+        escape_at(rest)
+    } else if c == b'"' || c == b'\n' {
+        None
+    } else {
+        Some((c, rest))
+    }
+}
+
+/// The bytes of a quoted string up to its closing quote, and what stands behind it.
+fn quoted_bytes_at(alloc: Global, text: &[u8]) -> Result<Option<(Vec<u8>, &[u8])>, AllocError>
+    ensures { IfOk result (λ o. option_map (λ f. (f.0.items, f.1.now)) o ≡ all_items_at quoted_byte_at 34 text.now) }
+{
+    let mut bytes = Vec::new(alloc);
+    let mut rest = text;
+    while !begins_with(b'"', rest) {
+        let Some((byte, behind)) = quoted_byte_at(rest) else {
+            return Ok(None);
+        };
+        bytes.push(byte)?;
+        rest = behind;
+    }
+    Ok(Some((bytes, skip(1, rest))))
+}
+
+/// A quoted string, from behind its opening quote on.
+fn string_at(alloc: Global, text: &[u8]) -> Result<Option<(Lexeme, &[u8])>, AllocError>
+    ensures { IfOk result (λ o. option_map (λ f. (lexeme_of f.0, f.1.now)) o ≡ string_at text.now) }
+{
+    let Some((first, rest)) = quoted_byte_at(text) else {
+        return Ok(None);
+    };
+    match quoted_bytes_at(alloc, rest)? {
+        Some((more, behind)) => Ok(Some((Lexeme::Quoted(first, more), behind))),
+        None => Ok(None),
+    }
+}
+
+/// A name and its closing brace.
+fn name_at(alloc: Global, text: &[u8]) -> Result<Option<(Lexeme, &[u8])>, AllocError>
+    ensures { IfOk result (λ o. option_map (λ f. (lexeme_of f.0, f.1.now)) o ≡ name_at text.now) }
+{
+    let n = name_run(text);
+    let name = &text[..n];
+    if !is_identifier(name) {
+        return Ok(None);
+    }
+    match behind_byte(b'}', skip(n, text)) {
+        Some(behind) => {
+            let name = Vec::from_slice(alloc, name)?;
+            Ok(Some((Lexeme::Name(name), behind)))
+        }
+        None => Ok(None),
+    }
+}
+
+/// The bound of an interval, a number of at most 255.
+fn bound_at(text: &[u8]) -> Option<(u8, &[u8])>
+    ensures { option_map (λ f. (f.0, f.1.now)) result ≡ bound_at text.now }
+{
+    let n = digit_run(10, text.len(), text);
+    if n == 0 { None } else { number_at(10, n, text) }
+}
+
+/// The rest of an interval behind its comma.
+fn behind_comma_at(low: u8, text: &[u8]) -> Option<(Lexeme, &[u8])>
+    ensures { option_map (λ f. (lexeme_of f.0, f.1.now)) result ≡ behind_comma_at low text.now }
+{
+    if begins_with(b'}', text) {
+        return Some((Lexeme::Interval(low, None), skip(1, text)));
+    }
+    let (high, rest) = bound_at(text)?;
+    if low > high {
+        return None;
+    }
+    let behind = behind_byte(b'}', rest)?;
+    Some((Lexeme::Interval(low, Some(high)), behind))
+}
+
+/// The rest of an interval behind its first bound.
+fn behind_low_at(low: u8, text: &[u8]) -> Option<(Lexeme, &[u8])>
+    ensures { option_map (λ f. (lexeme_of f.0, f.1.now)) result ≡ behind_low_at (low, text.now) }
+{
+    if begins_with(b'}', text) {
+        Some((Lexeme::Interval(low, Some(low)), skip(1, text)))
+    } else {
+        behind_comma_at(low, behind_byte(b',', text)?)
+    }
+}
+
+/// An interval, from behind its opening brace on.
+fn interval_at(text: &[u8]) -> Option<(Lexeme, &[u8])>
+    ensures { option_map (λ f. (lexeme_of f.0, f.1.now)) result ≡ interval_at text.now }
+{
+    let (low, rest) = bound_at(text)?;
+    behind_low_at(low, rest)
+}
+
+/// Whether the text begins with a decimal digit.
+fn starts_digit(text: &[u8]) -> bool
+    ensures { result ≡ starts_digit text.now }
+{
+    match text {
+        [first, ..] => is_digit(10, *first),
+        [] => false,
+    }
+}
+
+/// A name or an interval, from behind its opening brace on.
+fn brace_at(alloc: Global, text: &[u8]) -> Result<Option<(Lexeme, &[u8])>, AllocError>
+    ensures { IfOk result (λ o. option_map (λ f. (lexeme_of f.0, f.1.now)) o ≡ brace_at text.now) }
+{
+    if starts_digit(text) {
+        Ok(interval_at(text))
+    } else {
+        name_at(alloc, text)
+    }
+}
+
+/// The lexeme at the front and what stands behind it; `None` where no spelling stands at the front.
+pub fn lexeme_at(alloc: Global, text: &[u8]) -> Result<Option<(Lexeme, &[u8])>, AllocError>
+    ensures { IfOk result (λ o. option_map (λ f. (lexeme_of f.0, f.1.now)) o ≡ lexeme_at text.now) }
+{
+    let Some((first, rest)) = text.split_first() else {
+        return Ok(None);
+    };
+    match *first {
+        b'\\' => Ok(escape_lexeme(rest)),
+        b'"' => string_at(alloc, rest),
+        b'[' => Ok(bracket_lexeme(rest)),
+        b'{' => brace_at(alloc, rest),
+        c => Ok(single_lexeme(c, rest)),
+    }
+}
+
+/// An escape, from behind its backslash on.
+fn escape_lexeme(text: &[u8]) -> Option<(Lexeme, &[u8])>
+    ensures { option_map (λ f. (lexeme_of f.0, f.1.now)) result ≡ as_set (escape_at text.now) }
+{
+    let (byte, behind) = escape_at(text)?;
+    Some((Lexeme::Set(ByteSet::of(byte)), behind))
+}
+
+/// A bracket expression, from behind its `[` on.
+fn bracket_lexeme(text: &[u8]) -> Option<(Lexeme, &[u8])>
+    ensures { option_map (λ f. (lexeme_of f.0, f.1.now)) result ≡ as_bracket (bracket_at text.now) }
+{
+    let (set, behind) = bracket_at(text)?;
+    Some((Lexeme::Set(set), behind))
+}
+
+/// The lexeme that one byte is, where this text stands behind it.
+fn single_lexeme(c: u8, behind: &[u8]) -> Option<(Lexeme, &[u8])>
+    ensures { option_map (λ f. (lexeme_of f.0, f.1.now)) result ≡ as_single c behind.now }
+{
+    let lexeme = byte_lexeme(c)?;
+    Some((lexeme, behind))
+}

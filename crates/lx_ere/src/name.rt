@@ -1,0 +1,50 @@
+//! Identifiers: a letter or `_`, then letters, digits and `_`, of ASCII.
+
+ghost use Rattle.std.specs.Prelude.{◌≡◌, ◌≤◌, length};
+ghost use Rattle.std.specs.List.{list_all};
+ghost use Rattle.lx_ere.specs.Spelling.{is_name_start, is_name_byte, is_identifier};
+ghost use Rattle.lx_ere.specs.Lexing.{run_len};
+
+/// Whether the byte can begin an identifier.
+fn is_name_start(c: u8) -> bool
+    ensures { result ≡ is_name_start c }
+{
+    c.is_ascii_alphabetic() || c == b'_'
+}
+
+/// Whether the byte can stand in an identifier.
+fn is_name_byte(c: u8) -> bool
+    ensures { result ≡ is_name_byte c }
+{
+    is_name_start(c) || c.is_ascii_digit()
+}
+
+/// How many bytes at the front can stand in an identifier.
+#[tactic(auto, using(crate::proofs::RunLemmas::run_steps))]
+pub(crate) fn name_run(text: &[u8]) -> usize
+    ensures value { result ≡ run_len is_name_byte (length text.now) text.now }
+    ensures within { result ≤ length text.now }
+{
+    let mut n = 0;
+    while n < text.len() && is_name_byte(text[n]) {
+        n += 1;
+    }
+    n
+}
+
+/// Whether each byte can stand in an identifier.
+fn are_name_bytes(text: &[u8]) -> bool
+    ensures { result ≡ list_all is_name_byte text.now }
+{
+    text.iter().all(|c| is_name_byte(*c))
+}
+
+/// Whether the bytes are an identifier.
+pub(crate) fn is_identifier(name: &[u8]) -> bool
+    ensures { result ≡ is_identifier name.now }
+{
+    match name.split_first() {
+        Some((first, more)) => is_name_start(*first) && are_name_bytes(more),
+        None => false,
+    }
+}
