@@ -3,7 +3,7 @@ use Rattle.std.proofs.Common.{◌≡◌, ℕ, suc, ◌+◌, ◌-◌, ◌<◌, �
 use Rattle.std.proofs.lemmas.List.{append-nil}
 use Rattle.lx_rules.specs.Plain.{PlainSpec}
 use Rattle.lx_spec.specs.Whole.{IsFault, IsRead}
-use Rattle.lx_sections.specs.declared.fault.SpecFault.{SpecFault}
+use Rattle.lx_spec.specs.declared.fault.SpecFault.{SpecFault}
 use Rattle.lx_verdict.specs.Verdicts.{IsFinding, SaysTooLarge}
 use Rattle.lx_check.specs.Findings.{BeginsWithFinding}
 use Rattle.lx_check.specs.Further.{AreFindings, AreFurther, HasFurther, clean, enough, faults, found, hidden, too_large, too_long}

@@ -2,7 +2,7 @@
 use Rattle.std.specs.Prelude.{◌≡◌, ℕ, suc, ◌-◌, ◌<◌, ◌≤◌, ⊤, List, [], ◌∷◌, ◌++◌, Option, Some, None, length}
 use Rattle.lx_rules.specs.Plain.{PlainSpec}
 use Rattle.lx_spec.specs.Whole.{IsFault, IsRead}
-use Rattle.lx_sections.specs.declared.fault.SpecFault.{SpecFault}
+use Rattle.lx_spec.specs.declared.fault.SpecFault.{SpecFault}
 use Rattle.lx_verdict.specs.Verdicts.{SaysTooLarge}
 use Rattle.lx_recovery.specs.Without.{without}
 use Rattle.lx_verdict.specs.declared.finding.Finding.{Finding}

@@ -3,9 +3,9 @@
 use bstr::ByteSlice;
 use lx_reach::{Takers, takers_of};
 use lx_recovery::without::MAX_SPECIFICATION_BYTES;
-use lx_sections::parsed_sections::RawRule;
-use lx_sections::rule_line::Prefix;
-use lx_sections::section::read_sections;
+use lx_spec::parsed_sections::RawRule;
+use lx_spec::rule_line::Prefix;
+use lx_spec::section::read_sections;
 use lx_spec::Code;
 use lx_tables::Tables;
 use lx_verdict::{read, tables_of};

@@ -1,6 +1,6 @@
 -- The code that a cause belongs to.
-use Rattle.lx_sections.specs.declared.fault.Code.{Code}
-use Rattle.lx_sections.specs.declared.fault.Code.TheVariants as variants
+use Rattle.lx_spec.specs.declared.fault.Code.{Code}
+use Rattle.lx_spec.specs.declared.fault.Code.TheVariants as variants
 use Rattle.lx_diagnose.specs.declared.causes.Cause.{Cause}
 use Rattle.lx_diagnose.specs.declared.causes.Cause.TheVariants.{TooLong, NoRules, NotClosed, NoForm, Twice, TooMany, NoReading, Undefined, TooDeep, NoCondition, NoAction, NoNext, Memory}
 

@@ -1,7 +1,7 @@
 -- Codes as they are printed.
 use Rattle.std.specs.Prelude.{ℕ, List, codes}
-use Rattle.lx_sections.specs.declared.fault.Code.{Code}
-use Rattle.lx_sections.specs.declared.fault.Code.TheVariants.{TooLong, NoRules, NotClosed, NoForm, Twice, TooMany, NoReading, Undefined, TooDeep, NoCondition, NoAction, NoNext, Memory}
+use Rattle.lx_spec.specs.declared.fault.Code.{Code}
+use Rattle.lx_spec.specs.declared.fault.Code.TheVariants.{TooLong, NoRules, NotClosed, NoForm, Twice, TooMany, NoReading, Undefined, TooDeep, NoCondition, NoAction, NoNext, Memory}
 
 abbrev pub word_of : Code → List ℕ
 word_of TooLong = codes "E01"

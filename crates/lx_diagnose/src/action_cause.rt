@@ -8,8 +8,8 @@ use crate::places::{Span, between, one_byte};
 use crate::scan::{begins_at, find, is_at, is_blank_at, is_digit_at, is_listed, next_blank, part};
 use crate::sectioning::{RuleExtent, RulePrefix};
 use crate::words::{PlacedWords, behind_word_before, failing_word, place_at, words_of};
-use lx_sections::action::{Action, Statement, Turn, read_action, turn_at};
-use lx_sections::word::Word;
+use lx_spec::action::{Action, Statement, Turn, read_action, turn_at};
+use lx_spec::word::Word;
 use std::alloc::{AllocError, Global};
 
 // What a scanner of flex has, and an action can't call.

@@ -9,7 +9,7 @@ use crate::scan::{is_at, part};
 use crate::sectioning::{RuleExtent, RulePrefix};
 use crate::similar::Closest;
 use crate::words::{PlacedWords, words_of};
-use lx_sections::word::Word;
+use lx_spec::word::Word;
 use std::alloc::{AllocError, Global};
 
 fn is_known(outline: &Outline, text: &[u8], name: Span) -> bool {

@@ -7,8 +7,8 @@ use crate::scan::{
     before_blanks, begins_at, behind_blanks, behind_digits, behind_word, find, is_at, is_blank_at,
     is_digit_at, is_listed, is_word_at, next_blank, part,
 };
-use lx_sections::action::read_action;
-use lx_sections::rule_line::{RuleLine, rule_line_of};
+use lx_spec::action::read_action;
+use lx_spec::rule_line::{RuleLine, rule_line_of};
 use std::alloc::{AllocError, Global};
 
 // The words that `%option` may have.

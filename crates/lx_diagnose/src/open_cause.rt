@@ -7,7 +7,7 @@ use crate::outline::Outline;
 use crate::places::{Span, between, one_byte};
 use crate::scan::{begins_at, behind_blanks, is_at};
 use crate::sectioning::RuleExtent;
-use lx_sections::block::{Mode, behind_line, counts, next_mode};
+use lx_spec::block::{Mode, behind_line, counts, next_mode};
 use std::alloc::{AllocError, Global};
 
 // What an action has left open, up to a place.

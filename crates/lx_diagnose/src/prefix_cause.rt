@@ -8,7 +8,7 @@ use crate::scan::{
     next_blank, part,
 };
 use crate::sectioning::{RuleExtent, RulePrefix};
-use lx_sections::action::read_action;
+use lx_spec::action::read_action;
 use std::alloc::{AllocError, Global};
 
 // What no pattern is, and a rule of flex for the end of a file begins with.

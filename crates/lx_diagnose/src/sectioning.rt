@@ -2,9 +2,9 @@
 
 use crate::places::{Span, between};
 use crate::scan::{begins_at, behind_blanks, find, is_at, part};
-use lx_sections::block::{Count, Mode, is_closed, with_line};
-use lx_sections::line::{Line, line_of};
-use lx_sections::rule_line::{Prefix, RuleLine, rule_line_of};
+use lx_spec::block::{Count, Mode, is_closed, with_line};
+use lx_spec::line::{Line, line_of};
+use lx_spec::rule_line::{Prefix, RuleLine, rule_line_of};
 
 /// Where a line stands.
 #[derive(Clone, Copy)]

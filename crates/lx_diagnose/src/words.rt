@@ -2,8 +2,8 @@
 
 use crate::places::{Span, between};
 use crate::scan::{is_at, part};
-use lx_sections::action::{Turn, turn_at};
-use lx_sections::word::{Piece, Word, piece_at};
+use lx_spec::action::{Turn, turn_at};
+use lx_spec::word::{Piece, Word, piece_at};
 use std::alloc::{AllocError, Global};
 
 /// The words of an action, where each stands, and where the text stops being words, if it does.

@@ -3,11 +3,11 @@ use Rattle.std.specs.Prelude.{Bool, true, false, ℕ, ◌+◌, ◌&&◌, nat_eq,
 use Rattle.bstr.specs.Text.{lines_of}
 use Rattle.lx_rules.specs.Limits.{max_specification_bytes}
 use Rattle.lx_scan.specs.Steps.{newlines}
-use Rattle.lx_sections.specs.Bytes.{lines, next_word}
-use Rattle.lx_sections.specs.Sections.{ParsedSections, RawRule, sections_of}
-use Rattle.lx_sections.specs.declared.fault.Code.{Code}
-use Rattle.lx_sections.specs.declared.fault.Code.TheVariants as code
-use Rattle.lx_sections.specs.declared.fault.SpecFault.{SpecFault}
+use Rattle.lx_spec.specs.Bytes.{lines, next_word}
+use Rattle.lx_spec.specs.Sections.{ParsedSections, RawRule, sections_of}
+use Rattle.lx_spec.specs.declared.fault.Code.{Code}
+use Rattle.lx_spec.specs.declared.fault.Code.TheVariants as code
+use Rattle.lx_spec.specs.declared.fault.SpecFault.{SpecFault}
 
 -- what stands in the place of line n: of the first line this, of those behind it up to the end nothing but a newline
 abbrev pub line_instead : List ℕ → ℕ → ℕ → ℕ → List ℕ → List ℕ

@@ -3,16 +3,16 @@
 ghost use Rattle.std.specs.Prelude.{◌≡◌, ◌≢◌, ◌≤◌, ◌++◌, ◌∷◌, [], IfOk, OnOk, length, map, option_map, Some, ◌+◌};
 ghost use Rattle.lx_rules.specs.Limits.{max_specification_bytes};
 ghost use Rattle.lx_scan.specs.Steps.{newlines};
-ghost use Rattle.lx_sections.specs.Bytes.{lines, next_word};
-ghost use Rattle.lx_sections.specs.Sections.{sections_of};
+ghost use Rattle.lx_spec.specs.Bytes.{lines, next_word};
+ghost use Rattle.lx_spec.specs.Sections.{sections_of};
 ghost use Rattle.lx_spec.specs.Whole.{IsFault};
-ghost use Rattle.lx_sections.specs.views.Sections.{raw_rule_view};
+ghost use Rattle.lx_spec.specs.views.Sections.{raw_rule_view};
 ghost use Rattle.lx_recovery.specs.Without as specs;
 
 use bstr::ByteSlice;
-use lx_sections::line::next_word;
-use lx_sections::parsed_sections::RawRule;
-use lx_sections::section::read_sections;
+use lx_spec::line::next_word;
+use lx_spec::parsed_sections::RawRule;
+use lx_spec::section::read_sections;
 use lx_spec::{Code, SpecFault};
 use std::alloc::{AllocError, Global};
 

@@ -3,9 +3,9 @@ use Rattle.std.proofs.Common.{◌≡◌, ℕ, zero, suc, ◌<◌, ◌≤◌, Boo
 use Rattle.std.specs.Prelude.{IfSome, codes}
 use Rattle.std.specs.Cmp.Lexicographic.{pointwise}
 use Rattle.lx_ere.proofs.Deciding.{along}
-use Rattle.lx_sections.specs.ActionWords.{Word, letters, semicolon, open_brace, close_brace, open_group, close_group, AreWords}
-use Rattle.lx_sections.specs.Actions.{Value, value_of, condition_of, Statement, echo, begin, return, behind_word, in_group, operand_at, ended, returned, return_at, begun, begin_at, letters_at, Turn, finished, opens, closes, states, no_statement, stated_or_none, turn_at, AreStatements, none, opened, closed, stated, is_bar, Action, shared, own, IsAction, a_bar, some_statements}
-use Rattle.lx_sections.proofs.ActionSteps.{in_finished, in_opened, in_closed, in_stated, in_none, bar-is, no_action, no_words}
+use Rattle.lx_spec.specs.ActionWords.{Word, letters, semicolon, open_brace, close_brace, open_group, close_group, AreWords}
+use Rattle.lx_spec.specs.Actions.{Value, value_of, condition_of, Statement, echo, begin, return, behind_word, in_group, operand_at, ended, returned, return_at, begun, begin_at, letters_at, Turn, finished, opens, closes, states, no_statement, stated_or_none, turn_at, AreStatements, none, opened, closed, stated, is_bar, Action, shared, own, IsAction, a_bar, some_statements}
+use Rattle.lx_spec.proofs.ActionSteps.{in_finished, in_opened, in_closed, in_stated, in_none, bar-is, no_action, no_words}
 use Rattle.lx_spec.proofs.DecidingWords.{decide_words}
 
 -- ---- what stands behind a turn

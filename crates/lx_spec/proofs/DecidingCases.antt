@@ -6,12 +6,12 @@ use Rattle.lx_ere.specs.Pattern.{IsPattern}
 use Rattle.lx_ere.proofs.Deciding.{along, both, either, decide_not, decide_true, decide_false, decide_in}
 use Rattle.lx_rules.specs.Limits.{max_name_depth}
 use Rattle.lx_rules.specs.Plain.{StartCondition}
-use Rattle.lx_sections.specs.Actions.{Statement, Action, shared, own, IsAction}
-use Rattle.lx_sections.specs.Dictionary.{row_of, all_defined, mentions_of, unreadable_marks, incomplete_marks}
-use Rattle.lx_sections.specs.First.{IsFirst, here, later, HoldsOfNone}
-use Rattle.lx_sections.specs.Graph.{IsMention, Leads, Follow}
-use Rattle.lx_sections.specs.Verdict.{SymbolTable, LeadsUnreadable, LeadsUndefined, LeadsDeep, Case, Cause, prefix_form, prefix_name, reading, undefined, depth, action_form, begin_name, no_next, is_prefix, fields_in, are_declared, begin_is_declared, IsCase, Holds}
-use Rattle.lx_sections.proofs.ActionSteps.{one_action}
+use Rattle.lx_spec.specs.Actions.{Statement, Action, shared, own, IsAction}
+use Rattle.lx_spec.specs.Dictionary.{row_of, all_defined, mentions_of, unreadable_marks, incomplete_marks}
+use Rattle.lx_spec.specs.First.{IsFirst, here, later, HoldsOfNone}
+use Rattle.lx_spec.specs.Graph.{IsMention, Leads, Follow}
+use Rattle.lx_spec.specs.Verdict.{SymbolTable, LeadsUnreadable, LeadsUndefined, LeadsDeep, Case, Cause, prefix_form, prefix_name, reading, undefined, depth, action_form, begin_name, no_next, is_prefix, fields_in, are_declared, begin_is_declared, IsCase, Holds}
+use Rattle.lx_spec.proofs.ActionSteps.{one_action}
 use Rattle.lx_spec.proofs.DecidingActions.{decide_action}
 use Rattle.lx_spec.proofs.Walking.{decide_leads, decide_follow}
 

@@ -4,12 +4,12 @@ use Rattle.std.specs.Prelude.{IfSome}
 use Rattle.std.specs.List.{prefix_len}
 use Rattle.lx_ere.proofs.Deciding.{along}
 use Rattle.lx_rules.specs.Identifiers.{is_word_byte}
-use Rattle.lx_sections.specs.Bytes.{is_blank, begins_with, behind_run}
-use Rattle.lx_sections.specs.Constants.{enclosed_at, behind_quote, closed_byte, closed_constant, constant_at}
-use Rattle.lx_sections.specs.ActionWords.{Word, Piece, ended, passed, word, no_word, sign_of, word_or_none, constant_or_none, behind_comment, passed_or_none, is_no_newline, comment_at, letters_piece, sign_piece, piece_at, AreWords, none, behind_passed, behind_word}
-use Rattle.lx_sections.proofs.EscapeSteps.{LeavesAtMost, either as chosen, behind-escape}
-use Rattle.lx_sections.proofs.Words.{behind-more}
-use Rattle.lx_sections.proofs.WordSteps.{in_passed, in_word, in_none}
+use Rattle.lx_spec.specs.Bytes.{is_blank, begins_with, behind_run}
+use Rattle.lx_spec.specs.Constants.{enclosed_at, behind_quote, closed_byte, closed_constant, constant_at}
+use Rattle.lx_spec.specs.ActionWords.{Word, Piece, ended, passed, word, no_word, sign_of, word_or_none, constant_or_none, behind_comment, passed_or_none, is_no_newline, comment_at, letters_piece, sign_piece, piece_at, AreWords, none, behind_passed, behind_word}
+use Rattle.lx_spec.proofs.EscapeSteps.{LeavesAtMost, either as chosen, behind-escape}
+use Rattle.lx_spec.proofs.Words.{behind-more}
+use Rattle.lx_spec.proofs.WordSteps.{in_passed, in_word, in_none}
 
 -- ---- what stands behind a piece
 

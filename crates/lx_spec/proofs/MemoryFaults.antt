@@ -3,13 +3,13 @@ use Rattle.std.proofs.Common.{◌≡◌, ◌≢◌, ◌∙◌, ℕ, zero, suc, B
 use Rattle.std.specs.List.{list_any}
 use Rattle.std.specs.Cmp.Lexicographic.{pointwise}
 use Rattle.lx_rules.specs.Limits.{max_definitions, max_rules, max_start_conditions}
-use Rattle.lx_sections.specs.Bytes.{lines}
-use Rattle.lx_sections.specs.Faults.{fault, out_of_memory}
-use Rattle.lx_sections.specs.Sections.{RawRule, ParsedSections, Entry, conditions, definition, rule, formless, unclosed, endless, definitions, entries, ◌>>=◌, with_start_condition, with_start_conditions, with_rule, with_entry, with_entries, only_initial}
-use Rattle.lx_sections.specs.Verdict.{Cause, prefix_form, prefix_name, reading, undefined, depth, action_form, begin_name, no_next, code_of}
+use Rattle.lx_spec.specs.Bytes.{lines}
+use Rattle.lx_spec.specs.Faults.{fault, out_of_memory}
+use Rattle.lx_spec.specs.Sections.{RawRule, ParsedSections, Entry, conditions, definition, rule, formless, unclosed, endless, definitions, entries, ◌>>=◌, with_start_condition, with_start_conditions, with_rule, with_entry, with_entries, only_initial}
+use Rattle.lx_spec.specs.Verdict.{Cause, prefix_form, prefix_name, reading, undefined, depth, action_form, begin_name, no_next, code_of}
 use Rattle.lx_spec.specs.Whole.{IsFault, too_long, in_sections, in_rules}
-use Rattle.lx_sections.specs.declared.fault.Code.TheVariants as code
-use Rattle.lx_sections.specs.declared.fault.SpecFault.{SpecFault}
+use Rattle.lx_spec.specs.declared.fault.Code.TheVariants as code
+use Rattle.lx_spec.specs.declared.fault.SpecFault.{SpecFault}
 
 abbrev IsNoMemory : Result ParsedSections SpecFault → Type 0
 IsNoMemory (Ok d) = Unit {0}

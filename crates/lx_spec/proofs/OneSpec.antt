@@ -3,12 +3,12 @@ use Rattle.std.proofs.Common.{◌≡◌, ◌∙◌, ℕ, suc, List, [], ◌∷�
 use Rattle.lx_ere.specs.Regex.{Regex, Reading}
 use Rattle.lx_ere.specs.Pattern.{IsPattern, IsSubstitute}
 use Rattle.lx_rules.specs.Plain.{StartCondition, PlainDefinition, PlainRule, PlainSpec}
-use Rattle.lx_sections.specs.Actions.{Action}
-use Rattle.lx_sections.specs.Sections.{RawDefinition, RawRule}
-use Rattle.lx_sections.specs.Dictionary.{IsTreeOf, AreTrees}
-use Rattle.lx_sections.specs.Outcome.{ResolvedRule, IsResolved, AreResolved, IsReached, AreReached, none, reached, passed, AreSpec, patterns_in}
-use Rattle.lx_sections.specs.Verdict.{SymbolTable}
-use Rattle.lx_sections.proofs.ActionSteps.{one_action}
+use Rattle.lx_spec.specs.Actions.{Action}
+use Rattle.lx_spec.specs.Sections.{RawDefinition, RawRule}
+use Rattle.lx_spec.specs.Dictionary.{IsTreeOf, AreTrees}
+use Rattle.lx_spec.specs.Outcome.{ResolvedRule, IsResolved, AreResolved, IsReached, AreReached, none, reached, passed, AreSpec, patterns_in}
+use Rattle.lx_spec.specs.Verdict.{SymbolTable}
+use Rattle.lx_spec.proofs.ActionSteps.{one_action}
 
 -- The definitions that are reached are listed in one way.
 pub one_reached : (R : ℕ → Type 0) (i : ℕ) (raw_definitions : List RawDefinition) (trees : List (Option Regex)) (ds es : List PlainDefinition) → AreReached R i raw_definitions trees ds → AreReached R i raw_definitions trees es → ds ≡ es

@@ -3,13 +3,13 @@ use Rattle.std.proofs.Common.{◌≡◌, ◌∙◌, ℕ, List, Option, Ok, Err, 
 use Rattle.lx_ere.specs.Regex.{Regex, Reading}
 use Rattle.lx_ere.specs.Pattern.{IsPattern, IsSubstitute}
 use Rattle.lx_rules.specs.Plain.{PlainSpec}
-use Rattle.lx_sections.specs.First.{IsFirst, here, later, HoldsOfNone}
-use Rattle.lx_sections.specs.Sections.{ParsedSections}
-use Rattle.lx_sections.specs.Dictionary.{AreTrees}
-use Rattle.lx_sections.specs.Outcome.{ResolvedRule, AreResolved, AreSpec}
-use Rattle.lx_sections.specs.Verdict.{SymbolTable, symbols_of, Case, Holds, IsFirstFault, cases, fault_of}
+use Rattle.lx_spec.specs.First.{IsFirst, here, later, HoldsOfNone}
+use Rattle.lx_spec.specs.Sections.{ParsedSections}
+use Rattle.lx_spec.specs.Dictionary.{AreTrees}
+use Rattle.lx_spec.specs.Outcome.{ResolvedRule, AreResolved, AreSpec}
+use Rattle.lx_spec.specs.Verdict.{SymbolTable, symbols_of, Case, Holds, IsFirstFault, cases, fault_of}
 use Rattle.lx_spec.specs.Whole.{IsFault, too_long, in_sections, in_rules, IsRead}
-use Rattle.lx_sections.specs.declared.fault.SpecFault.{SpecFault}
+use Rattle.lx_spec.specs.declared.fault.SpecFault.{SpecFault}
 use Rattle.lx_spec.proofs.OneSpec.{one_trees, one_spec}
 
 one-first : {A : Type 0} (P : A → Type 0) (list : List A) (a b : A) → IsFirst P list a → IsFirst P list b → a ≡ b

@@ -5,20 +5,20 @@ use Rattle.lx_ere.specs.Pattern.{IsPattern, IsSubstitute}
 use Rattle.lx_ere.proofs.Deciding.{below_or_not}
 use Rattle.lx_rules.specs.Limits.{max_specification_bytes}
 use Rattle.lx_rules.specs.Plain.{PlainDefinition, PlainSpec}
-use Rattle.lx_sections.specs.Actions.{Action, IsAction}
-use Rattle.lx_sections.specs.Dictionary.{IsTreeOf, AreTrees, is_unreadable, unreadable_marks}
-use Rattle.lx_sections.specs.Faults.{fault}
-use Rattle.lx_sections.specs.First.{IsFirst, HoldsOfNone}
-use Rattle.lx_sections.specs.Graph.{is_marked}
-use Rattle.lx_sections.specs.Outcome.{conditions_of, ResolvedRule, AreResolved, kinds_of, rules_of, IsReached, AreReached, none, reached, passed, patterns_in, AreSpec}
-use Rattle.lx_sections.specs.Sections.{RawDefinition, RawRule, ParsedSections, sections_of}
-use Rattle.lx_sections.specs.Verdict.{SymbolTable, symbols_of, Case, Holds, cases, fault_of}
+use Rattle.lx_spec.specs.Actions.{Action, IsAction}
+use Rattle.lx_spec.specs.Dictionary.{IsTreeOf, AreTrees, is_unreadable, unreadable_marks}
+use Rattle.lx_spec.specs.Faults.{fault}
+use Rattle.lx_spec.specs.First.{IsFirst, HoldsOfNone}
+use Rattle.lx_spec.specs.Graph.{is_marked}
+use Rattle.lx_spec.specs.Outcome.{conditions_of, ResolvedRule, AreResolved, kinds_of, rules_of, IsReached, AreReached, none, reached, passed, patterns_in, AreSpec}
+use Rattle.lx_spec.specs.Sections.{RawDefinition, RawRule, ParsedSections, sections_of}
+use Rattle.lx_spec.specs.Verdict.{SymbolTable, symbols_of, Case, Holds, cases, fault_of}
 use Rattle.lx_spec.specs.Whole.{IsFault, too_long, in_sections, in_rules, IsRead}
-use Rattle.lx_sections.specs.declared.fault.Code.TheVariants as code
-use Rattle.lx_sections.specs.declared.fault.SpecFault.{SpecFault}
+use Rattle.lx_spec.specs.declared.fault.Code.TheVariants as code
+use Rattle.lx_spec.specs.declared.fault.SpecFault.{SpecFault}
 use Rattle.lx_spec.proofs.DecidingActions.{decide_action}
 use Rattle.lx_spec.proofs.DecidingCases.{decide_case, first_or_none}
-use Rattle.lx_sections.proofs.Reached.{reached-readable}
+use Rattle.lx_spec.proofs.Reached.{reached-readable}
 use Rattle.lx_spec.proofs.Walking.{decide_reached}
 
 -- ---- what the substitutes read as

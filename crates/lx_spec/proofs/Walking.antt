@@ -4,11 +4,11 @@ use Rattle.std.specs.Prelude.{IsTrue}
 use native.Mathlib.Decide.{ℕ_discrete}
 use Rattle.lx_ere.specs.Regex.{Regex}
 use Rattle.lx_ere.proofs.Deciding.{along as alike, both, either, decide_true, decide_below, decide_in}
-use Rattle.lx_sections.specs.Sections.{RawDefinition}
-use Rattle.lx_sections.specs.Dictionary.{row_of, mentions_of}
-use Rattle.lx_sections.specs.Graph.{nowhere, IsMention, Leads, itself, along, is_marked, Follow}
-use Rattle.lx_sections.specs.Outcome.{IsReached, named_in, mentioned}
-use Rattle.lx_sections.specs.declared.graph.Mention.{Mention}
+use Rattle.lx_spec.specs.Sections.{RawDefinition}
+use Rattle.lx_spec.specs.Dictionary.{row_of, mentions_of}
+use Rattle.lx_spec.specs.Graph.{nowhere, IsMention, Leads, itself, along, is_marked, Follow}
+use Rattle.lx_spec.specs.Outcome.{IsReached, named_in, mentioned}
+use Rattle.lx_spec.specs.declared.graph.Mention.{Mention}
 
 -- ---- one mention more
 

@@ -7,14 +7,14 @@ use Rattle.std.proofs.lemmas.List.{map_push}
 use Rattle.lx_rules.specs.Limits.{max_definitions, max_rules, max_start_conditions}
 use Rattle.lx_rules.specs.Plain.{StartCondition}
 use Rattle.lx_rules.specs.Invariant.{are_distinct, begins_initial, are_start_conditions}
-use Rattle.lx_sections.specs.Faults.{fault}
-use Rattle.lx_sections.specs.Sections.{RawDefinition, RawRule, ParsedSections, Entry, conditions, definition, rule, formless, unclosed, endless, ◌>>=◌, with_start_condition, with_start_conditions, with_definition, with_rule, with_entry, with_entries, only_initial}
-use Rattle.lx_sections.specs.WellFormed.{are_raw_definitions, AreWellFormed}
-use Rattle.lx_sections.specs.declared.fault.Code.TheVariants as code
-use Rattle.lx_sections.specs.declared.fault.SpecFault.{SpecFault}
-use Rattle.lx_sections.proofs.Conjunctions.{both, left-of, right-of}
-use Rattle.lx_sections.proofs.Words.{list_any-map}
-use Rattle.lx_sections.proofs.Distinct.{distinct-push}
+use Rattle.lx_spec.specs.Faults.{fault}
+use Rattle.lx_spec.specs.Sections.{RawDefinition, RawRule, ParsedSections, Entry, conditions, definition, rule, formless, unclosed, endless, ◌>>=◌, with_start_condition, with_start_conditions, with_definition, with_rule, with_entry, with_entries, only_initial}
+use Rattle.lx_spec.specs.WellFormed.{are_raw_definitions, AreWellFormed}
+use Rattle.lx_spec.specs.declared.fault.Code.TheVariants as code
+use Rattle.lx_spec.specs.declared.fault.SpecFault.{SpecFault}
+use Rattle.lx_spec.proofs.Conjunctions.{both, left-of, right-of}
+use Rattle.lx_spec.proofs.Words.{list_any-map}
+use Rattle.lx_spec.proofs.Distinct.{distinct-push}
 
 begins-push : (start_conditions : List StartCondition) (s : StartCondition) → IsTrue (begins_initial start_conditions) → IsTrue (begins_initial (start_conditions ++ s ∷ []))
 begins-push [] s h = cc

@@ -1,1 +1,17 @@
+pub mod ActionWords
+pub mod Actions
+pub mod Blocks
+pub mod Bytes
+pub mod Constants
+pub mod Dictionary
+pub mod Faults
+pub mod First
+pub mod Graph
+pub mod Lines
+pub mod Outcome
+pub mod RuleLines
+pub mod Sections
+pub mod Verdict
+pub mod WellFormed
 pub mod Whole
+pub mod views

@@ -3,14 +3,14 @@ use Rattle.std.specs.Prelude.{◌≡◌, ℕ, ◌<◌, ◌≤◌, List, length, 
 use Rattle.lx_ere.specs.Regex.{Regex}
 use Rattle.lx_rules.specs.Limits.{max_specification_bytes}
 use Rattle.lx_rules.specs.Plain.{PlainSpec}
-use Rattle.lx_sections.specs.First.{HoldsOfNone}
-use Rattle.lx_sections.specs.Faults.{fault}
-use Rattle.lx_sections.specs.Sections.{ParsedSections, sections_of}
-use Rattle.lx_sections.specs.Dictionary.{AreTrees}
-use Rattle.lx_sections.specs.Verdict.{symbols_of, Holds, IsFirstFault, cases}
-use Rattle.lx_sections.specs.Outcome.{ResolvedRule, AreResolved, AreSpec}
-use Rattle.lx_sections.specs.declared.fault.Code.TheVariants as code
-use Rattle.lx_sections.specs.declared.fault.SpecFault.{SpecFault}
+use Rattle.lx_spec.specs.First.{HoldsOfNone}
+use Rattle.lx_spec.specs.Faults.{fault}
+use Rattle.lx_spec.specs.Sections.{ParsedSections, sections_of}
+use Rattle.lx_spec.specs.Dictionary.{AreTrees}
+use Rattle.lx_spec.specs.Verdict.{symbols_of, Holds, IsFirstFault, cases}
+use Rattle.lx_spec.specs.Outcome.{ResolvedRule, AreResolved, AreSpec}
+use Rattle.lx_spec.specs.declared.fault.Code.TheVariants as code
+use Rattle.lx_spec.specs.declared.fault.SpecFault.{SpecFault}
 
 -- The text is too long; or a section has the fault, the first in the order of the text; or a rule has it, the first rule by rule.
 pub data IsFault (text : List ℕ) : SpecFault → Type 0 where

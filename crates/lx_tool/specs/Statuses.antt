@@ -5,8 +5,8 @@ use Rattle.clap.specs.declared.error.kind.ErrorKind.TheVariants as kind
 use Rattle.clap.specs.Words.{kind_of}
 use Rattle.lx_auto.specs.declared.fault.BuildFault.{BuildFault}
 use Rattle.lx_auto.specs.declared.fault.BuildFault.TheVariants as build
-use Rattle.lx_sections.specs.declared.fault.Code.TheVariants as code
-use Rattle.lx_sections.specs.declared.fault.SpecFault.{SpecFault}
+use Rattle.lx_spec.specs.declared.fault.Code.TheVariants as code
+use Rattle.lx_spec.specs.declared.fault.SpecFault.{SpecFault}
 use Rattle.lx_tables.specs.declared.fault.TableFault.{TableFault}
 use Rattle.lx_tables.specs.declared.fault.TableFault.TheVariants as table
 use Rattle.lx_workers.specs.declared.run_fault.RunFault.{RunFault}

@@ -2,7 +2,7 @@
 use Rattle.std.specs.Prelude.{◌≡◌, ◌≢◌, ℕ, ⊤, List}
 use Rattle.lx_rules.specs.Plain.{PlainSpec}
 use Rattle.lx_spec.specs.Whole.{IsFault, IsRead}
-use Rattle.lx_sections.specs.declared.fault.Code.TheVariants as code
+use Rattle.lx_spec.specs.declared.fault.Code.TheVariants as code
 use Rattle.lx_auto.specs.declared.fault.BuildFault.{BuildFault}
 use Rattle.lx_auto.specs.declared.fault.BuildFault.TheVariants as build
 use Rattle.lx_auto.specs.TooLarge.{HasTooManyPositions, HasTooManySets}

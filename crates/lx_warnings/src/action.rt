@@ -4,8 +4,8 @@ use crate::kinds::{KindSet, WarningKind};
 use crate::suspects::{Suspect, push_part};
 use lx_diagnose::Span;
 use lx_diagnose::words::words_of;
-use lx_sections::action::{Statement, Turn, turn_at};
-use lx_sections::word::Word;
+use lx_spec::action::{Statement, Turn, turn_at};
+use lx_spec::word::Word;
 use std::alloc::{AllocError, Global};
 
 // The number of the first word of a statement that does anything and stands behind a return, where there is one.

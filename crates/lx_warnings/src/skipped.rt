@@ -6,8 +6,8 @@ use crate::suspects::{Suspect, push_part, push_suspect, suspect_at};
 use lx_diagnose::places::between;
 use lx_diagnose::scan::{behind_blanks, part};
 use lx_ere::{EreFault, read_pattern};
-use lx_sections::action::{Action, Statement, read_action};
-use lx_sections::rule_line::{Prefix, RuleLine, rule_line_of};
+use lx_spec::action::{Action, Statement, read_action};
+use lx_spec::rule_line::{Prefix, RuleLine, rule_line_of};
 use std::alloc::{AllocError, Global};
 
 // What is said of a line that a blank begins, where the blank may be of the pattern.

@@ -1,5 +1,5 @@
 use Rattle.std.proofs.Common.{◌≡◌, drop, map}
-use Rattle.lx_sections.specs.views.Sections.{raw_rule_view}
+use Rattle.lx_spec.specs.views.Sections.{raw_rule_view}
 use Rattle.lx_recovery.specs.Without.{end_of_rule}
 use Rattle.lx_recovery.proofs.without.end_of_rule.Given as goal
 

@@ -1,5 +1,5 @@
 use Rattle.std.proofs.Common.{◌≡◌, ◌+◌, ◌≤◌, length}
-use Rattle.lx_sections.specs.Bytes.{lines}
+use Rattle.lx_spec.specs.Bytes.{lines}
 use Rattle.lx_recovery.specs.Without.{line_numbered}
 use Rattle.lx_recovery.proofs.without.line_numbered.Given as goal
 

@@ -1,12 +1,12 @@
 use Rattle.std.proofs.Common.{map, ap}
 use Rattle.std.proofs.lemmas.Result.{err_from_is_err_and}
-use Rattle.lx_sections.specs.views.Sections.{sections_view}
-use Rattle.lx_sections.specs.views.ResolvedRules.{resolved_view}
-use Rattle.lx_sections.specs.views.Trees.{trees_view}
+use Rattle.lx_spec.specs.views.Sections.{sections_view}
+use Rattle.lx_spec.specs.views.ResolvedRules.{resolved_view}
+use Rattle.lx_spec.specs.views.Trees.{trees_view}
 use Rattle.lx_spec.specs.Whole.{too_long, in_sections, in_rules}
-use Rattle.lx_sections.specs.Bytes.{lines}
-use Rattle.lx_sections.specs.Sections.{only_initial, entries, definitions}
-use Rattle.lx_sections.specs.declared.fault.SpecFault.{SpecFault}
+use Rattle.lx_spec.specs.Bytes.{lines}
+use Rattle.lx_spec.specs.Sections.{only_initial, entries, definitions}
+use Rattle.lx_spec.specs.declared.fault.SpecFault.{SpecFault}
 use Rattle.lx_spec.proofs.MemoryFaults.{memory-line}
 use Rattle.lx_spec.proofs.WellFormed.{entries-kept, first-kept}
 use Rattle.lx_spec.proofs.read.read_spec.Goals as goal

@@ -1,9 +1,9 @@
 use Rattle.std.proofs.Common.{ℕ, subst}
 use Rattle.std.proofs.lemmas.List.{length-map}
-use Rattle.lx_sections.specs.Graph.{AreBelow}
-use Rattle.lx_sections.specs.views.Trees.{tree_view}
-use Rattle.lx_sections.specs.views.Dictionaries.{dictionary_view}
-use Rattle.lx_sections.proofs.Below.{dictionary-below}
+use Rattle.lx_spec.specs.Graph.{AreBelow}
+use Rattle.lx_spec.specs.views.Trees.{tree_view}
+use Rattle.lx_spec.specs.views.Dictionaries.{dictionary_view}
+use Rattle.lx_spec.proofs.Below.{dictionary-below}
 use Rattle.lx_spec.proofs.read.resolve_sections.Goals as goal
 
 pub definition_faults_of-requires-clause-below : goal.definition_faults_of-requires-clause-below

@@ -1,7 +1,0 @@
-use Rattle.std.proofs.Common.{◌≡◌, map, drop}
-use Rattle.lx_sections.specs.views.Actions.{statement_view}
-use Rattle.lx_sections.specs.Outcome as plain
-use Rattle.lx_sections.proofs.build.returned_by.Given as goal
-
-abbrev pub invariant-loop-statement : goal.invariant-loop-statement
-invariant-loop-statement l = plain.returned_by (map statement_view (drop l.statement-index l.statements)) ≡ plain.returned_by (map statement_view l.statements)

@@ -1,7 +1,0 @@
-use Rattle.std.proofs.Common.{◌≡◌, take}
-use Rattle.lx_sections.specs.Dictionary.{unreadable_marks}
-use Rattle.lx_sections.specs.views.Trees.{trees_view}
-use Rattle.lx_sections.proofs.definition_faults.unreadable_of.Given as goal
-
-abbrev pub invariant-loop-tree : goal.invariant-loop-tree
-invariant-loop-tree l = l.marks.items ≡ unreadable_marks (trees_view (take l.tree-index l.trees))

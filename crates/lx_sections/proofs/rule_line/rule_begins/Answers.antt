@@ -1,7 +1,0 @@
-use Rattle.std.proofs.Common.{◌∙◌, ℕ, ap}
-use Rattle.lx_sections.specs.RuleLines as plain
-use Rattle.lx_sections.specs.views.RuleLines.{prefix_view}
-use Rattle.lx_sections.proofs.rule_line.rule_begins.Goals as goal
-
-pub returns : goal.returns
-returns c = c.rule_split.ensures ∙ ap (λ (n : ℕ). plain.rule_split n (prefix_view c.args.prefix) c.args.text.now) c.pattern_end-n.ensures.value

@@ -1,9 +1,0 @@
--- What rules say, in the code, without where it lies in memory.
-use Rattle.std.specs.Option.{option_map}
-use Rattle.lx_ere.specs.Regex.{reading_of}
-use Rattle.lx_sections.specs.Outcome.{ResolvedRule}
-use Rattle.lx_sections.specs.views.Actions.{action_view}
-use Rattle.lx_sections.specs.declared.resolved_rule.ResolvedRule.{ResolvedRule as CodeRule}
-
-abbrev pub resolved_view : CodeRule → ResolvedRule
-resolved_view r = record { conditions = option_map (λ v. v.items) r.conditions; reading = reading_of r.pattern; action = action_view r.action }

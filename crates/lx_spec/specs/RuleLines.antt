@@ -1,0 +1,48 @@
+-- A mirror of the reader of lines: what a line of the second section says by itself (XCU `lex`, "Rules in lex"), by the first form that fits it. Where its pattern ends is
+-- what the grammar says (a law, `patterns_end`).
+use Rattle.std.specs.Prelude.{ℕ, Bool, not, nat_eq, if◌then◌else◌, List, [], ◌∷◌, take, drop}
+use Rattle.lx_ere.specs.PatternEnd.{pattern_end}
+use Rattle.lx_spec.specs.Bytes.{is_blank, begins_with, run, behind_run}
+
+-- what stands before a pattern: nothing, a `<` with no `>` on its line, or what `<` and `>` enclose
+pub data Prefix : Type 0 where
+  absent : Prefix
+  unclosed : Prefix
+  listed : (text : List ℕ) → Prefix
+
+pub data RuleLine : Type 0 where
+  -- empty or code
+  skipped : RuleLine
+  opens_group : RuleLine
+  rules_end : RuleLine
+  -- a rule begins, and its action with this text
+  begins_rule : (prefix : Prefix) (pattern action : List ℕ) → RuleLine
+
+abbrev pub is_inside : ℕ → Bool
+is_inside c = not (nat_eq c 62)
+
+-- what `<` encloses, and the text behind its `>`
+abbrev pub closed_prefix : List ℕ → List ℕ → Prefix × List ℕ
+closed_prefix names [] = (unclosed, [])
+closed_prefix names (c ∷ rest) = (listed names, rest)
+
+-- the prefix, and the text behind it
+abbrev pub split_prefix : List ℕ → Prefix × List ℕ
+split_prefix [] = (absent, [])
+split_prefix (c ∷ text) = if nat_eq c 60 then closed_prefix (run is_inside text) (behind_run is_inside text) else (absent, c ∷ text)
+
+-- a rule's line behind its prefix: a pattern of n bytes, and behind blanks the action
+abbrev pub rule_split : ℕ → Prefix → List ℕ → RuleLine
+rule_split n prefix text = begins_rule prefix (take n text) (behind_run is_blank (drop n text))
+
+abbrev pub rule_begins : Prefix → List ℕ → RuleLine
+rule_begins prefix text = rule_split (pattern_end text) prefix text
+
+-- the first form that fits the line
+abbrev pub rule_line_of : List ℕ → RuleLine
+rule_line_of [] = skipped
+rule_line_of (c ∷ text) =
+    if is_blank c then skipped
+    else if begins_with 37 123 (c ∷ text) then opens_group
+    else if begins_with 37 37 (c ∷ text) then rules_end
+    else rule_begins (split_prefix (c ∷ text)).0 (split_prefix (c ∷ text)).1

@@ -1,0 +1,170 @@
+//! The words of an action (XCU `lex`, "Actions in lex").
+
+ghost use Rattle.std.specs.Prelude.{◌≡◌, ◌+◌, ◌<◌, ◌≤◌, length, IfSome, IfOk, MatchOption, List};
+ghost use Rattle.std.specs.List.{prefix_len};
+ghost use Rattle.std.specs.Option.{option_map};
+ghost use Rattle.lx_rules.specs.Identifiers.{is_word_byte};
+ghost use Rattle.lx_spec.specs.ActionWords as plain;
+ghost use Rattle.lx_spec.specs.ActionWords.{AreWords};
+ghost use Rattle.lx_spec.specs.views.Words.{word_view, words_view};
+ghost use Rattle.lx_spec.specs.views.Pieces.{piece_view, LeavesLess};
+
+use crate::bytes::{begins_with, is_blank, word_len};
+use crate::constant::constant_at;
+use lx_rules::identifier::is_word_byte;
+use std::alloc::{AllocError, Global};
+
+/// A word of an action.
+#[derive(Clone, Copy)]
+pub enum Word<'a> {
+    /// A longest run of letters, digits and `_`.
+    Letters(&'a [u8]),
+    /// A character constant, by its byte.
+    Byte(u8),
+    /// `|`
+    Bar,
+    /// `;`
+    Semicolon,
+    /// `{`
+    OpenBrace,
+    /// `}`
+    CloseBrace,
+    /// `(`
+    OpenGroup,
+    /// `)`
+    CloseGroup,
+}
+
+/// What stands at the front of a text.
+#[derive(Drop)]
+pub enum Piece<'a> {
+    /// Nothing.
+    Ended,
+    /// A blank, a line's end or a comment, and this text behind it.
+    Passed(&'a [u8]),
+    /// A word, and this text behind it.
+    Found(Word<'a>, &'a [u8]),
+    /// No word of an action.
+    NoWord,
+}
+
+fn sign_of<'a>(c: u8) -> Option<Word<'a>>
+    ensures { option_map word_view result ≡ plain.sign_of c }
+{
+    match c {
+        b'|' => Some(Word::Bar),
+        b';' => Some(Word::Semicolon),
+        b'{' => Some(Word::OpenBrace),
+        b'}' => Some(Word::CloseBrace),
+        b'(' => Some(Word::OpenGroup),
+        b')' => Some(Word::CloseGroup),
+        _ => None,
+    }
+}
+
+// The text behind the first `*/`.
+fn behind_comment(text: &[u8]) -> Option<&[u8]>
+    ensures value { option_map (λ r. r.now) result ≡ plain.behind_comment text.now }
+    ensures less { IfSome result (λ r. length r.now ≤ length text.now) }
+{
+    let mut rest = text;
+    while let Some((_, behind)) = rest.split_first() {
+        if begins_with(b'*', b'/', rest) {
+            return Some(&rest[2..]);
+        }
+        rest = behind;
+    }
+    None
+}
+
+fn line_len(text: &[u8]) -> usize
+    ensures value { result ≡ prefix_len plain.is_no_newline text.now }
+    ensures within { result ≤ length text.now }
+{
+    text.iter().take_while(|c| **c != b'\n').count()
+}
+
+// A comment over lines, from behind its `/` on.
+fn comment_at(text: &[u8]) -> Piece<'_>
+    ensures value { piece_view result ≡ plain.comment_at text.now }
+    ensures less { LeavesLess result (length text.now + 1) }
+{
+    let Some((_, rest)) = text.split_first() else {
+        return Piece::NoWord;
+    };
+    match behind_comment(rest) {
+        Some(behind) => Piece::Passed(behind),
+        None => Piece::NoWord,
+    }
+}
+
+fn letters_piece(text: &[u8]) -> Piece<'_>
+    requires { 0 < prefix_len is_word_byte text.now }
+    ensures value { piece_view result ≡ plain.letters_piece text.now }
+    ensures less { LeavesLess result (length text.now) }
+{
+    let n = word_len(text);
+    Piece::Found(Word::Letters(&text[..n]), &text[n..])
+}
+
+// The piece that is one byte, or a constant from behind its first byte on.
+fn sign_piece(c: u8, text: &[u8]) -> Piece<'_>
+    ensures value { piece_view result ≡ plain.sign_piece c text.now }
+    ensures less { LeavesLess result (length text.now + 1) }
+{
+    if c == b'\'' {
+        match constant_at(text) {
+            Some((byte, rest)) => Piece::Found(Word::Byte(byte), rest),
+            None => Piece::NoWord,
+        }
+    } else {
+        match sign_of(c) {
+            Some(word) => Piece::Found(word, text),
+            None => Piece::NoWord,
+        }
+    }
+}
+
+/// The first form that fits the front of the text.
+pub fn piece_at(text: &[u8]) -> Piece<'_>
+    ensures value { piece_view result ≡ plain.piece_at text.now }
+    ensures less { LeavesLess result (length text.now) }
+{
+    let Some((c, rest)) = text.split_first() else {
+        return Piece::Ended;
+    };
+    let c = *c;
+    if is_blank(c) || c == b'\n' {
+        Piece::Passed(rest)
+    } else if begins_with(b'/', b'*', text) {
+        comment_at(rest)
+    } else if begins_with(b'/', b'/', text) {
+        Piece::Passed(&rest[line_len(rest)..])
+    } else if is_word_byte(c) {
+        letters_piece(text)
+    } else {
+        sign_piece(c, rest)
+    }
+}
+
+/// The words of an action, one after the other; `None` where the text isn't words.
+pub(crate) fn read_words<'a>(
+    alloc: Global,
+    text: &'a [u8],
+) -> Result<Option<Vec<Word<'a>>>, AllocError>
+    ensures { IfOk result (λ o. MatchOption o ((ws : List plain.Word) → AreWords text.now ws → ⊥) (λ v. AreWords text.now (words_view v.items))) }
+{
+    let mut words = Vec::new(alloc);
+    let mut rest = text;
+    'pieces: loop {
+        match piece_at(rest) {
+            Piece::Ended => return Ok(Some(words)),
+            Piece::Passed(behind) => rest = behind,
+            Piece::Found(word, behind) => {
+                words.push(word)?;
+                rest = behind;
+            }
+            Piece::NoWord => return Ok(None),
+        }
+    }
+}
