@@ -1,7 +1,10 @@
-pub mod RowMajor
-pub mod EncodedLists
-pub mod ClassSteps
 pub mod ClassRows
+pub mod ClassSteps
+pub mod EncodedLists
+pub mod Meeting
 pub mod Members
+pub mod Reordered
+pub mod RowMajor
+pub mod Rows
 pub mod SameAnswers
 pub mod SameStates

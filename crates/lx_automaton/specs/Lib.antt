@@ -1,6 +1,7 @@
 pub mod Automata
-pub mod EncodedOptions
 pub mod Classing
+pub mod EncodedOptions
 pub mod Equivalence
 pub mod Leading
 pub mod Meaning
+pub mod Numbered

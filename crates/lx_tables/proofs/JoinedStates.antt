@@ -15,7 +15,7 @@ use Rattle.lx_table_texts.specs.Model.{Table, IsTable, rule_at}
 use Rattle.lx_tables.specs.declared.joined.JoinedState.{JoinedState}
 use Rattle.lx_tables.specs.declared.joined.Transition.{Transition}
 use Rattle.lx_automaton.proofs.RowMajor.{in_row}
-use Rattle.lx_state_order.proofs.Rows.{same_row}
+use Rattle.lx_automaton.proofs.Rows.{same_row}
 
 -- ---- states
 -- a target is a state

@@ -8,9 +8,9 @@ use Rattle.lx_automaton.specs.Leading.{AreAllLedTo}
 use Rattle.lx_automaton.specs.Meaning.{IsAutomatonOf}
 use Rattle.lx_automaton.specs.EncodedOptions.{machine_of}
 use Rattle.lx_table_texts.specs.Model.{Table, IsTable, AreTablesOf, table_rule}
-use Rattle.lx_state_order.specs.Numbered.{AreAllMet, AreStarts, AreAccepted, AreRows}
+use Rattle.lx_automaton.specs.Numbered.{AreAllMet, AreStarts, AreAccepted, AreRows}
 use Rattle.lx_tables.proofs.Kept.{table_kept}
-use Rattle.lx_state_order.proofs.Reordered.{reordered_machine, reordered_classes, reordered_automaton, reordered_alike, reordered_led, accepts_below}
+use Rattle.lx_automaton.proofs.Reordered.{reordered_machine, reordered_classes, reordered_automaton, reordered_alike, reordered_led, accepts_below}
 
 module _ (m : Machine) (states encoded_options : List ℕ) (starts : List (ℕ × ℕ)) (accepted targets : List ℕ) (rules : ℕ)
     (is : IsMachine m) (has : HasByteClasses m) (all : AreAllMet states encoded_options) (long : length encoded_options ≡ state_count m)

@@ -12,7 +12,7 @@ use crate::tables::Tables;
 use lx_automaton::Automaton;
 use lx_rules::spec::Spec;
 use lx_rules::well_formed::specs_are_well_formed;
-use lx_state_order::{accepted_of, classes_of, rows_of, starts_of, state_order_of};
+use lx_automaton::{accepted_of, classes_of, rows_of, starts_of, state_order_of};
 use std::alloc::{AllocError, Global};
 
 impl Tables {

@@ -1,3 +1,0 @@
-pub mod Meeting
-pub mod Reordered
-pub mod Rows

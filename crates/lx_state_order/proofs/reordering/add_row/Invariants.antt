@@ -1,6 +1,0 @@
-use Rattle.std.proofs.Common.{◌+◌, ◌*◌}
-use Rattle.lx_state_order.specs.Numbered.{AreRows}
-use Rattle.lx_state_order.proofs.reordering.add_row.Given as goal
-
-abbrev pub invariant-loop-class : goal.invariant-loop-class
-invariant-loop-class l = AreRows l.automaton l.state_order.states.items l.state_order.encoded_options.items l.targets.items (l.place * l.automaton.width + l.class)
