@@ -42,4 +42,4 @@ pub use crate::building::build;
 pub use crate::fault::BuildFault;
 pub use crate::spec_positions::count_positions;
 pub use lx_automaton::{Automaton, State};
-pub use lx_merge::merge;
+pub use lx_minimize::merge;

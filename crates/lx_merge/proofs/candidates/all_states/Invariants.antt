@@ -1,5 +1,0 @@
-use Rattle.lx_merge.specs.Sources.{AreStatesBelow}
-use Rattle.lx_merge.proofs.candidates.all_states.Given as goal
-
-abbrev pub invariant-loop-state : goal.invariant-loop-state
-invariant-loop-state l = AreStatesBelow l.state l.states.items

@@ -1,5 +1,0 @@
-pub mod BlockBounds
-pub mod Sources
-pub mod Quotients
-pub mod Simulations
-pub mod SplitMeasure

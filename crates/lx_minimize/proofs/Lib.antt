@@ -1,0 +1,13 @@
+pub mod Completing
+pub mod Containing
+pub mod Labelled
+pub mod Lanes
+pub mod LedBlocks
+pub mod Merged
+pub mod MovedStates
+pub mod NewBlocks
+pub mod PartitionSteps
+pub mod QuotientSteps
+pub mod Quotients
+pub mod Simulating
+pub mod Splits

@@ -1,0 +1,45 @@
+//! Automata in which no step is missing.
+
+ghost use Rattle.std.specs.Prelude.{◌≡◌, ◌<◌, ◌+◌, ◌*◌, ◌++◌, ◌∷◌, IfOk, length, replicate};
+ghost use Rattle.lx_minimize.specs.Completion.{total, step_of, label_of, IsComplete, IsCompletion};
+
+use lx_automaton::Automaton;
+use std::alloc::{AllocError, Global};
+
+/// An automaton that steps on every class from every state: state 0 stands for a missing step, s + 1 for the state s.
+#[derive(Drop)]
+pub struct Complete {
+    pub width: usize,
+    /// Row by row: the target of state s on class c is at s * width + c.
+    pub next: Vec<u16>,
+    /// Of each state 0, or one more than the rule that it accepts.
+    pub labels: Vec<u16>,
+}
+
+/// Where a state steps on a class.
+#[inline]
+pub fn step(m: &Complete, state: usize, class: usize) -> usize
+    requires complete { IsComplete m.now }
+    requires state { state < total m.now }
+    requires class { class < m.now.width }
+    ensures target { result ≡ step_of m.now state class }
+    ensures closed { result < total m.now }
+{
+    m.next[state * m.width + class] as usize
+}
+
+/// The completion of an automaton.
+pub fn completion_of(alloc: Global, automaton: &Automaton) -> Result<Complete, AllocError>
+    ensures { IfOk result (λ m. IsCompletion automaton.now m) }
+{
+    let width = automaton.classes() as usize;
+    let mut next = vec![in alloc; 0; width]?;
+    next.extend_from_slice(automaton.encoded_targets())?;
+    let mut labels = vec![in alloc; 0; 1]?;
+    labels.extend_from_slice(automaton.encoded_rules())?;
+    Ok(Complete {
+        width,
+        next,
+        labels,
+    })
+}

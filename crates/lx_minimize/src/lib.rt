@@ -1,0 +1,18 @@
+//! Automata whose states are merged to the fewest (Moore 1956, Hopcroft 1971). What makes an automaton of a specification stands above.
+#![tactic(auto)]
+
+mod bounds;
+mod candidates;
+mod complete;
+mod members;
+pub mod merging;
+mod moving;
+mod partition;
+mod predecessors;
+mod quotient;
+mod split;
+mod worklist;
+
+pub use complete::{Complete, completion_of, step};
+pub use crate::merging::merge;
+pub use partition::{Partition, by_labels};

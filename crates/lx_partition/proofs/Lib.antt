@@ -1,2 +1,0 @@
-pub mod Completing
-pub mod Labelled
