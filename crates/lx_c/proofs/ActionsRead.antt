@@ -11,7 +11,7 @@ use Rattle.lx_rules.specs.Invariant.{are_steps, is_kind}
 use Rattle.lx_rules.specs.declared.rule.Kind.TheVariants.{Name, Number}
 use Rattle.lx_rules.specs.declared.rule.Step.{Step}
 use Rattle.lx_rules.specs.declared.rule.Step.TheVariants.{Echo, Begin, Return}
-use Rattle.lx_table_texts.specs.Model.{TableRule, Table, IsTable, rule_at}
+use Rattle.lx_tables.specs.Model.{TableRule, Table, IsTable, rule_at}
 use Rattle.lx_c.specs.Options.{Options, has_file}
 use Rattle.lx_numbering.specs.Numbers.{above, first_kind, returned_by}
 use Rattle.lx_c.specs.Actions.{step_word, step_entry, action_word, action_entry, line_end_entry}

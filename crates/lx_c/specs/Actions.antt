@@ -5,8 +5,8 @@ use Rattle.std.specs.List.{flat_map, list_any, range_with_len}
 use Rattle.lx_rules.specs.declared.rule.Kind.TheVariants.{Name, Number}
 use Rattle.lx_rules.specs.declared.rule.Step.{Step}
 use Rattle.lx_rules.specs.declared.rule.Step.TheVariants.{Echo, Begin, Return}
-use Rattle.lx_table_texts.specs.Texts.{number}
-use Rattle.lx_table_texts.specs.Model.{Table, rule_at, kind_at}
+use Rattle.lx_tables.specs.Texts.{number}
+use Rattle.lx_tables.specs.Model.{Table, rule_at, kind_at}
 use Rattle.lx_c.specs.Options.{Options, has_file}
 use Rattle.lx_numbering.specs.Numbers.{first_kind}
 use Rattle.lx_c.specs.Templates.{filled, number_then}

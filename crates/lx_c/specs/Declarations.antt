@@ -1,8 +1,8 @@
 -- The declarations: kinds, conditions, types and functions, as a header of their own and at the head of each scanner.
 use Rattle.std.specs.Prelude.{ℕ, ◌+◌, if◌then◌else◌, List, [], ◌++◌, Option, Some, None, length, codes, slice_index_or}
 use Rattle.std.specs.List.{flat_map, range_with_len}
-use Rattle.lx_table_texts.specs.Texts.{number}
-use Rattle.lx_table_texts.specs.Model.{Table, kind_at}
+use Rattle.lx_tables.specs.Texts.{number}
+use Rattle.lx_tables.specs.Model.{Table, kind_at}
 use Rattle.lx_c.specs.Options.{Options, has_file}
 use Rattle.lx_c.specs.Kinds.{name_in_c}
 use Rattle.lx_numbering.specs.Numbers.{first_kind}

@@ -2,7 +2,7 @@
 use Rattle.std.specs.Prelude.{ℕ, ◌+◌, ◌-◌, ◌==◌, nat_eq, nat_lt, ◌&&◌, ◌||◌, Bool, false, if◌then◌else◌, List, [], ◌∷◌, ◌++◌, Option, Some, None, length, codes, slice_index}
 use Rattle.std.specs.List.{flat_map, starts_with}
 use Rattle.lx_automaton.specs.Automata.{state_count}
-use Rattle.lx_table_texts.specs.Model.{Table}
+use Rattle.lx_tables.specs.Model.{Table}
 use Rattle.lx_numbering.specs.Numbers.{first_kind}
 use Rattle.lx_c.specs.Options.{Options, is_small_letter, has_file, max_direct_states}
 use Rattle.lx_c.specs.declared.fault.KindFault.{KindFault}

@@ -6,7 +6,7 @@ use Rattle.lx_automaton.specs.Automata.{Machine, IsMachine, state_count, start_o
 use Rattle.lx_rules.specs.declared.rule.Kind.TheVariants.{Name, Number}
 use Rattle.lx_rules.specs.declared.rule.Step.{Step}
 use Rattle.lx_rules.specs.declared.rule.Step.TheVariants.{Echo, Begin, Return}
-use Rattle.lx_table_texts.specs.Model.{Table, rule_at}
+use Rattle.lx_tables.specs.Model.{Table, rule_at}
 use Rattle.lx_c.specs.Options.{Options}
 use Rattle.lx_numbering.specs.Numbers.{first_kind}
 use Rattle.lx_c.specs.Actions.{step_entry, action_entries, line_end_entries}

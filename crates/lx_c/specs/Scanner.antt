@@ -1,6 +1,6 @@
 -- A scanner in C (C99, and C++98 too) as a text: a function of tables and options. It has one of two forms: rows by classes of bytes, or code for each state.
 use Rattle.std.specs.Prelude.{ℕ, if◌then◌else◌, List, ◌++◌}
-use Rattle.lx_table_texts.specs.Model.{Table}
+use Rattle.lx_tables.specs.Model.{Table}
 use Rattle.lx_c.specs.Options.{Options, has_file}
 use Rattle.lx_numbering.specs.Numbers.{first_kind}
 use Rattle.lx_c.specs.Templates.{filled}

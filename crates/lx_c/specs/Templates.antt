@@ -1,7 +1,7 @@
 -- Constant text with the prefix put in, and numbers.
 use Rattle.std.specs.Prelude.{ℕ, ◌==◌, if◌then◌else◌, List, [], ◌∷◌, ◌++◌}
 use Rattle.std.specs.List.{flat_map}
-use Rattle.lx_table_texts.specs.Texts.{number}
+use Rattle.lx_tables.specs.Texts.{number}
 
 -- the prefix for each `@`, and every other byte as it is
 abbrev pub filled_byte : List ℕ → ℕ → List ℕ

@@ -4,9 +4,9 @@ ghost use Rattle.lx_c.specs.Declarations.{condition_line, conditions_text, first
 ghost use Rattle.lx_c.specs.Kinds.{capital, capitals, name_in_c};
 ghost use Rattle.lx_c.specs.Templates.{filled, number_then};
 ghost use Rattle.lx_c.specs.declared.templates.TheConstants.{FIRST_KIND};
-ghost use Rattle.lx_table_texts.specs.Model.{kind_at};
+ghost use Rattle.lx_tables.specs.Model.{kind_at};
 ghost use Rattle.lx_tables.specs.Output.{Wrote, WrotePrefix};
-ghost use Rattle.lx_table_texts.specs.Texts.{number};
+ghost use Rattle.lx_tables.specs.Texts.{number};
 ghost use Rattle.std.specs.List.{flat_map, range_with_len};
 ghost use Rattle.std.specs.Prelude.{OnErr, OnOk, [], codes, length, option_map, ◌++◌, ◌+◌, ◌<◌, ◌∷◌, ◌≡◌, ◌≤◌};
 ghost use Rattle.lx_numbering.specs.Numbers.{max_first_kind};

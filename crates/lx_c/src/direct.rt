@@ -8,7 +8,7 @@ ghost use Rattle.lx_c.specs.Rows.{entry_text};
 ghost use Rattle.lx_c.specs.Templates.{number_then};
 ghost use Rattle.lx_c.specs.declared.direct_templates.TheConstants.{FIRST, GOTO_RULE_OF, GOTO_STATE, MATCHED, OTHER, RULE_LABEL};
 ghost use Rattle.lx_tables.specs.Output.{Wrote, WrotePrefix};
-ghost use Rattle.lx_table_texts.specs.Texts.{number};
+ghost use Rattle.lx_tables.specs.Texts.{number};
 ghost use Rattle.std.specs.List.{flat_map, list_any, range_with_len};
 ghost use Rattle.std.specs.Prelude.{IfSome, None, OnErr, OnOk, Some, codes, length, slice_index, slice_index_or, not, ◌==◌, ◌++◌, ◌+◌, ◌/◌, ◌<◌, ◌≡◌, ◌≤◌};
 

@@ -3,7 +3,7 @@
 ghost use Rattle.std.specs.Prelude.{◌++◌, OnOk, OnErr};
 ghost use Rattle.std.specs.List.{flat_map};
 ghost use Rattle.lx_tables.specs.Output.{Wrote, WrotePrefix};
-ghost use Rattle.lx_table_texts.specs.Texts.{number};
+ghost use Rattle.lx_tables.specs.Texts.{number};
 ghost use Rattle.lx_c.specs.Templates.{number_then};
 
 use itoa::Buffer;

@@ -2,7 +2,7 @@
 use Rattle.std.proofs.Common.{◌↔◌, ℕ, List, Bool, length, ◌∙◌, ap}
 use Rattle.std.proofs.lemmas.List.{length-map}
 use Rattle.lx_rules.specs.Plain.{PlainSpec}
-use Rattle.lx_table_texts.specs.Model.{AreTablesOf, Table, table_rule}
+use Rattle.lx_tables.specs.Model.{AreTablesOf, Table, table_rule}
 use Rattle.lx_reach.specs.Chosen.{AreFlagsOf, IsEverChosen, IsEverChosenBy}
 use Rattle.lx_reach.specs.Entered.{IsEntered}
 

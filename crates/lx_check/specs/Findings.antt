@@ -5,7 +5,7 @@ use Rattle.lx_automaton.specs.Automata.{state_count}
 use Rattle.lx_rules.specs.Plain.{PlainSpec}
 use Rattle.lx_rules.specs.views.Specs.{spec_view}
 use Rattle.lx_spec.specs.Whole.{IsRead}
-use Rattle.lx_table_texts.specs.Model.{AreTablesOf, Table}
+use Rattle.lx_tables.specs.Model.{AreTablesOf, Table}
 use Rattle.lx_reach.specs.Chosen.{AreFlagsOf, IsEverChosenBy}
 use Rattle.lx_reach.specs.Entered.{IsEntered}
 use Rattle.lx_verdict.specs.Verdicts.{IsFinding}

@@ -4,7 +4,7 @@ ghost use Rattle.std.specs.Prelude.{◌≡◌, ◌≤◌, IfOk, length};
 ghost use Rattle.lx_auto.specs.Counts.{count_of_spec};
 ghost use Rattle.lx_rules.specs.views.Specs.{spec_view};
 ghost use Rattle.lx_rules.specs.Limits.{max_positions};
-ghost use Rattle.lx_table_texts.specs.Model.{AreTablesOf};
+ghost use Rattle.lx_tables.specs.Model.{AreTablesOf};
 ghost use Rattle.lx_reach.specs.Chosen.{AreFlagsOf, IsEverChosenBy};
 ghost use Rattle.lx_reach.specs.Entered.{IsEntered};
 ghost use Rattle.lx_check.specs.Findings.{AreCounts, IfAccepted, IsVerdict, TellsChosen};

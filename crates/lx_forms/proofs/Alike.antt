@@ -5,7 +5,7 @@ use Rattle.std.specs.List.{filter, flat_map}
 use Rattle.std.specs.Option.{option_map_or}
 use Rattle.std.proofs.Math.Path.{ap₂, fun_ext}
 use Rattle.lx_rules.specs.declared.rule.Kind.TheVariants.{Name, Number}
-use Rattle.lx_table_texts.specs.Model.{Table, kind_at}
+use Rattle.lx_tables.specs.Model.{Table, kind_at}
 use Rattle.lx_scan.specs.declared.item.Item.{Item}
 use Rattle.lx_scan.specs.declared.item.Item.TheVariants.{Token, Echo}
 use Rattle.lx_scan.specs.ItemParts.{text_of}

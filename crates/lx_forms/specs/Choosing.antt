@@ -5,7 +5,7 @@ use Rattle.std.specs.Str.{bytes_eq}
 use Rattle.lx_rules.specs.declared.rule.Kind.TheVariants.{Name, Number}
 use Rattle.lx_rules.specs.declared.rule.Step.{Step}
 use Rattle.lx_rules.specs.declared.rule.Step.TheVariants.{Echo, Begin, Return}
-use Rattle.lx_table_texts.specs.Model.{Table, TableRule}
+use Rattle.lx_tables.specs.Model.{Table, TableRule}
 use Rattle.lx_scan.specs.ItemParts.{NamesKindAmong}
 use Rattle.lx_scan.specs.declared.item.Item.{Item}
 use Rattle.lx_scan.specs.declared.item.Item.TheVariants.{Token, Echo as Echoed}

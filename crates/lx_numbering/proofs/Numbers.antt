@@ -5,7 +5,7 @@ use Rattle.std.proofs.lemmas.List.{take_more}
 use Rattle.std.proofs.lemmas.Grind.{flat_map-append}
 use Rattle.std.proofs.Math.Nat.{le-max_left, le-max_right}
 use Rattle.std.proofs.lemmas.List.Elements.{All-nil, All-cons}
-use Rattle.lx_table_texts.specs.Model.{Table}
+use Rattle.lx_tables.specs.Model.{Table}
 use Rattle.lx_numbering.specs.Numbers.{above, returned_by, first_kind, AreApart}
 
 -- those of the first elements, and then that of the next

@@ -2,7 +2,7 @@
 -- rule that it accepts plus 1, or 0. The first row has no state.
 use Rattle.std.specs.Prelude.{ℕ, ◌+◌, ◌*◌, max, Option, Some, None, length}
 use Rattle.lx_automaton.specs.Automata.{Machine, state_count}
-use Rattle.lx_table_texts.specs.Model.{Table}
+use Rattle.lx_tables.specs.Model.{Table}
 
 -- how many words a row has
 abbrev pub row_width : Machine → ℕ

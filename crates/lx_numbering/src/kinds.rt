@@ -1,7 +1,7 @@
 //! The numbers of kinds.
 
 ghost use Rattle.std.specs.Prelude.{◌≡◌, ◌≤◌, ◌<◌, length};
-ghost use Rattle.lx_table_texts.specs.Model.{rule_at, kind_at};
+ghost use Rattle.lx_tables.specs.Model.{rule_at, kind_at};
 ghost use Rattle.lx_numbering.specs.Numbers as kinds;
 ghost use Rattle.lx_numbering.specs.Numbers.{max_first_kind};
 

@@ -8,7 +8,7 @@ use Rattle.std.proofs.lemmas.Bool.{both_ways, eq-eqb, ne_eqb, cases_lt}
 use Rattle.std.proofs.lemmas.Grind.{div_ceil_times}
 use Rattle.std.proofs.lemmas.List.{drop-append-le, drop-drop, length-drop, take-append-le}
 use Rattle.std.proofs.Math.Nat.{suc-mul, mul-le-mul_right}
-use Rattle.lx_table_texts.specs.Model.{Table}
+use Rattle.lx_tables.specs.Model.{Table}
 use Rattle.lx_scan.specs.Cursors.{IsInText, items_left, listed}
 use Rattle.lx_scan.specs.Ends.{Appends}
 use Rattle.lx_scan.specs.declared.cursor.Cursor.{Cursor}

@@ -1,6 +1,6 @@
 -- How far a cutter has come.
 use Rattle.std.specs.Prelude.{◌≡◌, ℕ, ◌*◌, ◌<◌, ◌≤◌, List, [], ◌++◌, Option, None, drop}
-use Rattle.lx_table_texts.specs.Model.{Table}
+use Rattle.lx_tables.specs.Model.{Table}
 use Rattle.lx_scan.specs.Cursors.{IsInText, items_left, listed}
 use Rattle.lx_scan.specs.declared.cursor.Cursor.{Cursor}
 use Rattle.lx_scan.specs.declared.item.Item.{Item}

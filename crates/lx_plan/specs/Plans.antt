@@ -1,6 +1,6 @@
 -- A plan as plain values: its files, its tables, and the items of its files.
 use Rattle.std.specs.Prelude.{ℕ, ◌<◌, ◌≤◌, All, Bool, false, List, [], length, slice_index_or}
-use Rattle.lx_table_texts.specs.Model.{Table, IsTable, kind_at}
+use Rattle.lx_tables.specs.Model.{Table, IsTable, kind_at}
 use Rattle.lx_scan.specs.declared.item.Item.{Item}
 use Rattle.lx_scan.specs.ItemParts.{IsItemOf}
 use Rattle.lx_scan.specs.Items as scan

@@ -2,7 +2,7 @@
 use Rattle.std.proofs.Common.{◌≡◌, ◌↔◌, ℕ, ◌<◌, Bool, List, Option, All, length, sym, subst}
 use Rattle.lx_rules.specs.Choice.{IsChoice}
 use Rattle.lx_rules.specs.Plain.{PlainSpec}
-use Rattle.lx_table_texts.specs.Model.{AreTablesOf, Table}
+use Rattle.lx_tables.specs.Model.{AreTablesOf, Table}
 use Rattle.lx_scan.specs.Answers.{choice_of}
 use Rattle.lx_reach.specs.Chosen.{IsChosenBy, IsChosenIn, IsEverChosen, IsEverChosenBy}
 

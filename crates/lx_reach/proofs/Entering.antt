@@ -6,7 +6,7 @@ use Rattle.std.proofs.lemmas.Bool.Decides.{eqb_tells}
 use Rattle.lx_rules.specs.declared.rule.Step.{Step}
 use Rattle.lx_rules.specs.declared.rule.Step.TheVariants.{Echo, Begin, Return}
 use Rattle.lx_rules.specs.Invariant.{are_steps}
-use Rattle.lx_table_texts.specs.Model.{Table, IsTable, rule_at}
+use Rattle.lx_tables.specs.Model.{Table, IsTable, rule_at}
 use Rattle.lx_scan.specs.Steps.{condition_after}
 use Rattle.lx_reach.specs.Chosen.{AreFlagsOf, IsChosenIn}
 use Rattle.lx_reach.specs.Entered.{IsBehind, IsEntered, Initial, Begun}

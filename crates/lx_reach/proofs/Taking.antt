@@ -5,7 +5,7 @@ use Rattle.std.proofs.lemmas.Bool.{lt-ltb, ltb-true, true≢false}
 use Rattle.std.proofs.lemmas.List.{take_all, length-take-le}
 use Rattle.std.proofs.lemmas.List.Elements.{All-take}
 use Rattle.lx_automaton.specs.Automata.{start_of, state_after, accepted_by, accepted_at, answer}
-use Rattle.lx_table_texts.specs.Model.{Table, rule_at}
+use Rattle.lx_tables.specs.Model.{Table, rule_at}
 use Rattle.lx_scan.specs.Answers.{token_len, match_after, furthest}
 use Rattle.lx_reach.specs.Chosen.{AreFlagsOf}
 use Rattle.lx_reach.specs.Reached.{AreMet, IsReached}

@@ -2,7 +2,7 @@
 use Rattle.std.specs.Prelude.{◌≡◌, ℕ, ◌<◌, Bool, true, false, All, List, Some, length, slice_index_or}
 use Rattle.lx_rules.specs.Choice.{IsChoice}
 use Rattle.lx_rules.specs.Plain.{PlainSpec}
-use Rattle.lx_table_texts.specs.Model.{Table}
+use Rattle.lx_tables.specs.Model.{Table}
 use Rattle.lx_scan.specs.Answers.{choice_of}
 
 -- In this condition, at line begin or elsewhere, the rule is the choice for some text of bytes.

@@ -1,6 +1,6 @@
 -- The start conditions that are entered (XCU `lex`, "Actions in lex": BEGIN).
 use Rattle.std.specs.Prelude.{◌≡◌, ℕ, Bool, true, false, List, slice_index_or}
-use Rattle.lx_table_texts.specs.Model.{Table, rule_at}
+use Rattle.lx_tables.specs.Model.{Table, rule_at}
 use Rattle.lx_scan.specs.Steps.{condition_after}
 use Rattle.lx_reach.specs.Chosen.{IsChosenIn}
 

@@ -1,7 +1,7 @@
 -- The rules that are chosen in a range of conditions, and how they are marked.
 use Rattle.std.specs.Prelude.{◌≡◌, ℕ, ◌<◌, ◌≤◌, ◌⊎◌, ◌||◌, Bool, true, false, not, All, List, Some, slice_index, slice_index_or}
 use Rattle.lx_automaton.specs.Automata.{accepted_by}
-use Rattle.lx_table_texts.specs.Model.{Table, rule_at}
+use Rattle.lx_tables.specs.Model.{Table, rule_at}
 use Rattle.lx_scan.specs.Answers.{choice_of}
 
 -- In one of these conditions, at line begin or elsewhere, the rule is the choice for some text of bytes.

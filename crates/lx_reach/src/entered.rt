@@ -2,7 +2,7 @@
 
 ghost use Rattle.std.specs.Prelude.{◌≡◌, ◌≢◌, ◌<◌, ◌≤◌, ◌⊎◌, ℕ, true, false, IfOk, OnOk, length, slice_index, slice_index_or};
 ghost use Rattle.lx_scan.specs.Steps.{condition_after};
-ghost use Rattle.lx_table_texts.specs.Model.{rule_at};
+ghost use Rattle.lx_tables.specs.Model.{rule_at};
 ghost use Rattle.lx_reach.specs.Chosen.{AreFlagsOf};
 ghost use Rattle.lx_reach.specs.Entered.{IsBehind, IsEntered};
 ghost use Rattle.lx_reach.specs.Reached.{AreMet};

@@ -2,7 +2,7 @@
 
 ghost use Rattle.std.specs.Prelude.{◌<◌, ◌↔◌, ℕ, length};
 ghost use Rattle.lx_rules.specs.Plain.{PlainSpec};
-ghost use Rattle.lx_table_texts.specs.Model.{AreTablesOf, Table};
+ghost use Rattle.lx_tables.specs.Model.{AreTablesOf, Table};
 ghost use Rattle.lx_reach.specs.Chosen.{IsChosenBy, IsChosenIn, IsEverChosen, IsEverChosenBy};
 
 use lx_scan::ruling::{choice_is_by_rules, one_choice};

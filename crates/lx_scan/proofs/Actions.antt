@@ -9,7 +9,7 @@ use Rattle.lx_rules.specs.declared.rule.Kind.TheVariants.{Name, Number}
 use Rattle.lx_rules.specs.declared.rule.Step.{Step}
 use Rattle.lx_rules.specs.declared.rule.Step.TheVariants.{Echo, Begin, Return}
 use Rattle.lx_rules.specs.Invariant.{are_steps, is_kind}
-use Rattle.lx_table_texts.specs.Model.{Table, IsTable}
+use Rattle.lx_tables.specs.Model.{Table, IsTable}
 use Rattle.lx_scan.specs.ItemParts.{IsItemOf, IsKindAmong, line_at}
 use Rattle.lx_scan.specs.Items.{steps_at}
 use Rattle.lx_scan.specs.Steps.{condition_after, items_of_steps}

@@ -9,7 +9,7 @@ use Rattle.lx_rules.specs.Plain.{PlainRule, PlainSpec}
 use Rattle.lx_rules.specs.Choice.{Fits, IsChoice, IsChosen, reach}
 use Rattle.lx_automaton.specs.Automata.{answer}
 use Rattle.lx_automaton.specs.Meaning.{IsAnswer, ReachesWhole}
-use Rattle.lx_table_texts.specs.Model.{Table, TableRule, AreTablesOf, rule_at, table_rule}
+use Rattle.lx_tables.specs.Model.{Table, TableRule, AreTablesOf, rule_at, table_rule}
 use Rattle.lx_scan.specs.Answers.{IsByAnswers, IsAnswered, token_len}
 
 -- ---- a fit depends on no more bytes than its reach

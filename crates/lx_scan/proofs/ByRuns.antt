@@ -7,7 +7,7 @@ use Rattle.std.proofs.lemmas.List.Elements.{All-drop}
 use Rattle.lx_rules.specs.declared.rule.Step.{Step}
 use Rattle.lx_rules.specs.Choice.{IsChoice}
 use Rattle.lx_rules.specs.Plain.{PlainRule, PlainSpec}
-use Rattle.lx_table_texts.specs.Model.{AreTablesOf, IsTable, Table, TableRule, table_rule}
+use Rattle.lx_tables.specs.Model.{AreTablesOf, IsTable, Table, TableRule, table_rule}
 use Rattle.lx_scan.specs.declared.item.Item.{Item}
 use Rattle.lx_scan.specs.declared.place.Match.{Match}
 use Rattle.lx_scan.specs.declared.place.Place.{Place}

@@ -4,7 +4,7 @@ use Rattle.std.specs.Prelude.{MatchOption}
 use Rattle.std.specs.Option.{option_map, option_or}
 use Rattle.std.proofs.lemmas.Bool.{cases_lt, ltb-true, lt-ltb}
 use Rattle.lx_automaton.specs.Automata.{Machine, accepted_at, accepted_by, state_after, start_of, answer}
-use Rattle.lx_table_texts.specs.Model.{Table, IsTable, rule_at}
+use Rattle.lx_tables.specs.Model.{Table, IsTable, rule_at}
 use Rattle.lx_scan.specs.Answers.{IsByAnswers, IsAnswered, choice_of, furthest, match_after, token_len}
 
 module _ (table : Table) (condition : ℕ) (begin : Bool) (text : List ℕ) where

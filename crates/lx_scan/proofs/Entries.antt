@@ -8,7 +8,7 @@ use Rattle.lx_rules.specs.declared.rule.Step.{Step}
 use Rattle.lx_rules.specs.declared.rule.Step.TheVariants.{Echo, Begin, Return}
 use Rattle.lx_automaton.specs.Automata.{state_count, start_of, accepted_at, accepted_by, answer, state_after, target_of}
 use Rattle.lx_tables.specs.Joined.{IsJoinedState, begun, condition_behind, condition_behind_rule, echoed, ended, is_told, item_count, rule_ended, target_from}
-use Rattle.lx_table_texts.specs.Model.{Table, IsTable, rule_at}
+use Rattle.lx_tables.specs.Model.{Table, IsTable, rule_at}
 use Rattle.lx_tables.specs.declared.joined.JoinedState.{JoinedState}
 use Rattle.lx_scan.specs.declared.place.Match.{Match}
 use Rattle.lx_scan.specs.declared.place.Place.{Place}

@@ -5,7 +5,7 @@ use Rattle.std.specs.Option.{option_or}
 use Rattle.std.proofs.lemmas.List.{drop_more, get_or-drop, length-drop}
 use Rattle.std.proofs.Math.Seq.{take-add}
 use Rattle.lx_automaton.specs.Automata.{Machine, accepted_at, accepted_by, answer, answer_from, start_of, state_after, state_count, target_of}
-use Rattle.lx_table_texts.specs.Model.{Table}
+use Rattle.lx_tables.specs.Model.{Table}
 use Rattle.lx_scan.specs.Answers.{furthest, match_after}
 use Rattle.lx_scan.specs.Failing.{IsFailed}
 use Rattle.lx_scan.proofs.Stepping.{HasRead, nothing_read, reads_on, state_after_both}

@@ -8,7 +8,7 @@ use Rattle.lx_rules.specs.declared.rule.Step.{Step}
 use Rattle.lx_rules.specs.declared.rule.Step.TheVariants.{Echo, Begin, Return}
 use Rattle.lx_tables.specs.Joined.{AreLabels, echoed, giving, item_count}
 use Rattle.lx_tables.specs.Labels.{kind_of_label, step_of_kind, step_of_label}
-use Rattle.lx_table_texts.specs.Model.{Table}
+use Rattle.lx_tables.specs.Model.{Table}
 use Rattle.lx_scan.specs.declared.ends.End.{End}
 use Rattle.lx_scan.specs.declared.item.Item.{Item}
 use Rattle.lx_scan.specs.Cursors.{item_of_step, listed}

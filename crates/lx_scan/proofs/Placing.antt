@@ -2,7 +2,7 @@
 use Rattle.std.proofs.Common.{◌≡◌, ℕ, zero, suc, ◌+◌, ◌-◌, ◌<◌, ◌≤◌, List, [], ◌∷◌, length, take, drop, All, refl, sym, ap, ◌∙◌, arith}
 use Rattle.std.proofs.lemmas.List.{length-drop}
 use Rattle.std.proofs.lemmas.List.Elements.{All-append, All-nil}
-use Rattle.lx_table_texts.specs.Model.{Table, IsTable}
+use Rattle.lx_tables.specs.Model.{Table, IsTable}
 use Rattle.lx_scan.specs.declared.place.Place.{Place}
 use Rattle.lx_scan.specs.ItemParts.{IsItemOf, line_at}
 use Rattle.lx_scan.specs.Items.{choice_at, first_place, items_at, items_from, items_of, len_at, place_after, steps_at}

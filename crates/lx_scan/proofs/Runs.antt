@@ -6,7 +6,7 @@ use Rattle.std.proofs.lemmas.Bool.{eq-eqb, eqb-true, le-leb, lt-leb}
 use Rattle.std.proofs.lemmas.List.{length-take-le, take-set, take_more_set}
 use Rattle.lx_automaton.specs.Automata.{accepted_by}
 use Rattle.lx_tables.specs.Joined.{IsJoined, IsJoinedState, begun, ended, is_told, joined_entry, joined_number, joined_step, joined_width, rule_ended, stepped, target_from, transition_at}
-use Rattle.lx_table_texts.specs.Model.{Table, IsTable, rule_at}
+use Rattle.lx_tables.specs.Model.{Table, IsTable, rule_at}
 use Rattle.lx_tables.specs.declared.joined.JoinedState.{JoinedState}
 use Rattle.lx_tables.specs.declared.joined.Transition.{Transition}
 use Rattle.lx_scan.specs.declared.ends.End.{End}

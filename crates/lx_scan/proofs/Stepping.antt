@@ -4,7 +4,7 @@ use Rattle.std.specs.Prelude.{slice_index}
 use Rattle.std.specs.Option.{option_or}
 use Rattle.std.proofs.lemmas.List.{take_more, take-take, take-append-drop}
 use Rattle.lx_automaton.specs.Automata.{Machine, state_count, start_of, target_of, accepted_by, accepted_at, state_after, answer}
-use Rattle.lx_table_texts.specs.Model.{Table}
+use Rattle.lx_tables.specs.Model.{Table}
 use Rattle.lx_scan.specs.Answers.{furthest, match_after}
 
 -- ---- words

@@ -2,7 +2,7 @@
 use Rattle.std.specs.Prelude.{◌≡◌, ℕ, zero, suc, ◌-◌, ◌<◌, ◌≤◌, Bool, nat_lt, if◌then◌else◌, List, Option, Some, None, MatchOption, length, take}
 use Rattle.std.specs.Option.{option_map, option_or}
 use Rattle.lx_automaton.specs.Automata.{answer}
-use Rattle.lx_table_texts.specs.Model.{Table, rule_at}
+use Rattle.lx_tables.specs.Model.{Table, rule_at}
 
 -- how many of m bytes are the token of a rule: where it ends with `$` the last one, a newline, isn't
 abbrev pub token_len : Table → ℕ → ℕ → ℕ

@@ -3,7 +3,7 @@ use Rattle.std.specs.Prelude.{ℕ, ◌+◌, ◌<◌, ◌≤◌, List, [], ◌∷
 use Rattle.std.specs.Option.{ForSome}
 use Rattle.lx_rules.specs.declared.rule.Step.{Step}
 use Rattle.lx_rules.specs.declared.rule.Step.TheVariants.{Echo, Begin, Return}
-use Rattle.lx_table_texts.specs.Model.{Table}
+use Rattle.lx_tables.specs.Model.{Table}
 use Rattle.lx_scan.specs.declared.cursor.Cursor.{Cursor}
 use Rattle.lx_scan.specs.declared.item.Item.{Item}
 use Rattle.lx_scan.specs.declared.item.Item.TheVariants as item

@@ -2,7 +2,7 @@
 use Rattle.std.specs.Prelude.{◌≡◌, ℕ, ◌-◌, ◌*◌, ◌/◌, ◌<◌, ◌≤◌, List, Option, None, Some, length, drop, take, slice_index, slice_index_or}
 use Rattle.std.specs.Option.{ForSome}
 use Rattle.lx_automaton.specs.Automata.{Machine, answer_from}
-use Rattle.lx_table_texts.specs.Model.{Table}
+use Rattle.lx_tables.specs.Model.{Table}
 use Rattle.lx_scan.specs.declared.memory.FailedState.{FailedState}
 use Rattle.lx_scan.specs.declared.memory.ScanMemory.{ScanMemory}
 

@@ -1,7 +1,7 @@
 //! The choice that a scanner makes is the one by the answers of the tables.
 
 ghost use Rattle.std.specs.Prelude.{ℕ, Bool, List};
-ghost use Rattle.lx_table_texts.specs.Model.{Table};
+ghost use Rattle.lx_tables.specs.Model.{Table};
 ghost use Rattle.lx_scan.specs.Answers.{IsByAnswers, choice_of};
 
 /// A law: for all tables, conditions and texts, at line begin or not, `choice_of` is the choice by answers.

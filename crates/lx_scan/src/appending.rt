@@ -2,7 +2,7 @@
 
 ghost use Rattle.std.specs.Prelude.{◌≡◌, ◌<◌, ◌≤◌, ◌+◌, IfOk, IsTrue, OnOk, length};
 ghost use Rattle.lx_tables.specs.Joined.{IsJoined};
-ghost use Rattle.lx_table_texts.specs.Model.{IsTable};
+ghost use Rattle.lx_tables.specs.Model.{IsTable};
 ghost use Rattle.lx_scan.specs.Ends.{Appends, IsPlace};
 ghost use Rattle.lx_scan.specs.Items.{items_after};
 

@@ -2,7 +2,7 @@
 
 ghost use Rattle.std.specs.Prelude.{◌≡◌, ◌<◌, ◌≤◌, ◌++◌, ℕ, List, [], length, IfNone, OnErr, OnOk};
 ghost use Rattle.std.specs.Option.{ForSome};
-ghost use Rattle.lx_table_texts.specs.Model.{IsTable, Table};
+ghost use Rattle.lx_tables.specs.Model.{IsTable, Table};
 ghost use Rattle.lx_scan.specs.Cursors.{IsInText, items_left, item_of_step, listed, steps_left};
 ghost use Rattle.lx_scan.specs.Ends.{Appends, IsPlace};
 ghost use Rattle.lx_scan.specs.Failing.{IsMemoryOf};

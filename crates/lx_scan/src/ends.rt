@@ -2,7 +2,7 @@
 
 ghost use Rattle.std.specs.Prelude.{if◌then◌else◌, ◌≡◌, ◌<◌, ◌≤◌, ◌+◌, ℕ, length, nat_eq, nat_le, slice_index, take};
 ghost use Rattle.lx_tables.specs.Joined.{IsJoined, transition_at};
-ghost use Rattle.lx_table_texts.specs.Model.{IsTable};
+ghost use Rattle.lx_tables.specs.Model.{IsTable};
 ghost use Rattle.lx_scan.specs.Ends.{IsPlace, LeadTo, place_behind};
 
 use crate::place::Place;

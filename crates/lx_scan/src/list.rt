@@ -2,7 +2,7 @@
 
 ghost use Rattle.std.specs.Prelude.{◌≡◌, ◌<◌, ◌≤◌, ◌+◌, ◌-◌, [], ◌∷◌, ◌++◌, ℕ, IfNone, IfOk, OnOk, if◌then◌else◌, length, nat_eq, slice_index, take};
 ghost use Rattle.lx_tables.specs.Joined.{AreLabels};
-ghost use Rattle.lx_table_texts.specs.Model.{Table};
+ghost use Rattle.lx_tables.specs.Model.{Table};
 ghost use Rattle.lx_scan.specs.Cursors.{listed};
 ghost use Rattle.lx_scan.specs.Ends.{AreEnds, end_of, items_of_ends, line_of};
 

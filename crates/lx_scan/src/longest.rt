@@ -3,7 +3,7 @@
 ghost use Rattle.std.specs.Prelude.{◌≡◌, ◌<◌, ◌≤◌, ◌-◌, IsTrue, MatchOption, drop, length};
 ghost use Rattle.std.specs.Option.{option_or};
 ghost use Rattle.lx_automaton.specs.Automata.{accepted_by, state_count};
-ghost use Rattle.lx_table_texts.specs.Model.{IsTable};
+ghost use Rattle.lx_tables.specs.Model.{IsTable};
 ghost use Rattle.lx_scan.specs.Answers.{furthest, match_after};
 ghost use Rattle.lx_scan.specs.Failing.{IsFailed, IsMemoryOf};
 ghost use Rattle.lx_scan.specs.Items.{choice_at};

@@ -1,7 +1,7 @@
 //! What a scanner remembers of a text: the states in which it went on in vain (Reps 1998, "Maximal-munch tokenization in linear time").
 
 ghost use Rattle.std.specs.Prelude.{◌≡◌, ℕ, ◌+◌, ◌*◌, ◌/◌, ◌%◌, ◌<◌, List, IfSome, IsTrue, drop, length, slice_index};
-ghost use Rattle.lx_table_texts.specs.Model.{Table};
+ghost use Rattle.lx_tables.specs.Model.{Table};
 ghost use Rattle.lx_scan.specs.Failing.{IsAmong, IsFailed, IsMarked, IsMemoryOf};
 
 use crate::ends::End;

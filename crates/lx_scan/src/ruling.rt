@@ -3,7 +3,7 @@
 ghost use Rattle.std.specs.Prelude.{◌≡◌, ◌<◌, ℕ, All, Bool, List, Option, length};
 ghost use Rattle.lx_rules.specs.Choice.{IsChoice};
 ghost use Rattle.lx_rules.specs.Plain.{PlainSpec};
-ghost use Rattle.lx_table_texts.specs.Model.{AreTablesOf, IsTable, Table};
+ghost use Rattle.lx_tables.specs.Model.{AreTablesOf, IsTable, Table};
 ghost use Rattle.lx_scan.specs.Answers.{choice_of};
 ghost use Rattle.lx_scan.specs.ByRules.{AreItemsBy};
 ghost use Rattle.lx_scan.specs.Items.{items_of};

@@ -2,7 +2,7 @@
 
 ghost use Rattle.std.specs.Prelude.{◌≡◌, ◌<◌, ◌≤◌, ◌+◌, ◌-◌, ◌^◌, ◌++◌, length, nat_eq, slice_index, take, drop, None, IfOk, OnOk, MatchOption};
 ghost use Rattle.std.specs.Option.{ForSome, option_map};
-ghost use Rattle.lx_table_texts.specs.Model.{IsTable};
+ghost use Rattle.lx_tables.specs.Model.{IsTable};
 ghost use Rattle.lx_scan.specs.Failing.{IsMemoryOf};
 ghost use Rattle.lx_scan.specs.Items.{items_of, steps_at};
 ghost use Rattle.lx_scan.specs.Matching.{GoesOn, IsFound, choice_in};

@@ -2,7 +2,7 @@
 use Rattle.std.specs.Prelude.{ℕ, ◌==◌, Bool, true, false, if◌then◌else◌, List, [], ◌++◌, Option, Some, None, codes, decimal, length}
 use Rattle.std.specs.List.{flat_map, list_any, range_with_len}
 use Rattle.lx_automaton.specs.Automata.{Machine, accepted_by, class_target, start_of, state_count}
-use Rattle.lx_table_texts.specs.Model.{Table, TableRule, rule_at}
+use Rattle.lx_tables.specs.Model.{Table, TableRule, rule_at}
 use Rattle.lx_show.specs.Labels.{action_label, condition_label, is_target, ranges}
 
 -- whether the state steps to t on a class before this one

@@ -6,7 +6,7 @@ use Rattle.lx_rules.specs.declared.rule.Kind.TheVariants.{Name, Number}
 use Rattle.lx_rules.specs.declared.rule.Step.{Step}
 use Rattle.lx_rules.specs.declared.rule.Step.TheVariants.{Echo, Begin, Return}
 use Rattle.lx_automaton.specs.Automata.{Machine, target_of}
-use Rattle.lx_table_texts.specs.Model.{Table, TableRule, kind_at}
+use Rattle.lx_tables.specs.Model.{Table, TableRule, kind_at}
 
 -- a lower-case hexadecimal digit
 abbrev pub small_digit : ℕ → ℕ

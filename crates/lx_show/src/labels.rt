@@ -4,7 +4,7 @@ ghost use Rattle.std.specs.Prelude.{◌≡◌, ◌<◌, ◌++◌, OnOk, codes, d
 ghost use Rattle.std.specs.List.{flat_map};
 ghost use Rattle.lx_automaton.specs.Automata.{state_count};
 ghost use Rattle.lx_rules.specs.views.Rules.{names_view};
-ghost use Rattle.lx_table_texts.specs.Model.{rule_at};
+ghost use Rattle.lx_tables.specs.Model.{rule_at};
 ghost use Rattle.lx_show.specs.Labels as specs;
 
 use itoa::Buffer;

@@ -3,7 +3,7 @@
 ghost use Rattle.std.specs.Prelude.{◌≡◌, ◌<◌, ◌++◌, OnOk, decimal, length};
 ghost use Rattle.lx_automaton.specs.Automata.{state_count};
 ghost use Rattle.lx_rules.specs.views.Rules.{names_view};
-ghost use Rattle.lx_table_texts.specs.Model.{rule_at};
+ghost use Rattle.lx_tables.specs.Model.{rule_at};
 ghost use Rattle.lx_show.specs.Graph as specs;
 
 use crate::edges::push_edges;

@@ -11,7 +11,7 @@ use Rattle.lx_rules.specs.Invariant.{are_steps}
 use Rattle.lx_automaton.specs.Automata.{state_count, accepted_at}
 use Rattle.lx_automaton.specs.EncodedOptions.{decoded_option}
 use Rattle.lx_tables.specs.Joined.{AreEntries, AreLabels, IsJoined, IsJoinedState, begun, class_of_column, column_of, condition_behind, condition_behind_rule, encoded, joined_entry, joined_len, joined_number, joined_state_at, joined_states, joined_step, joined_width, stepped, target_from}
-use Rattle.lx_table_texts.specs.Model.{Table, IsTable, rule_at}
+use Rattle.lx_tables.specs.Model.{Table, IsTable, rule_at}
 use Rattle.lx_tables.specs.declared.joined.JoinedState.{JoinedState}
 use Rattle.lx_tables.specs.declared.joined.Transition.{Transition}
 use Rattle.lx_automaton.proofs.RowMajor.{in_row}

@@ -11,7 +11,7 @@ use Rattle.lx_rules.specs.declared.rule.Kind.TheVariants.{Name, Number}
 use Rattle.lx_rules.specs.declared.rule.Step.{Step}
 use Rattle.lx_rules.specs.declared.rule.Step.TheVariants.{Echo, Begin, Return}
 use Rattle.lx_automaton.specs.Automata.{Machine, IsMachine, HasByteClasses, accepted_by}
-use Rattle.lx_table_texts.specs.Model.{IsTable, table_rule}
+use Rattle.lx_tables.specs.Model.{IsTable, table_rule}
 
 left-of : (a b : Bool) → IsTrue (a && b) → IsTrue a
 left-of true b h = refl

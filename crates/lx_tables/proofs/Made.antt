@@ -7,7 +7,7 @@ use Rattle.lx_automaton.specs.Equivalence.{AreEquivalentMachines}
 use Rattle.lx_automaton.specs.Leading.{AreAllLedTo}
 use Rattle.lx_automaton.specs.Meaning.{IsAutomatonOf}
 use Rattle.lx_automaton.specs.EncodedOptions.{machine_of}
-use Rattle.lx_table_texts.specs.Model.{Table, IsTable, AreTablesOf, table_rule}
+use Rattle.lx_tables.specs.Model.{Table, IsTable, AreTablesOf, table_rule}
 use Rattle.lx_automaton.specs.Numbered.{AreAllMet, AreStarts, AreAccepted, AreRows}
 use Rattle.lx_tables.proofs.Kept.{table_kept}
 use Rattle.lx_automaton.proofs.Reordered.{reordered_machine, reordered_classes, reordered_automaton, reordered_alike, reordered_led, accepts_below}

@@ -3,8 +3,8 @@ use Rattle.std.specs.Prelude.{ℕ, ◌≡◌, [], ◌∷◌, ◌++◌, Some, Non
 use Rattle.lx_rules.specs.declared.rule.Kind.TheVariants.{Name}
 use Rattle.lx_rules.specs.declared.rule.Step.TheVariants.{Return}
 use Rattle.lx_automaton.specs.Automata.{Machine}
-use Rattle.lx_table_texts.specs.Model.{TableRule, Table}
-use Rattle.lx_table_texts.specs.Texts.{text_1, text_2}
+use Rattle.lx_tables.specs.Model.{TableRule, Table}
+use Rattle.lx_tables.specs.Texts.{text_1, text_2}
 
 -- a rule that returns this kind
 abbrev pub returns : Bool → ℕ → TableRule

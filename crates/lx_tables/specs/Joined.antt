@@ -5,7 +5,7 @@ use Rattle.lx_rules.specs.declared.rule.Step.{Step}
 use Rattle.lx_rules.specs.declared.rule.Step.TheVariants.{Echo, Begin, Return}
 use Rattle.lx_automaton.specs.Automata.{Machine, state_count, start_of, accepted_by, accepted_at, class_target}
 use Rattle.lx_automaton.specs.EncodedOptions.{decoded_option}
-use Rattle.lx_table_texts.specs.Model.{Table, TableRule, rule_at}
+use Rattle.lx_tables.specs.Model.{Table, TableRule, rule_at}
 use Rattle.lx_tables.specs.declared.joined.JoinedState.{JoinedState}
 use Rattle.lx_tables.specs.declared.joined.Transition.{Transition}
 use Rattle.lx_tables.specs.Labels.{step_of_label}

@@ -1,5 +1,12 @@
 pub mod Examples
 pub mod Joined
 pub mod Labels
+pub mod Limits
 pub mod Lines
+pub mod Model
 pub mod Output
+pub mod Readers
+pub mod Reading
+pub mod Texts
+pub mod Uniqueness
+pub mod Views

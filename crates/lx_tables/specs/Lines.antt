@@ -1,11 +1,11 @@
 -- The parts of lines that the printer chooses among.
 use Rattle.std.specs.Prelude.{ℕ, ◌<◌, List, ◌++◌, Option, Some, codes, slice_index}
 use Rattle.lx_automaton.specs.Automata.{Machine, state_count, accepted_by, target_of}
-use Rattle.lx_table_texts.specs.Texts.{byte_ranges, entries_text, accepts_text}
+use Rattle.lx_tables.specs.Texts.{byte_ranges, entries_text, accepts_text}
 use Rattle.lx_tables.specs.declared.byte_values.ByteValues.{ByteValues}
 use Rattle.lx_tables.specs.declared.byte_values.ByteValues.TheVariants.{Classes, Targets}
-use Rattle.lx_table_texts.specs.declared.version.Version.{Version}
-use Rattle.lx_table_texts.specs.declared.version.Version.TheVariants.{First, Second}
+use Rattle.lx_tables.specs.declared.version.Version.{Version}
+use Rattle.lx_tables.specs.declared.version.Version.TheVariants.{First, Second}
 
 -- the value of a byte
 abbrev pub value_of : Machine → ByteValues → ℕ → Option ℕ

@@ -3,11 +3,11 @@
 ghost use Rattle.std.specs.Prelude.{◌≡◌, IfOk, map};
 ghost use Rattle.lx_rules.specs.views.Specs.{spec_view};
 ghost use Rattle.lx_rules.specs.views.Rules.{names_view};
-ghost use Rattle.lx_table_texts.specs.Model.{table_rule};
-ghost use Rattle.lx_table_texts.specs.Views.{rules_view};
+ghost use Rattle.lx_tables.specs.Model.{table_rule};
+ghost use Rattle.lx_tables.specs.Views.{rules_view};
 
 use lx_rules::spec::Spec;
-use lx_table_texts::TableRule;
+use crate::TableRule;
 use std::alloc::{AllocError, Global};
 
 /// The names of the kinds.

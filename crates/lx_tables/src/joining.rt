@@ -5,7 +5,7 @@ ghost use Rattle.std.specs.Option.{ForSome};
 ghost use Rattle.lx_automaton.specs.Automata.{state_count, accepted_at, class_target};
 ghost use Rattle.lx_tables.specs.Joined.{AreEntries, AreLabels, IsJoined, IsJoinedState, begun, class_of_column, column_of, condition_behind, condition_behind_rule, encoded, ended, giving, item_count, joined_entry, joined_len, joined_number, joined_state_at, joined_states, joined_step, joined_width, rule_ended, target_from, max_joined_entries};
 ghost use Rattle.lx_tables.specs.Labels.{step_of_label};
-ghost use Rattle.lx_table_texts.specs.Model.{IsTable};
+ghost use Rattle.lx_tables.specs.Model.{IsTable};
 
 use crate::joined::{Joined, JoinedState, Transition, UNTOLD};
 use crate::label::label_of;

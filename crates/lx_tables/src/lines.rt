@@ -6,7 +6,7 @@ ghost use Rattle.lx_automaton.specs.Automata.{state_count};
 ghost use Rattle.lx_automaton.specs.EncodedOptions.{decoded_option};
 ghost use Rattle.lx_tables.specs.Lines.{value_of, HasState, targets_text, state_line};
 ghost use Rattle.lx_tables.specs.Output.{Wrote, WrotePrefix};
-ghost use Rattle.lx_table_texts.specs.Texts.{number, start_line, kind_line, step_text, line_end_text, range_text, byte_ranges, accepts_text, entries_text, entry_text, class_line};
+ghost use Rattle.lx_tables.specs.Texts.{number, start_line, kind_line, step_text, line_end_text, range_text, byte_ranges, accepts_text, entries_text, entry_text, class_line};
 
 use crate::byte_values::ByteValues;
 use crate::tables::Tables;
@@ -14,7 +14,7 @@ use crate::writing::{write_bytes, write_numbered, write_parts};
 use itoa::{Buffer, write_digits};
 use lx_automaton::State;
 use lx_rules::rule::{Kind, Step};
-use lx_table_texts::Version;
+use crate::Version;
 use std::io::{self, Write};
 
 pub(crate) fn write_start<W: Write>(

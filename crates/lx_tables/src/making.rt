@@ -5,7 +5,7 @@ ghost use Rattle.lx_rules.specs.views.Specs.{spec_view};
 ghost use Rattle.lx_automaton.specs.Equivalence.{AreEquivalentMachines};
 ghost use Rattle.lx_automaton.specs.Leading.{AreAllLedTo};
 ghost use Rattle.lx_automaton.specs.Meaning.{IsAutomatonOf};
-ghost use Rattle.lx_table_texts.specs.Model.{AreTablesOf, IsTable};
+ghost use Rattle.lx_tables.specs.Model.{AreTablesOf, IsTable};
 
 use crate::copying::{kinds_of, rules_of};
 use crate::tables::Tables;

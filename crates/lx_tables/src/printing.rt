@@ -5,12 +5,12 @@ ghost use Rattle.std.specs.List.{flat_map, range_with_len};
 ghost use Rattle.lx_automaton.specs.Automata.{state_count};
 ghost use Rattle.lx_tables.specs.Lines.{state_line};
 ghost use Rattle.lx_tables.specs.Output.{Wrote, WrotePrefix};
-ghost use Rattle.lx_table_texts.specs.Texts.{start_line, kind_line, rule_line, front_text, states_text, text_1, text_2};
+ghost use Rattle.lx_tables.specs.Texts.{start_line, kind_line, rule_line, front_text, states_text, text_1, text_2};
 
 use crate::lines::{ROW, write_classes, write_kind, write_rule, write_start, write_state};
 use crate::tables::Tables;
 use crate::writing::{write_bytes, write_count};
-use lx_table_texts::Version;
+use crate::Version;
 use std::io::{self, Write};
 
 fn write_starts<W: Write>(out: &mut W, tables: &Tables) -> Result<(), io::Error>

@@ -1,16 +1,16 @@
 //! Tables, read from either version of their text.
 
 ghost use Rattle.std.specs.Prelude.{◌≡◌, ◌↔◌, IsTrue, IfOk, IfErr};
-ghost use Rattle.lx_table_texts.specs.Limits.{HasLimits};
-ghost use Rattle.lx_table_texts.specs.Model.{IsTable};
-ghost use Rattle.lx_table_texts.specs.Reading.{IsTextOf, IsNoText, own_text, IsClassed};
-ghost use Rattle.lx_table_texts.specs.Texts.{text_1, text_2};
-ghost use Rattle.lx_table_texts.specs.Views.{raw_view};
+ghost use Rattle.lx_tables.specs.Limits.{HasLimits};
+ghost use Rattle.lx_tables.specs.Model.{IsTable};
+ghost use Rattle.lx_tables.specs.Reading.{IsTextOf, IsNoText, own_text, IsClassed};
+ghost use Rattle.lx_tables.specs.Texts.{text_1, text_2};
+ghost use Rattle.lx_tables.specs.Views.{raw_view};
 
 use crate::fault::TableFault;
 use crate::tables::Tables;
 use lx_automaton::Automaton;
-use lx_table_texts::{RawTables, byte_at, has_limits, read_leniently};
+use crate::{RawTables, byte_at, has_limits, read_leniently};
 use std::alloc::{AllocError, Global};
 
 /// Tables of lists that were tested, over byte classes.

@@ -6,13 +6,13 @@ ghost use Rattle.lx_rules.specs.views.Rules.{names_view};
 ghost use Rattle.lx_automaton.specs.Automata.{state_count, start_of, accepted_by, class_target, target_of};
 ghost use Rattle.lx_automaton.specs.EncodedOptions.{decoded_option};
 ghost use Rattle.lx_tables.specs.Joined.{IsJoined};
-ghost use Rattle.lx_table_texts.specs.Model.{Table, IsTable, AreByteClasses, rule_at, kind_at};
-ghost use Rattle.lx_table_texts.specs.Views.{rules_view};
+ghost use Rattle.lx_tables.specs.Model.{Table, IsTable, AreByteClasses, rule_at, kind_at};
+ghost use Rattle.lx_tables.specs.Views.{rules_view};
 
 use crate::joined::Joined;
 use lx_automaton::{Automaton, State};
 use lx_rules::rule::Step;
-use lx_table_texts::TableRule;
+use crate::TableRule;
 use std::marker::Model;
 
 /// The tables of a scanner: an automaton over byte classes, the kinds of tokens, and of each rule whether it ends with `$` and the

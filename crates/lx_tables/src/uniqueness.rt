@@ -1,9 +1,9 @@
 //! Each text is that of one table, and of one version.
 
 ghost use Rattle.std.specs.Prelude.{◌≢◌};
-ghost use Rattle.lx_table_texts.specs.Model.{Table};
-ghost use Rattle.lx_table_texts.specs.Texts.{text_1, text_2};
-ghost use Rattle.lx_table_texts.specs.Uniqueness.{IsOneToOne};
+ghost use Rattle.lx_tables.specs.Model.{Table};
+ghost use Rattle.lx_tables.specs.Texts.{text_1, text_2};
+ghost use Rattle.lx_tables.specs.Uniqueness.{IsOneToOne};
 
 /// A law: tables with the same text of a version are the same.
 pub fn texts_are_one_to_one()

@@ -1,6 +1,6 @@
 //! What all tables keep.
 
-ghost use Rattle.lx_table_texts.specs.Model.{IsTable};
+ghost use Rattle.lx_tables.specs.Model.{IsTable};
 
 use crate::tables::Tables;
 

@@ -2,7 +2,7 @@
 use Rattle.std.proofs.Common.{ℕ, ◌≡◌, List, [], Option, inl, inr, length, refl, subst, sym}
 use Rattle.std.proofs.lemmas.List.{nil_from_length}
 use Rattle.lx_plan.specs.Plans.{PlainInput}
-use Rattle.lx_table_texts.specs.Model.{Table}
+use Rattle.lx_tables.specs.Model.{Table}
 use Rattle.lx_writing.specs.AppendingLaws.{appends_nothing}
 use Rattle.lx_tool.specs.Given.{AreListed, ArePartlyListed, AreRead, FailsListing}
 use Rattle.lx_tool.specs.Planning.{AreBytes, ListsBy, ListsPrefixBy}

@@ -2,7 +2,7 @@
 use Rattle.std.proofs.Common.{ℕ, ◌≡◌, ◌-◌, ◌<◌, List, Option, Some, None, inl, inr, arith, length, refl, subst}
 use Rattle.std.specs.Prelude.{IsSomeAnd}
 use Rattle.std.specs.Io.KnownBytes.{Keeps}
-use Rattle.lx_table_texts.specs.Model.{Table}
+use Rattle.lx_tables.specs.Model.{Table}
 use Rattle.lx_plan.specs.Plans.{PlainInput, max_files}
 use Rattle.lx_forms.specs.NameLists.{HasMoreNames, IsNoName}
 use Rattle.lx_words.specs.CommandLine.{PlainList, PlainOrder}

@@ -4,7 +4,7 @@ use Rattle.std.specs.Prelude.{◌⊎◌, Contains, IfSome, IsOk, MatchOption, On
 use Rattle.std.proofs.lemmas.List.{length-map}
 use Rattle.std.specs.Io.KnownBytes.{Keeps, Appends}
 use Rattle.std.proofs.lemmas.List.Elements.{All-cons, All-nil, All-from_recursion}
-use Rattle.lx_table_texts.specs.Model.{Table}
+use Rattle.lx_tables.specs.Model.{Table}
 use Rattle.lx_plan.specs.Plans.{PlainInput, max_files}
 use Rattle.lx_tables.specs.Output.{Wrote}
 use Rattle.lx_c.specs.Options.{Options, named}

@@ -2,10 +2,10 @@
 use Rattle.std.proofs.Common.{◌≡◌, ℕ, ◌<◌, List, Option, inl, inr, All, refl, sym, ◌∙◌, ap, arith}
 use Rattle.std.specs.Prelude.{slice_index}
 use Rattle.lx_rules.specs.Plain.{PlainSpec}
-use Rattle.lx_table_texts.specs.Model.{Table, IsTable, AreTablesOf}
-use Rattle.lx_table_texts.specs.Reading.{IsTextOf}
-use Rattle.lx_table_texts.specs.Texts.{text_1, text_2}
-use Rattle.lx_table_texts.specs.Uniqueness.{IsOneToOne}
+use Rattle.lx_tables.specs.Model.{Table, IsTable, AreTablesOf}
+use Rattle.lx_tables.specs.Reading.{IsTextOf}
+use Rattle.lx_tables.specs.Texts.{text_1, text_2}
+use Rattle.lx_tables.specs.Uniqueness.{IsOneToOne}
 use Rattle.lx_scan.specs.ByRules.{AreItemsBy}
 use Rattle.lx_scan.specs.Items as scan
 use Rattle.lx_plan.specs.Plans.{PlainInput, Planned, bytes_of}

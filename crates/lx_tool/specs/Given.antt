@@ -2,7 +2,7 @@
 use Rattle.std.specs.Prelude.{◌≡◌, ℕ, ◌⊎◌, ⊤, List, Option, Contains}
 use Rattle.std.specs.Io.KnownBytes.{Keeps}
 use Rattle.lx_plan.specs.Plans.{PlainInput}
-use Rattle.lx_table_texts.specs.Reading.{IsNoText}
+use Rattle.lx_tables.specs.Reading.{IsNoText}
 use Rattle.lx_tables.specs.declared.fault.TableFault.TheVariants as table
 use Rattle.lx_tool.specs.Planning.{AreBytes}
 use Rattle.lx_tool.specs.Sources.{AreGiven, cut_names}

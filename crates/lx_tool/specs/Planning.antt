@@ -3,8 +3,8 @@ use Rattle.std.specs.Prelude.{◌≡◌, ℕ, ◌<◌, List, Option, All, length
 use Rattle.std.specs.Io.KnownBytes.{Appends}
 use Rattle.lx_rules.specs.Plain.{PlainSpec}
 use Rattle.lx_spec.specs.Whole.{IsRead}
-use Rattle.lx_table_texts.specs.Model.{Table, IsTable, AreTablesOf}
-use Rattle.lx_table_texts.specs.Reading.{IsTextOf}
+use Rattle.lx_tables.specs.Model.{Table, IsTable, AreTablesOf}
+use Rattle.lx_tables.specs.Reading.{IsTextOf}
 use Rattle.lx_scan.specs.ByRules.{AreItemsBy}
 use Rattle.lx_plan.specs.Plans.{PlainInput, Planned, bytes_of, items_of, kinds_of}
 use Rattle.lx_writing.specs.Appending.{AppendsPrefix}

@@ -5,10 +5,10 @@ use Rattle.std.specs.declared.alloc.Global.{Global}
 use Rattle.std.specs.declared.vec.Vec.{Vec}
 use Rattle.lx_rules.specs.Plain.{PlainSpec}
 use Rattle.lx_spec.specs.Whole.{IsRead}
-use Rattle.lx_table_texts.specs.Model.{Table, IsTable, AreTablesOf}
+use Rattle.lx_tables.specs.Model.{Table, IsTable, AreTablesOf}
 use Rattle.lx_tables.specs.Output.{Wrote}
-use Rattle.lx_table_texts.specs.Reading.{IsTextOf}
-use Rattle.lx_table_texts.specs.Texts.{text_2}
+use Rattle.lx_tables.specs.Reading.{IsTextOf}
+use Rattle.lx_tables.specs.Texts.{text_2}
 use Rattle.lx_c.specs.Declarations.{header_text}
 use Rattle.lx_c.specs.Kinds.{kind_fault}
 use Rattle.lx_c.specs.Options.{Options, named, option_fault}

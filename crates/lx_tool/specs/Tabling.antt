@@ -6,8 +6,8 @@ use Rattle.lx_spec.specs.declared.fault.Code.TheVariants as code
 use Rattle.lx_auto.specs.declared.fault.BuildFault.{BuildFault}
 use Rattle.lx_auto.specs.declared.fault.BuildFault.TheVariants as build
 use Rattle.lx_auto.specs.TooLarge.{HasTooManyPositions, HasTooManySets}
-use Rattle.lx_table_texts.specs.Model.{Table, IsTable, AreTablesOf}
-use Rattle.lx_table_texts.specs.Reading.{IsTextOf}
+use Rattle.lx_tables.specs.Model.{Table, IsTable, AreTablesOf}
+use Rattle.lx_tables.specs.Reading.{IsTextOf}
 use Rattle.lx_tool.specs.declared.failure.Failure.{Failure}
 use Rattle.lx_tool.specs.declared.failure.Failure.TheVariants.{Specification, Automaton, Tables, Unprintable, Words, TooManyFiles, InputTwice, Refused, NotRead, Output, Memory}
 

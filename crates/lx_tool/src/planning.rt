@@ -2,8 +2,8 @@
 
 ghost use Rattle.std.specs.Prelude.{◌≡◌, ◌<◌, ◌≤◌, ℕ, List, Option, OnOk, OnErr, map, vec_len};
 ghost use Rattle.lx_plan.specs.Plans.{PlainInput, input_view, max_files, max_items, max_workers};
-ghost use Rattle.lx_table_texts.specs.Model.{Table, IsTable};
-ghost use Rattle.lx_table_texts.specs.Reading.{IsTextOf};
+ghost use Rattle.lx_tables.specs.Model.{Table, IsTable};
+ghost use Rattle.lx_tables.specs.Reading.{IsTextOf};
 ghost use Rattle.lx_forms.specs.Views.{form_view};
 ghost use Rattle.lx_tool.specs.Planning.{AreBytes, ListsBy, ListsByRules, ListsIn, ListsPrefixBy, ListsPrefixIn};
 ghost use Rattle.lx_tool.specs.Tabling.{AreTablesOfText};

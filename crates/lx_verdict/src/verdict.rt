@@ -7,7 +7,7 @@ ghost use Rattle.lx_rules.specs.views.Specs.{spec_view};
 ghost use Rattle.lx_rules.specs.Limits.{max_positions};
 ghost use Rattle.lx_spec.specs.Whole.{IsFault, IsRead};
 ghost use Rattle.lx_auto.specs.TooLarge.{HasTooManyPositions, HasTooManySets};
-ghost use Rattle.lx_table_texts.specs.Model.{AreTablesOf};
+ghost use Rattle.lx_tables.specs.Model.{AreTablesOf};
 ghost use Rattle.lx_verdict.specs.Verdicts.{IsTooLarge};
 
 use crate::finding::Finding;

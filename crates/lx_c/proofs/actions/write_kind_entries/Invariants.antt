@@ -1,5 +1,5 @@
 use Rattle.lx_c.specs.Actions.{kind_entry}
-use Rattle.lx_table_texts.specs.Model.{kind_at}
+use Rattle.lx_tables.specs.Model.{kind_at}
 use Rattle.lx_tables.specs.Output.{Wrote}
 use Rattle.std.proofs.Common.{length, take}
 use Rattle.std.specs.List.{flat_map, range_with_len}

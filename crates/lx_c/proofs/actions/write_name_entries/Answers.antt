@@ -1,5 +1,5 @@
 use Rattle.lx_c.specs.Actions.{name_entry}
-use Rattle.lx_table_texts.specs.Model.{kind_at}
+use Rattle.lx_tables.specs.Model.{kind_at}
 use Rattle.std.proofs.Common.{length}
 use Rattle.std.proofs.Common.{arith}
 use Rattle.std.proofs.lemmas.Result.{err_from_is_err_and}

@@ -1,5 +1,5 @@
 use Rattle.lx_c.specs.Actions.{steps_array}
-use Rattle.lx_table_texts.specs.Model.{rule_at}
+use Rattle.lx_tables.specs.Model.{rule_at}
 use Rattle.std.proofs.Common.{length}
 use Rattle.std.proofs.Common.{arith}
 use Rattle.std.proofs.lemmas.Result.{err_from_is_err_and}

@@ -1,5 +1,5 @@
 use Rattle.lx_c.specs.Kinds.{name_in_c}
-use Rattle.lx_table_texts.specs.Texts.{number}
+use Rattle.lx_tables.specs.Texts.{number}
 use Rattle.std.proofs.Common.{codes, ◌++◌, ◌+◌}
 use Rattle.std.proofs.lemmas.Result.{err_from_is_err_and, on_err_weaker, on_ok_weaker}
 use Rattle.lx_c.proofs.Written.{wrote_both, prefix_more, prefix_then}

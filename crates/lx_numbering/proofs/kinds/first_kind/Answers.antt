@@ -1,6 +1,6 @@
 use Rattle.std.proofs.Common.{ap, sym, ◌∙◌, [], false, arith}
 use Rattle.lx_numbering.specs.Numbers.{above, returned_by}
-use Rattle.lx_table_texts.specs.Model.{rule_at}
+use Rattle.lx_tables.specs.Model.{rule_at}
 use Rattle.lx_numbering.proofs.Numbers.{above_more}
 use Rattle.lx_numbering.proofs.kinds.first_kind.Goals as goal
 

@@ -1,6 +1,6 @@
 use Rattle.std.proofs.Common.{◌≡◌, ◌≢◌, ◌-◌, ◌<◌, ◌≤◌, ℕ, length, slice_index}
 use Rattle.lx_scan.specs.Steps.{condition_after}
-use Rattle.lx_table_texts.specs.Model.{rule_at}
+use Rattle.lx_tables.specs.Model.{rule_at}
 use Rattle.lx_reach.specs.Chosen.{IsChosenIn}
 use Rattle.lx_reach.specs.Entered.{IsEntered}
 use Rattle.lx_reach.specs.Reached.{AreMet}

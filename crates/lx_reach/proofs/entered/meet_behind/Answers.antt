@@ -1,6 +1,6 @@
 use Rattle.std.proofs.Common.{◌≡◌, ◌∙◌, ap, arith}
 use Rattle.lx_scan.specs.Steps.{condition_after}
-use Rattle.lx_table_texts.specs.Model.{rule_at}
+use Rattle.lx_tables.specs.Model.{rule_at}
 use Rattle.lx_reach.proofs.Entering.{behind_known}
 use Rattle.lx_reach.proofs.entered.meet_behind.Goals as goal
 

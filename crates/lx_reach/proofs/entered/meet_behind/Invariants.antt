@@ -1,6 +1,6 @@
 use Rattle.std.proofs.Common.{◌≡◌, ◌≢◌, ◌<◌, ◌≤◌, ◌⊎◌, ℕ, true, false, length, slice_index, slice_index_or}
 use Rattle.lx_scan.specs.Steps.{condition_after}
-use Rattle.lx_table_texts.specs.Model.{rule_at}
+use Rattle.lx_tables.specs.Model.{rule_at}
 use Rattle.lx_reach.specs.Entered.{IsBehind}
 use Rattle.lx_reach.specs.Reached.{AreMet}
 use Rattle.lx_reach.proofs.entered.meet_behind.Given as goal

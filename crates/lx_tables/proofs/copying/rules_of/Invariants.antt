@@ -1,7 +1,7 @@
 use Rattle.std.proofs.Common.{◌≡◌, map, take}
 use Rattle.lx_rules.specs.views.Rules.{rule_view}
-use Rattle.lx_table_texts.specs.Model.{table_rule}
-use Rattle.lx_table_texts.specs.Views.{rules_view}
+use Rattle.lx_tables.specs.Model.{table_rule}
+use Rattle.lx_tables.specs.Views.{rules_view}
 use Rattle.lx_tables.proofs.copying.rules_of.Given as goal
 
 abbrev pub invariant-loop-rule : goal.invariant-loop-rule

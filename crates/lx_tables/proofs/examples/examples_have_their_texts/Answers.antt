@@ -1,6 +1,6 @@
 use Rattle.std.proofs.Common.{refl}
 use Rattle.std.specs.Fmt.{digits}
-use Rattle.lx_table_texts.specs.Texts.{all_bytes}
+use Rattle.lx_tables.specs.Texts.{all_bytes}
 use Rattle.lx_tables.proofs.examples.examples_have_their_texts.Goals as goal
 
 pub returns : goal.returns

@@ -2,7 +2,7 @@ use Rattle.std.proofs.Common.{◌≡◌, ◌<◌, ◌+◌, ℕ, length}
 use Rattle.std.specs.Prelude.{slice_index}
 use Rattle.lx_tables.specs.Joined.{giving}
 use Rattle.lx_tables.specs.Labels.{step_of_label}
-use Rattle.lx_table_texts.specs.Model.{rule_at}
+use Rattle.lx_tables.specs.Model.{rule_at}
 use Rattle.lx_tables.proofs.joining.labels_of.Given as goal
 
 abbrev pub invariant-loop-rule : goal.invariant-loop-rule

@@ -3,7 +3,7 @@ use Rattle.std.proofs.lemmas.List.{drop_all}
 use Rattle.std.proofs.lemmas.List.FromFn.{length-range_with_len}
 use Rattle.std.specs.List.{flat_map, range_with_len}
 use Rattle.lx_automaton.specs.Automata.{class_target}
-use Rattle.lx_table_texts.specs.Texts.{entry_text}
+use Rattle.lx_tables.specs.Texts.{entry_text}
 use Rattle.lx_tables.proofs.Rows.{texts_before}
 use Rattle.lx_tables.proofs.lines.place_entries.Goals as goal
 

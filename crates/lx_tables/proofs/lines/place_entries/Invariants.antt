@@ -1,7 +1,7 @@
 use Rattle.std.proofs.Common.{◌≡◌, ◌*◌, ◌≤◌, drop, length}
 use Rattle.std.specs.List.{flat_map, range_with_len}
 use Rattle.lx_automaton.specs.Automata.{class_target}
-use Rattle.lx_table_texts.specs.Texts.{entry_text}
+use Rattle.lx_tables.specs.Texts.{entry_text}
 use Rattle.lx_tables.proofs.lines.place_entries.Given as goal
 
 abbrev pub invariant-classes : goal.invariant-classes

@@ -1,6 +1,6 @@
 use Rattle.std.proofs.Common.{◌-◌, ◌≤◌, length, arith}
 use Rattle.std.proofs.lemmas.Fmt.{length-decimal-le}
-use Rattle.lx_table_texts.specs.Texts.{number}
+use Rattle.lx_tables.specs.Texts.{number}
 use Rattle.lx_tables.proofs.lines.place_entry.Goals as goal
 
 pub place_number-target-requires : goal.place_number-target-requires

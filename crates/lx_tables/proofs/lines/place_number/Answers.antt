@@ -1,6 +1,6 @@
 use Rattle.std.proofs.Common.{◌≡◌, ◌+◌, ◌-◌, ◌∷◌, ◌++◌, drop, length, ap, ◌∙◌, arith}
 use Rattle.std.proofs.lemmas.List.{drop-set}
-use Rattle.lx_table_texts.specs.Texts.{number}
+use Rattle.lx_tables.specs.Texts.{number}
 use Rattle.lx_tables.proofs.lines.place_number.Goals as goal
 
 pub returns-clause-placed : goal.returns-clause-placed

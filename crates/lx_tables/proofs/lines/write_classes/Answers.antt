@@ -1,7 +1,7 @@
 use Rattle.std.proofs.lemmas.Result.{err_from_is_err_and, on_err_weaker}
 use Rattle.std.proofs.Common.{codes}
 use Rattle.lx_tables.specs.Lines.{value_of}
-use Rattle.lx_table_texts.specs.Texts.{byte_ranges}
+use Rattle.lx_tables.specs.Texts.{byte_ranges}
 use Rattle.lx_tables.specs.declared.byte_values.ByteValues.TheVariants.{Classes}
 use Rattle.lx_tables.proofs.Written.{wrote_both, prefix_more, prefix_then}
 use Rattle.lx_tables.proofs.lines.write_classes.Goals as goal

@@ -2,9 +2,9 @@ use Rattle.std.proofs.Common.{ℕ, List, ◌≡◌, ◌-◌, sym, ◌∙◌, sub
 use Rattle.std.proofs.lemmas.Result.{err_from_is_err_and, on_err_weaker, on_ok_weaker}
 use Rattle.lx_automaton.specs.EncodedOptions.{decoded_option}
 use Rattle.lx_tables.specs.Lines.{value_of}
-use Rattle.lx_table_texts.specs.Texts.{range_text, byte_ranges}
+use Rattle.lx_tables.specs.Texts.{range_text, byte_ranges}
 use Rattle.lx_tables.proofs.Written.{WroteBefore, before_all, before_more, before_prefix, before_end}
-use Rattle.lx_table_texts.proofs.Ranges.{run_begins, run_ends, run_goes, run_last}
+use Rattle.lx_tables.proofs.Ranges.{run_begins, run_ends, run_goes, run_last}
 use Rattle.lx_tables.proofs.lines.write_ranges.Goals as goal
 use Rattle.lx_tables.proofs.lines.write_ranges.Goals.{then-next-value+in_ok-write_range, else-next-value}
 

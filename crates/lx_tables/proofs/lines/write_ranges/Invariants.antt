@@ -1,7 +1,7 @@
 use Rattle.std.proofs.Common.{◌<◌, ◌≤◌, ◌-◌, drop, map}
 use Rattle.lx_automaton.specs.EncodedOptions.{decoded_option}
 use Rattle.lx_tables.specs.Lines.{value_of}
-use Rattle.lx_table_texts.specs.Texts.{all_bytes, ranges_from, byte_ranges}
+use Rattle.lx_tables.specs.Texts.{all_bytes, ranges_from, byte_ranges}
 use Rattle.lx_tables.proofs.Written.{WroteBefore}
 use Rattle.lx_tables.proofs.lines.write_ranges.Given as goal
 

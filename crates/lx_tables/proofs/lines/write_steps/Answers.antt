@@ -1,6 +1,6 @@
 use Rattle.std.proofs.lemmas.Result.{err_from_is_err_and}
 use Rattle.lx_rules.specs.declared.rule.Step.TheVariants.{Echo}
-use Rattle.lx_table_texts.specs.Texts.{step_text}
+use Rattle.lx_tables.specs.Texts.{step_text}
 use Rattle.lx_tables.proofs.Written.{prefix_next}
 use Rattle.lx_tables.proofs.lines.write_steps.Goals as goal
 

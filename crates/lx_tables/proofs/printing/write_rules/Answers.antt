@@ -1,6 +1,6 @@
 use Rattle.std.proofs.lemmas.Result.{err_from_is_err_and}
 use Rattle.std.proofs.Common.{false, [], arith}
-use Rattle.lx_table_texts.specs.Texts.{rule_line}
+use Rattle.lx_tables.specs.Texts.{rule_line}
 use Rattle.lx_tables.proofs.Written.{prefix_next}
 use Rattle.lx_tables.proofs.printing.write_rules.Goals as goal
 

@@ -1,6 +1,6 @@
 use Rattle.std.proofs.Common.{take}
 use Rattle.std.specs.List.{flat_map}
-use Rattle.lx_table_texts.specs.Texts.{start_line}
+use Rattle.lx_tables.specs.Texts.{start_line}
 use Rattle.lx_tables.specs.Output.{Wrote}
 use Rattle.lx_tables.proofs.printing.write_starts.Given as goal
 

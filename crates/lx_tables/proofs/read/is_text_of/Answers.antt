@@ -1,5 +1,5 @@
 use Rattle.std.proofs.Common.{rules, ◌∙◌}
-use Rattle.lx_table_texts.proofs.TextsRead.{own_first}
+use Rattle.lx_tables.proofs.TextsRead.{own_first}
 use Rattle.lx_tables.proofs.read.is_text_of.Goals as goal
 
 pub returns : goal.returns

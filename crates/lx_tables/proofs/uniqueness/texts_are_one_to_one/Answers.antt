@@ -1,5 +1,5 @@
-use Rattle.lx_table_texts.proofs.ByBytes.{same_first}
-use Rattle.lx_table_texts.proofs.WholeRead.{one_table_2}
+use Rattle.lx_tables.proofs.ByBytes.{same_first}
+use Rattle.lx_tables.proofs.WholeRead.{one_table_2}
 use Rattle.lx_tables.proofs.uniqueness.texts_are_one_to_one.Goals as goal
 
 pub returns-clause-first : goal.returns-clause-first

@@ -1,6 +1,6 @@
 use Rattle.std.proofs.Common.{◌≡◌, ℕ, List, ap, arith}
 use Rattle.std.specs.Prelude.{slice_index}
-use Rattle.lx_table_texts.specs.Texts.{text_1, text_2}
+use Rattle.lx_tables.specs.Texts.{text_1, text_2}
 use Rattle.lx_tables.proofs.uniqueness.versions_are_apart.Goals as goal
 
 -- the number of the version stands at place 10

@@ -1,6 +1,6 @@
 use Rattle.std.proofs.Common.{ap, slice_index}
 use Rattle.lx_automaton.specs.Automata.{Machine, IsMachine, HasByteClasses, class_target}
-use Rattle.lx_table_texts.specs.Model.{AreByteClasses}
+use Rattle.lx_tables.specs.Model.{AreByteClasses}
 use Rattle.lx_tables.proofs.tables.Tables.classes.Goals as goal
 
 -- numbered and different classes are the byte classes

@@ -1,8 +1,8 @@
 use Rattle.std.proofs.lemmas.Result.{err_from_is_err_and, on_err_weaker, on_ok_weaker}
 use Rattle.std.proofs.Common.{codes}
 use Rattle.lx_tables.specs.Lines.{state_line}
-use Rattle.lx_table_texts.specs.Texts.{front_text, count_line, class_line, states_text}
-use Rattle.lx_table_texts.specs.declared.version.Version.TheVariants.{Second}
+use Rattle.lx_tables.specs.Texts.{front_text, count_line, class_line, states_text}
+use Rattle.lx_tables.specs.declared.version.Version.TheVariants.{Second}
 use Rattle.lx_tables.proofs.Written.{wrote_both, prefix_more, prefix_then}
 use Rattle.lx_tables.proofs.tables.Tables.print.Goals as goal
 

@@ -1,8 +1,8 @@
 use Rattle.std.proofs.Common.{◌∙◌, sym, subst}
 use Rattle.std.proofs.lemmas.Result.{err_from_is_err_and}
-use Rattle.lx_table_texts.specs.Limits.{HasLimits}
-use Rattle.lx_table_texts.specs.Reading.{IsClassed}
-use Rattle.lx_table_texts.proofs.TextsRead.{refused_by_limits, refused_by_text}
+use Rattle.lx_tables.specs.Limits.{HasLimits}
+use Rattle.lx_tables.specs.Reading.{IsClassed}
+use Rattle.lx_tables.proofs.TextsRead.{refused_by_limits, refused_by_text}
 use Rattle.lx_tables.proofs.tables.Tables.read.Goals as goal
 
 pub returns-in_err-has_limits-clause-tables : goal.returns-in_err-has_limits-clause-tables

@@ -1,8 +1,0 @@
-use Rattle.std.proofs.Common.{◌≡◌, ◌-◌, map}
-use Rattle.lx_automaton.specs.EncodedOptions.{decoded_option}
-use Rattle.lx_table_texts.specs.Readers.{read_lines, read_states}
-use Rattle.lx_table_texts.proofs.Onto.{lines_onto}
-use Rattle.lx_table_texts.proofs.lenient.states.Given as goal
-
-abbrev pub invariant-loop : goal.invariant-loop
-invariant-loop l = lines_onto (map decoded_option l.accepted.items) (map decoded_option l.targets.items) (read_lines l.version l.width (l.many - l.counter) l.rest) ≡ read_states l.version l.width l.text
