@@ -6,7 +6,7 @@ ghost use Rattle.lx_diagnose.specs.Printed.{ArePrinted};
 use crate::places::{Span, between};
 use crate::scan::{begins_at, behind_digits, find, is_at, part};
 use crate::wording::{Fillings, filled, printed, told};
-use lx_explain::words_of;
+use crate::words_of;
 use std::alloc::{AllocError, Global};
 
 // What each table's text begins with.

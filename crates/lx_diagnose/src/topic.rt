@@ -6,7 +6,7 @@ ghost use Rattle.lx_diagnose.specs.CodeWords.{word_of};
 
 use crate::causes::Cause;
 use crate::naming::name_of;
-use lx_explain::to_do;
+use crate::to_do;
 
 /// The code of a cause, as it is printed.
 pub fn code_word(cause: Cause) -> &'static str

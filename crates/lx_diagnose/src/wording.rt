@@ -10,7 +10,7 @@ use crate::phrases::phrase_of;
 use crate::scan::part;
 use crate::topic::topic_of;
 use itoa::Buffer;
-use lx_explain::words_of;
+use crate::words_of;
 use std::alloc::{AllocError, Global};
 
 // The most bytes of a name that are shown.

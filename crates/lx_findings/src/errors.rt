@@ -9,7 +9,7 @@ use crate::pieces::{place_of, push_line, push_note, push_source};
 use crate::style::Style;
 use lx_check::Finding;
 use lx_diagnose::{Diagnosis, code_word, diagnose, hint, note_words, sentence};
-use lx_explain::{to_do, words_of};
+use lx_diagnose::{to_do, words_of};
 use lx_report::{Place, Severity};
 use lx_spec::SpecFault;
 use std::alloc::{AllocError, Global};

@@ -7,7 +7,7 @@ use crate::style::Style;
 use crate::warnings::warnings_in;
 use lx_check::{Accepted, Finding as Fault, Report};
 use lx_diagnose::{code_word, diagnose, name_of as name_of_cause, sentence};
-use lx_explain::words_of;
+use lx_diagnose::words_of;
 use lx_report::{Finding, Place, Severity, push_result, push_sarif_end, push_sarif_start};
 use lx_spec::SpecFault;
 use lx_warnings::{Warning, name_of};

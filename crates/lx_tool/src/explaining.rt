@@ -10,7 +10,7 @@ ghost use Rattle.lx_tool.specs.declared.failure.PrintFault.TheVariants.{Unexplai
 use crate::failure::{Failure, PrintFault};
 use crate::output::write_text;
 use crate::suggesting::note_topics;
-use lx_explain::{all_topics, explain};
+use lx_diagnose::{all_topics, explain};
 use std::alloc::{AllocError, Global};
 use std::io::Write;
 

@@ -19,7 +19,7 @@ use crate::source::Sources;
 use crate::tabling::{specification_of, unjoined_tables_of};
 use crate::target::Targets;
 use lx_auto::BuildFault;
-use lx_explain::{to_do, words_of};
+use lx_diagnose::{to_do, words_of};
 use lx_flex::{Fault, Imported, Options, Report, import};
 use lx_tables::Tables;
 use lx_words::{CWords, ImportWords};

@@ -1,6 +1,6 @@
 use Rattle.std.proofs.Common.{◌≡◌, true, sym, ◌∙◌}
 use Rattle.std.proofs.lemmas.Str.Pattern.{starts_text}
-use Rattle.lx_explain.proofs.explaining.piece_of.Goals as goal
+use Rattle.lx_diagnose.proofs.explaining.piece_of.Goals as goal
 
 pub returns-then-starts_with-2 : goal.returns-then-starts_with-2
 returns-then-starts_with-2 c =
