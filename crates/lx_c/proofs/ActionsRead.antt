@@ -13,10 +13,10 @@ use Rattle.lx_rules.specs.declared.rule.Step.{Step}
 use Rattle.lx_rules.specs.declared.rule.Step.TheVariants.{Echo, Begin, Return}
 use Rattle.lx_tables.specs.Model.{TableRule, Table, IsTable, rule_at}
 use Rattle.lx_c.specs.Options.{Options, has_file}
-use Rattle.lx_numbering.specs.Numbers.{above, first_kind, returned_by}
+use Rattle.lx_c.specs.Numbers.{above, first_kind, returned_by}
 use Rattle.lx_c.specs.Actions.{step_word, step_entry, action_word, action_entry, line_end_entry}
 use Rattle.lx_c.specs.Reading.{read_words, read_signed, step_number, action_number, HaveTheActions}
-use Rattle.lx_numbering.proofs.Numbers.{above-append}
+use Rattle.lx_c.proofs.Numbers.{above-append}
 use Rattle.lx_c.proofs.Reading.{read_on, own}
 
 digits_read : (minus : Bool) (n : ℕ) (ds behind : List ℕ) → all_ascii_digits ds ≡ true → read_signed minus n (ds ++ (44 ∷ behind)) ≡ (minus, read_on n ds) ∷ read_signed false 0 behind

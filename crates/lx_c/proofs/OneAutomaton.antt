@@ -6,7 +6,7 @@ use Rattle.std.proofs.lemmas.Nat.{mul-le}
 use Rattle.std.proofs.lemmas.List.{ext_get_or, append_cancel_left, length-append}
 use Rattle.std.proofs.lemmas.List.FromFn.{length-map-range_with_len, get_or-map-range_with_len}
 use Rattle.lx_automaton.specs.Automata.{Machine, IsMachine, state_count, start_of, accepted_by, class_target}
-use Rattle.lx_numbering.specs.Words.{row_width, row_of, target_word, rule_word}
+use Rattle.lx_c.specs.Words.{row_width, row_of, target_word, rule_word}
 use Rattle.lx_c.specs.Reading.{row_words, rows_words, start_words}
 
 -- lists that begin with as many elements, joined

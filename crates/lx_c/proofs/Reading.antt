@@ -12,7 +12,7 @@ use Rattle.std.proofs.lemmas.List.{ext_get_or}
 use Rattle.std.proofs.lemmas.List.FromFn.{length-map-range_with_len, get_or-map-range_with_len}
 use Rattle.lx_automaton.specs.Automata.{Machine, IsMachine, state_count, start_of, accepted_by, class_target}
 use Rattle.lx_c.specs.Rows.{entry_text, step_entries, row_text, row_lines, rows_text, class_entries, start_line}
-use Rattle.lx_numbering.specs.Words.{row_width, row_of, target_word, rule_word}
+use Rattle.lx_c.specs.Words.{row_width, row_of, target_word, rule_word}
 use Rattle.lx_c.specs.Reading.{read_words, row_words, rows_words, HaveTheWords}
 
 abbrev pub read_on : ℕ → List ℕ → ℕ

@@ -7,7 +7,7 @@ use Rattle.std.proofs.lemmas.List.FromFn.{length-range_with_len, get_or-range_wi
 use Rattle.std.proofs.lemmas.Grind.{flat_map-append}
 use Rattle.std.specs.List.{flat_map, range_with_len}
 use Rattle.lx_tables.specs.Output.{Wrote, WrotePrefix}
-use Rattle.lx_numbering.proofs.Numbers.{texts_more}
+use Rattle.lx_c.proofs.Numbers.{texts_more}
 
 appends_both : (a b c : Option (List ℕ)) (xs ys : List ℕ) → Appends a b xs → Appends b c ys → Appends a c (xs ++ ys)
 appends_both None b c xs ys h k = tt

@@ -8,7 +8,7 @@ use Rattle.lx_rules.specs.declared.rule.Step.TheVariants.{Echo, Begin, Return}
 use Rattle.lx_tables.specs.Texts.{number}
 use Rattle.lx_tables.specs.Model.{Table, rule_at, kind_at}
 use Rattle.lx_c.specs.Options.{Options, has_file}
-use Rattle.lx_numbering.specs.Numbers.{first_kind}
+use Rattle.lx_c.specs.Numbers.{first_kind}
 use Rattle.lx_c.specs.Templates.{filled, number_then}
 use Rattle.lx_c.specs.declared.templates.TheConstants.{STEP_ARRAY, STEPS_OF, STEPS, ACTIONS, LINE_ENDS, NAMES, KINDS, LINE_END, NO_LINE_END, PENDING, NOTHING_PENDING}
 

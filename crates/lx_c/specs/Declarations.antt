@@ -5,7 +5,7 @@ use Rattle.lx_tables.specs.Texts.{number}
 use Rattle.lx_tables.specs.Model.{Table, kind_at}
 use Rattle.lx_c.specs.Options.{Options, has_file}
 use Rattle.lx_c.specs.Kinds.{name_in_c}
-use Rattle.lx_numbering.specs.Numbers.{first_kind}
+use Rattle.lx_c.specs.Numbers.{first_kind}
 use Rattle.lx_c.specs.Templates.{filled, number_then}
 use Rattle.lx_c.specs.declared.templates.TheConstants.{GUARD, SPECIAL_KINDS, KINDS_END, FIRST_KIND, CONDITIONS, FUNCTIONS}
 

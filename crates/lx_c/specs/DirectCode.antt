@@ -9,7 +9,7 @@ use Rattle.lx_tables.specs.Texts.{number}
 use Rattle.lx_c.specs.Options.{Options}
 use Rattle.lx_c.specs.Actions.{array_text}
 use Rattle.lx_c.specs.Rows.{entry_text, line_begin_text}
-use Rattle.lx_numbering.specs.Words.{rule_word}
+use Rattle.lx_c.specs.Words.{rule_word}
 use Rattle.lx_c.specs.Templates.{filled, number_then}
 use Rattle.lx_c.specs.declared.direct_templates.TheConstants.{MARKS, MAY_BE_EMPTY, NONE_IS_EMPTY, BEGIN_MATCH, AT_LINE_BEGIN, BEHIND_LINE_END, GOTO_STATE, BEGIN_STATES, STATE_LABEL, LOOP, RANGES, LOOP_RULE, AT_END, FIRST, NEWLINE, GO, OTHER, GOTO_RULE, BACK, GOTO_RULE_OF, NO_RULE, RULE_LABEL, MATCHED, SKIPPED, END_MATCH}
 

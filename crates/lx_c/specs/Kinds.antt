@@ -3,7 +3,7 @@ use Rattle.std.specs.Prelude.{ℕ, ◌+◌, ◌-◌, ◌==◌, nat_eq, nat_lt, �
 use Rattle.std.specs.List.{flat_map, starts_with}
 use Rattle.lx_automaton.specs.Automata.{state_count}
 use Rattle.lx_tables.specs.Model.{Table}
-use Rattle.lx_numbering.specs.Numbers.{first_kind}
+use Rattle.lx_c.specs.Numbers.{first_kind}
 use Rattle.lx_c.specs.Options.{Options, is_small_letter, has_file, max_direct_states}
 use Rattle.lx_c.specs.declared.fault.KindFault.{KindFault}
 use Rattle.lx_c.specs.declared.fault.KindFault.TheVariants.{Numbers, Reserved, Declared, States}

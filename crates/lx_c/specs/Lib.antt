@@ -2,8 +2,10 @@ pub mod Actions
 pub mod Declarations
 pub mod DirectCode
 pub mod Kinds
+pub mod Numbers
 pub mod Options
 pub mod Reading
 pub mod Rows
 pub mod Scanner
 pub mod Templates
+pub mod Words

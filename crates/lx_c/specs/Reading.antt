@@ -8,10 +8,10 @@ use Rattle.lx_rules.specs.declared.rule.Step.{Step}
 use Rattle.lx_rules.specs.declared.rule.Step.TheVariants.{Echo, Begin, Return}
 use Rattle.lx_tables.specs.Model.{Table, rule_at}
 use Rattle.lx_c.specs.Options.{Options}
-use Rattle.lx_numbering.specs.Numbers.{first_kind}
+use Rattle.lx_c.specs.Numbers.{first_kind}
 use Rattle.lx_c.specs.Actions.{step_entry, action_entries, line_end_entries}
 use Rattle.lx_c.specs.Rows.{class_entries, rows_text, start_lines}
-use Rattle.lx_numbering.specs.Words.{row_width, row_of, target_word, rule_word}
+use Rattle.lx_c.specs.Words.{row_width, row_of, target_word, rule_word}
 
 -- the numbers between braces (C99, 6.7.8): digits make a number, behind those of n, a comma ends it, and all else is passed over
 abbrev pub read_words : ℕ → List ℕ → List ℕ

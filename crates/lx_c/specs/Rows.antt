@@ -4,7 +4,7 @@ use Rattle.std.specs.Prelude.{ℕ, ◌==◌, not, nat_lt, Bool, true, false, if�
 use Rattle.std.specs.List.{flat_map, list_any, range_with_len}
 use Rattle.lx_automaton.specs.Automata.{Machine, state_count, start_of, accepted_by, class_target}
 use Rattle.lx_tables.specs.Model.{Table}
-use Rattle.lx_numbering.specs.Words.{row_width, row_of, target_word, rule_word, greatest_word}
+use Rattle.lx_c.specs.Words.{row_width, row_of, target_word, rule_word, greatest_word}
 use Rattle.lx_c.specs.Options.{Options}
 use Rattle.lx_c.specs.Actions.{array_text}
 use Rattle.lx_c.specs.Templates.{filled, number_then}

@@ -2,7 +2,7 @@
 use Rattle.std.specs.Prelude.{ℕ, if◌then◌else◌, List, ◌++◌}
 use Rattle.lx_tables.specs.Model.{Table}
 use Rattle.lx_c.specs.Options.{Options, has_file}
-use Rattle.lx_numbering.specs.Numbers.{first_kind}
+use Rattle.lx_c.specs.Numbers.{first_kind}
 use Rattle.lx_c.specs.Templates.{filled}
 use Rattle.lx_c.specs.Declarations.{header_from}
 use Rattle.lx_c.specs.Actions.{actions_from}

@@ -9,7 +9,7 @@ ghost use Rattle.lx_tables.specs.Output.{Wrote, WrotePrefix};
 ghost use Rattle.lx_tables.specs.Texts.{number};
 ghost use Rattle.std.specs.List.{flat_map, range_with_len};
 ghost use Rattle.std.specs.Prelude.{OnErr, OnOk, [], codes, length, ◌++◌, ◌+◌, ◌≡◌, ◌≤◌};
-ghost use Rattle.lx_numbering.specs.Numbers.{max_first_kind};
+ghost use Rattle.lx_c.specs.Numbers.{max_first_kind};
 
 use crate::filling::write_filled;
 use crate::options::Options;
@@ -18,7 +18,7 @@ use crate::templates::{
     STEPS, STEPS_OF,
 };
 use crate::writing::{write_bytes, write_number, write_number_then, write_numbered, write_parts};
-use lx_numbering::kind_name;
+use crate::kind_name;
 use lx_rules::rule::{Kind, Step};
 use lx_tables::Tables;
 use std::io::{self, Write};

@@ -9,7 +9,7 @@ ghost use Rattle.lx_tables.specs.Output.{Wrote, WrotePrefix};
 ghost use Rattle.lx_tables.specs.Texts.{number};
 ghost use Rattle.std.specs.List.{flat_map, range_with_len};
 ghost use Rattle.std.specs.Prelude.{OnErr, OnOk, [], codes, length, option_map, ◌++◌, ◌+◌, ◌<◌, ◌∷◌, ◌≡◌, ◌≤◌};
-ghost use Rattle.lx_numbering.specs.Numbers.{max_first_kind};
+ghost use Rattle.lx_c.specs.Numbers.{max_first_kind};
 
 use crate::filling::write_filled;
 use crate::options::Options;

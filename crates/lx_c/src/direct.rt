@@ -3,7 +3,7 @@
 ghost use Rattle.lx_automaton.specs.Automata.{accepted_by, class_target, start_of, state_count, target_of};
 ghost use Rattle.lx_c.specs.DirectCode as direct;
 ghost use Rattle.lx_c.specs.DirectCode.{body_code, case_text, case_texts, class_code, direct_text, edge_text, emptiness_text, ends_text, first_code, keep_text, main_code, mark_byte, mark_line, marked_text, marks_text, newline_text, numbered, rule_case, rule_code, rules_text, start_code, state_code, states_text, steps_code};
-ghost use Rattle.lx_numbering.specs.Words as rows;
+ghost use Rattle.lx_c.specs.Words as rows;
 ghost use Rattle.lx_c.specs.Rows.{entry_text};
 ghost use Rattle.lx_c.specs.Templates.{number_then};
 ghost use Rattle.lx_c.specs.declared.direct_templates.TheConstants.{FIRST, GOTO_RULE_OF, GOTO_STATE, MATCHED, OTHER, RULE_LABEL};
@@ -23,7 +23,7 @@ use crate::options::Options;
 use crate::rows::write_line_begin;
 use crate::stepping::{class_target, step_count, target_of, write_numbered_text};
 use crate::writing::{write_bytes, write_number_then, write_numbered};
-use lx_numbering::rule_word;
+use crate::rule_word;
 use lx_tables::Tables;
 use std::io::{self, Write};
 

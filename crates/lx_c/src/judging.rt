@@ -10,7 +10,7 @@ use crate::fault::KindFault;
 use crate::options::Options;
 use crate::words::WORDS;
 use crate::writing::write_bytes;
-use lx_numbering::first_kind;
+use crate::first_kind;
 use lx_tables::Tables;
 use std::alloc::{AllocError, Global};
 use std::io::{self, Write};

@@ -3,7 +3,7 @@
 ghost use Rattle.std.specs.Prelude.{◌≡◌, None};
 ghost use Rattle.lx_automaton.specs.Automata.{Machine, IsMachine};
 ghost use Rattle.lx_tables.specs.Model.{Table, IsTable};
-ghost use Rattle.lx_numbering.specs.Numbers.{AreApart};
+ghost use Rattle.lx_c.specs.Numbers.{AreApart};
 ghost use Rattle.lx_c.specs.Options.{Options};
 ghost use Rattle.lx_c.specs.Reading.{HaveTheWords, HaveTheActions, IsOneToOne};
 

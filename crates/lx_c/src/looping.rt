@@ -3,7 +3,7 @@
 ghost use Rattle.lx_automaton.specs.Automata.{accepted_by, state_count};
 ghost use Rattle.lx_c.specs.DirectCode as direct;
 ghost use Rattle.lx_c.specs.DirectCode.{at_most, begin_code, end_code, high_bound, high_text, loop_code, low_bound, low_text, numbered, other_ranges_text, own_ranges_text, range_text, ranges_text, stays_text};
-ghost use Rattle.lx_numbering.specs.Words as rows;
+ghost use Rattle.lx_c.specs.Words as rows;
 ghost use Rattle.lx_c.specs.declared.direct_templates.TheConstants.{AT_END};
 ghost use Rattle.lx_tables.specs.Output.{Wrote, WrotePrefix};
 ghost use Rattle.std.specs.List.{flat_map, list_any, range_with_len};
@@ -13,7 +13,7 @@ use crate::direct_templates::{AT_END, LOOP, LOOP_RULE, RANGES};
 use crate::options::Options;
 use crate::stepping::{class_target, leads, one_if, step_count, target_of, write_numbered_text};
 use crate::writing::{write_bytes, write_number_then, write_numbered};
-use lx_numbering::rule_word;
+use crate::rule_word;
 use lx_tables::Tables;
 use std::io::{self, Write};
 

@@ -4,7 +4,7 @@ ghost use Rattle.lx_c.specs.Declarations.{header_text};
 ghost use Rattle.lx_c.specs.Scanner.{arrays_text, c_from, c_text, calls_text, driver_text, first_line_text, further_text, helpers_text, last_lines_text, name_text, walk_text};
 ghost use Rattle.lx_tables.specs.Output.{Wrote, WrotePrefix};
 ghost use Rattle.std.specs.Prelude.{OnErr, OnOk, ◌≤◌};
-ghost use Rattle.lx_numbering.specs.Numbers.{max_first_kind};
+ghost use Rattle.lx_c.specs.Numbers.{max_first_kind};
 
 use crate::actions::write_actions;
 use crate::declarations::write_header;
@@ -15,7 +15,7 @@ use crate::filling::write_filled;
 use crate::options::Options;
 use crate::rows::write_automaton;
 use crate::templates::{FIRST_LINE, LAST_LINES};
-use lx_numbering::first_kind;
+use crate::first_kind;
 use lx_tables::Tables;
 use std::io::{self, Write};
 

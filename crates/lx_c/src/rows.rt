@@ -3,8 +3,8 @@
 ghost use Rattle.lx_automaton.specs.Automata.{accepted_by, class_target, start_of, state_count};
 ghost use Rattle.lx_c.specs.Rows as rows;
 ghost use Rattle.lx_c.specs.Rows.{automaton_text, classes_text, entry_text, line_begin_text, row_text, rows_text, start_line, start_lines, type_text, width_text, word_array};
-ghost use Rattle.lx_numbering.specs.Words as words;
-ghost use Rattle.lx_numbering.specs.Words.{row_width};
+ghost use Rattle.lx_c.specs.Words as words;
+ghost use Rattle.lx_c.specs.Words.{row_width};
 ghost use Rattle.lx_c.specs.declared.templates.TheConstants.{ROWS, STARTS};
 ghost use Rattle.lx_tables.specs.Output.{Wrote, WrotePrefix};
 ghost use Rattle.std.specs.List.{list_any, flat_map, range_with_len};
@@ -14,7 +14,7 @@ use crate::filling::write_filled;
 use crate::options::Options;
 use crate::templates::{CLASSES, LINE_BEGIN, NO_LINE_BEGIN, ROWS, STARTS, WIDTH};
 use crate::writing::{write_bytes, write_number_then};
-use lx_numbering::{greatest_word, rule_word, start_word, target_word};
+use crate::{greatest_word, rule_word, start_word, target_word};
 use lx_tables::Tables;
 use std::io::{self, Write};
 

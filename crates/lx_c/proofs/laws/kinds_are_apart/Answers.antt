@@ -1,4 +1,4 @@
-use Rattle.lx_numbering.proofs.Numbers.{are_apart}
+use Rattle.lx_c.proofs.Numbers.{are_apart}
 use Rattle.lx_c.proofs.laws.kinds_are_apart.Goals as goal
 
 pub returns : goal.returns

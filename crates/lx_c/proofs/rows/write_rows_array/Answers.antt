@@ -1,5 +1,5 @@
 use Rattle.lx_c.specs.Rows.{rows_text, type_text}
-use Rattle.lx_numbering.specs.Words.{greatest_word}
+use Rattle.lx_c.specs.Words.{greatest_word}
 use Rattle.lx_c.specs.Templates.{filled}
 use Rattle.lx_c.specs.declared.templates.TheConstants.{ROWS}
 use Rattle.std.proofs.Common.{codes}

@@ -1,6 +1,6 @@
 use Rattle.lx_automaton.specs.Automata.{class_target}
 use Rattle.lx_c.specs.Rows.{entry_text}
-use Rattle.lx_numbering.specs.Words.{target_word}
+use Rattle.lx_c.specs.Words.{target_word}
 use Rattle.lx_tables.specs.Output.{Wrote}
 use Rattle.std.proofs.Common.{take}
 use Rattle.std.specs.List.{flat_map, range_with_len}

@@ -1,5 +1,5 @@
 use Rattle.lx_c.specs.Rows.{entry_text}
-use Rattle.lx_numbering.specs.Words.{row_width}
+use Rattle.lx_c.specs.Words.{row_width}
 use Rattle.std.proofs.Common.{arith}
 use Rattle.std.proofs.lemmas.Result.{err_from_is_err_and}
 use Rattle.lx_c.proofs.Written.{number_next, number_prefix, number_end}

@@ -1,5 +1,5 @@
 use Rattle.lx_c.specs.Rows.{entry_text}
-use Rattle.lx_numbering.specs.Words.{row_width}
+use Rattle.lx_c.specs.Words.{row_width}
 use Rattle.lx_tables.specs.Output.{Wrote}
 use Rattle.std.proofs.Common.{take}
 use Rattle.std.specs.List.{flat_map, range_with_len}

@@ -2,8 +2,8 @@
 
 ghost use Rattle.std.specs.Prelude.{◌≡◌, ◌≤◌, ◌<◌, length};
 ghost use Rattle.lx_tables.specs.Model.{rule_at, kind_at};
-ghost use Rattle.lx_numbering.specs.Numbers as kinds;
-ghost use Rattle.lx_numbering.specs.Numbers.{max_first_kind};
+ghost use Rattle.lx_c.specs.Numbers as kinds;
+ghost use Rattle.lx_c.specs.Numbers.{max_first_kind};
 
 use lx_rules::rule::{Kind, Step};
 use lx_tables::Tables;

@@ -2,7 +2,7 @@
 
 ghost use Rattle.std.specs.Prelude.{◌≡◌, ◌<◌, length};
 ghost use Rattle.lx_automaton.specs.Automata.{accepted_by, class_target, start_of, state_count};
-ghost use Rattle.lx_numbering.specs.Words as rows;
+ghost use Rattle.lx_c.specs.Words as rows;
 
 use lx_tables::{State, Tables};
 

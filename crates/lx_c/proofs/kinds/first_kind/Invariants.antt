@@ -1,7 +1,7 @@
 use Rattle.std.proofs.Common.{◌≡◌, ◌≤◌, take}
 use Rattle.std.specs.List.{flat_map}
-use Rattle.lx_numbering.specs.Numbers.{above, returned_by}
-use Rattle.lx_numbering.proofs.kinds.first_kind.Given as goal
+use Rattle.lx_c.specs.Numbers.{above, returned_by}
+use Rattle.lx_c.proofs.kinds.first_kind.Given as goal
 
 abbrev pub invariant-loop-rule : goal.invariant-loop-rule
 invariant-loop-rule l = record {

@@ -1,8 +1,8 @@
 use Rattle.std.proofs.Common.{ap, sym, ◌∙◌, [], false, arith}
-use Rattle.lx_numbering.specs.Numbers.{above, returned_by}
+use Rattle.lx_c.specs.Numbers.{above, returned_by}
 use Rattle.lx_tables.specs.Model.{rule_at}
-use Rattle.lx_numbering.proofs.Numbers.{above_more}
-use Rattle.lx_numbering.proofs.kinds.first_kind.Goals as goal
+use Rattle.lx_c.proofs.Numbers.{above_more}
+use Rattle.lx_c.proofs.kinds.first_kind.Goals as goal
 
 pub loop-rule-preserved : goal.loop-rule-preserved
 loop-rule-preserved c =

@@ -1,8 +1,8 @@
 use Rattle.std.proofs.Common.{ap, sym, ◌∙◌, get_or}
 use Rattle.lx_rules.specs.declared.rule.Step.TheVariants.{Echo}
-use Rattle.lx_numbering.specs.Numbers.{above, returned_number}
-use Rattle.lx_numbering.proofs.Numbers.{above_more}
-use Rattle.lx_numbering.proofs.kinds.above_steps.Goals as goal
+use Rattle.lx_c.specs.Numbers.{above, returned_number}
+use Rattle.lx_c.proofs.Numbers.{above_more}
+use Rattle.lx_c.proofs.kinds.above_steps.Goals as goal
 
 pub loop-step-preserved : goal.loop-step-preserved
 loop-step-preserved c = record {

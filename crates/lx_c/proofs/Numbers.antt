@@ -6,7 +6,7 @@ use Rattle.std.proofs.lemmas.Grind.{flat_map-append}
 use Rattle.std.proofs.Math.Nat.{le-max_left, le-max_right}
 use Rattle.std.proofs.lemmas.List.Elements.{All-nil, All-cons}
 use Rattle.lx_tables.specs.Model.{Table}
-use Rattle.lx_numbering.specs.Numbers.{above, returned_by, first_kind, AreApart}
+use Rattle.lx_c.specs.Numbers.{above, returned_by, first_kind, AreApart}
 
 -- those of the first elements, and then that of the next
 pub texts_more : {X : Type 0} (text : X → List ℕ) (xs : List X) (i : ℕ) (d : X) → i < length xs → flat_map text (take (i + 1) xs) ≡ flat_map text (take i xs) ++ text (get_or xs i d)
