@@ -7,7 +7,7 @@ use Rattle.lx_spec.specs.Whole.{IsRead}
 use Rattle.lx_automaton.specs.Automata.{state_count}
 use Rattle.lx_tables.specs.Model.{Table, AreTablesOf}
 use Rattle.lx_plan.specs.Plans.{PlainInput}
-use Rattle.lx_show.specs.Graph.{graph_text}
+use Rattle.lx_graph.specs.Graph.{graph_text}
 use Rattle.lx_words.specs.CommandLine.{PlainShow}
 use Rattle.lx_tool.specs.Given.{IsNoTable}
 use Rattle.lx_tool.specs.Printing.{condition_names}

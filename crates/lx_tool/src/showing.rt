@@ -15,7 +15,7 @@ use crate::printing::names_of;
 use crate::remarks::{read_tables_named, specification_named};
 use crate::source::Sources;
 use crate::tabling::unjoined_tables_of;
-use lx_show::graph_of;
+use lx_graph::graph_of;
 use lx_tables::Tables;
 use lx_words::ShowWords;
 use std::alloc::Global;

@@ -1,7 +1,7 @@
 use Rattle.std.proofs.Common.{◌≡◌, inr, refl}
 use Rattle.std.specs.Io.KnownBytes.{Appends}
 use Rattle.std.specs.Prelude.{OnOk}
-use Rattle.lx_show.specs.Graph.{graph_text}
+use Rattle.lx_graph.specs.Graph.{graph_text}
 use Rattle.std.proofs.lemmas.Result.{IfErr-weaker, err_from_is_err_and, on_ok_weaker}
 use Rattle.lx_rules.specs.views.Rules.{names_view}
 use Rattle.lx_words.specs.CommandLine.{plain_show}
