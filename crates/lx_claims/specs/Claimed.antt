@@ -1,7 +1,7 @@
 -- Claims and their seats as contracts see them.
 use Rattle.std.specs.Prelude.{◌≡◌, ◌≤◌, ℕ, ◌==◌, if◌then◌else◌, nat_lt, Bool, false, List, [], count_by, sum_by}
 use Rattle.atomic_table.specs.Seated.{TableId}
-use Rattle.lx_plan.specs.Plans.{Planned, files_of, max_files}
+use Rattle.lx_piece.specs.Plans.{Planned, files_of, max_files}
 
 -- claims: which word it is, how many files there are, and how many workers draw them
 pub record Claimed : Type 0 where

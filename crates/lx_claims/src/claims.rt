@@ -1,7 +1,7 @@
 //! The word from which workers draw files.
 ghost use Rattle.std.specs.Prelude.{◌≡◌, ℕ, ◌<◌, ◌≤◌, ◌+◌, ◌-◌, ◌^◌, ◌++◌, ◌∷◌, [], All, IfSome, IfNone, IfOk, IfErr, ◌⊎◌, true, false, replicate, vec_len};
 ghost use Rattle.lx_claims.specs.Draws.{seat_view, IsFresh};
-ghost use Rattle.lx_plan.specs.Plans.{max_files, max_workers};
+ghost use Rattle.lx_piece.specs.Plans.{max_files, max_workers};
 ghost use Rattle.lx_claims.specs.Claimed.{IsSeatOf, fresh_seat, once_below, times, times_drawn};
 
 use crate::claim_seat::ClaimSeat;

@@ -1,8 +1,8 @@
 //! Pieces, and the collector that puts them in order.
 
 ghost use Rattle.std.specs.Prelude.{◌≡◌, ◌<◌, ◌≤◌, IfOk, length};
-ghost use Rattle.lx_plan.specs.Cutting.{IsCutterOf};
-ghost use Rattle.lx_plan.specs.Plans.{IsPlan};
+ghost use Rattle.lx_piece.specs.Cutting.{IsCutterOf};
+ghost use Rattle.lx_piece.specs.Plans.{IsPlan};
 
 use crate::rows::{FILE_OF_TWO_WORDS, plan_of};
 use crate::stop::{Stop, printed, refuse_from_here, say, say_fault, unless_refused};

@@ -1,6 +1,6 @@
 //! Listings.
 
-ghost use Rattle.lx_plan.specs.Plans.{IsPlan};
+ghost use Rattle.lx_piece.specs.Plans.{IsPlan};
 
 use crate::rows::{FILE_OF_TWO_WORDS, plan_of};
 use crate::stop::{Stop, printed, refuse_from_here, say_fault, unless_refused};

@@ -1,7 +1,7 @@
 //! Claims and posts.
 
 ghost use Rattle.std.specs.Prelude.{◌≡◌, ◌≤◌, [], All, IfOk, vec_capacity};
-ghost use Rattle.lx_plan.specs.Pieces.{IsPieceOf};
+ghost use Rattle.lx_piece.specs.Pieces.{IsPieceOf};
 ghost use Rattle.lx_claims.specs.Claimed.{IsSeatOf};
 ghost use Rattle.lx_notes.specs.Posted.{IsSendPassOf, IsTakePassOf, fresh_send};
 

@@ -1,7 +1,7 @@
 //! Readers, printers, makers and the scanner's step, which take no memory.
 
 ghost use Rattle.std.specs.Prelude.{◌≡◌, ◌<◌, IfOk, length, vec_len};
-ghost use Rattle.lx_plan.specs.Plans.{files_of, kinds_of};
+ghost use Rattle.lx_piece.specs.Plans.{files_of, kinds_of};
 
 use crate::automata::{automaton_of, print_automaton, print_tables};
 use crate::collecting::print_piece;

@@ -1,7 +1,7 @@
 //! A relay of two files, with strangers among their pieces.
 
 ghost use Rattle.std.specs.Prelude.{◌≡◌, IfOk, length, replicate};
-ghost use Rattle.lx_plan.specs.Plans.{files_of};
+ghost use Rattle.lx_piece.specs.Plans.{files_of};
 
 use crate::rows::plan_of;
 use crate::stop::{Stop, printed, say_fault, unless_refused};

@@ -1,7 +1,7 @@
 //! Specifications, tables and plans for the calls: where they can't be made, the call isn't begun.
 
 ghost use Rattle.std.specs.Prelude.{◌≡◌, ◌<◌, ◌≤◌, IfOk, length};
-ghost use Rattle.lx_plan.specs.Plans.{IsPlan, max_items};
+ghost use Rattle.lx_piece.specs.Plans.{IsPlan, max_items};
 
 use crate::stop::Stop;
 use lx_fixtures::THREE_RULES;

@@ -1,10 +1,10 @@
 use Rattle.std.proofs.Common.{ℕ, ◌≡◌, ◌≤◌, List, sym, ◌∙◌, ap, subst, arith, replicate}
 use Rattle.std.specs.Prelude.{slice_index}
 use Rattle.std.proofs.lemmas.List.{get_or-replicate}
-use Rattle.lx_plan.specs.Plans.{Planned, IsPlan, files_of}
-use Rattle.lx_plan.specs.Pieces.{ItemPiece, IsPieceOf, TakesInOrder, piece_at, pieces_of}
-use Rattle.lx_plan.specs.PieceLaws.{takes_in_order}
-use Rattle.lx_delivery.specs.NextPiece.{IsNextPiece}
+use Rattle.lx_piece.specs.Plans.{Planned, IsPlan, files_of}
+use Rattle.lx_piece.specs.Pieces.{ItemPiece, IsPieceOf, TakesInOrder, piece_at, pieces_of}
+use Rattle.lx_piece.specs.PieceLaws.{takes_in_order}
+use Rattle.lx_piece.specs.NextPiece.{IsNextPiece}
 
 -- the first piece of a file is what a reader that took nothing takes next
 pub first_next : (plan : Planned) (counts : List ℕ) (file : ℕ) (p : ItemPiece) → IsPlan plan → IsPieceOf plan p → p ≡ piece_at plan file 0 → counts ≡ replicate (files_of plan) 0 → IsNextPiece plan counts p

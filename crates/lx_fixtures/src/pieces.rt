@@ -1,9 +1,9 @@
 //! Pieces of plans, and strangers among them.
 
 ghost use Rattle.std.specs.Prelude.{◌≡◌, ◌<◌, IfOk};
-ghost use Rattle.lx_collector.specs.Arrivals.{AreHonest};
-ghost use Rattle.lx_plan.specs.Pieces.{IsPieceOf};
-ghost use Rattle.lx_plan.specs.Plans.{files_of};
+ghost use Rattle.lx_piece.specs.Arrivals.{AreHonest};
+ghost use Rattle.lx_piece.specs.Pieces.{IsPieceOf};
+ghost use Rattle.lx_piece.specs.Plans.{files_of};
 
 use lx_piece::{Cutter, Items, Mark, Piece, Plan};
 use std::alloc::{AllocError, Global};

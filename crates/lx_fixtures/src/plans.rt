@@ -1,8 +1,8 @@
 //! Plans of files by the tables of specifications, and their pieces.
 
 ghost use Rattle.std.specs.Prelude.{◌≡◌, ◌<◌, ◌≤◌, IfOk, length, vec_len};
-ghost use Rattle.lx_plan.specs.Plans.{IsPlan, max_items};
-ghost use Rattle.lx_collector.specs.Arrivals.{AreHonest};
+ghost use Rattle.lx_piece.specs.Plans.{IsPlan, max_items};
+ghost use Rattle.lx_piece.specs.Arrivals.{AreHonest};
 
 use crate::rules::{MIXED_FILES, MIXED_RULES};
 use lx_auto::{BuildFault, build, merge};

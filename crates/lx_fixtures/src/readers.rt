@@ -1,7 +1,7 @@
 //! Readers that are handed a piece.
 
 ghost use Rattle.std.specs.Prelude.{◌≡◌, ◌+◌, ◌<◌, ◌≤◌, IfOk, OnErr, replicate};
-ghost use Rattle.lx_plan.specs.Plans.{IsPlan, files_of};
+ghost use Rattle.lx_piece.specs.Plans.{IsPlan, files_of};
 
 use lx_piece::{Cutter, Plan, Reader, ReaderFault};
 use std::alloc::{AllocError, Global};

@@ -10,7 +10,7 @@ use Rattle.lx_scan.specs.declared.item.Item.{Item}
 use Rattle.lx_scan.specs.declared.item.Item.TheVariants.{Token, Echo}
 use Rattle.lx_scan.specs.ItemParts.{text_of}
 use Rattle.lx_scan.specs.Items as scan
-use Rattle.lx_plan.specs.Plans.{PlainInput, Planned, bytes_of, input_of, is_cut, items_of}
+use Rattle.lx_piece.specs.Plans.{PlainInput, Planned, bytes_of, input_of, is_cut, items_of}
 use Rattle.lx_line.specs.Lines.{kind_text}
 use Rattle.lx_line.specs.Escapes.{escaped}
 use Rattle.lx_forms.specs.declared.format.Format.{Format}

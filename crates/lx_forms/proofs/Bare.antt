@@ -5,7 +5,7 @@ use Rattle.std.specs.List.{filter, flat_map}
 use Rattle.std.proofs.Math.Path.{ap₂, fun_ext}
 use Rattle.lx_scan.specs.declared.item.Item.{Item}
 use Rattle.lx_scan.specs.ItemParts.{line_of as line_number, start_of, len_of, text_of}
-use Rattle.lx_plan.specs.Plans.{Planned, bytes_of, files_of, is_cut, items_of}
+use Rattle.lx_piece.specs.Plans.{Planned, bytes_of, files_of, is_cut, items_of}
 use Rattle.lx_lines.specs.Lines.{class_text, cut_lines, escaped, kind_text, line_of, lines_of}
 use Rattle.lx_lines.specs.Listings.{listing_of, listing_to}
 use Rattle.lx_forms.specs.Forms.{bare_form, passes}

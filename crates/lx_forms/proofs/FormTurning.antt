@@ -4,10 +4,10 @@ use Rattle.std.specs.Prelude.{All}
 use Rattle.std.proofs.lemmas.Bool.{cases_eq, eq-eqb, ne_eqb}
 use Rattle.std.proofs.lemmas.List.Elements.{All-take, All-drop}
 use Rattle.lx_scan.specs.ItemParts.{IsItemOf}
-use Rattle.lx_plan.specs.Pieces.{IsPrefix, ItemPiece, bare, is_closing, piece_at, pieces_of}
-use Rattle.lx_plan.specs.PieceLaws.{marked_last}
-use Rattle.lx_plan.specs.Plans.{Planned, IsPlan, bytes_of, files_of, items_of, kinds_of}
-use Rattle.lx_delivery.specs.Turns.{HasTurn, Turn, turn_after}
+use Rattle.lx_piece.specs.Pieces.{IsPrefix, ItemPiece, bare, is_closing, piece_at, pieces_of}
+use Rattle.lx_piece.specs.PieceLaws.{marked_last}
+use Rattle.lx_piece.specs.Plans.{Planned, IsPlan, bytes_of, files_of, items_of, kinds_of}
+use Rattle.lx_piece.specs.Turns.{HasTurn, Turn, turn_after}
 use Rattle.lx_writing.specs.AppendingLaws.{prefix_behind, prefix_then}
 use Rattle.lx_lines.specs.Printing.{WrotePrefix}
 use Rattle.lx_forms.specs.FormListings.{listing_to_in}

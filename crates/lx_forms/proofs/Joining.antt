@@ -5,7 +5,7 @@ use Rattle.std.specs.List.{flat_map}
 use Rattle.std.specs.Option.{option_map, option_map_or}
 use Rattle.std.proofs.Math.Path.{ap₂}
 use Rattle.std.proofs.lemmas.List.{get_or_append_left, get_or-append-add, get_or-drop, get_or-take}
-use Rattle.lx_plan.specs.Plans.{PlainInput, Planned, files_of, input_of}
+use Rattle.lx_piece.specs.Plans.{PlainInput, Planned, files_of, input_of}
 use Rattle.lx_forms.specs.Forms.{PlainForm, name_of}
 use Rattle.lx_forms.specs.TextLines.{name_escaped}
 use Rattle.lx_forms.specs.JsonLines.{bytes_member}

@@ -4,7 +4,7 @@ use Rattle.std.specs.Prelude.{Option, Some, None, replicate}
 use Rattle.std.proofs.lemmas.List.Elements.{All-contains, All-replicate}
 use Rattle.lx_rules.specs.declared.rule.Kind.{Kind}
 use Rattle.lx_rules.specs.declared.rule.Kind.TheVariants.{Name}
-use Rattle.lx_plan.specs.Plans.{Planned}
+use Rattle.lx_piece.specs.Plans.{Planned}
 use Rattle.lx_forms.specs.Forms.{PlainForm}
 use Rattle.lx_forms.specs.JsonParts.{ArePrefixesOf, IsKept, IsPrefixOf}
 use Rattle.lx_forms.specs.declared.json_prefixes.Prefix.{Prefix}

@@ -12,7 +12,7 @@ use Rattle.lx_rules.specs.declared.rule.Kind.TheVariants.{Name, Number}
 use Rattle.lx_scan.specs.declared.item.Item.{Item}
 use Rattle.lx_scan.specs.declared.item.Item.TheVariants.{Token, Echo}
 use Rattle.lx_scan.specs.ItemParts.{line_of as line_number, start_of, len_of, text_of}
-use Rattle.lx_plan.specs.Plans.{Planned, bytes_of}
+use Rattle.lx_piece.specs.Plans.{Planned, bytes_of}
 use Rattle.lx_forms.specs.Forms.{PlainForm, name_of, number_in}
 use Rattle.lx_forms.specs.JsonLines.{bytes_member, file_members, hex_pair, json_cut_line, json_line, place_members, small_digit, sort_member, string_escaped, string_of, text_member}
 use Rattle.lx_forms.specs.JsonValues.{AreSmall, Member, bytes_said, cut_said, file_said, item_said, name_said, object_of, place_said, sort_said, text, text_said, truth}

@@ -22,7 +22,7 @@ use Rattle.lx_scan.specs.ItemParts.{IsItemOf}
 use Rattle.lx_scan.specs.Items as scan
 use Rattle.lx_scan.specs.Items.{choice_at, first_place, items_at, items_from, len_at, place_after, steps_at}
 use Rattle.lx_scan.specs.Steps.{items_of_steps}
-use Rattle.lx_plan.specs.Plans.{Planned, IsPlan, bytes_of, items_of, kinds_of}
+use Rattle.lx_piece.specs.Plans.{Planned, IsPlan, bytes_of, items_of, kinds_of}
 use Rattle.lx_line.specs.Lines.{kind_text}
 use Rattle.lx_forms.specs.Choosing.{HasKindOf, HasReturnedNumber, is_one_of, number_of_step, numbers_of, numbers_of_rule, selected_by, stands_by_one_of}
 use Rattle.lx_forms.specs.Forms.{PlainForm, Selected, is_selected, passes}

@@ -9,7 +9,7 @@ use Rattle.lx_tables.specs.Model.{Table, TableRule}
 use Rattle.lx_scan.specs.ItemParts.{NamesKindAmong}
 use Rattle.lx_scan.specs.declared.item.Item.{Item}
 use Rattle.lx_scan.specs.declared.item.Item.TheVariants.{Token, Echo as Echoed}
-use Rattle.lx_plan.specs.Plans.{Planned}
+use Rattle.lx_piece.specs.Plans.{Planned}
 use Rattle.lx_line.specs.Lines.{kind_text}
 use Rattle.lx_forms.specs.Forms.{Selected}
 use Rattle.lx_forms.specs.NameLists.{IsListOf, IsNoName}

@@ -1,7 +1,7 @@
 -- Forms of listings that are put together.
 use Rattle.std.specs.Prelude.{ℕ, ◌+◌, ◌≡◌, take, drop, ◌++◌}
 use Rattle.std.specs.Option.{option_map}
-use Rattle.lx_plan.specs.Plans.{Planned}
+use Rattle.lx_piece.specs.Plans.{Planned}
 use Rattle.lx_forms.specs.Forms.{PlainForm}
 
 -- the form for the first files, this many

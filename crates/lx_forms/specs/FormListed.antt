@@ -2,10 +2,10 @@
 use Rattle.std.proofs.Common.{ℕ, ◌≡◌, inl, inr, false, List, ◌++◌, refl, sym, ◌∙◌, ap, subst, arith, append-nil, replicate}
 use Rattle.std.proofs.lemmas.Bool.{cases_Bool, cases_lt}
 use Rattle.lx_piece.specs.Passing.{Passing, PassesOn}
-use Rattle.lx_plan.specs.Pieces.{IsPrefix}
-use Rattle.lx_plan.specs.Plans.{Planned, IsPlan, files_of}
+use Rattle.lx_piece.specs.Pieces.{IsPrefix}
+use Rattle.lx_piece.specs.Plans.{Planned, IsPlan, files_of}
 use Rattle.lx_piece.specs.Relayed.{AreAllTaken}
-use Rattle.lx_delivery.specs.Turns.{Turn, IsTurnBy, first_turn}
+use Rattle.lx_piece.specs.Turns.{Turn, IsTurnBy, first_turn}
 use Rattle.lx_lines.specs.ListedLaws.{fresh_turn}
 use Rattle.lx_lines.specs.Printing.{WrotePrefix}
 use Rattle.lx_forms.specs.FormListings.{listing_to_in}

@@ -2,7 +2,7 @@
 use Rattle.std.specs.Prelude.{ℕ, zero, suc, Bool, if◌then◌else◌, List, [], ◌++◌}
 use Rattle.std.specs.List.{filter, flat_map}
 use Rattle.lx_scan.specs.declared.item.Item.{Item}
-use Rattle.lx_plan.specs.Plans.{Planned, files_of, is_cut, items_of}
+use Rattle.lx_piece.specs.Plans.{Planned, files_of, is_cut, items_of}
 use Rattle.lx_forms.specs.declared.format.Format.{Format}
 use Rattle.lx_forms.specs.declared.format.Format.TheVariants.{Lines, Json}
 use Rattle.lx_forms.specs.Forms.{PlainForm, passes}

@@ -1,9 +1,9 @@
 -- What a printer writes in a form, which takes pieces in the plan's order.
 use Rattle.std.specs.Prelude.{ℕ, ◌≡◌, ◌<◌, ◌≤◌, List, ◌++◌}
 use Rattle.std.specs.List.{flat_map}
-use Rattle.lx_plan.specs.Pieces.{IsPrefix, ItemPiece, is_cut_short, pieces_of, pieces_to}
-use Rattle.lx_plan.specs.Plans.{Planned, IsPlan, files_of}
-use Rattle.lx_delivery.specs.Turns.{Turn}
+use Rattle.lx_piece.specs.Pieces.{IsPrefix, ItemPiece, is_cut_short, pieces_of, pieces_to}
+use Rattle.lx_piece.specs.Plans.{Planned, IsPlan, files_of}
+use Rattle.lx_piece.specs.Turns.{Turn}
 use Rattle.lx_forms.specs.Forms.{PlainForm}
 use Rattle.lx_forms.specs.FormListings.{cut_lines_in, lines_in, listing_to_in, listing_in}
 

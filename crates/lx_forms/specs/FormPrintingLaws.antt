@@ -5,10 +5,10 @@ use Rattle.std.proofs.lemmas.Bool.{cases_eq, cases_lt, eq-eqb, ne_eqb}
 use Rattle.std.proofs.lemmas.Grind.{flat_map-append}
 use Rattle.std.proofs.lemmas.List.Elements.{filter-append}
 use Rattle.lx_scan.specs.declared.item.Item.{Item}
-use Rattle.lx_plan.specs.Plans.{Planned, files_of, is_cut, items_of}
-use Rattle.lx_plan.specs.Pieces.{IsPrefix, ItemPiece, contents, part, piece_at, pieces_of, pieces_to}
-use Rattle.lx_plan.specs.PieceLaws.{marked_cut, prefix_to, whole_at}
-use Rattle.lx_delivery.specs.Turns.{Turn}
+use Rattle.lx_piece.specs.Plans.{Planned, files_of, is_cut, items_of}
+use Rattle.lx_piece.specs.Pieces.{IsPrefix, ItemPiece, contents, part, piece_at, pieces_of, pieces_to}
+use Rattle.lx_piece.specs.PieceLaws.{marked_cut, prefix_to, whole_at}
+use Rattle.lx_piece.specs.Turns.{Turn}
 use Rattle.lx_writing.specs.AppendingLaws.{prefix_all, prefix_before, prefix_behind, prefix_then}
 use Rattle.lx_forms.specs.Forms.{PlainForm, passes}
 use Rattle.lx_forms.specs.FormListings.{cut_lines_in, file_lines_in, line_in, lines_in, listing_to_in}

@@ -4,7 +4,7 @@ use Rattle.lx_rules.specs.declared.rule.Kind.{Kind}
 use Rattle.lx_rules.specs.declared.rule.Kind.TheVariants.{Name, Number}
 use Rattle.lx_scan.specs.declared.item.Item.{Item}
 use Rattle.lx_scan.specs.ItemParts.{line_of as line_number, start_of, len_of, text_of}
-use Rattle.lx_plan.specs.Plans.{Planned, bytes_of}
+use Rattle.lx_piece.specs.Plans.{Planned, bytes_of}
 use Rattle.lx_forms.specs.Forms.{PlainForm}
 use Rattle.lx_forms.specs.JsonFields.{numbers_text}
 use Rattle.lx_forms.specs.JsonLines.{file_members, kind_value, text_member}

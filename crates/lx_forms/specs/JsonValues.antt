@@ -8,7 +8,7 @@ use Rattle.lx_rules.specs.declared.rule.Kind.TheVariants.{Name, Number}
 use Rattle.lx_scan.specs.declared.item.Item.{Item}
 use Rattle.lx_scan.specs.declared.item.Item.TheVariants.{Token, Echo}
 use Rattle.lx_scan.specs.ItemParts.{line_of as line_number, start_of, len_of, text_of}
-use Rattle.lx_plan.specs.Plans.{Planned, bytes_of, kind_of}
+use Rattle.lx_piece.specs.Plans.{Planned, bytes_of, kind_of}
 use Rattle.lx_forms.specs.Forms.{PlainForm, name_of, number_in}
 use Rattle.lx_forms.specs.JsonLines.{hex_pair}
 

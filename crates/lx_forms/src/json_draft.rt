@@ -2,7 +2,7 @@
 
 ghost use Rattle.std.specs.Prelude.{◌≡◌, ◌+◌, ◌<◌, ◌≤◌, [], ◌∷◌, ◌++◌, ℕ, All, IsTrue, OnOk, false, take, true};
 ghost use Rattle.lx_scan.specs.ItemParts.{IsItemOf};
-ghost use Rattle.lx_plan.specs.Plans.{Planned, bytes_of, files_of, kinds_of};
+ghost use Rattle.lx_piece.specs.Plans.{Planned, bytes_of, files_of, kinds_of};
 ghost use Rattle.lx_line.specs.Decimals.{IsNear};
 ghost use Rattle.lx_forms.specs.Forms.{PlainForm};
 ghost use Rattle.lx_forms.specs.FormListings.{lines_in};

@@ -4,7 +4,7 @@ ghost use Rattle.std.specs.Prelude.{◌≡◌, ◌++◌, ◌∷◌, ◌↔◌, �
 ghost use Rattle.std.specs.Str.{is_utf8};
 ghost use Rattle.json.specs.Json.{document};
 ghost use Rattle.lx_scan.specs.declared.item.Item.{Item};
-ghost use Rattle.lx_plan.specs.Plans.{Planned};
+ghost use Rattle.lx_piece.specs.Plans.{Planned};
 ghost use Rattle.lx_forms.specs.Forms.{PlainForm};
 ghost use Rattle.lx_forms.specs.JsonLines.{json_cut_line, json_line};
 ghost use Rattle.lx_forms.specs.JsonValues.{AreSmall, cut_said, item_said, object_of};

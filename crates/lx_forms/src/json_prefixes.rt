@@ -1,7 +1,7 @@
 //! The prefixes of lines in JSON, which are the members before the number of the line: each is made once and kept for the lines that follow.
 
 ghost use Rattle.std.specs.Prelude.{◌≡◌, ◌+◌, ◌<◌, ◌≤◌, ◌++◌, ℕ, IfSome, IsTrue, MatchOption, OnOk, length, take};
-ghost use Rattle.lx_plan.specs.Plans.{Planned};
+ghost use Rattle.lx_piece.specs.Plans.{Planned};
 ghost use Rattle.lx_line.specs.Placed.{Placed};
 ghost use Rattle.lx_line.specs.Prefixes.{IsKindOf};
 ghost use Rattle.lx_forms.specs.Forms.{PlainForm};

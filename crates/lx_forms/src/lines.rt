@@ -2,7 +2,7 @@
 
 ghost use Rattle.std.specs.Prelude.{◌≡◌, ◌<◌, [], ◌∷◌, ◌++◌, All, OnOk};
 ghost use Rattle.lx_scan.specs.ItemParts.{IsItemOf};
-ghost use Rattle.lx_plan.specs.Plans.{bytes_of, files_of, kinds_of};
+ghost use Rattle.lx_piece.specs.Plans.{bytes_of, files_of, kinds_of};
 ghost use Rattle.lx_forms.specs.FormListings.{cut_line_in, line_in, lines_in};
 ghost use Rattle.lx_forms.specs.FormPrinting.{piece_lines_in};
 ghost use Rattle.lx_forms.specs.Views.{form_view};

@@ -1,8 +1,8 @@
 //! The printer of a listing in a form.
 
 ghost use Rattle.std.specs.Prelude.{◌≡◌, OnOk, IfErr};
-ghost use Rattle.lx_plan.specs.Pieces.{bare};
-ghost use Rattle.lx_delivery.specs.Turns.{HasTurn, turn_after};
+ghost use Rattle.lx_piece.specs.Pieces.{bare};
+ghost use Rattle.lx_piece.specs.Turns.{HasTurn, turn_after};
 ghost use Rattle.lx_lines.specs.Printing.{turn_of};
 ghost use Rattle.lx_forms.specs.FormPrinting.{PrintsOn, PrintsSome, printing_in};
 ghost use Rattle.lx_forms.specs.Views.{form_view};
@@ -11,7 +11,7 @@ use crate::form::Form;
 use crate::lines::refill;
 use lx_lines::LineSink;
 use lx_piece::{Items, KeepItems, Piece, Plan, ReaderFault, Taker};
-use lx_plan::plans_are_well_formed;
+use lx_piece::plans_are_well_formed;
 use std::alloc::Global;
 use std::snapshot::Snapshot;
 

@@ -2,7 +2,7 @@
 
 ghost use Rattle.std.specs.Prelude.{◌≡◌, ◌<◌, ◌≤◌, OnOk, OnErr};
 ghost use Rattle.std.specs.Io.KnownBytes.{Appends};
-ghost use Rattle.lx_plan.specs.Plans.{max_workers};
+ghost use Rattle.lx_piece.specs.Plans.{max_workers};
 ghost use Rattle.lx_writing.specs.Appending.{AppendsPrefix};
 ghost use Rattle.lx_lines.specs.Printing.{WrotePrefix};
 ghost use Rattle.lx_forms.specs.FormListings.{listing_in};

@@ -3,7 +3,7 @@
 ghost use Rattle.std.specs.Prelude.{◌≡◌, ◌<◌, ◌≤◌, ◌++◌, OnOk, decimal, length, take};
 ghost use Rattle.std.specs.List.{flat_map};
 ghost use Rattle.lx_scan.specs.ItemParts.{IsItemOf, LiesIn, NamesKindAmong, text_of};
-ghost use Rattle.lx_plan.specs.Plans.{bytes_of, files_of, kinds_of};
+ghost use Rattle.lx_piece.specs.Plans.{bytes_of, files_of, kinds_of};
 ghost use Rattle.lx_forms.specs.TextLines.{fields_of, file_text, name_escaped, text_cut_line, text_line, text_part};
 ghost use Rattle.lx_forms.specs.Views.{form_view};
 

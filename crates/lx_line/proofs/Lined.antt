@@ -8,7 +8,7 @@ use Rattle.lx_rules.specs.declared.rule.Kind.{Kind}
 use Rattle.lx_scan.specs.declared.item.Item.{Item}
 use Rattle.lx_scan.specs.declared.item.Item.TheVariants.{Token, Echo}
 use Rattle.lx_scan.specs.ItemParts.{kind_of_item, line_of as line_number, start_of, len_of}
-use Rattle.lx_plan.specs.Plans.{Planned, bytes_of}
+use Rattle.lx_piece.specs.Plans.{Planned, bytes_of}
 use Rattle.lx_line.specs.Escapes.{escaped}
 use Rattle.lx_line.specs.Fields.{rest_text}
 use Rattle.lx_line.specs.Prefixes.{prefix_text}

@@ -5,7 +5,7 @@ use Rattle.std.proofs.lemmas.Fmt.{length-decimal-le}
 use Rattle.std.proofs.lemmas.List.Elements.{All-replicate}
 use Rattle.lx_rules.specs.declared.rule.Kind.{Kind}
 use Rattle.lx_tables.specs.Labels.{kind_of_label}
-use Rattle.lx_plan.specs.Plans.{Planned}
+use Rattle.lx_piece.specs.Plans.{Planned}
 use Rattle.lx_line.specs.Prefixes.{ArePrefixesOf, IsPrefixOf}
 use Rattle.lx_line.specs.Lines.{name_text}
 use Rattle.lx_line.specs.declared.prefixes.Prefix.{Prefix}

@@ -6,7 +6,7 @@ use Rattle.lx_rules.specs.declared.rule.Kind.TheVariants.{Name, Number}
 use Rattle.lx_scan.specs.declared.item.Item.{Item}
 use Rattle.lx_scan.specs.declared.item.Item.TheVariants.{Token, Echo}
 use Rattle.lx_scan.specs.ItemParts.{line_of as line_number, start_of, len_of, text_of}
-use Rattle.lx_plan.specs.Plans.{Planned, bytes_of, kind_of}
+use Rattle.lx_piece.specs.Plans.{Planned, bytes_of, kind_of}
 use Rattle.lx_line.specs.Escapes.{escaped}
 
 -- whether it is a token or an Echo

@@ -3,7 +3,7 @@ use Rattle.std.specs.Prelude.{◌≡◌, All, ◌≤◌, ℕ, List, ◌++◌, ta
 use Rattle.lx_rules.specs.declared.rule.Kind.{Kind}
 use Rattle.lx_tables.specs.Labels.{kind_of_label}
 use Rattle.lx_scan.specs.ItemParts.{IsKindAmong}
-use Rattle.lx_plan.specs.Plans.{Planned, kinds_of}
+use Rattle.lx_piece.specs.Plans.{Planned, kinds_of}
 use Rattle.lx_line.specs.Lines.{name_text}
 use Rattle.lx_line.specs.declared.prefixes.Prefix.{Prefix}
 use Rattle.lx_line.specs.declared.prefixes.Prefixes.{Prefixes}

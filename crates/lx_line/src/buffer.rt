@@ -2,13 +2,13 @@
 
 ghost use Rattle.std.specs.Prelude.{◌≡◌, ◌<◌, ◌≤◌, [], ◌++◌, All, IfOk, false, length, take, true};
 ghost use Rattle.lx_scan.specs.ItemParts.{IsItemOf};
-ghost use Rattle.lx_plan.specs.Plans.{files_of, bytes_of, kinds_of};
+ghost use Rattle.lx_piece.specs.Plans.{files_of, bytes_of, kinds_of};
 ghost use Rattle.lx_line.specs.Prefixes.{ArePrefixesOf};
 ghost use Rattle.lx_line.specs.Lines.{lines_of};
 
 use crate::draft::Draft;
 use crate::place::place_all;
-use lx_plan::Plan;
+use lx_piece::Plan;
 use lx_scan::FlatItem;
 use std::alloc::{AllocError, Global};
 use std::marker::Model;

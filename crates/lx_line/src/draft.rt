@@ -2,13 +2,13 @@
 
 ghost use Rattle.std.specs.Prelude.{◌≡◌, ◌+◌, ◌<◌, ◌≤◌, ◌++◌, All, MatchOption, length, take};
 ghost use Rattle.lx_scan.specs.ItemParts.{IsItemOf};
-ghost use Rattle.lx_plan.specs.Plans.{files_of, bytes_of, kinds_of};
+ghost use Rattle.lx_piece.specs.Plans.{files_of, bytes_of, kinds_of};
 ghost use Rattle.lx_line.specs.Prefixes.{ArePrefixesOf};
 ghost use Rattle.lx_line.specs.Lines.{line_of, lines_of};
 
 use crate::fields::{Digits, fits, numbers_in, place_rest};
 use crate::prefixes::Prefixes;
-use lx_plan::Plan;
+use lx_piece::Plan;
 use lx_scan::FlatItem;
 
 // A line takes so much room at most: a prefix of 32 bytes, two numbers of 20, the length, a text in which each byte may be escaped, 16 bytes

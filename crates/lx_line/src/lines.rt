@@ -2,14 +2,14 @@
 
 ghost use Rattle.std.specs.Prelude.{◌≡◌, ◌<◌, ◌≤◌, ◌++◌, All, IfOk, OnOk, length, take};
 ghost use Rattle.lx_scan.specs.ItemParts.{IsItemOf};
-ghost use Rattle.lx_plan.specs.Plans.{files_of, bytes_of, kinds_of};
+ghost use Rattle.lx_piece.specs.Plans.{files_of, bytes_of, kinds_of};
 ghost use Rattle.lx_line.specs.Lines.{lines_of};
 ghost use Rattle.lx_line.specs.Prefixes.{ArePrefixesOf};
 
 use crate::buffer::LineBuffer;
 use crate::draft::{Draft, FirstLines};
 use crate::plain::push_line;
-use lx_plan::Plan;
+use lx_piece::Plan;
 use lx_scan::{FlatItem, Item};
 use std::alloc::AllocError;
 use std::marker::Model;
@@ -135,7 +135,7 @@ pub struct PlanDraft {
 }
 
 impl Model for PlanDraft {
-    ghost use Rattle.lx_plan.specs.Plans.{Planned};
+    ghost use Rattle.lx_piece.specs.Plans.{Planned};
     ghost use Rattle.lx_line.specs.Prefixes.{ArePrefixesOf};
 
     ghost Value = { Planned };

@@ -3,14 +3,14 @@
 ghost use Rattle.std.specs.Prelude.{◌≡◌, ◌<◌, ◌≤◌, ◌++◌, OnOk, codes, decimal, length};
 ghost use Rattle.std.specs.List.{flat_map};
 ghost use Rattle.lx_scan.specs.ItemParts.{IsItemOf, IsKindAmong, NamesKindAmong, line_of as line_number, start_of, len_of};
-ghost use Rattle.lx_plan.specs.Plans.{files_of, bytes_of, kinds_of};
+ghost use Rattle.lx_piece.specs.Plans.{files_of, bytes_of, kinds_of};
 ghost use Rattle.lx_line.specs.Escapes.{escaped};
 ghost use Rattle.lx_line.specs.Lines.{class_text, name_text, kind_text, line_of, cut_line};
 
 use crate::fields::numbers_of;
 use crate::texts::place_text;
 use itoa::Buffer;
-use lx_plan::Plan;
+use lx_piece::Plan;
 use lx_rules::rule::Kind;
 use lx_scan::Item;
 use std::alloc::AllocError;

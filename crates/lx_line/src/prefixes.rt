@@ -2,7 +2,7 @@
 
 ghost use Rattle.std.specs.Prelude.{◌≡◌, ◌+◌, ◌<◌, ◌≤◌, ◌++◌, None, Some, MatchOption, codes, decimal, length, take};
 ghost use Rattle.lx_scan.specs.ItemParts.{IsKindAmong};
-ghost use Rattle.lx_plan.specs.Plans.{kinds_of};
+ghost use Rattle.lx_piece.specs.Plans.{kinds_of};
 ghost use Rattle.lx_tables.specs.Labels.{kind_of_label};
 ghost use Rattle.lx_line.specs.Prefixes.{ArePrefixesOf, IsKindOf, IsPrefixOf, prefix_text};
 ghost use Rattle.lx_line.specs.Lines.{name_text};
@@ -10,7 +10,7 @@ ghost use Rattle.lx_line.specs.Placed.{Placed};
 
 use crate::decimals::place_number;
 use crate::place::{place_32, place_all, place_byte};
-use lx_plan::Plan;
+use lx_piece::Plan;
 use lx_rules::rule::Kind;
 use lx_tables::{ECHO_LABEL, kind_of_label};
 use std::simd::prelude::*;

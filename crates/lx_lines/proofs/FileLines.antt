@@ -8,8 +8,8 @@ use Rattle.std.proofs.Math.Seq.{drop-append_seam, take-append_seam}
 use Rattle.lx_scan.specs.declared.item.Item.{Item}
 use Rattle.lx_scan.specs.Ends.{Appends}
 use Rattle.lx_scan.specs.ItemParts.{IsItemOf}
-use Rattle.lx_plan.specs.Plans.{Planned, IsPlan, bytes_of, files_of, items_of, kinds_of}
-use Rattle.lx_delivery.specs.declared.reader.ReaderFault.{ReaderFault}
+use Rattle.lx_piece.specs.Plans.{Planned, IsPlan, bytes_of, files_of, items_of, kinds_of}
+use Rattle.lx_piece.specs.declared.reader.ReaderFault.{ReaderFault}
 use Rattle.lx_lines.specs.Lines.{file_lines, line_of, lines_of}
 use Rattle.lx_lines.specs.ListingLaws.{listing_rises}
 use Rattle.lx_lines.specs.Listings.{listing_of, listing_to}

@@ -2,8 +2,8 @@
 use Rattle.std.proofs.Common.{ℕ, ◌≡◌, Bool, false, List, [], ◌++◌, sym, ◌∙◌, ap, subst, append-nil}
 use Rattle.std.specs.Prelude.{Result, Ok, Err, OnErr, OnOk, is_err}
 use Rattle.std.proofs.lemmas.Bool.{both_ways}
-use Rattle.lx_delivery.specs.declared.reader.ReaderFault.{ReaderFault}
-use Rattle.lx_plan.specs.Pieces.{IsPrefix}
+use Rattle.lx_piece.specs.declared.reader.ReaderFault.{ReaderFault}
+use Rattle.lx_piece.specs.Pieces.{IsPrefix}
 use Rattle.lx_writing.specs.AppendingLaws.{prefix_before, prefix_then}
 use Rattle.lx_lines.specs.Gathered.{Gathered, Gathers, gathered}
 use Rattle.lx_lines.specs.GatheredLaws.{gathers_on}

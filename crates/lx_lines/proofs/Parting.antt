@@ -8,9 +8,9 @@ use Rattle.std.proofs.lemmas.List.{take-append-drop, take_all}
 use Rattle.std.proofs.Math.ListN.{length-drop}
 use Rattle.lx_scan.specs.declared.item.Item.{Item}
 use Rattle.lx_scan.specs.ItemParts.{line_of as line_number, start_of, len_of, text_of}
-use Rattle.lx_plan.specs.Plans.{Planned, bytes_of}
-use Rattle.lx_delivery.specs.declared.reader.ReaderFault.{ReaderFault}
-use Rattle.lx_delivery.specs.declared.reader.ReaderFault.TheVariants.{Device, Memory}
+use Rattle.lx_piece.specs.Plans.{Planned, bytes_of}
+use Rattle.lx_piece.specs.declared.reader.ReaderFault.{ReaderFault}
+use Rattle.lx_piece.specs.declared.reader.ReaderFault.TheVariants.{Device, Memory}
 use Rattle.lx_lines.specs.Lines.{class_text, cut_lines, escaped, kind_text, line_of, lines_of}
 use Rattle.lx_lines.specs.Listings.{AreWhole}
 use Rattle.lx_writing.specs.AppendingLaws.{prefix_before, prefix_behind, prefix_then}

@@ -2,8 +2,8 @@
 use Rattle.std.proofs.Common.{ℕ, inl, inr, List, sym, ◌∙◌, subst}
 use Rattle.std.proofs.lemmas.Bool.{both_ways, cases_Bool}
 use Rattle.lx_piece.specs.Passing.{Passing}
-use Rattle.lx_plan.specs.Plans.{Planned}
-use Rattle.lx_delivery.specs.Turns.{IsTurnBy}
+use Rattle.lx_piece.specs.Plans.{Planned}
+use Rattle.lx_piece.specs.Turns.{IsTurnBy}
 use Rattle.lx_lines.specs.ListedLaws.{Passed}
 use Rattle.lx_lines.specs.Printing.{IsInStep, Printing}
 

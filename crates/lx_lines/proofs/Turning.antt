@@ -1,12 +1,12 @@
 -- The lines of a piece stand between its turn and the next one.
 use Rattle.std.proofs.Common.{ℕ, ◌≡◌, ◌+◌, ◌<◌, suc, ◌==◌, if◌then◌else◌, inl, inr, Bool, true, false, List, ◌++◌, refl, sym, ◌∙◌, ap, subst, arith, add-one, append_assoc, append-nil}
 use Rattle.std.proofs.lemmas.Bool.{cases_eq, eq-eqb, ne_eqb}
-use Rattle.lx_plan.specs.declared.piece.Piece.{Piece}
-use Rattle.lx_delivery.specs.declared.reader.ReaderFault.{ReaderFault}
-use Rattle.lx_plan.specs.Pieces.{IsPrefix, is_closing, piece_at, piece_by, pieces_of, pieces_to}
-use Rattle.lx_plan.specs.PieceLaws.{marked_last}
-use Rattle.lx_plan.specs.Plans.{Planned, IsPlan, files_of}
-use Rattle.lx_delivery.specs.Turns.{HasTurn, Turn, turn_after}
+use Rattle.lx_piece.specs.declared.piece.Piece.{Piece}
+use Rattle.lx_piece.specs.declared.reader.ReaderFault.{ReaderFault}
+use Rattle.lx_piece.specs.Pieces.{IsPrefix, is_closing, piece_at, piece_by, pieces_of, pieces_to}
+use Rattle.lx_piece.specs.PieceLaws.{marked_last}
+use Rattle.lx_piece.specs.Plans.{Planned, IsPlan, files_of}
+use Rattle.lx_piece.specs.Turns.{HasTurn, Turn, turn_after}
 use Rattle.lx_lines.specs.Lines.{piece_lines}
 use Rattle.lx_lines.specs.Listings.{AreWhole, IsTurnOf, lines_before, listing_of, listing_to, taken_lines}
 use Rattle.lx_lines.specs.ListingLaws.{lines_one, whole_lines}

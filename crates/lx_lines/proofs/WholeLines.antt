@@ -2,8 +2,8 @@ use Rattle.std.proofs.Common.{ℕ, ◌≡◌, inl, inr, Bool, true, false, List,
 use Rattle.std.specs.Prelude.{codes, decimal}
 use Rattle.std.specs.Io.KnownBytes.{Keeps}
 use Rattle.lx_scan.specs.declared.item.Item.{Item}
-use Rattle.lx_plan.specs.Pieces.{ItemPiece, is_cut_short}
-use Rattle.lx_plan.specs.Plans.{Planned}
+use Rattle.lx_piece.specs.Pieces.{ItemPiece, is_cut_short}
+use Rattle.lx_piece.specs.Plans.{Planned}
 use Rattle.lx_lines.specs.Lines.{cut_lines, line_of, lines_of, piece_lines}
 use Rattle.lx_lines.specs.Listings.{AreWhole, AppendsWhole}
 use Rattle.lx_writing.specs.AppendingLaws.{appends_both, appends_nothing}

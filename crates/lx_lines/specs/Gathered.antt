@@ -1,6 +1,6 @@
 -- Lines that are gathered before they go on.
 use Rattle.std.specs.Prelude.{ℕ, ◌≡◌, Bool, true, false, List, [], ◌++◌}
-use Rattle.lx_plan.specs.Pieces.{IsPrefix}
+use Rattle.lx_piece.specs.Pieces.{IsPrefix}
 
 -- what is held, whether where the lines go has failed, and where that is
 pub record Gathered (S : Type 0) : Type 0 where

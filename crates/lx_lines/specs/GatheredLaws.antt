@@ -1,7 +1,7 @@
 -- What was gathered, and then more.
 use Rattle.std.proofs.Common.{ℕ, ◌≡◌, inl, inr, Bool, true, false, List, [], ◌++◌, refl, sym, ◌∙◌, ap, subst, append_assoc, append-nil}
 use Rattle.std.proofs.lemmas.Bool.{both_ways, cases_Bool}
-use Rattle.lx_plan.specs.Pieces.{IsPrefix}
+use Rattle.lx_piece.specs.Pieces.{IsPrefix}
 use Rattle.lx_writing.specs.AppendingLaws.{prefix_before, prefix_behind, prefix_then}
 use Rattle.lx_lines.specs.Gathered.{Gathered, Gathers, gathered}
 use Rattle.lx_lines.specs.Printing.{WrotePrefix}

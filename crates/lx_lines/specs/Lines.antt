@@ -1,8 +1,8 @@
 -- The lines of pieces and of files.
 use Rattle.std.specs.Prelude.{ℕ, Bool, if◌then◌else◌, List, [], ◌++◌}
 use Rattle.std.specs.List.{flat_map}
-use Rattle.lx_plan.specs.Pieces.{ItemPiece, is_cut_short}
-use Rattle.lx_plan.specs.Plans.{Planned, is_cut, items_of}
+use Rattle.lx_piece.specs.Pieces.{ItemPiece, is_cut_short}
+use Rattle.lx_piece.specs.Plans.{Planned, is_cut, items_of}
 -- the lines of items
 pub use Rattle.lx_line.specs.Escapes.{hex_digit, escaped}
 pub use Rattle.lx_line.specs.Lines.{class_text, name_text, kind_text, line_of, lines_of, cut_line}

@@ -5,10 +5,10 @@ use Rattle.std.specs.Io.KnownBytes.{Appends}
 use Rattle.std.proofs.lemmas.Bool.{both_ways, cases_Bool, cases_lt, cases_order}
 use Rattle.std.proofs.lemmas.List.{get_or-replicate, get_or_past, length-replicate}
 use Rattle.lx_piece.specs.Passing.{Passing, PassesOn}
-use Rattle.lx_plan.specs.Pieces.{IsPrefix}
-use Rattle.lx_plan.specs.Plans.{Planned, IsPlan, files_of}
+use Rattle.lx_piece.specs.Pieces.{IsPrefix}
+use Rattle.lx_piece.specs.Plans.{Planned, IsPlan, files_of}
 use Rattle.lx_piece.specs.Relayed.{AreAllTaken, HasOpenFile}
-use Rattle.lx_delivery.specs.Turns.{Turn, IsFirstOpen, IsTurnBy, first_turn}
+use Rattle.lx_piece.specs.Turns.{Turn, IsFirstOpen, IsTurnBy, first_turn}
 use Rattle.lx_lines.specs.Listings.{IsDue, IsTurnOf, Prints, Progress, lines_before, listing_of, listing_to, printed, taken_lines}
 use Rattle.lx_lines.specs.ListingLaws.{due_begins, due_whole}
 use Rattle.lx_writing.specs.AppendingLaws.{appends_nothing}

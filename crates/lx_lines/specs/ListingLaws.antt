@@ -6,10 +6,10 @@ use Rattle.std.proofs.lemmas.Bool.{cases_Bool, cases_eq, cases_lt, both_ways, eq
 use Rattle.std.proofs.lemmas.Grind.{flat_map-append}
 use Rattle.std.proofs.lemmas.List.{drop_all, get_or_past, take_all}
 use Rattle.lx_scan.specs.declared.item.Item.{Item}
-use Rattle.lx_plan.specs.Plans.{Planned, IsPlan, files_of, is_cut, items_of}
-use Rattle.lx_plan.specs.Pieces.{IsPrefix, ItemPiece, contents, part, piece_at, pieces_of, pieces_to}
+use Rattle.lx_piece.specs.Plans.{Planned, IsPlan, files_of, is_cut, items_of}
+use Rattle.lx_piece.specs.Pieces.{IsPrefix, ItemPiece, contents, part, piece_at, pieces_of, pieces_to}
 use Rattle.lx_piece.specs.Relayed.{AreAllTaken, HasOpenFile}
-use Rattle.lx_plan.specs.PieceLaws.{marked_cut, pieces_hold, prefix_to, whole_at}
+use Rattle.lx_piece.specs.PieceLaws.{marked_cut, pieces_hold, prefix_to, whole_at}
 use Rattle.lx_lines.specs.Lines.{cut_lines, file_lines, line_of, lines_of, piece_lines, pieces_lines}
 use Rattle.lx_writing.specs.AppendingLaws.{appends_nothing, appends_both, prefix_all, prefix_then, prefix_behind, prefix_before}
 use Rattle.lx_lines.specs.Listings.{listing_to, listing_of, taken_lines, IsDue, Printed, Prints}

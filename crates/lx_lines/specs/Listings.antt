@@ -1,10 +1,10 @@
 -- The listing of a plan, and what a listing has written of it.
 use Rattle.std.specs.Prelude.{ℕ, zero, suc, ◌≡◌, ◌≤◌, ◌⊎◌, Bool, true, false, List, [], ◌∷◌, ◌++◌, Option, slice_index}
 use Rattle.std.specs.Io.KnownBytes.{Appends}
-use Rattle.lx_plan.specs.Plans.{Planned, IsPlan, files_of}
-use Rattle.lx_plan.specs.Pieces.{IsPrefix, pieces_to}
+use Rattle.lx_piece.specs.Plans.{Planned, IsPlan, files_of}
+use Rattle.lx_piece.specs.Pieces.{IsPrefix, pieces_to}
 use Rattle.lx_piece.specs.Relayed.{AreAllTaken, HasOpenFile}
-use Rattle.lx_delivery.specs.Turns.{Turn, IsFirstOpen}
+use Rattle.lx_piece.specs.Turns.{Turn, IsFirstOpen}
 use Rattle.lx_lines.specs.Lines.{file_lines, pieces_lines}
 
 -- the lines of the files below this one, in order

@@ -1,8 +1,8 @@
 -- What was written of lines that leave in parts.
 use Rattle.std.specs.Prelude.{ℕ, ◌≡◌, List}
-use Rattle.lx_delivery.specs.declared.reader.ReaderFault.{ReaderFault}
-use Rattle.lx_delivery.specs.declared.reader.ReaderFault.TheVariants.{Memory}
-use Rattle.lx_plan.specs.Pieces.{IsPrefix}
+use Rattle.lx_piece.specs.declared.reader.ReaderFault.{ReaderFault}
+use Rattle.lx_piece.specs.declared.reader.ReaderFault.TheVariants.{Memory}
+use Rattle.lx_piece.specs.Pieces.{IsPrefix}
 use Rattle.lx_lines.specs.Listings.{AreWhole}
 
 -- where it failed: a prefix of these bytes, and whole lines where memory was refused

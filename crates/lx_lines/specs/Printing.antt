@@ -1,11 +1,11 @@
 -- What a printer writes, which takes pieces in the plan's order.
 use Rattle.std.specs.Prelude.{ℕ, ◌≡◌, Bool, false, List, ◌++◌}
-use Rattle.lx_delivery.specs.declared.reader.ReaderFault.{ReaderFault}
-use Rattle.lx_delivery.specs.declared.reader.ReaderFault.TheVariants.{Memory}
-use Rattle.lx_plan.specs.Plans.{Planned, IsPlan}
-use Rattle.lx_plan.specs.declared.piece.Piece.{Piece}
-use Rattle.lx_plan.specs.Pieces.{IsPrefix, ItemPiece, is_cut_short}
-use Rattle.lx_delivery.specs.Turns.{Turn, IsTurnBy}
+use Rattle.lx_piece.specs.declared.reader.ReaderFault.{ReaderFault}
+use Rattle.lx_piece.specs.declared.reader.ReaderFault.TheVariants.{Memory}
+use Rattle.lx_piece.specs.Plans.{Planned, IsPlan}
+use Rattle.lx_piece.specs.declared.piece.Piece.{Piece}
+use Rattle.lx_piece.specs.Pieces.{IsPrefix, ItemPiece, is_cut_short}
+use Rattle.lx_piece.specs.Turns.{Turn, IsTurnBy}
 use Rattle.lx_lines.specs.Lines.{cut_lines, lines_of}
 use Rattle.lx_shown.specs.Shown.{ShownItems, shown}
 use Rattle.lx_lines.specs.Listings.{AreWhole, IsTurnOf, lines_before, listing_of}

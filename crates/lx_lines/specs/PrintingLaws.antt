@@ -1,11 +1,11 @@
 -- Laws of what a printer writes between two turns.
 use Rattle.std.proofs.Common.{ℕ, ◌≡◌, inl, inr, List, [], ◌∷◌, ◌++◌, refl, sym, ◌∙◌, ap, subst, arith, append_assoc, append-nil}
 use Rattle.std.proofs.lemmas.Bool.{cases_lt}
-use Rattle.lx_delivery.specs.declared.reader.ReaderFault.{ReaderFault}
-use Rattle.lx_delivery.specs.declared.reader.ReaderFault.TheVariants.{Memory}
-use Rattle.lx_plan.specs.Plans.{Planned, files_of}
-use Rattle.lx_plan.specs.Pieces.{IsPrefix}
-use Rattle.lx_delivery.specs.Turns.{Turn}
+use Rattle.lx_piece.specs.declared.reader.ReaderFault.{ReaderFault}
+use Rattle.lx_piece.specs.declared.reader.ReaderFault.TheVariants.{Memory}
+use Rattle.lx_piece.specs.Plans.{Planned, files_of}
+use Rattle.lx_piece.specs.Pieces.{IsPrefix}
+use Rattle.lx_piece.specs.Turns.{Turn}
 use Rattle.lx_lines.specs.Listings.{AreWhole, IsTurnOf, lines_before, listing_of, listing_to, taken_lines}
 use Rattle.lx_lines.specs.ListingLaws.{lines_begin}
 use Rattle.lx_writing.specs.AppendingLaws.{prefix_all}

@@ -1,7 +1,7 @@
 //! The listing of a plan's files on the calling thread, for which no pieces are cut.
 
 ghost use Rattle.std.specs.Prelude.{◌≡◌, ◌<◌, IfErr, OnErr, OnOk};
-ghost use Rattle.lx_plan.specs.Plans.{IsPlan, files_of, items_of};
+ghost use Rattle.lx_piece.specs.Plans.{IsPlan, files_of, items_of};
 ghost use Rattle.lx_lines.specs.Lines.{file_lines, lines_of};
 ghost use Rattle.lx_lines.specs.Listings.{listing_of};
 ghost use Rattle.lx_lines.specs.Parts.{WrotePart};

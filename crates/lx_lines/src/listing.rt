@@ -2,10 +2,10 @@
 
 ghost use Rattle.std.specs.Prelude.{◌≡◌, ◌+◌, ◌<◌, [], All, IfOk, OnOk, OnErr, Err, replicate, true, false};
 ghost use Rattle.lx_scan.specs.ItemParts.{IsItemOf};
-ghost use Rattle.lx_delivery.specs.Waiting.{counted};
-ghost use Rattle.lx_plan.specs.Pieces.{top_number};
-ghost use Rattle.lx_plan.specs.Plans.{bytes_of, files_of, kinds_of};
-ghost use Rattle.lx_delivery.specs.NextPiece.{IsNextPiece};
+ghost use Rattle.lx_piece.specs.Waiting.{counted};
+ghost use Rattle.lx_piece.specs.Pieces.{top_number};
+ghost use Rattle.lx_piece.specs.Plans.{bytes_of, files_of, kinds_of};
+ghost use Rattle.lx_piece.specs.NextPiece.{IsNextPiece};
 ghost use Rattle.lx_lines.specs.Listings.{AppendsWhole, IsDue, Prints};
 ghost use Rattle.lx_lines.specs.Printing.{as_shown};
 
@@ -89,9 +89,9 @@ impl<'a, W: Write> Listing<'a, W> {
 
 impl<'a, W: Write> Reader for Listing<'a, W> {
     ghost use Rattle.std.specs.Prelude.{◌≡◌, ◌+◌, ◌<◌, OnOk, OnErr, Err, false, true};
-    ghost use Rattle.lx_plan.specs.Pieces.{top_number};
-    ghost use Rattle.lx_delivery.specs.Waiting.{counted};
-    ghost use Rattle.lx_delivery.specs.NextPiece.{IsNextPiece};
+    ghost use Rattle.lx_piece.specs.Pieces.{top_number};
+    ghost use Rattle.lx_piece.specs.Waiting.{counted};
+    ghost use Rattle.lx_piece.specs.NextPiece.{IsNextPiece};
     ghost use Rattle.lx_lines.specs.Listings.{AppendsWhole, Prints};
     ghost use Rattle.lx_lines.specs.ListingLaws.{prints_nothing, prints_on};
 

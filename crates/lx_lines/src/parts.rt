@@ -3,7 +3,7 @@
 ghost use Rattle.std.specs.Prelude.{◌≡◌, ◌+◌, ◌*◌, ◌<◌, ◌≤◌, IfErr, OnOk, OnErr, length};
 ghost use Rattle.std.specs.List.{flat_map};
 ghost use Rattle.lx_scan.specs.ItemParts.{IsItemOf};
-ghost use Rattle.lx_plan.specs.Plans.{bytes_of, files_of, kinds_of};
+ghost use Rattle.lx_piece.specs.Plans.{bytes_of, files_of, kinds_of};
 ghost use Rattle.lx_lines.specs.Gathered.{Gathers};
 ghost use Rattle.lx_lines.specs.Lines.{escaped, line_of};
 ghost use Rattle.lx_lines.specs.Parts.{WrotePart};

@@ -1,8 +1,8 @@
 //! The printer of a listing.
 
 ghost use Rattle.std.specs.Prelude.{◌≡◌, ◌<◌, IfErr, OnOk};
-ghost use Rattle.lx_plan.specs.Plans.{files_of};
-ghost use Rattle.lx_delivery.specs.Turns.{HasTurn, turn_after};
+ghost use Rattle.lx_piece.specs.Plans.{files_of};
+ghost use Rattle.lx_piece.specs.Turns.{HasTurn, turn_after};
 ghost use Rattle.lx_lines.specs.Parts.{WrotePart};
 ghost use Rattle.lx_lines.specs.Printing.{PrintsTo, PrintsPart, printing, shown_lines, turn_of};
 ghost use Rattle.lx_shown.specs.Shown.{shown};
@@ -11,7 +11,7 @@ use crate::shown_lines::{write_cut, write_shown};
 use crate::sink::LineSink;
 use lx_line::PlanDraft;
 use lx_piece::{Piece, Plan, ReaderFault, Taker};
-use lx_plan::plans_are_well_formed;
+use lx_piece::plans_are_well_formed;
 use lx_shown::{LineMaker, Shown, Spares};
 use std::alloc::Global;
 

@@ -2,7 +2,7 @@
 
 ghost use Rattle.std.specs.Prelude.{◌≡◌, ◌<◌, [], ◌++◌, ℕ, All, List, IfErr, OnOk, OnErr};
 ghost use Rattle.lx_scan.specs.ItemParts.{IsItemOf};
-ghost use Rattle.lx_plan.specs.Plans.{bytes_of, files_of, kinds_of};
+ghost use Rattle.lx_piece.specs.Plans.{bytes_of, files_of, kinds_of};
 ghost use Rattle.lx_lines.specs.Lines.{lines_of};
 ghost use Rattle.lx_lines.specs.Parts.{WrotePart};
 ghost use Rattle.lx_lines.specs.Printing.{WrotePrefix};

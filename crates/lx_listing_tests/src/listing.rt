@@ -1,7 +1,7 @@
 //! Listings of plans: each form of line, pieces of later files, writers that take a part or fail.
 
 ghost use Rattle.std.specs.Prelude.{◌<◌, ◌≤◌};
-ghost use Rattle.lx_plan.specs.Plans.{IsPlan, max_items};
+ghost use Rattle.lx_piece.specs.Plans.{IsPlan, max_items};
 
 use crate::asserts::{holds, same, same_bytes};
 use crate::plans::{listing_of, made, mixed, put, put_times};

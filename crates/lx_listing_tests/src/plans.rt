@@ -1,7 +1,7 @@
 //! Plans, their listings, and texts. Where there is no memory for one, the test ends there.
 
 ghost use Rattle.std.specs.Prelude.{◌<◌, ◌≤◌, length};
-ghost use Rattle.lx_plan.specs.Plans.{IsPlan, max_items};
+ghost use Rattle.lx_piece.specs.Plans.{IsPlan, max_items};
 
 use lx_fixtures::{mixed_plan, plan_of};
 use lx_piece::Plan;

@@ -1,7 +1,7 @@
 //! Listings of files that several threads scan: the same bytes as by one thread.
 
 ghost use Rattle.std.specs.Prelude.{◌<◌, ◌≤◌};
-ghost use Rattle.lx_plan.specs.Plans.{max_items};
+ghost use Rattle.lx_piece.specs.Plans.{max_items};
 
 use crate::asserts::{same, same_bytes};
 use crate::plans::{listing_of, made, mixed};

@@ -1,7 +1,7 @@
 -- What came by a post, after one note more.
 use Rattle.std.proofs.Common.{◌≡◌, ℕ, List, [], ◌∷◌, ◌++◌, Option, None, Some, length, drop, sym, refl, ap, ◌∙◌, append_assoc}
 use Rattle.std.proofs.Math.Seq.{drop-append_seam}
-use Rattle.lx_plan.specs.declared.piece.Piece.{Piece}
+use Rattle.lx_piece.specs.declared.piece.Piece.{Piece}
 use Rattle.lx_notes.specs.declared.note.Note.{Note}
 use Rattle.lx_notes.specs.declared.note.Note.TheVariants.{Piece as note_piece, End as note_end}
 use Rattle.lx_notes.specs.declared.note.WorkerFault.{WorkerFault}

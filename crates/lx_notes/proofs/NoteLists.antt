@@ -9,8 +9,8 @@ use Rattle.lx_notes.specs.declared.note.WorkerFault.{WorkerFault}
 use Rattle.lx_notes.specs.declared.note.Note.TheVariants.{Piece as note_piece, End as note_end}
 use Rattle.lx_notes.specs.declared.post_rule.PassView.{PassView}
 use Rattle.lx_notes.specs.Posting.{taker}
-use Rattle.lx_plan.specs.Pieces.{Making}
-use Rattle.lx_plan.specs.Plans.{Planned, max_workers}
+use Rattle.lx_piece.specs.Pieces.{Making}
+use Rattle.lx_piece.specs.Plans.{Planned, max_workers}
 use Rattle.lx_notes.specs.Notes.{worker_of, is_end, IsHonestNote, AreHonestNotes, notes_of, has_end, NothingFollowsEnd}
 
 pub notes_of-append : {C : Type 0} (w : ℕ) (xs ys : List (Note C)) → notes_of w (xs ++ ys) ≡ notes_of w xs ++ notes_of w ys

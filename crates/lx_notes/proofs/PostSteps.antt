@@ -7,8 +7,8 @@ use Rattle.std.proofs.lemmas.List.{append-nil}
 use lib.ListN.{get_elem?}
 use Rattle.crossbeam_queue.specs.Fifo.{Pushes, Pops, Forks, Merges, Learns}
 use Rattle.crossbeam_queue.proofs.Lists.{at_set}
-use Rattle.lx_plan.specs.Pieces.{Making}
-use Rattle.lx_plan.specs.Plans.{Planned}
+use Rattle.lx_piece.specs.Pieces.{Making}
+use Rattle.lx_piece.specs.Plans.{Planned}
 use Rattle.lx_notes.specs.declared.note.Note.{Note}
 use Rattle.lx_notes.specs.declared.post_rule.PassView.{PassView}
 use Rattle.lx_notes.specs.declared.post_rule.Role.TheVariants.{Blank, Sends, Takes}

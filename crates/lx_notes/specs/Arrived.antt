@@ -1,7 +1,7 @@
 -- Laws of what comes by a post between one state and a later one.
 use Rattle.std.specs.Prelude.{◌≡◌, List, [], ◌∷◌, ◌++◌, refl}
 use Rattle.std.proofs.Common.{sym, ◌∙◌, ap, append_assoc, append-nil}
-use Rattle.lx_plan.specs.declared.piece.Piece.{Piece}
+use Rattle.lx_piece.specs.declared.piece.Piece.{Piece}
 use Rattle.lx_notes.specs.declared.note.Note.{Note}
 use Rattle.lx_notes.specs.declared.note.Note.TheVariants.{Piece as note_piece, End as note_end}
 use Rattle.lx_notes.specs.Notes.{pieces_among}

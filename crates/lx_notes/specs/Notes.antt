@@ -1,10 +1,10 @@
 -- Notes that workers send to a post: pieces, and at last an end.
 use Rattle.std.specs.Prelude.{◌≡◌, ℕ, ◌==◌, ◌||◌, Bool, true, false, List, [], ◌∷◌, Option, Some, None, filter}
 use Rattle.std.specs.Option.{option_or}
-use Rattle.lx_plan.specs.declared.piece.Piece.{Piece}
-use Rattle.lx_plan.specs.Plans.{Planned}
-use Rattle.lx_plan.specs.Pieces.{Making}
-use Rattle.lx_collector.specs.Arrivals.{IsHonestBy}
+use Rattle.lx_piece.specs.declared.piece.Piece.{Piece}
+use Rattle.lx_piece.specs.Plans.{Planned}
+use Rattle.lx_piece.specs.Pieces.{Making}
+use Rattle.lx_piece.specs.Arrivals.{IsHonestBy}
 use Rattle.lx_notes.specs.declared.note.Note.{Note}
 use Rattle.lx_notes.specs.declared.note.Note.TheVariants.{Piece as note_piece, End as note_end}
 use Rattle.lx_notes.specs.declared.note.WorkerFault.{WorkerFault}

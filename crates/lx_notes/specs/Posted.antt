@@ -1,9 +1,9 @@
 -- A post, its passes and its arrivals as contracts see them.
 use Rattle.std.specs.Prelude.{◌≡◌, ◌<◌, ℕ, true, false, List, [], ◌∷◌, ◌++◌, Any}
 use Rattle.atomic_table.specs.Seated.{TableId}
-use Rattle.lx_plan.specs.declared.piece.Piece.{Piece}
-use Rattle.lx_plan.specs.Pieces.{Making}
-use Rattle.lx_plan.specs.Plans.{Planned}
+use Rattle.lx_piece.specs.declared.piece.Piece.{Piece}
+use Rattle.lx_piece.specs.Pieces.{Making}
+use Rattle.lx_piece.specs.Plans.{Planned}
 use Rattle.lx_notes.specs.declared.note.Note.{Note}
 use Rattle.lx_notes.specs.Notes.{worker_of, IsHonestNote, notes_of, has_end, pieces_among}
 

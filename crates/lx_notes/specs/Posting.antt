@@ -2,8 +2,8 @@
 use Rattle.std.specs.Prelude.{◌≡◌, ◌≢◌, ℕ, ◌+◌, ◌<◌, ◌≤◌, ◌⊎◌, true, false, List, [], ◌∷◌, ◌++◌}
 use mathlib.Core.Option.{some}
 use lib.ListN.{get_elem?}
-use Rattle.lx_plan.specs.Pieces.{Making}
-use Rattle.lx_plan.specs.Plans.{Planned}
+use Rattle.lx_piece.specs.Pieces.{Making}
+use Rattle.lx_piece.specs.Plans.{Planned}
 use Rattle.lx_notes.specs.declared.note.Note.{Note}
 use Rattle.lx_notes.specs.declared.post_rule.PassView.{PassView}
 use Rattle.lx_notes.specs.declared.post_rule.Role.TheVariants.{Blank, Sends, Takes, Spent}

@@ -4,7 +4,7 @@ ghost use Rattle.std.specs.Prelude.{◌≡◌, ◌<◌, ◌≤◌, ◌↔◌, Is
 
 use crate::backoff::Backoff;
 use lx_piece::Held;
-use lx_plan::MAX_WORKERS;
+use lx_piece::MAX_WORKERS;
 use std::sync::Wait;
 use std::sync::atomic::{AtomicBool, AtomicU64, Ordering};
 

@@ -6,7 +6,7 @@ use crate::note::Note;
 use crate::post_rule::PassView;
 use crossbeam_queue::Pass;
 use lx_piece::Items;
-use lx_plan::MAX_WORKERS;
+use lx_piece::MAX_WORKERS;
 use std::marker::Model;
 
 /// The most workers that a run has, as the length of a list.
@@ -44,7 +44,7 @@ pub struct TakePass<C = Items> {
 impl<C> Model for TakePass<C> {
     ghost use Rattle.std.specs.Prelude.{◌≡◌, ◌≤◌, ◌<◌, ℕ, [], false, slice_index_or};
     ghost use Rattle.crossbeam_queue.specs.Passes.{view as known};
-    ghost use Rattle.lx_plan.specs.Plans.{max_workers};
+    ghost use Rattle.lx_piece.specs.Plans.{max_workers};
     ghost use Rattle.lx_notes.specs.Notes.{notes_of, has_end};
     ghost use Rattle.lx_notes.specs.Posting.{taker};
     ghost use Rattle.lx_notes.specs.Posted.{Taken};

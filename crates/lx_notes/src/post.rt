@@ -1,7 +1,7 @@
 //! The bounded queue in which workers send notes.
 ghost use Rattle.std.specs.Prelude.{◌≡◌, ◌<◌, ◌≤◌, ◌+◌, [], ℕ, Some, vec_len, slice_get, IfOk, IfErr, IfSome, IfNone};
 ghost use Rattle.crossbeam_queue.specs.Passes.{view, IsPassOf};
-ghost use Rattle.lx_plan.specs.Plans.{max_workers};
+ghost use Rattle.lx_piece.specs.Plans.{max_workers};
 ghost use Rattle.lx_notes.specs.Posted.{IsTakePassOf, MayCome, MaySend, AllEnded, fresh_send, fresh_take, with_received, with_sent};
 ghost use Rattle.lx_notes.specs.Posting.{blank, no_worker, opened, taker};
 

@@ -47,7 +47,7 @@ impl<M: Maker> Protocol<Note<M::Made>, PassView<M::Made>> for PostRule<M> {
 
 /// Which plan the passes name. The rule's first view is a constant, so a call picks the plan.
 pub trait Naming {
-    ghost use Rattle.lx_plan.specs.Plans.{Planned};
+    ghost use Rattle.lx_piece.specs.Plans.{Planned};
 
     ghost plan: { Planned };
 }

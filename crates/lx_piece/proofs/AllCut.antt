@@ -3,10 +3,10 @@ use Rattle.std.proofs.Common.{ℕ, zero, suc, ◌≡◌, ◌+◌, ◌<◌, inl, 
 use Rattle.std.specs.Prelude.{Contains, IfOk, MatchOption, OnErr, Result, Ok, Err, false}
 use Rattle.std.proofs.lemmas.Bool.{cases_eq}
 use Rattle.std.proofs.lemmas.List.Elements.{Contains-append_left, Contains-append_right}
-use Rattle.lx_plan.specs.declared.piece.Piece.{Piece}
-use Rattle.lx_plan.specs.Cutting.{Cutting}
-use Rattle.lx_plan.specs.Plans.{Planned, files_of}
-use Rattle.lx_plan.specs.Pieces.{Making, IsPieceBy, piece_by, pieces_of, pieces_by}
+use Rattle.lx_piece.specs.declared.piece.Piece.{Piece}
+use Rattle.lx_piece.specs.Cutting.{Cutting}
+use Rattle.lx_piece.specs.Plans.{Planned, files_of}
+use Rattle.lx_piece.specs.Pieces.{Making, IsPieceBy, piece_by, pieces_of, pieces_by}
 use Rattle.lx_piece.specs.Relayed.{AreAllAmongBy}
 use Rattle.lx_piece.specs.PlanPieces.{CutSoFar, Cuts, pieces_below, pieces_before}
 

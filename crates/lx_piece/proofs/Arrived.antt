@@ -3,14 +3,14 @@ use Rattle.std.specs.Prelude.{slice_index, All, Contains}
 use Rattle.std.specs.List.{list_any}
 use Rattle.std.proofs.lemmas.Bool.{both_ways, and_parts, and_from, cases_lt, cases_Bool, eqb-true, eq-eqb, ne_eqb, ltb-true, lt-ltb, or_right, or_from, not_from_true, false_from_ne_true}
 use Rattle.std.proofs.lemmas.List.Elements.{All-nil, All-head, All-tail, All-contains}
-use Rattle.lx_plan.specs.declared.piece.Piece.{Piece}
-use Rattle.lx_collector.specs.declared.reply.Why.{Why}
-use Rattle.lx_plan.specs.Plans.{Planned, files_of}
-use Rattle.lx_plan.specs.Pieces.{Making, is_closing, top_number, IsPieceBy, piece_by, pieces_of}
-use Rattle.lx_plan.specs.PieceLaws.{marked_last}
-use Rattle.lx_collector.specs.Arrivals.{shape_of, IsHonestBy, AreHonestBy, accepted_behind, accepted_of, with_arrival, joined, cause_against, has_piece, is_numbered, closes_before, is_later}
+use Rattle.lx_piece.specs.declared.piece.Piece.{Piece}
+use Rattle.lx_piece.specs.declared.reply.Why.{Why}
+use Rattle.lx_piece.specs.Plans.{Planned, files_of}
+use Rattle.lx_piece.specs.Pieces.{Making, is_closing, top_number, IsPieceBy, piece_by, pieces_of}
+use Rattle.lx_piece.specs.PieceLaws.{marked_last}
+use Rattle.lx_piece.specs.Arrivals.{shape_of, IsHonestBy, AreHonestBy, accepted_behind, accepted_of, with_arrival, joined, cause_against, has_piece, is_numbered, closes_before, is_later}
 use Rattle.lx_piece.specs.Relayed.{AllDelivered, AreAllAmongBy}
-use Rattle.lx_collector.proofs.AnyOf.{any_last, any_of}
+use Rattle.lx_piece.proofs.AnyOf.{any_last, any_of}
 use Rattle.lx_piece.proofs.Deliveries.{with_planned, has_more}
 
 -- a closing piece of the plan is the last of its file

@@ -4,20 +4,20 @@ use Rattle.std.proofs.lemmas.Bool.{and_parts, cases_lt, eqb-true, ltb-true, lt-l
 use Rattle.std.proofs.lemmas.Option.{slice_get-get_or}
 use Rattle.std.proofs.lemmas.List.Elements.{All-nil, All-head, All-tail, All-push, All-contains}
 use Rattle.std.proofs.lemmas.List.{get_or-replicate, length-replicate, length_push, same_from_push}
-use Rattle.lx_plan.specs.declared.piece.Piece.{Piece}
-use Rattle.lx_collector.specs.declared.reply.Why.{Why}
-use Rattle.lx_plan.specs.Plans.{Planned, files_of}
-use Rattle.lx_plan.specs.Pieces.{Making, IsPieceBy, pieces_of}
-use Rattle.lx_collector.specs.Arrivals.{RunShape, shape_of, IsHonestBy, AreHonestBy, accepted_behind, accepted_of, with_arrival, joined, cause_against, has_piece, is_numbered, reply_to, replies_of, IsLeastMissing}
-use Rattle.lx_collector.specs.Kept.{Kept, BufferStandsFor, StandsFor, NoneReady, shape_of_kept, held_at, delivered_counts, is_ready_at, fresh_buffer}
-use Rattle.lx_collector.specs.declared.reply.Reply.{Reply}
-use Rattle.lx_delivery.specs.Delivered.{HoldsPlanned, AreAtMost}
+use Rattle.lx_piece.specs.declared.piece.Piece.{Piece}
+use Rattle.lx_piece.specs.declared.reply.Why.{Why}
+use Rattle.lx_piece.specs.Plans.{Planned, files_of}
+use Rattle.lx_piece.specs.Pieces.{Making, IsPieceBy, pieces_of}
+use Rattle.lx_piece.specs.Arrivals.{RunShape, shape_of, IsHonestBy, AreHonestBy, accepted_behind, accepted_of, with_arrival, joined, cause_against, has_piece, is_numbered, reply_to, replies_of, IsLeastMissing}
+use Rattle.lx_piece.specs.Kept.{Kept, BufferStandsFor, StandsFor, NoneReady, shape_of_kept, held_at, delivered_counts, is_ready_at, fresh_buffer}
+use Rattle.lx_piece.specs.declared.reply.Reply.{Reply}
+use Rattle.lx_piece.specs.Delivered.{HoldsPlanned, AreAtMost}
 use Rattle.lx_piece.specs.Relayed.{TakesAllInOrder, AllDelivered, AtMostDelivered, RelayedInPartBy}
 use Rattle.lx_piece.proofs.SoFar.{SoFar}
-use Rattle.lx_collector.proofs.AnyOf.{any_last, any_of}
-use Rattle.lx_plan.specs.PieceLaws.{takes_in_order}
-use Rattle.lx_collector.proofs.Standing.{known, accepted_last, replies_last}
-use Rattle.lx_collector.proofs.Counts.{nexts, length-nexts, count_at}
+use Rattle.lx_piece.proofs.AnyOf.{any_last, any_of}
+use Rattle.lx_piece.specs.PieceLaws.{takes_in_order}
+use Rattle.lx_piece.proofs.Standing.{known, accepted_last, replies_last}
+use Rattle.lx_piece.proofs.Counts.{nexts, length-nexts, count_at}
 
 -- an honest arrival leaves the accepted pieces the plan's
 pub with_planned : {C : Type 0} (made : Making C) (plan : Planned) (accepted : List (Piece C)) (p : Piece C) → All (IsPieceBy made plan) accepted → IsHonestBy made plan p → All (IsPieceBy made plan) (with_arrival (shape_of plan) accepted p)

@@ -3,12 +3,12 @@ use Rattle.std.proofs.Common.{ℕ, ◌≡◌, ◌+◌, ◌<◌, inl, inr, Bool, 
 use Rattle.std.specs.Prelude.{slice_index, slice_set}
 use Rattle.std.proofs.lemmas.Bool.{both_ways, cases_lt}
 use Rattle.std.proofs.lemmas.List.{length-replicate, get_or-replicate, get_or_past, get_or_default}
-use Rattle.lx_plan.specs.declared.piece.Piece.{Piece}
-use Rattle.lx_plan.specs.Plans.{Planned, files_of}
-use Rattle.lx_plan.specs.Pieces.{Making}
-use Rattle.lx_delivery.specs.declared.reader.ReaderFault.{ReaderFault}
-use Rattle.lx_delivery.specs.Turns.{Turn, IsFirstOpen, IsTurnBy}
-use Rattle.lx_delivery.specs.Waiting.{AreFirstPieces, KeepsUp, counted, waiting_of}
+use Rattle.lx_piece.specs.declared.piece.Piece.{Piece}
+use Rattle.lx_piece.specs.Plans.{Planned, files_of}
+use Rattle.lx_piece.specs.Pieces.{Making}
+use Rattle.lx_piece.specs.declared.reader.ReaderFault.{ReaderFault}
+use Rattle.lx_piece.specs.Turns.{Turn, IsFirstOpen, IsTurnBy}
+use Rattle.lx_piece.specs.Waiting.{AreFirstPieces, KeepsUp, counted, waiting_of}
 use Rattle.lx_piece.specs.Passing.{PassesOn}
 
 -- ---- before anything came

@@ -1,10 +1,10 @@
 use Rattle.std.specs.Prelude.{◌≡◌, List}
-use Rattle.lx_plan.specs.declared.piece.Piece.{Piece}
-use Rattle.lx_collector.specs.declared.reply.Reply.{Reply}
-use Rattle.lx_plan.specs.Plans.{Planned}
-use Rattle.lx_plan.specs.Pieces.{Making}
-use Rattle.lx_collector.specs.Arrivals.{shape_of, AreHonestBy, replies_of}
-use Rattle.lx_collector.specs.Kept.{Kept, StandsFor}
+use Rattle.lx_piece.specs.declared.piece.Piece.{Piece}
+use Rattle.lx_piece.specs.declared.reply.Reply.{Reply}
+use Rattle.lx_piece.specs.Plans.{Planned}
+use Rattle.lx_piece.specs.Pieces.{Making}
+use Rattle.lx_piece.specs.Arrivals.{shape_of, AreHonestBy, replies_of}
+use Rattle.lx_piece.specs.Kept.{Kept, StandsFor}
 
 -- in the midst of a run: the list that came, which the collector stands for, and the replies to it
 pub record SoFar {C : Type 0} (made : Making C) (plan : Planned) (leads : List (Piece C) → Type 0) (kept : Kept C) (replies : List Reply) : Type 0 where

@@ -1,10 +1,10 @@
 use Rattle.std.proofs.Common.{ℕ, ◌≡◌, ◌<◌, List, [], ◌++◌, subst, append-nil}
-use Rattle.lx_plan.specs.declared.piece.Piece.{Piece}
-use Rattle.lx_collector.specs.declared.reply.Reply.{Reply}
-use Rattle.lx_plan.specs.Plans.{Planned}
-use Rattle.lx_plan.specs.Pieces.{Making}
-use Rattle.lx_collector.specs.Arrivals.{RunShape, shape_of}
-use Rattle.lx_collector.specs.Kept.{Kept, NoneReady, shape_of_kept, delivered_counts}
+use Rattle.lx_piece.specs.declared.piece.Piece.{Piece}
+use Rattle.lx_piece.specs.declared.reply.Reply.{Reply}
+use Rattle.lx_piece.specs.Plans.{Planned}
+use Rattle.lx_piece.specs.Pieces.{Making}
+use Rattle.lx_piece.specs.Arrivals.{RunShape, shape_of}
+use Rattle.lx_piece.specs.Kept.{Kept, NoneReady, shape_of_kept, delivered_counts}
 use Rattle.lx_piece.specs.Relayed.{AllDelivered, AtMostDelivered, RelayedBy}
 use Rattle.lx_piece.proofs.SoFar.{SoFar}
 use Rattle.lx_piece.proofs.Deliveries.{all_delivered, taken_from}

@@ -1,5 +1,15 @@
-pub mod Relayed
+pub mod Arrivals
+pub mod Cutting
+pub mod Delivered
+pub mod Kept
 pub mod Listed
+pub mod NextPiece
 pub mod Passing
 pub mod PassingLaws
+pub mod PieceLaws
+pub mod Pieces
 pub mod PlanPieces
+pub mod Plans
+pub mod Relayed
+pub mod Turns
+pub mod Waiting

@@ -1,12 +1,12 @@
 -- Pieces that are handed on in the plan's order: how far this has come.
 use Rattle.std.specs.Prelude.{ℕ, ◌≡◌, Bool, true, false, List}
-use Rattle.lx_plan.specs.declared.piece.Piece.{Piece}
-use Rattle.lx_delivery.specs.declared.reader.ReaderFault.{ReaderFault}
-use Rattle.lx_plan.specs.Plans.{Planned, IsPlan}
-use Rattle.lx_plan.specs.Pieces.{Making}
+use Rattle.lx_piece.specs.declared.piece.Piece.{Piece}
+use Rattle.lx_piece.specs.declared.reader.ReaderFault.{ReaderFault}
+use Rattle.lx_piece.specs.Plans.{Planned, IsPlan}
+use Rattle.lx_piece.specs.Pieces.{Making}
 use Rattle.lx_piece.specs.Relayed.{HasOpenFile}
-use Rattle.lx_delivery.specs.Turns.{Turn, IsTurnBy}
-use Rattle.lx_delivery.specs.Waiting.{KeepsUp}
+use Rattle.lx_piece.specs.Turns.{Turn, IsTurnBy}
+use Rattle.lx_piece.specs.Waiting.{KeepsUp}
 
 -- To whom pieces are handed on, how many came of each file, how often the taker's device failed or was asked for more after a fault, and whether it failed.
 pub record Passing (T : Type 0) : Type 0 where

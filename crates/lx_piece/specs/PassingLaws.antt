@@ -2,10 +2,10 @@
 use Rattle.std.specs.Prelude.{List, ℕ, refl}
 use Rattle.std.proofs.Common.{inl, inr, sym, ◌∙◌, subst}
 use Rattle.std.proofs.lemmas.Bool.{both_ways, cases_Bool}
-use Rattle.lx_delivery.specs.declared.reader.ReaderFault.{ReaderFault}
-use Rattle.lx_plan.specs.Plans.{Planned}
+use Rattle.lx_piece.specs.declared.reader.ReaderFault.{ReaderFault}
+use Rattle.lx_piece.specs.Plans.{Planned}
 use Rattle.lx_piece.specs.Relayed.{HasOpenFile}
-use Rattle.lx_delivery.specs.Turns.{Turn}
+use Rattle.lx_piece.specs.Turns.{Turn}
 use Rattle.lx_piece.specs.Passing.{Passing, PassesOn}
 
 pub passes_itself : {T : Type 0} (plan : T → Planned) (turn : T → Turn) (follows : T → T → Type 0) (fails : T → ReaderFault → T → Type 0) (itself : (s : T) → follows s s) → (s : Passing T) → PassesOn plan turn follows fails s s

@@ -1,10 +1,10 @@
 -- The pieces of a plan, cut one file after the other.
 use Rattle.std.specs.Prelude.{ℕ, zero, suc, ◌≡◌, Bool, List, [], ◌++◌, refl}
 use Rattle.std.proofs.Common.{sym, ◌∙◌, ap, append_assoc, append-nil}
-use Rattle.lx_plan.specs.declared.piece.Piece.{Piece}
-use Rattle.lx_plan.specs.Cutting.{Cutting}
-use Rattle.lx_plan.specs.Plans.{Planned}
-use Rattle.lx_plan.specs.Pieces.{Making, pieces_by, pieces_of}
+use Rattle.lx_piece.specs.declared.piece.Piece.{Piece}
+use Rattle.lx_piece.specs.Cutting.{Cutting}
+use Rattle.lx_piece.specs.Plans.{Planned}
+use Rattle.lx_piece.specs.Pieces.{Making, pieces_by, pieces_of}
 
 -- the pieces of the files below this one, in order
 abbrev pub pieces_below : {C : Type 0} → Making C → Planned → ℕ → List (Piece C)

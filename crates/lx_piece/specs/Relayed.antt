@@ -1,10 +1,10 @@
 -- What of a plan's files was taken.
 use Rattle.std.specs.Prelude.{ℕ, ◌≡◌, ◌≢◌, ◌<◌, ◌≤◌, true, List, [], ◌∷◌, ◌++◌, Contains, length, slice_index}
-use Rattle.lx_plan.specs.declared.piece.Piece.{Piece}
-use Rattle.lx_collector.specs.declared.reply.Reply.{Reply}
-use Rattle.lx_plan.specs.Plans.{Planned, files_of}
-use Rattle.lx_plan.specs.Pieces.{ItemPiece, Making, bare, TakesInOrder, pieces_of, piece_by}
-use Rattle.lx_collector.specs.Arrivals.{RunShape, shape_of, AreHonestBy, accepted_of, replies_of, has_piece, IsLeastMissing}
+use Rattle.lx_piece.specs.declared.piece.Piece.{Piece}
+use Rattle.lx_piece.specs.declared.reply.Reply.{Reply}
+use Rattle.lx_piece.specs.Plans.{Planned, files_of}
+use Rattle.lx_piece.specs.Pieces.{ItemPiece, Making, bare, TakesInOrder, pieces_of, piece_by}
+use Rattle.lx_piece.specs.Arrivals.{RunShape, shape_of, AreHonestBy, accepted_of, replies_of, has_piece, IsLeastMissing}
 
 -- of each file the pieces taken are some of its first ones, and so in order and none twice
 pub record TakesAllInOrder (plan : Planned) (counts : List ℕ) : Type 0 where

@@ -1,11 +1,11 @@
 //! Where pieces come from.
 
 ghost use Rattle.std.specs.Prelude.{◌≡◌, List, [], ◌∷◌, ◌++◌, MatchOption, IfSome};
-ghost use Rattle.lx_plan.specs.Pieces.{ItemPiece};
-ghost use Rattle.lx_plan.specs.Plans.{Planned};
-ghost use Rattle.lx_collector.specs.Arrivals.{IsHonest};
+ghost use Rattle.lx_piece.specs.Pieces.{ItemPiece};
+ghost use Rattle.lx_piece.specs.Plans.{Planned};
+ghost use Rattle.lx_piece.specs.Arrivals.{IsHonest};
 
-use lx_plan::Piece;
+use crate::Piece;
 
 /// Where pieces come from, in any order. Pieces may come again, and pieces of other runs or files may come.
 pub trait Arrivals {

@@ -1,13 +1,13 @@
 //! Arrivals of pieces that carry what a maker made of their items.
 
 ghost use Rattle.std.specs.Prelude.{◌≡◌, List, [], ◌∷◌, ◌++◌, MatchOption, IfSome};
-ghost use Rattle.lx_plan.specs.declared.piece.Piece.{Piece};
-ghost use Rattle.lx_plan.specs.Plans.{Planned};
-ghost use Rattle.lx_collector.specs.Arrivals.{IsHonestBy};
+ghost use Rattle.lx_piece.specs.declared.piece.Piece.{Piece};
+ghost use Rattle.lx_piece.specs.Plans.{Planned};
+ghost use Rattle.lx_piece.specs.Arrivals.{IsHonestBy};
 
 use crate::arrivals::Arrivals;
-use lx_delivery::Held;
-use lx_plan::{Items, KeepItems, Maker, Piece};
+use crate::Held;
+use crate::{Items, KeepItems, Maker, Piece};
 
 /// Where pieces come from that carry what a maker made of their items, in any order.
 pub trait ArrivalsOf<M: Maker> {

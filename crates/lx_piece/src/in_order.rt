@@ -1,17 +1,17 @@
 //! The reader that hands pieces of all files on in the plan's order.
 
 ghost use Rattle.std.specs.Prelude.{◌≡◌, ◌+◌, ◌<◌, Err, OnOk, OnErr, IfOk, IfErr, replicate, true, false};
-ghost use Rattle.lx_delivery.specs.Waiting.{counted};
+ghost use Rattle.lx_piece.specs.Waiting.{counted};
 ghost use Rattle.lx_piece.specs.Passing.{PassesOn};
-ghost use Rattle.lx_plan.specs.Pieces.{top_number};
-ghost use Rattle.lx_plan.specs.Plans.{IsPlan, files_of};
-ghost use Rattle.lx_delivery.specs.NextPiece.{IsNextPieceBy};
-ghost use Rattle.lx_delivery.specs.Turns.{first_turn};
-ghost use Rattle.lx_delivery.specs.declared.reader.ReaderFault.{ReaderFault};
+ghost use Rattle.lx_piece.specs.Pieces.{top_number};
+ghost use Rattle.lx_piece.specs.Plans.{IsPlan, files_of};
+ghost use Rattle.lx_piece.specs.NextPiece.{IsNextPieceBy};
+ghost use Rattle.lx_piece.specs.Turns.{first_turn};
+ghost use Rattle.lx_piece.specs.declared.reader.ReaderFault.{ReaderFault};
 
 use crate::turn_queue::TurnQueue;
-use lx_delivery::{Held, ReaderFault, ReaderOf, Taker};
-use lx_plan::{Maker, Piece, Plan};
+use crate::{Held, ReaderFault, ReaderOf, Taker};
+use crate::{Maker, Piece, Plan};
 use std::alloc::{AllocFailed, Global};
 use std::marker::Model;
 

@@ -1,17 +1,17 @@
 //! The pieces of a plan on one thread.
 
 ghost use Rattle.std.specs.Prelude.{◌≡◌, ◌+◌, ◌<◌, [], ◌∷◌, ◌++◌, Err, IfOk, OnOk, OnErr, MatchOption, false, replicate};
-ghost use Rattle.lx_delivery.specs.declared.delivering.RelayFault.{RelayFault};
-ghost use Rattle.lx_plan.specs.Cutting.{IsCutterOf};
-ghost use Rattle.lx_plan.specs.Pieces.{IsPieceBy, top_number};
+ghost use Rattle.lx_piece.specs.declared.delivering.RelayFault.{RelayFault};
+ghost use Rattle.lx_piece.specs.Cutting.{IsCutterOf};
+ghost use Rattle.lx_piece.specs.Pieces.{IsPieceBy, top_number};
 ghost use Rattle.lx_piece.specs.PlanPieces.{pieces_before, pieces_below};
-ghost use Rattle.lx_plan.specs.Plans.{IsPlan, files_of};
+ghost use Rattle.lx_piece.specs.Plans.{IsPlan, files_of};
 ghost use Rattle.lx_piece.specs.Relayed.{AreAllTaken, TakesAllInOrder};
 
 use crate::arrivals_of::ArrivalsOf;
 use crate::relaying::relay_of;
-use lx_delivery::{ReaderOf, RelayFault};
-use lx_plan::{Cutter, Maker, Piece, Plan, plans_are_well_formed};
+use crate::{ReaderOf, RelayFault};
+use crate::{Cutter, Maker, Piece, Plan, plans_are_well_formed};
 use std::alloc::{AllocError, Global};
 use std::marker::Model;
 
@@ -58,7 +58,7 @@ struct PlanPieces<'a, M: Maker> {
 
 impl<'a, M: Maker> Model for PlanPieces<'a, M> {
     ghost use Rattle.std.specs.Prelude.{◌≡◌};
-    ghost use Rattle.lx_plan.specs.Cutting.{IsCutterOf};
+    ghost use Rattle.lx_piece.specs.Cutting.{IsCutterOf};
     ghost use Rattle.lx_piece.specs.PlanPieces.{CutSoFar, pieces_before};
 
     ghost Value = { CutSoFar M.Made };
@@ -94,7 +94,7 @@ impl<'a, M: Maker> PlanPieces<'a, M> {
 
 impl<'a, M: Maker> ArrivalsOf<M> for PlanPieces<'a, M> {
     ghost use Rattle.std.specs.Prelude.{◌≡◌, ◌⊎◌, true};
-    ghost use Rattle.lx_plan.specs.Plans.{files_of};
+    ghost use Rattle.lx_piece.specs.Plans.{files_of};
     ghost use Rattle.lx_piece.specs.PlanPieces.{Cuts, cuts_nothing, cuts_on, pieces_below};
 
     ghost plan = { λ s. s.plan };

@@ -1,15 +1,15 @@
 //! Pieces that arrive in any order, handed on in order.
 
 ghost use Rattle.std.specs.Prelude.{◌≡◌, ◌<◌, replicate, OnOk, OnErr, IfOk, Err};
-ghost use Rattle.lx_plan.specs.Plans.{files_of};
-ghost use Rattle.lx_plan.specs.Pieces.{top_number};
+ghost use Rattle.lx_piece.specs.Plans.{files_of};
+ghost use Rattle.lx_piece.specs.Pieces.{top_number};
 ghost use Rattle.lx_piece.specs.Relayed.{Relayed, RelayedBy, RelayedInPart, RelayedInPartBy};
 
 use crate::arrivals::Arrivals;
 use crate::arrivals_of::ArrivalsOf;
-use lx_collector::{Collector, Reply};
-use lx_delivery::{Reader, ReaderOf, RelayFault, deliver_all, offer_to};
-use lx_plan::{KeepItems, Maker, Plan};
+use crate::{Collector, Reply};
+use crate::{Reader, ReaderOf, RelayFault, deliver_all, offer_to};
+use crate::{KeepItems, Maker, Plan};
 use std::alloc::Global;
 
 /// Offers each arrival, and hands the reader at once what can be delivered. The reader is delivered the pieces

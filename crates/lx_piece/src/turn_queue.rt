@@ -1,16 +1,16 @@
 //! Pieces of all files that wait for their turn, and are handed on in the plan's order.
 
 ghost use Rattle.std.specs.Prelude.{◌≡◌, ◌+◌, ◌<◌, [], Err, OnOk, OnErr, IfOk, IfErr, replicate, true, false};
-ghost use Rattle.lx_plan.specs.Pieces.{top_number};
-ghost use Rattle.lx_plan.specs.Plans.{IsPlan, files_of};
-ghost use Rattle.lx_delivery.specs.NextPiece.{IsNextPieceBy};
-ghost use Rattle.lx_delivery.specs.Turns.{first_turn};
-ghost use Rattle.lx_delivery.specs.Waiting.{counted, queued};
+ghost use Rattle.lx_piece.specs.Pieces.{top_number};
+ghost use Rattle.lx_piece.specs.Plans.{IsPlan, files_of};
+ghost use Rattle.lx_piece.specs.NextPiece.{IsNextPieceBy};
+ghost use Rattle.lx_piece.specs.Turns.{first_turn};
+ghost use Rattle.lx_piece.specs.Waiting.{counted, queued};
 ghost use Rattle.lx_piece.specs.Passing.{PassesOn};
-ghost use Rattle.lx_delivery.specs.declared.reader.ReaderFault.{ReaderFault};
+ghost use Rattle.lx_piece.specs.declared.reader.ReaderFault.{ReaderFault};
 
-use lx_delivery::{Held, ReaderFault, Taker, place};
-use lx_plan::{Maker, Piece, Plan};
+use crate::{Held, ReaderFault, Taker, place};
+use crate::{Maker, Piece, Plan};
 use std::alloc::{AllocError, AllocFailed, Global};
 use std::collections::VecDeque;
 use std::marker::Model;
@@ -34,7 +34,7 @@ pub struct TurnQueue<M: Maker, T: Taker<M>> {
 }
 
 impl<M: Maker, T: Taker<M>> Model for TurnQueue<M, T> {
-    ghost use Rattle.lx_delivery.specs.Waiting.{queued};
+    ghost use Rattle.lx_piece.specs.Waiting.{queued};
     ghost use Rattle.lx_piece.specs.Passing.{IsInOrder, Passing};
 
     ghost Value = { Passing T };

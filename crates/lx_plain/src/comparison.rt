@@ -1,7 +1,7 @@
 //! All ways to the items of a text: by tables with and without merging, by both of their texts read again, in one scan and piece by piece.
 
 ghost use Rattle.std.specs.Prelude.{◌<◌, ◌≤◌};
-ghost use Rattle.lx_plan.specs.Plans.{IsPlan, max_items};
+ghost use Rattle.lx_piece.specs.Plans.{IsPlan, max_items};
 
 use crate::fault::Fault;
 use lx_auto::{build, merge};

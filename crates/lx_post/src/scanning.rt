@@ -1,7 +1,7 @@
 //! The calls by which several threads scan the files of a plan.
 ghost use Rattle.std.specs.Prelude.{◌≡◌, ◌<◌, ◌≤◌, Err, OnOk, replicate};
-ghost use Rattle.lx_plan.specs.Plans.{files_of, max_workers};
-ghost use Rattle.lx_plan.specs.Pieces.{top_number};
+ghost use Rattle.lx_piece.specs.Plans.{files_of, max_workers};
+ghost use Rattle.lx_piece.specs.Pieces.{top_number};
 ghost use Rattle.lx_piece.specs.Relayed.{TakesAllInOrder};
 ghost use Rattle.lx_workers.specs.declared.run_fault.RunFault.{RunFault};
 ghost use Rattle.lx_workers.specs.Collected.{IsWhole};

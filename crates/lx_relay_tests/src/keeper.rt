@@ -1,7 +1,7 @@
 //! A reader that keeps what it takes.
 
 ghost use Rattle.std.specs.Prelude.{◌≡◌, length, replicate};
-ghost use Rattle.lx_plan.specs.Plans.{files_of};
+ghost use Rattle.lx_piece.specs.Plans.{files_of};
 
 use lx_piece::{Piece, Plan, Reader, ReaderFault};
 use std::process::Abort;

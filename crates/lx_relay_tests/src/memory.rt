@@ -2,8 +2,8 @@
 //! call succeeds; `rt try --test --fail-alloc N` refuses the Nth allocation of each test. A test whose own memory is refused ends there.
 
 ghost use Rattle.std.specs.Prelude.{◌<◌};
-ghost use Rattle.lx_plan.specs.Cutting.{IsCutterOf};
-ghost use Rattle.lx_plan.specs.Plans.{IsPlan};
+ghost use Rattle.lx_piece.specs.Cutting.{IsCutterOf};
+ghost use Rattle.lx_piece.specs.Plans.{IsPlan};
 
 use crate::asserts::{holds, same};
 use crate::collector::{expect_delivery, expect_reply};

@@ -1,8 +1,8 @@
 //! A file's pieces: full ones, and a last one that is marked.
 
 ghost use Rattle.std.specs.Prelude.{◌<◌, ◌≤◌, length};
-ghost use Rattle.lx_plan.specs.Cutting.{IsCutterOf};
-ghost use Rattle.lx_plan.specs.Plans.{IsPlan, max_items};
+ghost use Rattle.lx_piece.specs.Cutting.{IsCutterOf};
+ghost use Rattle.lx_piece.specs.Plans.{IsPlan, max_items};
 
 use crate::asserts::{holds, same};
 use crate::plans::{echoes, plan_of};

@@ -1,7 +1,7 @@
 //! Plans for the tests. Only want of memory may keep one from being made, so that is what a test is told.
 
 ghost use Rattle.std.specs.Prelude.{◌≡◌, ◌<◌, ◌≤◌, IfOk, length, vec_len};
-ghost use Rattle.lx_plan.specs.Plans.{IsPlan, max_items};
+ghost use Rattle.lx_piece.specs.Plans.{IsPlan, max_items};
 
 use lx_fixtures::{NO_RULES, inputs, tables_of};
 use lx_piece::{Input, Plan};

@@ -1,8 +1,8 @@
 //! A post, used from one thread: what is sent comes in order, and all is given back that can't be finished yet.
 
 ghost use Rattle.std.specs.Prelude.{◌≡◌, ◌<◌, All};
-ghost use Rattle.lx_plan.specs.Pieces.{IsPieceOf};
-ghost use Rattle.lx_plan.specs.Plans.{files_of};
+ghost use Rattle.lx_piece.specs.Pieces.{IsPieceOf};
+ghost use Rattle.lx_piece.specs.Plans.{files_of};
 ghost use Rattle.lx_notes.specs.Posted.{IsSendPassOf, IsTakePassOf, fresh_send, fresh_take};
 
 use crate::asserts::{holds, same};

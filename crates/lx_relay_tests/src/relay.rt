@@ -1,8 +1,8 @@
 //! Whole runs of a relay: strangers among the pieces, as many files as there may be, a reader that fails.
 
 ghost use Rattle.std.specs.Prelude.{◌≡◌, IfOk, length, replicate};
-ghost use Rattle.lx_plan.specs.Plans.{files_of};
-ghost use Rattle.lx_collector.specs.Arrivals.{AreHonest};
+ghost use Rattle.lx_piece.specs.Plans.{files_of};
+ghost use Rattle.lx_piece.specs.Arrivals.{AreHonest};
 
 use crate::asserts::{holds, same};
 use crate::plans::{echoes, plan_of};

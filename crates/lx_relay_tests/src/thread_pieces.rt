@@ -1,7 +1,7 @@
 //! What is handed on of many files that several threads cut: the pieces of each file, in order, as one thread cuts them.
 
 ghost use Rattle.std.specs.Prelude.{◌≡◌, ◌<◌, ◌≤◌, IfSome, length, vec_len};
-ghost use Rattle.lx_plan.specs.Plans.{max_items};
+ghost use Rattle.lx_piece.specs.Plans.{max_items};
 
 use crate::asserts::{holds, same};
 use crate::keeper::fresh_keeper;

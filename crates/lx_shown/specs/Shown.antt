@@ -2,7 +2,7 @@
 use Rattle.std.specs.Prelude.{ℕ, ◌≡◌, List, All}
 use Rattle.lx_scan.specs.declared.item.Item.{Item}
 use Rattle.lx_scan.specs.ItemParts.{IsItemOf}
-use Rattle.lx_plan.specs.Plans.{Planned, bytes_of, kinds_of}
+use Rattle.lx_piece.specs.Plans.{Planned, bytes_of, kinds_of}
 use Rattle.lx_shown.specs.declared.shown.Form.{Form}
 use Rattle.lx_shown.specs.declared.shown.Form.TheVariants.{Bare, Given, Lines}
 use Rattle.lx_line.specs.Lines.{lines_of}

@@ -6,7 +6,7 @@ use crate::lengths::are_long;
 use crate::shown::Shown;
 use crate::spares::{Spares, emptied, emptied_list};
 use lx_line::push_lines;
-use lx_plan::{Maker, Plan};
+use lx_piece::{Maker, Plan};
 use lx_scan::ItemList;
 use std::alloc::{AllocError, Global};
 

@@ -2,11 +2,11 @@
 
 ghost use Rattle.std.specs.Prelude.{◌≡◌, All};
 ghost use Rattle.lx_scan.specs.ItemParts.{IsItemOf};
-ghost use Rattle.lx_plan.specs.Plans.{bytes_of, kinds_of};
+ghost use Rattle.lx_piece.specs.Plans.{bytes_of, kinds_of};
 ghost use Rattle.lx_line.specs.Lines.{lines_of};
 ghost use Rattle.lx_shown.specs.Shown.{IsFormOf, shown};
 
-use lx_plan::Plan;
+use lx_piece::Plan;
 use lx_scan::{Item, ItemList};
 use std::marker::Model;
 use std::snapshot::Snapshot;

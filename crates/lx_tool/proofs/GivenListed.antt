@@ -1,7 +1,7 @@
 -- Listings of files that sources give, by other words, and what follows where they fail.
 use Rattle.std.proofs.Common.{ℕ, ◌≡◌, List, [], Option, inl, inr, length, refl, subst, sym}
 use Rattle.std.proofs.lemmas.List.{nil_from_length}
-use Rattle.lx_plan.specs.Plans.{PlainInput}
+use Rattle.lx_piece.specs.Plans.{PlainInput}
 use Rattle.lx_tables.specs.Model.{Table}
 use Rattle.lx_writing.specs.AppendingLaws.{appends_nothing}
 use Rattle.lx_tool.specs.Given.{AreListed, ArePartlyListed, AreRead, FailsListing}

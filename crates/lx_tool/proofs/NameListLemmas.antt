@@ -1,7 +1,7 @@
 -- What a front part of a list of names says of the whole.
 use Rattle.std.proofs.Common.{ℕ, ◌≡◌, List, sym, subst}
 use Rattle.lx_forms.specs.NameLists.{AreNamed, IsFront}
-use Rattle.lx_plan.specs.Plans.{PlainInput}
+use Rattle.lx_piece.specs.Plans.{PlainInput}
 use Rattle.lx_words.specs.CommandLine.{PlainList}
 use Rattle.lx_tool.specs.Naming.{AreListNames, ListSays}
 use Rattle.lx_tool.specs.Sources.{GivesFront, whole}

@@ -3,7 +3,7 @@ use Rattle.std.proofs.Common.{ℕ, ◌≡◌, ◌-◌, ◌<◌, List, Option, So
 use Rattle.std.specs.Prelude.{IsSomeAnd}
 use Rattle.std.specs.Io.KnownBytes.{Keeps}
 use Rattle.lx_tables.specs.Model.{Table}
-use Rattle.lx_plan.specs.Plans.{PlainInput, max_files}
+use Rattle.lx_piece.specs.Plans.{PlainInput, max_files}
 use Rattle.lx_forms.specs.NameLists.{HasMoreNames, IsNoName}
 use Rattle.lx_words.specs.CommandLine.{PlainList, PlainOrder}
 use Rattle.lx_tool.specs.Naming.{AreNamesUnread, IsListRefused, IsListingRefused, ListSays}

@@ -5,7 +5,7 @@ use Rattle.std.proofs.lemmas.List.{length-map}
 use Rattle.std.specs.Io.KnownBytes.{Keeps, Appends}
 use Rattle.std.proofs.lemmas.List.Elements.{All-cons, All-nil, All-from_recursion}
 use Rattle.lx_tables.specs.Model.{Table}
-use Rattle.lx_plan.specs.Plans.{PlainInput, max_files}
+use Rattle.lx_piece.specs.Plans.{PlainInput, max_files}
 use Rattle.lx_tables.specs.Output.{Wrote}
 use Rattle.lx_c.specs.Options.{Options, named}
 use Rattle.lx_words.specs.CommandLine.{Asked, PlainC, PlainCheck, PlainFormWords, PlainImport, PlainOrder, PlainPrint, PlainShow, stored, run, scan, gen, up, check, explain, show, imports}

@@ -4,8 +4,8 @@ use Rattle.std.specs.Str.{bytes_eq}
 use Rattle.std.proofs.lemmas.Slice.Eq.{bytes_eq-Decides}
 use Rattle.std.proofs.lemmas.List.{length-take-le, take_all, take_more, map-append, drop_all, drop_more, take-append-drop, get_or-map, length-map}
 use Rattle.std.proofs.lemmas.List.Elements.{All-more, All-push}
-use Rattle.lx_plan.specs.declared.input.Input.{Input}
-use Rattle.lx_plan.specs.Plans.{PlainInput, input_view}
+use Rattle.lx_piece.specs.declared.input.Input.{Input}
+use Rattle.lx_piece.specs.Plans.{PlainInput, input_view}
 use Rattle.lx_tool.specs.Naming.{input_count, inputs_among}
 use Rattle.lx_tool.specs.Planning.{AreBytes}
 use Rattle.lx_tool.specs.Sources.{AreGiven, none, first, IsFirstNamed, NoneIsNamed, cut_names, inputs_of, is_among, named_input}

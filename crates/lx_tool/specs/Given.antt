@@ -1,7 +1,7 @@
 -- What is listed of the files that sources give, and why they aren't listed.
 use Rattle.std.specs.Prelude.{◌≡◌, ℕ, ◌⊎◌, ⊤, List, Option, Contains}
 use Rattle.std.specs.Io.KnownBytes.{Keeps}
-use Rattle.lx_plan.specs.Plans.{PlainInput}
+use Rattle.lx_piece.specs.Plans.{PlainInput}
 use Rattle.lx_tables.specs.Reading.{IsNoText}
 use Rattle.lx_tables.specs.declared.fault.TableFault.TheVariants as table
 use Rattle.lx_tool.specs.Planning.{AreBytes}

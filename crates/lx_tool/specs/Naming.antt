@@ -3,7 +3,7 @@ use Rattle.std.specs.Prelude.{◌≡◌, ◌≢◌, ℕ, ◌+◌, ◌-◌, ◌<�
 use Rattle.std.specs.Option.{option_map_or}
 use Rattle.std.specs.Str.{bytes_eq}
 use Rattle.lx_tables.specs.Model.{Table}
-use Rattle.lx_plan.specs.Plans.{PlainInput, max_files}
+use Rattle.lx_piece.specs.Plans.{PlainInput, max_files}
 use Rattle.lx_forms.specs.declared.format.Format.{Format}
 use Rattle.lx_forms.specs.declared.format.Format.TheVariants.{Lines, Json}
 use Rattle.lx_forms.specs.Choosing.{IsChosen, IsNoChoice, IsRefusedChoice, IsUnknown}

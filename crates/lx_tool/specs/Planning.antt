@@ -6,7 +6,7 @@ use Rattle.lx_spec.specs.Whole.{IsRead}
 use Rattle.lx_tables.specs.Model.{Table, IsTable, AreTablesOf}
 use Rattle.lx_tables.specs.Reading.{IsTextOf}
 use Rattle.lx_scan.specs.ByRules.{AreItemsBy}
-use Rattle.lx_plan.specs.Plans.{PlainInput, Planned, bytes_of, items_of, kinds_of}
+use Rattle.lx_piece.specs.Plans.{PlainInput, Planned, bytes_of, items_of, kinds_of}
 use Rattle.lx_writing.specs.Appending.{AppendsPrefix}
 use Rattle.lx_lines.specs.Listings.{listing_of}
 use Rattle.lx_forms.specs.Forms.{PlainForm}

@@ -4,7 +4,7 @@ use Rattle.std.specs.Borrow.{Bor}
 use Rattle.std.specs.Io.KnownBytes.{Consumes}
 use Rattle.std.specs.Str.{bytes_eq}
 use Rattle.lx_forms.specs.NameLists.{IsFront}
-use Rattle.lx_plan.specs.Plans.{PlainInput}
+use Rattle.lx_piece.specs.Plans.{PlainInput}
 
 -- names, as texts
 abbrev pub texts_of : List (Bor (List ℕ)) → List (List ℕ)

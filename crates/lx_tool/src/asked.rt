@@ -2,7 +2,7 @@
 
 ghost use Rattle.std.specs.Prelude.{◌≡◌, ◌<◌, ◌≤◌, IfOk, IfErr, None, OnOk, Some, if◌then◌else◌, length, map, nat_lt, option_map, vec_len};
 ghost use Rattle.std.specs.Io.KnownBytes.{Keeps};
-ghost use Rattle.lx_plan.specs.Plans.{max_files};
+ghost use Rattle.lx_piece.specs.Plans.{max_files};
 ghost use Rattle.lx_forms.specs.Views.{form_view};
 ghost use Rattle.lx_words.specs.CommandLine.{plain_form, plain_list, plain_order};
 ghost use Rattle.lx_tool.specs.Commands.{AreListedAs, AreWordsRefused};

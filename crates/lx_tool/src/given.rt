@@ -1,7 +1,7 @@
 //! The files that sources give for names, and their listing.
 
 ghost use Rattle.std.specs.Prelude.{◌≡◌, ◌<◌, ◌≤◌, [], ◌∷◌, All, IfOk, IfErr, length, map, vec_len};
-ghost use Rattle.lx_plan.specs.Plans.{input_view, max_files, max_items, max_workers};
+ghost use Rattle.lx_piece.specs.Plans.{input_view, max_files, max_items, max_workers};
 ghost use Rattle.lx_tool.specs.Given.{AreRead, FailsGiven, IsNoTable, IsUnread, ListsGiven};
 ghost use Rattle.lx_tool.specs.Planning.{AreBytes, ListsBy, ListsPrefixBy, ListsByRules, ListsPrefixByRules, ListsByText, ListsPrefixByText};
 ghost use Rattle.lx_tool.specs.Sources.{AreGiven, GivesFront, cut_names, texts_of, whole};

@@ -1,7 +1,7 @@
 //! Files, listed by tables.
 
 ghost use Rattle.std.specs.Prelude.{◌≡◌, ◌<◌, ◌≤◌, ℕ, List, Option, OnOk, OnErr, map, vec_len};
-ghost use Rattle.lx_plan.specs.Plans.{PlainInput, input_view, max_files, max_items, max_workers};
+ghost use Rattle.lx_piece.specs.Plans.{PlainInput, input_view, max_files, max_items, max_workers};
 ghost use Rattle.lx_tables.specs.Model.{Table, IsTable};
 ghost use Rattle.lx_tables.specs.Reading.{IsTextOf};
 ghost use Rattle.lx_forms.specs.Views.{form_view};

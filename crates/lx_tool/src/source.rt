@@ -1,7 +1,7 @@
 //! Where the program's files come from.
 
 ghost use Rattle.std.specs.Prelude.{◌≡◌, ℕ, List, [], IfOk, map, ⊤, Err};
-ghost use Rattle.lx_plan.specs.Plans.{PlainInput, input_view};
+ghost use Rattle.lx_piece.specs.Plans.{PlainInput, input_view};
 ghost use Rattle.lx_tool.specs.Sources.{GivesFront, inputs_of, is_among};
 
 use lx_piece::Input;
@@ -84,7 +84,7 @@ pub struct ListSources<'a> {
 
 impl<'a> Model for ListSources<'a> {
     ghost use Rattle.std.specs.Prelude.{ℕ, List, map};
-    ghost use Rattle.lx_plan.specs.Plans.{PlainInput};
+    ghost use Rattle.lx_piece.specs.Plans.{PlainInput};
     ghost use Rattle.lx_tool.specs.Sources.{inputs_of};
 
     ghost Value = { List (List ℕ × PlainInput) };
@@ -132,7 +132,7 @@ fn is_among(names: &[&str], name: &str) -> bool
 
 impl Sources for ListSources<'_> {
     ghost use Rattle.std.specs.Prelude.{◌≡◌, IfOk, Err};
-    ghost use Rattle.lx_plan.specs.Plans.{input_view};
+    ghost use Rattle.lx_piece.specs.Plans.{input_view};
     ghost use Rattle.lx_tool.specs.Sources.{IsFirstNamed, NoneIsNamed};
 
     ghost gives = { λ old name input new. (new ≡ old) × IsFirstNamed old name input };

@@ -13,7 +13,7 @@ use Rattle.clap.specs.Walk.{is_empty}
 use Rattle.clap.specs.Words.{App, IsAmong, Row, Rule, Text, all_of, fault_of, first_of, new_app, new_rule, one_of, subcommand_of, with_rule, with_subcommand}
 use Rattle.std.specs.declared.alloc.Global.{Global}
 use Rattle.std.specs.declared.string.String.{String}
-use Rattle.lx_plan.specs.Plans.{max_items, max_workers}
+use Rattle.lx_piece.specs.Plans.{max_items, max_workers}
 use Rattle.lx_words.specs.Limits.{most_told}
 use Rattle.lx_words.specs.declared.request.CWords.{CWords}
 use Rattle.lx_words.specs.declared.request.CheckWords.{CheckWords}

@@ -1,7 +1,7 @@
 //! The commands of `lx` and their words, as tables.
 
 use crate::request::MOST_TOLD;
-use lx_plan::{MAX_ITEMS, MAX_WORKERS};
+use lx_piece::{MAX_ITEMS, MAX_WORKERS};
 
 /// How an option is written.
 pub(crate) enum Name {

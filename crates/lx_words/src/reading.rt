@@ -2,7 +2,7 @@
 
 ghost use Rattle.std.specs.Prelude.{◌≡◌, ◌≢◌, ◌≤◌, ◌<◌, IfOk, Ok, Err, None, codes, length, map, true, is_some, option_and_then, option_map};
 ghost use Rattle.clap.specs.Words.{first_of, found_of, kind_of, rows_of, subcommand_rows_of};
-ghost use Rattle.lx_plan.specs.Plans.{max_items, max_workers};
+ghost use Rattle.lx_piece.specs.Plans.{max_items, max_workers};
 ghost use Rattle.lx_words.specs.Limits.{most_told};
 ghost use Rattle.lx_words.specs.CommandLine.{IsFault, IsTold, PlainWordsAsk, asked_as, asked_by, asked_of, c_in, check_in, first_in, flag_in, form_in, further_of, import_in, items_in, list_in, most_in, request_in, plain_c, plain_check, plain_form, plain_import, plain_list, plain_order, plain_print, plain_show, print_in, rules_in, show_in, target_in, values_in, workers_in, words_of};
 
@@ -13,7 +13,7 @@ use crate::request::{
 };
 use clap::error::ErrorKind;
 use clap::{ArgMatches, Error};
-use lx_plan::{MAX_ITEMS, MAX_WORKERS};
+use lx_piece::{MAX_ITEMS, MAX_WORKERS};
 use std::alloc::{AllocError, Global};
 
 // How many workers scan the files of `scan` where `-j` is not given.

@@ -1,7 +1,7 @@
 //! What the words of the command line ask for.
 
 ghost use Rattle.std.specs.Prelude.{◌<◌, ◌≤◌};
-ghost use Rattle.lx_plan.specs.Plans.{max_items, max_workers};
+ghost use Rattle.lx_piece.specs.Plans.{max_items, max_workers};
 ghost use Rattle.lx_words.specs.Limits.{most_told};
 
 use clap::Error;

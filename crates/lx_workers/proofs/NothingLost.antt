@@ -7,9 +7,9 @@ use Rattle.std.specs.List.{sum_by}
 use Rattle.std.specs.Option.{option_or}
 use Rattle.std.proofs.lemmas.List.Sums.{sum_by-cons}
 use Rattle.std.proofs.lemmas.List.Elements.{All-append, Contains-append_left, Contains-append_right, Contains-append_cases, Contains-push, All-nil, All-cons, All-map, All-same, All-get_or, All-contains}
-use Rattle.lx_plan.specs.declared.piece.Piece.{Piece}
-use Rattle.lx_plan.specs.Plans.{Planned, files_of}
-use Rattle.lx_plan.specs.Pieces.{Making, piece_by}
+use Rattle.lx_piece.specs.declared.piece.Piece.{Piece}
+use Rattle.lx_piece.specs.Plans.{Planned, files_of}
+use Rattle.lx_piece.specs.Pieces.{Making, piece_by}
 use Rattle.lx_piece.specs.Relayed.{AreAllAmongBy}
 use Rattle.lx_workers.specs.declared.job.Job.{Job}
 use Rattle.lx_notes.specs.declared.note.Note.{Note}

@@ -1,9 +1,9 @@
 -- What the thread that hands pieces on has received, and what the reader took of it.
 use Rattle.std.proofs.Common.{◌≡◌, ℕ, ◌<◌, false, List, [], ◌++◌, Option, None, Some, is_some, slice_index, replicate, refl, sym, ap, ◌∙◌, subst, arith}
 use Rattle.std.proofs.lemmas.List.{get_or-replicate}
-use Rattle.lx_collector.specs.declared.reply.Reply.{Reply}
-use Rattle.lx_plan.specs.Plans.{Planned, files_of, items_of}
-use Rattle.lx_plan.specs.Pieces.{Making, pieces_of, TakesInOrder}
+use Rattle.lx_piece.specs.declared.reply.Reply.{Reply}
+use Rattle.lx_piece.specs.Plans.{Planned, files_of, items_of}
+use Rattle.lx_piece.specs.Pieces.{Making, pieces_of, TakesInOrder}
 use Rattle.lx_piece.specs.Relayed.{AreAllAmongBy, RelayedBy, TakesAllInOrder}
 use Rattle.lx_notes.specs.declared.note.WorkerFault.{WorkerFault}
 use Rattle.lx_workers.specs.Collected.{AreAllReceived, IsCollected, IsWhole}

@@ -1,7 +1,7 @@
 -- What the thread that hands pieces on has received of a run that met no fault.
 use Rattle.std.specs.Prelude.{◌≡◌, ◌<◌, ◌≤◌, ℕ, List, None, All, Result, Err, OnOk, replicate, slice_index}
-use Rattle.lx_plan.specs.Plans.{Planned, files_of, max_files, max_workers}
-use Rattle.lx_plan.specs.Pieces.{Making, pieces_of, top_number}
+use Rattle.lx_piece.specs.Plans.{Planned, files_of, max_files, max_workers}
+use Rattle.lx_piece.specs.Pieces.{Making, pieces_of, top_number}
 use Rattle.lx_piece.specs.Relayed.{AreAllAmongBy}
 use Rattle.lx_notes.specs.Notes.{first_fault, pieces_among}
 use Rattle.lx_claims.specs.Claimed.{Claimed}

@@ -1,6 +1,6 @@
 -- Why a run ended whose relay ended before its arrivals did.
-use Rattle.lx_delivery.specs.declared.delivering.RelayFault.{RelayFault}
-use Rattle.lx_delivery.specs.declared.delivering.RelayFault.TheVariants as relay
+use Rattle.lx_piece.specs.declared.delivering.RelayFault.{RelayFault}
+use Rattle.lx_piece.specs.declared.delivering.RelayFault.TheVariants as relay
 use Rattle.lx_workers.specs.declared.run_fault.RunFault.{RunFault}
 use Rattle.lx_workers.specs.declared.run_fault.RunFault.TheVariants as run
 

@@ -1,7 +1,7 @@
 -- What a worker has drawn and sent, in its work and at its end.
 use Rattle.std.specs.Prelude.{◌≡◌, ◌<◌, ◌≤◌, ℕ, true, false, List, [], ◌∷◌, ◌++◌, Option, None, All, Contains, length}
-use Rattle.lx_plan.specs.Plans.{Planned}
-use Rattle.lx_plan.specs.Pieces.{Making, piece_by}
+use Rattle.lx_piece.specs.Plans.{Planned}
+use Rattle.lx_piece.specs.Pieces.{Making, piece_by}
 use Rattle.lx_piece.specs.Relayed.{AreAllAmongBy}
 use Rattle.lx_workers.specs.declared.job.Job.{Job}
 use Rattle.lx_workers.specs.declared.job.Outcome.{Outcome}

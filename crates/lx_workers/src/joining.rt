@@ -1,6 +1,6 @@
 //! How workers are joined, and what their joins tell.
 ghost use Rattle.std.specs.Prelude.{◌≡◌, ◌<◌, ◌≤◌, [], All, IfErr, IfOk, IfSome, None, OnOk, map};
-ghost use Rattle.lx_plan.specs.Plans.{files_of};
+ghost use Rattle.lx_piece.specs.Plans.{files_of};
 ghost use Rattle.lx_workers.specs.Collected.{AreAllReceived};
 ghost use Rattle.lx_notes.specs.Notes.{first_fault};
 ghost use Rattle.lx_workers.specs.declared.run_fault.RunFault.{RunFault};

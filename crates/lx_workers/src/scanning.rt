@@ -1,7 +1,7 @@
 //! Every file of a plan, scanned by several threads.
 ghost use Rattle.std.specs.Prelude.{◌≡◌, ◌<◌, ◌≤◌, [], Err, OnOk, All, IfOk, replicate};
-ghost use Rattle.lx_plan.specs.Plans.{files_of, max_workers};
-ghost use Rattle.lx_plan.specs.Pieces.{top_number};
+ghost use Rattle.lx_piece.specs.Plans.{files_of, max_workers};
+ghost use Rattle.lx_piece.specs.Pieces.{top_number};
 ghost use Rattle.lx_piece.specs.Relayed.{TakesAllInOrder};
 ghost use Rattle.lx_workers.specs.declared.run_fault.RunFault.{RunFault};
 ghost use Rattle.lx_claims.specs.Claimed.{fresh_seat};

@@ -1,7 +1,7 @@
 //! What the threads of a run tell each other beside the post.
 
 ghost use Rattle.std.specs.Prelude.{◌<◌};
-ghost use Rattle.lx_plan.specs.Plans.{max_workers};
+ghost use Rattle.lx_piece.specs.Plans.{max_workers};
 
 use lx_notes::{Backoff, Pace, WORKER_SLOTS};
 use std::sync::Wait;

@@ -1,6 +1,6 @@
 //! How workers are started.
 ghost use Rattle.std.specs.Prelude.{◌≡◌, ◌<◌, ◌≤◌, All, IfErr, IfOk, [], None};
-ghost use Rattle.lx_plan.specs.Plans.{max_workers};
+ghost use Rattle.lx_piece.specs.Plans.{max_workers};
 ghost use Rattle.lx_claims.specs.Claimed.{AreClaimsOf};
 ghost use Rattle.lx_workers.specs.Working.{IsDone, IsIdle, IsOutcome, IsReady};
 

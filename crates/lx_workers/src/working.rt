@@ -1,6 +1,6 @@
 //! What a worker does: it draws files, cuts them, and sends their pieces.
 ghost use Rattle.std.specs.Prelude.{◌≡◌, ◌<◌, ◌≤◌, [], true, None, OnOk};
-ghost use Rattle.lx_plan.specs.Plans.{files_of};
+ghost use Rattle.lx_piece.specs.Plans.{files_of};
 ghost use Rattle.lx_claims.specs.Claimed.{AreClaimsOf, IsSeatOf};
 ghost use Rattle.lx_workers.specs.Working.{HasDrawn, HasSent, HasWorked, IsGoing, IsReady, SendsPieces};
 

@@ -1,7 +1,7 @@
 -- Known bytes that grow by a prefix of others.
 use Rattle.std.specs.Prelude.{ℕ, List, Option}
 use Rattle.std.specs.Io.KnownBytes.{Appends}
-use Rattle.lx_plan.specs.Pieces.{IsPrefix}
+use Rattle.lx_piece.specs.Pieces.{IsPrefix}
 
 -- known bytes grow by a prefix of these
 abbrev pub AppendsPrefix : Option (List ℕ) → Option (List ℕ) → List ℕ → Type 0

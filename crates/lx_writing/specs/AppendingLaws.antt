@@ -1,7 +1,7 @@
 -- Bytes that are appended one behind the other, and prefixes.
 use Rattle.std.proofs.Common.{ℕ, List, [], ◌++◌, Option, Some, None, refl, sym, ◌∙◌, ap, append_assoc, append-nil}
 use Rattle.std.specs.Io.KnownBytes.{Appends}
-use Rattle.lx_plan.specs.Pieces.{IsPrefix}
+use Rattle.lx_piece.specs.Pieces.{IsPrefix}
 
 -- nothing was appended
 pub appends_nothing : (o : Option (List ℕ)) → Appends o o []

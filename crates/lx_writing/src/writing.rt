@@ -4,7 +4,7 @@ ghost use Rattle.std.specs.Prelude.{◌≡◌, ◌<◌, ◌≤◌, IfErr, OnOk, 
 ghost use Rattle.std.specs.Io.KnownBytes.{Appends};
 ghost use Rattle.lx_writing.specs.Appending.{AppendsPrefix};
 
-use lx_delivery::ReaderFault;
+use lx_piece::ReaderFault;
 use std::io::Write;
 
 /// How a block of lines is written.

@@ -1,6 +1,6 @@
 use Rattle.std.proofs.Common.{sym, subst}
 use Rattle.std.proofs.lemmas.List.Elements.{All-push}
-use Rattle.lx_collector.specs.Arrivals.{AreHonest, IsHonest}
+use Rattle.lx_piece.specs.Arrivals.{AreHonest, IsHonest}
 use Rattle.lx_fixtures.proofs.plans.last_file_first.Goals as goal
 
 pub loop-cutter-preserved : goal.loop-cutter-preserved

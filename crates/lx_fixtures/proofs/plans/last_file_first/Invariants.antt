@@ -1,7 +1,7 @@
 use Rattle.std.proofs.Common.{◌-◌}
-use Rattle.lx_collector.specs.Arrivals.{AreHonest}
-use Rattle.lx_plan.specs.Cutting.{IsCutterOf}
-use Rattle.lx_plan.specs.Pieces.{pieces_of}
+use Rattle.lx_piece.specs.Arrivals.{AreHonest}
+use Rattle.lx_piece.specs.Cutting.{IsCutterOf}
+use Rattle.lx_piece.specs.Pieces.{pieces_of}
 use Rattle.lx_fixtures.proofs.plans.last_file_first.Given as goal
 
 abbrev pub invariant-loop-index : goal.invariant-loop-index

@@ -1,7 +1,7 @@
 use Rattle.std.proofs.Common.{ℕ, ◌∙◌, sym, ap, subst}
-use Rattle.lx_plan.specs.Plans.{Planned}
-use Rattle.lx_plan.specs.Pieces.{piece_at}
-use Rattle.lx_delivery.specs.NextPiece.{IsNextPiece}
+use Rattle.lx_piece.specs.Plans.{Planned}
+use Rattle.lx_piece.specs.Pieces.{piece_at}
+use Rattle.lx_piece.specs.NextPiece.{IsNextPiece}
 use Rattle.lx_fixtures.proofs.Planning.{first_next}
 use Rattle.lx_fixtures.proofs.readers.take_first.Goals as goal
 

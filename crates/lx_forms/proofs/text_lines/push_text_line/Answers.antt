@@ -1,7 +1,7 @@
 use Rattle.std.proofs.Common.{◌++◌, ◌∙◌, ap}
 use Rattle.std.specs.Prelude.{codes}
 use Rattle.lx_scan.specs.ItemParts.{text_of}
-use Rattle.lx_plan.specs.Plans.{bytes_of}
+use Rattle.lx_piece.specs.Plans.{bytes_of}
 use Rattle.lx_forms.specs.TextLines.{fields_of, file_text, text_line, text_part}
 use Rattle.lx_forms.specs.Views.{form_view}
 use Rattle.lx_forms.proofs.Parts.{five_parts}

@@ -2,7 +2,7 @@ use Rattle.std.proofs.Common.{◌++◌, ◌∙◌, ap, decimal}
 use Rattle.std.specs.Prelude.{codes}
 use Rattle.std.specs.List.{flat_map}
 use Rattle.lx_scan.specs.ItemParts.{line_of as line_number, start_of, len_of, text_of}
-use Rattle.lx_plan.specs.Plans.{bytes_of}
+use Rattle.lx_piece.specs.Plans.{bytes_of}
 use Rattle.lx_line.specs.Escapes.{escaped}
 use Rattle.lx_line.specs.Lines.{class_text, kind_text}
 use Rattle.lx_line.proofs.Behind.{behind, behind_ok}

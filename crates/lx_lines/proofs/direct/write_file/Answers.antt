@@ -1,7 +1,7 @@
 use Rattle.std.proofs.Common.{refl, sym, subst}
 use Rattle.std.proofs.lemmas.Result.{IfErr-weaker, err_from_is_err_and}
-use Rattle.lx_plan.specs.Plans.{is_cut, items_of}
-use Rattle.lx_delivery.specs.declared.reader.ReaderFault.{ReaderFault}
+use Rattle.lx_piece.specs.Plans.{is_cut, items_of}
+use Rattle.lx_piece.specs.declared.reader.ReaderFault.{ReaderFault}
 use Rattle.lx_lines.specs.Lines.{cut_lines, file_lines, lines_of}
 use Rattle.lx_lines.specs.Parts.{WrotePart}
 use Rattle.lx_lines.proofs.Parting.{cut_part, part_more}

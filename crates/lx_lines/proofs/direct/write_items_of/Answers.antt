@@ -4,8 +4,8 @@ use Rattle.std.proofs.lemmas.Result.{err_from_is_err_and}
 use Rattle.lx_scan.specs.Cursors.{items_left}
 use Rattle.lx_scan.specs.ItemParts.{IsItemOf}
 use Rattle.lx_scan.specs.declared.item.Item.{Item}
-use Rattle.lx_plan.specs.Plans.{bytes_of, items_of, kinds_of}
-use Rattle.lx_delivery.specs.declared.reader.ReaderFault.{ReaderFault}
+use Rattle.lx_piece.specs.Plans.{bytes_of, items_of, kinds_of}
+use Rattle.lx_piece.specs.declared.reader.ReaderFault.{ReaderFault}
 use Rattle.lx_lines.specs.Lines.{lines_of}
 use Rattle.lx_lines.specs.Parts.{WrotePart}
 use Rattle.lx_lines.proofs.FileLines.{found_are, listed_known, listed_no_more, listed_on, listed_part, not_full}

@@ -2,7 +2,7 @@ use Rattle.std.proofs.Common.{[], ◌∷◌, ◌∙◌, refl, ap}
 use Rattle.std.specs.List.{flat_map}
 use Rattle.std.proofs.lemmas.Result.{err_from_is_err_and}
 use Rattle.lx_scan.specs.ItemParts.{text_of}
-use Rattle.lx_plan.specs.Plans.{bytes_of}
+use Rattle.lx_piece.specs.Plans.{bytes_of}
 use Rattle.lx_lines.specs.Gathered.{Gathers}
 use Rattle.lx_lines.specs.GatheredLaws.{gathers_nothing, gathers_on}
 use Rattle.lx_lines.specs.Lines.{escaped, line_of}

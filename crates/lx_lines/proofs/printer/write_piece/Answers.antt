@@ -1,8 +1,8 @@
 use Rattle.std.proofs.Common.{Bool, ◌++◌, sym, subst}
 use Rattle.std.proofs.lemmas.Result.{err_from_is_err_and}
-use Rattle.lx_delivery.specs.declared.reader.ReaderFault.{ReaderFault}
-use Rattle.lx_plan.specs.Pieces.{is_cut_short}
-use Rattle.lx_plan.specs.Plans.{Planned}
+use Rattle.lx_piece.specs.declared.reader.ReaderFault.{ReaderFault}
+use Rattle.lx_piece.specs.Pieces.{is_cut_short}
+use Rattle.lx_piece.specs.Plans.{Planned}
 use Rattle.lx_lines.specs.Lines.{cut_lines, lines_of}
 use Rattle.lx_lines.specs.Parts.{WrotePart}
 use Rattle.lx_lines.specs.Printing.{shown_lines}

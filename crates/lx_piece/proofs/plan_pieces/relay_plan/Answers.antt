@@ -1,6 +1,6 @@
 use Rattle.std.proofs.Common.{ℕ, ◌<◌, inl, inr, sym, ◌∙◌}
 use Rattle.std.proofs.lemmas.Bool.{both_ways}
-use Rattle.lx_plan.specs.Plans.{files_of}
+use Rattle.lx_piece.specs.Plans.{files_of}
 use Rattle.lx_piece.specs.Relayed.{AreAllAmongBy}
 use Rattle.lx_piece.proofs.AllCut.{all_came}
 use Rattle.lx_piece.proofs.plan_pieces.relay_plan.Goals as goal

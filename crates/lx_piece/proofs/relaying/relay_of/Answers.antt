@@ -2,10 +2,10 @@ use Rattle.std.proofs.Common.{◌≡◌, ◌<◌, sym, ◌∙◌, subst, ap, [],
 use Rattle.std.specs.Prelude.{Result, slice_get}
 use Rattle.std.proofs.lemmas.List.Elements.{All-nil}
 use Rattle.std.proofs.lemmas.Result.{err_from_is_err_and}
-use Rattle.lx_plan.specs.Plans.{Planned}
-use Rattle.lx_collector.specs.Arrivals.{IsHonestBy}
-use Rattle.lx_collector.specs.Kept.{is_ready_at}
-use Rattle.lx_delivery.specs.Delivered.{HoldsPlanned}
+use Rattle.lx_piece.specs.Plans.{Planned}
+use Rattle.lx_piece.specs.Arrivals.{IsHonestBy}
+use Rattle.lx_piece.specs.Kept.{is_ready_at}
+use Rattle.lx_piece.specs.Delivered.{HoldsPlanned}
 use Rattle.lx_piece.proofs.SoFar.{SoFar}
 use Rattle.lx_piece.proofs.Whole.{whole}
 use Rattle.lx_piece.proofs.Deliveries.{part_at_start, fresh_shape, fresh_delivered, fresh_ready, so_far_with, so_far_still, in_part_behind, in_part_with, planned_from}

@@ -1,6 +1,6 @@
 use Rattle.std.proofs.Common.{◌≡◌, ◌-◌, ◌^◌, vec_len}
-use Rattle.lx_collector.specs.Arrivals.{shape_of}
-use Rattle.lx_collector.specs.Kept.{NoneReady, shape_of_kept, delivered_counts}
+use Rattle.lx_piece.specs.Arrivals.{shape_of}
+use Rattle.lx_piece.specs.Kept.{NoneReady, shape_of_kept, delivered_counts}
 use Rattle.lx_piece.proofs.SoFar.{SoFar}
 use Rattle.lx_piece.proofs.relaying.relay_of.Given as goal
 

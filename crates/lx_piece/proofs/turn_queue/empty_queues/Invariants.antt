@@ -1,5 +1,5 @@
 use Rattle.std.proofs.Common.{◌≡◌, ◌≤◌, replicate, vec_capacity, []}
-use Rattle.lx_delivery.specs.Waiting.{queued}
+use Rattle.lx_piece.specs.Waiting.{queued}
 use Rattle.lx_piece.proofs.turn_queue.empty_queues.Given as goal
 
 abbrev pub invariant-loop-file : goal.invariant-loop-file

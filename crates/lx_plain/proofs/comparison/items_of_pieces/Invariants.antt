@@ -1,6 +1,6 @@
 use Rattle.std.proofs.Common.{◌-◌}
-use Rattle.lx_plan.specs.Cutting.{IsCutterOf}
-use Rattle.lx_plan.specs.Pieces.{pieces_of}
+use Rattle.lx_piece.specs.Cutting.{IsCutterOf}
+use Rattle.lx_piece.specs.Pieces.{pieces_of}
 use Rattle.lx_plain.proofs.comparison.items_of_pieces.Given as goal
 
 abbrev pub invariant-loop-cutter : goal.invariant-loop-cutter

@@ -1,4 +1,4 @@
-use Rattle.lx_plan.specs.Cutting.{IsCutterOf}
+use Rattle.lx_piece.specs.Cutting.{IsCutterOf}
 use Rattle.lx_relay_tests.proofs.pieces.ends_behind.Given as goal
 
 abbrev pub invariant-loop-piece : goal.invariant-loop-piece

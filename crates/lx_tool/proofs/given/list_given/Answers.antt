@@ -2,7 +2,7 @@ use Rattle.std.proofs.Common.{sym, ◌∙◌, arith}
 use Rattle.std.proofs.lemmas.Bool.{eqb-true}
 use Rattle.std.proofs.lemmas.List.{length-map}
 use Rattle.std.proofs.lemmas.Result.{err_from_is_err_and}
-use Rattle.lx_plan.specs.Plans.{input_view}
+use Rattle.lx_piece.specs.Plans.{input_view}
 use Rattle.lx_tool.specs.Planning.{ListsBy}
 use Rattle.lx_tool.proofs.GivenListed.{failed_of, listed_none, listed_of}
 use Rattle.lx_tool.proofs.given.list_given.Goals as goal

@@ -1,5 +1,5 @@
 use Rattle.std.proofs.Common.{◌≡◌, take, map}
-use Rattle.lx_plan.specs.Plans.{input_view}
+use Rattle.lx_piece.specs.Plans.{input_view}
 use Rattle.lx_tool.specs.Sources.{cut_names}
 use Rattle.lx_tool.proofs.given.names_of_cut.Given as goal
 

@@ -1,7 +1,7 @@
 use Rattle.std.proofs.Common.{List, [], sym, subst, map, arith}
 use Rattle.std.proofs.lemmas.List.{take_all, length-map}
-use Rattle.lx_plan.specs.declared.input.Input.{Input}
-use Rattle.lx_plan.specs.Plans.{input_view}
+use Rattle.lx_piece.specs.declared.input.Input.{Input}
+use Rattle.lx_piece.specs.Plans.{input_view}
 use Rattle.lx_tool.specs.Planning.{AreBytes}
 use Rattle.lx_tool.specs.Sources.{AreGiven, none}
 use Rattle.lx_tool.proofs.given.read_files.Goals as goal

@@ -1,5 +1,5 @@
 use Rattle.std.proofs.Common.{◌≡◌, take, map, vec_len}
-use Rattle.lx_plan.specs.Plans.{input_view}
+use Rattle.lx_piece.specs.Plans.{input_view}
 use Rattle.lx_tool.specs.Planning.{AreBytes}
 use Rattle.lx_tool.specs.Sources.{AreGiven}
 use Rattle.lx_tool.proofs.given.read_files.Given as goal

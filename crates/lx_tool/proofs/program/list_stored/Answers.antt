@@ -1,7 +1,7 @@
 use Rattle.std.proofs.Common.{List, [], ◌∷◌, ap, map, subst, ◌∙◌}
 use Rattle.std.proofs.lemmas.Result.{err_from_is_err_and}
-use Rattle.lx_plan.specs.declared.input.Input.{Input}
-use Rattle.lx_plan.specs.Plans.{PlainInput, input_view}
+use Rattle.lx_piece.specs.declared.input.Input.{Input}
+use Rattle.lx_piece.specs.Plans.{PlainInput, input_view}
 use Rattle.lx_tool.specs.Commands.{stored_specification, stored_text}
 use Rattle.lx_tool.specs.Planning.{ListsBy}
 use Rattle.lx_tool.specs.Sources.{whole}

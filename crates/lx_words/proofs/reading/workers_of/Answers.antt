@@ -3,7 +3,7 @@ use Rattle.std.specs.Str.Parse.{ParsesUnsigned, ExplainsUnsignedError, HasUnsign
 use Rattle.std.specs.declared.num.ParseIntError.{ParseIntError}
 use Rattle.clap.proofs.WalkLemmas.{one_text-rows}
 use Rattle.clap.specs.Words.{found_of, one_text}
-use Rattle.lx_plan.specs.Plans.{max_workers}
+use Rattle.lx_piece.specs.Plans.{max_workers}
 use Rattle.lx_words.proofs.NumbersRead.{in_range, not_in_range}
 use Rattle.lx_words.proofs.reading.workers_of.Goals as goal
 

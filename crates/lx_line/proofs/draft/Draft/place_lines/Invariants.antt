@@ -1,5 +1,5 @@
 use Rattle.std.proofs.Common.{◌≡◌, ◌≤◌, ◌++◌, length, take}
-use Rattle.lx_plan.specs.Plans.{bytes_of}
+use Rattle.lx_piece.specs.Plans.{bytes_of}
 use Rattle.lx_line.specs.Prefixes.{ArePrefixesOf}
 use Rattle.lx_line.specs.Lines.{lines_of}
 use Rattle.lx_line.proofs.draft.Draft.place_lines.Given as goal

@@ -1,7 +1,7 @@
 use Rattle.std.proofs.Common.{◌-◌, ◌≤◌, ◌∙◌, List, arith, length, length-drop, subst, sym, take}
 use Rattle.std.proofs.lemmas.Result.{err_from_is_err_and}
 use Rattle.lx_scan.specs.declared.item.Item.{Item}
-use Rattle.lx_delivery.specs.declared.reader.ReaderFault.{ReaderFault}
+use Rattle.lx_piece.specs.declared.reader.ReaderFault.{ReaderFault}
 use Rattle.lx_lines.specs.Gathered.{Gathers}
 use Rattle.lx_lines.specs.GatheredLaws.{gathers_on}
 use Rattle.lx_lines.specs.Lines.{line_of, lines_of}

@@ -1,6 +1,6 @@
 use Rattle.std.proofs.Common.{ℕ, ◌∙◌, ◌++◌, ap, subst, sym, take}
 use Rattle.std.proofs.lemmas.Result.{err_from_is_err_and}
-use Rattle.lx_delivery.specs.declared.reader.ReaderFault.{ReaderFault}
+use Rattle.lx_piece.specs.declared.reader.ReaderFault.{ReaderFault}
 use Rattle.lx_lines.specs.Gathered.{Gathers, gathered}
 use Rattle.lx_lines.specs.Lines.{line_of, lines_of}
 use Rattle.lx_lines.specs.Parts.{WrotePart}

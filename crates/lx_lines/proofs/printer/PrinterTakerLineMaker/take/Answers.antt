@@ -1,7 +1,7 @@
 use Rattle.std.proofs.Common.{◌∙◌, ◌+◌, refl, subst, sym}
 use Rattle.std.proofs.lemmas.Result.{err_from_is_err_and}
-use Rattle.lx_delivery.specs.declared.reader.ReaderFault.{ReaderFault}
-use Rattle.lx_plan.specs.Plans.{IsPlan, Planned}
+use Rattle.lx_piece.specs.declared.reader.ReaderFault.{ReaderFault}
+use Rattle.lx_piece.specs.Plans.{IsPlan, Planned}
 use Rattle.lx_lines.specs.Parts.{WrotePart}
 use Rattle.lx_lines.specs.Printing.{PrintsPart, PrintsTo, printing, shown_lines, turn_of}
 use Rattle.lx_lines.proofs.Turning.{prints_in_part, prints_piece, turn_closed, turn_open}

@@ -1,9 +1,9 @@
 use Rattle.std.proofs.Common.{◌<◌, ◌+◌, sym, subst, arith, length, List, ℕ}
 use Rattle.std.specs.Prelude.{slice_set}
-use Rattle.lx_plan.specs.Plans.{Planned, IsPlan}
-use Rattle.lx_delivery.specs.NextPiece.{IsNextPieceBy}
-use Rattle.lx_delivery.specs.Turns.{IsTurnBy}
-use Rattle.lx_delivery.specs.Waiting.{KeepsUp, queued}
+use Rattle.lx_piece.specs.Plans.{Planned, IsPlan}
+use Rattle.lx_piece.specs.NextPiece.{IsNextPieceBy}
+use Rattle.lx_piece.specs.Turns.{IsTurnBy}
+use Rattle.lx_piece.specs.Waiting.{KeepsUp, queued}
 use Rattle.lx_piece.specs.Passing.{Passing, PassesOn}
 use Rattle.lx_piece.proofs.Passed.{count_raised, passes_taken, turn_by}
 use Rattle.lx_piece.proofs.turn_queue.TurnQueue.take.Goals as goal

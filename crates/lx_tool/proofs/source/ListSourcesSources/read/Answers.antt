@@ -1,6 +1,6 @@
 use Rattle.std.proofs.Common.{refl, sym, subst, map}
 use Rattle.std.proofs.lemmas.Result.{err_from_is_err_and}
-use Rattle.lx_plan.specs.Plans.{input_view}
+use Rattle.lx_piece.specs.Plans.{input_view}
 use Rattle.lx_tool.specs.Sources.{IsFirstNamed, NoneIsNamed}
 use Rattle.lx_tool.proofs.SourceLemmas.{not_none, none_more, first_named, none_at_all}
 use Rattle.lx_tool.proofs.source.ListSourcesSources.read.Goals as goal

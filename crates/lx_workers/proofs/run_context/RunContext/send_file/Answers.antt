@@ -1,5 +1,5 @@
 use Rattle.std.proofs.Common.{◌∙◌, sym, ap, subst}
-use Rattle.lx_plan.specs.Pieces.{piece_by}
+use Rattle.lx_piece.specs.Pieces.{piece_by}
 use Rattle.lx_workers.specs.Working.{HasSent}
 use Rattle.lx_workers.proofs.Sendings.{may_send_piece, sent_last}
 use Rattle.lx_workers.proofs.run_context.RunContext.send_file.Goals as goal

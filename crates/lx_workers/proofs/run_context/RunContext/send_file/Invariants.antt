@@ -1,5 +1,5 @@
 use Rattle.std.proofs.Common.{◌≡◌}
-use Rattle.lx_plan.specs.Cutting.{IsCutterOf}
+use Rattle.lx_piece.specs.Cutting.{IsCutterOf}
 use Rattle.lx_workers.specs.Working.{HasSentTo, SendsPieces}
 use Rattle.lx_workers.proofs.run_context.RunContext.send_file.Given as goal
 

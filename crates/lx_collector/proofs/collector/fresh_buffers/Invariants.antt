@@ -1,6 +1,0 @@
-use Rattle.std.proofs.Common.{◌≡◌, replicate}
-use Rattle.lx_collector.specs.Kept.{fresh_buffer}
-use Rattle.lx_collector.proofs.collector.fresh_buffers.Given as goal
-
-abbrev pub invariant-loop-file : goal.invariant-loop-file
-invariant-loop-file g l = l.buffers.items ≡ replicate l._file fresh_buffer

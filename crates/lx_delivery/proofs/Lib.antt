@@ -1,3 +1,0 @@
-pub mod Turned
-pub mod Handing
-pub mod ReaderCounts

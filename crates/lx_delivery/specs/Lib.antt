@@ -1,4 +1,0 @@
-pub mod NextPiece
-pub mod Turns
-pub mod Waiting
-pub mod Delivered

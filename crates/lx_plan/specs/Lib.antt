@@ -1,4 +1,0 @@
-pub mod Cutting
-pub mod PieceLaws
-pub mod Pieces
-pub mod Plans
