@@ -2,8 +2,8 @@
 
 ghost use Rattle.std.specs.Prelude.{◌≡◌, ◌≤◌, [], All, IfOk, vec_capacity};
 ghost use Rattle.lx_piece.specs.Pieces.{IsPieceOf};
-ghost use Rattle.lx_claims.specs.Claimed.{IsSeatOf};
-ghost use Rattle.lx_notes.specs.Posted.{IsSendPassOf, IsTakePassOf, fresh_send};
+ghost use Rattle.lx_post.specs.Claimed.{IsSeatOf};
+ghost use Rattle.lx_post.specs.Posted.{IsSendPassOf, IsTakePassOf, fresh_send};
 
 use crate::collecting::print_piece;
 use crate::rows::{FILE_OF_TWO_WORDS, plan_of};

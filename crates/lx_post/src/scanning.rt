@@ -3,11 +3,11 @@ ghost use Rattle.std.specs.Prelude.{◌≡◌, ◌<◌, ◌≤◌, Err, OnOk, re
 ghost use Rattle.lx_piece.specs.Plans.{files_of, max_workers};
 ghost use Rattle.lx_piece.specs.Pieces.{top_number};
 ghost use Rattle.lx_piece.specs.Relayed.{TakesAllInOrder};
-ghost use Rattle.lx_workers.specs.declared.run_fault.RunFault.{RunFault};
-ghost use Rattle.lx_workers.specs.Collected.{IsWhole};
+ghost use Rattle.lx_post.specs.declared.run_fault.RunFault.{RunFault};
+ghost use Rattle.lx_post.specs.Collected.{IsWhole};
 
 use lx_piece::{KeepItems, Maker, Plan, Reader, ReaderOf};
-use lx_workers::{Gate, RunFault, Unstarted, scan};
+use crate::{Gate, RunFault, Unstarted, scan};
 use std::alloc::Global;
 use std::sync::Wait;
 use std::thread::Threads;

@@ -1,7 +1,7 @@
 //! Claims of files: seats draw each file once, and all is given back that can't be settled yet.
 
 ghost use Rattle.std.specs.Prelude.{◌≡◌, ◌∷◌, [], All};
-ghost use Rattle.lx_claims.specs.Claimed.{IsSeatOf};
+ghost use Rattle.lx_post.specs.Claimed.{IsSeatOf};
 
 use crate::asserts::same;
 use lx_post::{ClaimSeat, Claims, Unsettled};

@@ -3,7 +3,7 @@
 ghost use Rattle.std.specs.Prelude.{◌≡◌, ◌<◌, All};
 ghost use Rattle.lx_piece.specs.Pieces.{IsPieceOf};
 ghost use Rattle.lx_piece.specs.Plans.{files_of};
-ghost use Rattle.lx_notes.specs.Posted.{IsSendPassOf, IsTakePassOf, fresh_send, fresh_take};
+ghost use Rattle.lx_post.specs.Posted.{IsSendPassOf, IsTakePassOf, fresh_send, fresh_take};
 
 use crate::asserts::{holds, same};
 use crate::plans::echoes;

@@ -9,8 +9,8 @@ use Rattle.lx_tool.specs.Planning.{AreBytes, ListsBy, ListsPrefixBy}
 use Rattle.lx_tool.specs.Statuses.{failure_of_run}
 use Rattle.lx_tool.specs.declared.failure.Failure.{Failure}
 use Rattle.lx_tool.specs.declared.failure.Failure.TheVariants.{Specification, Automaton, Tables, Unprintable, Words, TooManyFiles, InputTwice, Refused, NotRead, Output, Memory}
-use Rattle.lx_workers.specs.declared.run_fault.RunFault.{RunFault}
-use Rattle.lx_workers.specs.declared.run_fault.RunFault.TheVariants as run
+use Rattle.lx_post.specs.declared.run_fault.RunFault.{RunFault}
+use Rattle.lx_post.specs.declared.run_fault.RunFault.TheVariants as run
 
 -- of no files nothing is listed
 listed_nothing : (table : Table) (inputs : List PlainInput) (written : Option (List ℕ)) → length inputs ≡ 0 → ListsBy table inputs written written

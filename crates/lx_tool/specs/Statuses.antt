@@ -9,8 +9,8 @@ use Rattle.lx_spec.specs.declared.fault.Code.TheVariants as code
 use Rattle.lx_spec.specs.declared.fault.SpecFault.{SpecFault}
 use Rattle.lx_tables.specs.declared.fault.TableFault.{TableFault}
 use Rattle.lx_tables.specs.declared.fault.TableFault.TheVariants as table
-use Rattle.lx_workers.specs.declared.run_fault.RunFault.{RunFault}
-use Rattle.lx_workers.specs.declared.run_fault.RunFault.TheVariants as run
+use Rattle.lx_post.specs.declared.run_fault.RunFault.{RunFault}
+use Rattle.lx_post.specs.declared.run_fault.RunFault.TheVariants as run
 use Rattle.lx_forms.specs.declared.choosing.ChoiceFault.{ChoiceFault}
 use Rattle.lx_forms.specs.declared.choosing.ChoiceFault.TheVariants as choice
 use Rattle.lx_tool.specs.declared.failure.Failure.{Failure}

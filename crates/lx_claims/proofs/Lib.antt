@@ -1,2 +1,0 @@
-pub mod DrawSteps
-pub mod ViewSums

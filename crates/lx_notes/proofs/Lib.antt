@@ -1,3 +1,0 @@
-pub mod Comings
-pub mod NoteLists
-pub mod PostSteps

@@ -1,9 +1,0 @@
-use Rattle.std.proofs.Common.{◌≡◌, All}
-use Rattle.lx_notes.specs.Posted.{Sent, IsAllReceived}
-use Rattle.lx_notes.proofs.finishing.finish.Given as goal
-
-abbrev pub invariant-loop-other : goal.invariant-loop-other
-invariant-loop-other g l = record {
-  pass : l.pass ≡ l.fn.pass;
-  received : All (λ (other : Sent _). IsAllReceived l.fn.pass other) l.yielded;
-}

@@ -1,4 +1,0 @@
-use Rattle.lx_notes.proofs.post.Post.open.Given as goal
-
-abbrev pub ghosts-name_plan : goal.ghosts-name_plan
-ghosts-name_plan g a = record { plan = a.plan.now }

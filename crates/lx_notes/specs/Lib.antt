@@ -1,4 +1,0 @@
-pub mod Arrived
-pub mod Notes
-pub mod Posted
-pub mod Posting

@@ -1,0 +1,9 @@
+pub mod Arrived
+pub mod Claimed
+pub mod Collected
+pub mod Draws
+pub mod Notes
+pub mod Posted
+pub mod Posting
+pub mod RunFaults
+pub mod Working

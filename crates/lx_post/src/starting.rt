@@ -1,0 +1,153 @@
+//! How workers are started.
+ghost use Rattle.std.specs.Prelude.{◌≡◌, ◌<◌, ◌≤◌, All, IfErr, IfOk, [], None};
+ghost use Rattle.lx_piece.specs.Plans.{max_workers};
+ghost use Rattle.lx_post.specs.Claimed.{AreClaimsOf};
+ghost use Rattle.lx_post.specs.Working.{IsDone, IsIdle, IsOutcome, IsReady};
+
+use crate::gate::Gate;
+use crate::job::{Job, Outcome};
+use crate::run_context::RunContext;
+use crate::Note;
+use lx_piece::Maker;
+use std::snapshot::Snapshot;
+use std::sync::Wait;
+use std::thread::{Promise, PromisedHandle, Scope};
+
+/// What a worker's outcome keeps: it is of the job that was handed to it.
+#[derive(Drop)]
+pub struct OutcomeOf<M: Maker> {
+    pub job: Snapshot<Job<M::Made>>,
+}
+
+impl<M: Maker> Promise<Outcome<M::Made>> for OutcomeOf<M> {
+    ghost use Rattle.lx_post.specs.Working.{IsOutcome};
+
+    ghost kept_by = { λ p r. IsOutcome M.made p.job.value r };
+}
+
+/// The handle of a worker's thread.
+pub type Worker<M> = PromisedHandle<Outcome<<M as Maker>::Made>, OutcomeOf<M>>;
+
+/// Where workers and their jobs go.
+#[derive(Drop)]
+pub struct Workers<M: Maker> {
+    /// Those that were started.
+    pub handles: Vec<Worker<M>>,
+    /// The jobs of those that ended.
+    pub ended: Vec<Job<M::Made>>,
+    /// The jobs of those that never began, whose ends were sent.
+    pub idle: Vec<Job<M::Made>>,
+}
+
+impl<'a, W: Wait, G: Gate, M: Maker + Copy> RunContext<'a, W, G, M> {
+    // Does the job, unless it is to come back.
+    fn begin(&self, job: Job<M::Made>) -> Outcome<M::Made>
+        requires ready { IsReady self.now.claims self.now.post self.now.plan.now job }
+        requires few_workers { self.now.post.workers ≤ max_workers }
+        requires files { AreClaimsOf self.now.plan.now self.now.claims }
+        ensures { IsOutcome M.made job result }
+    {
+        if self.signals.is_refused(job.pass.worker()) {
+            return Outcome::Back(job);
+        }
+        Outcome::Done(self.work(job))
+    }
+
+    // Sends the end of a worker that never began.
+    fn send_end(&self, job: Job<M::Made>) -> Job<M::Made>
+        requires { IsReady self.now.claims self.now.post self.now.plan.now job }
+        ensures { IsIdle self.now.claims self.now.post self.now.plan.now result }
+    {
+        let Job { seat, mut pass } = job;
+        let worker = pass.worker();
+        self.post.send(
+            self.rt,
+            &mut pass,
+            Note::End {
+                worker,
+                files: 0,
+                fault: None,
+            },
+        );
+        Job { seat, pass }
+    }
+}
+
+// Starts a worker. Where no thread can be made, its job comes back.
+fn start<'s, 'a, E, W: Wait + Sync, G: Gate + Sync, M: Maker<Made: Send> + Copy + Sync>(
+    context: &'s RunContext<'a, W, G, M>,
+    scope: &Scope<'s, E>,
+    job: Job<M::Made>,
+) -> Result<Worker<M>, Outcome<M::Made>>
+    requires ready { IsReady context.now.claims context.now.post context.now.plan.now job }
+    requires few_workers { context.now.post.workers ≤ max_workers }
+    requires files { AreClaimsOf context.now.plan.now context.now.claims }
+    ensures ok { IfOk result (λ handle. handle.promise.job.value ≡ job) }
+    ensures err { IfErr result (λ outcome. IsOutcome M.made job outcome) }
+{
+    let promise = OutcomeOf {
+        job: Snapshot::of(&job),
+    };
+    let worker = job.pass.worker();
+    let run = move || -> Outcome<M::Made>
+        requires { IsReady context.now.claims context.now.post context.now.plan.now job
+            × (context.now.post.workers ≤ max_workers)
+            × AreClaimsOf context.now.plan.now context.now.claims }
+        ensures { IsOutcome M.made job result }
+    { context.begin(job) };
+    match scope.spawn_with(promise, run) {
+        Ok(handle) => Ok(handle),
+        Err(back) => {
+            // the closure has the job, and gives it back at once
+            context.signals.refuse(worker);
+            Err((back.value)())
+        }
+    }
+}
+
+// Starts a worker. Where it can't be started, its end is sent for it, and its job goes to those that are idle.
+#[tactic(auto, using(crate::proofs::NothingLost::all_pushed))]
+fn start_or_idle<'s, 'a, E, W: Wait + Sync, G: Gate + Sync, M: Maker<Made: Send> + Copy + Sync>(
+    context: &'s RunContext<'a, W, G, M>,
+    scope: &Scope<'s, E>,
+    job: Job<M::Made>,
+    workers: &mut Workers<M>,
+)
+    requires ready { IsReady context.now.claims context.now.post context.now.plan.now job }
+    requires few_workers { context.now.post.workers ≤ max_workers }
+    requires files { AreClaimsOf context.now.plan.now context.now.claims }
+    ensures handles { All (λ handle. IsReady context.now.claims context.now.post context.now.plan.now handle.promise.job.value) workers.old.handles.items
+        → All (λ handle. IsReady context.now.claims context.now.post context.now.plan.now handle.promise.job.value) workers.new.handles.items }
+    ensures ended { All (λ job. IsDone M.made context.now.claims context.now.post context.now.plan.now job) workers.old.ended.items
+        → All (λ job. IsDone M.made context.now.claims context.now.post context.now.plan.now job) workers.new.ended.items }
+    ensures idle { All (λ job. IsIdle context.now.claims context.now.post context.now.plan.now job) workers.old.idle.items
+        → All (λ job. IsIdle context.now.claims context.now.post context.now.plan.now job) workers.new.idle.items }
+{
+    // room was reserved, so that no push is refused
+    let _pushed = match start(context, scope, job) {
+        Ok(handle) => workers.handles.push(handle).is_ok(),
+        Err(Outcome::Done(job)) => workers.ended.push(job).is_ok(),
+        Err(Outcome::Back(job)) => workers.idle.push(context.send_end(job)).is_ok(),
+    };
+}
+
+/// Starts a worker for each job. The end of a worker that can't be started is sent for it, and its job goes to those that are idle.
+pub fn start_all<'s, 'a, E, W: Wait + Sync, G: Gate + Sync, M: Maker<Made: Send> + Copy + Sync>(
+    context: &'s RunContext<'a, W, G, M>,
+    scope: &Scope<'s, E>,
+    jobs: Vec<Job<M::Made>>,
+    workers: &mut Workers<M>,
+)
+    requires ready { All (λ job. IsReady context.now.claims context.now.post context.now.plan.now job) jobs.items }
+    requires few_workers { context.now.post.workers ≤ max_workers }
+    requires files { AreClaimsOf context.now.plan.now context.now.claims }
+    requires none { (workers.old.handles.items ≡ []) × (workers.old.ended.items ≡ []) × (workers.old.idle.items ≡ []) }
+    ensures handles { All (λ handle. IsReady context.now.claims context.now.post context.now.plan.now handle.promise.job.value) workers.new.handles.items }
+    ensures ended { All (λ job. IsDone M.made context.now.claims context.now.post context.now.plan.now job) workers.new.ended.items }
+    ensures idle { All (λ job. IsIdle context.now.claims context.now.post context.now.plan.now job) workers.new.idle.items }
+{
+    for job in jobs {
+        start_or_idle(context, scope, job, workers);
+    }
+    context.signals.tell_start();
+}

@@ -1,3 +1,0 @@
-pub mod NothingLost
-pub mod Received
-pub mod Sendings

@@ -1,5 +1,0 @@
-use Rattle.lx_notes.specs.Posted.{IsTakePassOf}
-use Rattle.lx_workers.proofs.run_context.RunContext.drain.Given as goal
-
-abbrev pub invariant-loop : goal.invariant-loop
-invariant-loop g l = IsTakePassOf l.self.post l.take

@@ -1,7 +1,0 @@
-use Rattle.std.proofs.Common.{All}
-use Rattle.lx_workers.specs.declared.job.Job.{Job}
-use Rattle.lx_workers.specs.Working.{IsDone}
-use Rattle.lx_workers.proofs.run_context.RunContext.join_all.Given as goal
-
-abbrev pub invariant-loop-handle : goal.invariant-loop-handle
-invariant-loop-handle g l = All (λ (job : Job _). IsDone g.M.Maker.made l.self.claims l.self.post l.self.plan.now job) l.ended.items

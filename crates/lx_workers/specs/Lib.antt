@@ -1,3 +1,0 @@
-pub mod Collected
-pub mod RunFaults
-pub mod Working
