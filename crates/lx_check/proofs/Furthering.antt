@@ -4,12 +4,12 @@ use Rattle.std.proofs.lemmas.List.{append-nil}
 use Rattle.lx_rules.specs.Plain.{PlainSpec}
 use Rattle.lx_spec.specs.Whole.{IsFault, IsRead}
 use Rattle.lx_spec.specs.declared.fault.SpecFault.{SpecFault}
-use Rattle.lx_verdict.specs.Verdicts.{IsFinding, SaysTooLarge}
+use Rattle.lx_check.specs.Verdicts.{IsFinding, SaysTooLarge}
 use Rattle.lx_check.specs.Findings.{BeginsWithFinding}
 use Rattle.lx_check.specs.Further.{AreFindings, AreFurther, HasFurther, clean, enough, faults, found, hidden, too_large, too_long}
-use Rattle.lx_recovery.specs.Without.{without}
-use Rattle.lx_verdict.specs.declared.finding.Finding.{Finding}
-use Rattle.lx_verdict.specs.declared.finding.Finding.TheVariants.{Specification, TooManyPositions, TooManySets}
+use Rattle.lx_check.specs.Without.{without}
+use Rattle.lx_check.specs.declared.finding.Finding.{Finding}
+use Rattle.lx_check.specs.declared.finding.Finding.TheVariants.{Specification, TooManyPositions, TooManySets}
 
 -- Whatever is found in the rest, where so many faults were found, stands with these behind the first ones.
 pub record GoesOn (most left : ℕ) (rest : Option (List ℕ)) (old : List Finding) (count left_now : ℕ) (rest_now : Option (List ℕ)) (now : List Finding) : Type 0 where

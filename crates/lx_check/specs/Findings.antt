@@ -8,8 +8,8 @@ use Rattle.lx_spec.specs.Whole.{IsRead}
 use Rattle.lx_tables.specs.Model.{AreTablesOf, Table}
 use Rattle.lx_reach.specs.Chosen.{AreFlagsOf, IsEverChosenBy}
 use Rattle.lx_reach.specs.Entered.{IsEntered}
-use Rattle.lx_verdict.specs.Verdicts.{IsFinding}
-use Rattle.lx_verdict.specs.declared.finding.Finding.{Finding}
+use Rattle.lx_check.specs.Verdicts.{IsFinding}
+use Rattle.lx_check.specs.declared.finding.Finding.{Finding}
 use Rattle.lx_check.specs.declared.report.Accepted.{Accepted}
 use Rattle.lx_check.specs.declared.report.Counts.{Counts}
 use Rattle.lx_check.specs.declared.report.Report.{Report}

@@ -3,10 +3,10 @@ use Rattle.std.specs.Prelude.{◌≡◌, ℕ, suc, ◌-◌, ◌<◌, ◌≤◌, 
 use Rattle.lx_rules.specs.Plain.{PlainSpec}
 use Rattle.lx_spec.specs.Whole.{IsFault, IsRead}
 use Rattle.lx_spec.specs.declared.fault.SpecFault.{SpecFault}
-use Rattle.lx_verdict.specs.Verdicts.{SaysTooLarge}
-use Rattle.lx_recovery.specs.Without.{without}
-use Rattle.lx_verdict.specs.declared.finding.Finding.{Finding}
-use Rattle.lx_verdict.specs.declared.finding.Finding.TheVariants.{Specification}
+use Rattle.lx_check.specs.Verdicts.{SaysTooLarge}
+use Rattle.lx_check.specs.Without.{without}
+use Rattle.lx_check.specs.declared.finding.Finding.{Finding}
+use Rattle.lx_check.specs.declared.finding.Finding.TheVariants.{Specification}
 use Rattle.lx_check.specs.declared.report.Report.{Report}
 use Rattle.lx_check.specs.declared.report.Report.TheVariants as report
 

@@ -1,2 +1,4 @@
 pub mod Findings
 pub mod Further
+pub mod Verdicts
+pub mod Without

@@ -20,7 +20,7 @@ use lx_reach::entered_conditions;
 use lx_reach::Takers;
 use lx_spec::Spec;
 use lx_tables::Tables;
-use lx_verdict::{read, tables_of};
+use crate::{read, tables_of};
 use std::alloc::{AllocError, Global};
 
 // How much a specification and its tables have.

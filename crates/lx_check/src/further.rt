@@ -2,12 +2,12 @@
 
 ghost use Rattle.std.specs.Prelude.{◌≡◌, ◌-◌, ◌∷◌, [], IfOk, length, option_map};
 ghost use Rattle.lx_spec.specs.Whole.{IsFault};
-ghost use Rattle.lx_verdict.specs.Verdicts.{SaysTooLarge};
+ghost use Rattle.lx_check.specs.Verdicts.{SaysTooLarge};
 ghost use Rattle.lx_check.specs.Further.{AreFindings, HasFurther};
 
-use lx_recovery::without::without;
+use crate::without::without;
 use lx_spec::SpecFault;
-use lx_verdict::{Finding, read};
+use crate::{Finding, read};
 use std::alloc::{AllocError, Global};
 
 // The most bytes that are read in all.

@@ -2,10 +2,14 @@
 #![tactic(auto)]
 
 pub mod checking;
+pub mod finding;
 mod further;
 pub mod report;
 mod takers;
+pub mod verdict;
+pub mod without;
 
 pub use crate::checking::check;
+pub use crate::finding::Finding;
 pub use crate::report::{Accepted, Counts, Report};
-pub use lx_verdict::Finding;
+pub use crate::verdict::{read, tables_of};

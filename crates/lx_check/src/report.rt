@@ -3,7 +3,7 @@
 use lx_reach::Takers;
 use lx_spec::Spec;
 use lx_tables::Tables;
-use lx_verdict::Finding;
+use crate::Finding;
 
 /// How much an accepted text says, and how large its tables are.
 #[derive(Debug, Clone, Copy, PartialEq, Eq)]

@@ -2,13 +2,13 @@
 
 use bstr::ByteSlice;
 use lx_reach::{Takers, takers_of};
-use lx_recovery::without::MAX_SPECIFICATION_BYTES;
+use crate::without::MAX_SPECIFICATION_BYTES;
 use lx_spec::parsed_sections::RawRule;
 use lx_spec::rule_line::Prefix;
 use lx_spec::section::read_sections;
 use lx_spec::Code;
 use lx_tables::Tables;
-use lx_verdict::{read, tables_of};
+use crate::{read, tables_of};
 use std::alloc::{AllocError, Global};
 
 // So many rules are looked at, where so many bytes are read at most.

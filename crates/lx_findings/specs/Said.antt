@@ -1,7 +1,7 @@
 -- What is said of a specification.
 use Rattle.std.specs.Prelude.{◌≡◌, ◌<◌, ℕ, ⊤, All, Bool, true, false, List, [], ◌∷◌, ◌++◌, codes}
-use Rattle.lx_verdict.specs.declared.finding.Finding.{Finding}
-use Rattle.lx_verdict.specs.declared.finding.Finding.TheVariants as finding
+use Rattle.lx_check.specs.declared.finding.Finding.{Finding}
+use Rattle.lx_check.specs.declared.finding.Finding.TheVariants as finding
 use Rattle.lx_check.specs.declared.report.Report.{Report}
 use Rattle.lx_check.specs.declared.report.Report.TheVariants as report
 use Rattle.lx_diagnose.specs.CodeWords.{word_of}

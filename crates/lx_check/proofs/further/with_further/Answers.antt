@@ -1,7 +1,7 @@
 use Rattle.std.proofs.Common.{◌≡◌, ◌∙◌, ◌-◌, length, option_map, ap, subst, arith}
 use Rattle.lx_rules.specs.views.Specs.{spec_view}
 use Rattle.lx_spec.specs.Whole.{IsFault, IsRead}
-use Rattle.lx_recovery.specs.Without.{without}
+use Rattle.lx_check.specs.Without.{without}
 use Rattle.lx_check.proofs.Furthering.{one_more, ends_hidden, ends_too_long, ends_clean, ends_enough}
 use Rattle.lx_check.proofs.further.with_further.Goals as goal
 

@@ -3,8 +3,8 @@ use Rattle.std.specs.Prelude.{ℕ, List}
 use Rattle.lx_auto.specs.TooLarge.{HasTooManyPositions, HasTooManySets}
 use Rattle.lx_rules.specs.Plain.{PlainSpec}
 use Rattle.lx_spec.specs.Whole.{IsFault, IsRead}
-use Rattle.lx_verdict.specs.declared.finding.Finding.{Finding}
-use Rattle.lx_verdict.specs.declared.finding.Finding.TheVariants.{Specification, TooManyPositions, TooManySets}
+use Rattle.lx_check.specs.declared.finding.Finding.{Finding}
+use Rattle.lx_check.specs.declared.finding.Finding.TheVariants.{Specification, TooManyPositions, TooManySets}
 
 -- in which way a specification is too large for tables: of positions, or of reached sets
 abbrev pub IsTooLarge : PlainSpec → Finding → Type 0

@@ -8,7 +8,7 @@ ghost use Rattle.lx_rules.specs.Limits.{max_positions};
 ghost use Rattle.lx_spec.specs.Whole.{IsFault, IsRead};
 ghost use Rattle.lx_auto.specs.TooLarge.{HasTooManyPositions, HasTooManySets};
 ghost use Rattle.lx_tables.specs.Model.{AreTablesOf};
-ghost use Rattle.lx_verdict.specs.Verdicts.{IsTooLarge};
+ghost use Rattle.lx_check.specs.Verdicts.{IsTooLarge};
 
 use crate::finding::Finding;
 use lx_auto::{Automaton, BuildFault, build, merge};

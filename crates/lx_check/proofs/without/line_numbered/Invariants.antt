@@ -1,7 +1,7 @@
 use Rattle.std.proofs.Common.{◌≡◌, ◌+◌, ◌≤◌, length}
 use Rattle.lx_spec.specs.Bytes.{lines}
-use Rattle.lx_recovery.specs.Without.{line_numbered}
-use Rattle.lx_recovery.proofs.without.line_numbered.Given as goal
+use Rattle.lx_check.specs.Without.{line_numbered}
+use Rattle.lx_check.proofs.without.line_numbered.Given as goal
 
 abbrev pub invariant-loop-found : goal.invariant-loop-found
 invariant-loop-found l = record {

@@ -1,6 +1,6 @@
 use Rattle.std.proofs.Common.{◌≡◌, ◌+◌, ◌≤◌, ◌++◌, length}
-use Rattle.lx_recovery.specs.Without.{lines_instead, text_instead}
-use Rattle.lx_recovery.proofs.without.text_instead.Given as goal
+use Rattle.lx_check.specs.Without.{lines_instead, text_instead}
+use Rattle.lx_check.proofs.without.text_instead.Given as goal
 
 abbrev pub invariant-loop-line : goal.invariant-loop-line
 invariant-loop-line l = record {

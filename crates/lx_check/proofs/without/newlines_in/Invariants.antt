@@ -1,6 +1,6 @@
 use Rattle.std.proofs.Common.{◌≡◌, ◌+◌, ◌≤◌, drop}
 use Rattle.lx_scan.specs.Steps.{newlines}
-use Rattle.lx_recovery.proofs.without.newlines_in.Given as goal
+use Rattle.lx_check.proofs.without.newlines_in.Given as goal
 
 abbrev pub invariant-loop-byte : goal.invariant-loop-byte
 invariant-loop-byte l = record {

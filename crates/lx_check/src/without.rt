@@ -7,7 +7,7 @@ ghost use Rattle.lx_spec.specs.Bytes.{lines, next_word};
 ghost use Rattle.lx_spec.specs.Sections.{sections_of};
 ghost use Rattle.lx_spec.specs.Whole.{IsFault};
 ghost use Rattle.lx_spec.specs.views.Sections.{raw_rule_view};
-ghost use Rattle.lx_recovery.specs.Without as specs;
+ghost use Rattle.lx_check.specs.Without as specs;
 
 use bstr::ByteSlice;
 use lx_spec::line::next_word;
