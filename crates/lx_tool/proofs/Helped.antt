@@ -2,10 +2,10 @@
 use Rattle.std.proofs.Common.{ℕ, ◌≡◌, List, Option, Some, None, Result, Ok, Err, IfOk, IfErr, refl, sym, ◌∙◌, subst, arith}
 use Rattle.clap.specs.declared.error.Error.{Error}
 use Rattle.clap.specs.Words.{kind_of}
-use Rattle.lx_words.specs.CommandLine.{Asked, IsFault, IsTold, asked_as}
-use Rattle.lx_words.specs.declared.request.Refusal.{Refusal}
-use Rattle.lx_words.specs.declared.request.Request.{Request}
-use Rattle.lx_words.specs.declared.request.Request.TheVariants as request
+use Rattle.lx_cli.specs.CommandLine.{Asked, IsFault, IsTold, asked_as}
+use Rattle.lx_cli.specs.declared.request.Refusal.{Refusal}
+use Rattle.lx_cli.specs.declared.request.Request.{Request}
+use Rattle.lx_cli.specs.declared.request.Request.TheVariants as request
 use Rattle.lx_tool.specs.Helping.{AskForHelp}
 use Rattle.lx_tool.specs.Statuses.{status_of}
 use Rattle.lx_tool.specs.declared.failure.Failure.{Failure}

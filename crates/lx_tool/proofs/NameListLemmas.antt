@@ -2,7 +2,7 @@
 use Rattle.std.proofs.Common.{ℕ, ◌≡◌, List, sym, subst}
 use Rattle.lx_forms.specs.NameLists.{AreNamed, IsFront}
 use Rattle.lx_piece.specs.Plans.{PlainInput}
-use Rattle.lx_words.specs.CommandLine.{PlainList}
+use Rattle.lx_cli.specs.CommandLine.{PlainList}
 use Rattle.lx_tool.specs.Naming.{AreListNames, ListSays}
 use Rattle.lx_tool.specs.Sources.{GivesFront, whole}
 

@@ -5,7 +5,7 @@ use Rattle.std.specs.Io.KnownBytes.{Keeps}
 use Rattle.lx_tables.specs.Model.{Table}
 use Rattle.lx_piece.specs.Plans.{PlainInput, max_files}
 use Rattle.lx_forms.specs.NameLists.{HasMoreNames, IsNoName}
-use Rattle.lx_words.specs.CommandLine.{PlainList, PlainOrder}
+use Rattle.lx_cli.specs.CommandLine.{PlainList, PlainOrder}
 use Rattle.lx_tool.specs.Naming.{AreNamesUnread, IsListRefused, IsListingRefused, ListSays}
 use Rattle.lx_tool.specs.Statuses.{HidesNoMemory, status_of}
 use Rattle.lx_tool.specs.declared.failure.Failure.{Failure}

@@ -8,7 +8,7 @@ use Rattle.lx_tables.specs.Model.{Table}
 use Rattle.lx_piece.specs.Plans.{PlainInput, max_files}
 use Rattle.lx_tables.specs.Output.{Wrote}
 use Rattle.lx_c.specs.Options.{Options, named}
-use Rattle.lx_words.specs.CommandLine.{Asked, PlainC, PlainCheck, PlainFormWords, PlainImport, PlainOrder, PlainPrint, PlainShow, stored, run, scan, gen, up, check, explain, show, imports}
+use Rattle.lx_cli.specs.CommandLine.{Asked, PlainC, PlainCheck, PlainFormWords, PlainImport, PlainOrder, PlainPrint, PlainShow, stored, run, scan, gen, up, check, explain, show, imports}
 use Rattle.lx_tool.specs.Commands.{AreRulesRefused, AreWordsRefused, HasDone, HasEnded, HasFailed, HasObeyed, HasToldFailure, IsCutShort, IsFormRefused, IsPrinted, IsRefused, IsRefusedLater, files_asked, inputs_asked, names_asked, stored_specification, stored_text}
 use Rattle.lx_tool.specs.Checking.{IsChecked, IsReported, IsWarningFault}
 use Rattle.lx_tool.specs.Explaining.{IsExplained, IsUnexplained}

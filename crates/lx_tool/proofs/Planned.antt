@@ -9,7 +9,7 @@ use Rattle.lx_tables.specs.Uniqueness.{IsOneToOne}
 use Rattle.lx_scan.specs.ByRules.{AreItemsBy}
 use Rattle.lx_scan.specs.Items as scan
 use Rattle.lx_piece.specs.Plans.{PlainInput, Planned, bytes_of}
-use Rattle.lx_words.specs.CommandLine.{PlainFormWords}
+use Rattle.lx_cli.specs.CommandLine.{PlainFormWords}
 use Rattle.lx_tool.specs.Planning.{AreBytes, IsPlanBy, IsPlanByRules, ListsAsked, ListsBy, ListsByRules, ListsByRulesIn, ListsPrefixBy, ListsPrefixByRules}
 use Rattle.lx_tool.specs.Tabling.{AreTablesOfText}
 

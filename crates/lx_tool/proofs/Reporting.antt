@@ -6,7 +6,7 @@ use Rattle.lx_check.specs.declared.report.Report.TheVariants as report
 use Rattle.lx_findings.specs.Said.{BeginsWithWarning, TellsWarnings}
 use Rattle.lx_warnings.specs.Kinds.{has_kind}
 use Rattle.lx_warnings.specs.declared.kinds.KindSet.{KindSet}
-use Rattle.lx_words.specs.CommandLine.{PlainCheck}
+use Rattle.lx_cli.specs.CommandLine.{PlainCheck}
 use Rattle.lx_tool.specs.Checking.{HasErrors, HasErrorWord, IsAccepted, TellsAccepted, TellsNone, TellsOne, has_error}
 use Rattle.lx_tool.specs.Switching.{AreKindsAsked}
 

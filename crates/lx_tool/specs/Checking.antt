@@ -12,7 +12,7 @@ use Rattle.lx_piece.specs.Plans.{PlainInput}
 use Rattle.lx_warnings.specs.Kinds.{is_usual}
 use Rattle.lx_warnings.specs.Names.{name_text}
 use Rattle.lx_warnings.specs.declared.kinds.WarningKind.{WarningKind}
-use Rattle.lx_words.specs.CommandLine.{PlainCheck}
+use Rattle.lx_cli.specs.CommandLine.{PlainCheck}
 use Rattle.lx_tool.specs.Sources.{whole}
 use Rattle.lx_tool.specs.Statuses.{report_in}
 use Rattle.lx_tool.specs.declared.failure.Failure.{Failure}

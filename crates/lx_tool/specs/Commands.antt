@@ -4,7 +4,7 @@ use Rattle.std.specs.Option.{option_map_or}
 use Rattle.std.specs.Io.KnownBytes.{Keeps}
 use Rattle.lx_tables.specs.Model.{Table}
 use Rattle.lx_piece.specs.Plans.{PlainInput, max_files}
-use Rattle.lx_words.specs.CommandLine.{Asked, PlainOrder, PlainPrint, stored, run, scan, gen, up, check, explain, show, imports}
+use Rattle.lx_cli.specs.CommandLine.{Asked, PlainOrder, PlainPrint, stored, run, scan, gen, up, check, explain, show, imports}
 use Rattle.lx_tool.specs.Checking.{IsChecked, IsReported, IsWarningFault}
 use Rattle.lx_tool.specs.Explaining.{IsExplained, IsUnexplained}
 use Rattle.lx_tool.specs.Given.{AreListed, IsNoTable}

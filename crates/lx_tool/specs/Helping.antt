@@ -1,7 +1,7 @@
 -- Words that ask for nothing but the help or the version.
 use Rattle.std.specs.Prelude.{ℕ, List}
 use Rattle.clap.specs.declared.error.ErrorKind.{ErrorKind}
-use Rattle.lx_words.specs.CommandLine.{IsFault, IsTold}
+use Rattle.lx_cli.specs.CommandLine.{IsFault, IsTold}
 
 -- `clap` answers them by the help or the version
 pub record AskForHelp (words : List (List ℕ)) : Type 0 where

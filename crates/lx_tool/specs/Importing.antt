@@ -4,7 +4,7 @@ use Rattle.lx_flex.specs.Imported.{FlexDefinition, FlexRule, IsImported}
 use Rattle.lx_rules.specs.Plain.{StartCondition}
 use Rattle.lx_tables.specs.Model.{Table}
 use Rattle.lx_piece.specs.Plans.{PlainInput}
-use Rattle.lx_words.specs.CommandLine.{PlainC, PlainImport}
+use Rattle.lx_cli.specs.CommandLine.{PlainC, PlainImport}
 use Rattle.lx_tool.specs.Outputs.{AreImportsApart, AreOutputsOfImportRefused}
 use Rattle.lx_tool.specs.Printing.{IsPlaced, IsScannerFault, IsWritten}
 use Rattle.lx_tool.specs.Sources.{whole}

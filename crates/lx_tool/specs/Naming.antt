@@ -9,7 +9,7 @@ use Rattle.lx_forms.specs.declared.format.Format.TheVariants.{Lines, Json}
 use Rattle.lx_forms.specs.Choosing.{IsChosen, IsNoChoice, IsRefusedChoice, IsUnknown}
 use Rattle.lx_forms.specs.Forms.{PlainForm, Selected}
 use Rattle.lx_forms.specs.NameLists.{AreNamed, HasMoreNames, IsNoName}
-use Rattle.lx_words.specs.CommandLine.{PlainFormWords, PlainList, PlainOrder, max_number}
+use Rattle.lx_cli.specs.CommandLine.{PlainFormWords, PlainList, PlainOrder, max_number}
 use Rattle.lx_forms.specs.declared.choosing.ChoiceFault.{ChoiceFault}
 use Rattle.lx_tool.specs.Names.{name_bytes}
 use Rattle.lx_tool.specs.Sources.{whole}

@@ -1,7 +1,7 @@
 -- Outputs that would overwrite the input, or one another.
 use Rattle.std.specs.Prelude.{◌≡◌, ◌⊎◌, ⊤, ℕ, Bool, false, List, Option, Some, MatchOption, codes}
 use Rattle.std.specs.Borrow.{Bor}
-use Rattle.lx_words.specs.CommandLine.{PlainImport}
+use Rattle.lx_cli.specs.CommandLine.{PlainImport}
 use Rattle.lx_tool.specs.declared.failure.Failure.{Failure}
 use Rattle.lx_tool.specs.declared.failure.Failure.TheVariants.{Memory, Refused}
 use Rattle.lx_tool.specs.declared.failure.OutputFault.{OutputFault}

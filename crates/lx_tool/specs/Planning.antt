@@ -11,7 +11,7 @@ use Rattle.lx_writing.specs.Appending.{AppendsPrefix}
 use Rattle.lx_lines.specs.Listings.{listing_of}
 use Rattle.lx_forms.specs.Forms.{PlainForm}
 use Rattle.lx_forms.specs.FormListings.{listing_in}
-use Rattle.lx_words.specs.CommandLine.{PlainFormWords}
+use Rattle.lx_cli.specs.CommandLine.{PlainFormWords}
 use Rattle.lx_tool.specs.Naming.{IsFormOf}
 
 -- what was read of files are bytes

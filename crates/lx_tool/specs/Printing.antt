@@ -16,7 +16,7 @@ use Rattle.lx_c.specs.Scanner.{c_text}
 use Rattle.lx_c.specs.declared.fault.KindFault.{KindFault}
 use Rattle.lx_c.specs.declared.fault.KindFault.TheVariants as kind
 use Rattle.lx_c.specs.declared.fault.OptionFault.{OptionFault}
-use Rattle.lx_words.specs.CommandLine.{PlainC}
+use Rattle.lx_cli.specs.CommandLine.{PlainC}
 use Rattle.lx_tool.specs.declared.failure.Failure.{Failure}
 use Rattle.lx_tool.specs.declared.failure.Failure.TheVariants.{Unprintable, Memory, Refused}
 use Rattle.lx_tool.specs.declared.failure.PrintFault.{PrintFault}

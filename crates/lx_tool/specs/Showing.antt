@@ -8,7 +8,7 @@ use Rattle.lx_automaton.specs.Automata.{state_count}
 use Rattle.lx_tables.specs.Model.{Table, AreTablesOf}
 use Rattle.lx_piece.specs.Plans.{PlainInput}
 use Rattle.lx_graph.specs.Graph.{graph_text}
-use Rattle.lx_words.specs.CommandLine.{PlainShow}
+use Rattle.lx_cli.specs.CommandLine.{PlainShow}
 use Rattle.lx_tool.specs.Given.{IsNoTable}
 use Rattle.lx_tool.specs.Printing.{condition_names}
 use Rattle.lx_tool.specs.Sources.{whole}

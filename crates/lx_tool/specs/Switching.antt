@@ -5,7 +5,7 @@ use Rattle.lx_warnings.specs.Kinds.{has_kind}
 use Rattle.lx_warnings.specs.Names.{name_text}
 use Rattle.lx_warnings.specs.declared.kinds.KindSet.{KindSet}
 use Rattle.lx_warnings.specs.declared.kinds.WarningKind.{WarningKind}
-use Rattle.lx_words.specs.CommandLine.{PlainCheck}
+use Rattle.lx_cli.specs.CommandLine.{PlainCheck}
 use Rattle.lx_tool.specs.Checking.{asked_by_word, is_asked}
 
 -- A kind has this name, and is in the new set or not; and all others are as they were.

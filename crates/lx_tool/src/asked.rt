@@ -4,7 +4,7 @@ ghost use Rattle.std.specs.Prelude.{◌≡◌, ◌<◌, ◌≤◌, IfOk, IfErr, 
 ghost use Rattle.std.specs.Io.KnownBytes.{Keeps};
 ghost use Rattle.lx_piece.specs.Plans.{max_files};
 ghost use Rattle.lx_forms.specs.Views.{form_view};
-ghost use Rattle.lx_words.specs.CommandLine.{plain_form, plain_list, plain_order};
+ghost use Rattle.lx_cli.specs.CommandLine.{plain_form, plain_list, plain_order};
 ghost use Rattle.lx_tool.specs.Commands.{AreListedAs, AreWordsRefused};
 ghost use Rattle.lx_tool.specs.Names.{name_bytes};
 ghost use Rattle.lx_tool.specs.Naming.{AreFileNames, AreJudged, AreListNames, AreNamesRefused, AreNamesUnread, IsFormatFault, IsKnownFormat, IsListingRefused, IsListRefused, IsOnly, IsOnlyRefused, format_by, input_count, input_uses, inputs_among, list_input};
@@ -21,7 +21,7 @@ use lx_forms::{ChoiceFault, Form, Format, NameListFault, Selection, choose, push
 use lx_lines::LineWrites;
 use lx_piece::MAX_FILES;
 use lx_tables::Tables;
-use lx_words::{FormWords, ListRequest, ListWords};
+use lx_cli::{FormWords, ListRequest, ListWords};
 use std::alloc::{AllocError, Global};
 use std::io::Write;
 use std::sync::Wait;

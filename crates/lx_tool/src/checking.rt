@@ -5,7 +5,7 @@ ghost use Rattle.std.specs.Str.{bytes_eq};
 ghost use Rattle.lx_check.specs.Findings.{IfAccepted, IsVerdict, TellsChosen};
 ghost use Rattle.lx_findings.specs.Said.{TellsVerdict, TellsWarnings};
 ghost use Rattle.lx_warnings.specs.Kinds.{has_kind};
-ghost use Rattle.lx_words.specs.CommandLine.{plain_check, check as check-asked};
+ghost use Rattle.lx_cli.specs.CommandLine.{plain_check, check as check-asked};
 ghost use Rattle.lx_tool.specs.Checking.{IsAccepted, IsAcceptedText, IsReported, IsReportOf, IsWarningFault, TellsAccepted, has_error};
 ghost use Rattle.lx_tool.specs.Switching.{AreKindsAsked, IsAskedBehind, IsSwitched};
 ghost use Rattle.lx_tool.specs.Commands.{HasDone, HasFailed};
@@ -17,7 +17,7 @@ use crate::source::Sources;
 use lx_check::{Report, check};
 use lx_findings::{Said, Style, report_of, sarif_of};
 use lx_warnings::{KindSet, kind_named};
-use lx_words::{CheckWords, VERSION};
+use lx_cli::{CheckWords, VERSION};
 use std::alloc::{AllocError, Global};
 use std::io::Write;
 

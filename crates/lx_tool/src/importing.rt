@@ -2,7 +2,7 @@
 
 ghost use Rattle.std.specs.Prelude.{◌≡◌, ◌<◌, ◌⊎◌, [], IfOk, IfErr, OnOk, Some, option_map};
 ghost use Rattle.std.specs.Io.KnownBytes.{Keeps};
-ghost use Rattle.lx_words.specs.CommandLine.{imports, plain_c, plain_import};
+ghost use Rattle.lx_cli.specs.CommandLine.{imports, plain_c, plain_import};
 ghost use Rattle.lx_tool.specs.Commands.{HasDone, HasFailed, HasPlaced};
 ghost use Rattle.lx_tool.specs.Importing.{HasTables, IsOfFlex, IsUnplaced, kinds_words};
 ghost use Rattle.lx_tool.specs.Printing.{IsPlaced, IsWritten};
@@ -22,7 +22,7 @@ use lx_auto::BuildFault;
 use lx_diagnose::{to_do, words_of};
 use lx_flex::{Fault, Imported, Options, Report, import};
 use lx_tables::Tables;
-use lx_words::{CWords, ImportWords};
+use lx_cli::{CWords, ImportWords};
 use std::alloc::{AllocError, Global};
 use std::io::Write;
 

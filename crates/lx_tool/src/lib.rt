@@ -26,7 +26,7 @@ mod target;
 pub use failure::{Failure, OutputFault, PrintFault, RequestFault};
 pub use given::{list_by_specification, list_by_tables};
 pub use lx_lines::{LineWrites, Listing, list_plan, print_listing};
-pub use lx_words::VERSION;
+pub use lx_cli::VERSION;
 pub use names::name_bytes;
 pub use output::Output;
 pub use planning::{

@@ -1,7 +1,7 @@
 //! Printing, with a further line where a kind can't be one in C: which rule returns it.
 
 ghost use Rattle.std.specs.Prelude.{◌<◌, IfErr, OnOk};
-ghost use Rattle.lx_words.specs.CommandLine.{plain_c, plain_print};
+ghost use Rattle.lx_cli.specs.CommandLine.{plain_c, plain_print};
 ghost use Rattle.lx_tool.specs.Printing.{FailsPrinting, PlacesTables, WritesTables};
 ghost use Rattle.lx_tool.specs.Statuses.{status_of};
 
@@ -12,7 +12,7 @@ use lx_c::Options;
 use lx_rules::Spec;
 use lx_rules::rule::{Kind, Rule, Step};
 use lx_tables::Tables;
-use lx_words::PrintWords;
+use lx_cli::PrintWords;
 use std::alloc::Global;
 use std::io::Write;
 

@@ -1,13 +1,13 @@
 //! Outputs that would overwrite the input, or one another.
 
 ghost use Rattle.std.specs.Prelude.{◌≡◌, IfErr, OnOk, option_map};
-ghost use Rattle.lx_words.specs.CommandLine.{plain_import};
+ghost use Rattle.lx_cli.specs.CommandLine.{plain_import};
 ghost use Rattle.lx_tool.specs.Outputs.{AreApart, AreImportsApart, AreOutputsOfImportRefused, IsApart, IsOverwritten, IsRefusedFor};
 ghost use Rattle.lx_tool.specs.declared.failure.RequestFault.TheVariants.{Outputs};
 
 use crate::failure::{Failure, OutputFault, RequestFault};
 use crate::target::Targets;
-use lx_words::ImportWords;
+use lx_cli::ImportWords;
 
 // The name of standard output.
 const STANDARD_OUTPUT: &str = "-";

@@ -6,7 +6,7 @@ ghost use Rattle.lx_c.specs.Options.{named};
 ghost use Rattle.lx_rules.specs.views.Rules.{names_view};
 ghost use Rattle.lx_rules.specs.views.Specs.{spec_view};
 ghost use Rattle.lx_tables.specs.Output.{Wrote, WrotePrefix};
-ghost use Rattle.lx_words.specs.CommandLine.{plain_c, plain_print};
+ghost use Rattle.lx_cli.specs.CommandLine.{plain_c, plain_print};
 ghost use Rattle.lx_tool.specs.Commands.{IsPlacingFault};
 ghost use Rattle.lx_tool.specs.Printing.{AreKindsRefused, AreScannerWordsRefused, FailsPrinting, IsToldAs, PlacesTables, WritesTables, are_scanner_words, condition_names, is_in_c, kind_named, kinds_fault, options_by, printed_text};
 ghost use Rattle.lx_tool.specs.Statuses.{status_of};
@@ -16,7 +16,7 @@ use crate::target::Targets;
 use lx_c::{KindFault, Options, judge, print_c, print_header};
 use lx_rules::{Condition, Spec};
 use lx_tables::Tables;
-use lx_words::{CWords, PrintWords};
+use lx_cli::{CWords, PrintWords};
 use std::alloc::{AllocError, Global};
 use std::io::{self, Write};
 

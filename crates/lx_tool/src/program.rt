@@ -2,7 +2,7 @@
 
 ghost use Rattle.std.specs.Prelude.{◌≡◌, ◌<◌, ◌≤◌, [], ◌∷◌, Some, None, Ok, Err, IfOk, IfErr, OnOk, IfSome, IsOk, length};
 ghost use Rattle.std.specs.Io.KnownBytes.{Appends, Keeps};
-ghost use Rattle.lx_words.specs.CommandLine.{asked_as, asked_by, plain_order, plain_print, run as run-asked, scan as scan-asked, gen as gen-asked, up as up-asked, words_of};
+ghost use Rattle.lx_cli.specs.CommandLine.{asked_as, asked_by, plain_order, plain_print, run as run-asked, scan as scan-asked, gen as gen-asked, up as up-asked, words_of};
 ghost use Rattle.lx_tool.specs.Commands.{HasDone, HasEnded, HasFailed, HasObeyed, HasPlaced, stored_specification, stored_text};
 ghost use Rattle.lx_tool.specs.Helping.{AskForHelp};
 ghost use Rattle.lx_tool.specs.Planning.{ListsByRules};
@@ -31,7 +31,7 @@ use lx_c::MAX_DIRECT_STATES;
 use lx_lines::LineWrites;
 use lx_piece::MAX_FILES;
 use lx_scan::ruling::items_are_by_rules;
-use lx_words::{ALONE, ITEMS, ListRequest, PrintWords, Refusal, Request, read_words};
+use lx_cli::{ALONE, ITEMS, ListRequest, PrintWords, Refusal, Request, read_words};
 use std::alloc::Global;
 use std::io;
 use std::io::{Cursor, Write};

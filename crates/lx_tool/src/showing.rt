@@ -4,7 +4,7 @@ ghost use Rattle.std.specs.Prelude.{◌≡◌, ◌≤◌, [], IfOk, IfErr, OnOk,
 ghost use Rattle.std.specs.Io.KnownBytes.{Appends};
 ghost use Rattle.lx_automaton.specs.Automata.{state_count};
 ghost use Rattle.lx_rules.specs.views.Rules.{names_view};
-ghost use Rattle.lx_words.specs.CommandLine.{plain_show, show as show-asked};
+ghost use Rattle.lx_cli.specs.CommandLine.{plain_show, show as show-asked};
 ghost use Rattle.lx_tool.specs.Commands.{HasDone, HasFailed};
 ghost use Rattle.lx_tool.specs.Showing.{AreShown, HasManyStates, HasNoneShown, begins_as_tables, max_shown};
 
@@ -17,7 +17,7 @@ use crate::source::Sources;
 use crate::tabling::unjoined_tables_of;
 use lx_graph::graph_of;
 use lx_tables::Tables;
-use lx_words::ShowWords;
+use lx_cli::ShowWords;
 use std::alloc::Global;
 use std::io::Write;
 

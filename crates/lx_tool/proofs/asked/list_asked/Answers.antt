@@ -1,5 +1,5 @@
 use Rattle.std.proofs.lemmas.Result.{err_from_is_err_and}
-use Rattle.lx_words.specs.CommandLine.{plain_order}
+use Rattle.lx_cli.specs.CommandLine.{plain_order}
 use Rattle.lx_tool.proofs.NamesRefused.{names_refused}
 use Rattle.lx_tool.proofs.Obeyed.{keeps_itself}
 use Rattle.lx_tool.proofs.asked.list_asked.Goals as goal

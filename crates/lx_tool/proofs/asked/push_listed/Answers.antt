@@ -1,7 +1,7 @@
 use Rattle.std.proofs.Common.{◌≡◌, ◌-◌, inr, refl, ap, subst, vec_len}
 use Rattle.lx_forms.specs.NameLists.{IsNoList, IsNoName}
 use Rattle.lx_piece.specs.Plans.{max_files}
-use Rattle.lx_words.specs.CommandLine.{plain_list}
+use Rattle.lx_cli.specs.CommandLine.{plain_list}
 use Rattle.lx_tool.specs.Sources.{texts_of}
 use Rattle.lx_tool.proofs.NameListLemmas.{list_says, names_of_list}
 use Rattle.lx_tool.proofs.asked.push_listed.Goals as goal

@@ -2,7 +2,7 @@ use Rattle.std.proofs.Common.{refl}
 use Rattle.std.specs.Io.KnownBytes.{Appends}
 use Rattle.std.specs.Prelude.{OnOk}
 use Rattle.std.proofs.lemmas.Result.{err_from_is_err_and, on_ok_weaker}
-use Rattle.lx_words.specs.CommandLine.{plain_check}
+use Rattle.lx_cli.specs.CommandLine.{plain_check}
 use Rattle.lx_tool.proofs.Obeyed.{check_refused, keeps_itself, warning_refused}
 use Rattle.lx_tool.proofs.checking.check_named.Goals as goal
 

@@ -1,6 +1,6 @@
 use Rattle.std.proofs.Common.{inr, refl}
 use Rattle.lx_check.specs.Further.{AreFindings, IfRefused}
-use Rattle.lx_words.specs.CommandLine.{plain_check}
+use Rattle.lx_cli.specs.CommandLine.{plain_check}
 use Rattle.lx_tool.specs.Checking.{HasErrors, IsReportOf}
 use Rattle.lx_tool.proofs.Reporting.{accepted_told, had_errors, none_accepted}
 use Rattle.lx_tool.proofs.checking.said_of.Goals as goal

@@ -1,7 +1,7 @@
 use Rattle.std.proofs.Common.{◌≡◌, true, drop, map, if◌then◌else◌}
 use Rattle.lx_warnings.specs.Kinds.{has_kind, is_usual}
 use Rattle.lx_warnings.specs.declared.kinds.WarningKind.{WarningKind}
-use Rattle.lx_words.specs.CommandLine.{plain_check}
+use Rattle.lx_cli.specs.CommandLine.{plain_check}
 use Rattle.lx_tool.specs.Checking.{asked_by_words, has_error, is_asked}
 use Rattle.lx_tool.proofs.checking.warnings_asked.Given as goal
 

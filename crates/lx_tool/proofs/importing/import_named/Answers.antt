@@ -1,6 +1,6 @@
 use Rattle.std.proofs.Common.{inl, inr, refl, subst}
 use Rattle.std.proofs.lemmas.Result.{err_from_is_err_and, on_ok_weaker}
-use Rattle.lx_words.specs.CommandLine.{PlainC, imports, plain_import}
+use Rattle.lx_cli.specs.CommandLine.{PlainC, imports, plain_import}
 use Rattle.lx_tool.specs.Importing.{IsOfFlex, kinds_words}
 use Rattle.lx_tool.specs.Outputs.{AreOutputsOfImportRefused}
 use Rattle.lx_tool.specs.Printing.{AreScannerWordsRefused}

@@ -4,7 +4,7 @@ use Rattle.lx_rules.specs.Plain.{StartCondition}
 use Rattle.lx_rules.specs.views.Conditions.{condition_view}
 use Rattle.lx_rules.specs.views.Rules.{names_view}
 use Rattle.lx_rules.specs.views.Specs.{spec_view}
-use Rattle.lx_words.specs.CommandLine.{plain_c}
+use Rattle.lx_cli.specs.CommandLine.{plain_c}
 use Rattle.lx_tool.specs.Printing.{condition_names, options_by}
 use Rattle.lx_tool.proofs.Obeyed.{named_as}
 use Rattle.lx_tool.proofs.printing.named_options.Goals as goal

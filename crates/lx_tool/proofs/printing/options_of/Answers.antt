@@ -1,7 +1,7 @@
 use Rattle.std.proofs.Common.{◌≡◌, ◌∙◌, Bool, List, [], ℕ, Option, ap, false, inr, option_map, refl}
 use Rattle.lx_c.specs.Options.{Options, option_fault}
 use Rattle.lx_rules.specs.views.Rules.{names_view}
-use Rattle.lx_words.specs.CommandLine.{plain_c}
+use Rattle.lx_cli.specs.CommandLine.{plain_c}
 use Rattle.lx_tool.specs.Printing.{options_by}
 use Rattle.lx_tool.specs.declared.failure.RequestFault.TheVariants.{Scanner}
 use Rattle.lx_tool.proofs.printing.options_of.Goals as goal

@@ -1,5 +1,5 @@
 use Rattle.std.proofs.Common.{map, ◌≡◌, None}
-use Rattle.lx_words.specs.CommandLine.{asked_by}
+use Rattle.lx_cli.specs.CommandLine.{asked_by}
 use Rattle.lx_tool.specs.Helping.{AskForHelp}
 use Rattle.lx_tool.proofs.Helped.{ask_for_help, known_anyway}
 use Rattle.lx_tool.proofs.program.execute.Goals as goal

@@ -2,7 +2,7 @@ use Rattle.std.proofs.Common.{inl, inr, refl}
 use Rattle.std.proofs.lemmas.Result.{IfErr-weaker, err_from_is_err_and, on_ok_weaker}
 use Rattle.lx_c.specs.Options.{named}
 use Rattle.lx_rules.specs.views.Specs.{spec_view}
-use Rattle.lx_words.specs.CommandLine.{plain_print, gen}
+use Rattle.lx_cli.specs.CommandLine.{plain_print, gen}
 use Rattle.lx_tool.specs.Outputs.{IsOverwritten}
 use Rattle.lx_tool.specs.Printing.{condition_names, options_by, printed_text}
 use Rattle.lx_tool.proofs.Obeyed.{keeps_itself, outputs_refused, printing_refused, rules_no_tables, scanner_refused}

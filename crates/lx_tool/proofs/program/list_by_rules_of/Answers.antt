@@ -1,5 +1,5 @@
 use Rattle.std.proofs.lemmas.Result.{IfErr-weaker, IfOk-weaker}
-use Rattle.lx_words.specs.CommandLine.{plain_order, run}
+use Rattle.lx_cli.specs.CommandLine.{plain_order, run}
 use Rattle.lx_tool.specs.Planning.{ListsAsked, ListsByRulesIn}
 use Rattle.lx_tool.specs.Tabling.{AreTablesOfText}
 use Rattle.lx_tool.proofs.GivenListed.{listed_as_well}

@@ -1,5 +1,5 @@
 use Rattle.std.proofs.lemmas.Result.{IfErr-weaker, IfOk-weaker}
-use Rattle.lx_words.specs.CommandLine.{plain_order, scan}
+use Rattle.lx_cli.specs.CommandLine.{plain_order, scan}
 use Rattle.lx_tool.specs.Planning.{ListsAsked, ListsByTextIn}
 use Rattle.lx_tool.specs.Tabling.{AreTablesIn}
 use Rattle.lx_tool.proofs.GivenListed.{listed_as_well}

@@ -1,6 +1,6 @@
 use Rattle.std.proofs.Common.{map, ◌≡◌, None}
 use Rattle.std.specs.Prelude.{IsOk}
-use Rattle.lx_words.specs.CommandLine.{asked_by}
+use Rattle.lx_cli.specs.CommandLine.{asked_by}
 use Rattle.lx_tool.specs.Commands.{HasObeyed}
 use Rattle.lx_tool.specs.Sources.{texts_of}
 use Rattle.lx_tool.specs.Helping.{AskForHelp}

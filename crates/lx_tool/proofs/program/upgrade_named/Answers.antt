@@ -1,6 +1,6 @@
 use Rattle.std.proofs.Common.{inl, inr, refl}
 use Rattle.std.proofs.lemmas.Result.{IfErr-weaker, err_from_is_err_and, on_ok_weaker}
-use Rattle.lx_words.specs.CommandLine.{plain_print, up}
+use Rattle.lx_cli.specs.CommandLine.{plain_print, up}
 use Rattle.lx_tool.specs.Outputs.{IsOverwritten}
 use Rattle.lx_tool.specs.Printing.{options_by, printed_text}
 use Rattle.lx_tool.specs.Tabling.{AreTablesIn}

@@ -4,7 +4,7 @@ use Rattle.std.specs.Prelude.{OnOk}
 use Rattle.lx_graph.specs.Graph.{graph_text}
 use Rattle.std.proofs.lemmas.Result.{IfErr-weaker, err_from_is_err_and, on_ok_weaker}
 use Rattle.lx_rules.specs.views.Rules.{names_view}
-use Rattle.lx_words.specs.CommandLine.{plain_show}
+use Rattle.lx_cli.specs.CommandLine.{plain_show}
 use Rattle.lx_tool.specs.Showing.{AreShown}
 use Rattle.lx_tool.proofs.Obeyed.{keeps_itself, show_refused, show_too_large}
 use Rattle.lx_tool.proofs.showing.show_named.Goals as goal
