@@ -6,8 +6,8 @@ use Rattle.std.proofs.Math.Path.{ap₂, fun_ext}
 use Rattle.lx_scan.specs.declared.item.Item.{Item}
 use Rattle.lx_scan.specs.ItemParts.{line_of as line_number, start_of, len_of, text_of}
 use Rattle.lx_piece.specs.Plans.{Planned, bytes_of, files_of, is_cut, items_of}
-use Rattle.lx_lines.specs.Lines.{class_text, cut_lines, escaped, kind_text, line_of, lines_of}
-use Rattle.lx_lines.specs.Listings.{listing_of, listing_to}
+use Rattle.lx_listing.specs.Lines.{class_text, cut_lines, escaped, kind_text, line_of, lines_of}
+use Rattle.lx_listing.specs.Listings.{listing_of, listing_to}
 use Rattle.lx_forms.specs.Forms.{bare_form, passes}
 use Rattle.lx_forms.specs.TextLines.{fields_of, text_cut_line, text_line}
 use Rattle.lx_forms.specs.FormListings.{cut_lines_in, line_in, lines_in, listing_to_in, listing_in}

@@ -8,8 +8,8 @@ use Rattle.lx_piece.specs.Pieces.{IsPrefix, ItemPiece, bare, is_closing, piece_a
 use Rattle.lx_piece.specs.PieceLaws.{marked_last}
 use Rattle.lx_piece.specs.Plans.{Planned, IsPlan, bytes_of, files_of, items_of, kinds_of}
 use Rattle.lx_piece.specs.Turns.{HasTurn, Turn, turn_after}
-use Rattle.lx_writing.specs.AppendingLaws.{prefix_behind, prefix_then}
-use Rattle.lx_lines.specs.Printing.{WrotePrefix}
+use Rattle.lx_listing.specs.AppendingLaws.{prefix_behind, prefix_then}
+use Rattle.lx_listing.specs.Printing.{WrotePrefix}
 use Rattle.lx_forms.specs.FormListings.{listing_to_in}
 use Rattle.lx_forms.specs.FormPrinting.{FormedPlan, IsTurnIn, PrintsOn, PrintsSome, piece_lines_in, taken_lines_in, lines_before_in, formed_listing}
 use Rattle.lx_forms.specs.FormPrintingLaws.{formed_begins, taken_one, whole_taken}

@@ -6,8 +6,8 @@ use Rattle.lx_piece.specs.Pieces.{IsPrefix}
 use Rattle.lx_piece.specs.Plans.{Planned, IsPlan, files_of}
 use Rattle.lx_piece.specs.Relayed.{AreAllTaken}
 use Rattle.lx_piece.specs.Turns.{Turn, IsTurnBy, first_turn}
-use Rattle.lx_lines.specs.ListedLaws.{fresh_turn}
-use Rattle.lx_lines.specs.Printing.{WrotePrefix}
+use Rattle.lx_listing.specs.ListedLaws.{fresh_turn}
+use Rattle.lx_listing.specs.Printing.{WrotePrefix}
 use Rattle.lx_forms.specs.FormListings.{listing_to_in}
 use Rattle.lx_forms.specs.FormPrinting.{FormPrinting, FormedPlan, IsTurnIn, PrintsOn, PrintsSome, taken_lines_in, lines_before_in, formed_listing}
 use Rattle.lx_forms.specs.FormPrintingLaws.{formed_begins}

@@ -9,7 +9,7 @@ use Rattle.lx_piece.specs.Plans.{Planned, files_of, is_cut, items_of}
 use Rattle.lx_piece.specs.Pieces.{IsPrefix, ItemPiece, contents, part, piece_at, pieces_of, pieces_to}
 use Rattle.lx_piece.specs.PieceLaws.{marked_cut, prefix_to, whole_at}
 use Rattle.lx_piece.specs.Turns.{Turn}
-use Rattle.lx_writing.specs.AppendingLaws.{prefix_all, prefix_before, prefix_behind, prefix_then}
+use Rattle.lx_listing.specs.AppendingLaws.{prefix_all, prefix_before, prefix_behind, prefix_then}
 use Rattle.lx_forms.specs.Forms.{PlainForm, passes}
 use Rattle.lx_forms.specs.FormListings.{cut_lines_in, file_lines_in, line_in, lines_in, listing_to_in}
 use Rattle.lx_forms.specs.FormPrinting.{FormPrinting, FormedPlan, IsTurnIn, PrintsOn, PrintsSome, piece_lines_in, taken_lines_in, lines_before_in, formed_listing}

@@ -5,7 +5,7 @@ ghost use Rattle.std.specs.List.{filter, flat_map};
 ghost use Rattle.lx_scan.specs.declared.item.Item.{Item};
 ghost use Rattle.lx_piece.specs.Plans.{IsPlan, Planned, files_of, items_of};
 ghost use Rattle.lx_line.specs.Lines.{kind_text};
-ghost use Rattle.lx_lines.specs.Listings.{listing_of};
+ghost use Rattle.lx_listing.specs.Listings.{listing_of};
 ghost use Rattle.lx_forms.specs.Choosing.{HasKindOf, selected_by, stands_by_one_of};
 ghost use Rattle.lx_forms.specs.Forms.{PlainForm, bare_form, is_selected};
 ghost use Rattle.lx_forms.specs.FormLaws.{IsJoined, form_behind, form_of_front};

@@ -3,13 +3,13 @@
 ghost use Rattle.std.specs.Prelude.{◌≡◌, OnOk, IfErr};
 ghost use Rattle.lx_piece.specs.Pieces.{bare};
 ghost use Rattle.lx_piece.specs.Turns.{HasTurn, turn_after};
-ghost use Rattle.lx_lines.specs.Printing.{turn_of};
+ghost use Rattle.lx_listing.specs.Printing.{turn_of};
 ghost use Rattle.lx_forms.specs.FormPrinting.{PrintsOn, PrintsSome, printing_in};
 ghost use Rattle.lx_forms.specs.Views.{form_view};
 
 use crate::form::Form;
 use crate::lines::refill;
-use lx_lines::LineSink;
+use lx_listing::LineSink;
 use lx_piece::{Items, KeepItems, Piece, Plan, ReaderFault, Taker};
 use lx_piece::plans_are_well_formed;
 use std::alloc::Global;

@@ -3,15 +3,15 @@
 ghost use Rattle.std.specs.Prelude.{◌≡◌, ◌<◌, ◌≤◌, OnOk, OnErr};
 ghost use Rattle.std.specs.Io.KnownBytes.{Appends};
 ghost use Rattle.lx_piece.specs.Plans.{max_workers};
-ghost use Rattle.lx_writing.specs.Appending.{AppendsPrefix};
-ghost use Rattle.lx_lines.specs.Printing.{WrotePrefix};
+ghost use Rattle.lx_listing.specs.Appending.{AppendsPrefix};
+ghost use Rattle.lx_listing.specs.Printing.{WrotePrefix};
 ghost use Rattle.lx_forms.specs.FormListings.{listing_in};
 ghost use Rattle.lx_forms.specs.Views.{form_view};
 
 use crate::form::Form;
 use crate::laws::bare_listings_are_listings;
 use crate::printer::FormPrinter;
-use lx_lines::{Lent, LineSink, LineWrites, list_plan};
+use lx_listing::{Lent, LineSink, LineWrites, list_plan};
 use lx_piece::{InOrder, KeepItems, Plan, RelayFault, relay_plan};
 use lx_post::{OpenGate, RunFault, scan_made};
 use std::alloc::Global;

@@ -3,7 +3,7 @@ use Rattle.std.proofs.Common.{ℕ, ◌≡◌, List, [], Option, inl, inr, length
 use Rattle.std.proofs.lemmas.List.{nil_from_length}
 use Rattle.lx_piece.specs.Plans.{PlainInput}
 use Rattle.lx_tables.specs.Model.{Table}
-use Rattle.lx_writing.specs.AppendingLaws.{appends_nothing}
+use Rattle.lx_listing.specs.AppendingLaws.{appends_nothing}
 use Rattle.lx_tool.specs.Given.{AreListed, ArePartlyListed, AreRead, FailsListing}
 use Rattle.lx_tool.specs.Planning.{AreBytes, ListsBy, ListsPrefixBy}
 use Rattle.lx_tool.specs.Statuses.{failure_of_run}

@@ -7,8 +7,8 @@ use Rattle.lx_tables.specs.Model.{Table, IsTable, AreTablesOf}
 use Rattle.lx_tables.specs.Reading.{IsTextOf}
 use Rattle.lx_scan.specs.ByRules.{AreItemsBy}
 use Rattle.lx_piece.specs.Plans.{PlainInput, Planned, bytes_of, items_of, kinds_of}
-use Rattle.lx_writing.specs.Appending.{AppendsPrefix}
-use Rattle.lx_lines.specs.Listings.{listing_of}
+use Rattle.lx_listing.specs.Appending.{AppendsPrefix}
+use Rattle.lx_listing.specs.Listings.{listing_of}
 use Rattle.lx_forms.specs.Forms.{PlainForm}
 use Rattle.lx_forms.specs.FormListings.{listing_in}
 use Rattle.lx_cli.specs.CommandLine.{PlainFormWords}

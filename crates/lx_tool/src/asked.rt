@@ -18,7 +18,7 @@ use crate::planning::list_files_in;
 use crate::source::{STANDARD_INPUT, Sources};
 use crate::suggesting::note_kinds;
 use lx_forms::{ChoiceFault, Form, Format, NameListFault, Selection, choose, push_names};
-use lx_lines::LineWrites;
+use lx_listing::LineWrites;
 use lx_piece::MAX_FILES;
 use lx_tables::Tables;
 use lx_cli::{FormWords, ListRequest, ListWords};

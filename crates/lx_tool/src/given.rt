@@ -11,7 +11,7 @@ use crate::failure::Failure;
 use crate::planning::list_files;
 use crate::source::{SourceFault, Sources};
 use crate::tabling::{read_tables, tables_of_text};
-use lx_lines::LineWrites;
+use lx_listing::LineWrites;
 use lx_piece::Input;
 use lx_scan::ruling::items_are_by_rules;
 use lx_tables::Tables;

@@ -25,7 +25,7 @@ mod target;
 
 pub use failure::{Failure, OutputFault, PrintFault, RequestFault};
 pub use given::{list_by_specification, list_by_tables};
-pub use lx_lines::{LineWrites, Listing, list_plan, print_listing};
+pub use lx_listing::{LineWrites, Listing, list_plan, print_listing};
 pub use lx_cli::VERSION;
 pub use names::name_bytes;
 pub use output::Output;

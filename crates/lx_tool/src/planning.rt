@@ -9,7 +9,7 @@ ghost use Rattle.lx_tool.specs.Planning.{AreBytes, ListsBy, ListsByRules, ListsI
 ghost use Rattle.lx_tool.specs.Tabling.{AreTablesOfText};
 
 use lx_forms::{Form, list_plan_in};
-use lx_lines::{LineWrites, list_plan};
+use lx_listing::{LineWrites, list_plan};
 use lx_piece::{Input, Plan};
 use lx_post::RunFault;
 use lx_scan::ruling::items_are_by_rules;

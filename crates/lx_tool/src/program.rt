@@ -28,7 +28,7 @@ use crate::suggesting::{tell_formats, tell_warnings};
 use crate::tabling::{tables_of_text, unjoined_tables_of};
 use crate::target::{NoTargets, Targets};
 use lx_c::MAX_DIRECT_STATES;
-use lx_lines::LineWrites;
+use lx_listing::LineWrites;
 use lx_piece::MAX_FILES;
 use lx_scan::ruling::items_are_by_rules;
 use lx_cli::{ALONE, ITEMS, ListRequest, PrintWords, Refusal, Request, read_words};

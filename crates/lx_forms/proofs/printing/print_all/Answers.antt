@@ -1,6 +1,6 @@
 use Rattle.std.proofs.Common.{[], refl, sym, ◌∙◌, ap, subst}
 use Rattle.std.proofs.lemmas.Result.{on_ok_weaker}
-use Rattle.lx_lines.specs.Printing.{WrotePrefix, turn_of}
+use Rattle.lx_listing.specs.Printing.{WrotePrefix, turn_of}
 use Rattle.lx_forms.specs.FormListed.{all_listed, part_listed}
 use Rattle.lx_forms.specs.FormListings.{listing_in}
 use Rattle.lx_forms.specs.FormPrinting.{printing_in}

@@ -1,7 +1,7 @@
 use Rattle.std.proofs.Common.{◌∙◌, ◌+◌, ap, subst, sym}
 use Rattle.std.proofs.lemmas.Result.{err_from_is_err_and}
 use Rattle.lx_piece.specs.Plans.{Planned, IsPlan}
-use Rattle.lx_lines.specs.Printing.{turn_of}
+use Rattle.lx_listing.specs.Printing.{turn_of}
 use Rattle.lx_forms.specs.FormPrinting.{piece_lines_in, printing_in}
 use Rattle.lx_forms.specs.FormPrintingLaws.{prints_no_more}
 use Rattle.lx_forms.specs.Views.{form_view}

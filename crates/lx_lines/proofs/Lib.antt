@@ -1,6 +1,0 @@
-pub mod FileLines
-mod HandedOn
-pub mod Parting
-pub mod Stepping
-pub mod Turning
-pub mod WholeLines

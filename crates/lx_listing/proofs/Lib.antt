@@ -1,0 +1,7 @@
+mod HandedOn
+pub mod Appending
+pub mod FileLines
+pub mod Parting
+pub mod Stepping
+pub mod Turning
+pub mod WholeLines

@@ -1,0 +1,12 @@
+pub mod Appending
+pub mod AppendingLaws
+pub mod Gathered
+pub mod GatheredLaws
+pub mod Lines
+pub mod ListedLaws
+pub mod ListingLaws
+pub mod Listings
+pub mod Parts
+pub mod Printing
+pub mod PrintingLaws
+pub mod Shown

@@ -1,0 +1,77 @@
+-- The listing of a plan, and what a listing has written of it.
+use Rattle.std.specs.Prelude.{ℕ, zero, suc, ◌≡◌, ◌≤◌, ◌⊎◌, Bool, true, false, List, [], ◌∷◌, ◌++◌, Option, slice_index}
+use Rattle.std.specs.Io.KnownBytes.{Appends}
+use Rattle.lx_piece.specs.Plans.{Planned, IsPlan, files_of}
+use Rattle.lx_piece.specs.Pieces.{IsPrefix, pieces_to}
+use Rattle.lx_piece.specs.Relayed.{AreAllTaken, HasOpenFile}
+use Rattle.lx_piece.specs.Turns.{Turn, IsFirstOpen}
+use Rattle.lx_listing.specs.Lines.{file_lines, pieces_lines}
+
+-- the lines of the files below this one, in order
+abbrev pub listing_to : Planned → ℕ → List ℕ
+listing_to plan zero = []
+listing_to plan (suc file) = listing_to plan file ++ file_lines plan file
+
+-- the lines of all files, in order
+abbrev pub listing_of : Planned → List ℕ
+listing_of plan = listing_to plan (files_of plan)
+
+-- the lines of the first pieces of a file, this many
+abbrev pub taken_lines : Planned → ℕ → ℕ → List ℕ
+taken_lines plan file count = pieces_lines plan file (pieces_to plan file count)
+
+-- a turn of the plan: that of a piece, or the one behind the last file
+pub record IsTurnOf (plan : Planned) (turn : Turn) : Type 0 where
+  pub plan_is : IsPlan plan
+  pub within : turn.file ≤ files_of plan
+  pub first : turn.file ≡ files_of plan → turn.number ≡ 0
+
+-- the lines of the pieces before a turn
+abbrev pub lines_before : Planned → Turn → List ℕ
+lines_before plan turn = listing_to plan turn.file ++ taken_lines plan turn.file turn.number
+
+-- text is the lines of the pieces taken of the files up to and with the first that isn't closed
+pub record IsDue (plan : Planned) (counts : List ℕ) (text : List ℕ) : Type 0 where
+  pub plan_is : IsPlan plan
+  pub first : ℕ
+  pub first_open : IsFirstOpen plan counts first
+  pub lines : text ≡ listing_to plan first ++ taken_lines plan first (slice_index counts first)
+
+-- Whole lines, where the bytes begin where a line does and are of a listing: in a line a line feed stands at the end alone.
+abbrev pub AreWhole : List ℕ → Type 0
+AreWhole bytes = (bytes ≡ []) ⊎ ((front : List ℕ) × (bytes ≡ front ++ 10 ∷ []))
+
+-- known bytes grow by whole lines
+abbrev pub AppendsWhole : Option (List ℕ) → Option (List ℕ) → Type 0
+AppendsWhole old new = (bytes : List ℕ) × AreWhole bytes × Appends old new bytes
+
+-- how far a listing has come: the pieces that it took of each file, and whether it failed
+pub record Progress : Type 0 where
+  pub plan : Planned
+  pub counts : List ℕ
+  pub faults : ℕ
+  pub failed : Bool
+
+-- a listing, and the bytes that its writer holds, where they are known
+pub record Printed : Type 0 where
+  pub progress : Progress
+  pub written : Option (List ℕ)
+
+abbrev pub printed : Progress → Option (List ℕ) → Printed
+printed progress written = record { progress = progress; written = written }
+
+-- What a listing wrote between two states.
+pub record Prints (old new : Printed) : Type 0 where
+  pub plan : new.progress.plan ≡ old.progress.plan
+  pub bytes : List ℕ
+  pub wrote : Appends old.written new.written bytes
+  -- Until it fails, all that is due by the pieces taken.
+  pub due : old.progress.failed ≡ false → new.progress.failed ≡ false → (text : List ℕ) → IsDue old.progress.plan old.progress.counts text → IsDue new.progress.plan new.progress.counts (text ++ bytes)
+  -- A prefix of the listing, failed or not.
+  pub prefix : old.progress.failed ≡ false → (text : List ℕ) → IsDue old.progress.plan old.progress.counts text → IsPrefix (text ++ bytes) (listing_of old.progress.plan)
+  -- Once every file is closed, all of the listing.
+  pub whole : old.progress.failed ≡ false → AreAllTaken new.progress.plan new.progress.counts → (text : List ℕ) → IsDue old.progress.plan old.progress.counts text → text ++ bytes ≡ listing_of new.progress.plan
+  -- Where it fails, a file stays open.
+  pub stuck : old.progress.failed ≡ false → new.progress.failed ≡ true → HasOpenFile new.progress.plan new.progress.counts
+  -- Once it has failed, nothing, and it takes no piece.
+  pub stopped : old.progress.failed ≡ true → (new.progress.failed ≡ true) × (bytes ≡ []) × (new.progress.counts ≡ old.progress.counts)

@@ -1,0 +1,90 @@
+//! The listing of a plan's files on the calling thread, for which no pieces are cut.
+
+ghost use Rattle.std.specs.Prelude.{◌≡◌, ◌<◌, IfErr, OnErr, OnOk};
+ghost use Rattle.lx_piece.specs.Plans.{IsPlan, files_of, items_of};
+ghost use Rattle.lx_listing.specs.Lines.{file_lines, lines_of};
+ghost use Rattle.lx_listing.specs.Listings.{listing_of};
+ghost use Rattle.lx_listing.specs.Parts.{WrotePart};
+ghost use Rattle.lx_listing.specs.Printing.{WrotePrefix};
+
+use crate::shown_lines::write_cut;
+use crate::sink::LineSink;
+use lx_line::PlanDraft;
+use lx_piece::{Plan, ReaderFault};
+use lx_scan::{Cursor, ItemList, ScanMemory};
+use std::alloc::Global;
+
+// So many items are found at once. Where pieces had a quarter of them, a listing of C took 6 % longer (docs/SPEED.md).
+const AT_ONCE: usize = 1024;
+
+// Writes the lines of a file's items. What the list and the block hold means nothing before and after.
+fn write_items_of<S: LineSink>(
+    alloc: Global,
+    plan: &Plan,
+    file: u32,
+    draft: &mut PlanDraft,
+    items: &mut ItemList,
+    block: &mut Vec<u8>,
+    sink: &mut S,
+) -> Result<(), ReaderFault>
+    requires plan { IsPlan plan.now }
+    requires draft { draft.old ≡ plan.now }
+    requires file { file < files_of plan.now }
+    ensures draft { draft.new ≡ draft.old }
+    ensures ok { OnOk result (S.wrote sink.old (lines_of plan.now file (items_of plan.now file)) sink.new) }
+    ensures part { IfErr result (λ fault. WrotePart S.wrote sink.old fault (lines_of plan.now file (items_of plan.now file)) sink.new) }
+{
+    let tables = plan.tables();
+    let text = plan.bytes(file);
+    let mut cursor = Cursor::begin();
+    let mut memory = ScanMemory::new(alloc);
+    let mut is_full = true;
+    'further: while is_full {
+        items.clear();
+        let Ok(()) = cursor.next_items(tables, text, &mut memory, AT_ONCE, items) else {
+            return Err(ReaderFault::Memory);
+        };
+        sink.write_items(block, draft, plan, file, items.as_slice())?;
+        is_full = items.len() == AT_ONCE;
+    }
+    Ok(())
+}
+
+// Writes the lines of a file.
+fn write_file<S: LineSink>(
+    alloc: Global,
+    plan: &Plan,
+    file: u32,
+    draft: &mut PlanDraft,
+    items: &mut ItemList,
+    block: &mut Vec<u8>,
+    sink: &mut S,
+) -> Result<(), ReaderFault>
+    requires plan { IsPlan plan.now }
+    requires draft { draft.old ≡ plan.now }
+    requires file { file < files_of plan.now }
+    ensures draft { draft.new ≡ draft.old }
+    ensures ok { OnOk result (S.wrote sink.old (file_lines plan.now file) sink.new) }
+    ensures part { IfErr result (λ fault. WrotePart S.wrote sink.old fault (file_lines plan.now file) sink.new) }
+{
+    write_items_of(alloc, plan, file, draft, items, block, sink)?;
+    write_cut(sink, block, file, plan.is_cut(file))
+}
+
+/// Writes the lines of a plan's files, one file behind the other. Behind a fault a prefix of them was written.
+pub(crate) fn write_files<S: LineSink>(
+    alloc: Global,
+    plan: &Plan,
+    sink: &mut S,
+) -> Result<(), ReaderFault>
+    ensures ok { OnOk result (S.wrote sink.old (listing_of plan.now) sink.new) }
+    ensures part { OnErr result (WrotePrefix S.wrote sink.old (listing_of plan.now) sink.new) }
+{
+    let mut draft = PlanDraft::new(plan);
+    let mut items = ItemList::new(alloc);
+    let mut block = Vec::new(alloc);
+    for file in 0..plan.files() {
+        write_file(alloc, plan, file, &mut draft, &mut items, &mut block, sink)?;
+    }
+    Ok(())
+}

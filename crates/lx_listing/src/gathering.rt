@@ -1,0 +1,214 @@
+//! Lines that are gathered before they go on, so that where they go gets many at once.
+
+ghost use Rattle.std.specs.Prelude.{◌≡◌, ◌<◌, ◌≤◌, [], All, IfErr, IfOk, OnOk, OnErr, false, is_err, length, take, true};
+ghost use Rattle.lx_scan.specs.ItemParts.{IsItemOf};
+ghost use Rattle.lx_piece.specs.Plans.{bytes_of, files_of, kinds_of};
+ghost use Rattle.lx_listing.specs.Gathered.{Gathers, gathered};
+ghost use Rattle.lx_listing.specs.Lines.{line_of, lines_of};
+ghost use Rattle.lx_listing.specs.Parts.{WrotePart};
+ghost use Rattle.lx_listing.specs.Printing.{WrotePrefix};
+
+use crate::parts::{PART, gather_long};
+use crate::sink::LineSink;
+use lx_line::{LineBuffer, PlanDraft, numbers_of, push_line};
+use lx_piece::{Plan, ReaderFault};
+use lx_scan::FlatItem;
+use std::marker::Model;
+
+/// A sink, before which lines are gathered: those of items are placed where they are held until they go on together. Once the sink failed it
+/// gets nothing more.
+#[derive(Drop)]
+pub struct Gathering<S: LineSink> {
+    held: LineBuffer,
+    has_failed: bool,
+    sink: S,
+}
+
+impl<S: LineSink> Model for Gathering<S> {
+    ghost use Rattle.lx_listing.specs.Gathered.{Gathered, gathered};
+
+    ghost Value = { Gathered S };
+
+    ghost view = { λ s. gathered s.held s.has_failed s.sink };
+}
+
+impl<S: LineSink> Gathering<S> {
+    pub fn new(held: LineBuffer, sink: S) -> Gathering<S>
+        ensures { result ≡ gathered held false sink }
+    {
+        Gathering {
+            held,
+            has_failed: false,
+            sink,
+        }
+    }
+
+    // Puts a block behind what is held, unless it has to go on first; whether it did.
+    fn hold(&mut self, block: &[u8]) -> bool
+        ensures held { result ≡ true → Gathers S.wrote self.old block.now self.new }
+        ensures not { result ≡ false → self.new ≡ self.old }
+    {
+        self.held.push(block)
+    }
+
+    // Hands on what is held.
+    fn pass_on(&mut self) -> Result<(), ReaderFault>
+        ensures gathers { Gathers S.wrote self.old [] self.new }
+        ensures failed { self.new.failed ≡ is_err result }
+        ensures empty { OnOk result (self.new.held ≡ []) }
+        ensures device { IfErr result (λ fault. fault ≡ ReaderFault.Device) }
+    {
+        if self.has_failed {
+            return Err(ReaderFault::Device);
+        }
+        let answer = self.sink.write_lines(self.held.as_slice());
+        self.held.clear();
+        self.has_failed = answer.is_err();
+        answer
+    }
+
+    // Hands a block on, behind which nothing is held.
+    fn write_through(&mut self, block: &[u8]) -> Result<(), ReaderFault>
+        requires empty { self.old.held ≡ [] }
+        ensures ok { OnOk result (Gathers S.wrote self.old block.now self.new) }
+        ensures err { OnErr result (WrotePrefix (Gathers S.wrote) self.old block.now self.new) }
+        ensures device { IfErr result (λ fault. fault ≡ ReaderFault.Device) }
+    {
+        if self.has_failed {
+            return Err(ReaderFault::Device);
+        }
+        let answer = self.sink.write_lines(block);
+        self.has_failed = answer.is_err();
+        answer
+    }
+
+    /// Puts a block behind what is held. A long one goes on at once.
+    pub(crate) fn gather(&mut self, block: &[u8]) -> Result<(), ReaderFault>
+        ensures ok { OnOk result (Gathers S.wrote self.old block.now self.new) }
+        ensures err { OnErr result (WrotePrefix (Gathers S.wrote) self.old block.now self.new) }
+        ensures device { IfErr result (λ fault. fault ≡ ReaderFault.Device) }
+    {
+        if self.hold(block) {
+            return Ok(());
+        }
+        self.pass_on()?;
+        if self.hold(block) {
+            return Ok(());
+        }
+        self.write_through(block)
+    }
+
+    // The line of an item that isn't placed: it is made in the block, or in parts where its text is long.
+    fn gather_line(
+        &mut self,
+        block: &mut Vec<u8>,
+        plan: &Plan,
+        file: u32,
+        item: &FlatItem,
+    ) -> Result<(), ReaderFault>
+        requires file { file < files_of plan.now }
+        requires item { IsItemOf (kinds_of plan.now) (bytes_of plan.now file) item.now }
+        ensures ok { OnOk result (Gathers S.wrote self.old (line_of plan.now file item.now) self.new) }
+        ensures part { IfErr result (λ fault. WrotePart (Gathers S.wrote) self.old fault (line_of plan.now file item.now) self.new) }
+    {
+        let item = item.item();
+        if numbers_of(&item).len > PART {
+            return gather_long(self, block, plan, file, &item);
+        }
+        block.clear();
+        let Ok(()) = push_line(block, plan, file, &item) else {
+            return Err(ReaderFault::Memory);
+        };
+        self.gather(block.as_slice())
+    }
+
+    // The lines of the first items, and of how many: as many as are placed at once, or one that isn't placed.
+    fn gather_some(
+        &mut self,
+        block: &mut Vec<u8>,
+        draft: &mut PlanDraft,
+        plan: &Plan,
+        file: u32,
+        items: &[FlatItem],
+    ) -> Result<usize, ReaderFault>
+        requires some { 0 < length items.now }
+        requires draft { draft.old ≡ plan.now }
+        requires file { file < files_of plan.now }
+        requires items { All (IsItemOf (kinds_of plan.now) (bytes_of plan.now file)) items.now }
+        ensures draft { draft.new ≡ draft.old }
+        ensures some { IfOk result (λ count. 0 < count) }
+        ensures few { IfOk result (λ count. count ≤ length items.now) }
+        ensures ok { IfOk result (λ count. Gathers S.wrote self.old (lines_of plan.now file (take count items.now)) self.new) }
+        ensures part { IfErr result (λ fault. WrotePart (Gathers S.wrote) self.old fault (lines_of plan.now file items.now) self.new) }
+    {
+        let count = draft.place_lines(&mut self.held, plan, file, items);
+        if count == 0 {
+            self.gather_line(block, plan, file, &items[0])?;
+            return Ok(1);
+        }
+        Ok(count)
+    }
+
+    // The lines of items.
+    fn gather_items(
+        &mut self,
+        block: &mut Vec<u8>,
+        draft: &mut PlanDraft,
+        plan: &Plan,
+        file: u32,
+        items: &[FlatItem],
+    ) -> Result<(), ReaderFault>
+        requires draft { draft.old ≡ plan.now }
+        requires file { file < files_of plan.now }
+        requires items { All (IsItemOf (kinds_of plan.now) (bytes_of plan.now file)) items.now }
+        ensures draft { draft.new ≡ draft.old }
+        ensures ok { OnOk result (Gathers S.wrote self.old (lines_of plan.now file items.now) self.new) }
+        ensures part { IfErr result (λ fault. WrotePart (Gathers S.wrote) self.old fault (lines_of plan.now file items.now) self.new) }
+    {
+        let mut done = 0;
+        while done < items.len() {
+            done += self.gather_some(block, draft, plan, file, &items[done..])?;
+        }
+        Ok(())
+    }
+
+    /// Hands on what is held, and gives back where the lines went.
+    pub fn finish(self) -> (S, Result<(), ReaderFault>)
+        ensures { Gathers S.wrote self [] (gathered [] (is_err result.1) result.0) }
+    {
+        let mut gathering = self;
+        let answer = gathering.pass_on();
+        let Gathering {
+            held: _held,
+            has_failed: _has_failed,
+            sink,
+        } = gathering;
+        (sink, answer)
+    }
+}
+
+impl<S: LineSink> LineSink for Gathering<S> {
+    ghost use Rattle.lx_listing.specs.Gathered.{Gathers};
+    ghost use Rattle.lx_listing.specs.GatheredLaws.{gathers_nothing, gathers_on};
+
+    ghost wrote = { Gathers S.wrote };
+
+    fn write_lines(&mut self, block: &[u8]) -> Result<(), ReaderFault> {
+        self.gather(block)
+    }
+
+    fn write_items(
+        &mut self,
+        block: &mut Vec<u8>,
+        draft: &mut PlanDraft,
+        plan: &Plan,
+        file: u32,
+        items: &[FlatItem],
+    ) -> Result<(), ReaderFault> {
+        self.gather_items(block, draft, plan, file, items)
+    }
+
+    ghost wrote_nothing = { gathers_nothing S.wrote S.wrote_nothing };
+
+    ghost wrote_on = { gathers_on S.wrote S.wrote_on };
+}

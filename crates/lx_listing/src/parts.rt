@@ -1,0 +1,75 @@
+//! Lines of which the text is long, gathered in parts, so that no block holds all of it.
+
+ghost use Rattle.std.specs.Prelude.{◌≡◌, ◌+◌, ◌*◌, ◌<◌, ◌≤◌, IfErr, OnOk, OnErr, length};
+ghost use Rattle.std.specs.List.{flat_map};
+ghost use Rattle.lx_scan.specs.ItemParts.{IsItemOf};
+ghost use Rattle.lx_piece.specs.Plans.{bytes_of, files_of, kinds_of};
+ghost use Rattle.lx_listing.specs.Gathered.{Gathers};
+ghost use Rattle.lx_listing.specs.Lines.{escaped, line_of};
+ghost use Rattle.lx_listing.specs.Parts.{WrotePart};
+ghost use Rattle.lx_listing.specs.Printing.{WrotePrefix};
+
+use crate::gathering::Gathering;
+use crate::sink::LineSink;
+use lx_line::{place_any_text, push_fields};
+use lx_piece::{Plan, ReaderFault};
+use lx_scan::Item;
+
+/// A text that is longer is placed so many bytes at a time, in memory for four times as many and 16.
+pub(crate) const PART: usize = 4_096;
+
+const ROOM: usize = 16_400;
+
+// Gathers a part of a text, with what is escaped in it.
+fn gather_part<S: LineSink>(
+    sink: &mut Gathering<S>,
+    room: &mut [u8],
+    text: &[u8],
+) -> Result<(), ReaderFault>
+    requires { 4 * length text.now + 16 ≤ length room.old }
+    ensures ok { OnOk result (Gathers S.wrote sink.old (flat_map escaped text.now) sink.new) }
+    ensures err { OnErr result (WrotePrefix (Gathers S.wrote) sink.old (flat_map escaped text.now) sink.new) }
+    ensures device { IfErr result (λ fault. fault ≡ ReaderFault.Device) }
+{
+    let end = place_any_text(room, 0, text);
+    sink.gather(&room[..end])
+}
+
+// Gathers a text, with what is escaped in it. It asks for no memory, so that none can be refused within a line.
+fn gather_text<S: LineSink>(sink: &mut Gathering<S>, text: &[u8]) -> Result<(), ReaderFault>
+    ensures ok { OnOk result (Gathers S.wrote sink.old (flat_map escaped text.now) sink.new) }
+    ensures err { OnErr result (WrotePrefix (Gathers S.wrote) sink.old (flat_map escaped text.now) sink.new) }
+    ensures device { IfErr result (λ fault. fault ≡ ReaderFault.Device) }
+{
+    let mut room = [0; ROOM];
+    let mut done = 0;
+    while done < text.len() {
+        let end = done + PART.min(text.len() - done);
+        gather_part(sink, &mut room, &text[done..end])?;
+        done = end;
+    }
+    Ok(())
+}
+
+// Gathers the line of an item, its text in parts.
+pub(crate) fn gather_long<S: LineSink>(
+    sink: &mut Gathering<S>,
+    block: &mut Vec<u8>,
+    plan: &Plan,
+    file: u32,
+    item: &Item,
+) -> Result<(), ReaderFault>
+    requires file { file < files_of plan.now }
+    requires item { IsItemOf (kinds_of plan.now) (bytes_of plan.now file) item.now }
+    ensures ok { OnOk result (Gathers S.wrote sink.old (line_of plan.now file item.now) sink.new) }
+    ensures part { IfErr result (λ fault. WrotePart (Gathers S.wrote) sink.old fault (line_of plan.now file item.now) sink.new) }
+{
+    block.clear();
+    let Ok(()) = push_fields(block, plan, file, item) else {
+        return Err(ReaderFault::Memory);
+    };
+    sink.gather(block.as_slice())?;
+    gather_text(sink, item.text(plan.bytes(file)))?;
+    sink.gather(b"\n")?;
+    Ok(())
+}

@@ -1,0 +1,174 @@
+//! The listing of a plan's files, by workers or on the calling thread.
+
+ghost use Rattle.std.specs.Prelude.{◌≡◌, ◌<◌, ◌≤◌, OnOk, OnErr};
+ghost use Rattle.std.specs.Io.KnownBytes.{Appends};
+ghost use Rattle.lx_piece.specs.Plans.{max_workers};
+ghost use Rattle.lx_listing.specs.Appending.{AppendsPrefix};
+ghost use Rattle.lx_listing.specs.Listings.{listing_of};
+ghost use Rattle.lx_listing.specs.Printing.{WrotePrefix};
+
+use crate::direct::write_files;
+use crate::gathering::Gathering;
+use crate::printer::Printer;
+use crate::sink::{Lent, LineSink};
+use crate::spares::Shared;
+use lx_line::LineBuffer;
+use lx_piece::{InOrder, Plan, ReaderFault};
+use lx_post::{OpenGate, RunFault, scan_made};
+use crate::{LineMaker, Spares};
+use crate::LineWrites;
+use std::alloc::Global;
+use std::io::Write;
+use std::sync::Wait;
+use std::thread::Threads;
+
+// Writes the lines of the plan's files on this thread.
+fn print_to<S: LineSink + Drop>(alloc: Global, plan: &Plan, sink: S) -> (S, Result<(), RunFault>)
+    ensures ok { OnOk result.1 (S.wrote sink (listing_of plan.now) result.0) }
+    ensures part { WrotePrefix S.wrote sink (listing_of plan.now) result.0 }
+{
+    let mut sink = sink;
+    let answer = match write_files(alloc, plan, &mut sink) {
+        Ok(()) => Ok(()),
+        Err(ReaderFault::Memory) => Err(RunFault::Memory),
+        Err(ReaderFault::Device) => Err(RunFault::Reader),
+    };
+    (sink, answer)
+}
+
+// Hands a new printer all pieces of the plan, as workers cut them. It comes back, so that what a lent writer holds in the end is known.
+fn scan_all_to<T: Threads + Wait + Sync, Y: Spares + Copy + Drop + Sync, S: LineSink + Drop>(
+    rt: &T,
+    alloc: Global,
+    plan: &Plan,
+    workers: u8,
+    maker: LineMaker<Y>,
+    printer: Printer<Y, S>,
+) -> (Printer<Y, S>, Result<(), RunFault>)
+    requires some_workers { 0 < workers }
+    requires few_workers { workers ≤ max_workers }
+    requires plan { printer.draft ≡ plan.now }
+    requires file { printer.file ≡ 0 }
+    requires number { printer.number ≡ 0 }
+    ensures ok { OnOk result.1 (S.wrote printer.sink (listing_of plan.now) result.0.sink) }
+    ensures part { WrotePrefix S.wrote printer.sink (listing_of plan.now) result.0.sink }
+{
+    match InOrder::<LineMaker<Y>, Printer<Y, S>>::new(alloc, plan, printer) {
+        Ok(order) => {
+            let (order, answer) = scan_made(rt, alloc, plan, workers, &OpenGate, maker, order);
+            (order.into_taker(), answer)
+        }
+        Err(refused) => (refused.value, Err(RunFault::Memory)),
+    }
+}
+
+// Has workers hand all pieces of the plan to a new printer.
+fn scan_to<T: Threads + Wait + Sync, S: LineSink + Drop>(
+    rt: &T,
+    alloc: Global,
+    plan: &Plan,
+    workers: u8,
+    sink: S,
+) -> (S, Result<(), RunFault>)
+    requires some_workers { 0 < workers }
+    requires few_workers { workers ≤ max_workers }
+    ensures ok { OnOk result.1 (S.wrote sink (listing_of plan.now) result.0) }
+    ensures part { WrotePrefix S.wrote sink (listing_of plan.now) result.0 }
+{
+    let Ok(spares) = Shared::new(alloc) else {
+        return (sink, Err(RunFault::Memory));
+    };
+    let printer = Printer::new(alloc, plan, &spares, sink);
+    let maker = LineMaker::new(alloc, &spares);
+    let (printer, answer) = scan_all_to(rt, alloc, plan, workers, maker, printer);
+    (printer.into_sink(), answer)
+}
+
+// Has the pieces of the plan handed to a new printer: by workers, or with none on the calling thread.
+fn list_to<T: Threads + Wait + Sync, S: LineSink + Drop>(
+    rt: &T,
+    alloc: Global,
+    plan: &Plan,
+    workers: u8,
+    sink: S,
+) -> (S, Result<(), RunFault>)
+    requires { workers ≤ max_workers }
+    ensures ok { OnOk result.1 (S.wrote sink (listing_of plan.now) result.0) }
+    ensures part { WrotePrefix S.wrote sink (listing_of plan.now) result.0 }
+{
+    if workers == 0 {
+        print_to(alloc, plan, sink)
+    } else {
+        scan_to(rt, alloc, plan, workers, sink)
+    }
+}
+
+// The same, where the lines are gathered before they go on. What is held in the end goes on behind a fault too, unless the writer failed.
+fn list_gathered<T: Threads + Wait + Sync, S: LineSink + Drop>(
+    rt: &T,
+    alloc: Global,
+    plan: &Plan,
+    workers: u8,
+    sink: S,
+) -> (S, Result<(), RunFault>)
+    requires { workers ≤ max_workers }
+    ensures ok { OnOk result.1 (S.wrote sink (listing_of plan.now) result.0) }
+    ensures part { WrotePrefix S.wrote sink (listing_of plan.now) result.0 }
+{
+    let Ok(held) = LineBuffer::new(alloc) else {
+        return (sink, Err(RunFault::Memory));
+    };
+    let (gathering, answer) = list_to(rt, alloc, plan, workers, Gathering::new(held, sink));
+    let (sink, rest) = gathering.finish();
+    match rest {
+        Ok(()) => (sink, answer),
+        Err(_) => (sink, Err(RunFault::Reader)),
+    }
+}
+
+/// Writes the listing of a plan's files, the lines of each file in order and the files in order: 1 to 8 workers scan them, or with none the
+/// calling thread does. Each line is written by itself, or many are gathered and written at once. After a fault a prefix of the listing was
+/// written.
+pub fn list_plan<T: Threads + Wait + Sync, W: Write>(
+    rt: &T,
+    alloc: Global,
+    plan: &Plan,
+    workers: u8,
+    writes: LineWrites,
+    out: &mut W,
+) -> Result<(), RunFault>
+    requires { workers ≤ max_workers }
+    ensures ok { OnOk result (Appends (W.contents out.old) (W.contents out.new) (listing_of plan.now)) }
+    ensures err { OnErr result (AppendsPrefix (W.contents out.old) (W.contents out.new) (listing_of plan.now)) }
+{
+    let sink = Lent { writes, out };
+    let (sink, answer) = match writes {
+        LineWrites::EachLine => list_to(rt, alloc, plan, workers, sink),
+        LineWrites::Whole => list_gathered(rt, alloc, plan, workers, sink),
+    };
+    // taken apart, so that what the writer holds in the end is known
+    let Lent {
+        writes: _writes,
+        out: _out,
+    } = sink;
+    answer
+}
+
+/// Writes the listing of a plan's files on one thread, the lines of each file in order and the files in order, each line in a write of its
+/// own. After a fault a prefix of it was written.
+pub fn print_listing<W: Write>(alloc: Global, plan: &Plan, out: &mut W) -> Result<(), RunFault>
+    ensures ok { OnOk result (Appends (W.contents out.old) (W.contents out.new) (listing_of plan.now)) }
+    ensures err { OnErr result (AppendsPrefix (W.contents out.old) (W.contents out.new) (listing_of plan.now)) }
+{
+    let sink = Lent {
+        writes: LineWrites::EachLine,
+        out,
+    };
+    let (sink, answer) = print_to(alloc, plan, sink);
+    // taken apart, so that what the writer holds in the end is known
+    let Lent {
+        writes: _writes,
+        out: _out,
+    } = sink;
+    answer
+}

@@ -1,0 +1,92 @@
+//! The lines of what a piece carries.
+
+ghost use Rattle.std.specs.Prelude.{◌≡◌, ◌<◌, All, IfErr, OnOk};
+ghost use Rattle.lx_scan.specs.ItemParts.{IsItemOf};
+ghost use Rattle.lx_piece.specs.Plans.{bytes_of, files_of, kinds_of};
+ghost use Rattle.lx_listing.specs.Lines.{cut_lines, lines_of};
+ghost use Rattle.lx_listing.specs.Parts.{WrotePart};
+
+use crate::sink::LineSink;
+use lx_line::{PlanDraft, push_cut_line, push_each};
+use lx_piece::{Plan, ReaderFault};
+use lx_scan::Item;
+use crate::{Form, Shown, Spares, emptied};
+use std::alloc::Global;
+
+// Writes the lines of items as they were given. Where memory is refused none was written.
+fn write_given<S: LineSink>(
+    items: &[Item],
+    block: &mut Vec<u8>,
+    plan: &Plan,
+    file: u32,
+    sink: &mut S,
+) -> Result<(), ReaderFault>
+    requires file { file < files_of plan.now }
+    requires items { All (IsItemOf (kinds_of plan.now) (bytes_of plan.now file)) items.now }
+    ensures ok { OnOk result (S.wrote sink.old (lines_of plan.now file items.now) sink.new) }
+    ensures part { IfErr result (λ fault. WrotePart S.wrote sink.old fault (lines_of plan.now file items.now) sink.new) }
+{
+    block.clear();
+    let Ok(()) = push_each(block, plan, file, items) else {
+        return Err(ReaderFault::Memory);
+    };
+    sink.write_lines(block.as_slice())
+}
+
+/// Writes the lines of the items, which are made where the piece doesn't carry them. The result is a block whose memory can be used again.
+pub(crate) fn write_shown<Y: Spares, S: LineSink>(
+    shown: Shown,
+    alloc: Global,
+    spares: &Y,
+    draft: &mut PlanDraft,
+    plan: &Plan,
+    file: u32,
+    sink: &mut S,
+) -> Result<Vec<u8>, ReaderFault>
+    requires draft { draft.old ≡ plan.now }
+    requires plan { shown.plan ≡ plan.now }
+    requires same_file { shown.file ≡ file }
+    requires file { file < files_of plan.now }
+    ensures draft { draft.new ≡ draft.old }
+    ensures ok { OnOk result (S.wrote sink.old (lines_of plan.now file shown.items) sink.new) }
+    ensures part { IfErr result (λ fault. WrotePart S.wrote sink.old fault (lines_of plan.now file shown.items) sink.new) }
+{
+    match shown.into_form() {
+        Form::Bare(items) => {
+            let mut block = emptied(alloc, spares.take_block(file));
+            sink.write_items(&mut block, draft, plan, file, items.as_slice())?;
+            spares.give_list(file, items);
+            Ok(block)
+        }
+        Form::Given(items) => {
+            let mut block = emptied(alloc, spares.take_block(file));
+            write_given(items.as_slice(), &mut block, plan, file, sink)?;
+            Ok(block)
+        }
+        Form::Lines { block, .. } => {
+            sink.write_lines(block.as_slice())?;
+            Ok(block)
+        }
+    }
+}
+
+/// Writes the line of a file whose reading failed, where it did.
+pub(crate) fn write_cut<S: LineSink>(
+    sink: &mut S,
+    block: &mut Vec<u8>,
+    file: u32,
+    cut: bool,
+) -> Result<(), ReaderFault>
+    ensures ok { OnOk result (S.wrote sink.old (cut_lines file cut) sink.new) }
+    ensures part { IfErr result (λ fault. WrotePart S.wrote sink.old fault (cut_lines file cut) sink.new) }
+{
+    if !cut {
+        return Ok(());
+    }
+    block.clear();
+    let Ok(()) = push_cut_line(block, file) else {
+        return Err(ReaderFault::Memory);
+    };
+    sink.write_lines(block.as_slice())?;
+    Ok(())
+}

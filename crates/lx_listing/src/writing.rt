@@ -1,0 +1,79 @@
+//! Blocks of lines, written at once or line by line.
+
+ghost use Rattle.std.specs.Prelude.{◌≡◌, ◌<◌, ◌≤◌, IfErr, OnOk, OnErr, length};
+ghost use Rattle.std.specs.Io.KnownBytes.{Appends};
+ghost use Rattle.lx_listing.specs.Appending.{AppendsPrefix};
+
+use lx_piece::ReaderFault;
+use std::io::Write;
+
+/// How a block of lines is written.
+#[derive(Clone, Copy, Debug, PartialEq, Eq)]
+pub enum LineWrites {
+    /// Each line in a write of its own.
+    EachLine,
+    /// The whole block in one write.
+    Whole,
+}
+
+// Writes bytes in one write, or in further ones for the rest of what was taken in part. A write of 0 bytes or
+// an error is a fault, behind which a prefix was written.
+fn write_bytes<W: Write>(out: &mut W, bytes: &[u8]) -> Result<(), ReaderFault>
+    ensures ok { OnOk result (Appends (W.contents out.old) (W.contents out.new) bytes.now) }
+    ensures err { OnErr result (AppendsPrefix (W.contents out.old) (W.contents out.new) bytes.now) }
+    ensures device { IfErr result (λ fault. fault ≡ ReaderFault.Device) }
+{
+    let mut done = 0;
+    while done < bytes.len() {
+        match out.write(&bytes[done..]) {
+            Ok(0) => return Err(ReaderFault::Device),
+            Ok(n) => done += n,
+            Err(_) => return Err(ReaderFault::Device),
+        }
+    }
+    Ok(())
+}
+
+// The place behind the line that begins here.
+fn line_end(block: &[u8], from: usize) -> usize
+    requires { from < length block.now }
+    ensures later { from < result }
+    ensures within { result ≤ length block.now }
+{
+    let mut end = from;
+    while end + 1 < block.len() && block[end] != b'\n' {
+        end += 1;
+    }
+    end + 1
+}
+
+// Writes a block, each line in a write of its own.
+fn write_each<W: Write>(out: &mut W, block: &[u8]) -> Result<(), ReaderFault>
+    ensures ok { OnOk result (Appends (W.contents out.old) (W.contents out.new) block.now) }
+    ensures err { OnErr result (AppendsPrefix (W.contents out.old) (W.contents out.new) block.now) }
+    ensures device { IfErr result (λ fault. fault ≡ ReaderFault.Device) }
+{
+    let mut done = 0;
+    while done < block.len() {
+        let end = line_end(block, done);
+        write_bytes(out, &block[done..end])?;
+        done = end;
+    }
+    Ok(())
+}
+
+/// Writes a block of lines. Behind a fault a prefix of it was written.
+pub fn write_block<W: Write>(
+    out: &mut W,
+    writes: LineWrites,
+    block: &[u8],
+) -> Result<(), ReaderFault>
+    ensures ok { OnOk result (Appends (W.contents out.old) (W.contents out.new) block.now) }
+    ensures err { OnErr result (AppendsPrefix (W.contents out.old) (W.contents out.new) block.now) }
+    ensures device { IfErr result (λ fault. fault ≡ ReaderFault.Device) }
+{
+    match writes {
+        LineWrites::EachLine => write_each(out, block),
+        LineWrites::Whole => write_bytes(out, block),
+    }
+}
