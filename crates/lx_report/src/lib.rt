@@ -2,11 +2,22 @@
 #![tactic(auto)]
 
 pub mod bytes;
+mod errors;
 pub mod finding;
 pub mod lines;
+mod ordering;
+mod pieces;
+mod repeated;
 pub mod sarif;
+mod sarif_report;
+pub mod saying;
+pub mod style;
+mod warnings;
 
 pub use bytes::{push_number, push_shown};
+pub use crate::sarif_report::sarif_of;
+pub use crate::saying::{Said, report_of};
+pub use crate::style::Style;
 pub use finding::{Finding, Place, Severity};
 pub use lines::{push_finding, push_marked};
 pub use sarif::{push_result, push_sarif_end, push_sarif_start};

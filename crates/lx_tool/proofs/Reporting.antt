@@ -3,7 +3,7 @@ use Rattle.std.proofs.Common.{ℕ, zero, suc, ◌≡◌, ◌<◌, Bool, true, fa
 use Rattle.lx_check.specs.Findings.{IfAccepted}
 use Rattle.lx_check.specs.declared.report.Report.{Report}
 use Rattle.lx_check.specs.declared.report.Report.TheVariants as report
-use Rattle.lx_findings.specs.Said.{BeginsWithWarning, TellsWarnings}
+use Rattle.lx_report.specs.Said.{BeginsWithWarning, TellsWarnings}
 use Rattle.lx_warnings.specs.Kinds.{has_kind}
 use Rattle.lx_warnings.specs.declared.kinds.KindSet.{KindSet}
 use Rattle.lx_cli.specs.CommandLine.{PlainCheck}

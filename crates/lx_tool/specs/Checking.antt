@@ -7,7 +7,7 @@ use Rattle.lx_check.specs.Findings.{IfAccepted, IsVerdict, TellsChosen}
 use Rattle.lx_check.specs.Further.{AreFindings, IfRefused}
 use Rattle.lx_check.specs.declared.report.Report.{Report}
 use Rattle.lx_check.specs.declared.report.Report.TheVariants as report
-use Rattle.lx_findings.specs.Said.{BeginsWithWarning, TellsNoWarning, TellsVerdict}
+use Rattle.lx_report.specs.Said.{BeginsWithWarning, TellsNoWarning, TellsVerdict}
 use Rattle.lx_piece.specs.Plans.{PlainInput}
 use Rattle.lx_warnings.specs.Kinds.{is_usual}
 use Rattle.lx_warnings.specs.Names.{name_text}

@@ -3,7 +3,7 @@
 ghost use Rattle.std.specs.Prelude.{◌≡◌, ◌<◌, ◌⊎◌, ◌++◌, ⊤, [], IfOk, IfErr, IfSome, OnOk, Some, codes, true, false, if◌then◌else◌};
 ghost use Rattle.std.specs.Str.{bytes_eq};
 ghost use Rattle.lx_check.specs.Findings.{IfAccepted, IsVerdict, TellsChosen};
-ghost use Rattle.lx_findings.specs.Said.{TellsVerdict, TellsWarnings};
+ghost use Rattle.lx_report.specs.Said.{TellsVerdict, TellsWarnings};
 ghost use Rattle.lx_warnings.specs.Kinds.{has_kind};
 ghost use Rattle.lx_cli.specs.CommandLine.{plain_check, check as check-asked};
 ghost use Rattle.lx_tool.specs.Checking.{IsAccepted, IsAcceptedText, IsReported, IsReportOf, IsWarningFault, TellsAccepted, has_error};
@@ -15,7 +15,7 @@ use crate::given::read_whole;
 use crate::output::write_text;
 use crate::source::Sources;
 use lx_check::{Report, check};
-use lx_findings::{Said, Style, report_of, sarif_of};
+use lx_report::{Said, Style, report_of, sarif_of};
 use lx_warnings::{KindSet, kind_named};
 use lx_cli::{CheckWords, VERSION};
 use std::alloc::{AllocError, Global};

@@ -1,0 +1,125 @@
+//! Faults of a specification, as lines.
+
+ghost use Rattle.std.specs.Prelude.{◌≡◌, OnOk};
+ghost use Rattle.lx_diagnose.specs.Causes as diagnose;
+ghost use Rattle.lx_diagnose.specs.CodeWords.{word_of};
+ghost use Rattle.lx_report.specs.Said.{Extends, TellsFault, code_of, line_of};
+
+use crate::pieces::{place_of, push_line, push_note, push_source};
+use crate::style::Style;
+use lx_check::Finding;
+use lx_diagnose::{Diagnosis, code_word, diagnose, hint, note_words, sentence};
+use lx_diagnose::{to_do, words_of};
+use crate::{Place, Severity};
+use lx_spec::SpecFault;
+use std::alloc::{AllocError, Global};
+
+// What stands behind the line of a fault: the line of the source, what to do, and the second place that belongs to the fault.
+fn push_details(
+    alloc: Global,
+    text: &mut Vec<u8>,
+    style: &Style<'_>,
+    source: &[u8],
+    diagnosis: &Diagnosis,
+) -> Result<(), AllocError>
+    ensures { OnOk result (Extends text.old.items text.new.items) }
+{
+    push_source(alloc, text, source, &diagnosis.place)?;
+    push_note(
+        text,
+        style.file,
+        place_of(&diagnosis.place),
+        hint(diagnosis.cause).as_bytes(),
+    )?;
+    match &diagnosis.note {
+        Some(place) => {
+            let words = note_words(diagnosis.cause);
+            push_note(text, style.file, place_of(place), words.as_bytes())
+        }
+        None => Ok(()),
+    }
+}
+
+// The line of a fault.
+fn push_fault_line(
+    alloc: Global,
+    text: &mut Vec<u8>,
+    style: &Style<'_>,
+    source: &[u8],
+    diagnosis: &Diagnosis,
+    fault: SpecFault,
+) -> Result<(), AllocError>
+    requires code { diagnose.code_of diagnosis.now.cause ≡ fault.code }
+    requires line { diagnosis.now.place.line ≡ fault.line }
+    ensures { OnOk result (TellsFault style.now.file.now (word_of fault.code) fault.line text.old.items text.new.items) }
+{
+    let words = sentence(alloc, diagnosis, source)?;
+    push_line(
+        text,
+        style.file,
+        Severity::Error,
+        place_of(&diagnosis.place),
+        code_word(diagnosis.cause).as_bytes(),
+        &words,
+        b"",
+    )
+}
+
+// A fault of the text, with what belongs to it.
+fn push_fault(
+    alloc: Global,
+    text: &mut Vec<u8>,
+    style: &Style<'_>,
+    source: &[u8],
+    fault: SpecFault,
+) -> Result<(), AllocError>
+    ensures { OnOk result (TellsFault style.now.file.now (word_of fault.code) fault.line text.old.items text.new.items) }
+{
+    let diagnosis = diagnose(alloc, source, fault)?;
+    push_fault_line(alloc, text, style, source, &diagnosis, fault)?;
+    if style.quiet {
+        return Ok(());
+    }
+    push_details(alloc, text, style, source, &diagnosis)
+}
+
+// That a specification is too large, which is a fault without a line.
+fn push_too_large(text: &mut Vec<u8>, style: &Style<'_>, code: &str) -> Result<(), AllocError>
+    ensures { OnOk result (TellsFault style.now.file.now code.now 0 text.old.items text.new.items) }
+{
+    let nowhere = Place {
+        line: 0,
+        column: 0,
+        width: 0,
+    };
+    push_line(
+        text,
+        style.file,
+        Severity::Error,
+        nowhere,
+        code.as_bytes(),
+        words_of(code).as_bytes(),
+        b"",
+    )?;
+    if style.quiet {
+        return Ok(());
+    }
+    push_note(text, style.file, nowhere, to_do(code).as_bytes())
+}
+
+/// A finding of a text that is refused.
+pub(crate) fn push_error(
+    alloc: Global,
+    text: &mut Vec<u8>,
+    style: &Style<'_>,
+    source: &[u8],
+    finding: Finding,
+) -> Result<(), AllocError>
+    ensures { OnOk result (TellsFault style.now.file.now (code_of finding) (line_of finding) text.old.items text.new.items) }
+{
+    match finding {
+        Finding::Specification(fault) => push_fault(alloc, text, style, source, fault),
+        Finding::TooManyPositions => push_too_large(text, style, "E30"),
+        Finding::TooManySets => push_too_large(text, style, "E31"),
+    }
+}

@@ -1,0 +1,154 @@
+//! What is said of a specification, as SARIF 2.1.0.
+
+use crate::ordering::{Entry, Rest, rest_of};
+use crate::pieces::{place_of, push};
+use crate::saying::Said;
+use crate::style::Style;
+use crate::warnings::warnings_in;
+use lx_check::{Accepted, Finding as Fault, Report};
+use lx_diagnose::{code_word, diagnose, name_of as name_of_cause, sentence};
+use lx_diagnose::words_of;
+use crate::{Finding, Place, Severity, push_result, push_sarif_end, push_sarif_start};
+use lx_spec::SpecFault;
+use lx_warnings::{Warning, name_of};
+use std::alloc::{AllocError, Global};
+
+fn push_fault_result(
+    alloc: Global,
+    text: &mut Vec<u8>,
+    style: &Style<'_>,
+    source: &[u8],
+    fault: SpecFault,
+) -> Result<(), AllocError> {
+    let diagnosis = diagnose(alloc, source, fault)?;
+    let words = sentence(alloc, &diagnosis, source)?;
+    let finding = Finding {
+        severity: Severity::Error,
+        place: place_of(&diagnosis.place),
+        code: code_word(diagnosis.cause).as_bytes(),
+        words: &words,
+        name: name_of_cause(diagnosis.cause).as_bytes(),
+    };
+    push_result(text, style.file, &finding)
+}
+
+fn push_large_result(text: &mut Vec<u8>, style: &Style<'_>, code: &str) -> Result<(), AllocError> {
+    let finding = Finding {
+        severity: Severity::Error,
+        place: Place {
+            line: 0,
+            column: 0,
+            width: 0,
+        },
+        code: code.as_bytes(),
+        words: words_of(code).as_bytes(),
+        name: b"",
+    };
+    push_result(text, style.file, &finding)
+}
+
+fn push_error_result(
+    alloc: Global,
+    text: &mut Vec<u8>,
+    style: &Style<'_>,
+    source: &[u8],
+    fault: Fault,
+) -> Result<(), AllocError> {
+    match fault {
+        Fault::Specification(fault) => push_fault_result(alloc, text, style, source, fault),
+        Fault::TooManyPositions => push_large_result(text, style, "E30"),
+        Fault::TooManySets => push_large_result(text, style, "E31"),
+    }
+}
+
+fn push_warning_result(
+    text: &mut Vec<u8>,
+    style: &Style<'_>,
+    warning: &Warning,
+) -> Result<(), AllocError> {
+    let finding = Finding {
+        severity: Severity::Warning,
+        place: place_of(&warning.place),
+        code: b"",
+        words: &warning.words,
+        name: name_of(warning.kind).as_bytes(),
+    };
+    push_result(text, style.file, &finding)
+}
+
+fn push_entry_result(
+    alloc: Global,
+    text: &mut Vec<u8>,
+    style: &Style<'_>,
+    source: &[u8],
+    rest: &Rest,
+    entry: Entry,
+) -> Result<(), AllocError> {
+    match entry {
+        Entry::Error(fault) => push_error_result(alloc, text, style, source, fault),
+        Entry::Warning(number) => {
+            if number < rest.warnings.told.len() {
+                return push_warning_result(text, style, &rest.warnings.told[number]);
+            }
+            Ok(())
+        }
+    }
+}
+
+// The result is the number of warnings.
+fn push_error_results(
+    alloc: Global,
+    text: &mut Vec<u8>,
+    style: &Style<'_>,
+    source: &[u8],
+    faults: &[Fault],
+) -> Result<usize, AllocError> {
+    let Some((first, more)) = faults.split_first() else {
+        return Ok(0);
+    };
+    push_error_result(alloc, text, style, source, *first)?;
+    let rest = rest_of(alloc, style, source, *first, more)?;
+    for entry in &rest.entries {
+        push(text, b",\n")?;
+        push_entry_result(alloc, text, style, source, &rest, *entry)?;
+    }
+    Ok(rest.warnings.count)
+}
+
+fn push_warning_results(
+    alloc: Global,
+    text: &mut Vec<u8>,
+    style: &Style<'_>,
+    source: &[u8],
+    accepted: &Accepted,
+) -> Result<usize, AllocError> {
+    let warnings = warnings_in(alloc, style, source, accepted)?;
+    for i in 0..warnings.told.len() {
+        // Results stand with commas between them.
+        if 0 < i {
+            push(text, b",\n")?;
+        }
+        push_warning_result(text, style, &warnings.told[i])?;
+    }
+    Ok(warnings.count)
+}
+
+/// What is said of a text of a specification, of which this is the report, as SARIF 2.1.0 by this version of the program. Err: memory was refused.
+pub fn sarif_of(
+    alloc: Global,
+    style: &Style<'_>,
+    version: &[u8],
+    source: &[u8],
+    report: &Report,
+) -> Result<Said, AllocError> {
+    let mut text = Vec::new(alloc);
+    push_sarif_start(&mut text, version)?;
+    let warnings = match report {
+        Report::Refused(faults) => { push_error_results(alloc, &mut text, style, source, faults)? }
+        Report::Accepted(accepted) => {
+            push_warning_results(alloc, &mut text, style, source, accepted)?
+        }
+    };
+    push_sarif_end(&mut text)?;
+    Ok(Said { text, warnings })
+}

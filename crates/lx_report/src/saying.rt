@@ -1,0 +1,142 @@
+//! What is said of a specification, as a report in lines.
+
+ghost use Rattle.std.specs.Prelude.{◌≡◌, [], IfOk, OnOk};
+ghost use Rattle.lx_check.specs.Findings.{IfAccepted};
+ghost use Rattle.lx_report.specs.Said.{Extends, TellsFirst, TellsVerdict, TellsWarnings};
+ghost use Rattle.lx_warnings.specs.Kinds.{has_kind};
+
+use crate::errors::push_error;
+use crate::ordering::{Entry, Rest, rest_of};
+use crate::pieces::{push_count, push_shown_and};
+use crate::style::Style;
+use crate::warnings::{push_accepted, push_warning};
+use lx_check::{Finding, Report};
+use std::alloc::{AllocError, Global};
+
+/// What is said of a specification.
+#[derive(Debug, Drop)]
+pub struct Said {
+    /// The report.
+    pub text: Vec<u8>,
+    /// The number of its warnings.
+    pub warnings: usize,
+}
+
+// An error or a warning behind the first error.
+fn push_entry(
+    alloc: Global,
+    text: &mut Vec<u8>,
+    style: &Style<'_>,
+    source: &[u8],
+    rest: &Rest,
+    entry: Entry,
+) -> Result<(), AllocError>
+    ensures { OnOk result (Extends text.old.items text.new.items) }
+{
+    match entry {
+        Entry::Error(finding) => push_error(alloc, text, style, source, finding),
+        Entry::Warning(number) => {
+            if number < rest.warnings.told.len() {
+                return push_warning(alloc, text, style, source, &rest.warnings.told[number]);
+            }
+            Ok(())
+        }
+    }
+}
+
+// What is told behind the first error.
+fn push_further(
+    alloc: Global,
+    text: &mut Vec<u8>,
+    style: &Style<'_>,
+    source: &[u8],
+    rest: &Rest,
+) -> Result<(), AllocError>
+    ensures { OnOk result (Extends text.old.items text.new.items) }
+{
+    for entry in &rest.entries {
+        push_entry(alloc, text, style, source, rest, *entry)?;
+    }
+    Ok(())
+}
+
+// The number of errors, and that of warnings where there are some.
+fn push_numbers(text: &mut Vec<u8>, errors: usize, warnings: usize) -> Result<(), AllocError>
+    ensures { OnOk result (Extends text.old.items text.new.items) }
+{
+    if warnings == 0 {
+        return push_count(text, errors, b" error\n", b" errors\n");
+    }
+    push_count(text, errors, b" error, ", b" errors, ")?;
+    push_count(text, warnings, b" warning\n", b" warnings\n")
+}
+
+// How many errors and warnings there are.
+fn push_end(
+    text: &mut Vec<u8>,
+    style: &Style<'_>,
+    errors: usize,
+    warnings: usize,
+) -> Result<(), AllocError>
+    ensures { OnOk result (Extends text.old.items text.new.items) }
+{
+    if style.quiet {
+        return Ok(());
+    }
+    push_shown_and(text, style.file, b": ")?;
+    push_numbers(text, errors, warnings)
+}
+
+// What is told behind the first error, and how much that is. The result is the number of warnings.
+fn push_rest(
+    alloc: Global,
+    text: &mut Vec<u8>,
+    style: &Style<'_>,
+    source: &[u8],
+    first: Finding,
+    more: &[Finding],
+) -> Result<usize, AllocError>
+    ensures { IfOk result (λ _. Extends text.old.items text.new.items) }
+{
+    let rest = rest_of(alloc, style, source, first, more)?;
+    push_further(alloc, text, style, source, &rest)?;
+    let warnings = rest.warnings.count;
+    push_end(text, style, rest.errors.saturating_add(1), warnings)?;
+    Ok(warnings)
+}
+
+// The findings of a text that is refused. The result is the number of its warnings.
+fn push_errors(
+    alloc: Global,
+    text: &mut Vec<u8>,
+    style: &Style<'_>,
+    source: &[u8],
+    findings: &[Finding],
+) -> Result<usize, AllocError>
+    ensures { IfOk result (λ _. text.old.items ≡ [] → TellsFirst style.now.file.now findings.now text.new.items) }
+{
+    let Some((first, more)) = findings.split_first() else {
+        return Ok(0);
+    };
+    push_error(alloc, text, style, source, *first)?;
+    push_rest(alloc, text, style, source, *first, more)
+}
+
+/// What is said of a text of a specification, of which this is the report: its faults, each with the line of the source and what to do, between these its
+/// warnings on other lines; or its warnings, how much it has, and the bytes that no rule takes. Err: memory was refused.
+pub fn report_of(
+    alloc: Global,
+    style: &Style<'_>,
+    source: &[u8],
+    report: &Report,
+) -> Result<Said, AllocError>
+    ensures verdict { IfOk result (λ said. TellsVerdict style.now.file.now report.now said.text.items) }
+    ensures warnings { IfOk result (λ said. IfAccepted (λ accepted. TellsWarnings style.now.file.now style.now.quiet (has_kind style.now.asked) said.warnings said.text.items) report.now) }
+{
+    let mut text = Vec::new(alloc);
+    let warnings = match report {
+        Report::Refused(findings) => push_errors(alloc, &mut text, style, source, findings)?,
+        Report::Accepted(accepted) => push_accepted(alloc, &mut text, style, source, accepted)?,
+    };
+    Ok(Said { text, warnings })
+}
