@@ -1,4 +1,4 @@
-//! The program `lx`, over files and the standard streams.
+//! The program `lx` over files and the standard streams.
 #![tactic(auto)]
 
 mod files;

@@ -1,5 +1,4 @@
-//! Automata of specifications: positions, and the subset construction (McNaughton and Yamada 1960, Glushkov 1961, Rabin and Scott
-//! 1959). Their states are merged to the fewest below, and `merge` is handed on.
+//! Builds the automaton of a specification: its positions and the subset construction (McNaughton and Yamada 1960, Glushkov 1961).
 #![tactic(auto)]
 
 mod bare;

@@ -1,5 +1,4 @@
-//! Deterministic automata over classes of bytes (Rabin and Scott 1959), what they answer, and how one is made of lists: what makes an
-//! automaton of a specification, or merges its states, stands above, and so does what reads one.
+//! Deterministic automata over classes of bytes (Rabin and Scott 1959), and the order in which their states are printed.
 #![tactic(auto)]
 
 pub mod automaton;

@@ -12,13 +12,13 @@ ghost use Rattle.std.specs.Prelude.{OnErr, OnOk, [], codes, length, ◌++◌, �
 ghost use Rattle.lx_c.specs.Numbers.{max_first_kind};
 
 use crate::filling::write_filled;
+use crate::kind_name;
 use crate::options::Options;
 use crate::templates::{
     ACTIONS, KINDS, LINE_END, LINE_ENDS, NAMES, NO_LINE_END, NOTHING_PENDING, PENDING, STEP_ARRAY,
     STEPS, STEPS_OF,
 };
 use crate::writing::{write_bytes, write_number, write_number_then, write_numbered, write_parts};
-use crate::kind_name;
 use lx_rules::rule::{Kind, Step};
 use lx_tables::Tables;
 use std::io::{self, Write};

@@ -21,9 +21,9 @@ use crate::filling::write_filled;
 use crate::looping::{first_target, write_begin};
 use crate::options::Options;
 use crate::rows::write_line_begin;
+use crate::rule_word;
 use crate::stepping::{class_target, step_count, target_of, write_numbered_text};
 use crate::writing::{write_bytes, write_number_then, write_numbered};
-use crate::rule_word;
 use lx_tables::Tables;
 use std::io::{self, Write};
 

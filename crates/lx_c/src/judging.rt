@@ -7,10 +7,10 @@ ghost use Rattle.lx_c.specs.declared.fault.KindFault.TheVariants as faults;
 
 use crate::declarations::write_name;
 use crate::fault::KindFault;
+use crate::first_kind;
 use crate::options::Options;
 use crate::words::WORDS;
 use crate::writing::write_bytes;
-use crate::first_kind;
 use lx_tables::Tables;
 use std::alloc::{AllocError, Global};
 use std::io::{self, Write};

@@ -1,4 +1,4 @@
-//! A scanner in C, printed from the tables of a scanner.
+//! Prints a scanner in C from tables.
 #![tactic(auto)]
 
 mod actions;

@@ -11,9 +11,9 @@ ghost use Rattle.std.specs.Prelude.{IfSome, OnErr, OnOk, Some, codes, length, no
 
 use crate::direct_templates::{AT_END, LOOP, LOOP_RULE, RANGES};
 use crate::options::Options;
+use crate::rule_word;
 use crate::stepping::{class_target, leads, one_if, step_count, target_of, write_numbered_text};
 use crate::writing::{write_bytes, write_number_then, write_numbered};
-use crate::rule_word;
 use lx_tables::Tables;
 use std::io::{self, Write};
 

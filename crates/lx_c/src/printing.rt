@@ -12,10 +12,10 @@ use crate::direct::{write_direct, write_marked};
 use crate::direct_templates::{DIRECT_FIRST_LINE, DIRECT_LAST_LINES, MACROS};
 use crate::driver::{CALLS, FURTHER_CALLS, HAS_STEP, HELPERS, NAME_OF_KIND, NAME_OF_NUMBER, WALK};
 use crate::filling::write_filled;
+use crate::first_kind;
 use crate::options::Options;
 use crate::rows::write_automaton;
 use crate::templates::{FIRST_LINE, LAST_LINES};
-use crate::first_kind;
 use lx_tables::Tables;
 use std::io::{self, Write};
 

@@ -1,5 +1,4 @@
-//! Makes one call of a library by its name, or without a word all of them, and prints what they answer. `tests/refuse-memory` refuses memory to
-//! them: a call that answers so is made once more.
+//! Calls a library by the name of a call, so that `tests/refuse-memory` can refuse memory to each.
 #![tactic(auto)]
 
 mod automata;

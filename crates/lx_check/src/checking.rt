@@ -13,14 +13,12 @@ ghost use Rattle.lx_check.specs.Further.{AreFindings, IfRefused};
 use crate::further::{findings_from, too_large};
 use crate::report::{Accepted, Counts, Report};
 use crate::takers::takers_in;
+use crate::{read, tables_of};
 use lx_auto::count_positions;
-use lx_reach::chosen_rules;
 use lx_reach::ruling::chosen_is_by_rules;
-use lx_reach::entered_conditions;
-use lx_reach::Takers;
+use lx_reach::{Takers, chosen_rules, entered_conditions};
 use lx_spec::Spec;
 use lx_tables::Tables;
-use crate::{read, tables_of};
 use std::alloc::{AllocError, Global};
 
 // How much a specification and its tables have.

@@ -6,8 +6,8 @@ ghost use Rattle.lx_check.specs.Verdicts.{SaysTooLarge};
 ghost use Rattle.lx_check.specs.Further.{AreFindings, HasFurther};
 
 use crate::without::without;
-use lx_spec::SpecFault;
 use crate::{Finding, read};
+use lx_spec::SpecFault;
 use std::alloc::{AllocError, Global};
 
 // The most bytes that are read in all.

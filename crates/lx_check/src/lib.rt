@@ -1,4 +1,4 @@
-//! What is to be said of the text of a specification: its faults, or of one that is accepted, which of its rules are chosen.
+//! Checks the text of a specification: finds its faults or, if it is accepted, the rules that are never chosen.
 #![tactic(auto)]
 
 pub mod checking;

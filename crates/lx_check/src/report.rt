@@ -1,9 +1,9 @@
 //! What is to be said of the text of a specification.
 
+use crate::Finding;
 use lx_reach::Takers;
 use lx_spec::Spec;
 use lx_tables::Tables;
-use crate::Finding;
 
 /// How much an accepted text says, and how large its tables are.
 #[derive(Debug, Clone, Copy, PartialEq, Eq)]

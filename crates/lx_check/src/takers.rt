@@ -1,14 +1,14 @@
 //! Which rules take the texts of those that are never chosen.
 
+use crate::without::MAX_SPECIFICATION_BYTES;
+use crate::{read, tables_of};
 use bstr::ByteSlice;
 use lx_reach::{Takers, takers_of};
-use crate::without::MAX_SPECIFICATION_BYTES;
+use lx_spec::Code;
 use lx_spec::parsed_sections::RawRule;
 use lx_spec::rule_line::Prefix;
 use lx_spec::section::read_sections;
-use lx_spec::Code;
 use lx_tables::Tables;
-use crate::{read, tables_of};
 use std::alloc::{AllocError, Global};
 
 // So many rules are looked at, where so many bytes are read at most.

@@ -1,4 +1,4 @@
-//! The command line of `lx`: its words, and what they ask for.
+//! Reads the command line of `lx`.
 #![tactic(auto)]
 
 mod app;

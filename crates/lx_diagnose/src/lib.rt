@@ -1,4 +1,4 @@
-//! Why a specification is refused: from a code and a line to a cause, a place and words.
+//! Explains why a specification is refused: from a code and a line to a cause, a place and words.
 #![tactic(auto)]
 
 mod action_cause;

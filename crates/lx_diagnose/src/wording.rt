@@ -9,8 +9,8 @@ use crate::lines::line_number;
 use crate::phrases::phrase_of;
 use crate::scan::part;
 use crate::topic::topic_of;
-use itoa::Buffer;
 use crate::words_of;
+use itoa::Buffer;
 use std::alloc::{AllocError, Global};
 
 // The most bytes of a name that are shown.

@@ -1,4 +1,4 @@
-//! Extended regular expressions as `lex` of POSIX.1-2017 has them, read from text and kept as trees.
+//! Reads the extended regular expressions of `lex` as trees (POSIX.1-2017, XBD 9.4; XCU `lex`, "Regular Expressions in lex").
 #![tactic(auto)]
 
 mod bracket;

@@ -10,9 +10,9 @@ ghost use Rattle.lx_ere.specs.Pattern.{IsPattern, IsSubstitute};
 ghost use Rattle.lx_ere.specs.PatternGrammar.{IsPatternEnd};
 ghost use Rattle.lx_ere.specs.Lexing.{lexeme_at, body_of, ending_at, Reads};
 
+use crate::expr::{Expr, Pattern};
 use crate::fault::EreFault;
 use crate::groups::{finish, no_groups, step};
-use crate::expr::{Expr, Pattern};
 use crate::lexeme::lexeme_at;
 use crate::prefix::{begins_with, skip};
 use std::alloc::Global;

@@ -1,4 +1,4 @@
-//! Specifications, plans and pieces that the tests and the drivers share.
+//! Specifications, plans and pieces that the tests share.
 #![tactic(auto)]
 
 mod items;

@@ -1,4 +1,4 @@
-//! Specifications for flex, brought over to specifications for `lx`.
+//! Brings specifications of flex over to specifications of `lx`.
 #![tactic(auto)]
 
 mod actions;

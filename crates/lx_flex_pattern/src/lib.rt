@@ -1,4 +1,4 @@
-//! Patterns of flex, read and printed as patterns of `lx` that match the same texts.
+//! Reads the patterns of flex and prints patterns of `lx` that match the same texts.
 #![tactic(auto)]
 
 mod brackets;

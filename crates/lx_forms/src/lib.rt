@@ -1,4 +1,4 @@
-//! Forms of a listing, for other programs: names of files, some kinds alone, no texts, JSON.
+//! Other forms of a listing: names of files, chosen kinds alone, no texts, JSON.
 #![tactic(auto)]
 
 mod choosing;

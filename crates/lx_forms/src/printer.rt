@@ -10,8 +10,7 @@ ghost use Rattle.lx_forms.specs.Views.{form_view};
 use crate::form::Form;
 use crate::lines::refill;
 use lx_listing::LineSink;
-use lx_piece::{Items, KeepItems, Piece, Plan, ReaderFault, Taker};
-use lx_piece::plans_are_well_formed;
+use lx_piece::{Items, KeepItems, Piece, Plan, ReaderFault, Taker, plans_are_well_formed};
 use std::alloc::Global;
 use std::snapshot::Snapshot;
 

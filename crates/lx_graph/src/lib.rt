@@ -1,4 +1,4 @@
-//! The automaton of tables as a graph for Graphviz, in its language DOT.
+//! Prints the automaton of tables as a graph for Graphviz, in DOT.
 #![tactic(auto)]
 
 mod edges;

@@ -1,4 +1,4 @@
-//! Tests of the public calls of the crates that read specifications, make tables and scan, which stand here so that those are proved once.
+//! Tests the public calls that read specifications, make tables and scan.
 #![tactic(auto)]
 
 #[cfg(test)]

@@ -1,4 +1,4 @@
-//! The lines of a listing.
+//! Makes the lines of a listing.
 #![tactic(auto)]
 
 mod buffer;

@@ -1,4 +1,4 @@
-//! The listing: the lines of a plan's files in order, of the pieces that workers cut, or of items that the calling thread finds.
+//! Writes a listing: the lines of all files in order, on one thread or with workers.
 #![tactic(auto)]
 
 mod direct;

@@ -9,10 +9,9 @@ ghost use Rattle.lx_listing.specs.Shown.{shown};
 
 use crate::shown_lines::{write_cut, write_shown};
 use crate::sink::LineSink;
-use lx_line::PlanDraft;
-use lx_piece::{Piece, Plan, ReaderFault, Taker};
-use lx_piece::plans_are_well_formed;
 use crate::{LineMaker, Shown, Spares};
+use lx_line::PlanDraft;
+use lx_piece::{Piece, Plan, ReaderFault, Taker, plans_are_well_formed};
 use std::alloc::Global;
 
 /// Writes the lines of a plan's pieces, which it is handed in the plan's order, with the cut line behind those of a file whose

@@ -7,10 +7,10 @@ ghost use Rattle.lx_listing.specs.Lines.{cut_lines, lines_of};
 ghost use Rattle.lx_listing.specs.Parts.{WrotePart};
 
 use crate::sink::LineSink;
+use crate::{Form, Shown, Spares, emptied};
 use lx_line::{PlanDraft, push_cut_line, push_each};
 use lx_piece::{Plan, ReaderFault};
 use lx_scan::Item;
-use crate::{Form, Shown, Spares, emptied};
 use std::alloc::Global;
 
 // Writes the lines of items as they were given. Where memory is refused none was written.

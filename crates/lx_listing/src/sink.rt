@@ -7,10 +7,10 @@ ghost use Rattle.lx_listing.specs.Lines.{lines_of};
 ghost use Rattle.lx_listing.specs.Parts.{WrotePart};
 ghost use Rattle.lx_listing.specs.Printing.{WrotePrefix};
 
+use crate::{LineWrites, write_block};
 use lx_line::PlanDraft;
 use lx_piece::{Plan, ReaderFault};
 use lx_scan::FlatItem;
-use crate::{LineWrites, write_block};
 use std::io::Write;
 
 /// What takes lines, a block of them at a time.

@@ -1,7 +1,7 @@
 //! The memory that is used again: that of one thread, and that of workers and the printer.
 
-use lx_scan::ItemList;
 use crate::Spares;
+use lx_scan::ItemList;
 use std::alloc::{AllocError, Global};
 use std::cell::Cell;
 use std::hint::spin_loop;

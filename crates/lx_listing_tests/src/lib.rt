@@ -1,5 +1,4 @@
-//! Tests of the public calls of the crate that lists, and of the program over sources and streams of a test's own, which stand here so that it is proved
-//! once.
+//! Tests the public calls of the listing, and the program over sources and streams of its own.
 #![tactic(auto)]
 
 #[cfg(test)]

@@ -5,8 +5,8 @@ ghost use Rattle.lx_minimize.specs.Completion.{total, IsComplete, max_complete_s
 ghost use Rattle.lx_minimize.specs.Partitions.{flag};
 ghost use Rattle.lx_minimize.specs.Sources.{AddsBelow, AreAllListed, AreSourcesOf, AreStatesBelow, ContainPreimage};
 
-use crate::predecessors::Predecessors;
 use crate::Complete;
+use crate::predecessors::Predecessors;
 use std::alloc::{AllocError, Global};
 
 /// All states.

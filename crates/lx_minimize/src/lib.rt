@@ -1,4 +1,4 @@
-//! Automata whose states are merged to the fewest (Moore 1956, Hopcroft 1971). What makes an automaton of a specification stands above.
+//! Merges the states of an automaton to the fewest (Moore 1956, Hopcroft 1971).
 #![tactic(auto)]
 
 mod bounds;
@@ -13,6 +13,6 @@ mod quotient;
 mod split;
 mod worklist;
 
-pub use complete::{Complete, completion_of, step};
 pub use crate::merging::merge;
+pub use complete::{Complete, completion_of, step};
 pub use partition::{Partition, by_labels};

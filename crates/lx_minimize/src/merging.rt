@@ -8,8 +8,8 @@ ghost use Rattle.lx_automaton.specs.Meaning.{IsAutomatonOf};
 
 use crate::quotient::quotient;
 use crate::split::refined;
-use lx_automaton::{Automaton, with_byte_classes};
 use crate::{by_labels, completion_of};
+use lx_automaton::{Automaton, with_byte_classes};
 use std::alloc::{AllocError, Global};
 
 /// The minimal automaton with the same answers, so one of the same specification: no two of its states are equivalent, and each

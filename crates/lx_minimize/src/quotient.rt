@@ -8,8 +8,8 @@ ghost use Rattle.lx_automaton.specs.Leading.{AreAllLedTo};
 ghost use Rattle.lx_minimize.specs.Partitions.{block, block_count, IsSound, IsStable};
 ghost use Rattle.lx_minimize.specs.Quotients.{number_of, AreStates, AreStarts, HaveNoDeadStart, HasDeadStart, AreRowStates, AreLabels, AreTargets};
 
-use lx_automaton::{Automaton, Draft};
 use crate::{Complete, Partition, step};
+use lx_automaton::{Automaton, Draft};
 use std::alloc::{AllocError, Global};
 
 /// The state of the quotient for a state of the automaton.

@@ -6,8 +6,7 @@ ghost use Rattle.lx_piece.specs.Plans.{Planned};
 ghost use Rattle.lx_piece.specs.Arrivals.{IsHonestBy};
 
 use crate::arrivals::Arrivals;
-use crate::Held;
-use crate::{Items, KeepItems, Maker, Piece};
+use crate::{Held, Items, KeepItems, Maker, Piece};
 
 /// Where pieces come from that carry what a maker made of their items, in any order.
 pub trait ArrivalsOf<M: Maker> {

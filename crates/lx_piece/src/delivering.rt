@@ -9,8 +9,7 @@ ghost use Rattle.lx_piece.specs.Delivered.{HoldsPlanned, AreAtMost};
 
 use crate::reader::ReaderFault;
 use crate::reader_of::ReaderOf;
-use crate::{Collector, Reply, Why};
-use crate::{Maker, Piece};
+use crate::{Collector, Maker, Piece, Reply, Why};
 use std::alloc::{AllocError, AllocFailed};
 use thiserror::Error;
 

@@ -10,8 +10,7 @@ ghost use Rattle.lx_piece.specs.Turns.{first_turn};
 ghost use Rattle.lx_piece.specs.declared.reader.ReaderFault.{ReaderFault};
 
 use crate::turn_queue::TurnQueue;
-use crate::{Held, ReaderFault, ReaderOf, Taker};
-use crate::{Maker, Piece, Plan};
+use crate::{Held, Maker, Piece, Plan, ReaderFault, ReaderOf, Taker};
 use std::alloc::{AllocFailed, Global};
 use std::marker::Model;
 

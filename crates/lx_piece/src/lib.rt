@@ -1,4 +1,4 @@
-//! The relay that hands arriving pieces of files to a reader in order, and readers that hand on in the order of the files.
+//! Plans of files, the pieces of their items, and the relay that delivers arriving pieces in order.
 #![tactic(auto)]
 
 mod arrivals;

@@ -10,8 +10,7 @@ ghost use Rattle.lx_piece.specs.Relayed.{AreAllTaken, TakesAllInOrder};
 
 use crate::arrivals_of::ArrivalsOf;
 use crate::relaying::relay_of;
-use crate::{ReaderOf, RelayFault};
-use crate::{Cutter, Maker, Piece, Plan, plans_are_well_formed};
+use crate::{Cutter, Maker, Piece, Plan, ReaderOf, RelayFault, plans_are_well_formed};
 use std::alloc::{AllocError, Global};
 use std::marker::Model;
 

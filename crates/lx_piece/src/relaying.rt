@@ -7,9 +7,9 @@ ghost use Rattle.lx_piece.specs.Relayed.{Relayed, RelayedBy, RelayedInPart, Rela
 
 use crate::arrivals::Arrivals;
 use crate::arrivals_of::ArrivalsOf;
-use crate::{Collector, Reply};
-use crate::{Reader, ReaderOf, RelayFault, deliver_all, offer_to};
-use crate::{KeepItems, Maker, Plan};
+use crate::{
+    Collector, KeepItems, Maker, Plan, Reader, ReaderOf, RelayFault, Reply, deliver_all, offer_to,
+};
 use std::alloc::Global;
 
 /// Offers each arrival, and hands the reader at once what can be delivered. The reader is delivered the pieces

@@ -6,8 +6,8 @@ ghost use Rattle.lx_piece.specs.Arrivals.{cause_among};
 ghost use Rattle.lx_piece.specs.Pieces.{top_number};
 ghost use Rattle.lx_piece.specs.Kept.{BufferStandsFor, held_at, has_number, is_ready, Advances, HoldsPiece, KeepsPiece, closed_before, is_buffer_closed, is_buffer_truncated, fresh_buffer};
 
-use crate::reply::Why;
 use crate::Piece;
+use crate::reply::Why;
 use std::alloc::Global;
 use std::collections::BTreeMap;
 use std::marker::Model;

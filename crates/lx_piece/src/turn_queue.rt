@@ -9,8 +9,7 @@ ghost use Rattle.lx_piece.specs.Waiting.{counted, queued};
 ghost use Rattle.lx_piece.specs.Passing.{PassesOn};
 ghost use Rattle.lx_piece.specs.declared.reader.ReaderFault.{ReaderFault};
 
-use crate::{Held, ReaderFault, Taker, place};
-use crate::{Maker, Piece, Plan};
+use crate::{Held, Maker, Piece, Plan, ReaderFault, Taker, place};
 use std::alloc::{AllocError, AllocFailed, Global};
 use std::collections::VecDeque;
 use std::marker::Model;

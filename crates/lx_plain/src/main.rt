@@ -1,4 +1,4 @@
-//! Lists a file by the rules of a specification with a plain matcher, which has no automaton, and compares all other ways to the items with it.
+//! Lists a file by a plain matcher without an automaton, and compares every other way to the items with it.
 //!
 //! The words are the names of the specification and of the file. Where a way leads to other items it says which, and ends with status 1; what can't
 //! be read, or is refused, has status 2.

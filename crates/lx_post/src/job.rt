@@ -1,8 +1,7 @@
 //! What a worker is given, and what becomes of it.
 
 use crate::run_fault::RunFault;
-use crate::ClaimSeat;
-use crate::{SendPass, TakePass};
+use crate::{ClaimSeat, SendPass, TakePass};
 
 /// With what a worker draws and sends.
 #[derive(Drop)]

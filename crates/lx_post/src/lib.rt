@@ -1,4 +1,4 @@
-//! Files scanned by several threads, whose pieces one thread hands on.
+//! Scans files by several threads: workers draw files and send pieces, one thread delivers them, and none is lost.
 #![tactic(auto)]
 
 mod backoff;

@@ -3,8 +3,7 @@
 ghost use Rattle.std.specs.Prelude.{◌≡◌, ◌<◌, ◌≤◌, ◌↔◌, IsTrue, false};
 
 use crate::backoff::Backoff;
-use lx_piece::Held;
-use lx_piece::MAX_WORKERS;
+use lx_piece::{Held, MAX_WORKERS};
 use std::sync::Wait;
 use std::sync::atomic::{AtomicBool, AtomicU64, Ordering};
 

@@ -5,8 +5,7 @@ ghost use Rattle.lx_post.specs.Posted.{AllEnded};
 use crate::note::Note;
 use crate::post_rule::PassView;
 use crossbeam_queue::Pass;
-use lx_piece::Items;
-use lx_piece::MAX_WORKERS;
+use lx_piece::{Items, MAX_WORKERS};
 use std::marker::Model;
 
 /// The most workers that a run has, as the length of a list.

@@ -1,8 +1,7 @@
 //! What the threads of a run share.
 
 use crate::signals::Signals;
-use crate::Claims;
-use crate::Post;
+use crate::{Claims, Post};
 use lx_piece::{Maker, Plan};
 use std::alloc::Global;
 

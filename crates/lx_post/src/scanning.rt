@@ -6,8 +6,8 @@ ghost use Rattle.lx_piece.specs.Relayed.{TakesAllInOrder};
 ghost use Rattle.lx_post.specs.declared.run_fault.RunFault.{RunFault};
 ghost use Rattle.lx_post.specs.Collected.{IsWhole};
 
-use lx_piece::{KeepItems, Maker, Plan, Reader, ReaderOf};
 use crate::{Gate, RunFault, Unstarted, scan};
+use lx_piece::{KeepItems, Maker, Plan, Reader, ReaderOf};
 use std::alloc::Global;
 use std::sync::Wait;
 use std::thread::Threads;

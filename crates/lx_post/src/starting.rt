@@ -4,10 +4,10 @@ ghost use Rattle.lx_piece.specs.Plans.{max_workers};
 ghost use Rattle.lx_post.specs.Claimed.{AreClaimsOf};
 ghost use Rattle.lx_post.specs.Working.{IsDone, IsIdle, IsOutcome, IsReady};
 
+use crate::Note;
 use crate::gate::Gate;
 use crate::job::{Job, Outcome};
 use crate::run_context::RunContext;
-use crate::Note;
 use lx_piece::Maker;
 use std::snapshot::Snapshot;
 use std::sync::Wait;

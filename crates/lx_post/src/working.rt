@@ -7,8 +7,7 @@ ghost use Rattle.lx_post.specs.Working.{HasDrawn, HasSent, HasWorked, IsGoing, I
 use crate::gate::Gate;
 use crate::job::Job;
 use crate::run_context::RunContext;
-use crate::ClaimSeat;
-use crate::{Note, SendPass, WorkerFault};
+use crate::{ClaimSeat, Note, SendPass, WorkerFault};
 use lx_piece::{Cutter, Maker};
 use std::alloc::AllocError;
 use std::sync::Wait;

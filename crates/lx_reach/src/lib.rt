@@ -1,4 +1,4 @@
-//! Which start conditions of a scanner's tables are entered.
+//! Finds the rules that a scanner can choose, the start conditions that it can enter, and the states that texts lead to.
 #![tactic(auto)]
 
 pub mod ahead;

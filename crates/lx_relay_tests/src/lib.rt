@@ -1,5 +1,4 @@
-//! Tests of the public calls of the crates that cut files into pieces and hand them on, by one thread and by several, which stand here so that those are
-//! proved once.
+//! Tests the public calls that cut files into pieces and deliver them, by one thread and by several.
 #![tactic(auto)]
 
 #[cfg(test)]

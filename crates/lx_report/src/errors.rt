@@ -7,10 +7,9 @@ ghost use Rattle.lx_report.specs.Said.{Extends, TellsFault, code_of, line_of};
 
 use crate::pieces::{place_of, push_line, push_note, push_source};
 use crate::style::Style;
-use lx_check::Finding;
-use lx_diagnose::{Diagnosis, code_word, diagnose, hint, note_words, sentence};
-use lx_diagnose::{to_do, words_of};
 use crate::{Place, Severity};
+use lx_check::Finding;
+use lx_diagnose::{Diagnosis, code_word, diagnose, hint, note_words, sentence, to_do, words_of};
 use lx_spec::SpecFault;
 use std::alloc::{AllocError, Global};
 

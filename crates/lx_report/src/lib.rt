@@ -1,4 +1,4 @@
-//! Findings on a specification as a report: in the form in which C's compilers have theirs, and as SARIF 2.1.0.
+//! Reports what `lx check` finds: as lines in the form of C compilers, as JSON, and as SARIF 2.1.0.
 #![tactic(auto)]
 
 pub mod bytes;
@@ -14,10 +14,10 @@ pub mod saying;
 pub mod style;
 mod warnings;
 
-pub use bytes::{push_number, push_shown};
 pub use crate::sarif_report::sarif_of;
 pub use crate::saying::{Said, report_of};
 pub use crate::style::Style;
+pub use bytes::{push_number, push_shown};
 pub use finding::{Finding, Place, Severity};
 pub use lines::{push_finding, push_marked};
 pub use sarif::{push_result, push_sarif_end, push_sarif_start};

@@ -6,8 +6,8 @@ ghost use Rattle.lx_report.specs.Said.{Extends};
 ghost use Rattle.lx_report.specs.Bytes.{shown_byte};
 ghost use Rattle.lx_report.specs.Lines.{finding_line};
 
-use lx_diagnose::{Place as TextPlace, line_bytes};
 use crate::{Finding, Place, Severity, push_finding, push_marked, push_number, push_shown};
+use lx_diagnose::{Place as TextPlace, line_bytes};
 use std::alloc::{AllocError, Global};
 
 /// Bytes behind a text.

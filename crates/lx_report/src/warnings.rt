@@ -4,10 +4,10 @@ ghost use Rattle.std.specs.Prelude.{◌≡◌, ◌<◌, [], IfOk, OnOk, length, 
 ghost use Rattle.lx_warnings.specs.Kinds.{has_kind};
 ghost use Rattle.lx_report.specs.Said.{Extends, AreAsked, BeginsWithWarning, TellsSummary, TellsWarning, TellsWarnings};
 
+use crate::Severity;
 use crate::pieces::{place_of, push_count, push_line, push_shown_and, push_source};
 use crate::style::Style;
 use lx_check::{Accepted, Counts};
-use crate::Severity;
 use lx_warnings::{Known, Warning, Warnings, name_of, untaken_bytes, warnings_of};
 use std::alloc::{AllocError, Global};
 

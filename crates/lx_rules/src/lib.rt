@@ -1,5 +1,4 @@
-//! What a specification of the scanner generator is (POSIX.1-2017, XCU `lex`): its conditions, definitions, rules and their steps, what
-//! every one keeps, and which rule a scanner chooses. How one is read stands above, and so does what is made of one.
+//! Says what a specification means (POSIX.1-2017, XCU `lex`): its conditions, definitions, rules and steps, and the rule that a scanner chooses.
 #![tactic(auto)]
 
 pub mod active;

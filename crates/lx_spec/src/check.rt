@@ -20,9 +20,9 @@ use crate::parsed_sections::{RawRule, StartCondition};
 use crate::prefix::{are_condition_names, are_declared, condition_number, read_fields};
 use crate::rule_line::Prefix;
 use crate::symbol_table::SymbolTable;
+use lx_ere::expr::Pattern;
 use lx_ere::fault::EreFault;
 use lx_ere::read::{one_reading, read_pattern};
-use lx_ere::expr::Pattern;
 use std::alloc::Global;
 
 /// What the prefix of a rule lists.

@@ -10,9 +10,9 @@ ghost use Rattle.lx_spec.specs.views.Dictionaries.{dictionary_view, AddsTree, Is
 
 use crate::definition_index::DefinitionIndex;
 use crate::graph::Mention;
+use lx_ere::expr::Expr;
 use lx_ere::fault::EreFault;
 use lx_ere::read::read_substitute;
-use lx_ere::expr::Expr;
 use std::alloc::{AllocError, Global};
 
 /// What the definitions read as, in order: nothing where a substitute has no reading; the mentions of definitions by

@@ -1,5 +1,4 @@
-//! Specifications of the scanner generator, read whole: the first fault of a text, or the specification that it says
-//! (POSIX.1-2017, XCU `lex`, "Input Files").
+//! Reads specifications (POSIX.1-2017, XCU `lex`, "Input Files"): the first fault of a text, or the specification that it is.
 #![tactic(auto)]
 
 pub mod action;

@@ -17,9 +17,6 @@ ghost use Rattle.lx_spec.specs.views.Trees.{trees_view};
 ghost use Rattle.lx_spec.specs.Verdict.{Holds, IsFirstFault, cases, symbols_of};
 ghost use Rattle.lx_spec.specs.Whole.{IsFault, IsRead};
 
-use lx_ere::extent::{one_pattern_end, some_pattern_end};
-use lx_ere::read::{one_reading, one_substitute, some_reading};
-use lx_rules::spec::Spec;
 use crate::build::spec_of;
 use crate::definition_faults::definition_faults_of;
 use crate::definition_index::{DefinitionIndex, definition_index_of};
@@ -29,6 +26,9 @@ use crate::parsed_sections::ParsedSections;
 use crate::resolved_rule::{ResolvedRule, resolve_rules};
 use crate::section::read_sections;
 use crate::symbol_table::SymbolTable;
+use lx_ere::extent::{one_pattern_end, some_pattern_end};
+use lx_ere::read::{one_reading, one_substitute, some_reading};
+use lx_rules::spec::Spec;
 use std::alloc::Global;
 
 // The most bytes of a specification.

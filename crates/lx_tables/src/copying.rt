@@ -6,8 +6,8 @@ ghost use Rattle.lx_rules.specs.views.Rules.{names_view};
 ghost use Rattle.lx_tables.specs.Model.{table_rule};
 ghost use Rattle.lx_tables.specs.Views.{rules_view};
 
-use lx_rules::spec::Spec;
 use crate::TableRule;
+use lx_rules::spec::Spec;
 use std::alloc::{AllocError, Global};
 
 /// The names of the kinds.

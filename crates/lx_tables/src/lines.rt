@@ -8,13 +8,13 @@ ghost use Rattle.lx_tables.specs.Lines.{value_of, HasState, targets_text, state_
 ghost use Rattle.lx_tables.specs.Output.{Wrote, WrotePrefix};
 ghost use Rattle.lx_tables.specs.Texts.{number, start_line, kind_line, step_text, line_end_text, range_text, byte_ranges, accepts_text, entries_text, entry_text, class_line};
 
+use crate::Version;
 use crate::byte_values::ByteValues;
 use crate::tables::Tables;
 use crate::writing::{write_bytes, write_numbered, write_parts};
 use itoa::{Buffer, write_digits};
 use lx_automaton::State;
 use lx_rules::rule::{Kind, Step};
-use crate::Version;
 use std::io::{self, Write};
 
 pub(crate) fn write_start<W: Write>(

@@ -9,10 +9,9 @@ ghost use Rattle.lx_tables.specs.Model.{AreTablesOf, IsTable};
 
 use crate::copying::{kinds_of, rules_of};
 use crate::tables::Tables;
-use lx_automaton::Automaton;
+use lx_automaton::{Automaton, accepted_of, classes_of, rows_of, starts_of, state_order_of};
 use lx_rules::spec::Spec;
 use lx_rules::well_formed::specs_are_well_formed;
-use lx_automaton::{accepted_of, classes_of, rows_of, starts_of, state_order_of};
 use std::alloc::{AllocError, Global};
 
 impl Tables {

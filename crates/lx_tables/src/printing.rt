@@ -7,10 +7,10 @@ ghost use Rattle.lx_tables.specs.Lines.{state_line};
 ghost use Rattle.lx_tables.specs.Output.{Wrote, WrotePrefix};
 ghost use Rattle.lx_tables.specs.Texts.{start_line, kind_line, rule_line, front_text, states_text, text_1, text_2};
 
+use crate::Version;
 use crate::lines::{ROW, write_classes, write_kind, write_rule, write_start, write_state};
 use crate::tables::Tables;
 use crate::writing::{write_bytes, write_count};
-use crate::Version;
 use std::io::{self, Write};
 
 fn write_starts<W: Write>(out: &mut W, tables: &Tables) -> Result<(), io::Error>

@@ -9,8 +9,8 @@ ghost use Rattle.lx_tables.specs.Views.{raw_view};
 
 use crate::fault::TableFault;
 use crate::tables::Tables;
-use lx_automaton::Automaton;
 use crate::{RawTables, byte_at, has_limits, read_leniently};
+use lx_automaton::Automaton;
 use std::alloc::{AllocError, Global};
 
 /// Tables of lists that were tested, over byte classes.

@@ -9,10 +9,10 @@ ghost use Rattle.lx_tables.specs.Joined.{IsJoined};
 ghost use Rattle.lx_tables.specs.Model.{Table, IsTable, AreByteClasses, rule_at, kind_at};
 ghost use Rattle.lx_tables.specs.Views.{rules_view};
 
+use crate::TableRule;
 use crate::joined::Joined;
 use lx_automaton::{Automaton, State};
 use lx_rules::rule::Step;
-use crate::TableRule;
 use std::marker::Model;
 
 /// The tables of a scanner: an automaton over byte classes, the kinds of tokens, and of each rule whether it ends with `$` and the

@@ -15,9 +15,9 @@ use crate::given::read_whole;
 use crate::output::write_text;
 use crate::source::Sources;
 use lx_check::{Report, check};
+use lx_cli::{CheckWords, VERSION};
 use lx_report::{Said, Style, report_of, sarif_of};
 use lx_warnings::{KindSet, kind_named};
-use lx_cli::{CheckWords, VERSION};
 use std::alloc::{AllocError, Global};
 use std::io::Write;
 

@@ -19,10 +19,10 @@ use crate::source::Sources;
 use crate::tabling::{specification_of, unjoined_tables_of};
 use crate::target::Targets;
 use lx_auto::BuildFault;
+use lx_cli::{CWords, ImportWords};
 use lx_diagnose::{to_do, words_of};
 use lx_flex::{Fault, Imported, Options, Report, import};
 use lx_tables::Tables;
-use lx_cli::{CWords, ImportWords};
 use std::alloc::{AllocError, Global};
 use std::io::Write;
 

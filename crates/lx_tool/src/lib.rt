@@ -1,4 +1,4 @@
-//! The program `lx`, but for the real files and streams: the listing, the tables and the command line.
+//! The program `lx` without its files and streams: the commands, from the command line to the exit status.
 #![tactic(auto)]
 
 mod asked;
@@ -25,8 +25,8 @@ mod target;
 
 pub use failure::{Failure, OutputFault, PrintFault, RequestFault};
 pub use given::{list_by_specification, list_by_tables};
-pub use lx_listing::{LineWrites, Listing, list_plan, print_listing};
 pub use lx_cli::VERSION;
+pub use lx_listing::{LineWrites, Listing, list_plan, print_listing};
 pub use names::name_bytes;
 pub use output::Output;
 pub use planning::{

@@ -9,10 +9,10 @@ use crate::failure::{Failure, PrintFault};
 use crate::printing::print_asked;
 use crate::target::Targets;
 use lx_c::Options;
+use lx_cli::PrintWords;
 use lx_rules::Spec;
 use lx_rules::rule::{Kind, Rule, Step};
 use lx_tables::Tables;
-use lx_cli::PrintWords;
 use std::alloc::Global;
 use std::io::Write;
 

@@ -14,9 +14,9 @@ ghost use Rattle.lx_tool.specs.Statuses.{status_of};
 use crate::failure::{Failure, PrintFault, RequestFault};
 use crate::target::Targets;
 use lx_c::{KindFault, Options, judge, print_c, print_header};
+use lx_cli::{CWords, PrintWords};
 use lx_rules::{Condition, Spec};
 use lx_tables::Tables;
-use lx_cli::{CWords, PrintWords};
 use std::alloc::{AllocError, Global};
 use std::io::{self, Write};
 

@@ -10,8 +10,7 @@ ghost use Rattle.lx_tool.specs.Tabling.{AreTablesIn, AreTablesOfText, HasNoTable
 use crate::failure::Failure;
 use crate::tabling::{read_tables, specification_of, tables_of_text};
 use lx_auto::BuildFault;
-use lx_diagnose::{Place, diagnose, sentence, table_cause, table_sentence};
-use lx_diagnose::words_of;
+use lx_diagnose::{Place, diagnose, sentence, table_cause, table_sentence, words_of};
 use lx_rules::Spec;
 use lx_spec::SpecFault;
 use lx_tables::Tables;

@@ -15,9 +15,9 @@ use crate::printing::names_of;
 use crate::remarks::{read_tables_named, specification_named};
 use crate::source::Sources;
 use crate::tabling::unjoined_tables_of;
+use lx_cli::ShowWords;
 use lx_graph::graph_of;
 use lx_tables::Tables;
-use lx_cli::ShowWords;
 use std::alloc::Global;
 use std::io::Write;
 

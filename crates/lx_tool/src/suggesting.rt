@@ -1,7 +1,6 @@
 //! Further lines of an error about a word that isn't known: the word that is most like it, and those that there are.
 
-use lx_diagnose::Nearest;
-use lx_diagnose::all_topics;
+use lx_diagnose::{Nearest, all_topics};
 use lx_tables::Tables;
 use lx_warnings::{ALL, name_of};
 use std::alloc::AllocError;

@@ -1,4 +1,4 @@
-//! What is suspicious about a specification that is accepted: warnings by their names, each with its place in the text and its words.
+//! Warns of what is suspicious in an accepted specification: each warning has a name, a place in the text and words.
 #![tactic(auto)]
 
 mod action;

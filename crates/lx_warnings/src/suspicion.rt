@@ -15,8 +15,8 @@ use lx_diagnose::places::between;
 use lx_diagnose::scan::{behind_word, is_listed, part};
 use lx_ere::{EreFault, read_substitute};
 use lx_reach::far_ahead;
-use lx_spec::action::{Action, read_action};
 use lx_spec::Spec;
+use lx_spec::action::{Action, read_action};
 use lx_tables::Tables;
 use std::alloc::{AllocError, Global};
 
