@@ -1,4 +1,4 @@
-//! Which kinds a text chooses: their names and numbers, as they stand in a listing, with commas between.
+//! Chooses kinds by a text: names and numbers of kinds as a listing shows them, with commas between.
 
 ghost use Rattle.std.specs.Prelude.{◌≡◌, ◌≢◌, ◌++◌, [], true, All, OnOk, IfOk, IfErr, decimal, map};
 ghost use Rattle.std.specs.List.{filter, flat_map};
@@ -12,14 +12,14 @@ use lx_rules::rule::{Kind, Step};
 use lx_tables::Tables;
 use std::alloc::{AllocError, Global};
 
-/// Why a text chooses no kinds.
+/// Reason why a text chooses no kinds.
 #[derive(Clone, Copy, Debug, PartialEq, Eq)]
 pub enum ChoiceFault<'a> {
     /// No action of the tables returns a kind with this name or number.
     NoKind(&'a str),
     /// The list is empty, or a word in it is.
     NoName,
-    /// Memory was refused.
+    /// An allocation failed.
     Memory,
 }
 
@@ -34,7 +34,7 @@ impl From<AllocError> for ChoiceFault<'_> {
     }
 }
 
-// Whether a text is one of these.
+// Returns true if a text is one of these words.
 fn is_one_of(words: &[&str], text: &[u8]) -> bool
     ensures { result ≡ is_one_of (map (λ word. word.now) words.now) text.now }
 {
@@ -46,7 +46,7 @@ fn is_one_of(words: &[&str], text: &[u8]) -> bool
     false
 }
 
-// Whether a number, in decimal, is one of these.
+// Returns true if a number, in decimal, is one of these words.
 fn is_number_among(words: &[&str], number: u32) -> bool
     ensures { result ≡ is_one_of (map (λ word. word.now) words.now) (decimal number) }
 {
@@ -54,7 +54,7 @@ fn is_number_among(words: &[&str], number: u32) -> bool
     is_one_of(words, buffer.format(number).as_bytes())
 }
 
-// Puts the numbers that steps return behind the others.
+// Appends the numbers that steps return.
 fn push_numbers(numbers: &mut Vec<u32>, steps: &[Step]) -> Result<(), AllocError>
     ensures { OnOk result (numbers.new.items ≡ numbers.old.items ++ flat_map number_of_step steps.now) }
 {
@@ -66,7 +66,7 @@ fn push_numbers(numbers: &mut Vec<u32>, steps: &[Step]) -> Result<(), AllocError
     Ok(())
 }
 
-// The numbers that actions of the tables return as kinds.
+// Collects the numbers that actions of the tables return as kinds.
 fn numbers_of(alloc: Global, tables: &Tables) -> Result<Vec<u32>, AllocError>
     ensures { IfOk result (λ numbers. numbers.items ≡ numbers_of tables.now) }
 {
@@ -77,7 +77,7 @@ fn numbers_of(alloc: Global, tables: &Tables) -> Result<Vec<u32>, AllocError>
     Ok(numbers)
 }
 
-// Whether a kind with this name is there.
+// Returns true if the tables have a kind with this name.
 fn is_name(tables: &Tables, word: &str) -> bool
     ensures { result ≡ is_one_of tables.now.kinds word.now }
 {
@@ -89,7 +89,7 @@ fn is_name(tables: &Tables, word: &str) -> bool
     false
 }
 
-// Whether a word is one of these numbers in decimal.
+// Returns true if a word is one of these numbers in decimal.
 fn is_number(numbers: &[u32], word: &str) -> bool
     ensures { result ≡ is_one_of (map decimal numbers.now) word.now }
 {
@@ -102,7 +102,7 @@ fn is_number(numbers: &[u32], word: &str) -> bool
     false
 }
 
-// Whether a word is that of echoes, the name of a kind, or the number of one.
+// Returns true if a word is `-` for echoes, the name of a kind, or the number of one.
 fn is_kind_word(tables: &Tables, numbers: &[u32], word: &str) -> bool
     requires { numbers.now ≡ numbers_of tables.now }
     ensures { result ≡ is_kind_word tables.now word.now }
@@ -110,7 +110,7 @@ fn is_kind_word(tables: &Tables, numbers: &[u32], word: &str) -> bool
     word == "-" || is_name(tables, word) || is_number(numbers, word)
 }
 
-// Refuses the first word that is none of these.
+// Rejects the first word that is none of these.
 fn judge_words<'a>(
     tables: &Tables,
     numbers: &[u32],
@@ -128,7 +128,7 @@ fn judge_words<'a>(
     Ok(())
 }
 
-// For each kind with a name, whether it is one of these.
+// Makes a list with an entry for each named kind: true if its name is one of these words.
 fn names_among(alloc: Global, tables: &Tables, words: &[&str]) -> Result<Vec<bool>, AllocError>
     ensures { IfOk result (λ names. names.items ≡ map (is_one_of (map (λ word. word.now) words.now)) tables.now.kinds) }
 {
@@ -139,7 +139,7 @@ fn names_among(alloc: Global, tables: &Tables, words: &[&str]) -> Result<Vec<boo
     Ok(names)
 }
 
-// Those of the numbers that are one of these.
+// Keeps the numbers that are among these words.
 fn numbers_among(alloc: Global, numbers: &[u32], words: &[&str]) -> Result<Vec<u32>, AllocError>
     ensures { IfOk result (λ among. among.items ≡ filter (λ n. is_one_of (map (λ word. word.now) words.now) (decimal n)) numbers.now) }
 {
@@ -152,7 +152,7 @@ fn numbers_among(alloc: Global, numbers: &[u32], words: &[&str]) -> Result<Vec<u
     Ok(among)
 }
 
-// The words of a list, of which there is at least one.
+// Reads the words of a list. There is at least one.
 fn words_of<'a>(alloc: Global, text: &'a str) -> Result<Vec<&'a str>, ChoiceFault<'a>>
     ensures ok { IfOk result (λ words. IsListOf 44 text.now (map (λ word. word.now) words.items) × (words.items ≢ [])) }
     ensures err { IfErr result (λ fault. IsNoWords text.now fault) }
@@ -166,7 +166,7 @@ fn words_of<'a>(alloc: Global, text: &'a str) -> Result<Vec<&'a str>, ChoiceFaul
     }
 }
 
-/// The selection of the items whose kind stands in a listing by one of the words of the text: the names and numbers of kinds, and `-`
+/// Returns the selection of the items whose kind a listing shows by one of the words of the text. The words are names and numbers of kinds, and `-`
 /// for echoes, with a comma between each two.
 pub fn choose<'a>(
     alloc: Global,

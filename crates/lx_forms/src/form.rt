@@ -1,4 +1,4 @@
-//! How a listing is printed.
+//! The form in which a listing is printed.
 
 ghost use Rattle.std.specs.Prelude.{◌≡◌, IsTrue, map};
 ghost use Rattle.lx_forms.specs.Forms.{bare_form, name_of, number_in, passes};
@@ -11,19 +11,19 @@ use lx_scan::Item;
 /// The form of a listing.
 #[derive(Debug, Drop)]
 pub struct Form<'a> {
-    /// The number of the first file; the next one has the next number.
+    /// Number of the first file. The next one has the next number.
     pub first: u32,
-    /// The names of the files, of any bytes, in order, where they stand in the place of numbers. A file after the list has an empty name.
+    /// Names of the files, of any bytes, in order. They replace the numbers. A file after the list has an empty name.
     pub names: Option<&'a [Vec<u8>]>,
-    /// What alone is printed, where that isn't every item. The lines of files whose reading failed always are.
+    /// The selected items, if not every item is printed. The lines of files whose reading failed are always printed.
     pub only: Option<Selection>,
-    /// Whether the texts of items are printed.
+    /// True if the texts of items are printed.
     pub text: bool,
     pub format: Format,
 }
 
 impl<'a> Form<'a> {
-    /// The form without options.
+    /// Returns the form without options.
     pub fn bare() -> Form<'a>
         ensures { form_view result ≡ bare_form }
     {
@@ -36,7 +36,7 @@ impl<'a> Form<'a> {
         }
     }
 
-    /// Whether it is the form without options.
+    /// Returns true only for the form without options.
     pub(crate) fn is_bare(&self) -> bool
         ensures { IsTrue result → form_view self.now ≡ bare_form }
     {
@@ -47,7 +47,7 @@ impl<'a> Form<'a> {
             && self.format == Format::Lines
     }
 
-    /// Whether an item is printed.
+    /// Returns true if the item is printed.
     #[inline(always)]
     #[tactic(auto, unfolding(crate::specs::Forms::passes))]
     pub(crate) fn passes(&self, item: &Item) -> bool
@@ -59,7 +59,7 @@ impl<'a> Form<'a> {
         }
     }
 
-    /// The number of a file.
+    /// Returns the number of a file.
     pub(crate) fn number_of(&self, file: u32) -> u64
         ensures { result ≡ number_in (form_view self.now) file }
     {
@@ -67,7 +67,7 @@ impl<'a> Form<'a> {
     }
 }
 
-/// The name of a file.
+/// Returns the name of a file, which is empty after the list.
 pub(crate) fn name_of(names: &[Vec<u8>], file: u32) -> &[u8]
     ensures { result.now ≡ name_of (map (λ name. name.items) names.now) file }
 {

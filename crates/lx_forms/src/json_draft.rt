@@ -1,4 +1,4 @@
-//! Lines in JSON made behind one another in memory of fixed length.
+//! Makes JSON lines one after the other in memory of fixed length.
 
 ghost use Rattle.std.specs.Prelude.{◌≡◌, ◌+◌, ◌<◌, ◌≤◌, [], ◌∷◌, ◌++◌, ℕ, All, IsTrue, OnOk, false, take, true};
 ghost use Rattle.lx_scan.specs.ItemParts.{IsItemOf};
@@ -20,13 +20,13 @@ use lx_piece::Plan;
 use lx_scan::Item;
 use std::alloc::AllocError;
 
-// A line takes so much room at most: a prefix of 128 bytes, and three numbers, a text in which each byte takes six, and what stands between them.
+// Greatest length of a line. It has a prefix of 128 bytes, three numbers, a text in which each byte takes six, and the bytes between them.
 const LINE: usize = 800;
 
-// So many bytes of lines are made before they go to the block.
+// Number of bytes of lines that are made before they go to the block.
 const DRAFT: usize = 2048;
 
-/// Lines of a file that are being made, and what those that follow can use again.
+/// Lines of a file in the making, and the parts that later lines can reuse.
 #[derive(Drop)]
 pub(crate) struct Draft {
     lines: [u8; 2048],
@@ -38,7 +38,7 @@ pub(crate) struct Draft {
 }
 
 impl Draft {
-    /// No lines.
+    /// Returns a draft without lines.
     #[inline(always)]
     pub(crate) fn new() -> Draft
         ensures empty { result.len ≡ 0 }
@@ -53,7 +53,7 @@ impl Draft {
         }
     }
 
-    // Keeps the digits of the numbers of an item, unless they are too many.
+    // Keeps the digits of an item's numbers. Returns false if there are too many.
     #[inline(always)]
     fn follow(&mut self, numbers: Numbers) -> bool
         ensures line { IsTrue result → IsNear self.new.line.base numbers.line }
@@ -65,8 +65,8 @@ impl Draft {
         self.line.follow(numbers.line) && self.start.follow(numbers.start as u64)
     }
 
-    // Puts the line of an item behind the others. Some lines have to be made the plain way: those whose prefix isn't kept, the long ones,
-    // those of texts near the end of the file, behind which no 16 bytes can be read, and those of texts that aren't UTF-8.
+    // Appends the line of an item. Returns false if it needs the plain way: a line whose prefix isn't kept, a long one, one of a text near the end of
+    // the file, after which 16 bytes can't be read, and one of a text that isn't UTF-8.
     #[inline(always)]
     fn add(&mut self, form: &Form<'_>, plan: &Plan, file: u32, item: &Item) -> bool
         requires room { self.old.len + 800 ≤ 2048 }
@@ -94,7 +94,7 @@ impl Draft {
         true
     }
 
-    /// Hands the lines on to a block.
+    /// Moves the lines to a block.
     #[inline(never)]
     pub(crate) fn move_to(&mut self, block: &mut Vec<u8>) -> Result<(), AllocError>
         ensures moved { OnOk result (block.new.items ≡ block.old.items ++ take self.old.len self.old.lines) }
@@ -106,7 +106,7 @@ impl Draft {
         Ok(())
     }
 
-    // Has room for one more line.
+    // Makes room for one more line.
     #[inline(always)]
     fn make_room(&mut self, block: &mut Vec<u8>) -> Result<(), AllocError>
         ensures same { OnOk result (block.new.items ++ take self.new.len self.new.lines ≡ block.old.items ++ take self.old.len self.old.lines) }
@@ -119,7 +119,7 @@ impl Draft {
         self.move_to(block)
     }
 
-    // Puts the line of an item, made field by field, behind those in the block and here, and keeps its prefix.
+    // Appends the line of an item, made field by field, after the lines in the block and here, and keeps its prefix.
     #[cold]
     #[inline(never)]
     fn push_plain(
@@ -142,7 +142,7 @@ impl Draft {
         Ok(())
     }
 
-    /// Puts the line of an item behind those in the block and here.
+    /// Appends the line of an item after the lines in the block and here, if the item is printed.
     #[inline(always)]
     pub(crate) fn push(
         &mut self,
@@ -165,7 +165,7 @@ impl Draft {
         self.push_plain(block, form, plan, file, item)
     }
 
-    // The same, where the item is printed.
+    // Appends the line of an item that is printed.
     #[inline(always)]
     fn push_passing(
         &mut self,
@@ -189,7 +189,7 @@ impl Draft {
     }
 }
 
-/// The lines in JSON of those items of a file that are printed, from parts that are made ready.
+/// Appends the JSON lines of the printed items of a file, from ready parts.
 #[inline(never)]
 pub(crate) fn push_json_lines(
     block: &mut Vec<u8>,

@@ -1,4 +1,4 @@
-//! The fields of a line in JSON, placed from parts that are ready.
+//! Places the fields of a JSON line from ready parts.
 
 ghost use Rattle.std.specs.Prelude.{◌≡◌, ◌+◌, ◌*◌, ◌<◌, ◌≤◌, IsTrue, decimal, drop, length, take};
 ghost use Rattle.lx_line.specs.Decimals.{IsNear};
@@ -8,10 +8,10 @@ ghost use Rattle.lx_forms.specs.JsonFields.{IsShortText, numbers_text, string_me
 use crate::strings::{is_text_at, place_string};
 use lx_line::{KeptDigits, Numbers, place_all, place_byte, place_short};
 
-// The longest text that is placed. Its length has two digits.
+// Greatest length of a text that is placed. It has two digits.
 const TEXT: usize = 96;
 
-// A number whose digits are kept.
+// Places a number whose digits are kept.
 #[inline(always)]
 fn place_near(buf: &mut [u8], at: usize, digits: &KeptDigits, number: u64) -> usize
     requires room { at + 20 ≤ length buf.old }
@@ -22,7 +22,7 @@ fn place_near(buf: &mut [u8], at: usize, digits: &KeptDigits, number: u64) -> us
     digits.place(buf, at, number) - 1
 }
 
-// A number below 100.
+// Places a number below 100.
 #[inline(always)]
 fn place_small(buf: &mut [u8], at: usize, number: usize) -> usize
     requires room { at + 4 ≤ length buf.old }
@@ -33,7 +33,7 @@ fn place_small(buf: &mut [u8], at: usize, number: usize) -> usize
     place_short(buf, at, number) - 1
 }
 
-/// Line, start and length.
+/// Places line, start and length.
 #[inline(always)]
 pub(crate) fn place_numbers(
     buf: &mut [u8],
@@ -56,7 +56,7 @@ pub(crate) fn place_numbers(
     place_small(buf, at, numbers.len)
 }
 
-/// A text that is UTF-8, where texts are printed.
+/// Places a text that is UTF-8, if texts are printed.
 #[inline(always)]
 pub(crate) fn place_text(
     buf: &mut [u8],
@@ -78,7 +78,7 @@ pub(crate) fn place_text(
     place_byte(buf, at, b'"')
 }
 
-/// Whether a text is short enough, and so far before the end of the file that 16 bytes can be read behind it, and UTF-8 where it is printed.
+/// Returns true if the text is short enough and 16 bytes can be read after it. A printed text must also be UTF-8.
 #[inline(always)]
 pub(crate) fn fits(is_printed: bool, numbers: Numbers, bytes: &[u8]) -> bool
     requires { numbers.start + numbers.len ≤ length bytes.now }

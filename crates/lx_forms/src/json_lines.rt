@@ -1,4 +1,4 @@
-//! Lines of a listing in JSON, put behind what a block holds. Where memory is refused a part of a line stands there.
+//! Appends JSON lines of a listing to a block. If an allocation fails, a part of a line was appended.
 
 ghost use Rattle.std.specs.Prelude.{◌≡◌, ◌<◌, ◌≤◌, ◌++◌, OnOk, codes, decimal, length};
 ghost use Rattle.std.specs.List.{flat_map};
@@ -19,10 +19,10 @@ use lx_rules::rule::Kind;
 use lx_scan::Item;
 use std::alloc::AllocError;
 
-// A string is placed so many bytes of it at a time.
+// Number of bytes of a string that are placed at a time.
 const PART: usize = 32;
 
-// A byte by two digits.
+// Appends a byte as two digits.
 fn push_hex_pair(block: &mut Vec<u8>, byte: u8) -> Result<(), AllocError>
     ensures { OnOk result (block.new.items ≡ block.old.items ++ hex_pair byte) }
 {
@@ -38,7 +38,7 @@ fn push_hex(block: &mut Vec<u8>, bytes: &[u8]) -> Result<(), AllocError>
     Ok(())
 }
 
-// At most 32 bytes of a string. A copy of them has 16 bytes more, which can be read too.
+// Appends at most 32 bytes of a string. Works on a copy with 16 more bytes, which can be read too.
 fn push_part(block: &mut Vec<u8>, bytes: &[u8]) -> Result<(), AllocError>
     requires { length bytes.now ≤ 32 }
     ensures { OnOk result (block.new.items ≡ block.old.items ++ flat_map string_escaped bytes.now) }
@@ -50,7 +50,7 @@ fn push_part(block: &mut Vec<u8>, bytes: &[u8]) -> Result<(), AllocError>
     block.extend_from_slice(&placed[..end])
 }
 
-// The bytes between the quotes of a string.
+// Appends the bytes between the quotes of a string.
 fn push_string_bytes(block: &mut Vec<u8>, bytes: &[u8]) -> Result<(), AllocError>
     ensures { OnOk result (block.new.items ≡ block.old.items ++ flat_map string_escaped bytes.now) }
 {
@@ -72,7 +72,7 @@ fn push_string(block: &mut Vec<u8>, bytes: &[u8]) -> Result<(), AllocError>
     Ok(())
 }
 
-// Bytes under the first name as a string where they are UTF-8, else under the second by digits.
+// Appends a member with bytes: a string under the first name if they are UTF-8, otherwise digits under the second name.
 fn push_bytes_member(
     block: &mut Vec<u8>,
     name: &[u8],
@@ -93,7 +93,7 @@ fn push_bytes_member(
     Ok(())
 }
 
-// The name of a file, where names are printed.
+// Appends the name of a file, if names are printed.
 fn push_name(block: &mut Vec<u8>, form: &Form<'_>, file: u32) -> Result<(), AllocError>
     ensures { OnOk result (block.new.items ≡ block.old.items ++ name_member (form_view form.now) file) }
 {
@@ -108,7 +108,7 @@ fn push_name(block: &mut Vec<u8>, form: &Form<'_>, file: u32) -> Result<(), Allo
     }
 }
 
-// The number of a file, and its name.
+// Appends the number of a file, and its name.
 fn push_file(block: &mut Vec<u8>, form: &Form<'_>, file: u32) -> Result<(), AllocError>
     ensures { OnOk result (block.new.items ≡ block.old.items ++ file_members (form_view form.now) file) }
 {
@@ -118,7 +118,7 @@ fn push_file(block: &mut Vec<u8>, form: &Form<'_>, file: u32) -> Result<(), Allo
     Ok(())
 }
 
-// The name of a kind, or its number.
+// Appends the name of a kind, or its number.
 fn push_kind_value(block: &mut Vec<u8>, plan: &Plan, kind: Kind) -> Result<(), AllocError>
     requires { IsKindAmong (kinds_of plan.now) kind }
     ensures { OnOk result (block.new.items ≡ block.old.items ++ kind_value plan.now kind) }
@@ -129,7 +129,7 @@ fn push_kind_value(block: &mut Vec<u8>, plan: &Plan, kind: Kind) -> Result<(), A
     }
 }
 
-// The kind of a token, or that it is an Echo.
+// Appends the kind of a token, or `"echo":true`.
 fn push_sort(block: &mut Vec<u8>, plan: &Plan, kind: Option<Kind>) -> Result<(), AllocError>
     requires { IsKindOf plan.now kind }
     ensures { OnOk result (block.new.items ≡ block.old.items ++ sort_text plan.now kind) }
@@ -144,7 +144,7 @@ fn push_sort(block: &mut Vec<u8>, plan: &Plan, kind: Option<Kind>) -> Result<(),
     }
 }
 
-/// What stands before the number of the line.
+/// Appends the part of a line before the number of the line.
 pub(crate) fn push_prefix(
     block: &mut Vec<u8>,
     form: &Form<'_>,
@@ -161,7 +161,7 @@ pub(crate) fn push_prefix(
     Ok(())
 }
 
-// Line, start and length.
+// Appends line, start and length.
 fn push_numbers(block: &mut Vec<u8>, numbers: Numbers) -> Result<(), AllocError>
     ensures { OnOk result (block.new.items ≡ block.old.items ++ numbers_text numbers.line numbers.start numbers.len) }
 {
@@ -173,7 +173,7 @@ fn push_numbers(block: &mut Vec<u8>, numbers: Numbers) -> Result<(), AllocError>
     Ok(())
 }
 
-// A text, where texts are printed.
+// Appends a text, if texts are printed.
 fn push_text(block: &mut Vec<u8>, form: &Form<'_>, text: &[u8]) -> Result<(), AllocError>
     ensures { OnOk result (block.new.items ≡ block.old.items ++ text_member (form_view form.now) text.now) }
 {
@@ -183,7 +183,7 @@ fn push_text(block: &mut Vec<u8>, form: &Form<'_>, text: &[u8]) -> Result<(), Al
     push_bytes_member(block, b",\"text\":", b",\"hex\":", text)
 }
 
-/// What stands behind the prefix.
+/// Appends the part of a line after the prefix.
 pub(crate) fn push_rest(
     block: &mut Vec<u8>,
     form: &Form<'_>,
@@ -201,7 +201,7 @@ pub(crate) fn push_rest(
     Ok(())
 }
 
-/// The line of an item of a file.
+/// Appends the line of an item of a file.
 pub(crate) fn push_json_line(
     block: &mut Vec<u8>,
     form: &Form<'_>,
@@ -218,7 +218,7 @@ pub(crate) fn push_json_line(
     Ok(())
 }
 
-/// The line of a file whose reading failed.
+/// Appends the line of a file whose reading failed.
 #[tactic(auto, unfolding(crate::specs::JsonLines::json_cut_line))]
 pub(crate) fn push_json_cut_line(
     block: &mut Vec<u8>,

@@ -1,4 +1,4 @@
-//! The prefixes of lines in JSON, which are the members before the number of the line: each is made once and kept for the lines that follow.
+//! Prefixes of JSON lines: the members before the number of the line. Each is made once and kept for later lines.
 
 ghost use Rattle.std.specs.Prelude.{◌≡◌, ◌+◌, ◌<◌, ◌≤◌, ◌++◌, ℕ, IfSome, IsTrue, MatchOption, OnOk, length, take};
 ghost use Rattle.lx_piece.specs.Plans.{Planned};
@@ -15,13 +15,13 @@ use lx_piece::Plan;
 use lx_rules::rule::Kind;
 use std::alloc::AllocError;
 
-// The longest prefix that is kept.
+// Greatest length of a kept prefix.
 const PREFIX: usize = 128;
 
-// So many prefixes of tokens are kept.
+// Number of kept prefixes of tokens.
 const SLOTS: usize = 32;
 
-/// The prefix of a line, or none, where it is empty.
+/// The prefix of a line. An empty one means that none is kept.
 #[derive(Clone, Copy, Drop)]
 pub(crate) struct Prefix {
     text: [u8; 128],
@@ -45,7 +45,7 @@ impl Prefix {
         }
     }
 
-    // This text, unless it is too long.
+    // Keeps this text, unless it is too long.
     fn of(text: &[u8]) -> Prefix
         ensures short { result.len ≤ 128 }
         ensures text { 0 < result.len → take result.len result.text ≡ text.now }
@@ -57,7 +57,7 @@ impl Prefix {
         prefix
     }
 
-    /// Places it, unless it is empty. Most have at most 64 bytes.
+    /// Places the prefix, unless it is empty. Most prefixes have at most 64 bytes.
     #[inline(always)]
     pub(crate) fn place(&self, buf: &mut [u8], at: usize) -> Option<usize>
         requires room { at + 128 ≤ length buf.old }
@@ -89,7 +89,7 @@ fn is_name(kind: Kind) -> bool
     matches!(kind, Kind::Name(_))
 }
 
-// Whether two kinds are the same. It takes fewer jumps than a test form by form.
+// Returns true if two kinds are the same. This takes fewer jumps than a test variant by variant.
 #[inline(always)]
 fn are_same(a: Kind, b: Kind) -> bool
     ensures { IsTrue result → a ≡ b }
@@ -97,7 +97,7 @@ fn are_same(a: Kind, b: Kind) -> bool
     number_of(a) == number_of(b) && is_name(a) == is_name(b)
 }
 
-// Where the prefix of a kind is kept. Several kinds share the place, and the last has it.
+// Returns the slot of a kind. Several kinds share a slot, and the last one has it.
 #[inline(always)]
 fn slot_of(kind: Kind) -> usize
     ensures { result < 32 }
@@ -113,7 +113,7 @@ pub(crate) struct Prefixes {
 }
 
 impl Prefixes {
-    /// As yet of no kind. All its bytes are 0, so that it is made at once.
+    /// Returns the prefixes of no kind. All its bytes are 0, so that it is made quickly.
     #[inline(always)]
     pub(crate) fn new() -> Prefixes
         ensures { (form : PlainForm) (plan : Planned) (file : ℕ) → ArePrefixesOf form plan file result }
@@ -128,7 +128,7 @@ impl Prefixes {
         }
     }
 
-    /// Pushes the prefix of the line of a token of a kind, or of an Echo, and keeps it.
+    /// Appends the prefix of the line of a token of a kind, or of an Echo, and keeps it.
     pub(crate) fn push(
         &mut self,
         block: &mut Vec<u8>,
@@ -152,7 +152,7 @@ impl Prefixes {
         Ok(())
     }
 
-    /// The prefix of the lines of tokens of a kind, or of Echoes, where it is kept.
+    /// Returns the prefix of the lines of tokens of a kind, or of Echoes, if it is kept.
     #[inline(always)]
     pub(crate) fn of(&self, kind: Option<Kind>) -> Option<&Prefix>
         ensures { IfSome result (λ prefix. IsKept self.now kind prefix.now) }

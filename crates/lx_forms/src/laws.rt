@@ -11,20 +11,20 @@ ghost use Rattle.lx_forms.specs.Forms.{PlainForm, bare_form, is_selected};
 ghost use Rattle.lx_forms.specs.FormLaws.{IsJoined, form_behind, form_of_front};
 ghost use Rattle.lx_forms.specs.FormListings.{line_in, lines_in, listing_in};
 
-/// A law: in the form without options a plan's listing is the listing.
+/// States a law: in the form without options, a plan's listing is the plain listing.
 pub fn bare_listings_are_listings()
     ensures { (plan : Planned) → listing_in bare_form plan ≡ listing_of plan }
 {}
 
-/// A law: in every form the listing of files one behind the other is that of the front ones, and behind it that of the rest, whose first
-/// number is raised by the number of the front ones, each with the names of its files.
+/// States a law: in every form, the listing of joined files is that of the front ones followed by that of the rest. The rest's first number is raised
+/// by the number of front files. Each part has the names of its own files.
 pub fn listings_join()
     ensures { (form : PlainForm) (front rest whole : Planned) → IsJoined front rest whole →
         listing_in form whole ≡ listing_in (form_of_front form (files_of front)) front ++ listing_in (form_behind form (files_of front)) rest }
 {}
 
-/// A law: what words select are the items whose kind stands in the listing by one of them (an Echo's as `-`); so where words say what alone is
-/// printed, the lines of a file are those of its items whose kind stands there by one of the words, in order.
+/// States a law: words select the items whose kind the listing shows by one of them (`-` for an Echo). So if words select what is printed, the lines
+/// of a file are those of its selected items, in order.
 pub fn words_select_by_kind()
     ensures items { (plan : Planned) (words : List (List ℕ)) (item : Item) → HasKindOf plan.table item →
         (is_selected (selected_by plan.table words) item ≡ true) ↔ Contains words (kind_text plan item) }

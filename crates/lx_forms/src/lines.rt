@@ -1,4 +1,4 @@
-//! The lines of a piece in a form, put behind what a block holds. Where memory is refused a part of them stands there.
+//! Appends the lines of a piece, in a form, to a block. If an allocation fails, a part of them was appended.
 
 ghost use Rattle.std.specs.Prelude.{◌≡◌, ◌<◌, [], ◌∷◌, ◌++◌, All, OnOk};
 ghost use Rattle.lx_scan.specs.ItemParts.{IsItemOf};
@@ -16,7 +16,7 @@ use lx_piece::{Piece, Plan};
 use lx_scan::Item;
 use std::alloc::AllocError;
 
-// So many lines in JSON are worth what is made ready for them.
+// Least number of JSON lines that are worth the preparation for them.
 const MANY: usize = 8;
 
 fn push_line(
@@ -45,7 +45,7 @@ fn push_cut_line(block: &mut Vec<u8>, form: &Form<'_>, file: u32) -> Result<(), 
     }
 }
 
-// The line of an item, where it is printed.
+// Appends the line of an item, if it is printed.
 #[tactic(auto, unfolding(crate::specs::FormListings::lines_in))]
 fn push_item(
     block: &mut Vec<u8>,
@@ -65,7 +65,7 @@ fn push_item(
     Ok(())
 }
 
-// The lines of those items that are printed, one by one.
+// Appends the lines of the printed items, one by one.
 fn push_each(
     block: &mut Vec<u8>,
     form: &Form<'_>,
@@ -83,7 +83,7 @@ fn push_each(
     Ok(())
 }
 
-// The lines of those items that are printed.
+// Appends the lines of the printed items.
 fn push_lines(
     block: &mut Vec<u8>,
     form: &Form<'_>,
@@ -101,7 +101,7 @@ fn push_lines(
     }
 }
 
-// The lines of a piece.
+// Appends the lines of a piece.
 fn push_piece(
     block: &mut Vec<u8>,
     form: &Form<'_>,
@@ -119,7 +119,7 @@ fn push_piece(
     Ok(())
 }
 
-/// A block of the lines of a piece, in place of what it held.
+/// Replaces the contents of the block by the lines of a piece.
 pub(crate) fn refill(
     block: &mut Vec<u8>,
     form: &Form<'_>,

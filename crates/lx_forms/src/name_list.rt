@@ -1,4 +1,4 @@
-//! Lists of names in a text.
+//! Reads lists of names in a text.
 
 ghost use Rattle.std.specs.Prelude.{ℕ, List, ◌≡◌, ◌≢◌, ◌⊎◌, ◌≤◌, ◌<◌, ◌-◌, ◌++◌, [], ◌∷◌, true, false, OnOk, IfErr, MatchOption, length, map, option_map, vec_len};
 ghost use Rattle.std.specs.Str.{is_utf8};
@@ -8,14 +8,14 @@ ghost use Rattle.lx_forms.specs.declared.name_list.NameListFault.{NameListFault}
 use memchr::memchr;
 use std::alloc::{AllocError, AllocFailed};
 
-/// Why a text is no list of names.
+/// Reason why a text is no list of names.
 #[derive(Clone, Copy, Debug, PartialEq, Eq)]
 pub enum NameListFault {
-    /// What stands in the place of the name with this number, counted from 1, is empty or isn't UTF-8 (RFC 3629).
+    /// The part for the name with this number, counted from 1, is empty or isn't UTF-8 (RFC 3629).
     NoName(usize),
-    /// There are more names than are wanted.
+    /// There are more names than the caller accepts.
     TooMany,
-    /// Memory was refused.
+    /// An allocation failed.
     Memory,
 }
 
@@ -41,7 +41,7 @@ impl<T: Drop> From<AllocFailed<T>> for NameListFault {
     }
 }
 
-// What stands before the first separator of a text, and what stands behind it, if there is one.
+// Splits a text at its first separator: the part before it, and the part after it if there is one.
 fn first_part(text: &[u8], separator: u8) -> (&[u8], Option<&[u8]>)
     ensures free { IsFree separator result.0.now }
     ensures parts { AreParts separator text.now result.0.now (option_map (λ rest. rest.now) result.1) }
@@ -52,7 +52,7 @@ fn first_part(text: &[u8], separator: u8) -> (&[u8], Option<&[u8]>)
     }
 }
 
-// The name that these bytes are.
+// Reads bytes as a name. Returns `None` if they are empty or not UTF-8.
 fn name_in(bytes: &[u8]) -> Option<&str>
     ensures { MatchOption result ((bytes.now ≡ []) ⊎ (is_utf8 bytes.now ≡ false)) (λ name. (name.now ≡ bytes.now) × (bytes.now ≢ []) × (is_utf8 bytes.now ≡ true)) }
 {
@@ -65,9 +65,8 @@ fn name_in(bytes: &[u8]) -> Option<&str>
     }
 }
 
-/// Puts the names of a text, which stand there with a separator behind each that may lack behind the last one, behind those in the list,
-/// which has at most `most` in the end. Behind a fault the front ones stand there. Of a front part of a text that has more names than are wanted it says what it would say of the
-/// whole.
+/// Appends the names of a text to the list. Each name ends with a separator, which the last one may lack. The list has at most `most` names in the
+/// end. After a fault, the names before it were appended. For a front part of a text that has too many names, the result is that for the whole text.
 pub fn push_names<'a>(
     names: &mut Vec<&'a str>,
     text: &'a [u8],

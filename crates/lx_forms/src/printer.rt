@@ -14,22 +14,22 @@ use lx_piece::{Items, KeepItems, Piece, Plan, ReaderFault, Taker, plans_are_well
 use std::alloc::Global;
 use std::snapshot::Snapshot;
 
-/// Writes the lines of a plan's pieces in a form. It is handed the pieces in the plan's order. The lines of a piece are one block. Where memory is
-/// refused for it, nothing of the piece is written.
+/// Writes the lines of a plan's pieces in a form. The pieces arrive in the plan's order. The lines of a piece are one block. If an allocation for it
+/// fails, nothing of the piece is written.
 #[derive(Drop)]
 pub struct FormPrinter<'a, S: LineSink> {
     pub(crate) form: &'a Form<'a>,
     pub(crate) plan: Snapshot<Plan>,
-    // The piece that comes next.
+    // File and number of the piece that comes next.
     pub(crate) file: u32,
     pub(crate) number: u64,
-    // The lines of a piece, in memory that is used again.
+    // Lines of a piece, in reused memory.
     block: Vec<u8>,
     pub(crate) sink: S,
 }
 
 impl<'a, S: LineSink> FormPrinter<'a, S> {
-    /// A printer that has written nothing.
+    /// Returns a printer that has written nothing.
     pub fn new(alloc: Global, plan: &Plan, form: &'a Form<'a>, sink: S) -> FormPrinter<'a, S>
         ensures plan { result.plan.value ≡ plan.now }
         ensures form { result.form.now ≡ form.now }
@@ -47,7 +47,7 @@ impl<'a, S: LineSink> FormPrinter<'a, S> {
         }
     }
 
-    /// Where its lines went.
+    /// Returns the sink.
     pub fn into_sink(self) -> S
         ensures { result ≡ self.entry.sink }
     {
@@ -82,7 +82,7 @@ impl<'a, S: LineSink> Taker<KeepItems> for FormPrinter<'a, S> {
         ensures follows { OnOk result (PrintsOn S.wrote (printing_in (form_view self.old.form.now) self.old.plan.value self.old.file self.old.number self.old.sink) (printing_in (form_view self.new.form.now) self.new.plan.value self.new.file self.new.number self.new.sink)) }
         ensures fails { IfErr result (λ fault. PrintsSome S.wrote (printing_in (form_view self.old.form.now) self.old.plan.value self.old.file self.old.number self.old.sink) (printing_in (form_view self.new.form.now) self.new.plan.value self.new.file self.new.number self.new.sink)) }
     {
-        // a law, that its files' items are items of these
+        // a law: the items of its pieces are items of its files
         plans_are_well_formed(whole);
         let closes = piece.is_closing();
         let Ok(()) = refill(&mut self.block, self.form, whole, &piece) else {

@@ -1,4 +1,4 @@
-//! The listing of a plan's files in a form, by workers or on the calling thread.
+//! Lists a plan's files in a form, by workers or on the calling thread.
 
 ghost use Rattle.std.specs.Prelude.{◌≡◌, ◌<◌, ◌≤◌, OnOk, OnErr};
 ghost use Rattle.std.specs.Io.KnownBytes.{Appends};
@@ -19,7 +19,7 @@ use std::io::Write;
 use std::sync::Wait;
 use std::thread::Threads;
 
-// Hands a new printer all pieces of the plan. It comes back, so that what a lent writer holds in the end is known.
+// Delivers all pieces of the plan to a new printer. Returns the printer, so that the final contents of a borrowed writer are known.
 fn print_all<'f, S: LineSink + Drop>(
     alloc: Global,
     plan: &Plan,
@@ -40,7 +40,7 @@ fn print_all<'f, S: LineSink + Drop>(
     }
 }
 
-// Hands all pieces of the plan to a new printer over a lent writer.
+// Delivers all pieces of the plan to a new printer over a borrowed writer.
 fn print_to<'w, W: Write>(
     alloc: Global,
     plan: &Plan,
@@ -60,7 +60,8 @@ fn print_to<'w, W: Write>(
     (printer.into_sink(), answer)
 }
 
-// Hands a new printer all pieces of the plan, as workers cut them. It comes back, so that what a lent writer holds in the end is known.
+// Delivers all pieces of the plan to a new printer, as workers cut them. Returns the printer, so that the final contents of a borrowed writer are
+// known.
 fn scan_all_to<'f, T: Threads + Wait + Sync, S: LineSink + Drop>(
     rt: &T,
     alloc: Global,
@@ -85,7 +86,7 @@ fn scan_all_to<'f, T: Threads + Wait + Sync, S: LineSink + Drop>(
     }
 }
 
-// Has workers hand all pieces of the plan to a new printer over a lent writer.
+// Makes workers cut all pieces of the plan for a new printer over a borrowed writer.
 fn scan_to<'w, T: Threads + Wait + Sync, W: Write>(
     rt: &T,
     alloc: Global,
@@ -105,9 +106,9 @@ fn scan_to<'w, T: Threads + Wait + Sync, W: Write>(
     (printer.into_sink(), answer)
 }
 
-/// Writes the listing of a plan's files in a form, the lines of each file in order and the files in order: 1 to 8 workers scan them, or with
-/// none the calling thread does. The lines of each piece are a block, of which each line is written by itself, or all at once. After a fault
-/// a prefix of the listing was written.
+/// Writes the listing of a plan's files in a form, the lines of each file in order and the files in order. 1 to 8 workers scan them, or with 0 the
+/// calling thread. The lines of each piece are a block: each line is written by itself, or all at once. After a fault, a prefix of the listing was
+/// written.
 pub fn list_plan_in<T: Threads + Wait + Sync, W: Write>(
     rt: &T,
     alloc: Global,
@@ -131,7 +132,7 @@ pub fn list_plan_in<T: Threads + Wait + Sync, W: Write>(
     } else {
         scan_to(rt, alloc, plan, workers, form, sink)
     };
-    // taken apart, so that what the writer holds in the end is known
+    // taken apart, so that the final contents of the writer are known
     let Lent {
         writes: _writes,
         out: _out,

@@ -1,4 +1,4 @@
-//! Which items are printed.
+//! Selections of the items that are printed.
 
 ghost use Rattle.std.specs.Prelude.{◌≡◌};
 
@@ -6,7 +6,7 @@ use lx_rules::rule::Kind;
 use lx_scan::Item;
 use std::marker::Model;
 
-/// The kinds of tokens that are printed, and whether echoes are.
+/// The kinds of tokens that are printed, and a flag for echoes.
 #[derive(Debug, Drop)]
 pub struct Selection {
     names: Vec<bool>,
@@ -25,8 +25,8 @@ impl Model for Selection {
 impl Selection {
     ghost use Rattle.lx_forms.specs.Forms.{has_kind, is_selected};
 
-    /// Tokens of those kinds with a name at whose place, in the tables' list of kinds, `true` stands, and of the kinds with these
-    /// numbers; and echoes or not. A place behind the list isn't selected. It takes no memory.
+    /// Returns a selection. It has the named kinds for which `names` is true, in the order of the tables' list of kinds, and the kinds with these
+    /// numbers. It has echoes if `echoes` is true. A named kind after the end of `names` isn't selected. Allocates nothing.
     pub fn new(names: Vec<bool>, numbers: Vec<u32>, echoes: bool) -> Selection
         ensures { result ≡ record { names = names.items; numbers = numbers.items; echoes = echoes } }
     {
@@ -49,7 +49,7 @@ impl Selection {
         }
     }
 
-    /// Whether an item is printed.
+    /// Returns true if the item is printed.
     pub fn has(&self, item: &Item) -> bool
         ensures { result ≡ is_selected self.now item.now }
     {

@@ -1,4 +1,4 @@
-//! The bytes of JSON strings, with what is escaped in them, placed in a buffer.
+//! Places the bytes of JSON strings, escaped, in a buffer.
 
 ghost use Rattle.std.specs.Prelude.{◌≡◌, ◌+◌, ◌*◌, ◌<◌, ◌≤◌, ℕ, IsTrue, length, take, drop, true};
 ghost use Rattle.std.specs.List.{flat_map};
@@ -9,7 +9,7 @@ ghost use Rattle.lx_forms.specs.JsonLines.{small_digit, string_escaped};
 use lx_line::{place_16, place_all, place_byte};
 use std::simd::prelude::*;
 
-// How many of 16 bytes, up to the first that is escaped, stand in a string as they are.
+// Returns the number of bytes before the first escaped one among 16.
 #[inline(always)]
 fn plain_16(src: &[u8], from: usize) -> usize
     requires { from + 16 ≤ length src.now }
@@ -22,7 +22,7 @@ fn plain_16(src: &[u8], from: usize) -> usize
     is_escaped.to_bitmask().trailing_zeros() as usize
 }
 
-// How many of 16 bytes come before the first above 127.
+// Returns the number of bytes before the first one above 127 among 16.
 #[inline(always)]
 fn ascii_16(src: &[u8], from: usize) -> usize
     requires { from + 16 ≤ length src.now }
@@ -33,7 +33,7 @@ fn ascii_16(src: &[u8], from: usize) -> usize
     is_high.to_bitmask().trailing_zeros() as usize
 }
 
-/// Whether bytes are UTF-8.
+/// Returns true if the bytes are UTF-8.
 pub(crate) fn is_text(bytes: &[u8]) -> bool
     ensures { result ≡ is_utf8 bytes.now }
 {
@@ -43,7 +43,7 @@ pub(crate) fn is_text(bytes: &[u8]) -> bool
     }
 }
 
-// Whether a text that is long, or isn't ASCII, is UTF-8.
+// Returns true only if a text that is long, or isn't ASCII, is UTF-8.
 #[inline(never)]
 fn is_long_text(bytes: &[u8], start: usize, len: usize) -> bool
     requires { start + len ≤ length bytes.now }
@@ -52,7 +52,7 @@ fn is_long_text(bytes: &[u8], start: usize, len: usize) -> bool
     is_text(&bytes[start..start + len])
 }
 
-/// Whether a text is UTF-8, which lies in bytes so far before their end that 16 can be read at once.
+/// Returns true only if a text is UTF-8. 16 bytes can be read after it.
 #[inline(always)]
 pub(crate) fn is_text_at(bytes: &[u8], start: usize, len: usize) -> bool
     requires { start + len + 16 ≤ length bytes.now }
@@ -64,7 +64,7 @@ pub(crate) fn is_text_at(bytes: &[u8], start: usize, len: usize) -> bool
     is_long_text(bytes, start, len)
 }
 
-/// A lower-case hexadecimal digit.
+/// Returns a lower-case hexadecimal digit.
 pub(crate) fn small_digit(n: u8) -> u8
     requires { n < 16 }
     ensures { result ≡ small_digit n }
@@ -72,7 +72,7 @@ pub(crate) fn small_digit(n: u8) -> u8
     if n < 10 { b'0' + n } else { b'a' + (n - 10) }
 }
 
-// A byte of a string.
+// Places a byte of a string.
 fn place_string_byte(buf: &mut [u8], at: usize, byte: u8) -> usize
     requires { at + 6 ≤ length buf.old }
     ensures placed { Placed buf.old buf.new at (string_escaped byte) result }
@@ -90,14 +90,14 @@ fn place_string_byte(buf: &mut [u8], at: usize, byte: u8) -> usize
     place_byte(buf, at, small_digit(byte % 16))
 }
 
-// Bytes of a string that were placed: where they end, and how many of the text they are.
+// A placed part of a string: the position where it ends, and the number of text bytes in it.
 #[derive(Clone, Copy, Drop)]
 struct Part {
     end: usize,
     count: usize,
 }
 
-// Up to 16 bytes as they are, and the first that is escaped.
+// Places up to 16 bytes as they are, and the first one that is escaped.
 #[inline(always)]
 fn place_part(buf: &mut [u8], at: usize, bytes: &[u8], from: usize, most: usize) -> Part
     requires some { 0 < most }
@@ -120,7 +120,7 @@ fn place_part(buf: &mut [u8], at: usize, bytes: &[u8], from: usize, most: usize)
     }
 }
 
-// A text of more than 16 bytes, or with a byte that is escaped.
+// Places a text of more than 16 bytes, or with a byte that is escaped.
 #[inline(never)]
 fn place_long(buf: &mut [u8], at: usize, bytes: &[u8], start: usize, len: usize) -> usize
     requires text { start + len + 16 ≤ length bytes.now }
@@ -138,7 +138,7 @@ fn place_long(buf: &mut [u8], at: usize, bytes: &[u8], start: usize, len: usize)
     end
 }
 
-/// The bytes between the quotes of a string, which lie in bytes so far before their end that 16 can be read at once.
+/// Places the bytes between the quotes of a string. 16 bytes can be read after them.
 #[inline(always)]
 pub(crate) fn place_string(
     buf: &mut [u8],

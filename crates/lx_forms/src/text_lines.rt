@@ -1,4 +1,4 @@
-//! Lines of a listing as fields, put behind what a block holds. Where memory is refused a part of a line stands there.
+//! Appends text lines of a listing to a block. If an allocation fails, a part of a line was appended.
 
 ghost use Rattle.std.specs.Prelude.{◌≡◌, ◌<◌, ◌≤◌, ◌++◌, OnOk, decimal, length, take};
 ghost use Rattle.std.specs.List.{flat_map};
@@ -13,7 +13,7 @@ use lx_piece::Plan;
 use lx_scan::Item;
 use std::alloc::AllocError;
 
-// A byte of a name.
+// Appends a byte of a name.
 fn push_name_byte(block: &mut Vec<u8>, byte: u8) -> Result<(), AllocError>
     ensures { OnOk result (block.new.items ≡ block.old.items ++ name_escaped byte) }
 {
@@ -23,7 +23,7 @@ fn push_name_byte(block: &mut Vec<u8>, byte: u8) -> Result<(), AllocError>
     push_text(block, &[byte])
 }
 
-// How many bytes at the front of a name stand in a line as they are.
+// Returns the number of bytes at the front of a name that a line shows unescaped.
 fn plain_front(name: &[u8]) -> usize
     ensures within { result ≤ length name.now }
     ensures plain { flat_map name_escaped (take result name.now) ≡ take result name.now }
@@ -35,7 +35,7 @@ fn plain_front(name: &[u8]) -> usize
     plain
 }
 
-// A name. Most are plain, and are copied at once.
+// Appends a name. Most names are plain, and are copied at once.
 fn push_name(block: &mut Vec<u8>, name: &[u8]) -> Result<(), AllocError>
     ensures { OnOk result (block.new.items ≡ block.old.items ++ flat_map name_escaped name.now) }
 {
@@ -47,7 +47,7 @@ fn push_name(block: &mut Vec<u8>, name: &[u8]) -> Result<(), AllocError>
     Ok(())
 }
 
-// The name of a file where names are printed, else its number.
+// Appends the name of a file if names are printed, otherwise its number.
 fn push_file(block: &mut Vec<u8>, form: &Form<'_>, file: u32) -> Result<(), AllocError>
     ensures { OnOk result (block.new.items ≡ block.old.items ++ file_text (form_view form.now) file) }
 {
@@ -57,7 +57,7 @@ fn push_file(block: &mut Vec<u8>, form: &Form<'_>, file: u32) -> Result<(), Allo
     }
 }
 
-// Class, kind, line, start and length.
+// Appends class, kind, line, start and length.
 fn push_fields(block: &mut Vec<u8>, plan: &Plan, item: &Item) -> Result<(), AllocError>
     requires { NamesKindAmong (kinds_of plan.now) item.now }
     ensures { OnOk result (block.new.items ≡ block.old.items ++ fields_of plan.now item.now) }
@@ -70,7 +70,7 @@ fn push_fields(block: &mut Vec<u8>, plan: &Plan, item: &Item) -> Result<(), Allo
     Ok(())
 }
 
-// A text and the blank before it, where texts are printed.
+// Appends a blank and a text, if texts are printed.
 fn push_text_part(block: &mut Vec<u8>, form: &Form<'_>, text: &[u8]) -> Result<(), AllocError>
     ensures { OnOk result (block.new.items ≡ block.old.items ++ text_part (form_view form.now) text.now) }
 {
@@ -82,7 +82,7 @@ fn push_text_part(block: &mut Vec<u8>, form: &Form<'_>, text: &[u8]) -> Result<(
     Ok(())
 }
 
-/// The text of an item of a file.
+/// Returns the text of an item of a file.
 pub(crate) fn text_in<'a>(plan: &'a Plan, file: u32, item: &Item) -> &'a [u8]
     requires file { file < files_of plan.now }
     requires item { LiesIn (bytes_of plan.now file) item.now }
@@ -91,7 +91,7 @@ pub(crate) fn text_in<'a>(plan: &'a Plan, file: u32, item: &Item) -> &'a [u8]
     item.text(plan.bytes(file))
 }
 
-/// The line of an item of a file.
+/// Appends the line of an item of a file.
 pub(crate) fn push_text_line(
     block: &mut Vec<u8>,
     form: &Form<'_>,
@@ -111,7 +111,7 @@ pub(crate) fn push_text_line(
     Ok(())
 }
 
-/// The line of a file whose reading failed.
+/// Appends the line of a file whose reading failed.
 #[tactic(auto, unfolding(crate::specs::TextLines::text_cut_line))]
 pub(crate) fn push_text_cut_line(
     block: &mut Vec<u8>,

@@ -1,4 +1,4 @@
-//! Lines that are gathered in memory of fixed length.
+//! Gathers lines in memory of fixed length.
 
 ghost use Rattle.std.specs.Prelude.{◌≡◌, ◌<◌, ◌≤◌, [], ◌++◌, All, IfOk, false, length, take, true};
 ghost use Rattle.lx_scan.specs.ItemParts.{IsItemOf};
@@ -13,16 +13,17 @@ use lx_scan::FlatItem;
 use std::alloc::{AllocError, Global};
 use std::marker::Model;
 
-// So many bytes are worth a write.
+// Number of bytes that are worth a write.
 const FULL: usize = 98_304;
 
-// A block with more bytes is worth a write of its own. To copy a shorter one takes less time than a call of the system.
+// Greatest length of a block that is copied to the buffer. A longer block is worth its own write. Copying a shorter one takes less time than a system
+// call.
 const SHORT: usize = 32_768;
 
-// A shorter one has room until the bytes before it are worth a write.
+// Length of the buffer. A short block has room until the bytes before it are worth a write.
 const ROOM: usize = FULL + SHORT;
 
-/// Lines, and parts of lines, that are gathered in memory of fixed length.
+/// Lines, and parts of lines, gathered in memory of fixed length.
 #[derive(Drop)]
 pub struct LineBuffer {
     bytes: Vec<u8>,
@@ -40,7 +41,7 @@ impl Model for LineBuffer {
 }
 
 impl LineBuffer {
-    /// It holds nothing.
+    /// Returns an empty buffer.
     pub fn new(alloc: Global) -> Result<LineBuffer, AllocError>
         ensures { IfOk result (λ buffer. buffer ≡ []) }
     {
@@ -62,7 +63,7 @@ impl LineBuffer {
         self.len = 0;
     }
 
-    /// Puts a block behind what it holds, unless the block is worth a write, or what it holds is; whether it did.
+    /// Appends a block. Returns false, without effect, if the block or the contents are worth a write.
     pub fn push(&mut self, block: &[u8]) -> bool
         ensures pushed { result ≡ true → self.new ≡ self.old ++ block.now }
         ensures not { result ≡ false → self.new ≡ self.old }
@@ -74,7 +75,7 @@ impl LineBuffer {
         true
     }
 
-    /// Puts the lines of the first items behind what it holds, up to one that has no room or has to be made the plain way; how many they are.
+    /// Appends the lines of the first items, up to one that has no room or needs the plain way. Returns their number.
     pub(crate) fn place_lines(
         &mut self,
         draft: &mut Draft,

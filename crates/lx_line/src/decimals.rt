@@ -1,4 +1,4 @@
-//! Decimal numbers, with the digits kept that numbers near one another share.
+//! Writes decimal numbers, and keeps the digits that nearby numbers share.
 
 ghost use Rattle.std.specs.Prelude.{◌≡◌, IsTrue, ◌+◌, ◌-◌, ◌*◌, ◌/◌, ◌%◌, ◌^◌, ◌<◌, ◌≤◌, ◌++◌, codes, decimal, length, take, drop};
 ghost use Rattle.lx_line.specs.Decimals.{IsNear, leading, pair};
@@ -7,11 +7,11 @@ ghost use Rattle.lx_line.specs.Placed.{Placed};
 use crate::place::{place_4, place_16};
 use itoa::write_digits;
 
-// The two digits of each number below 100, and two spaces. Four bytes more can be read behind the last.
+// The two digits of each number below 100, and two spaces. Four more bytes can be read after the last.
 static PAIRS: [u8; 404] =
     *b"00  01  02  03  04  05  06  07  08  09  10  11  12  13  14  15  16  17  18  19  20  21  22  23  24  25  26  27  28  29  30  31  32  33  34  35  36  37  38  39  40  41  42  43  44  45  46  47  48  49  50  51  52  53  54  55  56  57  58  59  60  61  62  63  64  65  66  67  68  69  70  71  72  73  74  75  76  77  78  79  80  81  82  83  84  85  86  87  88  89  90  91  92  93  94  95  96  97  98  99      ";
 
-// The two digits of a number below 100, and a space.
+// Places the two digits of a number below 100, and a space.
 #[inline(always)]
 fn place_pair(buf: &mut [u8], at: usize, number: usize) -> usize
     requires room { at + 4 ≤ length buf.old }
@@ -22,7 +22,7 @@ fn place_pair(buf: &mut [u8], at: usize, number: usize) -> usize
     place_4(buf, at, &PAIRS, number * 4, 3)
 }
 
-// The text of each number below 100 with a space behind it, in four bytes, of which the last is how long it is.
+// The text of each number below 100 with a space after it, in four bytes. The last of them is the length.
 static SHORT: [u8; 400] = *b"\
         0  \x021  \x022  \x023  \x024  \x025  \x026  \x027  \x028  \x029  \x02\
         10 \x0311 \x0312 \x0313 \x0314 \x0315 \x0316 \x0317 \x0318 \x0319 \x03\
@@ -35,7 +35,7 @@ static SHORT: [u8; 400] = *b"\
         80 \x0381 \x0382 \x0383 \x0384 \x0385 \x0386 \x0387 \x0388 \x0389 \x03\
         90 \x0391 \x0392 \x0393 \x0394 \x0395 \x0396 \x0397 \x0398 \x0399 \x03";
 
-/// A number below 100, and a space.
+/// Places a number below 100, and a space.
 #[inline(always)]
 pub fn place_short(buf: &mut [u8], at: usize, number: usize) -> usize
     requires room { at + 4 ≤ length buf.old }
@@ -47,18 +47,18 @@ pub fn place_short(buf: &mut [u8], at: usize, number: usize) -> usize
     place_4(buf, at, &SHORT, from, SHORT[from + 3] as usize)
 }
 
-// Where the digits end that are kept: so many a number of 64 bits has at most.
+// End position of the kept digits: a number of 64 bits has at most 20 digits.
 const END: usize = 20;
 
-// The most that a number may be, of which sixteen digits are kept.
+// Greatest number of which sixteen digits are kept.
 const MOST: u64 = 999_999_999_999_999_999;
 
-/// The digits of a number above its last two. A number near it has the same, so that it needs but two new ones.
+/// The digits of a number above its last two. A nearby number has the same, so that it needs only two new ones.
 #[derive(Clone, Copy, Drop)]
 pub struct KeptDigits {
     // The number, with zeros for its last two digits.
     base: u64,
-    // They end at END. Sixteen bytes can be read wherever they begin.
+    // Kept digits, which end at END. Sixteen bytes can be read from any first digit.
     digits: [u8; 36],
     from: usize,
     ghost small: { base < 10 ^ 18 },
@@ -69,7 +69,7 @@ pub struct KeptDigits {
 }
 
 impl KeptDigits {
-    /// Those of 0.
+    /// Returns the digits of 0.
     pub fn new() -> KeptDigits
         ensures { result.base ≡ 0 }
     {
@@ -99,7 +99,7 @@ impl KeptDigits {
         }
     }
 
-    // Goes on by a hundred, where that changes the last digit alone; whether the number is near then.
+    // Advances by a hundred, if that changes only the last digit. Returns true if the number is then near.
     #[inline(always)]
     fn step(&mut self, number: u64) -> bool
         ensures { IsTrue result → IsNear self.new.base number }
@@ -128,7 +128,7 @@ impl KeptDigits {
         true
     }
 
-    /// Keeps the digits that a number shares with those near it, unless they are too many.
+    /// Keeps the digits that a number shares with nearby ones. Returns false if there are too many.
     #[inline(always)]
     pub fn follow(&mut self, number: u64) -> bool
         ensures { IsTrue result → IsNear self.new.base number }
@@ -139,7 +139,7 @@ impl KeptDigits {
         self.move_near(number)
     }
 
-    /// A number whose digits are kept, and a space.
+    /// Places a number whose digits are kept, and a space.
     #[inline(always)]
     pub fn place(&self, buf: &mut [u8], at: usize, number: u64) -> usize
         requires room { at + 20 ≤ length buf.old }
@@ -156,7 +156,7 @@ impl KeptDigits {
     }
 }
 
-/// A number and a space.
+/// Places a number and a space.
 pub fn place_number(buf: &mut [u8], at: usize, number: u64) -> usize
     requires room { at + 20 ≤ length buf.old }
     requires number { number ≤ MOST }

@@ -1,4 +1,4 @@
-//! Lines placed behind one another from parts that are ready.
+//! Places lines one after the other from ready parts.
 
 ghost use Rattle.std.specs.Prelude.{◌≡◌, ◌+◌, ◌<◌, ◌≤◌, ◌++◌, All, MatchOption, length, take};
 ghost use Rattle.lx_scan.specs.ItemParts.{IsItemOf};
@@ -11,18 +11,18 @@ use crate::prefixes::Prefixes;
 use lx_piece::Plan;
 use lx_scan::FlatItem;
 
-// A line takes so much room at most: a prefix of 32 bytes, two numbers of 20, the length, a text in which each byte may be escaped, 16 bytes
-// that are copied behind it, and the line's end.
+// Greatest length of a line. It has a prefix of 32 bytes, two numbers of 20, the length, and a text in which each byte may be escaped. 16 bytes that
+// are copied after the text, and the line's end, come to it.
 const LINE: usize = 480;
 
-/// Some first items whose lines were placed: how many they are, and where the lines end.
+/// Some first items whose lines were placed: their number, and the position where the lines end.
 #[derive(Clone, Copy, Drop)]
 pub(crate) struct FirstLines {
     pub count: usize,
     pub end: usize,
 }
 
-/// What the lines of a file are made of, and what those that follow can use again.
+/// The ready parts of a file's lines, and those that later lines can reuse.
 #[derive(Drop)]
 pub struct Draft {
     prefixes: Prefixes,
@@ -30,7 +30,7 @@ pub struct Draft {
 }
 
 impl Draft {
-    /// Ready for the lines of a file.
+    /// Makes a draft for the lines of a file.
     #[inline(always)]
     pub fn new(plan: &Plan, file: u32) -> Draft
         ensures prefixes { ArePrefixesOf plan.now file result.prefixes }
@@ -41,7 +41,7 @@ impl Draft {
         }
     }
 
-    /// Makes ready for the lines of another file.
+    /// Prepares for the lines of another file.
     #[cold]
     #[inline(never)]
     pub fn begin(&mut self, plan: &Plan, file: u32)
@@ -50,8 +50,8 @@ impl Draft {
         self.prefixes = Prefixes::new(plan, file);
     }
 
-    // Places the line of an item. Some have to be made the plain way: the long ones, and those of texts near the end of the file, behind which
-    // no 16 bytes can be read.
+    // Places the line of an item. Returns `None` if it needs the plain way: for a long line, and for a text near the end of the file, after which 16
+    // bytes can't be read.
     #[inline(always)]
     fn place_line(
         &mut self,
@@ -81,7 +81,7 @@ impl Draft {
         Some(place_rest(buf, at, &self.digits, numbers, bytes))
     }
 
-    /// Places the lines of the first items, up to one that has no room or has to be made the plain way.
+    /// Places the lines of the first items, up to one that has no room or needs the plain way.
     #[inline(never)]
     pub(crate) fn place_lines(
         &mut self,

@@ -1,4 +1,4 @@
-//! The fields of a line, placed from parts that are ready.
+//! Places the fields of a line from ready parts.
 
 ghost use Rattle.std.specs.Prelude.{◌≡◌, ◌+◌, ◌≤◌, IsTrue, length};
 ghost use Rattle.lx_scan.specs.ItemParts.{kind_of_item, line_of, start_of, len_of};
@@ -12,10 +12,10 @@ use crate::texts::place_text;
 use lx_rules::rule::Kind;
 use lx_scan::{FlatItem, Item};
 
-// The longest text that is placed. Its length has two digits.
+// Greatest length of a text that is placed. It has two digits.
 const TEXT: usize = 96;
 
-/// Where an item stands.
+/// The position of an item: its line, start and length.
 #[derive(Clone, Copy, Drop)]
 pub struct Numbers {
     pub line: u64,
@@ -23,7 +23,7 @@ pub struct Numbers {
     pub len: usize,
 }
 
-/// The kind of a token; an Echo has none.
+/// Returns the kind of a token, or `None` for an Echo.
 #[inline(always)]
 pub fn kind_of(item: &Item) -> Option<Kind>
     ensures { result ≡ kind_of_item item.now }
@@ -34,7 +34,7 @@ pub fn kind_of(item: &Item) -> Option<Kind>
     }
 }
 
-/// The numbers of an item.
+/// Returns the numbers of an item.
 #[inline(always)]
 pub fn numbers_of(item: &Item) -> Numbers
     ensures line { result.line ≡ line_of item.now }
@@ -52,7 +52,7 @@ pub fn numbers_of(item: &Item) -> Numbers
     }
 }
 
-/// The numbers of an item in its one form.
+/// Returns the numbers of a flat item.
 #[inline(always)]
 pub fn numbers_in(item: &FlatItem) -> Numbers
     ensures line { result.line ≡ line_of item.now }
@@ -66,7 +66,7 @@ pub fn numbers_in(item: &FlatItem) -> Numbers
     }
 }
 
-/// The digits of line and start that items near one another share.
+/// The digits of line and start that nearby items share.
 #[derive(Clone, Copy, Drop)]
 pub struct Digits {
     line: SharedDigits,
@@ -74,7 +74,7 @@ pub struct Digits {
 }
 
 impl Digits {
-    /// Those of 0.
+    /// Returns the digits of 0.
     pub fn new() -> Digits {
         Digits {
             line: SharedDigits::new(),
@@ -82,7 +82,7 @@ impl Digits {
         }
     }
 
-    /// Keeps those of an item, unless they are too many.
+    /// Keeps the digits of an item's numbers. Returns false if there are too many.
     #[inline(always)]
     pub fn follow(&mut self, numbers: Numbers) -> bool
         ensures { IsTrue result → AreKept self.new numbers }
@@ -91,7 +91,7 @@ impl Digits {
     }
 }
 
-/// What stands in a line behind its prefix.
+/// Places the part of a line after its prefix.
 #[inline(always)]
 pub fn place_rest(
     buf: &mut [u8],
@@ -115,7 +115,7 @@ pub fn place_rest(
     place_byte(buf, at, b'\n')
 }
 
-/// Whether a text is short enough, and so far before the end of the file that 16 bytes can be read behind it.
+/// Returns true if the text is short enough, and 16 bytes can be read after it.
 #[inline(always)]
 pub fn fits(numbers: Numbers, bytes: &[u8]) -> bool
     requires { numbers.start + numbers.len ≤ length bytes.now }

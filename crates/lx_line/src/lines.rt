@@ -1,4 +1,4 @@
-//! The lines of items.
+//! Makes the lines of items.
 
 ghost use Rattle.std.specs.Prelude.{◌≡◌, ◌<◌, ◌≤◌, ◌++◌, All, IfOk, OnOk, length, take};
 ghost use Rattle.lx_scan.specs.ItemParts.{IsItemOf};
@@ -15,13 +15,13 @@ use std::alloc::AllocError;
 use std::marker::Model;
 use std::snapshot::Snapshot;
 
-// So many lines are worth what is made ready for them.
+// Least number of lines that are worth the preparation for them.
 const MANY: usize = 8;
 
-// So many bytes of lines are placed before they go to a block that grows.
+// Number of bytes of lines that are placed before they go to a growing block.
 const LINES: usize = 2048;
 
-/// Puts the lines of items of a file behind what the block holds. Where memory is refused a part of them stands there.
+/// Appends the lines of a file's items to the block. If an allocation fails, a part of them was appended.
 pub fn push_lines(
     block: &mut Vec<u8>,
     plan: &Plan,
@@ -39,7 +39,7 @@ pub fn push_lines(
     }
 }
 
-/// The same for items that are given one by one, field by field.
+/// Does the same as `push_lines` for items that are given one by one, field by field.
 pub fn push_each(
     block: &mut Vec<u8>,
     plan: &Plan,
@@ -56,7 +56,7 @@ pub fn push_each(
     Ok(())
 }
 
-// Field by field.
+// Appends lines field by field.
 #[inline(never)]
 fn push_few(
     block: &mut Vec<u8>,
@@ -74,7 +74,7 @@ fn push_few(
     Ok(())
 }
 
-// The lines of the first items, as many as are placed at once, or that of one which has to be made field by field; how many they are.
+// Makes the lines of the first items: all those that can be placed at once, or one that needs the plain way. Returns their number.
 fn push_some(
     draft: &mut Draft,
     lines: &mut [u8],
@@ -101,7 +101,7 @@ fn push_some(
     Ok(count)
 }
 
-// From parts that are made ready.
+// Appends lines from ready parts.
 #[inline(never)]
 fn push_many(
     draft: &mut Draft,
@@ -124,13 +124,13 @@ fn push_many(
     Ok(())
 }
 
-/// What the lines of a plan's files are made of, kept from one piece to the next, so that it isn't made ready for each.
+/// The ready parts of a plan's lines, kept from one piece to the next, so that they aren't prepared for each.
 #[derive(Drop)]
 pub struct PlanDraft {
     draft: Draft,
     // The file whose prefixes are kept.
     file: u32,
-    // The plan, of which clauses alone speak.
+    // The plan, for contracts only.
     plan: Snapshot<Plan>,
 }
 
@@ -146,7 +146,7 @@ impl Model for PlanDraft {
 }
 
 impl PlanDraft {
-    /// Ready for the first file of a plan.
+    /// Makes a draft for the first file of a plan.
     pub fn new(plan: &Plan) -> PlanDraft
         ensures { result ≡ plan.now }
     {
@@ -157,7 +157,7 @@ impl PlanDraft {
         }
     }
 
-    /// Puts the lines of items of a file of its plan behind what the block holds. Where memory is refused a part of them stands there.
+    /// Appends the lines of items of a file of its plan to the block. If an allocation fails, a part of them was appended.
     pub fn push_lines(
         &mut self,
         block: &mut Vec<u8>,
@@ -181,8 +181,8 @@ impl PlanDraft {
         push_many(&mut self.draft, block, plan, file, items)
     }
 
-    /// Puts the lines of the first items of a file of its plan behind what the buffer holds, up to one that has no room or has to be made the
-    /// plain way; how many they are.
+    /// Appends to the buffer the lines of the first items of a file of its plan. Ends before one that has no room or needs the plain way. Returns
+    /// their number.
     pub fn place_lines(
         &mut self,
         buffer: &mut LineBuffer,

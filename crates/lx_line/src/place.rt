@@ -1,5 +1,5 @@
-//! Bytes put at a place in a buffer that has room. More than is counted may be written behind them, so that a copy has one length. Where how
-//! many count is kept in memory, it is read behind the copy: `put_16` and `put_4` don't take it, and so it is added from there.
+//! Places bytes in a buffer that has room. A function may write more bytes than count, so that every copy has a constant length. `put_16` and `put_4`
+//! don't take the count. If it comes from memory, the caller reads it after the copy and adds it to the place.
 
 ghost use Rattle.std.specs.Prelude.{◌≡◌, ◌+◌, ◌<◌, ◌≤◌, ℕ, [], ◌∷◌, length, take, drop};
 ghost use Rattle.lx_line.specs.Placed.{Placed};
@@ -15,7 +15,7 @@ pub fn place_byte(buf: &mut [u8], at: usize, byte: u8) -> usize
     at + 1
 }
 
-/// A whole text.
+/// Places a whole text.
 #[inline(always)]
 pub fn place_all(buf: &mut [u8], at: usize, text: &[u8]) -> usize
     requires { at + length text.now ≤ length buf.old }
@@ -26,7 +26,7 @@ pub fn place_all(buf: &mut [u8], at: usize, text: &[u8]) -> usize
     end
 }
 
-/// 4 bytes from a place of the source, of which any first ones may count.
+/// Copies 4 bytes from a position of the source. Any number of the first ones may count.
 #[inline(always)]
 pub fn put_4(buf: &mut [u8], at: usize, src: &[u8], from: usize)
     requires room { at + 4 ≤ length buf.old }
@@ -36,7 +36,7 @@ pub fn put_4(buf: &mut [u8], at: usize, src: &[u8], from: usize)
     u8x4::from_slice(&src[from..]).copy_to_slice(&mut buf[at..]);
 }
 
-/// The first `len` of 4 bytes from a place of the source.
+/// Places the first `len` of 4 bytes from a position of the source.
 #[inline(always)]
 pub fn place_4(buf: &mut [u8], at: usize, src: &[u8], from: usize, len: usize) -> usize
     requires room { at + 4 ≤ length buf.old }
@@ -48,7 +48,7 @@ pub fn place_4(buf: &mut [u8], at: usize, src: &[u8], from: usize, len: usize) -
     at + len
 }
 
-/// 16 bytes from a place of the source, of which any first ones may count.
+/// Copies 16 bytes from a position of the source. Any number of the first ones may count.
 #[inline(always)]
 pub fn put_16(buf: &mut [u8], at: usize, src: &[u8], from: usize)
     requires room { at + 16 ≤ length buf.old }
@@ -58,7 +58,7 @@ pub fn put_16(buf: &mut [u8], at: usize, src: &[u8], from: usize)
     u8x16::from_slice(&src[from..]).copy_to_slice(&mut buf[at..]);
 }
 
-/// The first `len` of 16 bytes from a place of the source.
+/// Places the first `len` of 16 bytes from a position of the source.
 #[inline(always)]
 pub fn place_16(buf: &mut [u8], at: usize, src: &[u8], from: usize, len: usize) -> usize
     requires room { at + 16 ≤ length buf.old }
@@ -70,7 +70,7 @@ pub fn place_16(buf: &mut [u8], at: usize, src: &[u8], from: usize, len: usize) 
     at + len
 }
 
-/// The first `len` of 32 bytes from a place of the source.
+/// Places the first `len` of 32 bytes from a position of the source.
 #[inline(always)]
 pub fn place_32(buf: &mut [u8], at: usize, src: &[u8], from: usize, len: usize) -> usize
     requires room { at + 32 ≤ length buf.old }
@@ -82,7 +82,7 @@ pub fn place_32(buf: &mut [u8], at: usize, src: &[u8], from: usize, len: usize) 
     at + len
 }
 
-/// The first `len` of 64 bytes from a place of the source.
+/// Places the first `len` of 64 bytes from a position of the source.
 #[inline(always)]
 pub fn place_64(buf: &mut [u8], at: usize, src: &[u8], from: usize, len: usize) -> usize
     requires room { at + 64 ≤ length buf.old }

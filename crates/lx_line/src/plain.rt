@@ -1,4 +1,4 @@
-//! Lines made field by field: the plain way, for every line.
+//! Makes lines field by field: the plain way, which works for every line.
 
 ghost use Rattle.std.specs.Prelude.{◌≡◌, ◌<◌, ◌≤◌, ◌++◌, OnOk, codes, decimal, length};
 ghost use Rattle.std.specs.List.{flat_map};
@@ -15,10 +15,10 @@ use lx_rules::rule::Kind;
 use lx_scan::Item;
 use std::alloc::AllocError;
 
-// The text of a line is placed so many bytes at a time.
+// Number of bytes of a text that are placed at a time.
 const PART: usize = 32;
 
-// At most 32 bytes of a text. A copy of them has 16 bytes more, which can be read too.
+// Appends at most 32 bytes of a text, escaped. Works on a copy with 16 more bytes, which can be read too.
 fn push_part(line: &mut Vec<u8>, text: &[u8]) -> Result<(), AllocError>
     requires { length text.now ≤ 32 }
     ensures { OnOk result (line.new.items ≡ line.old.items ++ flat_map escaped text.now) }
@@ -30,7 +30,7 @@ fn push_part(line: &mut Vec<u8>, text: &[u8]) -> Result<(), AllocError>
     line.extend_from_slice(&placed[..end])
 }
 
-/// A text, with what is escaped in it. Where memory is refused a part of it stands there.
+/// Appends a text, escaped. If an allocation fails, a part of it was appended.
 pub fn push_text(line: &mut Vec<u8>, text: &[u8]) -> Result<(), AllocError>
     ensures { OnOk result (line.new.items ≡ line.old.items ++ flat_map escaped text.now) }
 {
@@ -43,7 +43,7 @@ pub fn push_text(line: &mut Vec<u8>, text: &[u8]) -> Result<(), AllocError>
     Ok(())
 }
 
-/// A number in decimal.
+/// Appends a number in decimal.
 pub fn push_number(line: &mut Vec<u8>, number: u64) -> Result<(), AllocError>
     ensures { OnOk result (line.new.items ≡ line.old.items ++ decimal number) }
 {
@@ -51,7 +51,7 @@ pub fn push_number(line: &mut Vec<u8>, number: u64) -> Result<(), AllocError>
     line.extend_from_slice(buffer.format(number).as_bytes())
 }
 
-/// A number and a space. Most numbers of files and most lengths have one digit.
+/// Appends a number and a space. Most file numbers and most lengths have one digit.
 pub fn push_field(line: &mut Vec<u8>, number: u64) -> Result<(), AllocError>
     ensures { OnOk result (line.new.items ≡ line.old.items ++ decimal number ++ codes " ") }
 {
@@ -62,7 +62,7 @@ pub fn push_field(line: &mut Vec<u8>, number: u64) -> Result<(), AllocError>
     line.extend_from_slice(b" ")
 }
 
-// The kind of a token, and a space.
+// Appends the kind of a token, and a space.
 fn push_name(line: &mut Vec<u8>, plan: &Plan, kind: Kind) -> Result<(), AllocError>
     requires { IsKindAmong (kinds_of plan.now) kind }
     ensures { OnOk result (line.new.items ≡ line.old.items ++ name_text plan.now kind ++ codes " ") }
@@ -76,7 +76,7 @@ fn push_name(line: &mut Vec<u8>, plan: &Plan, kind: Kind) -> Result<(), AllocErr
     }
 }
 
-/// Whether it is a token or an Echo, and the kind, with a space behind each.
+/// Appends the class of an item, T for a token or E for an Echo, and its kind, with a space after each.
 pub fn push_kind(line: &mut Vec<u8>, plan: &Plan, item: &Item) -> Result<(), AllocError>
     requires { NamesKindAmong (kinds_of plan.now) item.now }
     ensures { OnOk result (line.new.items ≡ line.old.items ++ class_text item.now ++ codes " " ++ kind_text plan.now item.now ++ codes " ") }
@@ -90,8 +90,7 @@ pub fn push_kind(line: &mut Vec<u8>, plan: &Plan, item: &Item) -> Result<(), All
     }
 }
 
-/// Puts the fields of the line of an item, which stand before its text, behind what the block holds. Where memory is refused a part of
-/// them stands there.
+/// Appends the fields of an item's line before its text to the block. If an allocation fails, a part of them was appended.
 pub fn push_fields(
     block: &mut Vec<u8>,
     plan: &Plan,
@@ -110,7 +109,7 @@ pub fn push_fields(
     Ok(())
 }
 
-/// Puts the line of an item of a file behind what the block holds. Where memory is refused a part of it stands there.
+/// Appends the line of an item of a file to the block. If an allocation fails, a part of it was appended.
 #[inline(never)]
 pub fn push_line(block: &mut Vec<u8>, plan: &Plan, file: u32, item: &Item) -> Result<(), AllocError>
     requires file { file < files_of plan.now }
@@ -122,7 +121,7 @@ pub fn push_line(block: &mut Vec<u8>, plan: &Plan, file: u32, item: &Item) -> Re
     block.extend_from_slice(b"\n")
 }
 
-/// Puts the line of a file whose reading failed behind what the block holds.
+/// Appends the line of a file whose reading failed to the block.
 pub fn push_cut_line(block: &mut Vec<u8>, file: u32) -> Result<(), AllocError>
     ensures { OnOk result (block.new.items ≡ block.old.items ++ cut_line file) }
 {

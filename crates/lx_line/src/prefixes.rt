@@ -1,4 +1,4 @@
-//! The prefixes of lines, which are file, class and kind: each is made once and kept for the lines that follow.
+//! Prefixes of lines: file, class and kind. Each is made once and kept for later lines.
 
 ghost use Rattle.std.specs.Prelude.{◌≡◌, ◌+◌, ◌<◌, ◌≤◌, ◌++◌, None, Some, MatchOption, codes, decimal, length, take};
 ghost use Rattle.lx_scan.specs.ItemParts.{IsKindAmong};
@@ -15,10 +15,10 @@ use lx_rules::rule::Kind;
 use lx_tables::{ECHO_LABEL, kind_of_label};
 use std::simd::prelude::*;
 
-// The longest prefix that is kept.
+// Greatest length of a kept prefix.
 const PREFIX: usize = 32;
 
-// So many prefixes of tokens are kept.
+// Number of kept prefixes of tokens.
 const SLOTS: usize = 32;
 
 /// The prefix of a line.
@@ -36,7 +36,7 @@ pub struct Slot {
 }
 
 impl Prefix {
-    // One that is known to be short.
+    // Makes a prefix that is known to be short.
     fn of(file: u32, class_and_kind: &[u8]) -> Prefix
         requires { length class_and_kind.now ≤ 20 }
         ensures short { result.len ≤ 32 }
@@ -59,7 +59,7 @@ impl Prefix {
     }
 }
 
-// The number of a file and a space.
+// Places the number of a file and a space.
 fn place_file(buf: &mut [u8], file: u32) -> usize
     requires { 20 ≤ length buf.old }
     ensures placed { Placed buf.old buf.new 0 (decimal file ++ codes " ") result }
@@ -68,7 +68,7 @@ fn place_file(buf: &mut [u8], file: u32) -> usize
     place_number(buf, 0, u64::from(file))
 }
 
-// A kind and a space, unless its name is too long.
+// Places a kind and a space. Returns `None` if its name is too long.
 fn place_name(buf: &mut [u8], at: usize, plan: &Plan, kind: Kind) -> Option<usize>
     requires room { at + 33 ≤ length buf.old }
     requires kind { IsKindAmong (kinds_of plan.now) kind }
@@ -87,7 +87,7 @@ fn place_name(buf: &mut [u8], at: usize, plan: &Plan, kind: Kind) -> Option<usiz
     }
 }
 
-// The prefix of the lines of tokens of a kind, where it is short enough to be kept.
+// Makes the prefix of the lines of tokens of a kind, if it is short enough to be kept.
 fn prefix_of_kind(plan: &Plan, file: u32, kind: Kind) -> Option<Prefix>
     requires { IsKindAmong (kinds_of plan.now) kind }
     ensures { MatchOption result (Unit {0}) (λ prefix. IsPrefixOf plan.now file (Some kind) prefix) }
@@ -103,14 +103,14 @@ fn prefix_of_kind(plan: &Plan, file: u32, kind: Kind) -> Option<Prefix>
     Some(Prefix { text, len })
 }
 
-// The prefix of the lines of Echoes.
+// Makes the prefix of the lines of Echoes.
 fn prefix_of_echoes(plan: &Plan, file: u32) -> Prefix
     ensures { IsPrefixOf plan.now file None result }
 {
     Prefix::of(file, b"E - ")
 }
 
-// The prefix of the lines of items with a label, where it is short enough to be kept.
+// Makes the prefix of the lines of items with a label, if it is short enough to be kept.
 fn prefix_of(plan: &Plan, file: u32, label: u64) -> Option<Prefix>
     requires { IsKindOf plan.now (kind_of_label label) }
     ensures { MatchOption result (Unit {0}) (λ prefix. IsPrefixOf plan.now file (kind_of_label label) prefix) }
@@ -121,7 +121,7 @@ fn prefix_of(plan: &Plan, file: u32, label: u64) -> Option<Prefix>
     }
 }
 
-// Where the prefix of a label is kept. Several labels share the place, and the last has it.
+// Returns the slot of a label. Several labels share a slot, and the last one has it.
 #[inline(always)]
 fn slot_of(label: u64) -> usize
     ensures { result < 32 }
@@ -136,7 +136,7 @@ pub struct Prefixes {
 }
 
 impl Prefixes {
-    /// As yet that of an Echo alone.
+    /// Returns the prefixes of a file, so far only that of an Echo.
     #[inline(always)]
     pub fn new(plan: &Plan, file: u32) -> Prefixes
         ensures { ArePrefixesOf plan.now file result }
@@ -150,7 +150,7 @@ impl Prefixes {
         }
     }
 
-    // A prefix that is made now, and kept.
+    // Makes a new prefix, places it, and keeps it.
     #[cold]
     #[inline(never)]
     fn place_new(
@@ -174,7 +174,7 @@ impl Prefixes {
         Some(end)
     }
 
-    /// The prefix of the line of an item with a label. One that is too long isn't placed.
+    /// Places the prefix of the line of an item with a label. Returns `None` if it is too long.
     #[inline(always)]
     pub fn place(
         &mut self,

@@ -1,4 +1,4 @@
-//! The digits that numbers behind one another share, and the last ones of each.
+//! The digits that successive numbers share, and the last ones of each.
 
 ghost use Rattle.std.specs.Prelude.{◌≡◌, IsTrue, ◌+◌, ◌*◌, ◌/◌, ◌%◌, ◌^◌, ◌<◌, ◌≤◌, ◌++◌, codes, decimal, length, take};
 ghost use Rattle.lx_line.specs.Decimals.{IsAmong, leading};
@@ -8,7 +8,7 @@ use crate::place::{put_4, put_16};
 use itoa::write_digits;
 use std::simd::prelude::*;
 
-// The three digits of each number below 1000, and a space. Four bytes more can be read behind the last.
+// The three digits of each number below 1000, and a space. Four more bytes can be read after the last.
 static TRIPLES: [u8; 4004] = *b"\
         000 001 002 003 004 005 006 007 008 009 010 011 012 013 014 015 016 017 018 019 \
         020 021 022 023 024 025 026 027 028 029 030 031 032 033 034 035 036 037 038 039 \
@@ -61,25 +61,25 @@ static TRIPLES: [u8; 4004] = *b"\
         960 961 962 963 964 965 966 967 968 969 970 971 972 973 974 975 976 977 978 979 \
         980 981 982 983 984 985 986 987 988 989 990 991 992 993 994 995 996 997 998 999     ";
 
-// The most that a number may be: the digits before its last three are fifteen at most.
+// Greatest number that is supported: it has at most fifteen digits before its last three.
 const MOST: u64 = 999_999_999_999_999_999;
 
-// So many digits a number of 64 bits has at most.
+// Greatest number of digits of a 64-bit number.
 const END: usize = 20;
 
-/// Numbers behind one another that have as many digits, and differ in their last three alone. What they share is kept, and where their last
-/// digits stand in the table.
+/// The shared digits of successive numbers that have equally many digits and differ only in their last three. Keeps the shared digits, and the
+/// position of the last ones in the table.
 #[derive(Clone, Copy, Drop)]
 pub struct SharedDigits {
-    // They are those from the first on, so many.
+    // The first of these numbers, and their count.
     first: u64,
     count: u64,
-    // Each of them, with zeros for its last three digits.
+    // Each of these numbers, with zeros for its last three digits.
     base: u64,
-    // It begins with the digits before the last three, so many.
+    // Digits before the last three, and their number.
     front: [u8; 16],
     len: usize,
-    // The last digits of a number n, and a space, stand in the table from 4 * n + 2 - before on, and are so many.
+    // The last digits of a number n, and a space, are the `last` bytes at 4 * n + 2 - `before` of the table.
     before: u64,
     last: usize,
     ghost small: { base < 10 ^ 18 },
@@ -97,7 +97,7 @@ pub struct SharedDigits {
 }
 
 impl SharedDigits {
-    /// Those of the numbers below 10.
+    /// Returns the digits of the numbers below 10.
     pub fn new() -> SharedDigits {
         SharedDigits {
             first: 0,
@@ -110,7 +110,7 @@ impl SharedDigits {
         }
     }
 
-    // Goes on by a thousand, where that changes the last of the digits before it alone; whether the number is one of the next then.
+    // Advances by a thousand, if that changes only the last of the front digits. Returns true if the number is then among them.
     #[inline(always)]
     fn step(&mut self, number: u64) -> bool
         ensures { IsTrue result → IsAmong self.new.first self.new.count number }
@@ -130,7 +130,7 @@ impl SharedDigits {
         number.wrapping_sub(self.first) < 1000
     }
 
-    // Those below 1000 with as many digits as this one.
+    // Begins with the numbers below 1000 that have as many digits as this one.
     fn begin_short(&mut self, number: u64)
         requires { number < 1000 }
         ensures { IsAmong self.new.first self.new.count number }
@@ -157,7 +157,7 @@ impl SharedDigits {
         self.last = 4;
     }
 
-    // Those of the same thousand.
+    // Begins with the numbers of the same thousand.
     fn begin_long(&mut self, number: u64)
         requires some { 1000 ≤ number }
         requires few { number < 10 ^ 18 }
@@ -199,7 +199,7 @@ impl SharedDigits {
         self.step(number) || self.renew(number)
     }
 
-    /// Keeps the digits that a number shares with those near it, unless they are too many.
+    /// Keeps the digits that a number shares with nearby ones. Returns false if there are too many.
     #[inline(always)]
     pub fn follow(&mut self, number: u64) -> bool
         ensures { IsTrue result → IsAmong self.new.first self.new.count number }
@@ -210,7 +210,7 @@ impl SharedDigits {
         self.change(number)
     }
 
-    /// One of the numbers, and a space.
+    /// Places one of the numbers, and a space.
     #[inline(always)]
     pub fn place(&self, buf: &mut [u8], at: usize, number: u64) -> usize
         requires room { at + 20 ≤ length buf.old }

@@ -1,4 +1,4 @@
-//! Texts, with what is escaped in them.
+//! Places texts, with bytes escaped as the listing has it.
 
 ghost use Rattle.std.specs.Prelude.{◌≡◌, ◌+◌, ◌*◌, ◌<◌, ◌≤◌, ℕ, length, take, drop};
 ghost use Rattle.std.specs.List.{flat_map};
@@ -8,7 +8,7 @@ ghost use Rattle.lx_line.specs.Placed.{Placed};
 use crate::place::{place_16, place_byte};
 use std::simd::prelude::*;
 
-// How many of 16 bytes, up to the first that is escaped, stand in a line as they are.
+// Returns the number of bytes before the first escaped one among 16.
 #[inline(always)]
 fn plain_16(src: &[u8], from: usize) -> usize
     requires { from + 16 ≤ length src.now }
@@ -19,7 +19,7 @@ fn plain_16(src: &[u8], from: usize) -> usize
     let is_escaped = bytes.simd_lt(u8x16::splat(b' '))
         | bytes.simd_gt(u8x16::splat(b'~'))
         | bytes.simd_eq(u8x16::splat(b'\\'));
-    // a bit behind theirs, so that there is a first
+    // an extra bit after theirs, so that there always is a first
     (is_escaped.to_bitmask() + 0x1_0000).trailing_zeros() as usize
 }
 
@@ -30,7 +30,7 @@ fn hex_digit(n: u8) -> u8
     if n < 10 { b'0' + n } else { b'A' + (n - 10) }
 }
 
-// A byte as it is escaped.
+// Places a byte, escaped if it has to be.
 fn place_escaped(buf: &mut [u8], at: usize, byte: u8) -> usize
     requires { at + 4 ≤ length buf.old }
     ensures placed { Placed buf.old buf.new at (escaped byte) result }
@@ -48,14 +48,14 @@ fn place_escaped(buf: &mut [u8], at: usize, byte: u8) -> usize
     place_byte(buf, at, hex_digit(byte % 16))
 }
 
-// Bytes of a text that were placed: where they end, and how many of the text they are.
+// A placed part of a text: the position where it ends, and the number of text bytes in it.
 #[derive(Clone, Copy, Drop)]
 struct Part {
     end: usize,
     count: usize,
 }
 
-// Up to 16 bytes as they are, and the first that is escaped.
+// Places up to 16 bytes as they are, and the first one that is escaped.
 #[inline(always)]
 fn place_part(buf: &mut [u8], at: usize, bytes: &[u8], from: usize, most: usize) -> Part
     requires some { 0 < most }
@@ -78,7 +78,7 @@ fn place_part(buf: &mut [u8], at: usize, bytes: &[u8], from: usize, most: usize)
     }
 }
 
-// A text of more than 16 bytes, or with a byte that is escaped.
+// Places a text of more than 16 bytes, or with a byte that is escaped.
 #[inline(never)]
 fn place_long(buf: &mut [u8], at: usize, bytes: &[u8], start: usize, len: usize) -> usize
     requires text { start + len + 16 ≤ length bytes.now }
@@ -96,7 +96,7 @@ fn place_long(buf: &mut [u8], at: usize, bytes: &[u8], start: usize, len: usize)
     end
 }
 
-/// A text, which lies in bytes so far before their end that 16 can be read at once.
+/// Places a text after which 16 bytes can be read.
 #[inline(always)]
 pub fn place_text(buf: &mut [u8], at: usize, bytes: &[u8], start: usize, len: usize) -> usize
     requires text { start + len + 16 ≤ length bytes.now }
@@ -110,7 +110,7 @@ pub fn place_text(buf: &mut [u8], at: usize, bytes: &[u8], start: usize, len: us
     place_long(buf, at, bytes, start, len)
 }
 
-// A text of at most 16 bytes. A copy of them has 16 bytes more, which can be read too.
+// Places a text of at most 16 bytes. Works on a copy with 16 more bytes, which can be read too.
 fn place_copied(buf: &mut [u8], at: usize, text: &[u8]) -> usize
     requires few { length text.now ≤ 16 }
     requires room { at + 4 * length text.now + 16 ≤ length buf.old }
@@ -122,7 +122,7 @@ fn place_copied(buf: &mut [u8], at: usize, text: &[u8]) -> usize
     place_text(buf, at, &bytes, 0, text.len())
 }
 
-/// A text behind which nothing has to be there to be read: so its last 16 bytes are placed by themselves.
+/// Places a text after which no bytes need be readable: its last 16 bytes are placed from a copy.
 pub fn place_any_text(buf: &mut [u8], at: usize, text: &[u8]) -> usize
     requires { at + 4 * length text.now + 16 ≤ length buf.old }
     ensures placed { Placed buf.old buf.new at (flat_map escaped text.now) result }

@@ -1,4 +1,4 @@
-//! The listing of a plan's files on the calling thread, for which no pieces are cut.
+//! Writes the listing of a plan's files on the calling thread, without cutting pieces.
 
 ghost use Rattle.std.specs.Prelude.{◌≡◌, ◌<◌, IfErr, OnErr, OnOk};
 ghost use Rattle.lx_piece.specs.Plans.{IsPlan, files_of, items_of};
@@ -14,10 +14,10 @@ use lx_piece::{Plan, ReaderFault};
 use lx_scan::{Cursor, ItemList, ScanMemory};
 use std::alloc::Global;
 
-// So many items are found at once. Where pieces had a quarter of them, a listing of C took 6 % longer (docs/SPEED.md).
+// Number of items that are scanned at once. With a quarter of them, a listing of C takes 6 % longer (docs/SPEED.md).
 const AT_ONCE: usize = 1024;
 
-// Writes the lines of a file's items. What the list and the block hold means nothing before and after.
+// Writes the lines of a file's items. `items` and `block` are scratch memory: their contents mean nothing before and after.
 fn write_items_of<S: LineSink>(
     alloc: Global,
     plan: &Plan,
@@ -71,7 +71,7 @@ fn write_file<S: LineSink>(
     write_cut(sink, block, file, plan.is_cut(file))
 }
 
-/// Writes the lines of a plan's files, one file behind the other. Behind a fault a prefix of them was written.
+/// Writes the lines of a plan's files, one file after the other. After a fault, a prefix of them was written.
 pub(crate) fn write_files<S: LineSink>(
     alloc: Global,
     plan: &Plan,

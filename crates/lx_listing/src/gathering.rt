@@ -1,4 +1,4 @@
-//! Lines that are gathered before they go on, so that where they go gets many at once.
+//! Gathers lines before they go to a sink, so that the sink gets many at once.
 
 ghost use Rattle.std.specs.Prelude.{◌≡◌, ◌<◌, ◌≤◌, [], All, IfErr, IfOk, OnOk, OnErr, false, is_err, length, take, true};
 ghost use Rattle.lx_scan.specs.ItemParts.{IsItemOf};
@@ -15,8 +15,8 @@ use lx_piece::{Plan, ReaderFault};
 use lx_scan::FlatItem;
 use std::marker::Model;
 
-/// A sink, before which lines are gathered: those of items are placed where they are held until they go on together. Once the sink failed it
-/// gets nothing more.
+/// A sink with a buffer before it. The lines of items are placed directly in the buffer, and go on together. Once the sink failed it gets nothing
+/// more.
 #[derive(Drop)]
 pub struct Gathering<S: LineSink> {
     held: LineBuffer,
@@ -43,7 +43,7 @@ impl<S: LineSink> Gathering<S> {
         }
     }
 
-    // Puts a block behind what is held, unless it has to go on first; whether it did.
+    // Appends a block to the buffer. Returns false, without effect, if the buffer has to go on first.
     fn hold(&mut self, block: &[u8]) -> bool
         ensures held { result ≡ true → Gathers S.wrote self.old block.now self.new }
         ensures not { result ≡ false → self.new ≡ self.old }
@@ -51,7 +51,7 @@ impl<S: LineSink> Gathering<S> {
         self.held.push(block)
     }
 
-    // Hands on what is held.
+    // Writes the contents of the buffer to the sink.
     fn pass_on(&mut self) -> Result<(), ReaderFault>
         ensures gathers { Gathers S.wrote self.old [] self.new }
         ensures failed { self.new.failed ≡ is_err result }
@@ -67,7 +67,7 @@ impl<S: LineSink> Gathering<S> {
         answer
     }
 
-    // Hands a block on, behind which nothing is held.
+    // Writes a block to the sink directly. The buffer is empty.
     fn write_through(&mut self, block: &[u8]) -> Result<(), ReaderFault>
         requires empty { self.old.held ≡ [] }
         ensures ok { OnOk result (Gathers S.wrote self.old block.now self.new) }
@@ -82,7 +82,7 @@ impl<S: LineSink> Gathering<S> {
         answer
     }
 
-    /// Puts a block behind what is held. A long one goes on at once.
+    /// Appends a block to the buffer. A long block goes to the sink at once.
     pub(crate) fn gather(&mut self, block: &[u8]) -> Result<(), ReaderFault>
         ensures ok { OnOk result (Gathers S.wrote self.old block.now self.new) }
         ensures err { OnErr result (WrotePrefix (Gathers S.wrote) self.old block.now self.new) }
@@ -98,7 +98,7 @@ impl<S: LineSink> Gathering<S> {
         self.write_through(block)
     }
 
-    // The line of an item that isn't placed: it is made in the block, or in parts where its text is long.
+    // Gathers the line of an item that can't be placed. Makes it in the block, or in parts if its text is long.
     fn gather_line(
         &mut self,
         block: &mut Vec<u8>,
@@ -122,7 +122,7 @@ impl<S: LineSink> Gathering<S> {
         self.gather(block.as_slice())
     }
 
-    // The lines of the first items, and of how many: as many as are placed at once, or one that isn't placed.
+    // Gathers the lines of the first items: all those that can be placed at once, or one that can't. Returns their number.
     fn gather_some(
         &mut self,
         block: &mut Vec<u8>,
@@ -149,7 +149,7 @@ impl<S: LineSink> Gathering<S> {
         Ok(count)
     }
 
-    // The lines of items.
+    // Gathers the lines of items.
     fn gather_items(
         &mut self,
         block: &mut Vec<u8>,
@@ -172,7 +172,7 @@ impl<S: LineSink> Gathering<S> {
         Ok(())
     }
 
-    /// Hands on what is held, and gives back where the lines went.
+    /// Writes the contents of the buffer, and returns the sink.
     pub fn finish(self) -> (S, Result<(), ReaderFault>)
         ensures { Gathers S.wrote self [] (gathered [] (is_err result.1) result.0) }
     {

@@ -1,12 +1,12 @@
-//! Whether the texts of items are long.
+//! Tests for long texts of items.
 
 use lx_scan::FlatItem;
 
-// Where texts can't have more bytes than these together, since each has at most as many as lie between the first and the last one, they aren't
-// summed: so it costs pieces of short texts nothing. That more than the caller's limit are in one block takes items that share a text.
+// Bound on the bytes of all texts up to which they aren't summed. Each text has at most as many bytes as lie between the start of the first item and
+// the end of the last. So pieces of short texts cost nothing. Below the bound, a block exceeds the caller's limit only if items share a text.
 const SURELY_FEW: usize = 1_310_720;
 
-// How many bytes the texts of items have in sum.
+// Returns the number of bytes of the items' texts in total.
 fn text_bytes(items: &[FlatItem]) -> usize {
     let mut sum: usize = 0;
     for item in items {
@@ -15,7 +15,7 @@ fn text_bytes(items: &[FlatItem]) -> usize {
     sum
 }
 
-// How many bytes of the file lie between the beginning of the first item and the end of the last one.
+// Returns the number of file bytes between the start of the first item and the end of the last.
 fn span_of(items: &[FlatItem]) -> usize {
     let (Some(first), Some(last)) = (items.first(), items.last()) else {
         return 0;
@@ -25,8 +25,8 @@ fn span_of(items: &[FlatItem]) -> usize {
         .saturating_sub(first.start())
 }
 
-/// Whether the texts of the items of a piece have more than so many bytes in sum. Items of one action have the same text, so that these may
-/// be more than lie between the first and the last one.
+/// Returns true if the texts of a piece's items have more than `most` bytes in total. Items of one action have the same text, so the total can exceed
+/// the bytes between the first and the last item.
 pub(crate) fn are_long(items: &[FlatItem], most: usize) -> bool {
     let span = span_of(items);
     if span <= most && span.saturating_mul(items.len()) <= SURELY_FEW {

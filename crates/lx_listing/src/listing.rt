@@ -1,4 +1,4 @@
-//! The listing as a reader of pieces of items.
+//! A reader of pieces of items that writes their listing.
 
 ghost use Rattle.std.specs.Prelude.{◌≡◌, ◌+◌, ◌<◌, [], All, IfOk, OnOk, OnErr, Err, replicate, true, false};
 ghost use Rattle.lx_scan.specs.ItemParts.{IsItemOf};
@@ -18,7 +18,7 @@ use std::alloc::{AllocError, Global};
 use std::io::Write;
 use std::marker::Model;
 
-// The same piece, with its items as what a listing's pieces carry.
+// Converts a piece of items to a piece of a listing.
 fn shown_piece(plan: &Plan, piece: Piece) -> Piece<Shown>
     requires { All (IsItemOf (kinds_of plan.now) (bytes_of plan.now piece.file)) piece.items }
     ensures { result ≡ as_shown plan.now piece }
@@ -39,11 +39,10 @@ fn shown_piece(plan: &Plan, piece: Piece) -> Piece<Shown>
     }
 }
 
-/// Writes the lines of a plan's files in their order, with the cut line behind those of a file whose reading failed, and
-/// holds the pieces of later files until the earlier ones are closed. Each line is written at once, or in further writes
-/// for the rest of what was taken in part. A write of 0 bytes or an error is a fault of the device. Where memory is
-/// refused for a line, nothing of it is written. After a fault of either kind nothing more is written, and Device is
-/// answered and counted.
+/// Writes the lines of a plan's files in their order, with the cut line after those of a file whose reading failed. Holds the pieces of later files
+/// until the earlier ones are closed. Each line goes out in one write, or in further ones for what the device didn't accept. A write of 0 bytes or an
+/// error is a fault of the device. If an allocation fails for a line, nothing of it is written. After a fault of either kind it writes nothing more.
+/// Each later call returns Device, which is counted.
 #[derive(Drop)]
 pub struct Listing<'a, W: Write> {
     plan: &'a Plan,
@@ -62,7 +61,7 @@ impl<'a, W: Write> Model for Listing<'a, W> {
 }
 
 impl<'a, W: Write> Listing<'a, W> {
-    /// A listing that has taken nothing, and writes to `out`.
+    /// Returns a listing that has taken nothing and writes to `out`.
     pub fn new(alloc: Global, plan: &'a Plan, out: W) -> Result<Listing<'a, W>, AllocError>
     where
         W: Drop,
@@ -71,7 +70,7 @@ impl<'a, W: Write> Listing<'a, W> {
         ensures faults { IfOk result (λ listing. listing.progress.faults ≡ 0) }
         ensures failed { IfOk result (λ listing. listing.progress.failed ≡ false) }
         ensures written { IfOk result (λ listing. listing.written ≡ W.contents out) }
-        // By what it has taken nothing is due yet.
+        // Nothing is due yet, since it has taken nothing.
         ensures due { IfOk result (λ listing. IsDue plan.now listing.progress.counts []) }
     {
         let sink = Owned {
@@ -102,7 +101,7 @@ impl<'a, W: Write> Reader for Listing<'a, W> {
 
     ghost follows = { Prints };
 
-    /// After a fault of either kind it has failed, and answers Device from then on.
+    /// Takes the next piece of a file. After a fault of either kind the listing has failed: it returns Device from then on.
     fn take(&mut self, piece: Piece) -> Result<(), ReaderFault>
         requires next { IsNextPiece self.old.progress.plan self.old.progress.counts piece }
         requires countable { self.old.progress.faults < top_number }

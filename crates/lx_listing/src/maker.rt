@@ -1,4 +1,4 @@
-//! What makes the lines of a piece where many pieces are on their way.
+//! Makes the lines of a piece if many pieces are under way.
 
 ghost use Rattle.std.specs.Prelude.{◌≡◌};
 
@@ -10,16 +10,15 @@ use lx_piece::{Maker, Plan};
 use lx_scan::ItemList;
 use std::alloc::{AllocError, Global};
 
-// The texts of a piece of which a worker makes the lines have so many bytes at most. Those of longer ones leave in parts, so that there is no
-// block of them.
+// Greatest number of text bytes of a piece for which a worker makes the lines. Longer texts are written in parts, so no block holds them.
 const MOST: usize = 262_144;
 
-/// Makes the lines of a piece where many pieces are on their way and its texts aren't long, and else leaves its items.
+/// Makes the lines of a piece if many pieces are under way and its texts aren't long. Otherwise leaves its items.
 #[derive(Clone, Copy, Drop)]
 pub struct LineMaker<Y: Spares> {
     alloc: Global,
     spares: Y,
-    // The file that is cut, and how many of its pieces were made.
+    // The file being cut, and the number of its pieces that were made.
     file: u32,
     sent: u64,
 }
@@ -65,7 +64,7 @@ impl<Y: Spares> Maker for LineMaker<Y> {
                 self.spares.give_list(file, items);
                 Ok(made)
             }
-            // where memory is refused the items will do
+            // without memory for the lines, the items suffice
             Err(_) => Ok(Shown::of_items(plan, file, items)),
         }
     }

@@ -1,4 +1,4 @@
-//! Lines of which the text is long, gathered in parts, so that no block holds all of it.
+//! Gathers lines with long texts in parts, so that no block holds the whole text.
 
 ghost use Rattle.std.specs.Prelude.{◌≡◌, ◌+◌, ◌*◌, ◌<◌, ◌≤◌, IfErr, OnOk, OnErr, length};
 ghost use Rattle.std.specs.List.{flat_map};
@@ -15,12 +15,12 @@ use lx_line::{place_any_text, push_fields};
 use lx_piece::{Plan, ReaderFault};
 use lx_scan::Item;
 
-/// A text that is longer is placed so many bytes at a time, in memory for four times as many and 16.
+/// Number of bytes of a longer text that are placed at a time. They need memory for four times as many bytes and 16 more.
 pub(crate) const PART: usize = 4_096;
 
 const ROOM: usize = 16_400;
 
-// Gathers a part of a text, with what is escaped in it.
+// Gathers a part of a text, escaped.
 fn gather_part<S: LineSink>(
     sink: &mut Gathering<S>,
     room: &mut [u8],
@@ -35,7 +35,7 @@ fn gather_part<S: LineSink>(
     sink.gather(&room[..end])
 }
 
-// Gathers a text, with what is escaped in it. It asks for no memory, so that none can be refused within a line.
+// Gathers a text, escaped. It allocates nothing, so no allocation can fail within a line.
 fn gather_text<S: LineSink>(sink: &mut Gathering<S>, text: &[u8]) -> Result<(), ReaderFault>
     ensures ok { OnOk result (Gathers S.wrote sink.old (flat_map escaped text.now) sink.new) }
     ensures err { OnErr result (WrotePrefix (Gathers S.wrote) sink.old (flat_map escaped text.now) sink.new) }
@@ -51,7 +51,7 @@ fn gather_text<S: LineSink>(sink: &mut Gathering<S>, text: &[u8]) -> Result<(), 
     Ok(())
 }
 
-// Gathers the line of an item, its text in parts.
+// Gathers the line of an item, with its text in parts.
 pub(crate) fn gather_long<S: LineSink>(
     sink: &mut Gathering<S>,
     block: &mut Vec<u8>,

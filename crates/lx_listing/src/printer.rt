@@ -14,16 +14,16 @@ use lx_line::PlanDraft;
 use lx_piece::{Piece, Plan, ReaderFault, Taker, plans_are_well_formed};
 use std::alloc::Global;
 
-/// Writes the lines of a plan's pieces, which it is handed in the plan's order, with the cut line behind those of a file whose
-/// reading failed. Where memory is refused, whole lines of the piece were written, or none.
+/// Writes the lines of a plan's pieces, which arrive in the plan's order. Writes the cut line after those of a file whose reading failed. If an
+/// allocation fails, whole lines of the piece were written, or none.
 #[derive(Drop)]
 pub struct Printer<Y: Spares, S: LineSink> {
     pub(crate) alloc: Global,
     pub(crate) spares: Y,
     pub(crate) sink: S,
-    // What the lines of the plan are made of. By it clauses see the plan.
+    // Ready parts of the plan's lines. Contracts see the plan by it.
     pub(crate) draft: PlanDraft,
-    // The piece that comes next.
+    // File and number of the piece that comes next.
     pub(crate) file: u32,
     pub(crate) number: u64,
 }
@@ -54,7 +54,7 @@ fn write_piece<Y: Spares, S: LineSink>(
 }
 
 impl<Y: Spares, S: LineSink> Printer<Y, S> {
-    /// A printer that has written nothing.
+    /// Returns a printer that has written nothing.
     pub fn new(alloc: Global, plan: &Plan, spares: Y, sink: S) -> Printer<Y, S>
         ensures plan { result.draft ≡ plan.now }
         ensures file { result.file ≡ 0 }
@@ -71,7 +71,7 @@ impl<Y: Spares, S: LineSink> Printer<Y, S> {
         }
     }
 
-    /// Where its lines went.
+    /// Returns the sink.
     pub fn into_sink(self) -> S
     where
         Y: Drop,
@@ -109,7 +109,7 @@ impl<Y: Spares, S: LineSink> Taker<LineMaker<Y>> for Printer<Y, S> {
         ensures fails { IfErr result (λ fault. PrintsPart S.wrote (printing self.old.draft self.old.file self.old.number self.old.sink) fault (printing self.new.draft self.new.file self.new.number self.new.sink)) }
     {
         self.spares.receive(self.file, self.number);
-        // a law, that its files' items are items of these
+        // a law: the items of its pieces are items of its files
         plans_are_well_formed(whole);
         let closes = piece.is_closing();
         write_piece(

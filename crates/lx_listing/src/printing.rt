@@ -1,4 +1,4 @@
-//! The listing of a plan's files, by workers or on the calling thread.
+//! Lists a plan's files, by workers or on the calling thread.
 
 ghost use Rattle.std.specs.Prelude.{◌≡◌, ◌<◌, ◌≤◌, OnOk, OnErr};
 ghost use Rattle.std.specs.Io.KnownBytes.{Appends};
@@ -35,7 +35,8 @@ fn print_to<S: LineSink + Drop>(alloc: Global, plan: &Plan, sink: S) -> (S, Resu
     (sink, answer)
 }
 
-// Hands a new printer all pieces of the plan, as workers cut them. It comes back, so that what a lent writer holds in the end is known.
+// Delivers all pieces of the plan to a new printer, as workers cut them. Returns the printer, so that the final contents of a borrowed writer are
+// known.
 fn scan_all_to<T: Threads + Wait + Sync, Y: Spares + Copy + Drop + Sync, S: LineSink + Drop>(
     rt: &T,
     alloc: Global,
@@ -61,7 +62,7 @@ fn scan_all_to<T: Threads + Wait + Sync, Y: Spares + Copy + Drop + Sync, S: Line
     }
 }
 
-// Has workers hand all pieces of the plan to a new printer.
+// Makes workers cut all pieces of the plan for a new printer.
 fn scan_to<T: Threads + Wait + Sync, S: LineSink + Drop>(
     rt: &T,
     alloc: Global,
@@ -83,7 +84,7 @@ fn scan_to<T: Threads + Wait + Sync, S: LineSink + Drop>(
     (printer.into_sink(), answer)
 }
 
-// Has the pieces of the plan handed to a new printer: by workers, or with none on the calling thread.
+// Lists the plan to a sink: by workers, or with none of them on the calling thread.
 fn list_to<T: Threads + Wait + Sync, S: LineSink + Drop>(
     rt: &T,
     alloc: Global,
@@ -102,7 +103,7 @@ fn list_to<T: Threads + Wait + Sync, S: LineSink + Drop>(
     }
 }
 
-// The same, where the lines are gathered before they go on. What is held in the end goes on behind a fault too, unless the writer failed.
+// Does the same as `list_to`, and gathers the lines before they go on. Also after a fault the gathered lines go on, unless the writer failed.
 fn list_gathered<T: Threads + Wait + Sync, S: LineSink + Drop>(
     rt: &T,
     alloc: Global,
@@ -125,9 +126,8 @@ fn list_gathered<T: Threads + Wait + Sync, S: LineSink + Drop>(
     }
 }
 
-/// Writes the listing of a plan's files, the lines of each file in order and the files in order: 1 to 8 workers scan them, or with none the
-/// calling thread does. Each line is written by itself, or many are gathered and written at once. After a fault a prefix of the listing was
-/// written.
+/// Writes the listing of a plan's files, the lines of each file in order and the files in order. 1 to 8 workers scan them, or with 0 the calling
+/// thread. Each line is written by itself, or many are gathered and written at once. After a fault, a prefix of the listing was written.
 pub fn list_plan<T: Threads + Wait + Sync, W: Write>(
     rt: &T,
     alloc: Global,
@@ -145,7 +145,7 @@ pub fn list_plan<T: Threads + Wait + Sync, W: Write>(
         LineWrites::EachLine => list_to(rt, alloc, plan, workers, sink),
         LineWrites::Whole => list_gathered(rt, alloc, plan, workers, sink),
     };
-    // taken apart, so that what the writer holds in the end is known
+    // taken apart, so that the final contents of the writer are known
     let Lent {
         writes: _writes,
         out: _out,
@@ -153,8 +153,8 @@ pub fn list_plan<T: Threads + Wait + Sync, W: Write>(
     answer
 }
 
-/// Writes the listing of a plan's files on one thread, the lines of each file in order and the files in order, each line in a write of its
-/// own. After a fault a prefix of it was written.
+/// Writes the listing of a plan's files on one thread, the lines of each file in order and the files in order. Each line has its own write. After a
+/// fault, a prefix of the listing was written.
 pub fn print_listing<W: Write>(alloc: Global, plan: &Plan, out: &mut W) -> Result<(), RunFault>
     ensures ok { OnOk result (Appends (W.contents out.old) (W.contents out.new) (listing_of plan.now)) }
     ensures err { OnErr result (AppendsPrefix (W.contents out.old) (W.contents out.new) (listing_of plan.now)) }
@@ -164,7 +164,7 @@ pub fn print_listing<W: Write>(alloc: Global, plan: &Plan, out: &mut W) -> Resul
         out,
     };
     let (sink, answer) = print_to(alloc, plan, sink);
-    // taken apart, so that what the writer holds in the end is known
+    // taken apart, so that the final contents of the writer are known
     let Lent {
         writes: _writes,
         out: _out,

@@ -1,4 +1,4 @@
-//! What a piece of a listing carries.
+//! The contents of a listing's piece.
 
 ghost use Rattle.std.specs.Prelude.{◌≡◌, All};
 ghost use Rattle.lx_scan.specs.ItemParts.{IsItemOf};
@@ -11,19 +11,19 @@ use lx_scan::{Item, ItemList};
 use std::marker::Model;
 use std::snapshot::Snapshot;
 
-/// The items as they were cut or as they were given, or their lines one behind the other.
+/// The contents of a piece: the items as they were cut, the items as they were given, or their lines one after the other.
 #[derive(Drop)]
 pub enum Form {
     Bare(ItemList),
     Given(Vec<Item>),
     Lines {
         block: Vec<u8>,
-        // The items, of which clauses alone speak.
+        // The items, for contracts only.
         items: Snapshot<ItemList>,
     },
 }
 
-/// What a piece of a listing carries: its items, or the lines of them. Contracts see the items alone.
+/// The contents of a listing's piece: its items, or their lines. Contracts see only the items.
 #[derive(Drop)]
 pub struct Shown {
     form: Form,
@@ -41,13 +41,13 @@ impl Model for Shown {
     ghost invariant = { λ s. IsFormOf s.plan.value s.file (items_in s.form) s.form };
 }
 
-// An item of a list has so many bytes, and one of a `Vec`.
+// Sizes of an item in a list and in a `Vec`, in bytes.
 const FLAT_ITEM: u64 = 32;
 
 const ITEM: u64 = 40;
 
 impl Shown {
-    /// Items as they were cut.
+    /// Wraps items as they were cut.
     pub fn of_items(plan: &Plan, file: u32, items: ItemList) -> Shown
         requires { All (IsItemOf (kinds_of plan.now) (bytes_of plan.now file)) items }
         ensures { result ≡ shown plan.now file items }
@@ -59,7 +59,7 @@ impl Shown {
         }
     }
 
-    /// Items as they are given.
+    /// Wraps items as they were given.
     pub fn of_given(plan: &Plan, file: u32, items: Vec<Item>) -> Shown
         requires { All (IsItemOf (kinds_of plan.now) (bytes_of plan.now file)) items.items }
         ensures { result ≡ shown plan.now file items.items }
@@ -71,7 +71,7 @@ impl Shown {
         }
     }
 
-    /// The lines of items.
+    /// Wraps the lines of items.
     pub fn of_lines(plan: &Plan, file: u32, items: &ItemList, block: Vec<u8>) -> Shown
         requires { block.items ≡ lines_of plan.now file items.now }
         ensures { result ≡ shown plan.now file items.now }
@@ -84,7 +84,7 @@ impl Shown {
         }
     }
 
-    /// Its items, or the lines of them.
+    /// Returns the items or their lines.
     pub fn into_form(self) -> Form
         ensures { IsFormOf self.plan self.file self.items result }
     {
@@ -96,7 +96,7 @@ impl Shown {
         form
     }
 
-    /// How many bytes of memory it takes, about.
+    /// Returns the approximate memory of the contents, in bytes.
     pub fn weight(&self) -> u64 {
         match &self.form {
             Form::Bare(items) => FLAT_ITEM.saturating_mul(items.capacity() as u64),

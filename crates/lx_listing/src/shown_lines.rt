@@ -1,4 +1,4 @@
-//! The lines of what a piece carries.
+//! Writes the lines of a piece's contents.
 
 ghost use Rattle.std.specs.Prelude.{◌≡◌, ◌<◌, All, IfErr, OnOk};
 ghost use Rattle.lx_scan.specs.ItemParts.{IsItemOf};
@@ -13,7 +13,7 @@ use lx_piece::{Plan, ReaderFault};
 use lx_scan::Item;
 use std::alloc::Global;
 
-// Writes the lines of items as they were given. Where memory is refused none was written.
+// Writes the lines of items as they were given. If an allocation fails, none was written.
 fn write_given<S: LineSink>(
     items: &[Item],
     block: &mut Vec<u8>,
@@ -33,7 +33,7 @@ fn write_given<S: LineSink>(
     sink.write_lines(block.as_slice())
 }
 
-/// Writes the lines of the items, which are made where the piece doesn't carry them. The result is a block whose memory can be used again.
+/// Writes the lines of the items, and makes them first if the piece doesn't carry them. Returns a block whose memory can be reused.
 pub(crate) fn write_shown<Y: Spares, S: LineSink>(
     shown: Shown,
     alloc: Global,
@@ -70,7 +70,7 @@ pub(crate) fn write_shown<Y: Spares, S: LineSink>(
     }
 }
 
-/// Writes the line of a file whose reading failed, where it did.
+/// Writes the cut line of a file if its reading failed.
 pub(crate) fn write_cut<S: LineSink>(
     sink: &mut S,
     block: &mut Vec<u8>,

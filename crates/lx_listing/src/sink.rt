@@ -1,4 +1,4 @@
-//! Where a listing's lines go.
+//! Sinks for a listing's lines.
 
 ghost use Rattle.std.specs.Prelude.{◌≡◌, ◌<◌, [], ◌++◌, ℕ, All, List, IfErr, OnOk, OnErr};
 ghost use Rattle.lx_scan.specs.ItemParts.{IsItemOf};
@@ -13,19 +13,19 @@ use lx_piece::{Plan, ReaderFault};
 use lx_scan::FlatItem;
 use std::io::Write;
 
-/// What takes lines, a block of them at a time.
+/// A sink for lines, a block of them at a time.
 pub trait LineSink {
-    /// Between one state and a later one these bytes were written.
+    /// These bytes were written between one state and a later one.
     ghost wrote: { Self → List ℕ → Self → Type 0 };
 
-    /// Writes a block of lines. Behind a fault a prefix of it was written.
+    /// Writes a block of lines. After a fault, a prefix of it was written.
     fn write_lines(&mut self, block: &[u8]) -> Result<(), ReaderFault>
         ensures ok { OnOk result (wrote self.old block.now self.new) }
         ensures err { OnErr result (WrotePrefix wrote self.old block.now self.new) }
         ensures device { IfErr result (λ fault. fault ≡ ReaderFault.Device) };
 
-    /// Writes the lines of items of a file, which the draft makes: as one block, where nothing else is said. What the block holds means
-    /// nothing before and after. Behind a fault a prefix of them was written, and whole lines where memory was refused.
+    /// Writes the lines of a file's items, which the draft makes. By default it writes them as one block. `block` is scratch memory: its contents
+    /// mean nothing before and after. After a fault, a prefix of the lines was written, and whole lines if an allocation failed.
     fn write_items(
         &mut self,
         block: &mut Vec<u8>,
@@ -53,7 +53,7 @@ pub trait LineSink {
     ghost wrote_on: { (s t u : Self) (xs ys : List ℕ) → wrote s xs t → wrote t ys u → wrote s (xs ++ ys) u };
 }
 
-/// A writer.
+/// A sink that owns its writer.
 #[derive(Drop)]
 pub struct Owned<W: Write> {
     pub out: W,
@@ -75,8 +75,8 @@ impl<W: Write> LineSink for Owned<W> {
     ghost wrote_on = { λ s t u xs ys f h. appends_both (W.contents s.out) (W.contents t.out) (W.contents u.out) xs ys f h };
 }
 
-/// A writer that is lent. It stays the same one, so that what it holds in the end is known. (It is the last field: the prover loses a writer
-/// that stands before another field.)
+/// A sink that borrows its writer. The writer stays the same one, so that its final contents are known. (It is the last field: the prover loses a
+/// writer that comes before another field.)
 #[derive(Drop)]
 pub struct Lent<'w, W: Write> {
     pub writes: LineWrites,

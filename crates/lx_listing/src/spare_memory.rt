@@ -1,35 +1,36 @@
-//! Memory that comes back from the printer, so that none is asked for at each piece.
+//! Reuses memory that comes back from the printer, so that not every piece allocates.
 
 ghost use Rattle.std.specs.Prelude.{◌≡◌, []};
 
 use lx_scan::ItemList;
 use std::alloc::Global;
 
-/// Lists of items and blocks of lines to be used again, and how many pieces are on their way to the printer. What such a list or
-/// block holds means nothing: it is emptied first. Who takes or gives one names the file that is cut or printed, so that threads which are at
-/// different files needn't get into each other's way. No contract speaks of any of this.
+/// Lists of items and blocks of lines for reuse, with a count of the pieces under way to the printer. The contents of such a list or block mean
+/// nothing: it is emptied before use. A caller names the file that it cuts or prints, so that threads at different files needn't contend. No contract
+/// speaks of any of this.
 pub trait Spares {
     fn take_list(&self, file: u32) -> Option<ItemList>;
 
-    /// It is dropped where there are enough.
+    /// Takes a list back, or drops it if there are enough.
     fn give_list(&self, file: u32, list: ItemList);
 
     fn take_block(&self, file: u32) -> Option<Vec<u8>>;
 
-    /// It is dropped where there are enough.
+    /// Takes a block back, or drops it if there are enough.
     fn give_block(&self, file: u32, block: Vec<u8>);
 
-    /// The piece of this number of a file is on its way.
+    /// Notes that the piece of this number of a file is under way.
     fn send(&self, number: u64);
 
-    /// The printer has come to the piece of this number of this file.
+    /// Notes that the printer has come to the piece of this number of this file.
     fn receive(&self, file: u32, number: u64);
 
-    /// Whether who cuts a file, and sent so many pieces of it, had better make the lines too, since the printer can't keep up.
+    /// Returns true if the thread that cuts this file ought to make the lines too, because the printer can't keep up. It has sent `sent` pieces of
+    /// it.
     fn are_many(&self, file: u32, sent: u64) -> bool;
 }
 
-/// An empty block, in memory that was used before where there is some.
+/// Returns an empty block, in used memory if there is some.
 pub fn emptied(alloc: Global, spare: Option<Vec<u8>>) -> Vec<u8>
     ensures { result.items ≡ [] }
 {
@@ -42,7 +43,7 @@ pub fn emptied(alloc: Global, spare: Option<Vec<u8>>) -> Vec<u8>
     }
 }
 
-/// An empty list, likewise.
+/// Returns an empty list, in used memory if there is some.
 pub(crate) fn emptied_list(alloc: Global, spare: Option<ItemList>) -> ItemList
     ensures { result ≡ [] }
 {

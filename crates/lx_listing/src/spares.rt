@@ -1,4 +1,4 @@
-//! The memory that is used again: that of one thread, and that of workers and the printer.
+//! Memory for reuse: that of one thread, and that shared by workers and the printer.
 
 use crate::Spares;
 use lx_scan::ItemList;
@@ -8,7 +8,7 @@ use std::hint::spin_loop;
 use std::sync::atomic::{AtomicU64, Ordering};
 use std::sync::{Mutex, MutexGuard};
 
-/// What one thread keeps, which cuts a piece and prints it before the next one.
+/// The memory of a single thread, which cuts a piece and prints it before the next one.
 #[derive(Drop)]
 pub struct Alone {
     list: Cell<Option<ItemList>>,
@@ -50,37 +50,37 @@ impl Spares for Alone {
     }
 }
 
-// So many pieces of the file that is printed are on their way before the worker that cuts it makes lines too.
+// Number of pieces of the printed file under way from which the worker that cuts it makes lines too.
 const MANY: u64 = 32;
 
-// So many of all files before a worker that cuts a later file does.
+// Number of pieces of all files under way from which a worker that cuts a later file makes lines too.
 const MANY_OF_ALL: u64 = 16;
 
-// Of so many pieces of a file the first one is counted: a count that has changed comes from the other thread's cache, which takes time.
+// Only one piece in this many of a file is counted. A changed count comes from the other thread's cache, which takes time.
 const COUNTED: u64 = 4;
 
 fn is_counted(number: u64) -> bool {
     number % COUNTED == 0
 }
 
-// So often a thread looks whether no other one is at a stack before it goes on without it.
+// Number of attempts to lock a stack before a thread goes on without it.
 const LOOKS: u32 = 64;
 
-/// Memory that came back. What came back last goes out first, since it is likeliest to be in a cache. No thread waits here for long.
+/// Memory for reuse. The last one in is the first one out, since it is likeliest to be in a cache. No thread waits here for long.
 #[derive(Drop)]
 struct Stack<T> {
     kept: Mutex<Vec<T>>,
 }
 
 impl<T> Stack<T> {
-    // Room for so many.
+    // Makes an empty stack with room for `most`.
     fn new(alloc: Global, most: usize) -> Result<Stack<T>, AllocError> {
         Ok(Stack {
             kept: Mutex::new(Vec::with_capacity(alloc, most)?),
         })
     }
 
-    // The stack for this thread alone, unless another one is at it all the time.
+    // Locks the stack, unless another thread holds it during all attempts.
     fn enter(&self) -> Option<MutexGuard<'_, Vec<T>>> {
         for _ in 0..LOOKS {
             let guard = self.kept.try_lock();
@@ -96,7 +96,7 @@ impl<T> Stack<T> {
         self.enter()?.pop()
     }
 
-    // It comes back where there is no room, or another thread is at the stack.
+    // Adds `spare`, or returns it if there is no room or another thread holds the stack.
     fn give(&self, spare: T) -> Option<T>
     where
         T: Drop,
@@ -112,7 +112,7 @@ impl<T> Stack<T> {
     }
 }
 
-/// Lists and blocks.
+/// Lists and blocks for reuse.
 #[derive(Drop)]
 struct Shelf {
     lists: Stack<ItemList>,
@@ -120,7 +120,7 @@ struct Shelf {
 }
 
 impl Shelf {
-    // Room for so many of each.
+    // Makes a shelf with room for `most` lists and `most` blocks.
     fn new(alloc: Global, most: usize) -> Result<Shelf, AllocError> {
         Ok(Shelf {
             lists: Stack::new(alloc, most)?,
@@ -129,30 +129,30 @@ impl Shelf {
     }
 }
 
-// There are so many shelves, so that workers, which are mostly at files that follow one another, are seldom at the same one.
+// Number of shelves. Workers are mostly at files with successive numbers, so they seldom use the same shelf.
 const SHELVES: u32 = 8;
 
-// Each has room for so many lists and so many blocks. A file seldom needs more of them at once.
+// Number of lists, and of blocks, for which a shelf has room. A file seldom needs more of them at once.
 const ON_A_SHELF: usize = 32;
 
-// What has no room there goes to a shelf for all files. The post has room for 256 notes, so the pieces of the file that is printed have no more than it holds.
+// Capacity of the shelf for all files, which takes what has no room elsewhere. The pieces of the printed file fit, since the post holds 256 notes.
 const FOR_ALL: usize = 288;
 
-/// What the workers and the printer share.
+/// Memory shared by the workers and the printer.
 #[derive(Drop)]
 pub struct Shared {
-    // The files whose numbers leave the same rest share one.
+    // Shelves of single files. Files whose numbers have the same remainder share one.
     shelves: Vec<Shelf>,
     for_all: Shelf,
-    // How many pieces are on their way, of those that are counted.
+    // Number of counted pieces under way.
     pieces: AtomicU64,
-    // The file that is printed, and how many of its pieces the printer has come to, or a few fewer.
+    // The file that is printed, and the number of its pieces that the printer has come to, or a few fewer.
     file: AtomicU64,
     printed: AtomicU64,
 }
 
 impl Shared {
-    /// Empty shelves.
+    /// Returns the shared memory with empty shelves.
     pub fn new(alloc: Global) -> Result<Shared, AllocError> {
         let mut shelves = Vec::with_capacity(alloc, SHELVES as usize)?;
         for _ in 0..SHELVES {
@@ -175,7 +175,7 @@ impl Shared {
     }
 }
 
-// From the first stack, or where it has none from the other one.
+// Takes from the first stack, or from the other one if the first has none.
 fn take_from<T>(first: &Stack<T>, other: &Stack<T>) -> Option<T> {
     match first.take() {
         Some(spare) => Some(spare),
@@ -183,7 +183,7 @@ fn take_from<T>(first: &Stack<T>, other: &Stack<T>) -> Option<T> {
     }
 }
 
-// To the first stack, or where it takes no more to the other one. It is dropped where neither does.
+// Gives to the first stack, or to the other one if the first takes no more. Drops `spare` if neither does.
 fn give_to<T: Drop>(first: &Stack<T>, other: &Stack<T>, spare: T) {
     if let Some(spare) = first.give(spare) {
         let _dropped = other.give(spare);
@@ -221,7 +221,7 @@ impl Spares for Shared {
         }
     }
 
-    // Pieces of files behind the one that is printed wait for it, and not for the printer: who cuts that one doesn't count them.
+    // Pieces of later files wait for the printed file, and not for the printer. So the worker of the printed file doesn't count them.
     fn are_many(&self, file: u32, sent: u64) -> bool {
         if self.file.load(Ordering::Relaxed) == u64::from(file) {
             return sent.saturating_sub(self.printed.load(Ordering::Relaxed)) >= MANY;

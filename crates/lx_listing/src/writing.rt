@@ -1,4 +1,4 @@
-//! Blocks of lines, written at once or line by line.
+//! Writes blocks of lines, at once or line by line.
 
 ghost use Rattle.std.specs.Prelude.{◌≡◌, ◌<◌, ◌≤◌, IfErr, OnOk, OnErr, length};
 ghost use Rattle.std.specs.Io.KnownBytes.{Appends};
@@ -7,17 +7,17 @@ ghost use Rattle.lx_listing.specs.Appending.{AppendsPrefix};
 use lx_piece::ReaderFault;
 use std::io::Write;
 
-/// How a block of lines is written.
+/// The way to write a block of lines.
 #[derive(Clone, Copy, Debug, PartialEq, Eq)]
 pub enum LineWrites {
-    /// Each line in a write of its own.
+    /// Each line in its own write.
     EachLine,
     /// The whole block in one write.
     Whole,
 }
 
-// Writes bytes in one write, or in further ones for the rest of what was taken in part. A write of 0 bytes or
-// an error is a fault, behind which a prefix was written.
+// Writes bytes in one write, or in further ones for what the device didn't accept. A write of 0 bytes or an error is a fault. After it, a prefix was
+// written.
 fn write_bytes<W: Write>(out: &mut W, bytes: &[u8]) -> Result<(), ReaderFault>
     ensures ok { OnOk result (Appends (W.contents out.old) (W.contents out.new) bytes.now) }
     ensures err { OnErr result (AppendsPrefix (W.contents out.old) (W.contents out.new) bytes.now) }
@@ -34,7 +34,7 @@ fn write_bytes<W: Write>(out: &mut W, bytes: &[u8]) -> Result<(), ReaderFault>
     Ok(())
 }
 
-// The place behind the line that begins here.
+// Returns the position after the line that begins here.
 fn line_end(block: &[u8], from: usize) -> usize
     requires { from < length block.now }
     ensures later { from < result }
@@ -47,7 +47,7 @@ fn line_end(block: &[u8], from: usize) -> usize
     end + 1
 }
 
-// Writes a block, each line in a write of its own.
+// Writes a block, each line in its own write.
 fn write_each<W: Write>(out: &mut W, block: &[u8]) -> Result<(), ReaderFault>
     ensures ok { OnOk result (Appends (W.contents out.old) (W.contents out.new) block.now) }
     ensures err { OnErr result (AppendsPrefix (W.contents out.old) (W.contents out.new) block.now) }
@@ -62,7 +62,7 @@ fn write_each<W: Write>(out: &mut W, block: &[u8]) -> Result<(), ReaderFault>
     Ok(())
 }
 
-/// Writes a block of lines. Behind a fault a prefix of it was written.
+/// Writes a block of lines. After a fault, a prefix of it was written.
 pub fn write_block<W: Write>(
     out: &mut W,
     writes: LineWrites,

@@ -1,4 +1,4 @@
-//! Where pieces come from.
+//! Sources of pieces.
 
 ghost use Rattle.std.specs.Prelude.{◌≡◌, List, [], ◌∷◌, ◌++◌, MatchOption, IfSome};
 ghost use Rattle.lx_piece.specs.Pieces.{ItemPiece};
@@ -7,9 +7,9 @@ ghost use Rattle.lx_piece.specs.Arrivals.{IsHonest};
 
 use crate::Piece;
 
-/// Where pieces come from, in any order. Pieces may come again, and pieces of other runs or files may come.
+/// A source of pieces, in any order. Pieces may come again, and pieces of other runs or files may come.
 pub trait Arrivals {
-    /// The plan whose pieces they are.
+    /// The plan to which the pieces belong.
     ghost plan: { Self → Planned };
 
     /// The pieces of the list come, in this order, between one state and a later one.
@@ -18,8 +18,7 @@ pub trait Arrivals {
     /// No piece comes any more.
     ghost has_ended: { Self → Type 0 };
 
-    /// The next arrival, or `None` at the end. Where it has the plan's run and one of its files, it is the
-    /// plan's piece of that file and number.
+    /// Returns the next arrival, or `None` at the end. If it has the plan's run and one of its files, it is the plan's piece of that file and number.
     fn next(&mut self) -> Option<Piece>
         ensures plan { plan self.new ≡ plan self.old }
         ensures honest { IfSome result (λ p. IsHonest (plan self.old) p) }

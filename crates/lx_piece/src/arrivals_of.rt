@@ -8,9 +8,9 @@ ghost use Rattle.lx_piece.specs.Arrivals.{IsHonestBy};
 use crate::arrivals::Arrivals;
 use crate::{Held, Items, KeepItems, Maker, Piece};
 
-/// Where pieces come from that carry what a maker made of their items, in any order.
+/// A source of pieces, in any order, that carry what a maker made of their items.
 pub trait ArrivalsOf<M: Maker> {
-    /// The plan whose pieces they are.
+    /// The plan to which the pieces belong.
     ghost plan: { Self → Planned };
 
     /// The pieces of the list come, in this order, between one state and a later one.
@@ -19,14 +19,13 @@ pub trait ArrivalsOf<M: Maker> {
     /// No piece comes any more.
     ghost has_ended: { Self → Type 0 };
 
-    /// The next arrival, or `None` at the end. Where it has the plan's run and one of its files, it is the
-    /// plan's piece of that file and number.
+    /// Returns the next arrival, or `None` at the end. If it has the plan's run and one of its files, it is the plan's piece of that file and number.
     fn next(&mut self) -> Option<Piece<M::Made>>
         ensures plan { plan self.new ≡ plan self.old }
         ensures honest { IfSome result (λ p. IsHonestBy M.made (plan self.old) p) }
         ensures leads { MatchOption result (leads self.old [] self.new × has_ended self.new) (λ p. leads self.old (p ∷ []) self.new) };
 
-    /// What the reader holds, which is told behind each arrival.
+    /// Learns what the reader holds. Called after each arrival.
     fn hear(&mut self, _held: Held)
         ensures { self.new ≡ self.old }
     {}

@@ -1,4 +1,4 @@
-//! The pieces of a run, put in order.
+//! Puts the pieces of a run in order.
 
 ghost use Rattle.std.specs.Prelude.{◌≡◌, ◌<◌, ◌≤◌, ◌⊎◌, ℕ, List, [], ◌∷◌, ◌++◌, length, MatchOption, MatchResult, OnOk, IfErr, IfOk, IfNone, IsTrue, slice_get, slice_index, false, true, All, replicate, ◌↔◌, Some, None};
 ghost use Rattle.lx_piece.specs.declared.piece.Piece.{Piece};
@@ -14,7 +14,7 @@ use crate::{Items, Piece};
 use std::alloc::{AllocError, Global};
 use std::marker::Model;
 
-/// Holds the piece in its file's buffer. It comes back where memory is refused.
+/// Holds the piece in its file's buffer. Returns the piece if an allocation fails.
 fn keep_in<C: Drop>(
     buffers: &mut Vec<ReorderBuffer<C>>,
     ready: &mut ReadyFiles,
@@ -45,7 +45,7 @@ fn keep_in<C: Drop>(
     }
 }
 
-/// Hands on the next piece of the lowest file that holds it.
+/// Takes out the next piece of the lowest file that holds it.
 fn deliver_lowest<C: Drop>(
     buffers: &mut Vec<ReorderBuffer<C>>,
     ready: &mut ReadyFiles,
@@ -92,7 +92,7 @@ impl<C> Model for Collector<C> {
 }
 
 impl Collector {
-    /// A collector of pieces that carry their items, to which nothing came.
+    /// Returns a collector of pieces that carry their items. No piece has come to it.
     pub fn new(alloc: Global, run: u64, files: u32) -> Result<Collector, AllocError>
         requires some { 0 < files }
         requires few { files ≤ max_files }
@@ -104,7 +104,7 @@ impl Collector {
 }
 
 impl<C: Drop> Collector<C> {
-    /// A collector to which nothing came.
+    /// Returns a collector to which no piece has come.
     pub fn of(alloc: Global, run: u64, files: u32) -> Result<Collector<C>, AllocError>
         requires some { 0 < files }
         requires few { files ≤ max_files }
@@ -118,7 +118,7 @@ impl<C: Drop> Collector<C> {
         })
     }
 
-    /// The first cause against a piece.
+    /// Returns the first cause against a piece.
     fn cause(&self, piece: &Piece<C>) -> Option<Why>
         ensures first { (came : List (Piece C)) → StandsFor self.now came → result ≡ cause_by self.now came piece.now }
         ensures file { IfNone result (piece.now.file < length self.now.buffers) }
@@ -135,13 +135,13 @@ impl<C: Drop> Collector<C> {
         buffer.cause(piece)
     }
 
-    /// Takes a piece in, or gives it back with the cause. A piece that comes back leaves all as it was.
+    /// Accepts a piece, or returns it with the cause. A rejected piece changes nothing.
     pub fn offer(&mut self, piece: Piece<C>) -> Result<(), Refused<C>>
-        // The answer is that to the piece behind all that came, but for memory.
+        // Apart from memory, the reply is the one to this piece after all that came before.
         ensures reply { (came : List (Piece C)) → StandsFor self.old came → MatchResult result
             (λ _. cause_by self.old came piece ≡ None)
             (λ refused. (refused.why ≡ Why.Memory) ⊎ (cause_by self.old came piece ≡ Some refused.why)) }
-        // Memory stands behind every other cause.
+        // Memory is the last cause in the order.
         ensures memory { (came : List (Piece C)) → StandsFor self.old came → IfErr result (λ refused. refused.why ≡ Why.Memory → cause_by self.old came piece ≡ None) }
         ensures ok { (came : List (Piece C)) → StandsFor self.old came → OnOk result (StandsFor self.new (came ++ piece ∷ [])) }
         ensures kept { OnOk result (KeepsIn self.old.buffers piece self.new.buffers) }
@@ -160,7 +160,7 @@ impl<C: Drop> Collector<C> {
         }
     }
 
-    /// Hands on the next piece of the lowest file that holds it, if one does.
+    /// Takes out the next piece of the lowest file that holds it, if there is one.
     pub fn deliver(&mut self) -> Option<Piece<C>>
         ensures delivered { MatchOption result (NoneReady self.old.buffers × (self.new ≡ self.old)) (λ p. (file : ℕ) × Delivers self.old.buffers file p self.new.buffers) }
         ensures run { self.new.run ≡ self.old.run }
@@ -169,7 +169,7 @@ impl<C: Drop> Collector<C> {
         deliver_lowest(&mut self.buffers, &mut self.ready)
     }
 
-    /// The closing piece of the file was delivered.
+    /// Returns true once the closing piece of the file was delivered.
     pub fn is_closed(&self, file: u32) -> bool
         requires { file < length self.now.buffers }
         ensures buffer { (buffer : Buffered C) → slice_get self.now.buffers file ≡ Some buffer → result ≡ is_buffer_closed buffer }
@@ -180,7 +180,7 @@ impl<C: Drop> Collector<C> {
         buffer.is_closed()
     }
 
-    /// The closing piece of the file was delivered, and is marked Cut.
+    /// Returns true once the closing piece of the file was delivered, if it is marked Cut.
     pub fn is_cut(&self, file: u32) -> bool
         requires { file < length self.now.buffers }
         ensures buffer { (buffer : Buffered C) → slice_get self.now.buffers file ≡ Some buffer → result ≡ is_buffer_truncated buffer }
@@ -191,7 +191,7 @@ impl<C: Drop> Collector<C> {
         buffer.is_truncated()
     }
 
-    /// The closing piece of each file was delivered.
+    /// Returns true once the closing piece of each file was delivered.
     pub fn all_closed(&self) -> bool
         ensures buffers { IsTrue result ↔ All (λ buffer. is_buffer_closed buffer ≡ true) self.now.buffers }
         ensures closed { (came : List (Piece C)) → StandsFor self.now came → IsTrue result ↔ ((file : ℕ) → file < length self.now.buffers →

@@ -1,4 +1,4 @@
-//! The pieces of a file, cut as they are asked for.
+//! Cuts the pieces of a file on demand.
 
 ghost use Rattle.std.specs.Prelude.{if◌then◌else◌, ◌≡◌, ◌+◌, ◌<◌, ◌≤◌, ◌++◌, [], ℕ, List, drop, length, take, IfNone, IfOk, OnErr, OnOk, MatchOption, None};
 ghost use Rattle.lx_scan.specs.Cursors.{IsInText, items_left, listed};
@@ -27,7 +27,7 @@ fn push_some(item: Option<Item>, items: &mut ItemList) -> Result<(), AllocError>
     Ok(())
 }
 
-// Takes off the item behind the first `most`, if there is one.
+// Removes the item after the first `most`, if there is one.
 fn take_behind(items: &mut ItemList, most: usize) -> Option<Item>
     requires { length items.old ≤ most + 1 }
     ensures items { items.new ≡ take most items.old }
@@ -40,7 +40,7 @@ fn take_behind(items: &mut ItemList, most: usize) -> Option<Item>
     }
 }
 
-// Takes the items that are ahead, `most` at most, and gives the one behind them, which is found with them.
+// Takes at most `most` of the next items. Returns the item after them, which is scanned together with them.
 fn take_items(
     tables: &Tables,
     text: &[u8],
@@ -65,7 +65,7 @@ fn take_items(
     Ok(take_behind(items, most))
 }
 
-// The mark of a piece: of the last one it is Cut where its file's reading failed, and else Whole.
+// Returns the mark of a piece. The mark of the last piece is Cut if its file's reading failed, and otherwise Whole.
 fn mark(is_last: bool, is_cut: bool) -> Mark
     ensures { result ≡ (if is_last then (if is_cut then Mark.Cut else Mark.Whole) else Mark.More) }
 {
@@ -76,19 +76,19 @@ fn mark(is_last: bool, is_cut: bool) -> Mark
     }
 }
 
-/// Cuts a file into its pieces, one after the other, and scans it no further than to the first item behind the piece.
+/// Cuts a file into its pieces, one after the other. It scans no further than to the first item after the piece.
 #[derive(Drop)]
 pub struct Cutter {
     alloc: Global,
-    // The plan, of which clauses alone speak.
+    // The plan, for contracts only.
     plan: Snapshot<Plan>,
     file: u32,
-    // The number of the next piece.
+    // Number of the next piece.
     number: u64,
     cursor: Cursor,
-    // The item behind the last piece, which was looked at for that piece's mark.
+    // The item after the last piece. It was scanned for that piece's mark.
     ahead: Option<Item>,
-    // What is remembered of the file, by the plan's tables.
+    // Memory of the scan of this file by the plan's tables.
     memory: ScanMemory,
 }
 
@@ -105,14 +105,14 @@ impl Model for Cutter {
 }
 
 impl Cutter {
-    /// A cutter at the first piece of a file. It takes no memory.
+    /// Returns a cutter at the first piece of a file. Allocates nothing.
     pub fn new(alloc: Global, plan: &Plan, file: u32) -> Cutter
         requires { file < files_of plan.now }
         ensures cutter { IsCutterOf plan.now result }
         ensures file { result.file ≡ file }
         ensures first { result.next ≡ 0 }
     {
-        // a law, that the plan's tables have a condition
+        // a law: the plan's tables have a start condition
         plans_are_well_formed(plan);
         Cutter {
             alloc,
@@ -125,8 +125,8 @@ impl Cutter {
         }
     }
 
-    /// The next piece of the file, which carries its items, and `None` behind the last one from then on. The plan is the one that
-    /// the cutter was made with. Where memory is refused nothing has changed.
+    /// Returns the next piece of the file, which carries its items. Returns `None` after the last piece, and from then on. The plan is the one that
+    /// the cutter was made with. If an allocation fails, nothing changes.
     pub fn next_piece(&mut self, plan: &Plan) -> Result<Option<Piece>, AllocError>
         requires { IsCutterOf plan.now self.old }
         ensures cutter { IsCutterOf plan.now self.new }
@@ -139,7 +139,7 @@ impl Cutter {
         self.next_made(plan, &mut KeepItems)
     }
 
-    /// The same, where the piece carries what is made of its items.
+    /// Does the same as `next_piece` for a piece that carries what the maker makes of its items.
     pub fn next_made<M: Maker>(
         &mut self,
         plan: &Plan,
@@ -163,7 +163,7 @@ impl Cutter {
         }
         let text = plan.bytes(self.file);
         let mut cursor = self.cursor;
-        // few items are left where few bytes are, but for those that are echoed more than once
+        // few bytes left mean few items, except for items that are echoed more than once
         let expected = (most as usize + 1).min(text.len() - cursor.offset() + 1);
         let mut items = maker.room(self.alloc, expected)?;
         let ahead = take_items(

@@ -1,4 +1,4 @@
-//! Arrivals, which a collector takes, and what it has ready, which a reader is handed.
+//! Offers arrivals to a collector, and delivers what it has ready to a reader.
 
 ghost use Rattle.std.specs.Prelude.{◌≡◌, ◌<◌, List, [], ◌∷◌, ◌++◌, OnOk, OnErr, IfOk, IfErr, Err};
 ghost use Rattle.lx_piece.specs.declared.piece.Piece.{Piece};
@@ -13,7 +13,7 @@ use crate::{Collector, Maker, Piece, Reply, Why};
 use std::alloc::{AllocError, AllocFailed};
 use thiserror::Error;
 
-/// Why a relay ended before its arrivals did.
+/// Reason why a relay ended before its arrivals did.
 #[derive(Clone, Copy, Debug, PartialEq, Eq, Error)]
 pub enum RelayFault {
     /// The reader's device failed.
@@ -43,7 +43,7 @@ impl<T: Drop> From<AllocFailed<T>> for RelayFault {
     }
 }
 
-/// Offers an arrival. Only memory keeps it from a reply, and then nothing has changed.
+/// Offers an arrival to the collector. The only error is memory, and then nothing has changed.
 pub fn offer_to<C: Drop>(collector: &mut Collector<C>, piece: Piece<C>) -> Result<Reply, RelayFault>
     ensures reply { (came : List (Piece C)) → StandsFor collector.old came → IfOk result (λ reply. reply ≡ reply_to (shape_of_kept collector.old) (accepted_of (shape_of_kept collector.old) came) piece) }
     ensures stands { (came : List (Piece C)) → StandsFor collector.old came → OnOk result (StandsFor collector.new (came ++ piece ∷ [])) }
@@ -61,7 +61,7 @@ pub fn offer_to<C: Drop>(collector: &mut Collector<C>, piece: Piece<C>) -> Resul
     }
 }
 
-/// Hands the reader all that can be delivered.
+/// Delivers to the reader all that the collector has ready.
 pub fn deliver_all<M: Maker, R: ReaderOf<M>>(
     collector: &mut Collector<M::Made>,
     reader: &mut R,

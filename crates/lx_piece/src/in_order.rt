@@ -1,4 +1,4 @@
-//! The reader that hands pieces of all files on in the plan's order.
+//! A reader that passes the pieces of all files on in the plan's order.
 
 ghost use Rattle.std.specs.Prelude.{◌≡◌, ◌+◌, ◌<◌, Err, OnOk, OnErr, IfOk, IfErr, replicate, true, false};
 ghost use Rattle.lx_piece.specs.Waiting.{counted};
@@ -14,7 +14,7 @@ use crate::{Held, Maker, Piece, Plan, ReaderFault, ReaderOf, Taker};
 use std::alloc::{AllocFailed, Global};
 use std::marker::Model;
 
-/// A plan with the queue of its pieces: hands them on in the plan's order, to a taker that holds nothing.
+/// A plan with the queue of its pieces. It passes them on in the plan's order, to a taker that holds nothing.
 #[derive(Drop)]
 pub struct InOrder<'a, M: Maker, T: Taker<M>> {
     plan: &'a Plan,
@@ -33,7 +33,7 @@ impl<'a, M: Maker, T: Taker<M>> Model for InOrder<'a, M, T> {
 }
 
 impl<'a, M: Maker, T: Taker<M>> InOrder<'a, M, T> {
-    /// A reader to which nothing came, and a taker that took nothing. Where memory is refused the taker comes back as it was.
+    /// Returns a reader to which no piece has come, over a taker that took nothing. If an allocation fails, the taker comes back unchanged.
     pub fn new(alloc: Global, plan: &'a Plan, taker: T) -> Result<InOrder<'a, M, T>, AllocFailed<T>>
         requires plan { T.plan taker ≡ plan.now }
         requires turn { T.turn taker ≡ first_turn }
@@ -47,7 +47,7 @@ impl<'a, M: Maker, T: Taker<M>> InOrder<'a, M, T> {
         }
     }
 
-    /// The taker, as far as it has come.
+    /// Returns the taker in its present state.
     pub fn into_taker(self) -> T
         ensures { result ≡ self.entry.taker }
     {
@@ -64,7 +64,7 @@ impl<'a, M: Maker, T: Taker<M>> ReaderOf<M> for InOrder<'a, M, T> {
 
     ghost follows = { PassesOn T.plan T.turn T.follows T.fails };
 
-    /// After a fault of either kind it has failed, and answers Device from then on.
+    /// Takes the next piece of a file. After a fault of either kind the reader has failed: it returns Device from then on.
     fn take(&mut self, piece: Piece<M::Made>) -> Result<(), ReaderFault>
         requires next { IsNextPieceBy M.made (T.plan self.old.taker) self.old.counts piece }
         requires countable { self.old.faults < top_number }
@@ -78,7 +78,7 @@ impl<'a, M: Maker, T: Taker<M>> ReaderOf<M> for InOrder<'a, M, T> {
         ensures failed { OnErr result (self.new.failed ≡ true) }
         ensures working { OnOk result (self.new.failed ≡ false) }
         ensures stopped { self.old.failed ≡ true → result ≡ Err ReaderFault.Device }
-        // What the taker did where it failed.
+        // The taker's effect if it failed.
         ensures fell { self.old.failed ≡ false → IfErr result (λ fault. T.fails self.old.taker fault self.new.taker) }
     {
         self.queue.take(self.plan, piece)

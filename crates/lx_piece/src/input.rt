@@ -1,9 +1,9 @@
-//! What is read of a file.
+//! The content of a file.
 
-/// A file as far as it was read.
+/// The bytes that were read of a file.
 #[derive(Debug, Drop)]
 pub struct Input {
     pub bytes: Vec<u8>,
-    /// Its reading failed behind these bytes.
+    /// True if the reading failed after these bytes.
     pub cut: bool,
 }

@@ -21,14 +21,14 @@ impl Model for Items {
 }
 
 impl Items {
-    /// The items of a `Vec`, in its memory.
+    /// Makes a list of a `Vec`, in its memory.
     pub fn from_vec(list: Vec<Item>) -> Self
         ensures { result ≡ list.items }
     {
         Self { list }
     }
 
-    /// The items as a `Vec`, in the memory that they have.
+    /// Returns the items as a `Vec`, in the same memory.
     pub fn into_vec(self) -> Vec<Item>
         ensures { result.items ≡ self }
     {
@@ -42,7 +42,7 @@ impl Items {
         self.list.as_slice()
     }
 
-    /// For how many items there is memory.
+    /// Returns the number of items for which there is memory.
     pub(crate) fn capacity(&self) -> usize {
         self.list.capacity()
     }

@@ -1,4 +1,4 @@
-//! What is made of the items of a piece, for the piece to carry.
+//! Makers of what a piece carries, from its items.
 
 ghost use Rattle.std.specs.Prelude.{◌≡◌, ◌<◌, [], All, IfOk};
 ghost use Rattle.lx_scan.specs.ItemParts.{IsItemOf};
@@ -10,14 +10,14 @@ use crate::plan::Plan;
 use lx_scan::ItemList;
 use std::alloc::{AllocError, Global};
 
-/// Makes of the items of a piece what the piece carries.
+/// A maker of what a piece carries, from its items.
 pub trait Maker {
     type Made: Drop;
 
-    /// What it makes of items of a file of a plan.
+    /// The result for given items of a file of a plan.
     ghost made: { Making Self.Made };
 
-    /// An empty list in which the items of the next piece find room, `items` at most. Where it lies is the maker's matter.
+    /// Returns an empty list with room for the items of the next piece, at most `items`. The maker decides where its memory is.
     fn room(&mut self, alloc: Global, items: usize) -> Result<ItemList, AllocError>
         ensures { IfOk result (λ list. list ≡ []) }
     {
@@ -26,20 +26,20 @@ pub trait Maker {
         Ok(list)
     }
 
-    /// Makes it of the items of a piece of a file.
+    /// Makes what a piece of this file carries.
     fn make(&mut self, plan: &Plan, file: u32, items: ItemList) -> Result<Self::Made, AllocError>
         requires file { file < files_of plan.now }
         requires items { All (IsItemOf (kinds_of plan.now) (bytes_of plan.now file)) items }
         ensures { IfOk result (λ carried. carried ≡ made plan.now file items) };
 
-    /// How many bytes of memory it takes, about. No contract speaks of it.
+    /// Returns the approximate memory of a result, in bytes. No contract speaks of it.
     fn weight(made: &Self::Made) -> u64;
 }
 
-// An item has so many bytes.
+// Size of an item, in bytes.
 const ITEM: u64 = 40;
 
-/// Leaves the items as they are.
+/// A maker that leaves the items as they are.
 #[derive(Clone, Copy, Debug)]
 pub struct KeepItems;
 

@@ -4,35 +4,35 @@ ghost use Rattle.std.specs.Prelude.{◌≡◌};
 
 use crate::items::Items;
 
-/// Whether a piece is the last one of its file, and the file was read to its end.
+/// The mark of a piece: it is the last one of its file or not, and the file was read to its end or not.
 #[derive(Clone, Copy, Debug, PartialEq, Eq)]
 pub enum Mark {
-    /// Further pieces of the file come behind it.
+    /// Further pieces of the file follow.
     More,
-    /// It is the last one, and the file was read to its end.
+    /// The last piece of a file that was read to its end.
     Whole,
-    /// It is the last one, and the file's reading failed behind its bytes.
+    /// The last piece of a file whose reading failed after these bytes.
     Cut,
 }
 
 /// A part of the items of a file.
 #[derive(Debug, Drop)]
 pub struct Piece<C = Items> {
-    /// The number of the run that it belongs to.
+    /// Number of the run to which the piece belongs.
     pub run: u64,
-    /// The file, from 0.
+    /// Number of the file, from 0.
     pub file: u32,
-    /// Its place, from 0, among the pieces of its file.
+    /// Number of the piece in its file, from 0.
     pub number: u64,
     pub mark: Mark,
-    /// Its items, or what is made of them.
+    /// The items, or what a maker made of them.
     pub items: C,
 }
 
 impl<C> Piece<C> {
     ghost use Rattle.lx_piece.specs.Pieces.{is_closing, is_cut_short};
 
-    /// No piece of the file comes behind it.
+    /// Returns true if no piece of the file follows.
     pub fn is_closing(&self) -> bool
         ensures { result ≡ is_closing self.now }
     {
@@ -42,7 +42,7 @@ impl<C> Piece<C> {
         }
     }
 
-    /// No piece of the file comes behind it, and the file's reading failed.
+    /// Returns true if no piece of the file follows and the file's reading failed.
     pub fn is_cut_short(&self) -> bool
         ensures { result ≡ is_cut_short self.now }
     {

@@ -1,4 +1,4 @@
-//! The plan of a run: its files, its tables, and how many items a piece has.
+//! The plan of a run: its files, its tables, and the number of items of a piece.
 
 ghost use Rattle.std.specs.Prelude.{◌≡◌, ◌<◌, ◌≤◌, length, map, vec_len};
 ghost use Rattle.lx_piece.specs.Plans.{IsPlan, files_of, bytes_of, input_view, is_cut, kind_of, kinds_of, max_files, max_items};
@@ -9,16 +9,16 @@ use lx_tables::Tables;
 use lx_tables::well_formed::tables_are_well_formed;
 use std::marker::Model;
 
-/// The most files that a plan has.
+/// Greatest number of files of a plan.
 pub const MAX_FILES: usize = 65_536;
 
-/// The most items that a piece has.
+/// Greatest number of items of a piece.
 pub const MAX_ITEMS: u32 = 4_096;
 
-/// The most workers that scan the files of a plan.
+/// Greatest number of workers that scan the files of a plan.
 pub const MAX_WORKERS: u8 = 8;
 
-/// The files of one run, the tables by which they are scanned, and how their items are cut into pieces.
+/// The files of one run, the tables by which they are scanned, and the size of their pieces.
 #[derive(Drop)]
 pub struct Plan {
     tables: Tables,
@@ -39,8 +39,8 @@ impl Model for Plan {
 }
 
 impl Plan {
-    /// A plan of 1 to 65,536 files, whose items are those that the tables give of them. `per_piece`, 1 to 4,096, is how many items a
-    /// piece has, and `run` is the number that the pieces carry. It takes no memory.
+    /// Returns a plan of 1 to 65,536 files, whose items are those that the tables yield. `per_piece`, 1 to 4,096, is the number of items of a piece.
+    /// `run` is the number that the pieces carry. Allocates nothing.
     pub fn new(tables: Tables, files: Vec<Input>, per_piece: u32, run: u64) -> Plan
         requires some_files { 0 < vec_len files }
         requires few_files { vec_len files ≤ max_files }
@@ -49,7 +49,7 @@ impl Plan {
         ensures parts { result ≡ record { run = run; per_piece = per_piece; table = tables; inputs = map input_view files.items } }
         ensures plan { IsPlan result }
     {
-        // laws, that a plan's items are what it says of them
+        // laws: the plan's items are well formed
         items_have_their_lines();
         tables_are_well_formed(&tables);
         Plan {
@@ -60,7 +60,7 @@ impl Plan {
         }
     }
 
-    /// How many files there are, 1 to 65,536.
+    /// Returns the number of files, 1 to 65,536.
     pub fn files(&self) -> u32
         ensures count { result ≡ files_of self.now }
         ensures plan { IsPlan self.now }
@@ -68,7 +68,7 @@ impl Plan {
         self.files.len() as u32
     }
 
-    /// The bytes of a file, as far as it was read.
+    /// Returns the bytes that were read of a file.
     pub fn bytes(&self, file: u32) -> &[u8]
         requires { file < files_of self.now }
         ensures { result.now ≡ bytes_of self.now file }
@@ -76,7 +76,7 @@ impl Plan {
         self.files[file as usize].bytes.as_slice()
     }
 
-    /// The name of a kind.
+    /// Returns the name of a kind.
     pub fn kind(&self, number: u32) -> &[u8]
         requires { number < length (kinds_of self.now) }
         ensures { result.now ≡ kind_of self.now number }
@@ -84,7 +84,7 @@ impl Plan {
         self.tables.kind(number)
     }
 
-    /// Whether the reading of a file failed behind its bytes.
+    /// Returns true if the reading of the file failed after its bytes.
     pub fn is_cut(&self, file: u32) -> bool
         requires { file < files_of self.now }
         ensures { result ≡ is_cut self.now file }
@@ -92,21 +92,21 @@ impl Plan {
         self.files[file as usize].cut
     }
 
-    /// The tables by which the files are scanned.
+    /// Returns the tables by which the files are scanned.
     pub fn tables(&self) -> &Tables
         ensures { result.now ≡ self.now.table }
     {
         &self.tables
     }
 
-    /// The number that the pieces carry.
+    /// Returns the number that the pieces carry.
     pub fn run(&self) -> u64
         ensures { result ≡ self.now.run }
     {
         self.run
     }
 
-    /// How many items a piece has, 1 to 4,096.
+    /// Returns the number of items of a piece, 1 to 4,096.
     pub(crate) fn per_piece(&self) -> u32
         ensures count { result ≡ self.now.per_piece }
         ensures some { 0 < result }
@@ -117,10 +117,10 @@ impl Plan {
     }
 }
 
-/// A law: plans are well formed, as their type has it.
+/// States a law: plans are well formed, by the invariant of their type.
 pub fn plans_are_well_formed(plan: &Plan)
     ensures { IsPlan plan.now }
 {
-    // a field opens them
+    // the access to a field opens the invariant
     let _files = &plan.files;
 }

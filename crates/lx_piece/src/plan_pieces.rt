@@ -1,4 +1,4 @@
-//! The pieces of a plan on one thread.
+//! Cuts the pieces of a plan on one thread.
 
 ghost use Rattle.std.specs.Prelude.{◌≡◌, ◌+◌, ◌<◌, [], ◌∷◌, ◌++◌, Err, IfOk, OnOk, OnErr, MatchOption, false, replicate};
 ghost use Rattle.lx_piece.specs.declared.delivering.RelayFault.{RelayFault};
@@ -14,7 +14,7 @@ use crate::{Cutter, Maker, Piece, Plan, ReaderOf, RelayFault, plans_are_well_for
 use std::alloc::{AllocError, Global};
 use std::marker::Model;
 
-// Cuts the next piece of a file, or the first one of the file behind it.
+// Cuts the next piece of a file, or the first one of the next file.
 fn cut_next<M: Maker>(
     alloc: Global,
     plan: &Plan,
@@ -43,7 +43,7 @@ fn cut_next<M: Maker>(
     cutter.next_made(plan, maker)
 }
 
-/// The pieces of all files of a plan, one file after the other, each cut as it is asked for.
+/// The pieces of all files of a plan, one file after the other, each cut on demand.
 #[derive(Drop)]
 struct PlanPieces<'a, M: Maker> {
     alloc: Global,
@@ -51,7 +51,7 @@ struct PlanPieces<'a, M: Maker> {
     maker: M,
     file: u32,
     cutter: Cutter,
-    /// Memory was refused for a piece, and no further one comes.
+    /// True once an allocation failed for a piece. No further piece comes then.
     refused: bool,
 }
 
@@ -126,7 +126,7 @@ impl<'a, M: Maker> ArrivalsOf<M> for PlanPieces<'a, M> {
     ghost goes_on = { cuts_on };
 }
 
-/// Hands a reader all pieces of a plan, cut one after the other on this thread. At `Ok` it took every piece of every file.
+/// Delivers all pieces of a plan to a reader, cut one after the other on this thread. At `Ok` the reader took every piece of every file.
 pub fn relay_plan<M: Maker + Drop, R: ReaderOf<M>>(
     alloc: Global,
     plan: &Plan,
@@ -143,7 +143,7 @@ pub fn relay_plan<M: Maker + Drop, R: ReaderOf<M>>(
     ensures reader_fault { result ≡ Err RelayFault.Reader → R.fault_count reader.old < R.fault_count reader.new }
     ensures no_fault { OnOk result (R.fault_count reader.new ≡ R.fault_count reader.old) }
 {
-    // a law, that there is a first file
+    // a law: there is a first file
     plans_are_well_formed(plan);
     let mut pieces = PlanPieces::new(alloc, plan, maker);
     let _replies = relay_of(alloc, plan, &mut pieces, reader)?;

@@ -1,4 +1,4 @@
-//! What takes pieces in order.
+//! Readers, which take pieces in order.
 
 ghost use Rattle.std.specs.Prelude.{◌≡◌, ◌+◌, ◌<◌, ℕ, List, OnOk, OnErr, slice_set, slice_index};
 ghost use Rattle.lx_piece.specs.Plans.{Planned};
@@ -8,46 +8,45 @@ ghost use Rattle.lx_piece.specs.NextPiece.{IsNextPiece};
 use crate::Piece;
 use thiserror::Error;
 
-/// Why a reader didn't take a piece.
+/// Reason why a reader didn't take a piece.
 #[derive(Clone, Copy, Debug, PartialEq, Eq, Error)]
 pub enum ReaderFault {
-    /// What it hands the pieces on to failed, now or before.
+    /// The device to which the reader passes the pieces failed, now or earlier.
     #[error("the device failed")]
     Device,
     #[error("out of memory")]
     Memory,
 }
 
-/// What a reader holds for later. No contract speaks of it: workers wait by it while much is held.
+/// The amount that a reader holds for later. Workers wait while it is large. No contract speaks of it.
 #[derive(Clone, Copy, Debug, PartialEq, Eq)]
 pub struct Held {
-    /// The file that is waited for.
+    /// Number of the file that the reader waits for.
     pub file: u32,
-    /// How many bytes are held of the files behind it.
+    /// Number of bytes held of later files.
     pub bytes: u64,
 }
 
 impl Held {
-    /// That nothing is held.
+    /// The value of a reader that holds nothing.
     pub const NOTHING: Held = Held { file: 0, bytes: 0 };
 }
 
-/// What takes the pieces of a plan's files, those of each file in order.
+/// A reader, which takes the pieces of a plan's files, those of each file in order.
 pub trait Reader {
     /// The plan whose pieces it takes.
     ghost plan: { Self → Planned };
 
-    /// How many pieces it took of each file.
+    /// Number of pieces that it took, for each file.
     ghost counts: { Self → List ℕ };
 
-    /// How often its device failed.
+    /// Number of failures of its device.
     ghost fault_count: { Self → ℕ };
 
-    /// What it did between one state and a later one, in words of its own.
+    /// Its effect between one state and a later one, in its own terms.
     ghost follows: { Self → Self → Type 0 };
 
-    /// Takes its file's next piece, and counts it. After an error no count has changed. A device that fails
-    /// is counted in `faults`, and nothing else is.
+    /// Takes its file's next piece, and counts it. After an error no count has changed. Counts in `faults` the failures of the device, and no others.
     fn take(&mut self, piece: Piece) -> Result<(), ReaderFault>
         requires next { IsNextPiece (plan self.old) (counts self.old) piece }
         requires countable { fault_count self.old < top_number }
@@ -59,11 +58,11 @@ pub trait Reader {
         ensures memory { result ≡ Err ReaderFault.Memory → fault_count self.new ≡ fault_count self.old }
         ensures no_fault { OnOk result (fault_count self.new ≡ fault_count self.old) };
 
-    /// How often its device failed.
+    /// Returns the number of failures of its device.
     fn faults(&self) -> u64
         ensures { result ≡ fault_count self.now };
 
-    /// What it holds for later.
+    /// Returns what it holds for later.
     fn held(&self) -> Held {
         Held::NOTHING
     }

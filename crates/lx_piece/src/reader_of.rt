@@ -13,17 +13,16 @@ pub trait ReaderOf<M: Maker> {
     /// The plan whose pieces it takes.
     ghost plan: { Self → Planned };
 
-    /// How many pieces it took of each file.
+    /// Number of pieces that it took, for each file.
     ghost counts: { Self → List ℕ };
 
-    /// How often its device failed.
+    /// Number of failures of its device.
     ghost fault_count: { Self → ℕ };
 
-    /// What it did between one state and a later one, in words of its own.
+    /// Its effect between one state and a later one, in its own terms.
     ghost follows: { Self → Self → Type 0 };
 
-    /// Takes its file's next piece, and counts it. After an error no count has changed. A device that fails
-    /// is counted in `faults`, and nothing else is.
+    /// Takes its file's next piece, and counts it. After an error no count has changed. Counts in `faults` the failures of the device, and no others.
     fn take(&mut self, piece: Piece<M::Made>) -> Result<(), ReaderFault>
         requires next { IsNextPieceBy M.made (plan self.old) (counts self.old) piece }
         requires countable { fault_count self.old < top_number }
@@ -35,11 +34,11 @@ pub trait ReaderOf<M: Maker> {
         ensures memory { result ≡ Err ReaderFault.Memory → fault_count self.new ≡ fault_count self.old }
         ensures no_fault { OnOk result (fault_count self.new ≡ fault_count self.old) };
 
-    /// How often its device failed.
+    /// Returns the number of failures of its device.
     fn faults(&self) -> u64
         ensures { result ≡ fault_count self.now };
 
-    /// What it holds for later.
+    /// Returns what it holds for later.
     fn held(&self) -> Held {
         Held::NOTHING
     }

@@ -1,4 +1,4 @@
-//! A set of files.
+//! A set of file numbers.
 ghost use Rattle.std.specs.Prelude.{◌≡◌, ◌≤◌, ℕ, [], ◌||◌, ◌==◌, IfNone, IfSome, OnErr, OnOk, true, false, if◌then◌else◌};
 ghost use Rattle.lx_piece.specs.Kept.{has_file};
 
@@ -6,11 +6,11 @@ use std::alloc::{AllocError, Global};
 use std::collections::BTreeSet;
 use std::marker::Model;
 
-/// The files whose next piece is held. Mostly it is one at a time, and the lowest takes no memory.
+/// The files whose next piece is held. Mostly there is one at a time, and the lowest needs no memory.
 #[derive(Drop)]
 pub(crate) struct ReadyFiles {
     lowest: Option<u32>,
-    /// Those above it.
+    /// Files above the lowest.
     others: BTreeSet<u32>,
 }
 
@@ -26,7 +26,7 @@ impl Model for ReadyFiles {
 }
 
 impl ReadyFiles {
-    /// No file.
+    /// Returns the empty set.
     pub(crate) fn new(alloc: Global) -> Self
         ensures { result ≡ [] }
     {
@@ -36,7 +36,7 @@ impl ReadyFiles {
         }
     }
 
-    /// The lowest file, if there is one.
+    /// Returns the lowest file, if there is one.
     pub(crate) fn first(&self) -> Option<u32>
         ensures member { IfSome result (λ file. has_file self.now file ≡ true) }
         ensures least { IfSome result (λ file. (other : ℕ) → has_file self.now other ≡ true → file ≤ other) }
@@ -45,7 +45,7 @@ impl ReadyFiles {
         self.lowest
     }
 
-    /// Adds a file. Where memory is refused nothing has changed.
+    /// Adds a file. If an allocation fails, nothing changes.
     pub(crate) fn insert(&mut self, file: u32) -> Result<(), AllocError>
         ensures ok { OnOk result ((other : ℕ) → has_file self.new other ≡ (other == file || has_file self.old other)) }
         ensures err { OnErr result (self.new ≡ self.old) }
@@ -65,7 +65,7 @@ impl ReadyFiles {
         Ok(())
     }
 
-    /// Takes a file out.
+    /// Removes a file.
     pub(crate) fn remove(&mut self, file: u32)
         ensures { (other : ℕ) → has_file self.new other ≡ (if other == file then false else has_file self.old other) }
     {

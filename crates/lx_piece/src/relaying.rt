@@ -1,4 +1,4 @@
-//! Pieces that arrive in any order, handed on in order.
+//! Delivers in order the pieces that arrive in any order.
 
 ghost use Rattle.std.specs.Prelude.{◌≡◌, ◌<◌, replicate, OnOk, OnErr, IfOk, Err};
 ghost use Rattle.lx_piece.specs.Plans.{files_of};
@@ -12,8 +12,8 @@ use crate::{
 };
 use std::alloc::Global;
 
-/// Offers each arrival, and hands the reader at once what can be delivered. The reader is delivered the pieces
-/// of each file in order, each once. The reply to each arrival is that to it behind those before.
+/// Offers each arrival to a collector, and delivers to the reader at once all that is ready. The reader gets the pieces of each file in order, each
+/// once. The reply to each arrival takes the earlier arrivals into account.
 pub fn relay<A: Arrivals, R: Reader>(
     alloc: Global,
     plan: &Plan,
@@ -25,13 +25,13 @@ pub fn relay<A: Arrivals, R: Reader>(
     requires nothing_taken { R.counts reader.old ≡ replicate (files_of plan.now) 0 }
     requires countable { R.fault_count reader.old < top_number }
 
-    // All arrivals came. The replies are those to the list that came, and of each file the reader took
-    // the pieces below the least number that wasn't accepted.
+    // All arrivals came. The replies are those to the list of arrivals. Of each file the reader took the pieces below the least number that wasn't
+    // accepted.
     ensures ended { OnOk result (A.has_ended arrivals.new) }
     ensures ok { IfOk result (λ replies. Relayed plan.now (λ came. A.leads arrivals.old came arrivals.new) replies.items (R.counts reader.new)) }
 
-    // After a fault it took no more than those of the list that came so far, and all of the list before the last
-    // arrival: what can be delivered is handed on before the next arrival comes.
+    // After a fault the reader took at most the ready pieces of the arrivals that came. It took all those that were ready before the last arrival,
+    // because each ready piece is delivered before the next arrival comes.
     ensures err { OnErr result (RelayedInPart plan.now (λ came. A.leads arrivals.old came arrivals.new) (R.counts reader.new)) }
     ensures follows { R.follows reader.old reader.new }
     ensures plan { R.plan reader.new ≡ R.plan reader.old }
@@ -43,7 +43,7 @@ pub fn relay<A: Arrivals, R: Reader>(
     relay_of::<KeepItems, A, R>(alloc, plan, arrivals, reader)
 }
 
-/// The same, where the pieces carry what a maker made of their items. The arrivals hear behind each one what the reader holds.
+/// Does the same as `relay` for pieces that carry what a maker made of their items. Informs the arrivals, after each one, of what the reader holds.
 pub fn relay_of<M: Maker, A: ArrivalsOf<M>, R: ReaderOf<M>>(
     alloc: Global,
     plan: &Plan,
@@ -55,13 +55,13 @@ pub fn relay_of<M: Maker, A: ArrivalsOf<M>, R: ReaderOf<M>>(
     requires nothing_taken { R.counts reader.old ≡ replicate (files_of plan.now) 0 }
     requires countable { R.fault_count reader.old < top_number }
 
-    // All arrivals came. The replies are those to the list that came, and of each file the reader took
-    // the pieces below the least number that wasn't accepted.
+    // All arrivals came. The replies are those to the list of arrivals. Of each file the reader took the pieces below the least number that wasn't
+    // accepted.
     ensures ended { OnOk result (A.has_ended arrivals.new) }
     ensures ok { IfOk result (λ replies. RelayedBy M.made plan.now (λ came. A.leads arrivals.old came arrivals.new) replies.items (R.counts reader.new)) }
 
-    // After a fault it took no more than those of the list that came so far, and all of the list before the last
-    // arrival: what can be delivered is handed on before the next arrival comes.
+    // After a fault the reader took at most the ready pieces of the arrivals that came. It took all those that were ready before the last arrival,
+    // because each ready piece is delivered before the next arrival comes.
     ensures err { OnErr result (RelayedInPartBy M.made plan.now (λ came. A.leads arrivals.old came arrivals.new) (R.counts reader.new)) }
     ensures follows { R.follows reader.old reader.new }
     ensures plan { R.plan reader.new ≡ R.plan reader.old }

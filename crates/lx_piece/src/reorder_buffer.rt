@@ -1,4 +1,4 @@
-//! The pieces of one file that wait for those before them.
+//! The pieces of one file that wait for earlier pieces.
 
 ghost use Rattle.std.specs.Prelude.{◌≡◌, ◌<◌, ◌≤◌, ℕ, List, OnOk, IfErr, IfNone, IfSome, IsTrue, IsSome, None, false};
 ghost use Rattle.lx_piece.specs.declared.piece.Piece.{Piece};
@@ -12,7 +12,7 @@ use std::alloc::Global;
 use std::collections::BTreeMap;
 use std::marker::Model;
 
-/// A number is known, and below another one.
+/// Returns true if a number is known and is below `number`.
 fn is_below(known: Option<u64>, number: u64) -> bool
     ensures { result ≡ closed_before known number }
 {
@@ -22,18 +22,18 @@ fn is_below(known: Option<u64>, number: u64) -> bool
     }
 }
 
-/// What a collector keeps of one file.
+/// The state that a collector keeps for one file.
 #[derive(Drop)]
 pub(crate) struct ReorderBuffer<C> {
-    /// How many pieces were delivered, so the number of the next.
+    /// Number of pieces that were delivered, which is the number of the next piece.
     next: u64,
-    /// The number of the closing piece, once it was accepted.
+    /// Number of the closing piece, once it was accepted.
     closing: Option<u64>,
-    /// The same, where that piece is marked Cut.
+    /// Number of the closing piece, once it was accepted, if it is marked Cut.
     truncated: Option<u64>,
-    /// The next piece, where it was accepted while it was the next: mostly each one is, and then none takes memory.
+    /// The next piece, if it was accepted when it was the next one. Mostly each piece is, and then none needs memory.
     ready: Option<Piece<C>>,
-    /// The other pieces that were accepted and not yet delivered, by their numbers.
+    /// The other accepted pieces that weren't delivered yet, by their numbers.
     later: BTreeMap<u64, Piece<C>>,
 }
 
@@ -55,7 +55,7 @@ impl<C> Model for ReorderBuffer<C> {
 }
 
 impl<C: Drop> ReorderBuffer<C> {
-    /// The buffer of a file of which nothing came.
+    /// Returns the buffer of a file of which no piece has come.
     pub(crate) fn new(alloc: Global) -> Self
         ensures { result ≡ fresh_buffer }
     {
@@ -68,7 +68,7 @@ impl<C: Drop> ReorderBuffer<C> {
         }
     }
 
-    /// A piece of this number was delivered or is held.
+    /// Returns true if the piece of this number was delivered or is held.
     fn has(&self, number: u64) -> bool
         ensures { result ≡ has_number self.now number }
     {
@@ -77,14 +77,14 @@ impl<C: Drop> ReorderBuffer<C> {
             || self.later.contains_key(&number)
     }
 
-    /// The closing number is known, and below this one.
+    /// Returns true if the closing number is known and below this one.
     fn is_closed_before(&self, number: u64) -> bool
         ensures { result ≡ closed_before self.now.closing number }
     {
         is_below(self.closing, number)
     }
 
-    /// A piece of a greater number is held. The one of this number wasn't delivered.
+    /// Returns true if a piece of a greater number is held. The piece of this number wasn't delivered.
     fn holds_later(&self, number: u64) -> bool
         requires { self.now.next ≤ number }
         ensures yes { IsTrue result → (later : ℕ) × (number < later) × IsSome (held_at self.now later) }
@@ -96,7 +96,7 @@ impl<C: Drop> ReorderBuffer<C> {
         }
     }
 
-    /// The first cause against a piece of this file.
+    /// Returns the first cause against a piece of this file.
     pub(crate) fn cause(&self, piece: &Piece<C>) -> Option<Why>
         ensures first { (accepted : List (Piece C)) → BufferStandsFor self.now piece.now.file accepted → result ≡ cause_among accepted piece.now }
         ensures countable { IfNone result (piece.now.number < top_number) }
@@ -114,7 +114,7 @@ impl<C: Drop> ReorderBuffer<C> {
         None
     }
 
-    // Puts the piece among those that are held. It comes back where memory is refused, and nothing has changed then.
+    // Adds the piece to the held ones. If an allocation fails, returns the piece and changes nothing.
     fn hold(&mut self, piece: Piece<C>) -> Result<(), Piece<C>>
         requires countable { piece.number < top_number }
         requires new { has_number self.old piece.number ≡ false }
@@ -131,7 +131,7 @@ impl<C: Drop> ReorderBuffer<C> {
         }
     }
 
-    /// Holds the piece. It comes back where memory is refused, and nothing has changed then.
+    /// Holds the piece, and notes whether it closes the file. If an allocation fails, returns the piece and changes nothing.
     pub(crate) fn keep(&mut self, piece: Piece<C>) -> Result<(), Piece<C>>
         requires countable { piece.number < top_number }
         requires new { has_number self.old piece.number ≡ false }
@@ -151,7 +151,7 @@ impl<C: Drop> ReorderBuffer<C> {
         Ok(())
     }
 
-    /// Takes the next piece out, if it is held.
+    /// Takes out the next piece, if it is held.
     pub(crate) fn deliver(&mut self) -> Option<Piece<C>>
         ensures piece { result ≡ held_at self.old self.old.next }
         ensures none { IfNone result (self.new ≡ self.old) }
@@ -165,28 +165,28 @@ impl<C: Drop> ReorderBuffer<C> {
         Some(piece)
     }
 
-    /// The number of the piece that is delivered next.
+    /// Returns the number of the piece that is delivered next.
     pub(crate) fn next(&self) -> u64
         ensures { result ≡ self.now.next }
     {
         self.next
     }
 
-    /// The next piece is held.
+    /// Returns true if the next piece is held.
     pub(crate) fn is_ready(&self) -> bool
         ensures { result ≡ is_ready self.now }
     {
         self.ready.is_some() || self.later.contains_key(&self.next)
     }
 
-    /// The closing piece was delivered.
+    /// Returns true once the closing piece was delivered.
     pub(crate) fn is_closed(&self) -> bool
         ensures { result ≡ is_buffer_closed self.now }
     {
         self.is_closed_before(self.next())
     }
 
-    /// The closing piece was delivered, and is marked Cut.
+    /// Returns true once the closing piece was delivered, if it is marked Cut.
     pub(crate) fn is_truncated(&self) -> bool
         ensures { result ≡ is_buffer_truncated self.now }
     {

@@ -1,9 +1,9 @@
-//! What a collector answers.
+//! Replies of a collector.
 
 use crate::{Items, Piece};
 use thiserror::Error;
 
-/// Why a collector refuses a piece. The first cause that holds, in this order, is answered.
+/// Reason why a collector rejects a piece. The reply is the first cause that holds, in this order.
 #[derive(Clone, Copy, Debug, PartialEq, Eq, Error)]
 pub enum Why {
     /// C1: its run isn't the collector's.
@@ -22,19 +22,19 @@ pub enum Why {
     /// C5: it is a closing piece, and a piece of this file with a greater number was accepted.
     #[error("C5: the piece closes its file before a piece that was accepted")]
     Contradicts,
-    /// C90: a growth was refused.
+    /// C90: an allocation failed.
     #[error("C90: out of memory")]
     Memory,
 }
 
-/// What became of one arrival.
+/// The reply to one arrival.
 #[derive(Clone, Copy, Debug, PartialEq, Eq)]
 pub enum Reply {
     Accepted,
     Refused(Why),
 }
 
-/// A piece that a collector gives back, and why.
+/// A piece that a collector returns, with the reason.
 #[derive(Debug, Drop, Error)]
 #[error("{why}")]
 pub struct Refused<C = Items> {

@@ -1,4 +1,4 @@
-//! What pieces are handed on to in the plan's order.
+//! Takers, to which pieces are passed on in the plan's order.
 
 ghost use Rattle.std.specs.Prelude.{◌≡◌, OnOk, IfErr};
 ghost use Rattle.lx_piece.specs.declared.reader.ReaderFault.{ReaderFault};
@@ -8,21 +8,21 @@ ghost use Rattle.lx_piece.specs.Turns.{HasTurn, Turn, turn_after};
 use crate::reader::ReaderFault;
 use crate::{Maker, Piece, Plan};
 
-/// What takes the pieces of a plan in the plan's order, with what a maker made of their items. It holds none back.
+/// A taker of the pieces of a plan in the plan's order, with what a maker made of their items. It holds none back.
 pub trait Taker<M: Maker> {
     /// The plan whose pieces it takes.
     ghost plan: { Self → Planned };
 
-    /// The piece that it takes next.
+    /// The turn of the piece that it takes next.
     ghost turn: { Self → Turn };
 
-    /// What it did between one state and a later one, where it took each piece that it was handed.
+    /// Its effect between one state and a later one, if it took each piece that it was given.
     ghost follows: { Self → Self → Type 0 };
 
-    /// What it did where it took all but the last one.
+    /// Its effect if it took all but the last piece.
     ghost fails: { Self → ReaderFault → Self → Type 0 };
 
-    /// Takes the piece whose turn it is, of this plan. After an error it is handed nothing more.
+    /// Takes the piece whose turn it is, of this plan. After an error it gets nothing more.
     fn take(&mut self, whole: &Plan, piece: Piece<M::Made>) -> Result<(), ReaderFault>
         requires same { whole.now ≡ plan self.old }
         requires turn { HasTurn M.made (plan self.old) (turn self.old) piece }
@@ -37,6 +37,6 @@ pub trait Taker<M: Maker> {
 
     ghost fails_behind: { (s t u : Self) (fault : ReaderFault) → follows s t → fails t fault u → fails s fault u };
 
-    /// Where memory is refused before it is handed a piece.
+    /// Its effect if an allocation fails before it gets a piece.
     ghost fails_at_once: { (s : Self) → fails s ReaderFault.Memory s };
 }

@@ -1,4 +1,4 @@
-//! Pieces of all files that wait for their turn, and are handed on in the plan's order.
+//! Makes the pieces of all files wait for their turn, and passes them on in the plan's order.
 
 ghost use Rattle.std.specs.Prelude.{◌≡◌, ◌+◌, ◌<◌, [], Err, OnOk, OnErr, IfOk, IfErr, replicate, true, false};
 ghost use Rattle.lx_piece.specs.Pieces.{top_number};
@@ -14,19 +14,19 @@ use std::alloc::{AllocError, AllocFailed, Global};
 use std::collections::VecDeque;
 use std::marker::Model;
 
-/// Hands the pieces of a plan's files on in the plan's order, to a taker that holds nothing: those of the first file that isn't closed at once,
-/// and those of later files once the files before are closed. After a fault of either kind nothing more is handed on, and Device is answered
-/// and counted. Each call is handed the plan, so that who makes such a queue over a lent writer may hold the plan beside it.
+/// Passes the pieces of a plan's files on in the plan's order, to a taker that holds nothing. Pieces of the first open file go on at once. Pieces of
+/// later files go on once the files before them are closed. After a fault of either kind it passes nothing on. Each call then returns Device, which
+/// is counted. Each call gets the plan, so that the maker of a queue over a borrowed writer may keep the plan next to it.
 #[derive(Drop)]
 pub struct TurnQueue<M: Maker, T: Taker<M>> {
     taker: T,
-    // The first file that isn't closed, or the number of files.
+    // Number of the first open file, or the number of files.
     first: u32,
-    // Of each file behind that one, the pieces that came.
+    // For each file after the first open one, the pieces that came.
     waiting: Vec<VecDeque<Piece<M::Made>>>,
-    // Of each file, how many pieces came.
+    // For each file, the number of pieces that came.
     counts: Vec<u64>,
-    // How many bytes wait.
+    // Number of bytes that wait.
     bytes: u64,
     faults: u64,
     failed: bool,
@@ -43,7 +43,7 @@ impl<M: Maker, T: Taker<M>> Model for TurnQueue<M, T> {
     ghost invariant = { λ s. IsInOrder M.made (T.plan s.taker) (T.turn s.taker) s.counts.items s.first (queued s.waiting.items) s.failed };
 }
 
-// As many empty queues.
+// Makes an empty queue for each file.
 fn empty_queues<C: Drop>(alloc: Global, files: u32) -> Result<Vec<VecDeque<Piece<C>>>, AllocError>
     ensures { IfOk result (λ queues. queued queues.items ≡ replicate files []) }
 {
@@ -55,7 +55,7 @@ fn empty_queues<C: Drop>(alloc: Global, files: u32) -> Result<Vec<VecDeque<Piece
 }
 
 impl<M: Maker, T: Taker<M>> TurnQueue<M, T> {
-    /// A queue to which nothing came, and a taker that took nothing. Where memory is refused the taker comes back as it was.
+    /// Returns a queue to which no piece has come, over a taker that took nothing. If an allocation fails, the taker comes back unchanged.
     pub fn new(alloc: Global, plan: &Plan, taker: T) -> Result<TurnQueue<M, T>, AllocFailed<T>>
         requires plan { T.plan taker ≡ plan.now }
         requires turn { T.turn taker ≡ first_turn }
@@ -81,14 +81,14 @@ impl<M: Maker, T: Taker<M>> TurnQueue<M, T> {
         })
     }
 
-    /// The taker, as far as it has come.
+    /// Returns the taker in its present state.
     pub fn into_taker(self) -> T
         ensures { result ≡ self.taker }
     {
         self.taker
     }
 
-    /// Takes the next piece of a file. After a fault of either kind it has failed, and answers Device from then on.
+    /// Takes the next piece of a file. After a fault of either kind the queue has failed: it returns Device from then on.
     pub fn take(&mut self, plan: &Plan, piece: Piece<M::Made>) -> Result<(), ReaderFault>
         requires same { plan.now ≡ T.plan self.old.taker }
         requires next { IsNextPieceBy M.made (T.plan self.old.taker) self.old.counts piece }
@@ -103,7 +103,7 @@ impl<M: Maker, T: Taker<M>> TurnQueue<M, T> {
         ensures failed { OnErr result (self.new.failed ≡ true) }
         ensures working { OnOk result (self.new.failed ≡ false) }
         ensures stopped { self.old.failed ≡ true → result ≡ Err ReaderFault.Device }
-        // What the taker did where it failed.
+        // The taker's effect if it failed.
         ensures fell { self.old.failed ≡ false → IfErr result (λ fault. T.fails self.old.taker fault self.new.taker) }
     {
         if self.failed {
@@ -136,14 +136,14 @@ impl<M: Maker, T: Taker<M>> TurnQueue<M, T> {
         }
     }
 
-    /// How often the taker's device failed, or more was asked of it after a fault.
+    /// Returns the number of failures of the taker's device, and of later calls after a fault.
     pub fn faults(&self) -> u64
         ensures { result ≡ self.now.faults }
     {
         self.faults
     }
 
-    /// What waits for its turn.
+    /// Returns the amount that waits for its turn.
     pub fn held(&self) -> Held {
         Held {
             file: self.first,

@@ -1,4 +1,4 @@
-//! Pieces of later files, which wait, and are handed on once the files before them are closed.
+//! Pieces of later files. They wait, and are passed on once the files before them are closed.
 
 ghost use Rattle.std.specs.Prelude.{◌≡◌, ◌<◌, ◌≤◌, ◌==◌, ◌∷◌, [], ◌++◌, ℕ, List, OnOk, IfOk, IfErr, length, slice_set};
 ghost use Rattle.lx_piece.specs.Pieces.{pieces_of};
@@ -13,7 +13,7 @@ use crate::taker::Taker;
 use crate::{Maker, Piece, Plan};
 use std::collections::VecDeque;
 
-// Hands on what waits of a file, and tells whether its closing piece was among it.
+// Passes on the waiting pieces of a file. Returns true if its closing piece was among them.
 fn take_queue<M: Maker, T: Taker<M>>(
     taker: &mut T,
     plan: &Plan,
@@ -40,8 +40,7 @@ fn take_queue<M: Maker, T: Taker<M>>(
     Ok(closed)
 }
 
-// Hands on what waits of the files from one on, up to and with the first file that isn't closed by it, and gives that one, or the number of
-// files.
+// Passes on the waiting pieces of the files from `from` on, up to the first file that this doesn't close. Returns that file, or the number of files.
 fn take_waiting<M: Maker, T: Taker<M>>(
     taker: &mut T,
     plan: &Plan,
@@ -92,8 +91,9 @@ fn hold<M: Maker>(
     }
 }
 
-/// Takes the next piece of a file. It is kept where its file comes behind the first one that isn't closed; else it is handed on, and with a closing
-/// piece all that waits of the files behind it, up to and with the first that isn't closed. That file is given. `bytes` goes by what waits.
+/// Takes the next piece of a file. If its file comes after the first open one, keeps the piece. Otherwise passes it on. After a closing piece, also
+/// passes on the waiting pieces of the next files, up to the first file that stays open. Returns the first open file. Keeps `bytes` up to date with
+/// what waits.
 pub fn place<M: Maker, T: Taker<M>>(
     taker: &mut T,
     plan: &Plan,

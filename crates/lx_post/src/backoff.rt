@@ -1,24 +1,24 @@
-//! How a thread waits for another one to get on.
+//! Backoff of a thread that waits for another one.
 
 use std::sync::Wait;
 use std::sync::atomic::AtomicU64;
 use std::thread;
 use std::time::Duration;
 
-// So often the processor is yielded before the first sleep.
+// Number of turns that yield the processor before the first sleep.
 const YIELDS: u32 = 8;
 
-// How long a sleep is else, in microseconds.
+// Default length of a sleep, in microseconds.
 const NAP: u64 = 50;
 
-/// The turns of a call that found no room, or no note. First it yields the processor, and then it sleeps for short times: a
-/// thread that only yields takes the time of those that work, and waking others at each note takes longer than the note.
+/// Backoff of a call that found no room or no note. It first yields the processor, and then sleeps for short times. A thread that only yields takes
+/// processor time from the threads that work. Waking other threads at each note takes longer than the note itself.
 #[derive(Drop)]
 pub struct Backoff {
     turns: u32,
-    // How long a sleep is, in microseconds.
+    // Length of a sleep, in microseconds.
     nap: u64,
-    // Nobody wakes a sleep on this word: it ends by its time.
+    // Word to sleep on. No thread wakes it, so every sleep ends by its timeout.
     never: AtomicU64,
 }
 
@@ -32,7 +32,7 @@ impl Backoff {
         }
     }
 
-    /// That of a thread that has time: it sleeps so many microseconds at each turn.
+    /// Returns the backoff of a thread that has time: it sleeps `nap` microseconds at each turn.
     pub fn of_naps(nap: u64) -> Backoff {
         Backoff {
             turns: YIELDS,
@@ -41,7 +41,7 @@ impl Backoff {
         }
     }
 
-    /// Waits for one turn.
+    /// Yields the processor, or sleeps once the yields are used up.
     #[cold]
     #[inline(never)]
     pub fn turn<R: Wait>(&mut self, rt: &R) {

@@ -7,11 +7,11 @@ use crate::draw_rule::SeatView;
 use atomic_table::Seat;
 use std::marker::Model;
 
-/// The right of one worker to draw files. Contracts see what it drew, and whether it was answered that no file is left.
+/// The right of one worker to draw files. Contracts see what it drew, and whether it learnt that no file is left.
 #[derive(Drop)]
 pub struct ClaimSeat {
     pub(crate) seat: Seat<(), SeatView>,
-    // It was answered that no file is left.
+    // True once a draw found that no file is left.
     pub(crate) done: bool,
 }
 

@@ -10,7 +10,7 @@ use atomic_table::{Seat, Table};
 use std::alloc::{AllocError, Global};
 use std::marker::Model;
 
-/// The files of a run, which workers draw, each once.
+/// The files of a run. Workers draw them, each once.
 #[derive(Drop)]
 pub struct Claims {
     table: Table<(), SeatView, Bounds, DrawRule, Global>,
@@ -29,7 +29,7 @@ impl Model for Claims {
     ghost invariant = { λ c. (c.table.shared.table_id.words ≡ 1) × (c.table.shared.table_id.slots ≡ 0) × (c.table.shared.key.files ≡ c.files) × (c.table.shared.key.workers ≡ c.workers) × (0 < c.workers) };
 }
 
-/// What `settle` gives back where a seat is missing, or wasn't yet answered that no file is left.
+/// The value that `settle` returns if a seat is missing, or hasn't yet learnt that no file is left.
 #[derive(Drop)]
 pub struct Unsettled {
     pub claims: Claims,
@@ -37,7 +37,7 @@ pub struct Unsettled {
 }
 
 impl Claims {
-    /// The claims of 1 to 65,536 files, and a seat for each of 1 to 8 workers.
+    /// Returns the claims of 1 to 65,536 files, and a seat for each of 1 to 8 workers.
     pub fn new(
         alloc: Global,
         files: u32,
@@ -60,7 +60,7 @@ impl Claims {
         Ok((claims, seats))
     }
 
-    // The word, and one seat with all parts.
+    // Makes the word, and one seat with all parts.
     fn open(
         alloc: Global,
         files: u32,
@@ -80,7 +80,7 @@ impl Claims {
         Ok((claims, seat))
     }
 
-    // A seat with one part of another seat's.
+    // Splits off a seat with one part of another seat's.
     fn split(&self, seat: &mut Seat<(), SeatView>) -> ClaimSeat
         requires parts { 1 < seat.old.me.0.parts }
         requires fresh { IsFresh self.now seat.old.me.0.parts seat.old }
@@ -94,7 +94,7 @@ impl Claims {
         }
     }
 
-    /// The next file that no seat has drawn. `None` where none is left, and from then on. It takes no memory.
+    /// Draws the next file that no seat has drawn. Returns `None` when none is left, and from then on. Allocates nothing.
     pub fn draw(&self, seat: &mut ClaimSeat) -> Option<u32>
         requires { IsSeatOf self.now seat.old }
         ensures some { IfSome result (λ file. (file < self.now.files) × All (λ earlier. earlier < file) seat.old.drawn
@@ -113,7 +113,7 @@ impl Claims {
         }
     }
 
-    /// How many files there are, once every seat was answered that none is left: each was drawn by one seat, once.
+    /// Returns the number of files, if every seat learnt that none is left: each file was drawn by one seat, once.
     pub fn settle(self, seats: Vec<ClaimSeat>) -> Result<u32, Unsettled>
         requires { All (λ s. IsSeatOf self s) seats.items }
         ensures files { IfOk result (λ n. n ≡ self.files) }
@@ -132,7 +132,7 @@ impl Claims {
         Ok(files)
     }
 
-    // Joins all seats, and looks at the word.
+    // Joins all seats, and reads the word.
     fn count(&self, mut seats: Vec<ClaimSeat>)
         requires these { All (λ s. IsSeatOf self.now s) seats.items }
         requires some { 0 < vec_len seats }
@@ -150,7 +150,7 @@ impl Claims {
         self.look(&mut one);
     }
 
-    // Puts what another seat drew to what this one drew.
+    // Adds what another seat drew to what this one drew.
     fn join(&self, seat: &mut Seat<(), SeatView>, other: ClaimSeat)
         requires these { (seat.old.table_id ≡ self.now.word) × (other.word ≡ self.now.word) }
         requires done { other.done ≡ true }
@@ -160,7 +160,7 @@ impl Claims {
         self.table.shared.join_seat::<Together>(seat, other.seat);
     }
 
-    // What the seat with all parts knows, once it drew past the files.
+    // Learns from the word that every file was drawn once: the seat has all parts, and drew past the files.
     fn look(&self, one: &mut Seat<(), SeatView>)
         requires this { (one.old.table_id ≡ self.now.word) × (one.old.me.0.files ≡ self.now.files) }
         requires all { self.now.workers ≤ one.old.me.0.parts }

@@ -1,4 +1,4 @@
-//! How the calling thread receives what workers send, and hands it on.
+//! Delivers what workers send, on the calling thread.
 ghost use Rattle.std.specs.Prelude.{◌≡◌, OnOk};
 ghost use Rattle.lx_piece.specs.Relayed.{TakesAllInOrder};
 ghost use Rattle.lx_post.specs.Collected.{IsCollected, TellsFaults, TookNothing};
@@ -11,8 +11,8 @@ use lx_piece::{Maker, ReaderOf, relay_of};
 use std::sync::Wait;
 
 impl<'a, W: Wait, G, M: Maker> RunContext<'a, W, G, M> {
-    // Receives pieces until every worker ended, the reader fails or a growth of this thread is refused, and hands them to the reader. It
-    // answers the first fault that it met.
+    // Receives pieces and delivers them to the reader. Ends when every worker ended, the reader fails, or an allocation of this thread fails. Returns
+    // the first fault that it met.
     fn collect<R: ReaderOf<M>>(
         &self,
         take: TakePass<M::Made>,
@@ -35,7 +35,7 @@ impl<'a, W: Wait, G, M: Maker> RunContext<'a, W, G, M> {
             reader,
         );
         let (take, fault) = arrivals.into_pass();
-        // what a worker's end named was learnt before the relay ended
+        // the arrivals noted this fault before the relay ended
         if fault.is_some() {
             return (take, Err(RunFault::Memory));
         }
@@ -45,7 +45,7 @@ impl<'a, W: Wait, G, M: Maker> RunContext<'a, W, G, M> {
         }
     }
 
-    /// Receives every note that is left, so that no worker waits for room for ever.
+    /// Receives every note that is left, so that no worker waits for room forever.
     pub fn drain(&self, take: &mut TakePass<M::Made>)
         requires { IsTakePassOf self.now.post take.old }
         ensures { IsTakePassOf self.now.post take.new }
@@ -59,7 +59,7 @@ impl<'a, W: Wait, G, M: Maker> RunContext<'a, W, G, M> {
         unreachable!()
     }
 
-    /// Receives every note of all workers, and hands their pieces to the reader until it fails or a growth of this thread is refused.
+    /// Receives every note of all workers. Delivers their pieces to the reader until it fails or an allocation of this thread fails.
     pub fn receive_all<R: ReaderOf<M>>(
         &self,
         take: TakePass<M::Made>,

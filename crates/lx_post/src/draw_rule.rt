@@ -1,28 +1,28 @@
-//! The rule of the word from which numbers of files are drawn, and what each step on it tells.
+//! The rule of the word from which file numbers are drawn, and what each step on it reveals.
 
 use atomic_table::{Join, Play, Split, TableRule};
 use std::collections::LinkedList;
 
-/// What a seat knows. No value of it is made.
+/// The knowledge of a seat. No value of it is made.
 pub struct SeatView {
-    /// How many files there are.
+    /// Number of files.
     pub files: u64,
-    /// Whoever has as many parts as there are workers knows what all seats drew.
+    /// Number of parts. A seat with one part for each worker knows what all seats drew.
     pub parts: u64,
-    /// How many draws found no file.
+    /// Number of draws that found no file.
     pub past: u64,
-    /// What was drawn.
+    /// Numbers of the files that the seat drew.
     pub drawn: LinkedList<u32>,
 }
 
-/// How many files there are, and how many workers draw them.
+/// The number of files, and of the workers that draw them.
 #[derive(Drop)]
 pub struct Bounds {
     pub files: u32,
     pub workers: u8,
 }
 
-/// The numbers below the word and below the number of files are drawn, each once.
+/// The numbers below both the word and the number of files are drawn, each once.
 pub struct DrawRule;
 
 impl TableRule<(), SeatView, Bounds> for DrawRule {
@@ -34,7 +34,7 @@ impl TableRule<(), SeatView, Bounds> for DrawRule {
     ghost first = { λ b. seat_view b.files b.workers 0 [] };
 }
 
-/// One part of a seat goes to a new seat.
+/// Gives one part of a seat to a new seat.
 pub struct OnePart;
 
 impl Split<SeatView> for OnePart {
@@ -45,7 +45,7 @@ impl Split<SeatView> for OnePart {
     ghost right = { one_part };
 }
 
-/// What two seats drew, in one seat.
+/// Joins two seats, with all that they drew.
 pub struct Together;
 
 impl Join<SeatView> for Together {
@@ -65,7 +65,7 @@ impl Play<(), SeatView> for Draw {
     ghost then = { Draws };
 }
 
-/// A look at the word by the seat that has all parts.
+/// A read of the word by the seat that has all parts.
 pub struct Count;
 
 impl Play<(), SeatView> for Count {

@@ -1,4 +1,4 @@
-//! That nothing which was sent is lost.
+//! Proves at the end that no sent note is lost.
 ghost use Rattle.std.specs.Prelude.{◌≡◌, ◌<◌, ◌⊎◌, ◌↔◌, All, Any, IfOk, IfErr, IsTrue};
 ghost use Rattle.lx_post.specs.Posted.{AllEnded, HaveAllWorkers, IsAllReceived, IsSendPassOf, IsTakePassOf};
 
@@ -8,7 +8,7 @@ use crate::post_rule::{Joining, Whole};
 use lx_piece::{KeepItems, Maker};
 use std::sync::Wait;
 
-/// What `finish` gives back where a send pass is missing, or an end wasn't received.
+/// The value that `finish` returns if a send pass is missing, or an end wasn't received.
 #[derive(Drop)]
 pub struct Unfinished<M: Maker = KeepItems> {
     pub post: Post<M>,
@@ -16,7 +16,7 @@ pub struct Unfinished<M: Maker = KeepItems> {
     pub passes: Vec<SendPass<M::Made>>,
 }
 
-// Joins the pass of a worker, whose end was received.
+// Joins the pass of a worker whose end was received.
 fn join<M: Maker>(post: &Post<M>, pass: &mut TakePass<M::Made>, other: SendPass<M::Made>)
     requires pass { IsTakePassOf post.now pass.old × AllEnded pass.old }
     requires other { IsSendPassOf post.now other }
@@ -44,8 +44,8 @@ fn have_all_workers<C>(passes: &[SendPass<C>], workers: u8) -> bool
     true
 }
 
-/// Every note that each worker sent was received. All passes come back where a worker's send pass is missing, or its end wasn't
-/// received. It takes no memory.
+/// Proves that every note of each worker was received, and consumes the post and its passes. Allocates nothing. Returns them all if a worker's send
+/// pass is missing, or its end wasn't received.
 pub fn finish<R: Wait, M: Maker>(
     _rt: &R,
     post: Post<M>,

@@ -1,12 +1,12 @@
-//! Where a worker may be held.
+//! Points at which a test may hold a worker.
 
-/// Where a worker may be held. Each worker passes it before it cuts a piece, up to and with the last piece of the file.
+/// A point at which a worker may be held. Each worker passes it before it cuts a piece, including the last piece of the file.
 pub trait Gate {
-    /// Worker `worker` is about to cut the piece with this number of this file.
+    /// Called when worker `worker` is about to cut piece `number` of file `file`.
     fn pass(&self, worker: u8, file: u32, number: u64);
 }
 
-/// A gate that holds nobody.
+/// A gate that holds no worker.
 #[derive(Drop)]
 pub struct OpenGate;
 

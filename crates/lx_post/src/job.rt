@@ -1,30 +1,30 @@
-//! What a worker is given, and what becomes of it.
+//! Jobs of workers, and their outcomes.
 
 use crate::run_fault::RunFault;
 use crate::{ClaimSeat, SendPass, TakePass};
 
-/// With what a worker draws and sends.
+/// The seat and the pass by which a worker draws files and sends notes.
 #[derive(Drop)]
 pub struct Job<C> {
     pub seat: ClaimSeat,
     pub pass: SendPass<C>,
 }
 
-/// What became of a job.
+/// The outcome of a job.
 #[derive(Drop)]
 pub enum Outcome<C> {
     /// The worker ended.
     Done(Job<C>),
-    /// The worker never began.
+    /// The worker never began. Its job comes back.
     Back(Job<C>),
 }
 
-/// What the threads of a run came to.
+/// The outcome of a run's threads.
 #[derive(Drop)]
 pub enum Ran<C> {
-    /// The reader took every file whole.
+    /// The reader took every file completely.
     Whole,
-    /// No fault was met. The jobs tell whether all was received: those of the workers that ended, and of those that never began.
+    /// No fault was met. The jobs prove that all was received: those of the workers that ended, and of those that never began.
     Received {
         take: TakePass<C>,
         ended: Vec<Job<C>>,

@@ -1,4 +1,4 @@
-//! How workers are joined, and what their joins tell.
+//! Joins the workers, and concludes from their jobs that every piece was received.
 ghost use Rattle.std.specs.Prelude.{◌≡◌, ◌<◌, ◌≤◌, [], All, IfErr, IfOk, IfSome, None, OnOk, map};
 ghost use Rattle.lx_piece.specs.Plans.{files_of};
 ghost use Rattle.lx_post.specs.Collected.{AreAllReceived};
@@ -24,7 +24,7 @@ impl<'a, W: Threads, G, M: Maker> RunContext<'a, W, G, M> {
         ensures ended { All (λ job. IsDone M.made self.now.claims self.now.post self.now.plan.now job) ended.old.items
             → All (λ job. IsDone M.made self.now.claims self.now.post self.now.plan.now job) ended.new.items }
     {
-        // a worker that was started never gives its job back
+        // a worker that was started never returns its job unused
         if let Outcome::Done(job) = handle.join(self.rt) {
             // room was reserved
             let _pushed = ended.push(job).is_ok();
@@ -44,7 +44,7 @@ impl<'a, W: Threads, G, M: Maker> RunContext<'a, W, G, M> {
 }
 
 impl<'a, W: Wait, G, M: Maker> RunContext<'a, W, G, M> {
-    // Lets the seat of a worker that never began draw. `None` where it is answered a file.
+    // Draws with the seat of a worker that never began. Returns `None` if the draw yields a file.
     #[tactic(auto, using(crate::proofs::NothingLost::done_idle))]
     fn draw_for(&self, job: Job<M::Made>) -> Option<Job<M::Made>>
         requires { IsIdle self.now.claims self.now.post self.now.plan.now job }
@@ -57,7 +57,7 @@ impl<'a, W: Wait, G, M: Maker> RunContext<'a, W, G, M> {
         }
     }
 
-    // Lets the seat of each worker that never began draw: the others drew all files, so each is answered that none is left.
+    // Draws with the seat of each worker that never began. The others drew all files, so each of these seats learns that none is left.
     #[tactic(auto, using(crate::proofs::NothingLost::all_pushed))]
     fn draw_for_all(
         &self,
@@ -78,14 +78,14 @@ impl<'a, W: Wait, G, M: Maker> RunContext<'a, W, G, M> {
     }
 }
 
-/// Where the seats and the passes of jobs go.
+/// The seats and the passes of the jobs that ended.
 #[derive(Drop)]
 pub struct Parts<C> {
     pub seats: Vec<ClaimSeat>,
     pub passes: Vec<SendPass<C>>,
 }
 
-// The seats and the passes of these jobs.
+// Takes jobs apart into their seats and passes.
 fn take_apart<C: Drop>(jobs: Vec<Job<C>>, parts: &mut Parts<C>) -> Result<(), AllocError>
     requires none { (parts.old.seats.items ≡ []) × (parts.old.passes.items ≡ []) }
     ensures seats { OnOk result (parts.new.seats.items ≡ map (λ job. job.seat) jobs.items) }
@@ -99,7 +99,7 @@ fn take_apart<C: Drop>(jobs: Vec<Job<C>>, parts: &mut Parts<C>) -> Result<(), Al
     Ok(())
 }
 
-/// That every piece of every file was received, once the jobs of all workers are here and none named a fault.
+/// Proves that every piece of every file was received, from the jobs of all workers, none of which named a fault. The only error is `Memory`.
 pub fn settle_all<W: Wait, G, M: Maker + Drop>(
     context: RunContext<'_, W, G, M>,
     take: TakePass<M::Made>,

@@ -1,4 +1,4 @@
-//! A gate for tests, at which two workers meet.
+//! A gate for tests at which two workers meet.
 
 ghost use Rattle.std.specs.Prelude.{◌<◌};
 
@@ -6,21 +6,21 @@ use crate::gate::Gate;
 use std::sync::atomic::{AtomicBool, Ordering};
 use std::thread;
 
-// So often a worker looks whether the other one came.
+// Number of turns that a worker waits for the other one.
 const TURNS: u32 = 10_000_000;
 
-/// A gate at which two workers, 0 and 1, meet: the first time that one of them passes it, it is held until the other has come
-/// to it, but for no more than 10,000,000 turns, each of which yields the processor. It holds no other worker.
+/// A gate at which workers 0 and 1 meet. The first of the two to pass is held until the other one comes to the gate. It is held for at most
+/// 10,000,000 turns, each of which yields the processor. Other workers aren't held.
 #[derive(Drop)]
 pub struct MeetingGate {
-    // Of each of the two: it came.
+    // For each of the two workers, true once it came.
     came: [AtomicBool; 2],
-    // One of them turned to the limit.
+    // True once one of them reached the limit of turns.
     gave_up: AtomicBool,
 }
 
 impl MeetingGate {
-    /// A gate to which nobody came.
+    /// Returns a gate to which no worker came yet.
     pub fn new() -> MeetingGate {
         MeetingGate {
             came: [AtomicBool::new(false), AtomicBool::new(false)],
@@ -28,14 +28,14 @@ impl MeetingGate {
         }
     }
 
-    /// Both came, and neither turned to the limit.
+    /// Returns true if both workers came and neither reached the limit of turns.
     pub fn met(&self) -> bool {
         self.came[0].load(Ordering::SeqCst)
             && self.came[1].load(Ordering::SeqCst)
             && !self.gave_up.load(Ordering::SeqCst)
     }
 
-    // Turns until the other one has come.
+    // Yields until the other worker comes, or the limit of turns is reached.
     fn turn_until_came(&self, other: usize)
         requires { other < 2 }
     {

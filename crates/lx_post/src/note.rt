@@ -1,16 +1,16 @@
-//! What a worker sends.
+//! Notes that workers send.
 
 use lx_piece::{Items, Piece};
 use thiserror::Error;
 
-/// Why a worker ended before its files did.
+/// Reason why a worker ended before its files were finished.
 #[derive(Clone, Copy, Debug, PartialEq, Eq, Error)]
 pub enum WorkerFault {
     #[error("out of memory")]
     Memory,
 }
 
-/// What a worker sends.
+/// A note that a worker sends.
 #[derive(Debug, Drop)]
 pub enum Note<C = Items> {
     /// A piece, as it was cut.
@@ -18,7 +18,7 @@ pub enum Note<C = Items> {
         worker: u8,
         piece: Piece<C>,
     },
-    /// The worker's last note, with the number of files that it finished.
+    /// The worker's last note. `files` is the number of files that it finished.
     End {
         worker: u8,
         files: u32,

@@ -1,4 +1,4 @@
-//! What the reader holds, and workers that wait where it holds much.
+//! Makes workers wait while the reader holds much.
 
 ghost use Rattle.std.specs.Prelude.{◌≡◌, ◌<◌, ◌≤◌, ◌↔◌, IsTrue, false};
 
@@ -7,27 +7,27 @@ use lx_piece::{Held, MAX_WORKERS};
 use std::sync::Wait;
 use std::sync::atomic::{AtomicBool, AtomicU64, Ordering};
 
-// So many bytes a reader may hold of files behind the one that it waits for before workers wait.
+// Number of bytes that the reader may hold of later files before workers wait. Later files are those after the one that it waits for.
 const MOST_HELD: u64 = 3 << 23;
 
-// So many bytes before the first worker draws no further file; half as many before the second one doesn't, and so on.
+// Number of held bytes at which the first worker draws no further file. The second worker stops at half of it, the third at a quarter, and so on.
 const ENOUGH_HELD: u64 = MOST_HELD / 2;
 
-// How long a worker sleeps that draws no file, in microseconds: what is held lasts longer.
+// Length of a sleep of a worker that draws no file, in microseconds. What the reader holds lasts longer than that.
 const NAP: u64 = 500;
 
-/// What a reader holds. One that needs the files in order holds what it takes of files behind the one that it waits for, which is nearly
-/// everything where that file is slow. So a worker that cuts such a file waits while much is held. The worker of the file that is waited for
-/// never waits, and files are drawn in order, so that it gets on. Where workers are faster than the reader, the last ones draw no further file
-/// for a while: threads that aren't needed take the processor of the thread that reads. It only takes time: of what is read no contract speaks here, but `is_to_wait` says by its own that
-/// the worker of the file that is waited for never waits, and nobody once the pace is ended.
+/// The amount that a reader holds. A reader that needs the files in order holds what it takes of files after the one that it waits for. If that file
+/// is slow, it holds nearly everything. So a worker that cuts such a later file waits while much is held. The worker of the awaited file never waits.
+/// Files are drawn in order, so that this worker makes progress. If workers are faster than the reader, the last ones draw no further file for a
+/// while. Threads that aren't needed would take the processor of the thread that reads. A pace affects only time, so no contract here speaks of what
+/// is read. The contract of `is_to_wait` says who waits. The worker of the awaited file never does, and nobody does once the pace is ended.
 #[derive(Drop)]
 pub struct Pace {
-    // The file that is waited for.
+    // Number of the file that the reader waits for.
     file: AtomicU64,
-    // How many bytes are held of the files behind it.
+    // Number of bytes that the reader holds of later files.
     bytes: AtomicU64,
-    // Nobody waits any more: the reader takes nothing more, or a file stays open.
+    // True once no worker waits any more: the reader takes nothing more, or a file stays open.
     is_over: AtomicBool,
 }
 
@@ -39,21 +39,21 @@ struct Seen {
     is_over: bool,
 }
 
-// Returns true where the worker of a file waits: it is behind the one that is waited for, much is held, and the pace isn't ended.
+// Returns true if the worker of `file` waits: its file comes after the awaited one, much is held, and the pace isn't ended.
 fn is_to_wait(seen: Seen, file: u32) -> bool
     ensures { IsTrue result ↔ ((seen.file < file) × (MOST_HELD ≤ seen.bytes) × (seen.is_over ≡ false)) }
 {
     seen.file < u64::from(file) && seen.bytes >= MOST_HELD && !seen.is_over
 }
 
-// Returns true where a worker waits before it draws a file: enough is held, and the pace isn't ended.
+// Returns true if a worker waits before it draws a file: enough is held, and the pace isn't ended.
 fn is_to_wait_to_draw(seen: Seen, enough: u64) -> bool
     ensures { IsTrue result ↔ ((enough ≤ seen.bytes) × (seen.is_over ≡ false)) }
 {
     seen.bytes >= enough && !seen.is_over
 }
 
-// Stores a number where it is another one than before: what isn't stored stays in the caches of the threads that look at it.
+// Stores a number if it differs from the present one. Without a store, the word stays in the caches of the threads that read it.
 fn note_in(noted: &AtomicU64, number: u64) {
     if noted.load(Ordering::Relaxed) != number {
         noted.store(number, Ordering::SeqCst);
@@ -61,7 +61,7 @@ fn note_in(noted: &AtomicU64, number: u64) {
 }
 
 impl Pace {
-    /// That of a reader that holds nothing.
+    /// Returns the pace of a reader that holds nothing.
     pub fn new() -> Pace {
         Pace {
             file: AtomicU64::new(0),
@@ -70,18 +70,18 @@ impl Pace {
         }
     }
 
-    /// Notes what the reader holds. One thread does.
+    /// Notes what the reader holds. Only one thread calls it.
     pub fn note(&self, held: Held) {
         note_in(&self.file, u64::from(held.file));
         note_in(&self.bytes, held.bytes);
     }
 
-    /// Lets all workers go on, now and from now on.
+    /// Lets all workers go on, now and later.
     pub fn end(&self) {
         self.is_over.store(true, Ordering::SeqCst);
     }
 
-    /// Waits while much is held, and this file is behind the one that is waited for.
+    /// Waits while much is held and `file` comes after the awaited file.
     pub fn wait<W: Wait>(&self, rt: &W, file: u32) {
         let mut backoff = Backoff::new();
         for _ in rt.forever() {
@@ -93,7 +93,7 @@ impl Pace {
         unreachable!()
     }
 
-    /// Has a worker wait before it draws a file, while enough is held: the reader waits for no file of its.
+    /// Makes a worker wait before it draws a file, while enough is held. The reader waits for no file of this worker.
     pub fn wait_to_draw<W: Wait>(&self, rt: &W, worker: u8) {
         let mut backoff = Backoff::of_naps(NAP);
         for _ in rt.forever() {

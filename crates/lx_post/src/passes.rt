@@ -1,4 +1,4 @@
-//! With what workers send notes, and the thread that hands pieces on takes them.
+//! The queue's send and receive handles.
 ghost use Rattle.std.specs.Prelude.{◌≡◌, ◌↔◌, IsTrue};
 ghost use Rattle.lx_post.specs.Posted.{AllEnded};
 
@@ -8,7 +8,7 @@ use crossbeam_queue::Pass;
 use lx_piece::{Items, MAX_WORKERS};
 use std::marker::Model;
 
-/// The most workers that a run has, as the length of a list.
+/// Greatest number of workers of a run, as the length of a list.
 pub const WORKER_SLOTS: usize = MAX_WORKERS as usize;
 
 /// The right of one worker to send notes. Contracts see what it sent.
@@ -36,7 +36,7 @@ impl<C> Model for SendPass<C> {
 pub struct TakePass<C = Items> {
     pub(crate) pass: Pass<Note<C>, PassView<C>>,
     pub(crate) workers: u8,
-    // Of each worker: its end was received.
+    // For each worker, true once its end was received.
     pub(crate) ended: [bool; WORKER_SLOTS],
 }
 
@@ -60,7 +60,7 @@ impl<C> Model for TakePass<C> {
 }
 
 impl<C> SendPass<C> {
-    /// The worker whose notes it sends.
+    /// Returns the number of the worker whose notes it sends.
     pub fn worker(&self) -> u8
         ensures { result ≡ self.now.worker }
     {
@@ -69,7 +69,7 @@ impl<C> SendPass<C> {
 }
 
 impl<C> TakePass<C> {
-    // Whether every worker's end was received.
+    // Returns true once every worker's end was received.
     pub(crate) fn all_ended(&self) -> bool
         ensures { IsTrue result ↔ AllEnded self.now }
     {

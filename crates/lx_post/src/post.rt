@@ -30,7 +30,7 @@ impl<M: Maker> Model for Post<M> {
     ghost view = { λ p. record { queue = p.queue.table.shared.table_id; workers = p.workers } };
 }
 
-// Lets the first pass name the plan.
+// Names the plan in the first pass.
 fn name_plan<J: Naming, M: Maker>(
     queue: &RuledArrayQueue<Note<M::Made>, PassView<M::Made>, PostRule<M>>,
     pass: &mut Pass<Note<M::Made>, PassView<M::Made>>,
@@ -45,7 +45,7 @@ fn name_plan<J: Naming, M: Maker>(
 }
 
 impl Post {
-    /// A post with room for so many notes, a pass for each of 1 to 8 workers, in their order, and one to receive with.
+    /// Returns a post with room for `room` notes, a pass for each of 1 to 8 workers, in their order, and a pass to receive with.
     pub fn new<R: Wait>(
         rt: &R,
         alloc: Global,
@@ -66,7 +66,7 @@ impl Post {
 }
 
 impl<M: Maker> Post<M> {
-    /// The same, where the pieces carry what a maker makes of their items.
+    /// Does the same as `new` for pieces that carry what a maker makes of their items.
     pub fn of<R: Wait>(
         _rt: &R,
         alloc: Global,
@@ -96,7 +96,7 @@ impl<M: Maker> Post<M> {
         Ok((post, passes, pass))
     }
 
-    // A post to which no worker has a pass, and the pass that takes.
+    // Makes a post to which no worker has a pass, and the pass that takes.
     fn open(
         alloc: Global,
         plan: &Plan,
@@ -112,7 +112,7 @@ impl<M: Maker> Post<M> {
         Ok((Post { queue, workers }, pass))
     }
 
-    // A pass for the next worker.
+    // Makes the pass of the next worker.
     fn add_worker(
         &self,
         pass: &mut Pass<Note<M::Made>, PassView<M::Made>>,
@@ -128,7 +128,7 @@ impl<M: Maker> Post<M> {
         SendPass { pass, worker }
     }
 
-    // Sends a note where there is room.
+    // Sends a note if there is room. Returns the note if there is none.
     pub(crate) fn try_send<R: Wait>(
         &self,
         rt: &R,
@@ -143,8 +143,8 @@ impl<M: Maker> Post<M> {
         self.queue.push_as::<Sending, R>(rt, &mut pass.pass, note)
     }
 
-    /// Sends a note, and waits for room where there is none. The note is of the pass's worker, which hasn't ended, and a piece is the
-    /// plan's where it has the plan's run and one of its files. It takes no memory.
+    /// Sends a note, and waits for room if there is none. Allocates nothing. The note belongs to the pass's worker, which hasn't ended. A piece
+    /// belongs to the plan if it has the plan's run and one of its files.
     pub fn send<R: Wait>(&self, rt: &R, pass: &mut SendPass<M::Made>, note: Note<M::Made>)
         requires post { pass.old.queue ≡ self.now.queue }
         requires note { MaySend M.made pass.old note }
@@ -164,7 +164,7 @@ impl<M: Maker> Post<M> {
         unreachable!()
     }
 
-    // Receives a note where there is one.
+    // Receives a note if there is one.
     fn try_receive<R: Wait>(&self, rt: &R, pass: &mut TakePass<M::Made>) -> Option<Note<M::Made>>
         requires { IsTakePassOf self.now pass.old }
         ensures some { IfSome result (λ note. MayCome M.made pass.old note × (pass.new ≡ with_received pass.old note)) }
@@ -177,7 +177,7 @@ impl<M: Maker> Post<M> {
         Some(note)
     }
 
-    /// Receives a note, and waits for one where there is none. `None` once every worker's end was received. It takes no memory.
+    /// Receives a note, and waits for one if there is none. Returns `None` once every worker's end was received. Allocates nothing.
     pub fn receive<R: Wait>(&self, rt: &R, pass: &mut TakePass<M::Made>) -> Option<Note<M::Made>>
         requires { IsTakePassOf self.now pass.old }
         ensures some { IfSome result (λ note. MayCome M.made pass.old note × (pass.new ≡ with_received pass.old note)) }

@@ -1,4 +1,4 @@
-//! The pieces that come by a post, for a relay.
+//! Pieces that arrive by a post, for a relay.
 ghost use Rattle.std.specs.Prelude.{◌≡◌, [], IfNone, IfSome};
 ghost use Rattle.lx_post.specs.Notes.{fault_with, first_fault};
 ghost use Rattle.lx_post.specs.Posted.{AllEnded, IsTakePassOf, MayCome, with_arrival};
@@ -12,7 +12,7 @@ use std::marker::Model;
 use std::snapshot::Snapshot;
 use std::sync::Wait;
 
-// The first fault once this note has come.
+// Returns the first fault, given the one before and the next note.
 fn fault_with<C>(fault: Option<WorkerFault>, note: &Note<C>) -> Option<WorkerFault>
     ensures { result ≡ fault_with fault note.now }
 {
@@ -22,15 +22,15 @@ fn fault_with<C>(fault: Option<WorkerFault>, note: &Note<C>) -> Option<WorkerFau
     }
 }
 
-/// The pieces that a post receives. They end once every worker's end was received. Workers hear by the pace what the reader holds.
+/// The pieces that a post receives. They end once every worker's end was received. The pace informs workers of what the reader holds.
 #[derive(Drop)]
 pub struct NoteArrivals<'a, R: Wait, M: Maker> {
     rt: &'a R,
     post: &'a Post<M>,
     pass: TakePass<M::Made>,
-    // The pass as it was at first.
+    // The pass at the time of `new`.
     first: Snapshot<TakePass<M::Made>>,
-    // The first fault that an end named since then.
+    // The first fault that an end has named since `new`.
     fault: Option<WorkerFault>,
     pace: Option<&'a Pace>,
 }
@@ -51,7 +51,7 @@ impl<'a, R: Wait, M: Maker> Model for NoteArrivals<'a, R, M> {
 }
 
 impl<'a, R: Wait, M: Maker> NoteArrivals<'a, R, M> {
-    /// What this pass receives from now on. It takes no memory.
+    /// Returns the arrivals of what this pass receives from now on. Allocates nothing.
     pub fn new(
         rt: &'a R,
         post: &'a Post<M>,
@@ -73,7 +73,7 @@ impl<'a, R: Wait, M: Maker> NoteArrivals<'a, R, M> {
         }
     }
 
-    /// The pass, and the first fault that an end named which came by these arrivals.
+    /// Returns the pass, and the first fault that an end among these arrivals named.
     pub fn into_pass(self) -> (TakePass<M::Made>, Option<WorkerFault>)
         ensures pass { result.0 ≡ self.entry.pass }
         ensures fault { result.1 ≡ first_fault self.entry.since }
@@ -81,7 +81,7 @@ impl<'a, R: Wait, M: Maker> NoteArrivals<'a, R, M> {
         (self.pass, self.fault)
     }
 
-    // Receives a note. `None` once every worker's end was received.
+    // Receives a note. Returns `None` once every worker's end was received.
     fn next_note(&mut self) -> Option<Note<M::Made>>
         ensures some { IfSome result (λ note. MayCome M.made self.old.pass note × (self.new ≡ with_arrival self.old note)) }
         ensures none { IfNone result ((self.new ≡ self.old) × AllEnded self.old.pass) }
@@ -124,7 +124,7 @@ impl<'a, R: Wait, M: Maker> ArrivalsOf<M> for NoteArrivals<'a, R, M> {
     ghost goes_on = { came_on };
 }
 
-/// The same, of pieces that carry their items.
+/// The pieces that a post receives, if they carry their items.
 #[derive(Drop)]
 pub struct PostArrivals<'a, R: Wait> {
     notes: NoteArrivals<'a, R, KeepItems>,
@@ -141,7 +141,7 @@ impl<'a, R: Wait> Model for PostArrivals<'a, R> {
 }
 
 impl<'a, R: Wait> PostArrivals<'a, R> {
-    /// What this pass receives from now on. It takes no memory.
+    /// Returns the arrivals of what this pass receives from now on. Allocates nothing.
     pub fn new(rt: &'a R, post: &'a Post, pass: TakePass) -> Self
         requires { IsTakePassOf post.now pass }
         ensures pass { result.pass ≡ pass }
@@ -152,7 +152,7 @@ impl<'a, R: Wait> PostArrivals<'a, R> {
         }
     }
 
-    /// The pass, and the first fault that an end named which came by these arrivals.
+    /// Returns the pass, and the first fault that an end among these arrivals named.
     pub fn into_pass(self) -> (TakePass, Option<WorkerFault>)
         ensures pass { result.0 ≡ self.entry.pass }
         ensures fault { result.1 ≡ first_fault self.entry.since }

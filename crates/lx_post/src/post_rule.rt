@@ -1,4 +1,4 @@
-//! The rule of the queue of notes, and what each step on it tells.
+//! The rule of the queue of notes, and what each step on it reveals.
 
 use crate::note::Note;
 use crossbeam_queue::protocol::{Join, Lesson, Outcome, Protocol, Split};
@@ -6,33 +6,33 @@ use lx_piece::{Maker, Plan};
 use std::collections::LinkedList;
 use std::marker::{Brand, PhantomData};
 
-/// What a pass is for.
+/// The purpose of a pass.
 pub enum Role {
     /// The first pass, which names no plan yet.
     Blank,
-    /// It sends the notes of a worker.
+    /// The pass sends the notes of a worker.
     Sends,
-    /// It takes notes.
+    /// The pass takes notes.
     Takes,
-    /// Nothing any more.
+    /// The pass does nothing any more.
     Spent,
 }
 
-/// What a pass knows. No value of it is made.
+/// The knowledge of a pass. No value of it is made.
 pub struct PassView<C> {
     pub role: Role,
     pub plan: Plan,
-    /// Whose notes it sends. Of the pass that takes: whose pass was joined to it last.
+    /// Number of the worker whose notes it sends. In the pass that takes: of the worker whose pass was joined to it last.
     pub worker: u16,
-    /// What that worker sent.
+    /// Notes that this worker sent.
     pub sent: LinkedList<Note<C>>,
-    /// How many workers have a pass.
+    /// Number of workers that have a pass.
     pub given: u8,
-    /// What was received.
+    /// Notes that were received.
     pub received: LinkedList<Note<C>>,
 }
 
-/// What was received of a worker, and behind it what stands in the queue of it, is what it sent.
+/// For each worker, its received notes followed by its queued ones are the notes that it sent.
 pub struct PostRule<M: Maker> {
     of: PhantomData<M>,
 }
@@ -45,7 +45,7 @@ impl<M: Maker> Protocol<Note<M::Made>, PassView<M::Made>> for PostRule<M> {
     ghost first = { blank };
 }
 
-/// Which plan the passes name. The rule's first view is a constant, so a call picks the plan.
+/// A name for the plan in the passes. The rule's first view is a constant, so a call picks the plan.
 pub trait Naming {
     ghost use Rattle.lx_piece.specs.Plans.{Planned};
 
@@ -58,7 +58,7 @@ impl Naming for Brand {
     ghost plan = { no_plan };
 }
 
-/// The first pass becomes the one that takes. The pass that is split off is spent.
+/// Turns the first pass into the one that takes. The pass that is split off is spent.
 pub struct Opening<J: Naming> {
     of: PhantomData<J>,
 }
@@ -71,7 +71,7 @@ impl<J: Naming, C> Split<PassView<C>> for Opening<J> {
     ghost right = { λ _. spent_pass };
 }
 
-/// The pass that takes gives the next worker one.
+/// Gives the next worker a pass, split off the pass that takes.
 pub struct NextWorker;
 
 impl<C> Split<PassView<C>> for NextWorker {
@@ -82,7 +82,7 @@ impl<C> Split<PassView<C>> for NextWorker {
     ghost right = { next_worker };
 }
 
-/// A worker's pass goes into the one that takes.
+/// Joins a worker's pass to the one that takes.
 pub struct Joining;
 
 impl<C> Join<PassView<C>> for Joining {
@@ -93,7 +93,7 @@ impl<C> Join<PassView<C>> for Joining {
     ghost spent = { spent_pass };
 }
 
-/// A note is sent.
+/// The sending of a note.
 pub struct Sending;
 
 impl<C> Outcome<Note<C>, PassView<C>> for Sending {
@@ -106,7 +106,7 @@ impl<C> Lesson<Note<C>, PassView<C>> for Sending {
     ghost fact = { λ v items. Unit {0} };
 }
 
-/// A note is taken.
+/// The taking of a note.
 pub struct Taking<M: Maker> {
     of: PhantomData<M>,
 }
@@ -121,7 +121,7 @@ impl<M: Maker> Lesson<Note<M::Made>, PassView<M::Made>> for Taking<M> {
     ghost fact = { λ v items. Unit {0} };
 }
 
-/// What was received of the worker that joined last.
+/// The lesson that all notes of the worker that joined last were received, once its end was.
 pub struct Whole;
 
 impl<C> Lesson<Note<C>, PassView<C>> for Whole {

@@ -1,11 +1,11 @@
-//! What the threads of a run share.
+//! State that the threads of a run share.
 
 use crate::signals::Signals;
 use crate::{Claims, Post};
 use lx_piece::{Maker, Plan};
 use std::alloc::Global;
 
-/// What the threads of a run share.
+/// The state that the threads of a run share.
 #[derive(Drop)]
 pub struct RunContext<'a, W, G, M: Maker> {
     pub rt: &'a W,
@@ -15,6 +15,6 @@ pub struct RunContext<'a, W, G, M: Maker> {
     pub post: Post<M>,
     pub gate: &'a G,
     pub signals: Signals,
-    /// Each worker makes what its pieces carry by a copy of it.
+    /// Maker of what pieces carry. Each worker uses a copy of it.
     pub maker: M,
 }

@@ -1,13 +1,13 @@
-//! Why a run failed.
+//! Failures of a run.
 
 use lx_piece::RelayFault;
 use std::alloc::AllocError;
 use thiserror::Error;
 
-/// Why not every file was handed on to its closing.
+/// Reason why the files weren't all delivered to their closing pieces.
 #[derive(Clone, Copy, Debug, PartialEq, Eq, Error)]
 pub enum RunFault {
-    /// A growth was refused, or a worker couldn't be started.
+    /// An allocation failed, or a worker couldn't be started.
     #[error("out of memory")]
     Memory,
     /// The reader's device failed.

@@ -12,11 +12,10 @@ use std::alloc::Global;
 use std::sync::Wait;
 use std::thread::Threads;
 
-/// Scans the files of a plan by 1 to 8 workers, and hands the reader their pieces, those of each file in order. The calling thread
-/// hands them on while the workers cut. The reader comes back beside the answer: at `Ok` it took every file to its closing piece.
-/// Of the faults that the calling thread met it answers the first: `Memory` where a growth was refused or a worker couldn't be
-/// started, `Reader` where the reader's device failed. After a reader's fault nothing more is handed to it. Every worker is joined, whatever
-/// was met.
+/// Scans the files of a plan by 1 to 8 workers, and delivers their pieces to the reader, those of each file in order. The calling thread delivers
+/// them while the workers cut. Every worker is joined, also after a fault. Returns the reader with the result. At `Ok` the reader took every file up
+/// to its closing piece. Err: the first fault that the calling thread met. `Memory` if an allocation failed or a worker couldn't be started, `Reader`
+/// if the reader's device failed. After a fault the reader gets nothing more.
 pub fn scan_all<W: Threads + Wait + Sync, G: Gate + Sync, R: Reader + Drop>(
     rt: &W,
     alloc: Global,
@@ -49,8 +48,8 @@ pub fn scan_all<W: Threads + Wait + Sync, G: Gate + Sync, R: Reader + Drop>(
     )
 }
 
-/// The same, where the pieces carry what a maker makes of their items: each worker makes it by a copy of this maker. Where a worker can't
-/// be started it goes on with those that could be, and where none could, the calling thread hands on the pieces itself.
+/// Does the same as `scan_all` for pieces that carry what a maker makes of their items. Each worker uses a copy of this maker. If a worker can't be
+/// started, the run goes on with the others. If none can, the calling thread cuts and delivers the pieces itself.
 pub fn scan_made<
     W: Threads + Wait + Sync,
     G: Gate + Sync,

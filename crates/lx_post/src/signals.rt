@@ -1,4 +1,4 @@
-//! What the threads of a run tell each other beside the post.
+//! Signals between the threads of a run, apart from the post.
 
 ghost use Rattle.std.specs.Prelude.{◌<◌};
 ghost use Rattle.lx_piece.specs.Plans.{max_workers};
@@ -7,19 +7,19 @@ use crate::{Backoff, Pace, WORKER_SLOTS};
 use std::sync::Wait;
 use std::sync::atomic::{AtomicBool, Ordering};
 
-/// What the threads of a run tell each other beside the post. No contract speaks of it.
+/// The signals between the threads of a run, apart from the post. No contract speaks of them.
 #[derive(Drop)]
 pub struct Signals {
-    // Of each worker: its thread can't be made, so its job comes back.
+    // For each worker, true once its thread couldn't be made, so that its job comes back.
     refused: [AtomicBool; WORKER_SLOTS],
-    /// What the reader holds.
+    /// The pace that follows what the reader holds.
     pub pace: Pace,
-    // Each worker was started, or its end was sent.
+    // True once each worker was started, or its end was sent.
     all_started: AtomicBool,
 }
 
 impl Signals {
-    /// Those before a run.
+    /// Returns the signals before a run.
     pub fn new() -> Signals {
         Signals {
             refused: std::array::from_fn(|_| AtomicBool::new(false)),
@@ -28,26 +28,27 @@ impl Signals {
         }
     }
 
-    /// Lets the job of this worker come back.
+    /// Makes the job of this worker come back.
     pub fn refuse(&self, worker: u8)
         requires { worker < max_workers }
     {
         self.refused[usize::from(worker)].store(true, Ordering::SeqCst);
     }
 
-    /// Whether it is to come back.
+    /// Returns true if the job of this worker is to come back.
     pub fn is_refused(&self, worker: u8) -> bool
         requires { worker < max_workers }
     {
         self.refused[usize::from(worker)].load(Ordering::SeqCst)
     }
 
-    /// Tells that each worker was started, or its end was sent.
+    /// Signals that each worker was started, or its end was sent.
     pub fn tell_start(&self) {
         self.all_started.store(true, Ordering::SeqCst);
     }
 
-    /// Waits for that. Before it no piece is sent, so that the ends of workers that can't be started find room.
+    /// Waits until each worker was started, or its end was sent. No piece is sent before, so that there is room for the ends of workers that can't be
+    /// started.
     pub fn wait_for_start<W: Wait>(&self, rt: &W) {
         let mut backoff = Backoff::new();
         for _ in rt.forever() {

@@ -1,4 +1,4 @@
-//! How workers are started.
+//! Starts the workers.
 ghost use Rattle.std.specs.Prelude.{◌≡◌, ◌<◌, ◌≤◌, All, IfErr, IfOk, [], None};
 ghost use Rattle.lx_piece.specs.Plans.{max_workers};
 ghost use Rattle.lx_post.specs.Claimed.{AreClaimsOf};
@@ -13,7 +13,7 @@ use std::snapshot::Snapshot;
 use std::sync::Wait;
 use std::thread::{Promise, PromisedHandle, Scope};
 
-/// What a worker's outcome keeps: it is of the job that was handed to it.
+/// The promise of a worker's outcome: it belongs to the job that the worker was given.
 #[derive(Drop)]
 pub struct OutcomeOf<M: Maker> {
     pub job: Snapshot<Job<M::Made>>,
@@ -28,19 +28,19 @@ impl<M: Maker> Promise<Outcome<M::Made>> for OutcomeOf<M> {
 /// The handle of a worker's thread.
 pub type Worker<M> = PromisedHandle<Outcome<<M as Maker>::Made>, OutcomeOf<M>>;
 
-/// Where workers and their jobs go.
+/// The workers of a run, and their jobs.
 #[derive(Drop)]
 pub struct Workers<M: Maker> {
-    /// Those that were started.
+    /// Handles of the workers that were started.
     pub handles: Vec<Worker<M>>,
-    /// The jobs of those that ended.
+    /// Jobs of the workers that ended.
     pub ended: Vec<Job<M::Made>>,
-    /// The jobs of those that never began, whose ends were sent.
+    /// Jobs of the workers that never began, and whose ends were sent.
     pub idle: Vec<Job<M::Made>>,
 }
 
 impl<'a, W: Wait, G: Gate, M: Maker + Copy> RunContext<'a, W, G, M> {
-    // Does the job, unless it is to come back.
+    // Does the job, or returns it if it is to come back.
     fn begin(&self, job: Job<M::Made>) -> Outcome<M::Made>
         requires ready { IsReady self.now.claims self.now.post self.now.plan.now job }
         requires few_workers { self.now.post.workers ≤ max_workers }
@@ -73,7 +73,7 @@ impl<'a, W: Wait, G: Gate, M: Maker + Copy> RunContext<'a, W, G, M> {
     }
 }
 
-// Starts a worker. Where no thread can be made, its job comes back.
+// Starts a worker. If no thread can be made, its job comes back.
 fn start<'s, 'a, E, W: Wait + Sync, G: Gate + Sync, M: Maker<Made: Send> + Copy + Sync>(
     context: &'s RunContext<'a, W, G, M>,
     scope: &Scope<'s, E>,
@@ -98,14 +98,14 @@ fn start<'s, 'a, E, W: Wait + Sync, G: Gate + Sync, M: Maker<Made: Send> + Copy 
     match scope.spawn_with(promise, run) {
         Ok(handle) => Ok(handle),
         Err(back) => {
-            // the closure has the job, and gives it back at once
+            // the closure owns the job, and returns it at once
             context.signals.refuse(worker);
             Err((back.value)())
         }
     }
 }
 
-// Starts a worker. Where it can't be started, its end is sent for it, and its job goes to those that are idle.
+// Starts a worker. If it can't be started, sends its end for it, and adds its job to the idle ones.
 #[tactic(auto, using(crate::proofs::NothingLost::all_pushed))]
 fn start_or_idle<'s, 'a, E, W: Wait + Sync, G: Gate + Sync, M: Maker<Made: Send> + Copy + Sync>(
     context: &'s RunContext<'a, W, G, M>,
@@ -123,7 +123,7 @@ fn start_or_idle<'s, 'a, E, W: Wait + Sync, G: Gate + Sync, M: Maker<Made: Send>
     ensures idle { All (λ job. IsIdle context.now.claims context.now.post context.now.plan.now job) workers.old.idle.items
         → All (λ job. IsIdle context.now.claims context.now.post context.now.plan.now job) workers.new.idle.items }
 {
-    // room was reserved, so that no push is refused
+    // room was reserved, so no push fails
     let _pushed = match start(context, scope, job) {
         Ok(handle) => workers.handles.push(handle).is_ok(),
         Err(Outcome::Done(job)) => workers.ended.push(job).is_ok(),
@@ -131,7 +131,7 @@ fn start_or_idle<'s, 'a, E, W: Wait + Sync, G: Gate + Sync, M: Maker<Made: Send>
     };
 }
 
-/// Starts a worker for each job. The end of a worker that can't be started is sent for it, and its job goes to those that are idle.
+/// Starts a worker for each job. For a worker that can't be started, sends its end, and adds its job to the idle ones.
 pub fn start_all<'s, 'a, E, W: Wait + Sync, G: Gate + Sync, M: Maker<Made: Send> + Copy + Sync>(
     context: &'s RunContext<'a, W, G, M>,
     scope: &Scope<'s, E>,

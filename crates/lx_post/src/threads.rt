@@ -1,4 +1,4 @@
-//! Every file of a plan, scanned by several threads.
+//! Scans every file of a plan by several threads.
 ghost use Rattle.std.specs.Prelude.{◌≡◌, ◌<◌, ◌≤◌, [], Err, OnOk, All, IfOk, replicate};
 ghost use Rattle.lx_piece.specs.Plans.{files_of, max_workers};
 ghost use Rattle.lx_piece.specs.Pieces.{top_number};
@@ -23,20 +23,19 @@ use std::sync::Wait;
 use std::thread;
 use std::thread::{Scope, Threads};
 
-// For so many notes the post has room: more of them only take memory, and with few the workers wait while the pieces of a file that was held are handed
-// on at once.
+// Capacity of the post, in notes. More of them only take memory. With few, the workers wait while the held pieces of a file are delivered at once.
 const ROOM: usize = 256;
 
-/// What a run does where a worker can't be started.
+/// The behaviour of a run if a worker can't be started.
 #[derive(Clone, Copy, PartialEq, Eq)]
 pub enum Unstarted {
-    /// It answers Memory.
+    /// The run fails with `Memory`.
     Fails,
-    /// It goes on with those that could be started, and else on the calling thread.
+    /// The run goes on with the other workers, and without any on the calling thread.
     GoesOn,
 }
 
-// A job for each worker.
+// Makes a job for each worker.
 #[tactic(auto, using(crate::proofs::NothingLost::all_pushed))]
 fn jobs_of<M: Maker>(
     alloc: Global,
@@ -59,7 +58,7 @@ fn jobs_of<M: Maker>(
     Ok(jobs)
 }
 
-/// With what a run starts. Room is reserved for what it keeps.
+/// The parts with which a run starts. Room is reserved for all that it keeps.
 #[derive(Drop)]
 struct Start<M: Maker> {
     take: TakePass<M::Made>,
@@ -68,7 +67,7 @@ struct Start<M: Maker> {
     parts: Parts<M::Made>,
 }
 
-// What the threads share, and a job for each worker.
+// Makes the state that the threads share, and a job for each worker.
 fn prepare<'a, W: Wait, G, M: Maker + Drop>(
     rt: &'a W,
     alloc: Global,
@@ -115,7 +114,7 @@ fn prepare<'a, W: Wait, G, M: Maker + Drop>(
     Ok((context, start))
 }
 
-// Hands on all pieces on the calling thread.
+// Delivers all pieces on the calling thread.
 fn run_alone<W, G, M: Maker + Copy + Drop, R: ReaderOf<M>>(
     context: &RunContext<'_, W, G, M>,
     reader: &mut R,
@@ -133,7 +132,7 @@ fn run_alone<W, G, M: Maker + Copy + Drop, R: ReaderOf<M>>(
     }
 }
 
-// Starts the workers, hands on what they send, and joins them.
+// Starts the workers, delivers what they send, and joins them.
 #[tactic(auto, using(crate::proofs::Received::none_taken))]
 fn run<
     's,
@@ -223,9 +222,9 @@ fn run_scoped<
     )
 }
 
-/// Scans the files of a plan by 1 to 8 workers, and hands the reader what a maker makes of their pieces, those of each file in order. The
-/// reader comes back beside the answer: at `Ok` it took every file to its closing piece. Every worker is joined, whatever was met.
-/// Err: `Memory` where a growth was refused, or a worker couldn't be started and that fails; `Reader` where the reader's device failed.
+/// Scans the files of a plan by 1 to 8 workers, and delivers what a maker makes of their pieces to the reader. Each file's pieces come in order.
+/// Every worker is joined, also after a fault. Returns the reader with the result. At `Ok` the reader took every file up to its closing piece. Err:
+/// `Memory` if an allocation failed, or if a worker couldn't be started and `unstarted` is `Fails`. `Reader` if the reader's device failed.
 pub fn scan<
     W: Threads + Wait + Sync,
     G: Gate + Sync,

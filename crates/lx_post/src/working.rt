@@ -1,4 +1,4 @@
-//! What a worker does: it draws files, cuts them, and sends their pieces.
+//! The work of a worker: it draws files, cuts them, and sends their pieces.
 ghost use Rattle.std.specs.Prelude.{◌≡◌, ◌<◌, ◌≤◌, [], true, None, OnOk};
 ghost use Rattle.lx_piece.specs.Plans.{files_of};
 ghost use Rattle.lx_post.specs.Claimed.{AreClaimsOf, IsSeatOf};
@@ -13,7 +13,7 @@ use std::alloc::AllocError;
 use std::sync::Wait;
 
 impl<'a, W: Wait, G: Gate, M: Maker + Copy> RunContext<'a, W, G, M> {
-    // Cuts a file, and sends each piece as it is cut.
+    // Cuts a file, and sends each piece as soon as it is cut.
     #[tactic(auto, using(crate::proofs::Sendings::sends_nothing, crate::proofs::Sendings::sends_piece, crate::proofs::Sendings::may_send_piece, crate::proofs::Sendings::sent_none, crate::proofs::Sendings::sent_one, crate::proofs::Sendings::sent_all, crate::proofs::Sendings::sent_last))]
     fn send_file(
         &self,
@@ -46,7 +46,7 @@ impl<'a, W: Wait, G: Gate, M: Maker + Copy> RunContext<'a, W, G, M> {
         Err(AllocError)
     }
 
-    // Draws files until none is left, and sends their pieces: how many files it finished, and why it ended before.
+    // Draws files until none is left, and sends their pieces. Returns the number of files that it finished, and the fault that ended it early.
     #[tactic(auto, using(crate::proofs::Sendings::sends_nothing, crate::proofs::Sendings::sends_on, crate::proofs::Sendings::goes_on, crate::proofs::Sendings::drawn_none, crate::proofs::Sendings::drawn_same, crate::proofs::Sendings::drawn_one))]
     fn send_drawn(
         &self,
@@ -75,7 +75,7 @@ impl<'a, W: Wait, G: Gate, M: Maker + Copy> RunContext<'a, W, G, M> {
         unreachable!()
     }
 
-    /// Draws files until none is left, sends their pieces, and at last its end.
+    /// Draws files until none is left, sends their pieces, and at last the worker's end.
     pub fn work(&self, job: Job<M::Made>) -> Job<M::Made>
         requires ready { IsReady self.now.claims self.now.post self.now.plan.now job }
         requires files { AreClaimsOf self.now.plan.now self.now.claims }
@@ -83,7 +83,7 @@ impl<'a, W: Wait, G: Gate, M: Maker + Copy> RunContext<'a, W, G, M> {
     {
         let Job { mut seat, mut pass } = job;
         let (files, fault) = self.send_drawn(&mut seat, &mut pass);
-        // a file of its stays open, which is nothing to wait for
+        // one of its files stays open, so nobody must wait for it
         if fault.is_some() {
             self.signals.pace.end();
         }
