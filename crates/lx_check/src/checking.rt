@@ -1,4 +1,4 @@
-//! What is to be said of the text of a specification.
+//! Checks the text of a specification.
 
 ghost use Rattle.std.specs.Prelude.{◌≡◌, ◌≤◌, IfOk, length};
 ghost use Rattle.lx_auto.specs.Counts.{count_of_spec};
@@ -21,7 +21,7 @@ use lx_spec::Spec;
 use lx_tables::Tables;
 use std::alloc::{AllocError, Global};
 
-// How much a specification and its tables have.
+// Counts the parts of a specification and of its tables.
 fn counts_of(alloc: Global, spec: &Spec, tables: &Tables) -> Result<Counts, AllocError>
     requires { count_of_spec (spec_view spec.now) ≤ max_positions }
     ensures { IfOk result (AreCounts (spec_view spec.now) tables.now) }
@@ -37,7 +37,7 @@ fn counts_of(alloc: Global, spec: &Spec, tables: &Tables) -> Result<Counts, Allo
     })
 }
 
-// What is looked up of a specification that has tables, as [`Accepted`] has it.
+// The facts about a specification that has tables, as [`Accepted`] holds them.
 #[derive(Drop)]
 struct LookedUp {
     counts: Counts,
@@ -71,7 +71,7 @@ fn looked_up(
     })
 }
 
-// A specification that has tables, and the text that says it.
+// Makes the report on a specification that has tables.
 fn accepted(alloc: Global, text: &[u8], spec: Spec, tables: Tables) -> Result<Accepted, AllocError>
     requires tables { AreTablesOf (spec_view spec) tables }
     requires few_positions { count_of_spec (spec_view spec) ≤ max_positions }
@@ -96,7 +96,7 @@ fn accepted(alloc: Global, text: &[u8], spec: Spec, tables: Tables) -> Result<Ac
     })
 }
 
-/// What is to be said of the text of a specification: what is wrong with it, or where it is accepted, what it says and which of its rules are chosen.
+/// Checks the text of a specification. Returns its faults, or if it is accepted, the specification and the rules that are chosen.
 pub fn check(alloc: Global, text: &[u8], most: usize) -> Result<Report, AllocError>
     ensures first { IfOk result (IsVerdict text.now) }
     ensures each { IfOk result (IfRefused (AreFindings most text.now)) }

@@ -1,14 +1,14 @@
-//! What is wrong with the text of a specification.
+//! Faults of the text of a specification.
 
 use lx_spec::SpecFault;
 
-/// What is wrong with the text of a specification.
+/// A fault of the text of a specification.
 #[derive(Debug, Clone, Copy, PartialEq, Eq)]
 pub enum Finding {
-    /// The text says no specification: E01 to E21, and at which line.
+    /// The text isn't a specification: E01 to E21, with the line.
     Specification(SpecFault),
-    /// It says one that has more than 16,384 positions: E30.
+    /// The specification has more than 16,384 positions: E30.
     TooManyPositions,
-    /// It says one that has more than 16,384 reached sets of positions: E31.
+    /// The specification has more than 16,384 reached sets of positions: E31.
     TooManySets,
 }

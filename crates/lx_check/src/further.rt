@@ -1,4 +1,4 @@
-//! What is wrong with a text behind its first fault.
+//! Finds faults of a text after its first one.
 
 ghost use Rattle.std.specs.Prelude.{◌≡◌, ◌-◌, ◌∷◌, [], IfOk, length, option_map};
 ghost use Rattle.lx_spec.specs.Whole.{IsFault};
@@ -10,10 +10,10 @@ use crate::{Finding, read};
 use lx_spec::SpecFault;
 use std::alloc::{AllocError, Global};
 
-// The most bytes that are read in all.
+// Greatest number of bytes that are read in total.
 const MAX_READ_BYTES: usize = 2_000_000;
 
-// These findings, and behind them what is found in a text, if there is one: so many faults at most, where so many bytes are read at most.
+// Appends the faults that are found in a text, if there is one. Finds at most `most` faults, and reads at most `left` bytes.
 fn with_further(
     alloc: Global,
     findings: Vec<Finding>,
@@ -43,8 +43,8 @@ fn with_further(
     Ok(findings)
 }
 
-/// What is wrong with a text whose first fault this is: this, and then each time the first fault of the text in which those before it are out of
-/// action; so many at most, and no more where 2,000,000 bytes were read in all.
+/// Returns the faults of a text whose first fault is given. Masks each fault, and then takes the first one of the resulting text. Returns at most
+/// `most` faults, and stops once 2,000,000 bytes were read in total.
 pub(crate) fn findings_from(
     alloc: Global,
     text: &[u8],
@@ -64,7 +64,7 @@ pub(crate) fn findings_from(
     with_further(alloc, findings, rest, most.saturating_sub(1), left)
 }
 
-/// That a text says a specification which is too large.
+/// Returns the fault of a specification that is too large.
 pub(crate) fn too_large(
     alloc: Global,
     text: &[u8],

@@ -1,4 +1,4 @@
-//! Which rules take the texts of those that are never chosen.
+//! Finds the rules that take the texts of rules that are never chosen.
 
 use crate::without::MAX_SPECIFICATION_BYTES;
 use crate::{read, tables_of};
@@ -11,7 +11,7 @@ use lx_spec::section::read_sections;
 use lx_tables::Tables;
 use std::alloc::{AllocError, Global};
 
-// So many rules are looked at, where so many bytes are read at most.
+// Limits: the number of rules that are examined, and of bytes that are read in total.
 const MAX_RULES: usize = 20;
 
 const MAX_READ_BYTES: usize = 2_000_000;
@@ -29,7 +29,7 @@ fn push_lines_before(made: &mut Vec<u8>, text: &[u8], line: u32) -> Result<(), A
     Ok(())
 }
 
-// The text up to the first rule, and behind it this rule alone, which does nothing.
+// Makes a text with all that comes before the first rule, and then only this rule, with an empty action.
 fn text_with(
     alloc: Global,
     text: &[u8],
@@ -48,7 +48,8 @@ fn text_with(
     Ok(made)
 }
 
-// Which rules take the texts of the rule of this number, by the tables of all rules and a text that has this rule alone; none where that has no tables.
+// Finds the rules that take the texts of the rule with this number, by the tables of all rules and a text with this rule only. Returns `None` if that
+// text has no tables.
 fn takers_by_text(
     alloc: Global,
     alone: &[u8],
@@ -64,7 +65,7 @@ fn takers_by_text(
     }
 }
 
-// The same of these rules of a text, by the tables of all of them.
+// Does the same for these rules of a text, by the tables of all of them.
 fn takers_among(
     alloc: Global,
     text: &[u8],
@@ -97,7 +98,7 @@ fn takers_among(
     Ok(takers)
 }
 
-/// Which rules take the texts of those that are never chosen, for the first of these: of 20 rules at most, where 2,000,000 bytes are read at most.
+/// Finds the rules that take the texts of rules that are never chosen. Examines at most the first 20 of these, and reads at most 2,000,000 bytes.
 pub(crate) fn takers_in(
     alloc: Global,
     text: &[u8],

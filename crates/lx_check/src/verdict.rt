@@ -1,4 +1,4 @@
-//! The verdict on a text: reading it, and building tables of what it says. Where memory is refused there is none.
+//! Judges a text: reads it, and makes tables of its specification. Fails if an allocation does.
 
 ghost use Rattle.std.specs.Prelude.{◌≡◌, ◌<◌, ◌≤◌, ℕ, List, IfOk, IfErr};
 ghost use Rattle.lx_auto.specs.Counts.{count_of_spec};
@@ -16,7 +16,7 @@ use lx_spec::{Code, Spec, SpecFault, read_spec};
 use lx_tables::Tables;
 use std::alloc::{AllocError, Global};
 
-/// The specification that a text says, or its first fault. Err: memory was refused.
+/// Returns the specification in a text, or its first fault. Err: an allocation failed.
 pub fn read(alloc: Global, text: &[u8]) -> Result<Result<Spec, SpecFault>, AllocError>
     ensures ok { IfOk result (λ read. IfOk read (λ spec. IsRead text.now (spec_view spec))) }
     ensures err { IfOk result (λ read. IfErr read (λ fault. IsFault text.now fault)) }
@@ -33,7 +33,7 @@ pub fn read(alloc: Global, text: &[u8]) -> Result<Result<Spec, SpecFault>, Alloc
     }
 }
 
-// The merged automaton of a specification.
+// Makes the merged automaton of a specification.
 fn automaton_of(alloc: Global, spec: &Spec) -> Result<Automaton, BuildFault>
     ensures automaton { IfOk result (λ a. IsAutomatonOf (spec_view spec.now) a) }
     ensures few_positions { IfOk result (λ _. count_of_spec (spec_view spec.now) ≤ max_positions) }
@@ -44,7 +44,7 @@ fn automaton_of(alloc: Global, spec: &Spec) -> Result<Automaton, BuildFault>
     Ok(merge(alloc, &built)?)
 }
 
-/// The tables of a specification, or why it has none: it is too large. Err: memory was refused.
+/// Makes the tables of a specification, or returns the fault that it is too large. Err: an allocation failed.
 pub fn tables_of(alloc: Global, spec: &Spec) -> Result<Result<Tables, Finding>, AllocError>
     ensures ok { IfOk result (λ made. IfOk made (λ tables. AreTablesOf (spec_view spec.now) tables)) }
     ensures few_positions { IfOk result (λ made. IfOk made (λ _. count_of_spec (spec_view spec.now) ≤ max_positions)) }

@@ -1,4 +1,4 @@
-//! A text in which what was found is out of action, so that what stands behind it is judged.
+//! Masks a fault of a text, so that the rest can be checked.
 
 ghost use Rattle.std.specs.Prelude.{◌≡◌, ◌≢◌, ◌≤◌, ◌++◌, ◌∷◌, [], IfOk, OnOk, length, map, option_map, Some, ◌+◌};
 ghost use Rattle.lx_rules.specs.Limits.{max_specification_bytes};
@@ -16,10 +16,10 @@ use lx_spec::section::read_sections;
 use lx_spec::{Code, SpecFault};
 use std::alloc::{AllocError, Global};
 
-/// The most bytes of a specification.
+/// Greatest number of bytes of a specification.
 pub const MAX_SPECIFICATION_BYTES: usize = 1_048_576;
 
-// What stands in the place of a line.
+// Returns the replacement of a line.
 fn line_instead<'a>(
     this: &'a [u8],
     first: usize,
@@ -52,7 +52,7 @@ fn push_line(
     Ok(())
 }
 
-// The text where this stands in the place of its first line, and nothing in those behind it up to the end.
+// Makes a text with `this` instead of line `first`, and with the lines after it emptied up to `end`.
 fn text_instead(
     alloc: Global,
     this: &[u8],
@@ -72,7 +72,7 @@ fn text_instead(
     Ok(made)
 }
 
-// How many newlines an action has.
+// Counts the newlines of an action.
 fn newlines_in(action: &[u8]) -> usize
     ensures count { result ≡ newlines action.now }
     ensures few { result ≤ length action.now }
@@ -86,7 +86,7 @@ fn newlines_in(action: &[u8]) -> usize
     count
 }
 
-// The line behind the rule that begins on this line.
+// Returns the line after the rule that begins on this line.
 fn end_of_rule(rules: &[RawRule], line: u32) -> Option<usize>
     ensures { result ≡ specs.end_of_rule (map raw_rule_view rules.now) line }
 {
@@ -98,7 +98,7 @@ fn end_of_rule(rules: &[RawRule], line: u32) -> Option<usize>
     None
 }
 
-// The line behind the rule of a text that begins on this line.
+// Returns the line after the rule of a text that begins on this line.
 fn rule_end(alloc: Global, text: &[u8], line: u32) -> Result<Option<usize>, AllocError>
     requires { length text.now ≤ max_specification_bytes }
     ensures { IfOk result (λ end. end ≡ specs.end_in (sections_of text.now) line) }
@@ -115,7 +115,7 @@ fn rule_end(alloc: Global, text: &[u8], line: u32) -> Result<Option<usize>, Allo
     }
 }
 
-// The text, if it isn't longer than a specification may be.
+// Returns the text if it isn't longer than a specification may be.
 fn if_short(text: Vec<u8>) -> Option<Vec<u8>>
     ensures { option_map (λ made. made.items) result ≡ specs.if_short text.items }
 {
@@ -126,7 +126,7 @@ fn if_short(text: Vec<u8>) -> Option<Vec<u8>>
     }
 }
 
-// The text where the rule that begins on this line is idle.
+// Makes a text in which the rule that begins on this line does nothing.
 fn without_rule(alloc: Global, text: &[u8], line: u32) -> Result<Option<Vec<u8>>, AllocError>
     requires { length text.now ≤ max_specification_bytes }
     ensures { IfOk result (λ rest. option_map (λ made. made.items) rest ≡ specs.without_rule text.now line) }
@@ -137,7 +137,7 @@ fn without_rule(alloc: Global, text: &[u8], line: u32) -> Result<Option<Vec<u8>>
     Ok(if_short(text_instead(alloc, b"x ;\n", line as usize, end, text)?))
 }
 
-// The text where this line is empty.
+// Makes a text in which this line is empty.
 fn without_line(alloc: Global, text: &[u8], line: u32) -> Result<Option<Vec<u8>>, AllocError>
     ensures { IfOk result (λ rest. option_map (λ made. made.items) rest ≡ specs.without_lines (10 ∷ []) line (Some (line + 1)) text.now) }
 {
@@ -145,7 +145,7 @@ fn without_line(alloc: Global, text: &[u8], line: u32) -> Result<Option<Vec<u8>>
     Ok(if_short(text_instead(alloc, b"\n", first, first + 1, text)?))
 }
 
-// The line with this number.
+// Returns the line with this number.
 fn line_numbered<'a>(text: &'a [u8], line: u32) -> &'a [u8]
     ensures { result.now ≡ specs.line_numbered 1 line (lines text.now) }
 {
@@ -172,7 +172,7 @@ fn has_two_words(text: &[u8]) -> bool
     next_word(last).is_none()
 }
 
-// Whether a line of Definitions declares one name at most.
+// Returns true if a line of the definitions section declares at most one name.
 fn declares_one(line: &[u8]) -> bool
     ensures { result ≡ specs.declares_one line.now }
 {
@@ -182,7 +182,7 @@ fn declares_one(line: &[u8]) -> bool
     }
 }
 
-// The text without what is declared on this line, if that is one name.
+// Makes a text without the declaration on this line, if that declares only one name.
 fn without_declaration(alloc: Global, text: &[u8], line: u32) -> Result<Option<Vec<u8>>, AllocError>
     ensures { IfOk result (λ rest. option_map (λ made. made.items) rest ≡ specs.without_declaration text.now line) }
 {
@@ -193,7 +193,7 @@ fn without_declaration(alloc: Global, text: &[u8], line: u32) -> Result<Option<V
     }
 }
 
-/// The text in which a fault is out of action. Where it hides what stands behind it, there is none. Err: memory was refused.
+/// Masks a fault of a text. Returns `None` if the fault hides the rest of the text. Err: an allocation failed.
 pub fn without(alloc: Global, text: &[u8], fault: SpecFault) -> Result<Option<Vec<u8>>, AllocError>
     requires { IsFault text.now fault }
     ensures { IfOk result (λ rest. option_map (λ made. made.items) rest ≡ specs.without text.now fault) }

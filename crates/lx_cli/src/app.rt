@@ -24,7 +24,7 @@ pub(crate) fn command<'a>(alloc: Global) -> Result<Command<'a>, AllocError>
     with_subcommands(alloc, command, COMMANDS)
 }
 
-// The program's command with its subcommands.
+// Adds the program's subcommands to its command.
 fn with_subcommands<'a>(
     alloc: Global,
     command: Command<'a>,
@@ -48,7 +48,7 @@ fn subcommand_of<'a>(alloc: Global, subcommand: &Subcommand) -> Result<Command<'
     with_arguments(alloc, command, subcommand.arguments)
 }
 
-// A command with further words.
+// Adds arguments to a command.
 fn with_arguments<'a>(
     alloc: Global,
     command: Command<'a>,
@@ -80,7 +80,7 @@ fn arg_of<'a>(alloc: Global, argument: &Argument) -> Arg<'a>
     }
 }
 
-// The same, written as an option.
+// Makes an argument an option with this name.
 fn named<'a>(arg: Arg<'a>, name: &Name) -> Arg<'a>
     ensures rule { rule_of result ≡ named_rule name.now (rule_of arg.entry) }
     ensures local { result.global ≡ arg.entry.global }
@@ -91,7 +91,7 @@ fn named<'a>(arg: Arg<'a>, name: &Name) -> Arg<'a>
     }
 }
 
-// The same, with a number as its value.
+// Makes an argument take a number.
 fn numbered<'a>(arg: Arg<'a>, numbers: &Numbers) -> Arg<'a>
     requires { (rule_of arg).defaults ≡ [] }
     ensures rule { rule_of result ≡ numbered_rule numbers.now (rule_of arg.entry) }

@@ -1,40 +1,40 @@
-//! The commands of `lx` and their words, as tables.
+//! The commands of `lx` and their arguments, as tables.
 
 use crate::request::MOST_TOLD;
 use lx_piece::{MAX_ITEMS, MAX_WORKERS};
 
-/// How an option is written.
+/// The name of an option.
 pub(crate) enum Name {
     Short(char),
     Long(&'static str),
 }
 
-/// The numbers that an option takes, and the one where it isn't given.
+/// The range of numbers that an option takes, and its default.
 pub(crate) struct Numbers {
     pub least: i64,
     pub most: i64,
     pub default: Option<&'static str>,
 }
 
-/// What a word of a command is.
+/// The form of a command's argument.
 pub(crate) enum Form {
     /// An option without a value.
     Flag(Name),
-    /// One with a value, which the help calls so.
+    /// An option with a value, which the help calls by this name.
     Value(Name, &'static str),
-    /// The same, any number of times.
+    /// An option with a value, allowed any number of times.
     Values(Name, &'static str),
-    /// The same, once, where the value is a number.
+    /// An option with a number as its value, allowed once.
     Number(Name, &'static str, Numbers),
-    /// A word by itself, which has to be there.
+    /// A required positional argument.
     Needed,
-    /// One that may be left out.
+    /// An optional positional argument.
     Optional,
-    /// One or more.
+    /// One or more positional arguments.
     Several,
 }
 
-/// A word of a command, by which `clap` reads it back.
+/// An argument of a command. `clap` reads it back by its id.
 pub(crate) struct Argument {
     pub id: &'static str,
     pub form: Form,
@@ -79,7 +79,7 @@ const FILES: Argument = Argument {
     help: "The files, in the order of the listing; - is standard input, of which nothing is listed before its end",
 };
 
-// What `gen` and `up` take.
+// Options of `gen` and `up`.
 const TARGET: Argument = Argument {
     id: "target",
     form: Form::Value(Name::Short('o'), "FILE"),
@@ -116,7 +116,7 @@ const DIRECT: Argument = Argument {
     help: "Makes it of code for each state, which is faster, in the place of rows",
 };
 
-// What `scan` and `run` take.
+// Options of `scan` and `run`.
 const SCAN_WORKERS: Argument = Argument {
     id: "workers",
     form: Form::Number(
@@ -209,7 +209,7 @@ const ZEROS: Argument = Argument {
     help: "The names in LIST are separated by bytes 0",
 };
 
-// What `check` takes.
+// Options of `check`.
 const QUIET: Argument = Argument {
     id: "quiet",
     form: Form::Flag(Name::Short('q')),
@@ -242,7 +242,7 @@ const JSON: Argument = Argument {
     help: "Prints the findings as SARIF 2.1.0",
 };
 
-// What `explain`, `show` and `import` take.
+// Arguments of `explain`, `show` and `import`.
 const WORD: Argument = Argument {
     id: "WORD",
     form: Form::Optional,
@@ -313,7 +313,7 @@ const SHOW: &[Argument] = &[ALL, RULES];
 
 const IMPORT: &[Argument] = &[TARGET, ACTIONS, KINDS_PREFIX, LOSSY, FLEX];
 
-/// All commands: those that list, those that print what these list by, and those that help to write a specification.
+/// All commands: those that list, those that print the tables for listing, and those that help to write a specification.
 pub(crate) const COMMANDS: &[Subcommand] = &[
     Subcommand {
         name: "gen",

@@ -1,4 +1,4 @@
-//! The words of the command line, as a request.
+//! Reads command-line arguments as a request.
 
 ghost use Rattle.std.specs.Prelude.{◌≡◌, ◌≢◌, ◌≤◌, ◌<◌, IfOk, Ok, Err, None, codes, length, map, true, is_some, option_and_then, option_map};
 ghost use Rattle.clap.specs.Words.{first_of, found_of, kind_of, rows_of, subcommand_rows_of};
@@ -16,18 +16,18 @@ use clap::{ArgMatches, Error};
 use lx_piece::{MAX_ITEMS, MAX_WORKERS};
 use std::alloc::{AllocError, Global};
 
-// How many workers scan the files of `scan` where `-j` is not given.
+// Default number of workers of `scan`.
 const WORKERS: u8 = 4;
 
-/// What the words ask for; the first is the program's name.
+/// Returns the request of the arguments. The first argument is the program's name.
 pub fn read_words(alloc: Global, words: &[String]) -> Result<Request<'_>, Refusal>
     ensures asked { IfOk result (λ request. asked_by (words_of words.now) ≡ asked_as request) }
     ensures refused { (text : Error) → result ≡ Err (Refusal.Words text) → asked_by (words_of words.now) ≡ None }
-    // The help and the version are answers of `clap`, and the others refuse the words.
+    // The help and the version are answers of `clap`. All other errors reject the arguments.
     ensures told { (text : Error) → result ≡ Ok (Request.Told text) → IsTold (kind_of text) × IsFault (words_of words.now) (kind_of text) }
     ensures faulty { (text : Error) → result ≡ Err (Refusal.Words text) → (kind_of text ≢ ErrorKind.DisplayHelp) × (kind_of text ≢ ErrorKind.DisplayVersion) × IsFault (words_of words.now) (kind_of text) }
     ensures stored { length words.now ≤ 1 → result ≡ Ok Request.Stored }
-    // That memory was refused is no fault of the words.
+    // A failed allocation is no fault of the arguments.
     ensures words { (text : Error) → result ≡ Err (Refusal.Words text) → kind_of text ≢ ErrorKind.OutOfMemory }
 {
     if words.len() <= 1 {
@@ -44,7 +44,7 @@ pub fn read_words(alloc: Global, words: &[String]) -> Result<Request<'_>, Refusa
     }
 }
 
-// What the matches ask for, which have a subcommand of the command's.
+// Returns the request of the matches, which have one of the command's subcommands.
 fn request_of<'a>(alloc: Global, matches: &ArgMatches<'a>) -> Result<Request<'a>, AllocError>
     requires { is_some (option_and_then asked_of (subcommand_rows_of matches.now)) ≡ true }
     ensures { IfOk result (λ request. option_and_then asked_of (subcommand_rows_of matches.now) ≡ asked_as request) }
@@ -55,7 +55,7 @@ fn request_of<'a>(alloc: Global, matches: &ArgMatches<'a>) -> Result<Request<'a>
     }
 }
 
-// What the subcommand with this name asks for.
+// Returns the request of the subcommand with this name.
 fn named_request_of<'a>(
     alloc: Global,
     name: &str,
@@ -73,7 +73,7 @@ fn named_request_of<'a>(
     }
 }
 
-// What one of the further commands asks for.
+// Returns the request of one of the further commands.
 fn further_request_of<'a>(
     alloc: Global,
     name: &str,
@@ -123,7 +123,7 @@ fn import_words_of<'a>(found: &ArgMatches<'a>) -> ImportWords<'a>
     }
 }
 
-// What is printed, and where.
+// Reads the input and the output of `gen` or `up`.
 fn print_words_of<'a>(found: &ArgMatches<'a>, rules: &str) -> PrintWords<'a>
     ensures { plain_print result ≡ print_in rules.now (rows_of (found_of found.now)) }
 {
@@ -134,7 +134,7 @@ fn print_words_of<'a>(found: &ArgMatches<'a>, rules: &str) -> PrintWords<'a>
     }
 }
 
-// Whether it is a scanner in C.
+// Reads the options for a C scanner.
 fn c_words_of<'a>(found: &ArgMatches<'a>) -> CWords<'a>
     ensures { plain_c result ≡ c_in (rows_of (found_of found.now)) }
 {
@@ -147,7 +147,7 @@ fn c_words_of<'a>(found: &ArgMatches<'a>) -> CWords<'a>
     }
 }
 
-// A listing, by so many workers where `-j` is not given.
+// Reads a listing request. `workers` is the default of `-j`.
 fn list_request_of<'a>(
     alloc: Global,
     found: &ArgMatches<'a>,
@@ -167,14 +167,14 @@ fn list_request_of<'a>(
     })
 }
 
-// The value of an option, if it is given.
+// Returns the value of an option, if it is given.
 fn value_of<'a>(found: &ArgMatches<'a>, id: &str) -> Option<&'a str>
     ensures { option_map (λ value. value.now) result ≡ first_of id.now (rows_of (found_of found.now)) }
 {
     found.get_str(id)
 }
 
-// Returns the file of `-o`, if the text goes to one: `-` is the output.
+// Returns the file of `-o`. Returns `None` for `-`, which is standard output.
 fn target_of<'a>(found: &ArgMatches<'a>) -> Option<&'a str>
     ensures { option_map (λ name. name.now) result ≡ target_in (rows_of (found_of found.now)) }
 {
@@ -184,7 +184,7 @@ fn target_of<'a>(found: &ArgMatches<'a>) -> Option<&'a str>
     }
 }
 
-// Whether a flag is given.
+// Returns true if a flag is given.
 fn has_flag(found: &ArgMatches<'_>, id: &str) -> bool
     ensures { result ≡ flag_in id.now (rows_of (found_of found.now)) }
 {
@@ -194,7 +194,7 @@ fn has_flag(found: &ArgMatches<'_>, id: &str) -> bool
     }
 }
 
-// The file that names further ones.
+// Returns the file of `--files-from`, which names further files.
 fn list_of<'a>(found: &ArgMatches<'a>) -> Option<ListWords<'a>>
     ensures { option_map plain_list result ≡ list_in (rows_of (found_of found.now)) }
 {
@@ -203,7 +203,7 @@ fn list_of<'a>(found: &ArgMatches<'a>) -> Option<ListWords<'a>>
     Some(ListWords { name, separator })
 }
 
-// The number of the first file.
+// Returns the number of the first file.
 fn first_number_of(found: &ArgMatches<'_>) -> u32
     ensures { result ≡ first_in (rows_of (found_of found.now)) }
 {
@@ -213,7 +213,7 @@ fn first_number_of(found: &ArgMatches<'_>) -> u32
     }
 }
 
-// How the listing is printed.
+// Reads the form of the listing.
 fn form_of<'a>(found: &ArgMatches<'a>) -> FormWords<'a>
     ensures { plain_form result ≡ form_in (rows_of (found_of found.now)) }
 {
@@ -232,7 +232,7 @@ fn rules_of<'a>(found: &ArgMatches<'a>, id: &str) -> &'a str
     found.get_str(id).unwrap_or("")
 }
 
-// All values of an argument, in order.
+// Returns all values of an argument, in order.
 fn values_of<'a>(
     alloc: Global,
     found: &ArgMatches<'a>,
@@ -246,7 +246,7 @@ fn values_of<'a>(
     }
 }
 
-// How many items a piece has.
+// Returns the number of items of a piece.
 fn items_of(found: &ArgMatches<'_>) -> u32
     ensures items { result ≡ items_in (rows_of (found_of found.now)) }
     ensures some { 0 < result }
@@ -258,7 +258,7 @@ fn items_of(found: &ArgMatches<'_>) -> u32
     }
 }
 
-// How many errors are said.
+// Returns the greatest number of errors to report.
 fn most_of(found: &ArgMatches<'_>) -> u8
     ensures most { result ≡ most_in (rows_of (found_of found.now)) }
     ensures some { 0 < result }
@@ -270,7 +270,7 @@ fn most_of(found: &ArgMatches<'_>) -> u8
     }
 }
 
-// How many workers scan the files.
+// Returns the number of workers that scan the files.
 fn workers_of(found: &ArgMatches<'_>, default: u8) -> u8
     requires { default ≤ max_workers }
     ensures workers { result ≡ workers_in default (rows_of (found_of found.now)) }
@@ -282,7 +282,7 @@ fn workers_of(found: &ArgMatches<'_>, default: u8) -> u8
     }
 }
 
-/// A law: `gen`, `up`, `run` and `scan` ask for what they say, where the words after them begin with no hyphen, but for `-b` and `-j`.
+/// States a law: `gen`, `up`, `run` and `scan` ask for what their arguments say, if none of these begins with a hyphen, except for `-b` and `-j`.
 pub fn plain_words_ask()
     ensures { PlainWordsAsk }
 {}

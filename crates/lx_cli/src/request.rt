@@ -1,4 +1,4 @@
-//! What the words of the command line ask for.
+//! Requests of the command line.
 
 ghost use Rattle.std.specs.Prelude.{◌<◌, ◌≤◌};
 ghost use Rattle.lx_piece.specs.Plans.{max_items, max_workers};
@@ -7,22 +7,22 @@ ghost use Rattle.lx_cli.specs.Limits.{most_told};
 use clap::Error;
 use std::alloc::AllocError;
 
-/// How many items a piece has where `-b` is not given.
+/// Default number of items of a piece (`-b`).
 pub const ITEMS: u32 = 256;
 
-/// No workers: the calling thread scans the files itself, as `run` does where `-j` is not given.
+/// Number of workers for scanning on the calling thread, which is the default of `run`.
 pub const ALONE: u8 = 0;
 
-/// How many errors `check` says at most where `--most` is not given.
+/// Default greatest number of errors that `check` reports (`--most`).
 pub const TOLD: u8 = 20;
 
-/// The greatest number of `--most`.
+/// Greatest value of `--most`.
 pub const MOST_TOLD: u8 = 100;
 
-/// What the words of the command line ask for.
+/// A request of the command line.
 #[derive(Drop)]
 pub enum Request<'a> {
-    /// No words: the run that the program holds itself.
+    /// No arguments: the run that is stored in the program.
     Stored,
     /// The text of the help, or of the version.
     Told(Error),
@@ -34,9 +34,9 @@ pub enum Request<'a> {
     Gen(PrintWords<'a>),
     /// `up`: tables, printed in version 2 or as a scanner in C.
     Up(PrintWords<'a>),
-    /// `check`: what is wrong with a specification, or suspicious.
+    /// `check`: the errors of a specification, and its suspicious parts.
     Check(CheckWords<'a>),
-    /// `explain`: what a code or a cause means, or a list of all.
+    /// `explain`: the meaning of a code or a cause, or a list of all.
     Explain(Option<&'a str>),
     /// `show`: the automaton as a graph.
     Show(ShowWords<'a>),
@@ -44,87 +44,87 @@ pub enum Request<'a> {
     Import(ImportWords<'a>),
 }
 
-/// The words of `check`.
+/// The arguments of `check`.
 #[derive(Drop)]
 pub struct CheckWords<'a> {
-    /// The name of the specification.
+    /// Name of the specification.
     pub rules: &'a str,
-    /// `-q`: whether the findings are printed alone.
+    /// `-q`: prints the findings without source lines and counts.
     pub quiet: bool,
-    /// `-W`: the names of warnings, in order.
+    /// `-W`: names of warnings, in order.
     pub warnings: Vec<&'a str>,
-    /// `--most`: how many errors are said at most.
+    /// `--most`: greatest number of errors that are reported.
     pub most: u8,
-    /// `--json`: whether the findings are printed as SARIF.
+    /// `--json`: prints the findings as SARIF.
     pub json: bool,
     ghost some: { 0 < most },
     ghost few: { most ≤ most_told },
 }
 
-/// The words of `show`.
+/// The arguments of `show`.
 #[derive(Clone, Copy, Debug)]
 pub struct ShowWords<'a> {
-    /// The name of the specification, or of the tables.
+    /// Name of the specification, or of the tables.
     pub rules: &'a str,
-    /// `--all`: whether automata of any number of states are printed.
+    /// `--all`: also prints automata with more than 200 states.
     pub all: bool,
 }
 
-/// The words of `import`.
+/// The arguments of `import`.
 #[derive(Clone, Copy, Debug)]
 pub struct ImportWords<'a> {
-    /// The name of the specification for flex.
+    /// Name of the specification for flex.
     pub rules: &'a str,
-    /// `-o`: the file that gets the specification in the place of the output.
+    /// `-o`: file for the specification, instead of standard output.
     pub target: Option<&'a str>,
-    /// `-c`: the file that gets the actions.
+    /// `-c`: file for the actions.
     pub actions: Option<&'a str>,
-    /// `--prefix`: what the names of kinds begin with there.
+    /// `--prefix`: prefix of the names of kinds in it.
     pub prefix: Option<&'a str>,
-    /// `--lossy`: whether what can't be brought over is left out.
+    /// `--lossy`: leaves out what can't be imported.
     pub lossy: bool,
 }
 
-/// The words of `gen` and of `up`.
+/// The arguments of `gen` and of `up`.
 #[derive(Clone, Copy, Debug)]
 pub struct PrintWords<'a> {
-    /// The name of the specification, or of the tables.
+    /// Name of the specification, or of the tables.
     pub rules: &'a str,
-    /// `-o`: the file that gets the text in the place of the output.
+    /// `-o`: file for the text, instead of standard output.
     pub target: Option<&'a str>,
-    /// Whether it is a scanner in C.
+    /// Options for a C scanner.
     pub c: CWords<'a>,
 }
 
-/// The words on a scanner in C.
+/// The options for a C scanner.
 #[derive(Clone, Copy, Debug)]
 pub struct CWords<'a> {
-    /// `--c`: whether the scanner is printed.
+    /// `--c`: prints the scanner.
     pub scanner: bool,
-    /// `--header`: whether its declarations are.
+    /// `--header`: prints the scanner's declarations.
     pub header: bool,
-    /// `--prefix`: what its names begin with.
+    /// `--prefix`: prefix of the scanner's names.
     pub prefix: Option<&'a str>,
-    /// `--include`: the file that declares its kinds.
+    /// `--include`: file that declares the kinds.
     pub include: Option<&'a str>,
-    /// `--direct`: whether it is code for each state.
+    /// `--direct`: prints code for each state.
     pub direct: bool,
 }
 
-/// The words of `run` and of `scan`.
+/// The arguments of `run` and of `scan`.
 #[derive(Drop)]
 pub struct ListRequest<'a> {
-    /// How many workers scan the files; with none the calling thread does.
+    /// Number of workers that scan the files. With 0, the calling thread does.
     pub workers: u8,
-    /// How many items a piece has.
+    /// Number of items of a piece.
     pub per_piece: u32,
-    /// The name of the specification, or of the tables.
+    /// Name of the specification, or of the tables.
     pub rules: &'a str,
-    /// The names of the files.
+    /// Names of the files.
     pub files: Vec<&'a str>,
-    /// The file that names further ones, if there is one.
+    /// File that names further files, if there is one.
     pub list: Option<ListWords<'a>>,
-    /// How the listing is printed.
+    /// Form of the listing.
     pub form: FormWords<'a>,
     ghost few_workers: { workers ≤ max_workers },
     ghost some_items: { 0 < per_piece },
@@ -134,33 +134,33 @@ pub struct ListRequest<'a> {
 /// `--files-from` and `-0`: a file that names files.
 #[derive(Clone, Copy, Debug)]
 pub struct ListWords<'a> {
-    /// Its name.
+    /// Name of the file.
     pub name: &'a str,
-    /// The byte that stands behind each name in it.
+    /// Byte that ends each name in it.
     pub separator: u8,
 }
 
-/// The words on the form of a listing.
+/// The arguments for the form of a listing.
 #[derive(Clone, Copy, Debug)]
 pub struct FormWords<'a> {
-    /// `--first`: the number of the first file.
+    /// `--first`: number of the first file.
     pub first: u32,
-    /// `--names`: whether files stand by their names.
+    /// `--names`: prints the names of files instead of numbers.
     pub names: bool,
-    /// `--only`: the kinds that alone are printed, with commas between them.
+    /// `--only`: kinds that are printed, with commas between them.
     pub only: Option<&'a str>,
-    /// Whether texts are printed, which they are without `--no-text`.
+    /// False with `--no-text`, which prints no texts.
     pub text: bool,
     /// `--format`.
     pub format: Option<&'a str>,
 }
 
-/// Why the words of the command line ask for nothing.
+/// Reason why the arguments form no request.
 #[derive(Drop)]
 pub enum Refusal {
-    /// They have no form, as the text says.
+    /// The arguments don't form a command line, for the reason in the text.
     Words(Error),
-    /// Memory was refused.
+    /// An allocation failed.
     Memory,
 }
 

@@ -1,4 +1,4 @@
 //! The version of `lx`.
 
-/// The version, and the versions of tables that are read: what `lx --version` prints behind the program's name.
+/// The version of `lx`, and of the tables that it reads. `lx --version` prints it after the program's name.
 pub const VERSION: &str = "1.0.0 (reads tables of versions 1 and 2)";

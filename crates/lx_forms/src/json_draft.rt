@@ -65,8 +65,11 @@ impl Draft {
         self.line.follow(numbers.line) && self.start.follow(numbers.start as u64)
     }
 
-    // Appends the line of an item. Returns false if it needs the plain way: a line whose prefix isn't kept, a long one, one of a text near the end of
-    // the file, after which 16 bytes can't be read, and one of a text that isn't UTF-8.
+    // Appends the line of an item. Returns false if the line needs the plain way, for one of these reasons:
+    // - its prefix isn't kept,
+    // - it is too long,
+    // - its text is near the end of the file, so that 16 bytes can't be read after it,
+    // - its text isn't UTF-8.
     #[inline(always)]
     fn add(&mut self, form: &Form<'_>, plan: &Plan, file: u32, item: &Item) -> bool
         requires room { self.old.len + 800 ≤ 2048 }

@@ -1,4 +1,4 @@
-//! Bytes behind a text. Where memory is refused a part of them stands there.
+//! Appends bytes to a text. If an allocation fails, a part of them was appended.
 
 ghost use Rattle.std.specs.Prelude.{◌≡◌, ◌<◌, ◌++◌, OnOk, decimal};
 ghost use Rattle.std.specs.List.{flat_map};
@@ -13,7 +13,7 @@ pub(crate) fn push(text: &mut Vec<u8>, bytes: &[u8]) -> Result<(), AllocError>
     text.extend_from_slice(bytes)
 }
 
-/// A number behind a text, in decimal. Err: memory was refused.
+/// Appends a number in decimal. Err: an allocation failed.
 pub fn push_number(text: &mut Vec<u8>, number: u64) -> Result<(), AllocError>
     ensures { OnOk result (text.new.items ≡ text.old.items ++ decimal number) }
 {
@@ -21,7 +21,7 @@ pub fn push_number(text: &mut Vec<u8>, number: u64) -> Result<(), AllocError>
     text.extend_from_slice(digits.format(number).as_bytes())
 }
 
-/// A number with some bytes before it.
+/// Appends bytes and then a number.
 pub(crate) fn push_numbered(
     text: &mut Vec<u8>,
     before: &[u8],
@@ -33,7 +33,7 @@ pub(crate) fn push_numbered(
     push_number(text, number)
 }
 
-/// So many of a byte.
+/// Appends a byte `times` times.
 pub(crate) fn push_times(text: &mut Vec<u8>, byte: u8, times: usize) -> Result<(), AllocError>
     ensures { OnOk result (text.new.items ≡ text.old.items ++ specs.times byte times) }
 {
@@ -50,14 +50,14 @@ fn digit(n: u8) -> u8
     if n < 10 { b'0' + n } else { b'A' + (n - 10) }
 }
 
-/// Two digits.
+/// Appends two hexadecimal digits.
 pub(crate) fn push_pair(text: &mut Vec<u8>, byte: u8) -> Result<(), AllocError>
     ensures { OnOk result (text.new.items ≡ text.old.items ++ specs.pair byte) }
 {
     text.extend_from_slice(&[digit(byte / 16), digit(byte % 16)])
 }
 
-// A byte as it is shown: those outside 32 to 126 by two digits.
+// Appends a byte as it is shown: a byte outside 32 to 126 as two digits.
 fn push_shown_byte(text: &mut Vec<u8>, byte: u8) -> Result<(), AllocError>
     ensures { OnOk result (text.new.items ≡ text.old.items ++ specs.shown_byte byte) }
 {
@@ -68,7 +68,7 @@ fn push_shown_byte(text: &mut Vec<u8>, byte: u8) -> Result<(), AllocError>
     push_pair(text, byte)
 }
 
-/// Bytes behind a text as they are shown: those outside 32 to 126 by two hexadecimal digits. Err: memory was refused.
+/// Appends bytes as they are shown: those outside 32 to 126 as two hexadecimal digits. Err: an allocation failed.
 pub fn push_shown(text: &mut Vec<u8>, bytes: &[u8]) -> Result<(), AllocError>
     ensures { OnOk result (text.new.items ≡ text.old.items ++ flat_map specs.shown_byte bytes.now) }
 {
@@ -78,7 +78,7 @@ pub fn push_shown(text: &mut Vec<u8>, bytes: &[u8]) -> Result<(), AllocError>
     Ok(())
 }
 
-// A byte of a line of the source: a tab is a blank there.
+// Appends a byte of a source line. A tab becomes a blank.
 fn push_source_byte(text: &mut Vec<u8>, byte: u8) -> Result<(), AllocError>
     ensures { OnOk result (text.new.items ≡ text.old.items ++ specs.source_byte byte) }
 {
@@ -89,7 +89,7 @@ fn push_source_byte(text: &mut Vec<u8>, byte: u8) -> Result<(), AllocError>
     }
 }
 
-/// A part of a line of the source.
+/// Appends a part of a source line.
 pub(crate) fn push_source(text: &mut Vec<u8>, bytes: &[u8]) -> Result<(), AllocError>
     ensures { OnOk result (text.new.items ≡ text.old.items ++ flat_map specs.source_byte bytes.now) }
 {
@@ -99,7 +99,7 @@ pub(crate) fn push_source(text: &mut Vec<u8>, bytes: &[u8]) -> Result<(), AllocE
     Ok(())
 }
 
-// A byte in a string of JSON: a quote and a backslash have a backslash before them, and bytes that aren't printed are shown by two digits.
+// Appends a byte of a JSON string. A quote and a backslash get a backslash before them. Unprintable bytes become two digits.
 fn push_string_byte(text: &mut Vec<u8>, byte: u8) -> Result<(), AllocError>
     ensures { OnOk result (text.new.items ≡ text.old.items ++ specs.string_byte byte) }
 {
@@ -122,7 +122,7 @@ fn push_string_bytes(text: &mut Vec<u8>, bytes: &[u8]) -> Result<(), AllocError>
     Ok(())
 }
 
-/// A string of JSON of bytes as they are shown.
+/// Appends a JSON string of bytes as they are shown.
 pub(crate) fn push_string_of_shown(text: &mut Vec<u8>, bytes: &[u8]) -> Result<(), AllocError>
     ensures { OnOk result (text.new.items ≡ text.old.items ++ specs.shown_string bytes.now) }
 {
@@ -137,7 +137,7 @@ fn is_plain_in_uri(byte: u8) -> bool
     matches!(byte, b'0'..=b'9' | b'A'..=b'Z' | b'a'..=b'z' | b'-' | b'.' | b'/' | b'_' | b'~')
 }
 
-// A byte of a name in a URI (RFC 3986, 2.1 and 2.3).
+// Appends a byte of a name in a URI (RFC 3986, 2.1 and 2.3).
 fn push_uri_byte(text: &mut Vec<u8>, byte: u8) -> Result<(), AllocError>
     ensures { OnOk result (text.new.items ≡ text.old.items ++ specs.uri_byte byte) }
 {
@@ -148,7 +148,7 @@ fn push_uri_byte(text: &mut Vec<u8>, byte: u8) -> Result<(), AllocError>
     push_pair(text, byte)
 }
 
-/// A name of a file in a URI.
+/// Appends a file name in a URI.
 pub(crate) fn push_uri(text: &mut Vec<u8>, name: &[u8]) -> Result<(), AllocError>
     ensures { OnOk result (text.new.items ≡ text.old.items ++ flat_map specs.uri_byte name.now) }
 {

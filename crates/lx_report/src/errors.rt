@@ -1,4 +1,4 @@
-//! Faults of a specification, as lines.
+//! Reports faults of a specification as lines.
 
 ghost use Rattle.std.specs.Prelude.{◌≡◌, OnOk};
 ghost use Rattle.lx_diagnose.specs.Causes as diagnose;
@@ -13,7 +13,7 @@ use lx_diagnose::{Diagnosis, code_word, diagnose, hint, note_words, sentence, to
 use lx_spec::SpecFault;
 use std::alloc::{AllocError, Global};
 
-// What stands behind the line of a fault: the line of the source, what to do, and the second place that belongs to the fault.
+// Appends what follows the line of a fault: the source line, what to do, and the second place of the fault.
 fn push_details(
     alloc: Global,
     text: &mut Vec<u8>,
@@ -39,7 +39,7 @@ fn push_details(
     }
 }
 
-// The line of a fault.
+// Appends the line of a fault.
 fn push_fault_line(
     alloc: Global,
     text: &mut Vec<u8>,
@@ -64,7 +64,7 @@ fn push_fault_line(
     )
 }
 
-// A fault of the text, with what belongs to it.
+// Appends a fault of the text, with its details.
 fn push_fault(
     alloc: Global,
     text: &mut Vec<u8>,
@@ -82,7 +82,7 @@ fn push_fault(
     push_details(alloc, text, style, source, &diagnosis)
 }
 
-// That a specification is too large, which is a fault without a line.
+// Appends the fault of a specification that is too large. It has no line number.
 fn push_too_large(text: &mut Vec<u8>, style: &Style<'_>, code: &str) -> Result<(), AllocError>
     ensures { OnOk result (TellsFault style.now.file.now code.now 0 text.old.items text.new.items) }
 {
@@ -106,7 +106,7 @@ fn push_too_large(text: &mut Vec<u8>, style: &Style<'_>, code: &str) -> Result<(
     push_note(text, style.file, nowhere, to_do(code).as_bytes())
 }
 
-/// A finding of a text that is refused.
+/// Appends a finding of a text that is rejected.
 pub(crate) fn push_error(
     alloc: Global,
     text: &mut Vec<u8>,

@@ -1,38 +1,38 @@
-//! What is found in a text.
+//! Findings in a text.
 
-/// How much a finding weighs.
+/// The severity of a finding.
 #[derive(Clone, Copy, Debug, Drop)]
 pub enum Severity {
-    /// The text is refused for it.
+    /// The text is rejected for it.
     Error,
-    /// It is right, but suspicious.
+    /// The text is valid, but suspicious.
     Warning,
-    /// What belongs to the finding before it: what to write, or a second place.
+    /// An addition to the finding before it: what to write, or a second place.
     Note,
 }
 
 /// A place in a text. Lines and columns are counted from 1, columns in bytes.
 #[derive(Clone, Copy, Debug, Drop)]
 pub struct Place {
-    /// The line; 0 where the whole text is meant.
+    /// Line number; 0 if the place is the whole text.
     pub line: u64,
-    /// The column; 0 where it is not known.
+    /// Column number; 0 if it isn't known.
     pub column: u64,
-    /// How many bytes are meant; 0 is as 1.
+    /// Number of bytes; 0 is the same as 1.
     pub width: u64,
 }
 
-/// What is found in a text, and where.
+/// A finding in a text, with its place.
 #[derive(Clone, Copy, Debug, Drop)]
 pub struct Finding<'a> {
-    /// How much it weighs.
+    /// Severity of the finding.
     pub severity: Severity,
-    /// Where it is.
+    /// Place of the finding.
     pub place: Place,
-    /// The code of an error, and else nothing.
+    /// Code of an error, otherwise empty.
     pub code: &'a [u8],
-    /// What is wrong, or what to do.
+    /// Text of the finding: what is wrong, or what to do.
     pub words: &'a [u8],
-    /// The name of the warning or of the cause, if it has one.
+    /// Name of the warning or of the cause, if it has one.
     pub name: &'a [u8],
 }

@@ -1,4 +1,4 @@
-//! Findings as lines, in the form in which C's compilers have theirs, put behind a text. Where memory is refused a part of it stands there.
+//! Appends findings as lines, in the form of C compilers. If an allocation fails, a part was appended.
 
 ghost use Rattle.std.specs.Prelude.{◌≡◌, ◌++◌, IfOk, OnOk, decimal, length};
 ghost use Rattle.lx_report.specs.Lines as specs;
@@ -8,7 +8,7 @@ use crate::finding::{Finding, Place, Severity};
 use itoa::Buffer;
 use std::alloc::{AllocError, Global};
 
-// How many bytes of a line of the source are shown before the place, and how many in all.
+// Limits of a shown source line: number of bytes before the place, and in total.
 const MOST_BEFORE: usize = 50;
 
 const MOST_SHOWN: usize = 100;
@@ -65,7 +65,7 @@ fn push_tag(text: &mut Vec<u8>, severity: Severity, name: &[u8]) -> Result<(), A
     }
 }
 
-/// A finding in the file with this name, in a line: where it is, how much it weighs, its code, its words and its name. Err: memory was refused.
+/// Appends a finding in the file with this name as a line: place, severity, code, text and name. Err: an allocation failed.
 pub fn push_finding(
     text: &mut Vec<u8>,
     file: &[u8],
@@ -82,14 +82,14 @@ pub fn push_finding(
     push(text, b"\n")
 }
 
-// How many bytes at a line's begin are not shown.
+// Returns the number of hidden bytes at the start of a line.
 fn hidden(column: usize) -> usize
     ensures { result ≡ specs.hidden column }
 {
     column.saturating_sub(1).saturating_sub(MOST_BEFORE)
 }
 
-// The part of a line that is shown.
+// Returns the part of a line that is shown.
 fn part(column: usize, line: &[u8]) -> &[u8]
     ensures { result.now ≡ specs.part column line.now }
 {
@@ -98,7 +98,7 @@ fn part(column: usize, line: &[u8]) -> &[u8]
     &rest[..MOST_SHOWN.min(rest.len())]
 }
 
-// Shows that bytes are left out, where some are.
+// Appends dots if bytes are left out.
 fn push_cut(text: &mut Vec<u8>, is_cut: bool) -> Result<(), AllocError>
     ensures { OnOk result (text.new.items ≡ text.old.items ++ specs.cut is_cut) }
 {
@@ -129,7 +129,7 @@ fn width_before(alloc: Global, column: usize, line: &[u8]) -> Result<usize, Allo
     Ok(text.len())
 }
 
-// Prints the part of a line around the column, between dots where more of the line is left out.
+// Appends the part of a line around the column, with dots where more of the line is left out.
 fn push_part(text: &mut Vec<u8>, column: usize, line: &[u8]) -> Result<(), AllocError>
     ensures { OnOk result (text.new.items ≡ text.old.items ++ specs.printed column line.now) }
 {
@@ -176,8 +176,9 @@ fn push_mark(text: &mut Vec<u8>, before: usize, width: usize) -> Result<(), Allo
     push(text, b"\n")
 }
 
-/// A line of the source with its number before it, and a line with a mark below so many bytes from the column, which is counted from 1. Bytes that aren't printed
-/// are shown as `\xHH`, a tab as a blank. Of a long line only a part around the column is shown, with `...` for what is left out. Err: memory was refused.
+/// Appends a source line with its number before it, and a line with a mark below `width` bytes from the column. Columns are counted from 1. Shows
+/// unprintable bytes as `\xHH`, and a tab as a blank. Of a long line, shows only a part around the column, with `...` for the rest. Err: an
+/// allocation failed.
 pub fn push_marked(
     alloc: Global,
     text: &mut Vec<u8>,

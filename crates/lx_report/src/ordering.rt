@@ -1,4 +1,4 @@
-//! The order of errors and warnings: that of their lines, but that the first error comes first.
+//! Orders errors and warnings by their lines, except that the first error comes first.
 
 use crate::repeated::new_findings;
 use crate::style::Style;
@@ -8,25 +8,25 @@ use lx_spec::Code;
 use lx_warnings::{Warning, Warnings, warnings_beside};
 use std::alloc::{AllocError, Global};
 
-/// What is told behind the first error of a text that is refused.
+/// An entry after the first error of a text that is rejected.
 #[derive(Clone, Copy)]
 pub(crate) enum Entry {
     Error(Finding),
-    /// The warning of this number.
+    /// Number of a warning.
     Warning(usize),
 }
 
-/// All that is told behind the first error of a text that is refused.
+/// All entries after the first error of a text that is rejected.
 #[derive(Drop)]
 pub(crate) struct Rest {
-    /// In this order.
+    /// Entries in the order of the report.
     pub entries: Vec<Entry>,
-    /// The number of errors among them.
+    /// Number of errors among them.
     pub errors: usize,
     pub warnings: Warnings,
 }
 
-/// The line of a finding, and 0 where it has none.
+/// Returns the line of a finding, or 0 if it has none.
 fn line_of(finding: &Finding) -> u32 {
     match finding {
         Finding::Specification(fault) => fault.line,
@@ -34,7 +34,7 @@ fn line_of(finding: &Finding) -> u32 {
     }
 }
 
-// Returns whether the sections of a text have a form, so that its rules and definitions are known.
+// Returns true if the sections of the text are well-formed, so that its rules and definitions are known.
 fn has_sections(first: Finding) -> bool {
     match first {
         Finding::Specification(fault) => matches!(
@@ -50,7 +50,7 @@ fn has_sections(first: Finding) -> bool {
     }
 }
 
-// Returns the lines of errors.
+// Collects the lines of errors.
 fn error_lines(alloc: Global, first: Finding, more: &[Finding]) -> Result<Vec<u32>, AllocError> {
     let mut lines = Vec::new(alloc);
     lines.push(line_of(&first))?;
@@ -60,7 +60,7 @@ fn error_lines(alloc: Global, first: Finding, more: &[Finding]) -> Result<Vec<u3
     Ok(lines)
 }
 
-// Returns the warnings on the lines without an error.
+// Collects the warnings on lines without an error.
 fn warnings_of_refused(
     alloc: Global,
     style: &Style<'_>,
@@ -78,7 +78,7 @@ fn warnings_of_refused(
     warnings_beside(alloc, source, &lines, &style.asked, MOST_TOLD)
 }
 
-// Adds the warnings from this number on that stand before a line. The result is the number of the first one behind.
+// Adds the warnings from number `from` on that come before a line. Returns the number of the first one after them.
 fn push_before(
     entries: &mut Vec<Entry>,
     warnings: &[Warning],
@@ -94,7 +94,7 @@ fn push_before(
     Ok(warnings.len())
 }
 
-// Puts errors and warnings in the order of their lines.
+// Merges errors and warnings in the order of their lines.
 fn entries_of(
     alloc: Global,
     errors: &[Finding],
@@ -112,7 +112,7 @@ fn entries_of(
     Ok(entries)
 }
 
-/// What is told behind the first of the findings: further errors that say something new, and the warnings on lines without an error.
+/// Collects what is reported after the first finding: further errors that say something new, and the warnings on lines without an error.
 pub(crate) fn rest_of(
     alloc: Global,
     style: &Style<'_>,

@@ -1,4 +1,4 @@
-//! Parts of a report, put behind a text. Where memory is refused a part of them stands there.
+//! Appends parts of a report to a text. If an allocation fails, a part was appended.
 
 ghost use Rattle.std.specs.Prelude.{◌≡◌, ◌++◌, OnOk};
 ghost use Rattle.std.specs.List.{flat_map};
@@ -10,14 +10,14 @@ use crate::{Finding, Place, Severity, push_finding, push_marked, push_number, pu
 use lx_diagnose::{Place as TextPlace, line_bytes};
 use std::alloc::{AllocError, Global};
 
-/// Bytes behind a text.
+/// Appends bytes to a text.
 pub(crate) fn push(text: &mut Vec<u8>, bytes: &[u8]) -> Result<(), AllocError>
     ensures { OnOk result (text.new.items ≡ text.old.items ++ bytes.now) }
 {
     text.extend_from_slice(bytes)
 }
 
-/// Bytes as they are shown, and behind them others as they are.
+/// Appends bytes as they are shown, and then others unchanged.
 pub(crate) fn push_shown_and(
     text: &mut Vec<u8>,
     shown: &[u8],
@@ -30,7 +30,7 @@ pub(crate) fn push_shown_and(
     push(text, behind)
 }
 
-/// The place of a diagnosis.
+/// Converts the place of a diagnosis.
 pub(crate) fn place_of(place: &TextPlace) -> Place
     ensures { result.line ≡ place.now.line }
 {
@@ -41,7 +41,7 @@ pub(crate) fn place_of(place: &TextPlace) -> Place
     }
 }
 
-/// A finding in a line.
+/// Appends a finding as a line.
 pub(crate) fn push_line(
     text: &mut Vec<u8>,
     file: &[u8],
@@ -63,7 +63,7 @@ pub(crate) fn push_line(
     push_finding(text, file, &finding)
 }
 
-/// A note: what to do, or a second place.
+/// Appends a note: what to do, or a second place.
 pub(crate) fn push_note(
     text: &mut Vec<u8>,
     file: &[u8],
@@ -75,7 +75,7 @@ pub(crate) fn push_note(
     push_line(text, file, Severity::Note, place, b"", words, b"")
 }
 
-/// A number and the words behind it, which are others where it is one.
+/// Appends a number and a word, which is `one` for 1 and otherwise `more`.
 pub(crate) fn push_count(
     text: &mut Vec<u8>,
     count: usize,
@@ -92,7 +92,7 @@ pub(crate) fn push_count(
     }
 }
 
-/// The line of the source, with a mark, where the column is known.
+/// Appends the source line with a mark, if the column is known.
 pub(crate) fn push_source(
     alloc: Global,
     text: &mut Vec<u8>,

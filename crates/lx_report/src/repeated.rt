@@ -1,4 +1,4 @@
-//! Faults that say again what one before them says.
+//! Faults that repeat what an earlier one says.
 
 use lx_check::Finding;
 use lx_diagnose::causes::LineCause;
@@ -13,7 +13,7 @@ fn is_same_place(place: Option<Place>, other: Option<Place>) -> bool {
     }
 }
 
-// Whether both say that the same definition has no reading, or is nested too deep, or that the same name isn't defined or declared.
+// Returns true if both report the same definition as unreadable or nested too deep, or the same name as undefined or undeclared.
 fn is_same(source: &[u8], this: &Diagnosis, other: &Diagnosis) -> bool {
     match (this.cause, other.cause) {
         (Cause::NoReading(_), Cause::NoReading(_)) | (Cause::TooDeep(_), Cause::TooDeep(_)) => {
@@ -36,7 +36,7 @@ fn is_among(source: &[u8], told: &[Diagnosis], diagnosis: &Diagnosis) -> bool {
     false
 }
 
-// Whether a finding says something that isn't among what was told. That is told from now on.
+// Returns true if a finding says something that wasn't reported yet. Then notes it as reported.
 fn is_new(
     alloc: Global,
     source: &[u8],
@@ -54,7 +54,7 @@ fn is_new(
     Ok(true)
 }
 
-// Returns whether tables are given in the place of a specification.
+// Returns true if the text has tables instead of a specification.
 fn are_tables(told: &[Diagnosis]) -> bool {
     match told.first() {
         Some(diagnosis) => matches!(diagnosis.cause, Cause::NoForm(LineCause::TablesGiven)),
@@ -62,8 +62,8 @@ fn are_tables(told: &[Diagnosis]) -> bool {
     }
 }
 
-/// Those of further findings that say something new: a definition without a reading is told with the first rule that reaches it, and a name that is missing at its first use.
-/// Where the text is one of tables, nothing else is told.
+/// Returns the further findings that say something new. An unreadable definition is reported with the first rule that reaches it, and a missing name
+/// at its first use. If the text is that of tables, nothing else is reported.
 pub(crate) fn new_findings(
     alloc: Global,
     source: &[u8],

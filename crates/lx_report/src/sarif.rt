@@ -1,4 +1,4 @@
-//! Findings as SARIF 2.1.0 (OASIS Standard, 27 March 2020), put behind a text. Where memory is refused a part of them stands there.
+//! Appends findings as SARIF 2.1.0 (OASIS Standard, 27 March 2020). If an allocation fails, a part was appended.
 
 ghost use Rattle.std.specs.Prelude.{◌≡◌, ◌++◌, OnOk, length};
 ghost use Rattle.lx_report.specs.Sarif as specs;
@@ -7,7 +7,7 @@ use crate::bytes::{push, push_numbered, push_shown, push_string_of_shown, push_u
 use crate::finding::{Finding, Place, Severity};
 use std::alloc::AllocError;
 
-/// What stands before the results; `version` is the program's.
+/// Appends the part before the results. `version` is the program's.
 pub fn push_sarif_start(text: &mut Vec<u8>, version: &[u8]) -> Result<(), AllocError>
     ensures { OnOk result (text.new.items ≡ text.old.items ++ specs.start version.now) }
 {
@@ -19,7 +19,7 @@ pub fn push_sarif_start(text: &mut Vec<u8>, version: &[u8]) -> Result<(), AllocE
     push(text, b"}},\"results\":[")
 }
 
-/// What stands behind the results.
+/// Appends the part after the results.
 pub fn push_sarif_end(text: &mut Vec<u8>) -> Result<(), AllocError>
     ensures { OnOk result (text.new.items ≡ text.old.items ++ specs.end) }
 {
@@ -36,7 +36,7 @@ fn push_level(text: &mut Vec<u8>, severity: Severity) -> Result<(), AllocError>
     }
 }
 
-// The code and the name, with a slash between them where both are there.
+// Appends the code and the name, with a slash between them if both exist.
 fn push_rule(text: &mut Vec<u8>, code: &[u8], name: &[u8]) -> Result<(), AllocError>
     ensures { OnOk result (text.new.items ≡ text.old.items ++ specs.rule code.now name.now) }
 {
@@ -74,7 +74,7 @@ fn push_artifact(text: &mut Vec<u8>, file: &[u8]) -> Result<(), AllocError>
     push(text, b"\"}")
 }
 
-// The columns of a region; the last is the one behind it.
+// Appends the columns of a region. The last one is the column after it.
 fn push_columns(text: &mut Vec<u8>, column: u64, behind: u64) -> Result<(), AllocError>
     ensures { OnOk result (text.new.items ≡ text.old.items ++ specs.columns column behind) }
 {
@@ -85,7 +85,7 @@ fn push_columns(text: &mut Vec<u8>, column: u64, behind: u64) -> Result<(), Allo
     push_numbered(text, b",\"endColumn\":", behind)
 }
 
-// The column behind a place.
+// Returns the column after a place.
 fn behind(place: Place) -> u64
     ensures { result ≡ specs.behind place }
 {
@@ -103,7 +103,7 @@ fn push_region(text: &mut Vec<u8>, place: Place) -> Result<(), AllocError>
     push(text, b"}")
 }
 
-/// A finding in the file with this name, as a result. Err: memory was refused.
+/// Appends a finding in the file with this name, as a result. Err: an allocation failed.
 pub fn push_result(text: &mut Vec<u8>, file: &[u8], finding: &Finding<'_>) -> Result<(), AllocError>
     ensures { OnOk result (text.new.items ≡ text.old.items ++ specs.result_text file.now finding.now.severity finding.now.place finding.now.code.now finding.now.words.now finding.now.name.now) }
 {

@@ -1,4 +1,4 @@
-//! What is said of a specification, as SARIF 2.1.0.
+//! Reports on a specification as SARIF 2.1.0.
 
 use crate::ordering::{Entry, Rest, rest_of};
 use crate::pieces::{place_of, push};
@@ -94,7 +94,7 @@ fn push_entry_result(
     }
 }
 
-// The result is the number of warnings.
+// Appends the errors and warnings of a rejected text. Returns the number of warnings.
 fn push_error_results(
     alloc: Global,
     text: &mut Vec<u8>,
@@ -123,7 +123,7 @@ fn push_warning_results(
 ) -> Result<usize, AllocError> {
     let warnings = warnings_in(alloc, style, source, accepted)?;
     for i in 0..warnings.told.len() {
-        // Results stand with commas between them.
+        // a comma separates two results
         if 0 < i {
             push(text, b",\n")?;
         }
@@ -132,7 +132,7 @@ fn push_warning_results(
     Ok(warnings.count)
 }
 
-/// What is said of a text of a specification, of which this is the report, as SARIF 2.1.0 by this version of the program. Err: memory was refused.
+/// Makes the SARIF 2.1.0 output on a specification's text from its report. `version` is that of the program. Err: an allocation failed.
 pub fn sarif_of(
     alloc: Global,
     style: &Style<'_>,

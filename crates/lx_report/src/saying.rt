@@ -1,4 +1,4 @@
-//! What is said of a specification, as a report in lines.
+//! Reports on a specification as lines.
 
 ghost use Rattle.std.specs.Prelude.{◌≡◌, [], IfOk, OnOk};
 ghost use Rattle.lx_check.specs.Findings.{IfAccepted};
@@ -13,16 +13,16 @@ use crate::warnings::{push_accepted, push_warning};
 use lx_check::{Finding, Report};
 use std::alloc::{AllocError, Global};
 
-/// What is said of a specification.
+/// The output on a specification.
 #[derive(Debug, Drop)]
 pub struct Said {
-    /// The report.
+    /// Text of the output.
     pub text: Vec<u8>,
-    /// The number of its warnings.
+    /// Number of warnings of the specification.
     pub warnings: usize,
 }
 
-// An error or a warning behind the first error.
+// Appends an error or a warning after the first error.
 fn push_entry(
     alloc: Global,
     text: &mut Vec<u8>,
@@ -44,7 +44,7 @@ fn push_entry(
     }
 }
 
-// What is told behind the first error.
+// Appends what is reported after the first error.
 fn push_further(
     alloc: Global,
     text: &mut Vec<u8>,
@@ -60,7 +60,7 @@ fn push_further(
     Ok(())
 }
 
-// The number of errors, and that of warnings where there are some.
+// Appends the number of errors, and that of warnings if there are some.
 fn push_numbers(text: &mut Vec<u8>, errors: usize, warnings: usize) -> Result<(), AllocError>
     ensures { OnOk result (Extends text.old.items text.new.items) }
 {
@@ -71,7 +71,7 @@ fn push_numbers(text: &mut Vec<u8>, errors: usize, warnings: usize) -> Result<()
     push_count(text, warnings, b" warning\n", b" warnings\n")
 }
 
-// How many errors and warnings there are.
+// Appends the numbers of errors and warnings, unless the style is quiet.
 fn push_end(
     text: &mut Vec<u8>,
     style: &Style<'_>,
@@ -87,7 +87,7 @@ fn push_end(
     push_numbers(text, errors, warnings)
 }
 
-// What is told behind the first error, and how much that is. The result is the number of warnings.
+// Appends what is reported after the first error, and the numbers of errors and warnings. Returns the number of warnings.
 fn push_rest(
     alloc: Global,
     text: &mut Vec<u8>,
@@ -105,7 +105,7 @@ fn push_rest(
     Ok(warnings)
 }
 
-// The findings of a text that is refused. The result is the number of its warnings.
+// Appends the findings of a text that is rejected. Returns the number of its warnings.
 fn push_errors(
     alloc: Global,
     text: &mut Vec<u8>,
@@ -122,8 +122,9 @@ fn push_errors(
     push_rest(alloc, text, style, source, *first, more)
 }
 
-/// What is said of a text of a specification, of which this is the report: its faults, each with the line of the source and what to do, between these its
-/// warnings on other lines; or its warnings, how much it has, and the bytes that no rule takes. Err: memory was refused.
+/// Makes the output on a specification's text from its report, as lines. For a rejected text: its faults, each with the source line and what to do,
+/// and between them its warnings on other lines. For an accepted one: its warnings, its sizes, and the bytes that no rule takes. Err: an allocation
+/// failed.
 pub fn report_of(
     alloc: Global,
     style: &Style<'_>,

@@ -1,14 +1,14 @@
-//! How findings are said.
+//! The style of a report.
 
 use lx_warnings::KindSet;
 
-/// How findings are said, and which.
+/// The style of a report: the form of findings, and the warnings that are asked for.
 #[derive(Clone, Copy, Debug, Drop)]
 pub struct Style<'a> {
-    /// The name of the specification.
+    /// Name of the specification.
     pub file: &'a [u8],
-    /// Whether the findings stand alone, without lines of the source, notes and counts.
+    /// True if findings are printed without source lines, notes and counts.
     pub quiet: bool,
-    /// The kinds of warnings that are asked for.
+    /// Kinds of warnings that are asked for.
     pub asked: KindSet,
 }

@@ -1,4 +1,4 @@
-//! The warnings and the counts of a specification that is accepted.
+//! Reports the warnings and the sizes of an accepted specification.
 
 ghost use Rattle.std.specs.Prelude.{◌≡◌, ◌<◌, [], IfOk, OnOk, length, min};
 ghost use Rattle.lx_warnings.specs.Kinds.{has_kind};
@@ -11,10 +11,10 @@ use lx_check::{Accepted, Counts};
 use lx_warnings::{Known, Warning, Warnings, name_of, untaken_bytes, warnings_of};
 use std::alloc::{AllocError, Global};
 
-/// So many warnings are told; those behind them are counted.
+/// Greatest number of warnings that are reported. Further ones are only counted.
 pub(crate) const MOST_TOLD: usize = 100;
 
-/// The warnings that the style asks for, by their places.
+/// Collects the warnings that the style asks for, ordered by their places.
 pub(crate) fn warnings_in(
     alloc: Global,
     style: &Style<'_>,
@@ -34,7 +34,7 @@ pub(crate) fn warnings_in(
     warnings_of(alloc, source, &known, &style.asked, MOST_TOLD)
 }
 
-/// A warning, with the line of the source.
+/// Appends a warning, with the source line.
 pub(crate) fn push_warning(
     alloc: Global,
     text: &mut Vec<u8>,
@@ -75,7 +75,7 @@ fn push_all(
     Ok(())
 }
 
-// The warnings of a specification; the result is how many it has.
+// Appends the warnings of a specification. Returns their number.
 fn push_warnings(
     alloc: Global,
     text: &mut Vec<u8>,
@@ -95,7 +95,7 @@ fn push_warnings(
     Ok(warnings.count)
 }
 
-// How much the specification has.
+// Appends the sizes of the specification.
 #[tactic(auto, using(crate::proofs::Telling::extends_more))]
 fn push_counts(text: &mut Vec<u8>, counts: &Counts) -> Result<(), AllocError>
     ensures { OnOk result (Extends text.old.items text.new.items) }
@@ -128,7 +128,7 @@ fn push_counts(text: &mut Vec<u8>, counts: &Counts) -> Result<(), AllocError>
     )
 }
 
-// The bytes that no rule takes in a condition, where there are some.
+// Appends the bytes that no rule takes in a condition, if there are some.
 fn push_echoed(
     alloc: Global,
     text: &mut Vec<u8>,
@@ -153,7 +153,7 @@ fn push_echoed(
     push_shown_and(text, &bytes, b"]: such bytes are echoed\n")
 }
 
-// The same of each condition that is entered.
+// Appends the bytes that no rule takes in each condition that is entered.
 #[tactic(auto, using(crate::proofs::Telling::extends_itself, crate::proofs::Telling::extends_more))]
 fn push_all_echoed(
     alloc: Global,
@@ -173,7 +173,7 @@ fn push_all_echoed(
     Ok(())
 }
 
-// That it is accepted, how much it has, and which bytes are echoed.
+// Appends that the text is accepted, its sizes, and the echoed bytes.
 fn push_summary(
     alloc: Global,
     text: &mut Vec<u8>,
@@ -189,7 +189,7 @@ fn push_summary(
     push_all_echoed(alloc, text, style, accepted)
 }
 
-/// What is said of a specification that is accepted; the result is how many warnings that has.
+/// Appends the output on an accepted specification. Returns the number of its warnings.
 pub(crate) fn push_accepted(
     alloc: Global,
     text: &mut Vec<u8>,

@@ -1,4 +1,4 @@
-//! Listings that the words of the command line ask for.
+//! Listings that the command line asks for.
 
 ghost use Rattle.std.specs.Prelude.{◌≡◌, ◌<◌, ◌≤◌, IfOk, IfErr, None, OnOk, Some, if◌then◌else◌, length, map, nat_lt, option_map, vec_len};
 ghost use Rattle.std.specs.Io.KnownBytes.{Keeps};
@@ -27,10 +27,10 @@ use std::io::Write;
 use std::sync::Wait;
 use std::thread::Threads;
 
-// One more than the greatest number that a file can have.
+// One more than the greatest number of a file.
 const NUMBERS: u64 = 4_294_967_296;
 
-// One for the name of standard input.
+// Returns 1 for the name of standard input, otherwise 0.
 fn input(name: &str) -> usize
     ensures value { result ≡ input_count name.now }
     ensures few { result ≤ 1 }
@@ -38,7 +38,7 @@ fn input(name: &str) -> usize
     if name == STANDARD_INPUT { 1 } else { 0 }
 }
 
-// How many of the names are that of standard input.
+// Counts the names of standard input.
 fn inputs_among(names: &[&str]) -> usize
     ensures count { result ≡ inputs_among (texts_of names.now) }
     ensures few { result ≤ length names.now }
@@ -50,7 +50,7 @@ fn inputs_among(names: &[&str]) -> usize
     count
 }
 
-// One where the list of files is standard input.
+// Returns 1 if the list of files is standard input, otherwise 0.
 fn list_input(order: &ListRequest<'_>) -> usize
     ensures value { result ≡ list_input (plain_order order.now) }
     ensures few { result ≤ 1 }
@@ -61,7 +61,7 @@ fn list_input(order: &ListRequest<'_>) -> usize
     }
 }
 
-// Whether standard input is named twice, by these files, the specification or the tables, and the list of files.
+// Returns true if standard input is named twice: by these files, the specification or the tables, and the list of files.
 fn is_input_twice(order: &ListRequest<'_>, names: &[&str]) -> bool
     requires { length names.now ≤ max_files }
     ensures twice { result ≡ nat_lt 1 (input_uses (plain_order order.now) (texts_of names.now)) }
@@ -69,7 +69,7 @@ fn is_input_twice(order: &ListRequest<'_>, names: &[&str]) -> bool
     input(order.rules) + list_input(order) + inputs_among(names) > 1
 }
 
-// Refuses a format that isn't known.
+// Rejects an unknown format.
 fn judge_format<'a>(words: &FormWords<'a>) -> Result<(), RequestFault<'a>>
     ensures ok { OnOk result (IsKnownFormat (plain_form words.now).format) }
     ensures err { IfErr result (IsFormatFault (plain_form words.now)) }
@@ -80,7 +80,7 @@ fn judge_format<'a>(words: &FormWords<'a>) -> Result<(), RequestFault<'a>>
     }
 }
 
-/// Refuses words that ask for too many files, for none, for standard input twice, or for a format that isn't known.
+/// Rejects arguments that ask for too many files, for none, for standard input twice, or for an unknown format.
 pub(crate) fn judge_words<'a>(order: &ListRequest<'a>) -> Result<(), Failure<'a>>
     ensures ok { OnOk result (length order.now.files.items ≤ max_files) }
     ensures format { OnOk result (IsKnownFormat (plain_order order.now).form.format) }
@@ -101,7 +101,7 @@ pub(crate) fn judge_words<'a>(order: &ListRequest<'a>) -> Result<(), Failure<'a>
     }
 }
 
-// Refuses no names at all, standard input named twice, and numbers that are too large.
+// Rejects an empty list of names, standard input named twice, and numbers that are too large.
 fn judge_names<'a>(order: &ListRequest<'a>, names: &[&str]) -> Result<(), Failure<'a>>
     requires few { length names.now ≤ max_files }
     requires format { IsKnownFormat (plain_order order.now).form.format }
@@ -120,7 +120,7 @@ fn judge_names<'a>(order: &ListRequest<'a>, names: &[&str]) -> Result<(), Failur
     Ok(())
 }
 
-// Puts the names in the list of files behind those of the words. Its text stays in `text`.
+// Appends the names in the list of files to those of the arguments. Keeps its text in `text`.
 fn push_listed<'a, S: Sources>(
     alloc: Global,
     names: &mut Vec<&'a str>,
@@ -146,7 +146,7 @@ fn push_listed<'a, S: Sources>(
     }
 }
 
-// The names of the files: those of the words, and behind them those in the list of files.
+// Returns the names of the files: those of the arguments, then those in the list of files.
 fn names_of<'a, S: Sources>(
     alloc: Global,
     order: &ListRequest<'a>,
@@ -165,7 +165,7 @@ fn names_of<'a, S: Sources>(
     Ok(names)
 }
 
-// What `--only` lets pass. Where it has a kind that isn't there, `notes` get those that are.
+// Returns the selection that `--only` asks for. If it has an unknown kind, writes the known ones to `notes`.
 fn selection_of<'a>(
     alloc: Global,
     tables: &Tables,
@@ -198,7 +198,7 @@ fn format_of(words: &FormWords<'_>) -> Format
     }
 }
 
-// Returns the names of the files, of any bytes, where they are printed.
+// Returns the names of the files, of any bytes, if they are printed.
 fn names_asked(
     alloc: Global,
     words: &FormWords<'_>,
@@ -213,7 +213,7 @@ fn names_asked(
     }
 }
 
-// The form that the words ask for.
+// Returns the form that the arguments ask for.
 fn form_of<'f>(words: &FormWords<'_>, names: &'f [Vec<u8>], only: Option<Selection>) -> Form<'f>
     ensures { form_view result ≡ record { first = words.now.first; names = if words.now.names then Some (map (λ name. name.items) names.now) else None; only = only; text = words.now.text; format = format_by (plain_form words.now).format } }
 {
@@ -226,8 +226,8 @@ fn form_of<'f>(words: &FormWords<'_>, names: &'f [Vec<u8>], only: Option<Selecti
     }
 }
 
-/// Lists the files that the words and the list of files name, by the tables, in the form that the words ask for. All are read before the
-/// first line is written. The text of the list of files stays in `text`. The result are the names of the files that were cut short.
+/// Lists the files that the arguments and the list of files name, by the tables, in the form that the arguments ask for. Reads all files before it
+/// writes the first line. Keeps the text of the list of files in `text`. Returns the names of the files that were cut short.
 pub(crate) fn list_asked<'a, R: Threads + Wait + Sync, S: Sources, O: Write>(
     rt: &R,
     alloc: Global,

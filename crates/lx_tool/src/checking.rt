@@ -1,4 +1,4 @@
-//! What `check` says of a specification.
+//! The command `check`: reports on a specification.
 
 ghost use Rattle.std.specs.Prelude.{◌≡◌, ◌<◌, ◌⊎◌, ◌++◌, ⊤, [], IfOk, IfErr, IfSome, OnOk, Some, codes, true, false, if◌then◌else◌};
 ghost use Rattle.std.specs.Str.{bytes_eq};
@@ -21,15 +21,15 @@ use lx_warnings::{KindSet, kind_named};
 use std::alloc::{AllocError, Global};
 use std::io::Write;
 
-// Which warnings are asked for.
+// The warnings that are asked for.
 #[derive(Clone, Copy, Debug)]
 struct Asked {
     kinds: KindSet,
-    // Whether a warning is an error.
+    // True if a warning is an error.
     are_errors: bool,
 }
 
-// The same with or without the warning of this name; none, where there is none.
+// Adds or removes the warning of this name. Returns `None` if there is none.
 fn with_named(asked: Asked, name: &[u8], is_in: bool) -> Option<Asked>
     ensures errors { IfSome result (λ new. new.are_errors ≡ asked.are_errors) }
     ensures kinds { IfSome result (λ new. IsSwitched name.now is_in asked.kinds new.kinds) }
@@ -41,14 +41,14 @@ fn with_named(asked: Asked, name: &[u8], is_in: bool) -> Option<Asked>
     })
 }
 
-// Returns the name behind `no-`, where the word begins so.
+// Returns the name after `no-`, if the word begins with it.
 fn switched_off(word: &[u8]) -> Option<&[u8]>
     ensures { IfSome result (λ name. word.now ≡ codes "no-" ++ name.now) }
 {
     word.strip_prefix(b"no-")
 }
 
-// The same with one word of `-W` more that isn't `all` and `error`; none, where that names no warning.
+// Applies one word of `-W` other than `all` and `error`. Returns `None` if it names no warning.
 fn with_kind_word(asked: Asked, word: &[u8]) -> Option<Asked>
     ensures errors { IfSome result (λ new. new.are_errors ≡ asked.are_errors) }
     ensures kinds { IfSome result (λ new. IsAskedBehind word.now asked.kinds new.kinds) }
@@ -59,7 +59,7 @@ fn with_kind_word(asked: Asked, word: &[u8]) -> Option<Asked>
     }
 }
 
-// The same with one word of `-W` more; none, where that names no warning.
+// Applies one word of `-W`. Returns `None` if it names no warning.
 fn with_word(asked: Asked, word: &str) -> Option<Asked>
     ensures errors { IfSome result (λ new. new.are_errors ≡ (if asked.are_errors then true else bytes_eq word.now (codes "error"))) }
     ensures kinds { IfSome result (λ new. IsAskedBehind word.now asked.kinds new.kinds) }
@@ -107,7 +107,7 @@ fn is_refused(report: &Report) -> bool
     }
 }
 
-// The number of the version, which is its first word.
+// Returns the number of the version, which is its first word.
 fn version_number() -> &'static str {
     match VERSION.split(" ").next() {
         Some(number) => number,
@@ -115,7 +115,7 @@ fn version_number() -> &'static str {
     }
 }
 
-// What is to be said of a text, of which this is the report.
+// Makes the output on a text from its report.
 fn said_by(
     alloc: Global,
     words: &CheckWords<'_>,
@@ -138,7 +138,7 @@ fn said_by(
     }
 }
 
-// Returns whether some of so many warnings are errors.
+// Returns true if warnings are errors and there are some.
 fn has_errors(are_errors: bool, warnings: usize) -> bool
     ensures yes { result ≡ true → (are_errors ≡ true) × (0 < warnings) }
     ensures no { result ≡ false → are_errors ≡ true → warnings ≡ 0 }
@@ -169,7 +169,7 @@ fn said_of<'a>(
     Ok(said.text)
 }
 
-/// Says what is wrong with a specification. Where it is refused, or has warnings that are errors, the failure carries what is to be said.
+/// Reports the errors and warnings of a specification. If it is rejected, or has warnings that are errors, the failure carries the output.
 pub(crate) fn check_named<'a, S: Sources, O: Write>(
     alloc: Global,
     words: &CheckWords<'a>,

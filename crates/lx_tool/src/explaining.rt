@@ -1,4 +1,4 @@
-//! What `explain` prints: what a code of an error or a cause means, or a list of all.
+//! The command `explain`: prints the meaning of an error code or a cause, or a list of all.
 
 ghost use Rattle.std.specs.Prelude.{◌≡◌, ◌<◌, ◌⊎◌, ◌++◌, ◌∷◌, [], IfOk, IfErr, OnOk, Some, None, nat_eq, true, option_map};
 ghost use Rattle.std.specs.Io.KnownBytes.{Appends, Keeps};
@@ -14,7 +14,7 @@ use lx_diagnose::{all_topics, explain};
 use std::alloc::{AllocError, Global};
 use std::io::Write;
 
-// The name of a code or of a cause, and what is wrong, in a line.
+// Appends the name of a code or a cause, with its first sentence, as a line.
 fn push_topic(list: &mut Vec<u8>, topic: &str) -> Result<(), AllocError> {
     let mut lines = topic.trim_start().lines();
     if let Some(name) = lines.next() {
@@ -44,7 +44,7 @@ fn line_of(alloc: Global, said: &str) -> Result<Vec<u8>, AllocError>
     Ok(line)
 }
 
-// What is said of the word. Where nothing is known of it, `notes` get the nearest one.
+// Returns the explanation of the word. If there is none, suggests the nearest word in `notes`.
 fn said_of<'a>(alloc: Global, word: &str, notes: &mut Vec<u8>) -> Result<Vec<u8>, Failure<'a>>
     ensures ok { IfOk result (λ said. starts_with nat_eq said.items word.now ≡ true) }
     ensures err { IfErr result (λ failure. (failure ≡ Failure.Unprintable Unexplained) ⊎ (failure ≡ Failure.Memory)) }
@@ -58,7 +58,7 @@ fn said_of<'a>(alloc: Global, word: &str, notes: &mut Vec<u8>) -> Result<Vec<u8>
     }
 }
 
-/// Prints what a code or a cause means; without a word, a line for each of them. Further lines for the error stream go to `notes`.
+/// Prints the meaning of a code or a cause; without a word, prints a line for each of them. Writes further lines for stderr to `notes`.
 pub(crate) fn explain_named<'a, O: Write>(
     alloc: Global,
     word: Option<&'a str>,

@@ -1,4 +1,4 @@
-//! Why a command is not done.
+//! Reasons why a command fails.
 
 ghost use Rattle.std.specs.Prelude.{◌≡◌, option_map};
 ghost use Rattle.lx_tool.specs.Statuses.{report_in, report_of_print, status_of};
@@ -15,7 +15,7 @@ use std::alloc::{AllocError, AllocFailed};
 use std::fmt::{self, Display, Formatter, Write};
 use thiserror::Error;
 
-/// Why a file is refused as an output.
+/// Reason why a file is rejected as an output.
 #[derive(Clone, Copy, Debug, Error)]
 pub enum OutputFault<'a> {
     /// The file of an option is the input, which it would overwrite.
@@ -36,7 +36,7 @@ pub enum OutputFault<'a> {
     ActionsOnOutput,
 }
 
-/// Why what the words ask for is refused.
+/// Reason why a request is rejected.
 #[derive(Clone, Copy, Debug, Error)]
 pub enum RequestFault<'a> {
     /// `--only` lists a kind that no action of the tables returns.
@@ -48,16 +48,16 @@ pub enum RequestFault<'a> {
     /// `--format` has another word than `text` and `json`.
     #[error("no format {0}")]
     NoFormat(&'a str),
-    /// There is no file to be listed.
+    /// No file to list is named.
     #[error("no file is named")]
     NoFile,
-    /// What stands in this line of the list of files, counted from 1, is empty or isn't UTF-8.
+    /// This line of the list of files, counted from 1, is empty or isn't UTF-8.
     #[error("line {line} of {list} is no name")]
     NoName { line: usize, list: &'a str },
-    /// `-o` is given, and no files can be made.
+    /// `-o` is given, and this program can't make files.
     #[error("-o isn't served here")]
     NoTargets,
-    /// A file for the output is another file of the words, or none.
+    /// An output file is another file of the arguments, or isn't allowed.
     #[error("{0}")]
     Outputs(OutputFault<'a>),
     /// Both `--c` and `--header` are given.
@@ -66,7 +66,7 @@ pub enum RequestFault<'a> {
     /// `--prefix`, `--include` or `--direct` is given, and neither `--c` nor `--header`.
     #[error("--prefix, --include and --direct go with --c or --header")]
     NoScanner,
-    /// What `--prefix` or `--include` says is refused.
+    /// The value of `--prefix` or `--include` is rejected.
     #[error("{0}")]
     Scanner(OptionFault),
     /// `-W` has this word, which names no warning.
@@ -77,29 +77,29 @@ pub enum RequestFault<'a> {
     NumberTooLarge,
 }
 
-/// Why a text that was read isn't printed as the words ask.
+/// Reason why a text that was read isn't printed as requested.
 #[derive(Debug, Drop)]
 pub enum PrintFault {
     /// The numbers of kinds in C would pass 2,147,483,647.
     Numbers,
-    /// The kind with this name is a word of C or C++.
+    /// The kind with this name is a keyword of C or C++.
     Reserved(Vec<u8>),
-    /// The kind with this name would be declared twice, as the scanner's own names begin so.
+    /// The kind with this name would be declared twice, because the scanner's own names have this prefix.
     Declared(Vec<u8>),
-    /// Code for each of so many states isn't printed.
+    /// Direct code isn't printed for this number of states.
     TooManyForCode(u32),
-    /// A graph would have so many states, and not all are asked for.
+    /// A graph would have this number of states, and `--all` isn't given.
     TooManyStates(u32),
-    /// No code and no cause has the name that is asked for.
+    /// No code and no cause has the requested name.
     Unexplained,
-    /// What flex reads can't all be brought over.
+    /// Parts of the flex specification can't be imported.
     NotImported,
-    /// A specification is refused, or has warnings that are errors, as this report says, which goes to the output.
+    /// A specification is rejected, or has warnings that are errors. The report goes to the output.
     Reported(Vec<u8>),
 }
 
 impl PrintFault {
-    // The report that goes to the output.
+    // Returns the report that goes to the output.
     fn report(&self) -> Option<&[u8]>
         ensures { option_map (λ report. report.now) result ≡ report_of_print self.now }
     {
@@ -136,27 +136,27 @@ impl Display for PrintFault {
     }
 }
 
-// The name of a kind, which is of ASCII.
+// Returns the name of a kind, which is ASCII.
 fn text_of(name: &[u8]) -> &str {
     str::from_utf8(name).unwrap_or("a kind")
 }
 
-/// Why a command is not done. Its text is the line on the error stream.
+/// Reason why a command fails. Its text is the line on stderr.
 #[derive(Debug, Drop, Error)]
 pub enum Failure<'a> {
-    /// The text of a specification is refused.
+    /// The text of a specification is rejected.
     #[error("lx: {0}")]
     Specification(SpecFault),
     /// A specification is too large for an automaton.
     #[error("lx: {0}")]
     Automaton(BuildFault),
-    /// A text is no table's.
+    /// A text isn't that of tables.
     #[error("lx: {0}")]
     Tables(TableFault),
-    /// What was read can't be printed as the words ask.
+    /// The text that was read can't be printed as requested.
     #[error("lx: {0}")]
     Unprintable(PrintFault),
-    /// The words of the command line have no form, as the text says.
+    /// The arguments don't form a command line, for the reason in the text.
     #[error("{0}")]
     Words(WordsError),
     /// There are more than 65,536 files.
@@ -165,7 +165,7 @@ pub enum Failure<'a> {
     /// Standard input is named twice.
     #[error("lx: - stands twice, and standard input can be read once")]
     InputTwice,
-    /// What the words ask for is refused: the form or the files of a listing, or the file of `-o`.
+    /// The request is rejected: the form or the files of a listing, or an output file.
     #[error("lx: {0}")]
     Refused(RequestFault<'a>),
     /// The file with this name can't be read.
@@ -174,13 +174,13 @@ pub enum Failure<'a> {
     /// The output failed.
     #[error("lx: cannot write")]
     Output,
-    /// Memory was refused.
+    /// An allocation failed.
     #[error("lx: out of memory")]
     Memory,
 }
 
 impl Failure<'_> {
-    /// The report that goes to the output.
+    /// Returns the report that goes to the output.
     pub(crate) fn report(&self) -> Option<&[u8]>
         ensures { option_map (λ report. report.now) result ≡ report_in self.now }
     {
@@ -199,7 +199,7 @@ impl Failure<'_> {
         }
     }
 
-    /// The exit status.
+    /// Returns the exit status.
     pub(crate) fn status(&self) -> u8
         ensures { result ≡ status_of self.now }
     {

@@ -1,4 +1,4 @@
-//! The files that sources give for names, and their listing.
+//! Reads the files that sources give for names, and lists them.
 
 ghost use Rattle.std.specs.Prelude.{◌≡◌, ◌<◌, ◌≤◌, [], ◌∷◌, All, IfOk, IfErr, length, map, vec_len};
 ghost use Rattle.lx_piece.specs.Plans.{input_view, max_files, max_items, max_workers};
@@ -20,12 +20,12 @@ use std::io::Write;
 use std::sync::Wait;
 use std::thread::Threads;
 
-// A fact, of what a slice of bytes has.
+// States a fact: a byte of a slice is below 256.
 fn are_bytes(bytes: &[u8])
     ensures { All (λ b. b < 256) bytes.now }
 {}
 
-// The file with this name, as far as it can be read.
+// Reads the file with this name, up to its end or a read error.
 fn read_file<'a, S: Sources>(
     alloc: Global,
     sources: &mut S,
@@ -45,7 +45,7 @@ fn read_file<'a, S: Sources>(
     }
 }
 
-/// The text with this name. One that is cut counts as not read, since what it says isn't known.
+/// Reads the text with this name. A text that is cut counts as not read, since its meaning isn't known.
 pub(crate) fn read_whole<'a, S: Sources>(
     alloc: Global,
     sources: &mut S,
@@ -61,7 +61,7 @@ pub(crate) fn read_whole<'a, S: Sources>(
     Ok(input.bytes)
 }
 
-/// The list of names with this name, or a front part of it that has more names than so many. One that is cut counts as not read.
+/// Reads the list of names with this name, or a front part of it that has more than `most` names. A list that is cut counts as not read.
 pub(crate) fn read_name_list<'a, S: Sources>(
     alloc: Global,
     sources: &mut S,
@@ -84,7 +84,7 @@ pub(crate) fn read_name_list<'a, S: Sources>(
     }
 }
 
-// The files with these names, in order.
+// Reads the files with these names, in order.
 #[tactic(auto, using(crate::proofs::SourceLemmas::name_steps))]
 fn read_files<'a, S: Sources>(
     alloc: Global,
@@ -103,7 +103,7 @@ fn read_files<'a, S: Sources>(
     Ok(files)
 }
 
-// The names of the files that were cut short.
+// Collects the names of the files that were cut short.
 fn names_of_cut<'a>(
     alloc: Global,
     names: &[&'a str],
@@ -121,11 +121,11 @@ fn names_of_cut<'a>(
     Ok(cut)
 }
 
-/// What sources gave for names.
+/// The files that sources gave for names.
 #[derive(Drop)]
 pub(crate) struct Given<'a> {
     pub(crate) files: Vec<Input>,
-    /// The names of those that were cut short.
+    /// Names of the files that were cut short.
     pub(crate) cut: Vec<&'a str>,
 }
 
@@ -144,7 +144,7 @@ pub(crate) fn read_given<'a, S: Sources>(
     Ok(Given { files, cut })
 }
 
-// Lists the files with these names by the tables. All are read before the first line is written.
+// Lists the files with these names by the tables. Reads all of them before it writes the first line.
 fn list_given<'a, T: Threads + Wait + Sync, S: Sources, W: Write>(
     rt: &T,
     alloc: Global,
@@ -180,9 +180,9 @@ fn list_given<'a, T: Threads + Wait + Sync, S: Sources, W: Write>(
     Ok(given.cut)
 }
 
-/// Lists the files with these names by the specification that a text says, with `per_piece` items a piece. The text is judged before a file
-/// is read, and all files are read before the first line is written. 1 to 8 workers scan them, or with none the calling thread. The result are
-/// the names of those that were cut short, in order.
+/// Lists the files with these names by the specification in `text`, with `per_piece` items a piece. Judges the text before it reads a file, and reads
+/// all files before it writes the first line. 1 to 8 workers scan them, or with 0 the calling thread. Returns the names of the files that were cut
+/// short, in order.
 pub fn list_by_specification<'a, T: Threads + Wait + Sync, S: Sources, W: Write>(
     rt: &T,
     alloc: Global,
@@ -208,7 +208,7 @@ pub fn list_by_specification<'a, T: Threads + Wait + Sync, S: Sources, W: Write>
     )
 }
 
-/// Lists the files with these names by the tables whose text it is, in either version, and else as `list_by_specification` does.
+/// Lists the files with these names by tables, whose text may have either version. Otherwise does the same as `list_by_specification`.
 pub fn list_by_tables<'a, T: Threads + Wait + Sync, S: Sources, W: Write>(
     rt: &T,
     alloc: Global,

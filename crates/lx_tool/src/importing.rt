@@ -1,4 +1,4 @@
-//! What `import` prints: a specification made of one for flex.
+//! The command `import`: prints a specification made from one for flex.
 
 ghost use Rattle.std.specs.Prelude.{◌≡◌, ◌<◌, ◌⊎◌, [], IfOk, IfErr, OnOk, Some, option_map};
 ghost use Rattle.std.specs.Io.KnownBytes.{Keeps};
@@ -26,7 +26,7 @@ use lx_tables::Tables;
 use std::alloc::{AllocError, Global};
 use std::io::Write;
 
-// The words of a scanner in C whose kinds begin so.
+// Returns the options of a C scanner whose kinds have this prefix.
 fn scanner_words<'a>(words: &ImportWords<'a>) -> CWords<'a>
     ensures { plain_c result ≡ kinds_words (plain_import words.now) }
 {
@@ -39,7 +39,7 @@ fn scanner_words<'a>(words: &ImportWords<'a>) -> CWords<'a>
     }
 }
 
-// A line: where in the file it is, how much it weighs, and what to do.
+// Appends a line of the report: its place in the file, its severity, and what to do.
 fn push_report(notes: &mut Vec<u8>, name: &str, report: &Report) -> Result<(), AllocError> {
     let weight = if report.fatal { "error" } else { "warning" };
     let written = if 0 < report.line {
@@ -47,7 +47,7 @@ fn push_report(notes: &mut Vec<u8>, name: &str, report: &Report) -> Result<(), A
     } else {
         writeln!(notes, "{name}: {weight}: {}", report.cause)
     };
-    // a list refuses a write for want of memory alone
+    // a write to a list fails only for lack of memory
     written.map_err(|_| AllocError)
 }
 
@@ -58,7 +58,7 @@ fn push_reports(notes: &mut Vec<u8>, name: &str, reports: &[Report]) -> Result<(
     Ok(())
 }
 
-// The tables of what was printed, as `gen` makes them.
+// Makes the tables of the printed text as `gen` does.
 fn tables_printed<'a>(alloc: Global, printed: &[u8]) -> Result<Tables, Failure<'a>>
     ensures { IfOk result (λ tables. AreTablesOfText printed.now tables) }
 {
@@ -74,7 +74,7 @@ fn size_code(fault: BuildFault) -> &'static str {
     }
 }
 
-// Adds a line on why what was printed has no tables: its automaton is too large. No line of the file is at fault.
+// Appends a line on why the printed text has no tables: its automaton is too large. No line of the file is at fault.
 fn push_verdict(notes: &mut Vec<u8>, name: &str, failure: &Failure<'_>) -> Result<(), AllocError> {
     let written = match failure {
         Failure::Automaton(fault) => {
@@ -88,11 +88,11 @@ fn push_verdict(notes: &mut Vec<u8>, name: &str, failure: &Failure<'_>) -> Resul
         }
         other => writeln!(notes, "{name}: error: {other}"),
     };
-    // a list refuses a write for want of memory alone
+    // a write to a list fails only for lack of memory
     written.map_err(|_| AllocError)
 }
 
-// Refuses what was printed where `gen` would refuse it, and says why in `notes`.
+// Rejects a printed text that `gen` would reject, and writes the reason to `notes`.
 fn judge_printed<'a>(
     alloc: Global,
     name: &str,
@@ -112,7 +112,7 @@ fn judge_printed<'a>(
     }
 }
 
-// The specification for lx; what there is to be said of the file goes to `notes`.
+// Makes the specification for lx, and writes the remarks on the file to `notes`.
 fn imported_of<'a>(
     alloc: Global,
     words: &ImportWords<'a>,
@@ -142,7 +142,7 @@ fn imported_of<'a>(
     }
 }
 
-// Puts a text into a file, if there is one.
+// Writes a text to a file, if one is named.
 fn place_text<'a, T: Targets>(
     target: Option<&str>,
     text: &[u8],
@@ -160,7 +160,7 @@ fn place_text<'a, T: Targets>(
     }
 }
 
-// Puts a text into a file, or where there is none to the output.
+// Writes a text to a file, or to the output if none is named.
 fn write_or_place<'a, T: Targets, O: Write>(
     target: Option<&str>,
     text: &[u8],
@@ -178,7 +178,7 @@ fn write_or_place<'a, T: Targets, O: Write>(
     }
 }
 
-/// Prints a specification made of one for flex, and puts the actions into a file where one is named. What there is to be said of the file goes to `notes`.
+/// Prints a specification made from one for flex, and writes the actions to a file if one is named. Writes the remarks on the file to `notes`.
 pub(crate) fn import_named<'a, S: Sources, T: Targets, O: Write>(
     alloc: Global,
     words: &ImportWords<'a>,

@@ -1,4 +1,4 @@
-//! The automaton that a specification's files are scanned by.
+//! Makes the automaton by which a specification's files are scanned.
 
 ghost use Rattle.std.specs.Prelude.{◌≡◌, ◌<◌, ◌≤◌, IfOk, IfErr};
 ghost use Rattle.lx_automaton.specs.Equivalence.{IsMinimal, HasLiveSteps};
@@ -11,8 +11,7 @@ use lx_automaton::Automaton;
 use lx_rules::spec::Spec;
 use std::alloc::Global;
 
-/// The merged automaton of a specification. E30 comes where it has more positions than the limit, and E31 where it hasn't and has
-/// more reached sets.
+/// Returns the merged automaton of a specification. Err: E30 if it has more positions than the limit, otherwise E31 if it has more reached sets.
 pub(crate) fn merged_automaton(alloc: Global, spec: &Spec) -> Result<Automaton, BuildFault>
     ensures automaton { IfOk result (λ a. IsAutomatonOf (spec_view spec.now) a) }
     ensures minimal { IfOk result (λ a. IsMinimal a) }

@@ -1,4 +1,4 @@
-//! Names of files of any bytes, and the texts that stand for them.
+//! File names of any bytes, and the texts that represent them.
 
 ghost use Rattle.std.specs.Prelude.{◌≡◌, IfOk, map, true};
 ghost use Rattle.lx_tool.specs.Names.{carried_byte, carries_byte, name_bytes};
@@ -6,7 +6,7 @@ ghost use Rattle.lx_tool.specs.Sources.{texts_of};
 
 use std::alloc::{AllocError, Global};
 
-// Of a character that carries a byte, the bytes of its UTF-8: the first two, and the least and the greatest of each of the others.
+// Bytes of the UTF-8 of a character that carries a byte: the first two, and the least and greatest value of each of the others.
 const FIRST: u8 = 0xF4;
 
 const SECOND: u8 = 0x8F;
@@ -19,10 +19,10 @@ const FOURTH: u8 = 0x80;
 
 const LAST_FOURTH: u8 = 0xBF;
 
-// The bytes of such a character.
+// Number of bytes of such a character.
 const LENGTH: usize = 4;
 
-// Returns true where a character that carries a byte stands at the front.
+// Returns true if the text begins with a character that carries a byte.
 fn carries_byte(text: &[u8]) -> bool
     ensures { result ≡ carries_byte text.now }
 {
@@ -37,7 +37,7 @@ fn carries_byte(text: &[u8]) -> bool
     }
 }
 
-// Returns the byte that the character at the front carries.
+// Returns the byte that the first character carries.
 fn carried_byte(text: &[u8]) -> u8
     requires { carries_byte text.now ≡ true }
     ensures { result ≡ carried_byte text.now }
@@ -48,7 +48,7 @@ fn carried_byte(text: &[u8]) -> u8
     }
 }
 
-/// Returns the bytes of the name that a text stands for.
+/// Returns the bytes of the name that a text represents.
 pub fn name_bytes(alloc: Global, text: &str) -> Result<Vec<u8>, AllocError>
     ensures { IfOk result (λ bytes. bytes.items ≡ name_bytes text.now) }
 {
@@ -68,7 +68,7 @@ pub fn name_bytes(alloc: Global, text: &str) -> Result<Vec<u8>, AllocError>
     Ok(bytes)
 }
 
-/// Returns the bytes of the names that texts stand for, in order.
+/// Returns the bytes of the names that texts represent, in order.
 pub(crate) fn bytes_of_names(alloc: Global, texts: &[&str]) -> Result<Vec<Vec<u8>>, AllocError>
     ensures { IfOk result (λ names. map (λ name. name.items) names.items ≡ map name_bytes (texts_of texts.now)) }
 {

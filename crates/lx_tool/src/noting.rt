@@ -1,4 +1,4 @@
-//! Printing, with a further line where a kind can't be one in C: which rule returns it.
+//! Prints tables, with a further line on the rule that returns a kind which C doesn't allow.
 
 ghost use Rattle.std.specs.Prelude.{◌<◌, IfErr, OnOk};
 ghost use Rattle.lx_cli.specs.CommandLine.{plain_c, plain_print};
@@ -16,7 +16,7 @@ use lx_tables::Tables;
 use std::alloc::Global;
 use std::io::Write;
 
-// Returns whether a rule returns the kind with this name.
+// Returns true if a rule returns the kind with this name.
 fn does_return(spec: &Spec, rule: &Rule, name: &[u8]) -> bool {
     for step in rule.action.as_slice() {
         if let Step::Return(Kind::Name(kind)) = step {
@@ -51,7 +51,7 @@ fn greatest_number(rule: &Rule) -> u32 {
     greatest
 }
 
-// Returns the first of the rules with the greatest number as a kind.
+// Returns the rule with the greatest number as a kind, the first one of several.
 fn rule_of_greatest(spec: &Spec) -> Option<&Rule> {
     let mut found = None;
     let mut greatest = 0;
@@ -65,7 +65,7 @@ fn rule_of_greatest(spec: &Spec) -> Option<&Rule> {
     found
 }
 
-// Adds which rule returns the kind that can't be one in C. Where memory is refused for the line, it is left out.
+// Adds a line on the rule that returns the kind which C doesn't allow. Leaves the line out if an allocation fails.
 fn note_kind(name: &str, spec: &Spec, failure: &Failure<'_>, notes: &mut Vec<u8>) {
     let Failure::Unprintable(fault) = failure else {
         return;
@@ -87,7 +87,7 @@ fn note_kind(name: &str, spec: &Spec, failure: &Failure<'_>, notes: &mut Vec<u8>
     }
 }
 
-/// Prints tables as the words ask, as [`print_asked`] does. Where a kind can't be one in C, `notes` get the line of a rule that returns it.
+/// Prints tables as requested, like [`print_asked`]. If a kind isn't allowed in C, `notes` get the line of a rule that returns it.
 pub(crate) fn print_noted<'a, T: Targets, O: Write>(
     alloc: Global,
     words: &PrintWords<'a>,

@@ -1,4 +1,4 @@
-//! Where the program's output goes.
+//! The program's output.
 
 ghost use Rattle.std.specs.Prelude.{◌≡◌, IfErr, OnOk};
 ghost use Rattle.std.specs.Io.KnownBytes.{Appends, Keeps};
@@ -6,17 +6,17 @@ ghost use Rattle.std.specs.Io.KnownBytes.{Appends, Keeps};
 use crate::failure::Failure;
 use std::io::{self, Write};
 
-/// An output that can send on all that it holds, and may know that its other end was closed, as that of a pipe whose reader has gone.
+/// An output that can flush all that it holds. It may know that its other end was closed, such as a pipe whose reader has gone.
 pub trait Output: Write {
-    /// Nothing of what was written is held back in the program.
+    /// No written byte is still buffered in the program.
     ghost sent: { Self → Type 0 };
 
-    /// Sends on all that was written.
+    /// Flushes all that was written.
     fn send(&mut self) -> io::Result<()>
         ensures sent { OnOk result (sent self.new) }
         ensures bytes { Keeps (Self.contents self.old) (Self.contents self.new) };
 
-    /// Returns true where a write failed since the other end was closed. By default nothing is known of it.
+    /// Returns true if a write failed because the other end was closed. By default returns false.
     fn is_closed(&self) -> bool {
         false
     }

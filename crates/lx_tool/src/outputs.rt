@@ -1,4 +1,4 @@
-//! Outputs that would overwrite the input, or one another.
+//! Rejects outputs that would overwrite the input, or one another.
 
 ghost use Rattle.std.specs.Prelude.{◌≡◌, IfErr, OnOk, option_map};
 ghost use Rattle.lx_cli.specs.CommandLine.{plain_import};
@@ -18,7 +18,7 @@ fn refusal<'a>(fault: OutputFault<'a>) -> Failure<'a>
     Failure::Refused(RequestFault::Outputs(fault))
 }
 
-/// Refuses the file of an option where it is the input, which it would overwrite.
+/// Rejects the file of an option if it is the input, which it would overwrite.
 pub(crate) fn judge_output<'a, T: Targets>(
     targets: &T,
     option: char,
@@ -41,7 +41,7 @@ pub(crate) fn judge_output<'a, T: Targets>(
     Ok(())
 }
 
-// Refuses the files of `-o` and `-c` where they are one.
+// Rejects the files of `-o` and `-c` if they are the same.
 fn judge_both<'a, T: Targets>(targets: &T, words: &ImportWords<'a>) -> Result<(), Failure<'a>>
     ensures ok { OnOk result (AreApart T.same targets.now (plain_import words.now)) }
     ensures err { IfErr result (IsRefusedFor (AreOutputsOfImportRefused (plain_import words.now))) }
@@ -55,7 +55,7 @@ fn judge_both<'a, T: Targets>(targets: &T, words: &ImportWords<'a>) -> Result<()
     Ok(())
 }
 
-/// Refuses the outputs of `import` where they are the input, one another, or standard output for the actions.
+/// Rejects the outputs of `import` if they are the input or the same file, or if the actions go to standard output.
 pub(crate) fn judge_outputs_of_import<'a, T: Targets>(
     targets: &T,
     words: &ImportWords<'a>,

@@ -1,4 +1,4 @@
-//! Files, listed by tables.
+//! Lists files by tables.
 
 ghost use Rattle.std.specs.Prelude.{◌≡◌, ◌<◌, ◌≤◌, ℕ, List, Option, OnOk, OnErr, map, vec_len};
 ghost use Rattle.lx_piece.specs.Plans.{PlainInput, input_view, max_files, max_items, max_workers};
@@ -20,11 +20,11 @@ use std::io::Write;
 use std::sync::Wait;
 use std::thread::Threads;
 
-// The number that the pieces of a run of the program carry.
+// Run number that all pieces of this program carry.
 const RUN: u64 = 1;
 
-/// Writes the lines of the files' items by the tables, with `per_piece` items a piece: all of them, or after a fault a prefix,
-/// possibly empty. 1 to 8 workers scan the files, or with none the calling thread.
+/// Writes the lines of the files' items by the tables, with `per_piece` items a piece. Writes all of them, or after a fault a prefix, possibly empty.
+/// 1 to 8 workers scan the files, or with 0 the calling thread.
 pub fn list_files<T: Threads + Wait + Sync, W: Write>(
     rt: &T,
     alloc: Global,
@@ -47,7 +47,7 @@ pub fn list_files<T: Threads + Wait + Sync, W: Write>(
     list_plan(rt, alloc, &plan, workers, writes, out)
 }
 
-/// The same in a form.
+/// Does the same as `list_files`, in a form.
 pub fn list_files_in<T: Threads + Wait + Sync, W: Write>(
     rt: &T,
     alloc: Global,
@@ -71,7 +71,7 @@ pub fn list_files_in<T: Threads + Wait + Sync, W: Write>(
     list_plan_in(rt, alloc, &plan, workers, form, writes, out)
 }
 
-/// A law: what is listed by tables of the specification that a text says are the items by its rules.
+/// States a law: a listing by the tables of a specification's text has the items by its rules.
 pub fn listings_are_by_rules()
     ensures { (text : List ℕ) (table : Table) (inputs : List PlainInput) (old new : Option (List ℕ)) → IsTable table → AreTablesOfText text table →
         AreBytes inputs → ListsBy table inputs old new → ListsByRules text inputs old new }
@@ -79,7 +79,7 @@ pub fn listings_are_by_rules()
     items_are_by_rules();
 }
 
-/// A law: tables of the specification that a text says, printed in either version and read again, list the items by its rules too.
+/// States a law: printed in either version and read again, the tables of a specification's text also list the items by its rules.
 pub fn printed_tables_list_by_rules()
     ensures { (text printed : List ℕ) (table again : Table) (inputs : List PlainInput) (old new : Option (List ℕ)) → IsTable table → AreTablesOfText text table →
         IsTextOf table printed → IsTable again → IsTextOf again printed → AreBytes inputs → ListsBy again inputs old new → ListsByRules text inputs old new }

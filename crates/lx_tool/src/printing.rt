@@ -1,4 +1,4 @@
-//! What `gen` and `up` print: tables in version 2, or a scanner in C.
+//! The output of `gen` and `up`: tables in version 2, or a scanner in C.
 
 ghost use Rattle.std.specs.Prelude.{◌≡◌, ◌<◌, ◌⊎◌, None, IfOk, IfErr, IsTrue, OnErr, OnOk, codes, map, option_map, unwrap_or};
 ghost use Rattle.std.specs.Io.KnownBytes.{Keeps};
@@ -20,7 +20,7 @@ use lx_tables::Tables;
 use std::alloc::{AllocError, Global};
 use std::io::{self, Write};
 
-// What the names of a scanner begin with where `--prefix` isn't given.
+// Default prefix of a scanner's names.
 const PREFIX: &str = "lx";
 
 fn is_in_c(words: &CWords<'_>) -> bool
@@ -38,7 +38,7 @@ fn bytes_of(alloc: Global, word: Option<&str>) -> Result<Option<Vec<u8>>, AllocE
     }
 }
 
-/// What the names of a scanner begin with.
+/// Returns the prefix of a scanner's names.
 pub(crate) fn prefix_of<'a>(words: &CWords<'a>) -> &'a str
     ensures { result.now ≡ unwrap_or (option_map (λ word. word.now) words.now.prefix) (codes "lx") }
 {
@@ -48,7 +48,7 @@ pub(crate) fn prefix_of<'a>(words: &CWords<'a>) -> &'a str
     }
 }
 
-// The options of a scanner in C, but for the names of its conditions.
+// Returns the options of a C scanner, without the names of its conditions.
 fn options_of<'a>(alloc: Global, words: &CWords<'a>) -> Result<Options, Failure<'a>>
     ensures ok { IfOk result (λ options. options ≡ options_by (plain_c words.now)) }
     ensures err { IfErr result (AreScannerWordsRefused (plain_c words.now)) }
@@ -61,7 +61,7 @@ fn options_of<'a>(alloc: Global, words: &CWords<'a>) -> Result<Options, Failure<
     }
 }
 
-/// Judges the words on a scanner in C. The result are its options, but for the names of its conditions.
+/// Checks the arguments for a C scanner. Returns its options, without the names of its conditions.
 pub(crate) fn judge_scanner_words<'a>(
     alloc: Global,
     words: &CWords<'a>,
@@ -79,7 +79,7 @@ pub(crate) fn judge_scanner_words<'a>(
     options_of(alloc, words)
 }
 
-/// The names of conditions.
+/// Returns the names of conditions.
 pub(crate) fn names_of(alloc: Global, conditions: &[Condition]) -> Result<Vec<Vec<u8>>, AllocError>
     ensures { IfOk result (λ names. names_view names.items ≡ map (λ condition. condition.name.items) conditions.now) }
 {
@@ -90,7 +90,7 @@ pub(crate) fn names_of(alloc: Global, conditions: &[Condition]) -> Result<Vec<Ve
     Ok(names)
 }
 
-/// The options of a scanner in C that the words ask for, with the names of the specification's conditions.
+/// Returns the options of a C scanner that the arguments ask for, with the names of the specification's conditions.
 pub(crate) fn named_options<'a>(
     alloc: Global,
     words: &CWords<'a>,
@@ -104,7 +104,7 @@ pub(crate) fn named_options<'a>(
     Ok(options.named(names))
 }
 
-// The name of the kind with a number.
+// Returns the name of the kind with a number.
 fn kind_named(alloc: Global, tables: &Tables, number: u32) -> Result<Vec<u8>, AllocError>
     ensures { IfOk result (λ name. name.items ≡ kind_named tables.now number) }
 {
@@ -115,7 +115,7 @@ fn kind_named(alloc: Global, tables: &Tables, number: u32) -> Result<Vec<u8>, Al
     }
 }
 
-// The fault of kinds, as it is told.
+// Converts the fault of kinds to the fault that is reported.
 fn told_of(alloc: Global, tables: &Tables, fault: KindFault) -> Result<PrintFault, AllocError>
     ensures { IfOk result (IsToldAs tables.now fault) }
 {
@@ -128,7 +128,7 @@ fn told_of(alloc: Global, tables: &Tables, fault: KindFault) -> Result<PrintFaul
     }
 }
 
-// Refuses tables with kinds that can be none in C, or with too many states for code, where a scanner in C is printed.
+// If a C scanner is printed, rejects tables with kinds that C doesn't allow, or with too many states for direct code.
 fn judge_kinds<'a>(
     alloc: Global,
     words: &CWords<'_>,
@@ -166,7 +166,7 @@ fn write_text<W: Write>(
     tables.print(out)
 }
 
-// Puts the text into a file.
+// Writes the text to a file.
 fn place_text<'a, T: Targets>(
     alloc: Global,
     words: &CWords<'_>,
@@ -179,7 +179,7 @@ fn place_text<'a, T: Targets>(
     ensures err { IfErr result IsPlacingFault }
 {
     let mut text = Vec::new(alloc);
-    // a list refuses a write for want of memory alone
+    // a write to a list fails only for lack of memory
     if write_text(words, options, tables, &mut text).is_err() {
         return Err(Failure::Memory);
     }
@@ -187,7 +187,7 @@ fn place_text<'a, T: Targets>(
     Ok(())
 }
 
-/// Prints tables as the words ask, to the output or into a file.
+/// Prints tables as requested, to the output or to a file.
 pub(crate) fn print_asked<'a, T: Targets, O: Write>(
     alloc: Global,
     words: &PrintWords<'a>,

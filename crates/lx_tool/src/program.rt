@@ -1,4 +1,4 @@
-//! The program `lx`, but for the real files and streams.
+//! The program `lx`, without the real files and streams.
 
 ghost use Rattle.std.specs.Prelude.{◌≡◌, ◌<◌, ◌≤◌, [], ◌∷◌, Some, None, Ok, Err, IfOk, IfErr, OnOk, IfSome, IsOk, length};
 ghost use Rattle.std.specs.Io.KnownBytes.{Appends, Keeps};
@@ -38,26 +38,29 @@ use std::io::{Cursor, Write};
 use std::sync::Wait;
 use std::thread::Threads;
 
-// The exit status where the words are refused. At this one, and where a specification or tables are refused, further lines follow.
+// Exit status if the arguments are rejected. Further lines on stderr follow then, and also if a specification or tables are rejected.
 const WORDS_REFUSED: u8 = 2;
 
-// The exit status where all is listed and a file was cut short.
+// Exit status if all was listed and a file was cut short.
 const CUT_SHORT: u8 = 3;
 
-// The system's words for a reason are shorter.
+// Greatest length of the system's text for a reason. The real texts are shorter.
 const REASON_BYTES: usize = 256;
 
-// The specification of the stored run, and its file.
+// Specification of the stored run, and its file.
 static STORED_SPECIFICATION: &[u8] = b"%%\n[a-z]+ return ID;\n[0-9]+ return NUM;\n[ \\n]+ ;\n";
 
 static STORED_TEXT: &[u8] = b"ab 12\n";
 
-/// The whole program: `words` are the command line, the program's name first. Files are read from `sources`; the listing,
-/// the tables or the help go to `out`, which is flushed, and what went wrong to `err`, whose own faults change nothing.
-/// The result is the exit status: 0, all was done; 1, the specification was refused, or is too large for an automaton, or the tables
-/// were refused; 2, the command line was refused; 3, a file can't be read, or all was listed and a file was cut short; 4, the output
-/// failed; 5, memory was refused.
-/// Each line of a listing goes out in a write of its own, and no file is made: `-o` is refused.
+/// Runs the whole program. `words` are the command line, beginning with the program's name. Reads files from `sources`. Writes the listing, the
+/// tables or the help to `out`, which is flushed, and errors to `err`, whose own faults change nothing. Each line of a listing is written separately.
+/// No file is made: `-o` is rejected. Returns the exit status:
+/// - 0: all was done;
+/// - 1: the specification or the tables were rejected, or the specification is too large for an automaton;
+/// - 2: the command line was rejected;
+/// - 3: a file can't be read, or all was listed and a file was cut short;
+/// - 4: the output failed;
+/// - 5: memory is exhausted.
 pub fn run<R: Threads + Wait + Sync, S: Sources, O: Write, E: Write>(
     rt: &R,
     alloc: Global,
@@ -69,9 +72,10 @@ pub fn run<R: Threads + Wait + Sync, S: Sources, O: Write, E: Write>(
     ensures known { result ≤ 5 }
     ensures done { result ≡ 0 →
         IfSome (asked_by (words_of words.now)) (HasDone S.gives sources.old sources.new (O.contents out.old) (O.contents out.new) []) }
-    // Where they ask for nothing else, it was for the help or the version.
+    // If they ask for nothing else, they asked for the help or the version.
     ensures told { result ≡ 0 → asked_by (words_of words.now) ≡ None → AskForHelp (words_of words.now) }
-    // All was listed and a file was cut short; or the words, the specification, the tables or a file were refused, and nothing was written but the report of `check`.
+    // All was listed and a file was cut short; or the arguments, the specification, the tables or a file were rejected. Then nothing was written but
+    // the report of `check`.
     ensures ended { 0 < result → result < 4 →
         HasEnded S.gives (asked_by (words_of words.now)) sources.old sources.new (O.contents out.old) (O.contents out.new) result }
 {
@@ -95,7 +99,7 @@ pub fn run<R: Threads + Wait + Sync, S: Sources, O: Write, E: Write>(
     tell(ended, &notes, sources, &targets, false, err)
 }
 
-/// The same, where files are made by `targets`, the lines of a listing are written a block of them at once, and no line tells of an output
+/// Does the same as `run`, with three differences. `targets` makes files. The lines of a listing are written in blocks. No line reports an output
 /// whose other end was closed.
 pub fn run_with<R: Threads + Wait + Sync, S: Sources, T: Targets, O: Write + Output, E: Write>(
     rt: &R,
@@ -109,13 +113,14 @@ pub fn run_with<R: Threads + Wait + Sync, S: Sources, T: Targets, O: Write + Out
     ensures known { result ≤ 5 }
     ensures done { result ≡ 0 →
         IfSome (asked_by (words_of words.now)) (HasDone S.gives sources.old sources.new (O.contents out.old) (O.contents out.new) []) }
-    // Where they ask for nothing else, it was for the help or the version.
+    // If they ask for nothing else, they asked for the help or the version.
     ensures told { result ≡ 0 → asked_by (words_of words.now) ≡ None → AskForHelp (words_of words.now) }
-    // Nothing of it is held back in the program.
+    // Nothing is still buffered in the program.
     ensures sent { result ≡ 0 → O.sent out.new }
     // The file of `-o` was made.
     ensures placed { result ≡ 0 → HasPlaced S.gives T.places T.same sources.old targets.old targets.new (asked_by (words_of words.now)) }
-    // All was listed and a file was cut short; or the words, the specification, the tables or a file were refused, and nothing was written but the report of `check`.
+    // All was listed and a file was cut short; or the arguments, the specification, the tables or a file were rejected. Then nothing was written but
+    // the report of `check`.
     ensures ended { 0 < result → result < 4 →
         HasEnded S.gives (asked_by (words_of words.now)) sources.old sources.new (O.contents out.old) (O.contents out.new) result }
 {
@@ -138,7 +143,7 @@ pub fn run_with<R: Threads + Wait + Sync, S: Sources, T: Targets, O: Write + Out
     tell(ended, &notes, sources, targets, out.is_closed(), err)
 }
 
-// Says how it ended, and what else there is to be said; the result is the exit status.
+// Reports how the command ended, with the further lines. Returns the exit status.
 fn tell<S: Sources, T: Targets, E: Write>(
     ended: Result<Vec<&str>, Failure<'_>>,
     notes: &[u8],
@@ -167,7 +172,7 @@ fn tell<S: Sources, T: Targets, E: Write>(
     }
 }
 
-// Says why a command is not done. Where memory is refused for a line, it is left out.
+// Reports why a command failed. Leaves a line out if an allocation fails.
 fn tell_failure<S: Sources, T: Targets, E: Write>(
     failure: &Failure<'_>,
     sources: &S,
@@ -175,9 +180,9 @@ fn tell_failure<S: Sources, T: Targets, E: Write>(
     err: &mut E,
 ) {
     let _ = match failure {
-        // Its text ends with a newline.
+        // its text ends with a newline
         Failure::Words(error) => write!(err, "{error}"),
-        // What there is to be said is on the output.
+        // the report is on the output
         Failure::Unprintable(PrintFault::Reported(_)) => Ok(()),
         _ => writeln!(err, "{failure}"),
     };
@@ -198,7 +203,7 @@ fn tell_failure<S: Sources, T: Targets, E: Write>(
     }
 }
 
-// Tells of how many states code isn't printed, and of how many it is.
+// Reports the number of states, and the greatest number for which code is printed.
 fn tell_states<E: Write>(states: u32, err: &mut E) {
     let _ = writeln!(
         err,
@@ -206,17 +211,17 @@ fn tell_states<E: Write>(states: u32, err: &mut E) {
     );
 }
 
-// Why the system couldn't do it, where that is known.
+// Reports the system's reason, if it is known.
 fn tell_reason<E: Write>(reason: Option<io::Error>, err: &mut E) {
     if let Some(reason) = reason {
         let _ = writeln!(err, "lx: {reason}");
     }
 }
 
-// Prints the system's words for a reason, without its number.
+// Prints the system's text for a reason, without its number.
 fn write_reason<E: Write>(reason: &io::Error, err: &mut E) -> io::Result<()> {
     let mut text = Cursor::new([0u8; REASON_BYTES]);
-    // what doesn't fit is left out
+    // the rest is cut off if it doesn't fit
     let _ = write!(text, "{reason}");
     let bytes = text.into_inner();
     let words = match bytes
@@ -231,7 +236,7 @@ fn write_reason<E: Write>(reason: &io::Error, err: &mut E) -> io::Result<()> {
     err.write_all(words.trim_ascii_end())
 }
 
-// Names a file that was cut short, with the system's reason, if it is known.
+// Names a file that was cut short, with the system's reason if it is known.
 fn tell_cut_file<E: Write>(name: &str, reason: Option<io::Error>, err: &mut E) {
     let _ = write!(err, "lx: cut short {name}");
     if let Some(reason) = reason {
@@ -240,7 +245,7 @@ fn tell_cut_file<E: Write>(name: &str, reason: Option<io::Error>, err: &mut E) {
     let _ = writeln!(err, "");
 }
 
-// Names the files that were cut short; the result is the exit status.
+// Names the files that were cut short. Returns the exit status.
 fn tell_cut<S: Sources, E: Write>(cut: &[&str], sources: &S, err: &mut E) -> u8
     ensures { HasStatusOfCut result cut.now }
 {
@@ -250,8 +255,8 @@ fn tell_cut<S: Sources, E: Write>(cut: &[&str], sources: &S, err: &mut E) -> u8
     if cut.is_empty() { 0 } else { CUT_SHORT }
 }
 
-// Does what the words ask for. The text of a list of files stays in `list`, since names lie in it; further lines for the error stream go to `notes`.
-// The result are the names of the files that were cut short.
+// Does what the arguments ask for. Keeps the text of a list of files in `list`, since names borrow from it. Writes further lines for stderr to
+// `notes`. Returns the names of the files that were cut short.
 fn execute<'a, R: Threads + Wait + Sync, S: Sources, T: Targets, O: Write>(
     rt: &R,
     alloc: Global,
@@ -286,7 +291,7 @@ fn write_report<'a, O: Write>(failure: &Failure<'_>, out: &mut O) -> Result<(), 
     }
 }
 
-// What happened, once what is to be said of it is on the output.
+// Writes the report of a failure to the output, and returns the same result.
 fn say<'a, O: Write>(
     ended: Result<Vec<&'a str>, Failure<'a>>,
     out: &mut O,
@@ -303,7 +308,7 @@ fn say<'a, O: Write>(
     }
 }
 
-// Returns what happened, but that the output failed where what was written wasn't sent on.
+// Returns the result of the command, or the failure of the output if the flush failed.
 fn after_flush<'a>(
     ended: Result<Vec<&'a str>, Failure<'a>>,
     answer: io::Result<()>,
@@ -324,7 +329,7 @@ fn after_flush<'a>(
     }
 }
 
-// Does what a request asks for. Of all requests a listing alone tells of files that were cut short.
+// Does what a request asks for. Only a listing reports files that were cut short.
 fn carry_out<'a, R: Threads + Wait + Sync, S: Sources, T: Targets, O: Write>(
     rt: &R,
     alloc: Global,
@@ -382,7 +387,7 @@ fn carry_out<'a, R: Threads + Wait + Sync, S: Sources, T: Targets, O: Write>(
     }
 }
 
-// The stored run.
+// Lists the stored run.
 fn list_stored<'a, R: Threads + Wait + Sync, O: Write>(
     rt: &R,
     alloc: Global,
@@ -449,7 +454,7 @@ fn list_by_tables_of<'a, R: Threads + Wait + Sync, S: Sources, O: Write>(
     list_asked(rt, alloc, tables, order, sources, list, notes, writes, out)
 }
 
-// Prints what the words ask for of the specification, or puts it into a file.
+// Prints what the arguments ask for of the specification, or writes it to a file.
 fn generate_named<'a, S: Sources, T: Targets, O: Write>(
     alloc: Global,
     words: PrintWords<'a>,
@@ -471,7 +476,7 @@ fn generate_named<'a, S: Sources, T: Targets, O: Write>(
     print_noted(alloc, &words, &options, &tables, &spec, targets, notes, out)
 }
 
-// Prints what the words ask for of tables, or puts it into a file.
+// Prints what the arguments ask for of tables, or writes it to a file.
 fn upgrade_named<'a, S: Sources, T: Targets, O: Write>(
     alloc: Global,
     words: PrintWords<'a>,

@@ -1,4 +1,4 @@
-//! Readers, read to their end.
+//! Reads readers to their end.
 
 ghost use Rattle.std.specs.Prelude.{◌≡◌, ◌<◌, ◌≤◌, ◌⊎◌, ◌++◌, ℕ, List, false, IfOk, IfErr, OnOk, length, take};
 ghost use Rattle.std.specs.Io.KnownBytes.{Consumes, IsAtEnd};
@@ -11,24 +11,24 @@ use lx_piece::Input;
 use std::alloc::Global;
 use std::io::{ErrorKind, Read};
 
-// How many bytes one read asks for.
+// Number of bytes that one read asks for.
 const CHUNK: usize = 65_536;
 
-// How many reads there are at most.
+// Greatest number of reads.
 const MOST_READS: u64 = 4_294_967_296;
 
-/// How a read went.
+/// The result of a read.
 #[derive(Clone, Copy, Debug, PartialEq, Eq)]
 enum Turn {
-    /// It gave bytes, or was interrupted: another one may give more.
+    /// The read gave bytes, or was interrupted: another one may give more.
     More,
     /// The reader is at its end.
     End,
-    /// It failed.
+    /// The read failed.
     Failed,
 }
 
-// One read, whose bytes go behind those before it. A short one isn't the end: only no bytes at all are.
+// Reads once, and appends the bytes. A short read isn't the end of the file: only a read of 0 bytes is.
 fn read_on<R: Read>(
     reader: &mut R,
     chunk: &mut [u8],
@@ -53,8 +53,8 @@ fn read_on<R: Read>(
     }
 }
 
-/// All that a reader gives: its bytes to their end, or those before the read that failed, and then the input is cut. It is cut too where
-/// 4,294,967,296 reads weren't enough. A read that was interrupted is tried again. The one fault is that memory was refused.
+/// Reads all bytes of a reader to its end. If a read fails, keeps the bytes before it, and the input is cut. It is also cut if 4,294,967,296 reads
+/// aren't enough. Retries an interrupted read. The only error is a failed allocation.
 pub fn read_to_end<R: Read>(alloc: Global, reader: &mut R) -> Result<Input, SourceFault>
     ensures bytes { IfOk result (λ input. Consumes (R.remaining reader.old) (R.remaining reader.new) input.bytes.items) }
     ensures end { IfOk result (λ input. input.cut ≡ false → IsAtEnd (R.remaining reader.new)) }
@@ -72,7 +72,7 @@ pub fn read_to_end<R: Read>(alloc: Global, reader: &mut R) -> Result<Input, Sour
     Ok(Input { bytes, cut: true })
 }
 
-// How many of the bytes are the separator.
+// Counts the separators among the bytes.
 fn separators_in(bytes: &[u8], separator: u8) -> usize
     ensures { result ≡ separators separator bytes.now }
 {
@@ -85,7 +85,7 @@ fn separators_in(bytes: &[u8], separator: u8) -> usize
     count
 }
 
-// No more than there are separators among some bytes, where no more than so many are among the first of these.
+// Adds the separators after the first `first` bytes to a count for these. The result is at most the number of separators among all bytes.
 fn counted(bytes: &[u8], first: usize, separator: u8, count: usize) -> usize
     requires first { first ≤ length bytes.now }
     requires count { count ≤ separators separator (take first bytes.now) }
@@ -94,8 +94,7 @@ fn counted(bytes: &[u8], first: usize, separator: u8, count: usize) -> usize
     count.saturating_add(separators_in(&bytes[first..], separator))
 }
 
-/// What a reader gives, as `read_to_end` has it, but no more than is wanted of a list of names: where more names than so many were read, each with the separator behind it, what
-/// stands behind them isn't read.
+/// Reads a list of names like `read_to_end`, but no more than is needed. Once it has read more than `most` names, each with its separator, it stops.
 pub fn read_names<R: Read>(
     alloc: Global,
     reader: &mut R,

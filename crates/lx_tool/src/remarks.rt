@@ -1,4 +1,4 @@
-//! Further lines of an error: why a specification or tables are refused.
+//! Further lines of an error: the reason why a specification or tables are rejected.
 
 ghost use Rattle.std.specs.Prelude.{ℕ, List, IfOk, IfErr};
 ghost use Rattle.lx_rules.specs.views.Specs.{spec_view};
@@ -17,7 +17,7 @@ use lx_tables::Tables;
 use std::alloc::{AllocError, Global};
 use std::io::{self, Write};
 
-// A file's name, with the line and the column where these are known.
+// Writes a file's name, with the line and the column if they are known.
 fn write_place(notes: &mut Vec<u8>, name: &str, place: Place) -> Result<(), io::Error> {
     if place.line == 0 {
         return write!(notes, "lx: {name}: ");
@@ -28,7 +28,7 @@ fn write_place(notes: &mut Vec<u8>, name: &str, place: Place) -> Result<(), io::
     write!(notes, "lx: {name}:{}:{}: ", place.line, place.column)
 }
 
-// Why a specification is refused, and what says more.
+// Writes why a specification is rejected, and names the command that says more.
 fn push_cause(
     alloc: Global,
     name: &str,
@@ -38,13 +38,13 @@ fn push_cause(
 ) -> Result<(), AllocError> {
     let diagnosis = diagnose(alloc, text, fault)?;
     let words = sentence(alloc, &diagnosis, text)?;
-    // a list refuses a write for want of memory alone
+    // a write to a list fails only for lack of memory
     write_place(notes, name, diagnosis.place).map_err(|_| AllocError)?;
     notes.extend_from_slice(&words)?;
     writeln!(notes, "\nlx: lx check {name} says more").map_err(|_| AllocError)
 }
 
-// Why a text is no table's.
+// Writes why a text isn't that of tables.
 fn push_table_cause(alloc: Global, text: &[u8], notes: &mut Vec<u8>) -> Result<(), AllocError> {
     let words = table_sentence(alloc, table_cause(text), text)?;
     notes.extend_from_slice(b"lx: ")?;
@@ -52,7 +52,7 @@ fn push_table_cause(alloc: Global, text: &[u8], notes: &mut Vec<u8>) -> Result<(
     notes.extend_from_slice(b"\n")
 }
 
-// Adds the cause of a specification's fault. Where memory is refused for it, it is left out.
+// Adds the cause of a specification's fault. Leaves it out if an allocation fails.
 fn note_cause(alloc: Global, name: &str, text: &[u8], failure: &Failure<'_>, notes: &mut Vec<u8>) {
     if let Failure::Specification(fault) = failure {
         if push_cause(alloc, name, text, *fault, notes).is_err() {
@@ -61,7 +61,7 @@ fn note_cause(alloc: Global, name: &str, text: &[u8], failure: &Failure<'_>, not
     }
 }
 
-/// The specification that a text says, which is the file with this name; where it says none, `notes` get the cause.
+/// Reads the specification in a text, which is the file with this name. If the text is rejected, `notes` get the cause.
 pub(crate) fn specification_named<'a>(
     alloc: Global,
     name: &str,
@@ -78,7 +78,7 @@ pub(crate) fn specification_named<'a>(
     ended
 }
 
-/// The tables of the specification that a text says, which is the file with this name; where it says none, `notes` get the cause.
+/// Makes the tables of the specification in a text, which is the file with this name. If the text is rejected, `notes` get the cause.
 pub(crate) fn tables_named<'a>(
     alloc: Global,
     name: &str,
@@ -96,7 +96,7 @@ pub(crate) fn tables_named<'a>(
     ended
 }
 
-/// The tables that a text says; where it says none, `notes` get the cause.
+/// Reads the tables in a text. If the text is rejected, `notes` get the cause.
 pub(crate) fn read_tables_named<'a>(
     alloc: Global,
     text: &[u8],
@@ -114,7 +114,7 @@ pub(crate) fn read_tables_named<'a>(
     ended
 }
 
-/// Tells why a specification is too large for an automaton.
+/// Reports why a specification is too large for an automaton.
 pub(crate) fn tell_size<E: Write>(fault: BuildFault, err: &mut E) {
     let code = match fault {
         BuildFault::TooManyPositions => "E30",

@@ -1,4 +1,4 @@
-//! What `show` prints: the automaton as a graph.
+//! The command `show`: prints the automaton as a graph.
 
 ghost use Rattle.std.specs.Prelude.{◌≡◌, ◌≤◌, [], IfOk, IfErr, OnOk, Some, false};
 ghost use Rattle.std.specs.Io.KnownBytes.{Appends};
@@ -21,14 +21,14 @@ use lx_tables::Tables;
 use std::alloc::Global;
 use std::io::Write;
 
-// How many states are shown where not all are asked for.
+// Greatest number of states that are shown without `--all`.
 const MAX_SHOWN: u32 = 200;
 
-// What is shown of a text.
+// The parts of a text that are shown.
 #[derive(Drop)]
 struct Shown {
     tables: Tables,
-    // The names of the conditions, where these are known.
+    // Names of the conditions, if they are known.
     names: Vec<Vec<u8>>,
 }
 
@@ -38,7 +38,7 @@ fn begins_as_tables(text: &[u8]) -> bool
     text.starts_with(b"lx-tables ")
 }
 
-// The tables of a specification, and the names of its conditions.
+// Makes the tables of a specification, with the names of its conditions.
 fn shown_of_specification<'a>(
     alloc: Global,
     name: &str,
@@ -72,7 +72,7 @@ fn shown_of<'a>(
     Ok(Shown { tables, names })
 }
 
-// Refuses more states than are shown.
+// Rejects more states than are shown.
 fn judge_size<'a>(words: &ShowWords<'_>, tables: &Tables) -> Result<(), Failure<'a>>
     ensures ok { OnOk result (words.now.all ≡ false → state_count tables.now.machine ≤ max_shown) }
     ensures err { IfErr result (HasManyStates words.now.all tables.now) }

@@ -1,4 +1,4 @@
-//! Where the program's files come from.
+//! Sources of the program's files.
 
 ghost use Rattle.std.specs.Prelude.{◌≡◌, ℕ, List, [], IfOk, map, ⊤, Err};
 ghost use Rattle.lx_piece.specs.Plans.{PlainInput, input_view};
@@ -10,13 +10,13 @@ use std::io;
 use std::marker::Model;
 use thiserror::Error;
 
-/// Why a file was not read.
+/// Reason why a file wasn't read.
 #[derive(Clone, Copy, Debug, PartialEq, Eq, Error)]
 pub enum SourceFault {
     /// The file can't be opened.
     #[error("not read")]
     NotRead,
-    /// Memory was refused.
+    /// An allocation failed.
     #[error("out of memory")]
     Memory,
 }
@@ -37,19 +37,19 @@ pub const STANDARD_INPUT: &str = "-";
 
 /// Files by name.
 pub trait Sources {
-    /// Between one state and a later one this input was given for this name.
+    /// This input was given for this name between one state and a later one.
     ghost gives: { Self → List ℕ → PlainInput → Self → Type 0 };
 
-    /// In this state the file with this name can't be opened. Sources that know nothing of it, as those of a system do, say nothing.
+    /// The file with this name can't be opened in this state. By default nothing is known of it, for example of a system's files.
     ghost lacks: { Self → List ℕ → Type 0 } = { λ _ _. ⊤ };
 
-    /// The file with this name, as far as it can be read. NotRead is for what can't be opened.
+    /// Reads the file with this name, up to its end or a read error. Err: NotRead if it can't be opened.
     fn read(&mut self, alloc: Global, name: &str) -> Result<Input, SourceFault>
         ensures given { IfOk result (λ input. gives self.old name.now (input_view input) self.new) }
         ensures lacks { result ≡ Err SourceFault.NotRead → lacks self.old name.now };
 
-    /// The same of a file that is a list of names with this separator, of which no more than so many are wanted: the file as far as it can be read, or a front part of it
-    /// that has more names, each with the separator behind it.
+    /// Reads a file that is a list of names with this separator. Returns the file, up to its end or a read error, or a front part of it. A front part
+    /// has more than `most` names, each with its separator.
     fn read_names(
         &mut self,
         alloc: Global,
@@ -63,22 +63,23 @@ pub trait Sources {
         self.read(alloc, name)
     }
 
-    /// Why the system couldn't read the last file that was not read, or read to its end, if that is known.
+    /// Returns the system's reason why the last failing file wasn't read or wasn't read to its end, if it is known.
     fn reason(&self) -> Option<io::Error> {
         None
     }
 
-    /// Why a file that was cut short wasn't read to its end, if that is known. Such files are counted from 0, in the order in which they were read.
+    /// Returns the reason why a file was cut short, if it is known. Files that were cut short are counted from 0, in the order in which they were
+    /// read.
     fn cut_reason(&self, _number: usize) -> Option<io::Error> {
         None
     }
 }
 
-/// Files that are given as a list of names and bytes; of two with one name the first is read.
+/// Files given as a list of names and bytes. Of two with the same name, the first one is read.
 #[derive(Drop)]
 pub struct ListSources<'a> {
     files: &'a [(&'a str, &'a [u8])],
-    // The names of the files whose reading fails behind their bytes.
+    // Names of the files whose reading fails after their bytes.
     cut: &'a [&'a str],
 }
 
@@ -93,14 +94,14 @@ impl<'a> Model for ListSources<'a> {
 }
 
 impl<'a> ListSources<'a> {
-    /// The files of the list, all whole.
+    /// Returns the files of the list, all complete.
     pub fn new(files: &'a [(&'a str, &'a [u8])]) -> ListSources<'a>
         ensures { result ≡ inputs_of [] files.now }
     {
         ListSources { files, cut: &[] }
     }
 
-    /// The files of the list, of which those with a name in `cut` are cut short: their reading fails behind their bytes.
+    /// Returns the files of the list. Those with a name in `cut` are cut short: their reading fails after their bytes.
     pub fn with_cut(files: &'a [(&'a str, &'a [u8])], cut: &'a [&'a str]) -> ListSources<'a>
         ensures { result ≡ inputs_of (map (λ name. name.now) cut.now) files.now }
     {
@@ -108,7 +109,7 @@ impl<'a> ListSources<'a> {
     }
 }
 
-/// A file that has these bytes, cut short or not.
+/// Makes a file with these bytes, cut short or not.
 pub(crate) fn make_input(alloc: Global, bytes: &[u8], cut: bool) -> Result<Input, AllocError>
     ensures { IfOk result (λ input. input_view input ≡ record { bytes = bytes.now; cut = cut }) }
 {
@@ -118,7 +119,7 @@ pub(crate) fn make_input(alloc: Global, bytes: &[u8], cut: bool) -> Result<Input
     })
 }
 
-// Whether a name is one of these.
+// Returns true if a name is one of these.
 fn is_among(names: &[&str], name: &str) -> bool
     ensures { result ≡ is_among (map (λ known. known.now) names.now) name.now }
 {
@@ -139,7 +140,7 @@ impl Sources for ListSources<'_> {
 
     ghost lacks = { λ old name. NoneIsNamed old name };
 
-    /// The first file with this name, and NotRead exactly where there is none.
+    /// Reads the first file with this name. Err: NotRead exactly if there is none.
     fn read(&mut self, alloc: Global, name: &str) -> Result<Input, SourceFault>
         ensures unchanged { self.new ≡ self.old }
         ensures found { IfOk result (λ input. (self.new ≡ self.old) × IsFirstNamed self.old name.now (input_view input)) }

@@ -1,4 +1,4 @@
-//! Further lines of an error about a word that isn't known: the word that is most like it, and those that there are.
+//! Further lines of an error about an unknown word: the most similar word, and all that are known.
 
 use lx_diagnose::{Nearest, all_topics};
 use lx_tables::Tables;
@@ -6,14 +6,14 @@ use lx_warnings::{ALL, name_of};
 use std::alloc::AllocError;
 use std::io::Write;
 
-// The list of kinds ends behind so many names, or once it has so many bytes.
+// Limits of the list of kinds: it ends after this number of names, or once it has this number of bytes.
 const MOST_LISTED: u32 = 40;
 
 const MOST_BYTES: usize = 400;
 
 const FORMATS: [&str; 2] = ["text", "json"];
 
-// Adds the word that is most like the one that isn't known.
+// Adds the known word that is most similar to the unknown one.
 fn push_nearest(notes: &mut Vec<u8>, nearest: Nearest<'_>) -> Result<(), AllocError> {
     match nearest.name() {
         Some(name) => {
@@ -25,7 +25,7 @@ fn push_nearest(notes: &mut Vec<u8>, nearest: Nearest<'_>) -> Result<(), AllocEr
     }
 }
 
-// The name that a paragraph of `explain` begins with.
+// Returns the name at the start of a paragraph of `explain`.
 fn name_of_topic(topic: &str) -> &str {
     let line = topic.trim_start().lines().next().unwrap_or("");
     line.split(" ").next().unwrap_or("")
@@ -72,21 +72,21 @@ fn push_kind_lines(notes: &mut Vec<u8>, tables: &Tables, word: &str) -> Result<(
     push_kinds(notes, tables)
 }
 
-/// Suggests a code or a cause where the word is none. Where memory is refused for the lines, they are left out.
+/// Suggests a code or a cause if the word is none. Leaves the lines out if an allocation fails.
 pub(crate) fn note_topics(notes: &mut Vec<u8>, word: &str) {
     if push_topics(notes, word).is_err() {
         notes.clear();
     }
 }
 
-/// Suggests a kind of the tables where the word is none, and lists them.
+/// Suggests a kind of the tables if the word is none, and lists them.
 pub(crate) fn note_kinds(notes: &mut Vec<u8>, tables: &Tables, word: &str) {
     if push_kind_lines(notes, tables, word).is_err() {
         notes.clear();
     }
 }
 
-// Tells which word is most like the one that isn't known.
+// Reports the known word that is most similar to the unknown one.
 fn tell_nearest<E: Write>(before: &str, nearest: Nearest<'_>, err: &mut E) {
     if let Some(name) = nearest.name() {
         let _ = writeln!(
@@ -97,7 +97,7 @@ fn tell_nearest<E: Write>(before: &str, nearest: Nearest<'_>, err: &mut E) {
     }
 }
 
-/// Suggests a format where the word is none, and lists them.
+/// Suggests a format if the word is none, and lists them.
 pub(crate) fn tell_formats<E: Write>(word: &str, err: &mut E) {
     let mut nearest = Nearest::to(word.as_bytes());
     for format in &FORMATS {
@@ -115,7 +115,7 @@ fn tell_nearest_warning<E: Write>(before: &str, name: &str, err: &mut E) {
     tell_nearest(before, nearest, err);
 }
 
-/// Suggests a warning where a word of `-W` names none.
+/// Suggests a warning if a word of `-W` names none.
 pub(crate) fn tell_warnings<E: Write>(word: &str, err: &mut E) {
     match word.strip_prefix("no-") {
         Some(name) => tell_nearest_warning("no-", name, err),

@@ -1,4 +1,4 @@
-//! Tables: made of the text of a specification, or read from their own.
+//! Makes tables of the text of a specification, or reads them from their own text.
 
 ghost use Rattle.std.specs.Prelude.{ℕ, List, IfOk, IfErr};
 ghost use Rattle.lx_rules.specs.views.Specs.{spec_view};
@@ -13,8 +13,8 @@ use lx_spec::{Spec, read_spec};
 use lx_tables::Tables;
 use std::alloc::Global;
 
-/// The tables of the specification that a text says: read, built, merged and put in order. E01 to E21 come where the text says none, E30
-/// and E31 where it is too large.
+/// Makes the tables of the specification in a text: reads, builds, merges and orders it. Err: E01 to E21 if the text is rejected, E30 and E31 if it
+/// is too large.
 pub fn tables_of_text<'a>(alloc: Global, text: &[u8]) -> Result<Tables, Failure<'a>>
     ensures ok { IfOk result (λ tables. AreTablesOfText text.now tables) }
     ensures table { IfOk result (λ tables. IsTable tables) }
@@ -24,7 +24,7 @@ pub fn tables_of_text<'a>(alloc: Global, text: &[u8]) -> Result<Tables, Failure<
     tables_of(alloc, &spec)
 }
 
-/// The specification that a text says. E01 to E21 come where it says none.
+/// Reads the specification in a text. Err: E01 to E21 if the text is rejected.
 pub(crate) fn specification_of<'a>(alloc: Global, text: &[u8]) -> Result<Spec, Failure<'a>>
     ensures ok { IfOk result (λ spec. IsRead text.now (spec_view spec)) }
     ensures err { IfErr result (λ failure. HasNoTables text.now failure) }
@@ -32,7 +32,7 @@ pub(crate) fn specification_of<'a>(alloc: Global, text: &[u8]) -> Result<Spec, F
     Ok(read_spec(alloc, text)?)
 }
 
-/// The tables of a specification. E30 and E31 come where it is too large.
+/// Makes the tables of a specification. Err: E30 and E31 if it is too large.
 pub(crate) fn tables_of<'a>(alloc: Global, spec: &Spec) -> Result<Tables, Failure<'a>>
     ensures ok { IfOk result (λ tables. AreTablesOf (spec_view spec.now) tables) }
     ensures table { IfOk result (λ tables. IsTable tables) }
@@ -42,7 +42,7 @@ pub(crate) fn tables_of<'a>(alloc: Global, spec: &Spec) -> Result<Tables, Failur
     Ok(Tables::of(alloc, spec, &automaton)?)
 }
 
-/// The same tables for printing: no text is scanned by them.
+/// Makes the same tables as `tables_of`, for printing only: no text is scanned by them.
 pub(crate) fn unjoined_tables_of<'a>(alloc: Global, spec: &Spec) -> Result<Tables, Failure<'a>>
     ensures ok { IfOk result (λ tables. AreTablesOf (spec_view spec.now) tables) }
     ensures err { IfErr result (λ failure. (text : List ℕ) → IsRead text (spec_view spec.now) → HasNoTables text failure) }
@@ -51,7 +51,7 @@ pub(crate) fn unjoined_tables_of<'a>(alloc: Global, spec: &Spec) -> Result<Table
     Ok(Tables::unjoined_of(alloc, spec, &automaton)?)
 }
 
-/// Reads tables from either version of their text; B01 comes where it is no table's.
+/// Reads tables from either version of their text. Err: B01 if the text isn't that of tables.
 pub(crate) fn read_tables<'a>(alloc: Global, text: &[u8]) -> Result<Tables, Failure<'a>>
     ensures ok { IfOk result (λ tables. AreTablesIn text.now tables) }
     ensures err { IfErr result (λ failure. IsNoTable text.now failure) }

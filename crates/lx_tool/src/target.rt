@@ -1,4 +1,4 @@
-//! Where the program's files go.
+//! Targets, which make the program's output files.
 
 ghost use Rattle.std.specs.Prelude.{◌≡◌, ℕ, Bool, List, IfOk, OnOk, false};
 
@@ -6,41 +6,41 @@ use std::alloc::AllocError;
 use std::io::Write;
 use thiserror::Error;
 
-/// Why a file was not made.
+/// Reason why a file wasn't made.
 #[derive(Clone, Copy, Debug, PartialEq, Eq, Error)]
 pub enum TargetFault {
-    /// No files are made here.
+    /// These targets make no files.
     #[error("not served")]
     NotServed,
     /// The file can't be written.
     #[error("not written")]
     NotWritten,
-    /// Memory was refused.
+    /// An allocation failed.
     #[error("out of memory")]
     Memory,
 }
 
-/// Files that are made.
+/// The files that the program makes.
 pub trait Targets {
-    /// Between one state and a later one the file with this name got these bytes.
+    /// The file with this name got these bytes between one state and a later one.
     ghost places: { Self → List ℕ → List ℕ → Self → Type 0 };
 
-    /// In this state the targets may answer so, asked if two names are those of one file.
+    /// The targets may give this answer, in this state, to the question whether two names are those of one file.
     ghost same: { Self → List ℕ → List ℕ → Bool → Type 0 };
 
-    /// Makes a file with this name and these bytes, or replaces the one that is there: with all of them, or behind a fault not at all.
+    /// Makes a file with this name and these bytes, or replaces the one that exists. After a fault the file is unchanged.
     fn place(&mut self, name: &str, bytes: &[u8]) -> Result<(), TargetFault>
         ensures { OnOk result (places self.old name.now bytes.now self.new) };
 
-    /// Returns true where two names are those of one regular file, through links or another path too. `-` is standard input.
+    /// Returns true if two names are those of one regular file, also through links or another path. `-` is standard input.
     fn is_same_file(&self, name: &str, other: &str) -> Result<bool, AllocError>
         ensures { IfOk result (same self.now name.now other.now) };
 
-    /// Prints why the last file that was not made was not, as a line that names it. By default nothing is known of it.
+    /// Prints why the last failing file wasn't made, as a line that names it. By default prints nothing.
     fn tell_fault<E: Write>(&self, _err: &mut E) {}
 }
 
-/// No files at all.
+/// Targets that make no files.
 #[derive(Clone, Copy, Debug)]
 pub struct NoTargets;
 
