@@ -1,4 +1,4 @@
-//! Causes of actions without a form (E20).
+//! Causes of malformed actions (E20).
 
 ghost use Rattle.std.specs.Prelude.{◌≤◌};
 
@@ -12,20 +12,20 @@ use lx_spec::action::{Action, Statement, Turn, read_action, turn_at};
 use lx_spec::word::Word;
 use std::alloc::{AllocError, Global};
 
-// What a scanner of flex has, and an action can't call.
+// Functions of a flex scanner, which an action can't call.
 const FLEX_CALLS: &[u8] =
     b" REJECT yymore yyless unput input yyinput yyterminate yy_push_state yy_pop_state yy_top_state yyrestart yy_switch_to_buffer yy_set_bol YY_FLUSH_BUFFER ";
 
-// The variables of a scanner, which an action can't use.
+// Variables of a flex scanner, which an action can't use.
 const FLEX_VARIABLES: &[u8] = b" yytext yyleng yylval yylloc yylineno yyin yyout YY_START YYSTATE ";
 
 // The first words of statements.
 const STATEMENTS: &[u8] = b" return BEGIN ECHO ";
 
-// So many blanks of a line are asked whether the pattern should go on there.
+// Greatest number of blanks of a line that are tried as a part of the pattern.
 const MAX_BLANKS: usize = 8;
 
-// The most words of a statement without its `;`.
+// Greatest number of words of a statement without its `;`.
 const MAX_STATEMENT_WORDS: usize = 4;
 
 fn says_anything(statements: &[Statement]) -> bool {
@@ -37,7 +37,7 @@ fn says_anything(statements: &[Statement]) -> bool {
     false
 }
 
-// Whether the text has the form of an action that does anything.
+// Returns true if the text is a well-formed action that has an effect.
 fn is_action(alloc: Global, text: &[u8]) -> Result<bool, AllocError> {
     match read_action(alloc, text)? {
         Some(Action::Shared) => Ok(true),
@@ -46,7 +46,7 @@ fn is_action(alloc: Global, text: &[u8]) -> Result<bool, AllocError> {
     }
 }
 
-// Whether the words before an action could belong to a pattern.
+// Returns true if the words before an action could belong to a pattern.
 fn may_be_pattern(text: &[u8], words: Span) -> bool {
     let end = words.end();
     let first = part(
@@ -60,7 +60,7 @@ fn may_be_pattern(text: &[u8], words: Span) -> bool {
         || find(text, words.start, end, b"=").is_some())
 }
 
-// Whether the action has a form behind some of its words, which then belong to the pattern.
+// Returns true if the action is well-formed after some of its words. These words then belong to the pattern.
 fn is_pattern_split(alloc: Global, text: &[u8], rule: RuleExtent) -> Result<bool, AllocError> {
     let (start, end) = (rule.action.start, rule.action.end());
     let mut blanks = 0;
@@ -78,13 +78,13 @@ fn is_pattern_split(alloc: Global, text: &[u8], rule: RuleExtent) -> Result<bool
     Ok(false)
 }
 
-// Returns whether the pattern begins with a string and another quote stands behind its end.
+// Returns true if the pattern begins with a string and another quote comes after its end.
 fn is_string_split(text: &[u8], rule: RuleExtent) -> bool {
     is_at(text, rule.pattern.start, b'"')
         && find(text, rule.action.start, rule.line.end(), b"\"").is_some()
 }
 
-// Where the first word of the action is, that stands at the pattern's end with no blank before it.
+// Finds the first word of the action at the end of the pattern, without a blank before it.
 fn joined_word(
     alloc: Global,
     text: &[u8],
@@ -105,7 +105,7 @@ fn joined_word(
     }
 }
 
-// What is wrong between pattern and action.
+// Returns the fault between pattern and action.
 fn border_cause(
     alloc: Global,
     text: &[u8],
@@ -149,7 +149,7 @@ fn word_at<'t>(words: &PlacedWords<'t>, number: usize) -> Option<Word<'t>> {
     }
 }
 
-// Whether so many words from one on, four at most, are a statement once a semicolon stands behind them.
+// Returns true if `count` words from `number` on, at most four, are a statement once a semicolon follows them.
 fn lacks_semicolon(words: &PlacedWords, number: usize, count: usize) -> bool
     requires { count ≤ 4 }
 {
@@ -166,7 +166,7 @@ fn lacks_semicolon(words: &PlacedWords, number: usize, count: usize) -> bool
     }
 }
 
-// Whether a statement could end before this word.
+// Returns true if a statement could end before this word.
 fn may_end_before(words: &PlacedWords, number: usize) -> bool {
     match word_at(words, number) {
         None => words.stop.is_none(),
@@ -176,7 +176,7 @@ fn may_end_before(words: &PlacedWords, number: usize) -> bool {
     }
 }
 
-// Where a semicolon is missing, in the statement that begins with this word.
+// Returns the place where a semicolon is missing in the statement that begins with this word.
 fn missing_semicolon(words: &PlacedWords, number: usize) -> Option<Span> {
     for count in 1..=MAX_STATEMENT_WORDS {
         let behind = number.saturating_add(count);
@@ -190,7 +190,7 @@ fn missing_semicolon(words: &PlacedWords, number: usize) -> Option<Span> {
     None
 }
 
-// Why the text where the words stop is nothing that is returned.
+// Explains why the text where the words stop can't be returned.
 fn stopped_return(text: &[u8], at: usize) -> ActionCause {
     if is_at(text, at, b'"') {
         ActionCause::ReturnString
@@ -203,7 +203,7 @@ fn stopped_return(text: &[u8], at: usize) -> ActionCause {
     }
 }
 
-// Why what begins with this word, directly behind `return`, is nothing that is returned.
+// Explains why the text from this word on, directly after `return`, can't be returned.
 fn return_cause(
     text: &[u8],
     words: &PlacedWords,
@@ -235,7 +235,7 @@ fn return_cause(
     }
 }
 
-// Why no statement begins with this word, which is letters.
+// Explains why no statement begins with this word, which consists of letters.
 fn letters_cause(
     text: &[u8],
     words: &PlacedWords,
@@ -257,7 +257,7 @@ fn letters_cause(
     }
 }
 
-// What stands there up to the next blank or the end of the line.
+// Returns the text up to the next blank or the end of the line.
 fn run_at(text: &[u8], start: usize) -> Span {
     for at in start..text.len() {
         if is_blank_at(text, at) || is_at(text, at, b'\n') || is_at(text, at, b'\r') {
@@ -267,7 +267,7 @@ fn run_at(text: &[u8], start: usize) -> Span {
     between(start, text.len())
 }
 
-// Why the text where the words stop, behind whole statements, begins none.
+// Explains why the text where the words stop, after complete statements, begins no statement.
 fn stop_cause(text: &[u8], at: Span) -> (ActionCause, Found) {
     if is_at(text, at.start, b'\r') && at.end() == text.len() {
         (ActionCause::CarriageReturn, found_at(at))
@@ -278,7 +278,7 @@ fn stop_cause(text: &[u8], at: Span) -> (ActionCause, Found) {
     }
 }
 
-// Why no statement begins with this word.
+// Explains why no statement begins with this word.
 fn word_cause(text: &[u8], words: &PlacedWords, number: usize, end: usize) -> (ActionCause, Found) {
     if let Some(at) = missing_semicolon(words, number) {
         return (ActionCause::Semicolon, found_at(at));
@@ -292,7 +292,7 @@ fn word_cause(text: &[u8], words: &PlacedWords, number: usize, end: usize) -> (A
     }
 }
 
-// Why an action of these words has no form.
+// Explains why an action of these words is malformed.
 fn words_cause(text: &[u8], action: Span, words: &PlacedWords) -> (ActionCause, Found) {
     let end = action.end();
     if matches!(word_at(words, 0), Some(Word::Bar))
@@ -309,7 +309,7 @@ fn words_cause(text: &[u8], action: Span, words: &PlacedWords) -> (ActionCause, 
     }
 }
 
-/// Why the action of a rule has no form.
+/// Explains why the action of a rule is malformed.
 pub(crate) fn action_cause(
     alloc: Global,
     text: &[u8],

@@ -1,4 +1,4 @@
-//! Causes of expressions that have no reading (E10): where reading stops, and why.
+//! Causes of unreadable expressions (E10): the position where reading stops, and the reason.
 
 use crate::brace_cause::brace_cause;
 use crate::bracket_cause::bracket_cause;
@@ -10,15 +10,15 @@ use crate::scan::{is_at, is_blank_at, part};
 use lx_ere::lexeme::{Lexeme, lexeme_at};
 use std::alloc::{AllocError, Global};
 
-/// What is read: the pattern of a rule behind its `^`, or a substitute, which has no anchors.
+/// The text that is read: the pattern of a rule after its `^`, or a substitute, which has no anchors.
 #[derive(Clone, Copy)]
 pub(crate) enum Body {
     Pattern,
     Substitute,
 }
 
-// An open group, from the place of its parenthesis on, or what is outside all groups. Whether anything stands behind its last bar, and whether that ends with
-// what can be repeated.
+// An open group from its parenthesis on, or the part outside all groups. Its flags are true if anything follows its last bar, and if it ends with a
+// unit that can be repeated.
 #[derive(Clone, Copy)]
 struct Group {
     opened: usize,
@@ -26,7 +26,7 @@ struct Group {
     ends_with_unit: bool,
 }
 
-// What a lexeme does to the groups.
+// The effect of a lexeme on the groups.
 #[derive(Clone, Copy)]
 enum Kind {
     Unit,
@@ -37,7 +37,7 @@ enum Kind {
     Bar,
 }
 
-// The groups that are open, the innermost last, and whether an interval was read last.
+// The open groups, the innermost last, and a flag that is true if an interval was read last.
 #[derive(Drop)]
 struct Groups {
     outer: Vec<Group>,
@@ -64,7 +64,7 @@ fn empty_group(opened: usize) -> Group {
     }
 }
 
-// Why what repeats can't stand here.
+// Explains why a repeat isn't allowed here.
 fn repeat_cause(text: &[u8], at: Span, groups: &Groups) -> PatternCause {
     let behind_parenthesis = at.start > 0 && groups.innermost.opened == at.start - 1;
     if is_at(text, at.start, b'?') && behind_parenthesis && !groups.outer.is_empty() {
@@ -93,7 +93,7 @@ fn close_group(groups: &mut Groups) -> Option<PatternCause> {
     None
 }
 
-// What the innermost group is with a lexeme behind it that is no group's; nothing where it can't stand there.
+// Returns the innermost group after a lexeme that belongs to no group. Returns `None` if the lexeme isn't allowed there.
 fn with_lexeme(group: Group, kind: Kind) -> Option<Group> {
     match kind {
         Kind::Unit => Some(Group {
@@ -124,7 +124,7 @@ fn with_lexeme(group: Group, kind: Kind) -> Option<Group> {
     }
 }
 
-// Takes a lexeme; what stands there is why it can't stand where it does.
+// Takes a lexeme. Returns the cause if it isn't allowed at its place.
 fn take_lexeme(
     text: &[u8],
     groups: &mut Groups,
@@ -156,7 +156,7 @@ fn take_lexeme(
     }
 }
 
-// Why a slash can't stand where it does.
+// Explains why a slash isn't allowed at its place.
 fn slash_cause(text: &[u8], span: Span, at: usize) -> (PatternCause, Found) {
     let next = at.saturating_add(1);
     let end = span.end();
@@ -182,7 +182,7 @@ fn blank_cause(text: &[u8], span: Span, at: usize) -> (PatternCause, Found) {
     }
 }
 
-// Why no spelling stands there.
+// Explains why the text at this position spells no lexeme.
 fn spelling_cause(text: &[u8], body: Body, span: Span, at: usize) -> (PatternCause, Found) {
     let here = found_byte(at);
     let end = span.end();
@@ -217,7 +217,7 @@ fn spelling_cause(text: &[u8], body: Body, span: Span, at: usize) -> (PatternCau
     }
 }
 
-// Whether a pattern may end with what stands there.
+// Returns true if a pattern may end with the text at this position.
 fn is_ending(text: &[u8], body: Body, at: usize, end: usize) -> bool {
     let rest = part(text, between(at, end));
     match body {
@@ -226,7 +226,7 @@ fn is_ending(text: &[u8], body: Body, at: usize, end: usize) -> bool {
     }
 }
 
-// Why reading can't end where it does, behind the last spelling; nothing where it can.
+// Explains why reading can't end after the last spelling. Returns `None` if it can.
 fn end_cause(
     text: &[u8],
     body: Body,
@@ -256,7 +256,7 @@ fn end_cause(
     }
 }
 
-/// Why an expression has no reading; nothing where it has one.
+/// Explains why an expression is unreadable. Returns `None` if it is readable.
 pub(crate) fn body_cause(
     alloc: Global,
     text: &[u8],

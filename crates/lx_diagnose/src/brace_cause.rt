@@ -1,14 +1,14 @@
-//! Causes of what stands in braces (E10).
+//! Causes of wrong text in braces (E10).
 
 use crate::causes::PatternCause;
 use crate::found::{Found, found_at, found_byte};
 use crate::places::{Span, between};
 use crate::scan::{begins_at, behind_digits, behind_word, is_at, is_digit_at, is_word_at, part};
 
-// The largest bound of an interval.
+// Greatest bound of an interval.
 const MAX_BOUND: usize = 255;
 
-// The number that digits spell; of a large one, that it is large.
+// Returns the number that digits spell. For a large number, returns any large one.
 fn number_in(text: &[u8], digits: Span) -> usize {
     let mut number: usize = 0;
     for digit in part(text, digits) {
@@ -19,7 +19,7 @@ fn number_in(text: &[u8], digits: Span) -> usize {
     number
 }
 
-// Up to the closing brace and with it; or what stands before it, where there is none.
+// Returns the text up to and including the closing brace, or up to the end if there is none.
 fn braces_at(text: &[u8], at: usize, end: usize) -> Span {
     for i in at..end {
         if is_at(text, i, b'}') {
@@ -29,7 +29,7 @@ fn braces_at(text: &[u8], at: usize, end: usize) -> Span {
     between(at, end)
 }
 
-// Why an interval that begins with these digits has no form.
+// Explains why an interval that begins with these digits is malformed.
 fn interval_cause(text: &[u8], at: usize, end: usize) -> (PatternCause, Found) {
     let braces = braces_at(text, at, end);
     let start = at.saturating_add(1);
@@ -53,7 +53,7 @@ fn interval_cause(text: &[u8], at: usize, end: usize) -> (PatternCause, Found) {
     }
 }
 
-// Where a name with hyphens ends; nothing where that isn't what stands from a place on.
+// Returns a name with hyphens that begins here, or `None` if there is none.
 fn hyphened_name(text: &[u8], start: usize, end: usize) -> Option<Span> {
     if is_digit_at(text, start) || !is_at(text, behind_word(text, start, end), b'-') {
         return None;
@@ -69,7 +69,7 @@ fn hyphened_name(text: &[u8], start: usize, end: usize) -> Option<Span> {
     None
 }
 
-/// Why what begins with this brace is neither a name nor an interval.
+/// Explains why the text from this brace on is neither a name nor an interval.
 pub(crate) fn brace_cause(text: &[u8], at: usize, end: usize) -> (PatternCause, Found) {
     let start = at.saturating_add(1);
     if begins_at(text, at, b"{-}") || begins_at(text, at, b"{+}") {

@@ -7,25 +7,25 @@ use crate::places::{Span, between};
 use crate::scan::{begins_at, behind_word, find, is_at, is_listed, part};
 use lx_ere::escape::escape_at;
 
-// The classes of XBD 9.3.5.
+// Classes of XBD 9.3.5.
 const CLASSES: &[u8] =
     b" upper lower alpha digit alnum xdigit space blank punct print graph cntrl ";
 
-// What was read of one member of the brackets.
+// The result of reading one member of the brackets.
 #[derive(Clone, Copy)]
 enum Member {
-    // It is read, up to this place.
+    // The member was read, up to this position.
     Upto(usize),
-    // It has no form.
+    // The member is malformed.
     Bad(PatternCause, Found),
 }
 
-// Whether a `-` follows that isn't directly before the closing bracket.
+// Returns true if a `-` follows that isn't directly before the closing bracket.
 fn range_follows(text: &[u8], at: usize) -> bool {
     is_at(text, at, b'-') && !is_at(text, at.saturating_add(1), b']')
 }
 
-// From the mark of `[:`, `[.` or `[=` up to the same mark with a bracket behind it, with both.
+// Returns the text from `[:`, `[.` or `[=` up to the matching mark, including both.
 fn marked_at(text: &[u8], at: usize, end: usize, close: &[u8]) -> Option<Span> {
     match find(text, at.saturating_add(2), end, close) {
         Some(last) => Some(between(at, last.saturating_add(2))),
@@ -33,7 +33,7 @@ fn marked_at(text: &[u8], at: usize, end: usize, close: &[u8]) -> Option<Span> {
     }
 }
 
-// A class, which stands from its `[:` on.
+// Reads a class from its `[:` on.
 fn class_member(text: &[u8], at: usize, end: usize) -> Member {
     let Some(class) = marked_at(text, at, end, b":]") else {
         return Member::Bad(
@@ -57,7 +57,7 @@ fn class_member(text: &[u8], at: usize, end: usize) -> Member {
     Member::Upto(class.end())
 }
 
-// One byte between marks, as in `[.c.]`.
+// Reads one byte between marks, as in `[.c.]`.
 fn collation_member(text: &[u8], at: usize, end: usize, close: &[u8]) -> Member {
     match marked_at(text, at, end, close) {
         Some(element) if element.len == 5 => Member::Upto(element.end()),
@@ -69,7 +69,7 @@ fn collation_member(text: &[u8], at: usize, end: usize, close: &[u8]) -> Member 
     }
 }
 
-// A point of a range: one byte, maybe escaped or between marks.
+// Reads a point of a range: one byte, maybe escaped or between marks.
 fn point_member(text: &[u8], at: usize, end: usize) -> Member {
     if is_at(text, at, b'\\') {
         return match escape_len(text, at, end) {
@@ -86,7 +86,7 @@ fn point_member(text: &[u8], at: usize, end: usize) -> Member {
     Member::Upto(at.saturating_add(1))
 }
 
-// The byte that a point is.
+// Returns the byte of a point.
 fn point_byte(text: &[u8], point: Span) -> u8 {
     match part(text, point) {
         [b'\\', rest @ ..] => match escape_at(rest) {
@@ -99,7 +99,7 @@ fn point_byte(text: &[u8], point: Span) -> u8 {
     }
 }
 
-// The end of a range whose first point is known.
+// Reads the end of a range whose first point is known.
 fn range_member(text: &[u8], low: Span, end: usize) -> Member {
     let at = low.end().saturating_add(1);
     if begins_at(text, at, b"[:") || begins_at(text, at, b"[=") {
@@ -126,7 +126,7 @@ fn range_member(text: &[u8], low: Span, end: usize) -> Member {
     }
 }
 
-// The member that begins there.
+// Reads the member that begins at this position.
 fn member_at(text: &[u8], at: usize, end: usize) -> Member {
     if begins_at(text, at, b"[:") {
         return class_member(text, at, end);
@@ -146,7 +146,7 @@ fn member_at(text: &[u8], at: usize, end: usize) -> Member {
     }
 }
 
-/// Why the bracket that stands there begins no bracket expression.
+/// Explains why the bracket at this position begins no bracket expression.
 pub(crate) fn bracket_cause(text: &[u8], at: usize, end: usize) -> (PatternCause, Found) {
     let opening = at.saturating_add(1);
     let first = if is_at(text, opening, b'^') {

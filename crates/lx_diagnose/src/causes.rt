@@ -1,6 +1,6 @@
-//! Causes: why a specification is refused, one kind for each code.
+//! Causes why a specification is rejected, one type for each code.
 
-/// Why no line begins Rules.
+/// The reason why no line begins the rules section.
 #[derive(Clone, Copy)]
 pub enum RulesCause {
     Missing,
@@ -8,7 +8,7 @@ pub enum RulesCause {
     RulesAsDefinitions,
 }
 
-/// Why something is open where the text ends.
+/// The construct that is open at the end of the text.
 #[derive(Clone, Copy)]
 pub enum OpenCause {
     NotClosed,
@@ -19,7 +19,7 @@ pub enum OpenCause {
     HiddenBrace,
 }
 
-/// Why a line of Definitions has no form.
+/// The reason why a line of the definitions section is malformed.
 #[derive(Clone, Copy)]
 pub enum LineCause {
     NoForm,
@@ -40,14 +40,14 @@ pub enum LineCause {
     NameForm,
 }
 
-/// Which name is declared a second time.
+/// The name that is declared a second time.
 #[derive(Clone, Copy)]
 pub enum TwiceCause {
     Again,
     Initial,
 }
 
-/// Which limit is passed.
+/// The limit that is exceeded.
 #[derive(Clone, Copy)]
 pub enum LimitCause {
     Unknown,
@@ -56,7 +56,7 @@ pub enum LimitCause {
     Rules,
 }
 
-/// Why a list of conditions, a pattern or a substitute has no reading.
+/// The reason why a list of conditions, a pattern or a substitute is unreadable.
 #[derive(Clone, Copy)]
 pub enum PatternCause {
     NoReading,
@@ -105,7 +105,7 @@ pub enum PatternCause {
     OddByte,
 }
 
-/// Why a name isn't defined.
+/// The reason why a name isn't defined.
 #[derive(Clone, Copy)]
 pub enum NameCause {
     Unknown,
@@ -114,14 +114,14 @@ pub enum NameCause {
     Condition,
 }
 
-/// Why names are nested too deep.
+/// The reason why names are nested too deep.
 #[derive(Clone, Copy)]
 pub enum DepthCause {
     TooDeep,
     Circle,
 }
 
-/// Why a condition isn't declared.
+/// The reason why a condition isn't declared.
 #[derive(Clone, Copy)]
 pub enum ConditionCause {
     Unknown,
@@ -131,7 +131,7 @@ pub enum ConditionCause {
     BeginVariable,
 }
 
-/// Why an action has no form.
+/// The reason why an action is malformed.
 #[derive(Clone, Copy)]
 pub enum ActionCause {
     NoForm,
@@ -155,7 +155,7 @@ pub enum ActionCause {
     C,
 }
 
-/// Why a specification is refused: its code, and what is known beside it.
+/// The reason why a specification is rejected: its code, and further details.
 #[derive(Clone, Copy)]
 pub enum Cause {
     TooLong,

@@ -1,4 +1,4 @@
-//! Causes of conditions that aren't declared (E13).
+//! Causes of undeclared conditions (E13).
 
 use crate::causes::ConditionCause;
 use crate::found::{Found, found_at, found_named};
@@ -19,7 +19,7 @@ fn is_known(outline: &Outline, text: &[u8], name: Span) -> bool {
         || condition_named(&outline.conditions, text, name).is_some()
 }
 
-// The first name between commas that isn't declared.
+// Returns the first name between commas that isn't declared.
 fn undeclared_in_list(outline: &Outline, text: &[u8], names: Span) -> Option<Span> {
     let mut start = names.start;
     for at in names.start..names.end() {
@@ -54,7 +54,7 @@ fn are_letters(words: &[Word], number: usize) -> bool {
     }
 }
 
-// The number of the word that names the condition behind `BEGIN`, maybe in a parenthesis.
+// Returns the number of the word that names the condition after `BEGIN`, maybe in a parenthesis.
 fn begun_name(words: &[Word], number: usize) -> usize {
     let next = number.saturating_add(1);
     if are_letters(words, next) {
@@ -64,7 +64,7 @@ fn begun_name(words: &[Word], number: usize) -> usize {
     }
 }
 
-// The first name that is begun and isn't declared.
+// Returns the first name that a `BEGIN` has and that isn't declared.
 fn undeclared_in_action(outline: &Outline, text: &[u8], words: &PlacedWords) -> Option<Span> {
     for i in 0..words.words.len() {
         if is_begin(words.words[i]) {
@@ -84,7 +84,7 @@ fn begins_small(text: &[u8], name: Span) -> bool {
     name.start < text.len() && text[name.start].is_ascii_lowercase()
 }
 
-// Why a name is no condition's: one that is declared is like it, or else what the place suggests.
+// Explains why a name isn't that of a condition: a declared name is similar, or otherwise the cause that the place suggests.
 fn undeclared_cause(
     conditions: &[ConditionLine],
     text: &[u8],
@@ -107,7 +107,7 @@ fn undeclared_cause(
     }
 }
 
-/// Why a condition that a rule names isn't declared.
+/// Explains why a condition that a rule names isn't declared.
 pub(crate) fn condition_cause(
     alloc: Global,
     outline: &Outline,

@@ -5,51 +5,51 @@ use crate::outline::Outline;
 use crate::places::Span;
 use std::alloc::{AllocError, Global};
 
-// The most names of a chain.
+// Greatest number of names in a chain.
 const MAX_NAME_DEPTH: usize = 32;
 
-// A definition mentions this one, here.
+// A mention of a definition, with its place.
 #[derive(Clone, Copy)]
 struct Mention {
     to: usize,
     at: Span,
 }
 
-// How far a definition was followed.
+// The progress in following a definition.
 #[derive(Clone, Copy)]
 enum Stage {
-    // Not at all.
+    // It wasn't followed yet.
     Pending,
-    // It leads to what is followed now.
+    // It leads to the definition that is being followed.
     Open,
-    // With all to which it leads: so many names stand in the longest chain from it on.
+    // It was followed completely. This is the number of names in the longest chain from it on.
     Done(usize),
 }
 
-// Which of the mentions are those of a definition, as from the first place up to the second.
+// The range of a definition's mentions: from `first` up to `end`.
 #[derive(Clone, Copy)]
 struct Row {
     first: usize,
     end: usize,
 }
 
-// A definition that is followed, and which of its mentions is next.
+// A definition that is being followed, and the number of its next mention.
 #[derive(Clone, Copy)]
 struct Step {
     definition: usize,
     next: usize,
 }
 
-/// What is too deep.
+/// The way in which names are too deep.
 #[derive(Clone, Copy)]
 pub(crate) enum Depth {
-    /// A definition leads to itself: it is mentioned here.
+    /// A definition leads to itself, by the mention at this place.
     Circle(Span),
     /// The chain of names is too long.
     TooLong,
 }
 
-/// All mentions of definitions by definitions.
+/// The mentions of definitions by definitions.
 #[derive(Drop)]
 pub(crate) struct Mentions {
     mentions: Vec<Mention>,
@@ -100,7 +100,7 @@ fn stage_of(stages: &[Stage], number: usize) -> Stage {
     }
 }
 
-/// The mentions of the definitions to which a rule leads.
+/// Collects the mentions by the definitions to which a rule leads.
 pub(crate) fn mentions_of(
     alloc: Global,
     outline: &Outline,
@@ -138,7 +138,7 @@ fn height(mentions: &[Mention], stages: &[Stage], row: Row) -> usize {
     most.saturating_add(1)
 }
 
-// One step: a mention is followed, or a definition is done with. What stands there is a mention that closes a circle.
+// Takes one step: follows a mention, or completes a definition. Returns the mention if it closes a circle.
 fn take_step(
     mentions: &[Mention],
     rows: &[Row],
@@ -171,7 +171,7 @@ fn take_step(
     }
 }
 
-/// What is too deep from a definition on.
+/// Finds names that are too deep from a definition on.
 pub(crate) fn depth_from(
     alloc: Global,
     mentions: &mut Mentions,

@@ -1,4 +1,4 @@
-//! From a code and a line to a cause and a place.
+//! Finds a cause and a place from a code and a line.
 
 ghost use Rattle.std.specs.Prelude.{◌≡◌, IfOk, IfSome};
 ghost use Rattle.lx_diagnose.specs.Causes.{code_of};
@@ -21,21 +21,21 @@ use crate::sectioning::RuleExtent;
 use lx_spec::{Code, SpecFault};
 use std::alloc::{AllocError, Global};
 
-/// Why a specification is refused, and where.
+/// The reason why a specification is rejected, and its place.
 #[derive(Clone, Copy)]
 pub struct Diagnosis {
     pub cause: Cause,
-    /// What the cause is about, in the line of the fault; the column is 0 where nothing of that line is.
+    /// The place of the cause, in the line of the fault. The column is 0 if the cause isn't in that line.
     pub place: Place,
-    /// The part of the text that is the name in the sentence.
+    /// Part of the text that is the name in the sentence.
     pub name: Span,
-    /// The part of the text that is the other name, as a name that is declared and much like it.
+    /// Part of the text that is the other name, for example a declared name that is similar.
     pub other: Span,
-    /// A second place: where a name stands first, the place in a definition, or on another line of an action. `note_words` says what it is.
+    /// A second place: of the first declaration of a name, in a definition, or on another line of an action. `note_words` describes it.
     pub note: Option<Place>,
 }
 
-// The second place: what the cause names, or the cause's own, where that stands on another line than the fault.
+// Returns the second place: the one that the cause names, or the cause's own place if that is on another line than the fault.
 fn note_of(text: &[u8], place: Place, found: Found) -> Option<Place>
     ensures { IfSome result (IsInText text.now) }
 {
@@ -67,7 +67,7 @@ fn diagnosis_of(text: &[u8], line: u32, cause: Cause, found: Found) -> Diagnosis
     }
 }
 
-// The cause of a fault on the line of a rule.
+// Returns the cause of a fault on the line of a rule.
 fn cause_in_rule(
     alloc: Global,
     text: &[u8],
@@ -103,7 +103,7 @@ fn cause_in_rule(
     }
 }
 
-// The cause of a fault of the sections, or of which nothing else is known.
+// Returns the cause of a fault of the sections, or of one with no further details.
 fn cause_in_line(
     alloc: Global,
     text: &[u8],
@@ -148,9 +148,9 @@ fn cause_of(alloc: Global, text: &[u8], fault: SpecFault) -> Result<(Cause, Foun
     }
 }
 
-/// Why a text is refused with this code and at this line, as [`lx_spec::read_spec`] refuses it. Err: memory was refused.
+/// Explains why a text is rejected with this code and line, as [`lx_spec::read_spec`] rejects it. Err: an allocation failed.
 ///
-/// What is said of another text than that is of no use, but it is a cause of the code and a place in the text all the same.
+/// For any other text, code and line the diagnosis is useless, but its cause belongs to the code and its place is in the text.
 pub fn diagnose(alloc: Global, text: &[u8], fault: SpecFault) -> Result<Diagnosis, AllocError>
     ensures code { IfOk result (λ d. code_of d.cause ≡ fault.code) }
     ensures line { IfOk result (λ d. d.place.line ≡ fault.line) }

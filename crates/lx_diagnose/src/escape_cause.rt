@@ -14,7 +14,7 @@ fn is_octal_at(text: &[u8], at: usize) -> bool {
     at < text.len() && b'0' <= text[at] && text[at] < b'8'
 }
 
-// The place behind the digits of an escape, of which there are three at most where they are octal.
+// Returns the position after the digits of an escape. At most three digits count if they are octal.
 fn behind_number(text: &[u8], start: usize, end: usize) -> usize {
     if is_at(text, start, b'x') {
         let digits = start.saturating_add(1);
@@ -33,7 +33,7 @@ fn behind_number(text: &[u8], start: usize, end: usize) -> usize {
     end.min(start.saturating_add(3))
 }
 
-/// Why the backslash that stands there begins no escape.
+/// Explains why the backslash at this position begins no escape.
 pub(crate) fn escape_cause(text: &[u8], at: usize, end: usize) -> (PatternCause, Found) {
     let start = at.saturating_add(1);
     if start >= end {
@@ -46,7 +46,7 @@ pub(crate) fn escape_cause(text: &[u8], at: usize, end: usize) -> (PatternCause,
     }
 }
 
-/// How many bytes the escape behind a backslash has; nothing where there is none.
+/// Returns the number of bytes of the escape after a backslash, or `None` if there is no escape.
 pub(crate) fn escape_len(text: &[u8], at: usize, end: usize) -> Option<usize> {
     let behind = part(text, between(at.saturating_add(1), end));
     match escape_at(behind) {
@@ -55,7 +55,7 @@ pub(crate) fn escape_len(text: &[u8], at: usize, end: usize) -> Option<usize> {
     }
 }
 
-/// Why the quote that stands there begins no string.
+/// Explains why the quote at this position begins no string.
 pub(crate) fn quote_cause(text: &[u8], at: usize, end: usize) -> (PatternCause, Found) {
     let start = at.saturating_add(1);
     if is_at(text, start, b'"') {

@@ -1,4 +1,4 @@
-//! What is said of a code or of a cause.
+//! Explains a code or a cause.
 
 ghost use Rattle.std.specs.Prelude.{◌≡◌, true, nat_eq, IfSome};
 ghost use Rattle.std.specs.List.{starts_with};
@@ -6,12 +6,12 @@ ghost use Rattle.std.specs.List.{starts_with};
 use crate::topics::TOPICS;
 use std::str::Split;
 
-// What stands before the words of a topic, and before what to do.
+// Marks before the words of a topic, and before what to do.
 const INDENT: &str = "    ";
 
 const TO_DO: &str = "    To do: ";
 
-// The first of the pieces of a text, cut at the separator, that begins with the word and then so.
+// Returns the first piece of a text that begins with `word` and then `behind`. The separator cuts the text into pieces.
 fn piece_of<'a>(text: &'a str, separator: &str, word: &str, behind: &str) -> Option<&'a str>
     ensures { IfSome result (λ piece. starts_with nat_eq piece.now word.now ≡ true) }
 {
@@ -23,8 +23,8 @@ fn piece_of<'a>(text: &'a str, separator: &str, word: &str, behind: &str) -> Opt
     None
 }
 
-/// What a code means, and all its causes; or what the cause with this name is: what is wrong, what to do, and mostly an example, in lines without a newline
-/// behind the last. None where the word is neither. What is said begins with the word.
+/// Explains a code with all its causes, or the cause with this name: what is wrong, what to do, and mostly an example. The last line has no newline.
+/// The explanation begins with the word. Returns `None` if the word is neither.
 pub fn explain(word: &str) -> Option<&'static str>
     ensures { IfSome result (λ said. starts_with nat_eq said.now word.now ≡ true) }
 {
@@ -34,12 +34,12 @@ pub fn explain(word: &str) -> Option<&'static str>
     piece_of(TOPICS, "\n\n", word, " (")
 }
 
-/// Each code and each cause, one after the other: its name, and what is wrong.
+/// Iterates over each code and each cause: its name, and what is wrong.
 pub fn all_topics() -> Split<'static, &'static str> {
     TOPICS.split("\n\n")
 }
 
-// What stands behind a beginning, in the first of the lines that has it.
+// Returns the rest of the first line that begins with `begin`.
 fn line_behind(text: &'static str, begin: &str) -> &'static str {
     for line in text.split("\n") {
         if let Some(rest) = line.strip_prefix(begin) {
@@ -49,7 +49,7 @@ fn line_behind(text: &'static str, begin: &str) -> &'static str {
     ""
 }
 
-/// What is wrong, in one line, where the word is a code or the name of a cause; and else nothing.
+/// Returns in one line what is wrong, if the word is a code or the name of a cause. Otherwise the result is empty.
 pub fn words_of(word: &str) -> &'static str {
     match explain(word) {
         Some(said) => line_behind(said, INDENT),
@@ -57,7 +57,7 @@ pub fn words_of(word: &str) -> &'static str {
     }
 }
 
-/// What to do about it, in one line, where the word is a code or the name of a cause; and else nothing.
+/// Returns in one line what to do, if the word is a code or the name of a cause. Otherwise the result is empty.
 pub fn to_do(word: &str) -> &'static str {
     match explain(word) {
         Some(said) => line_behind(said, TO_DO),

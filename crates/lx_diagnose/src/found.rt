@@ -1,8 +1,8 @@
-//! What a cause is about.
+//! The text that a cause refers to.
 
 use crate::places::Span;
 
-/// The part of the text that a cause is about, the words that are put into its sentence, and a second part of the text that belongs to it.
+/// The part of the text with the fault, the parts that fill its sentence, and a second place.
 #[derive(Clone, Copy)]
 pub(crate) struct Found {
     pub at: Span,
@@ -11,7 +11,7 @@ pub(crate) struct Found {
     pub note: Option<Span>,
 }
 
-/// A part of the text that is itself the word of the sentence.
+/// Returns a part of the text that is itself the word in the sentence.
 pub(crate) fn found_at(at: Span) -> Found {
     Found {
         at,
@@ -21,12 +21,12 @@ pub(crate) fn found_at(at: Span) -> Found {
     }
 }
 
-/// A byte of the text that is itself the word of the sentence.
+/// Returns a byte of the text that is itself the word in the sentence.
 pub(crate) fn found_byte(at: usize) -> Found {
     found_at(Span { start: at, len: 1 })
 }
 
-/// A part of the text, and the word of the sentence.
+/// Returns a part of the text with another part as the word in the sentence.
 pub(crate) fn found_named(at: Span, name: Span) -> Found {
     Found {
         at,
@@ -36,7 +36,7 @@ pub(crate) fn found_named(at: Span, name: Span) -> Found {
     }
 }
 
-/// A part of the text that is itself the word of the sentence, and a second part.
+/// Returns a part of the text that is itself the word in the sentence, with a second place.
 pub(crate) fn found_noted(at: Span, note: Span) -> Found {
     Found {
         at,

@@ -9,7 +9,7 @@ use crate::causes::{
 };
 use lx_spec::Code;
 
-/// The cause of a code of which no more is known.
+/// Returns the cause of a code without further details.
 pub(crate) fn general_cause(code: Code) -> Cause
     ensures { code_of result ≡ code }
 {

@@ -1,4 +1,4 @@
-//! Causes of lines of Definitions without a form (E04).
+//! Causes of malformed lines of the definitions section (E04).
 
 use crate::causes::LineCause;
 use crate::found::{Found, found_at, found_byte, found_named};
@@ -11,16 +11,16 @@ use lx_spec::action::read_action;
 use lx_spec::rule_line::{RuleLine, rule_line_of};
 use std::alloc::{AllocError, Global};
 
-// The words that `%option` may have.
+// Words that `%option` accepts.
 const OPTIONS: &[u8] = b" noyywrap nounput noinput ";
 
-// What may stand behind `%` with a number, or alone.
+// Words after `%` that take a number, or nothing.
 const SIZES: &[u8] = b" p n a e k o array pointer ";
 
-// So many bytes at the beginning tell whether a text has a NUL at each second one.
+// Number of bytes at the start that are tested for a NUL at each second one.
 const WIDE_BYTES: usize = 8;
 
-// Whether the first of some bytes, every second one, are NUL.
+// Returns true if every second byte of the first ones, from `first` on, is NUL.
 fn has_nuls_from(text: &[u8], first: usize) -> bool {
     for at in 0..WIDE_BYTES {
         if at % 2 == first && !is_at(text, at, 0) {
@@ -37,7 +37,7 @@ fn is_wide(text: &[u8]) -> bool {
         || has_nuls_from(text, 1)
 }
 
-// Causes of a whole text, which show in its first line.
+// Returns a cause of the whole text that shows in its first line.
 fn text_cause(text: &[u8], line: Span) -> Option<(LineCause, Found)> {
     if line.start > 0 {
         return None;
@@ -57,7 +57,7 @@ fn text_cause(text: &[u8], line: Span) -> Option<(LineCause, Found)> {
     None
 }
 
-/// Whether the line would be a rule, or is meant as one.
+/// Returns true if the line would be a rule, or is meant as one.
 pub(crate) fn is_rule(alloc: Global, text: &[u8], line: Span) -> Result<bool, AllocError> {
     if is_at(text, line.start, b'<') {
         return Ok(true);
@@ -70,7 +70,7 @@ pub(crate) fn is_rule(alloc: Global, text: &[u8], line: Span) -> Result<bool, Al
     }
 }
 
-// The first word behind `%option` that is none of its words.
+// Returns the first word after `%option` that it doesn't accept.
 fn other_option(text: &[u8], start: usize, end: usize) -> Option<Span> {
     let mut next = start;
     for at in start..end {
@@ -133,7 +133,7 @@ fn is_size(text: &[u8], letters: Span) -> bool {
             && behind_digits(text, letters.start.saturating_add(1), end) == end
 }
 
-// A line that begins with `%`.
+// Explains a line that begins with `%`.
 fn percent_cause(text: &[u8], line: Span) -> (LineCause, Found) {
     let end = line.end();
     let start = line.start.saturating_add(1);
@@ -173,7 +173,7 @@ fn is_c(text: &[u8], line: Span) -> bool {
         || is_at(text, last, b'}')
 }
 
-// A line that begins with what should be a name.
+// Explains a line that begins with a supposed name.
 fn named_cause(text: &[u8], line: Span) -> (LineCause, Found) {
     let end = line.end();
     let word = between(line.start, next_blank(text, line.start, end));
@@ -197,7 +197,7 @@ fn named_cause(text: &[u8], line: Span) -> (LineCause, Found) {
     (LineCause::NameForm, place)
 }
 
-/// Why a line of Definitions has no form.
+/// Explains why a line of the definitions section is malformed.
 pub(crate) fn line_cause(
     alloc: Global,
     text: &[u8],

@@ -1,4 +1,4 @@
-//! The lines of a text, and places in them.
+//! Lines of a text, and places in them.
 
 ghost use Rattle.std.specs.Prelude.{◌≡◌, ◌+◌, ◌-◌, ◌<◌, ◌≤◌, length};
 ghost use Rattle.std.specs.List.{prefix_len};
@@ -20,7 +20,7 @@ fn behind_line(text: &[u8]) -> &[u8]
     if n < text.len() { &text[n + 1..] } else { &[] }
 }
 
-// The text from a line on.
+// Returns the text from a line on.
 fn from_line(text: &[u8], line: u32) -> &[u8]
     ensures { result.now ≡ specs.behind_lines (line - 1) text.now }
 {
@@ -44,7 +44,7 @@ fn unknown_place(start: usize, line: u32) -> Place
     }
 }
 
-// The place of so many bytes, behind the first ones of a line.
+// Returns the place of `width` bytes after the first `before` bytes of a line.
 fn place_behind(start: usize, line: u32, before: usize, width: usize, len: usize) -> Place
     requires within { before ≤ len }
     requires fits { len < 9223372036854775808 }
@@ -62,8 +62,8 @@ fn place_behind(start: usize, line: u32, before: usize, width: usize, len: usize
     }
 }
 
-/// Where a part of the text stands, seen as a part of this line; what lies behind the line's end is left away. The column is unknown where the part doesn't
-/// begin in the line.
+/// Returns the place of a part of the text within this line. Cuts the part off at the line's end. The column is 0 if the part doesn't begin in the
+/// line.
 pub(crate) fn place_in(text: &[u8], line: u32, span: Span) -> Place
     ensures line { result.line ≡ line }
     ensures place { specs.IsInText text.now result }
@@ -81,7 +81,7 @@ pub(crate) fn place_in(text: &[u8], line: u32, span: Span) -> Place
     }
 }
 
-/// The number of the line in which a byte of the text stands.
+/// Returns the number of the line that has this byte of the text.
 pub(crate) fn line_number(text: &[u8], at: usize) -> u32 {
     let mut number: u32 = 1;
     for i in 0..text.len() {
@@ -92,14 +92,14 @@ pub(crate) fn line_number(text: &[u8], at: usize) -> u32 {
     number
 }
 
-/// Where a part of the text stands.
+/// Returns the place of a part of the text.
 pub fn place_of(text: &[u8], span: Span) -> Place
     ensures { specs.IsInText text.now result }
 {
     place_in(text, line_number(text, span.start), span)
 }
 
-/// All bytes of a line; none where the text has no such line.
+/// Returns the position of all bytes of a line. The result is empty if the text has no such line.
 pub(crate) fn line_span(text: &[u8], line: u32) -> Span {
     if line == 0 || line as usize > text.len() {
         return Span { start: 0, len: 0 };
@@ -111,7 +111,7 @@ pub(crate) fn line_span(text: &[u8], line: u32) -> Span {
     }
 }
 
-/// The bytes of a line, which is counted from 1, without its newline; none where the text has no such line.
+/// Returns the bytes of a line, without its newline. Lines are counted from 1. The result is empty if the text has no such line.
 pub fn line_bytes(text: &[u8], line: u32) -> &[u8] {
     if line == 0 || line as usize > text.len() {
         return &[];

@@ -11,7 +11,7 @@ use crate::sectioning::RuleExtent;
 use crate::similar::Closest;
 use std::alloc::{AllocError, Global};
 
-// The first name of an expression that isn't defined.
+// Returns the first name of an expression that isn't defined.
 fn first_undefined(
     alloc: Global,
     outline: &Outline,
@@ -26,7 +26,7 @@ fn first_undefined(
     Ok(None)
 }
 
-/// Where the condition with the name that stands there is declared first.
+/// Returns the first declaration of the condition whose name is at this place.
 pub(crate) fn condition_named(
     conditions: &[ConditionLine],
     text: &[u8],
@@ -40,7 +40,8 @@ pub(crate) fn condition_named(
     None
 }
 
-// Why the name in braces isn't defined; `at` is where the rule has it, or leads to it, and `within` where a definition has it.
+// Explains why the name in braces isn't defined. `at` is its place in the rule, or of the name that leads to it. `within` is its place in a
+// definition.
 fn undefined_cause(
     outline: &Outline,
     text: &[u8],
@@ -68,7 +69,7 @@ fn undefined_cause(
     }
 }
 
-/// Why a name to which the rule leads isn't defined.
+/// Explains why a name to which the rule leads isn't defined.
 pub(crate) fn name_cause(
     alloc: Global,
     outline: &Outline,
@@ -89,7 +90,7 @@ pub(crate) fn name_cause(
     Ok((NameCause::Unknown, found_named(rule.pattern, rule.pattern)))
 }
 
-/// Why names are nested too deep.
+/// Explains why names are nested too deep.
 pub(crate) fn depth_cause(
     alloc: Global,
     outline: &Outline,

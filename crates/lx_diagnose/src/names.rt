@@ -1,4 +1,4 @@
-//! The names in braces of patterns and substitutes, and where they lead.
+//! Names in braces of patterns and substitutes, and the definitions to which they lead.
 
 use crate::outline::{DefinitionLine, Outline};
 use crate::places::{Span, between};
@@ -7,14 +7,14 @@ use crate::sectioning::RuleExtent;
 use lx_ere::lexeme::{Lexeme, lexeme_at};
 use std::alloc::{AllocError, Global};
 
-/// A definition to which a rule leads, by its number, and the name in the rule from which it does.
+/// The number of a definition to which a rule leads, and the name in the rule that leads to it.
 #[derive(Clone, Copy)]
 pub(crate) struct Visit {
     pub definition: usize,
     pub via: Span,
 }
 
-/// The names of an expression, with their braces, as far as it can be read.
+/// Returns the names of an expression, with their braces, up to the first unreadable lexeme.
 pub(crate) fn names_in(alloc: Global, text: &[u8], span: Span) -> Result<Vec<Span>, AllocError> {
     let mut names = Vec::new(alloc);
     let end = span.end();
@@ -34,7 +34,7 @@ pub(crate) fn names_in(alloc: Global, text: &[u8], span: Span) -> Result<Vec<Spa
     Ok(names)
 }
 
-/// What a name's braces enclose.
+/// Returns the text inside a name's braces.
 pub(crate) fn inside(braces: Span) -> Span {
     Span {
         start: braces.start.saturating_add(1),
@@ -42,7 +42,7 @@ pub(crate) fn inside(braces: Span) -> Span {
     }
 }
 
-/// The expression of a rule's pattern, which stands behind its `^`.
+/// Returns the expression of a rule's pattern, which comes after its `^`.
 pub(crate) fn body_of(text: &[u8], pattern: Span) -> Span {
     if pattern.len > 0 && is_at(text, pattern.start, b'^') {
         between(pattern.start.saturating_add(1), pattern.end())
@@ -51,12 +51,12 @@ pub(crate) fn body_of(text: &[u8], pattern: Span) -> Span {
     }
 }
 
-/// The number of the definition that a name in braces means.
+/// Returns the number of the definition that a name in braces means.
 pub(crate) fn number_of(outline: &Outline, text: &[u8], braces: Span) -> Option<usize> {
     outline.numbers.get(part(text, inside(braces))).copied()
 }
 
-/// The substitute of a definition; nothing where there is no such definition.
+/// Returns the substitute of a definition. The result is empty if there is no such definition.
 pub(crate) fn substitute_of(definitions: &[DefinitionLine], number: usize) -> Span {
     if number < definitions.len() {
         definitions[number].substitute
@@ -65,7 +65,7 @@ pub(crate) fn substitute_of(definitions: &[DefinitionLine], number: usize) -> Sp
     }
 }
 
-// Adds the definitions that the names of an expression mean and that weren't met yet; from the rule they are met by the name itself.
+// Adds the definitions of an expression's names that weren't visited yet. Without `via`, the expression is the rule's, and each name leads to itself.
 fn add_visits(
     alloc: Global,
     outline: &Outline,
@@ -88,7 +88,7 @@ fn add_visits(
     Ok(())
 }
 
-/// The definitions to which a rule leads, each once, those with shorter ways first.
+/// Returns the definitions to which a rule leads, each once, those with shorter ways first.
 pub(crate) fn visits_of(
     alloc: Global,
     outline: &Outline,

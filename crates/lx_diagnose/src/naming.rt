@@ -1,10 +1,10 @@
-//! The names of causes, as `explain` knows them; nothing where the words of the code are all that is said.
+//! Names of causes, as `explain` knows them.
 
 use crate::causes::{
     ActionCause, Cause, ConditionCause, LineCause, NameCause, OpenCause, PatternCause, RulesCause,
 };
 
-/// The name of a cause, by which `explain` knows it; nothing where the words of the code are all that is said.
+/// Returns the name of a cause, by which `explain` knows it. The result is empty if `explain` has only the text of the code.
 pub fn name_of(cause: Cause) -> &'static str {
     match cause {
         Cause::NoRules(RulesCause::IndentedPercent) => "indented-percent",

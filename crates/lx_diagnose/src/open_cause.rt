@@ -1,4 +1,4 @@
-//! Causes of what is open where the text ends (E03).
+//! Causes of constructs that are open at the end of the text (E03).
 
 use crate::causes::OpenCause;
 use crate::found::{Found, found_at};
@@ -10,15 +10,15 @@ use crate::sectioning::RuleExtent;
 use lx_spec::block::{Mode, behind_line, counts, next_mode};
 use std::alloc::{AllocError, Global};
 
-// What an action has left open, up to a place.
+// The state of an action that was read up to a position.
 #[derive(Drop)]
 struct Reading {
     mode: Mode,
-    // The braces that are open, the outermost first.
+    // Open braces, the outermost first.
     braces: Vec<Span>,
-    // Where the last comment begins.
+    // Start of the last comment.
     comment: Span,
-    // The first closing brace that doesn't count, since one was open.
+    // First closing brace that doesn't count while one is open: it is in a comment or in quotes.
     hidden: Option<Span>,
 }
 
@@ -55,7 +55,7 @@ fn take_byte(reading: &mut Reading, byte: u8, at: usize) -> Result<(), AllocErro
     Ok(())
 }
 
-// The first further line of an action that reads as a rule.
+// Returns the first further line of an action that reads as a rule.
 fn next_rule(alloc: Global, text: &[u8], action: Span) -> Result<Option<Span>, AllocError> {
     for at in action.start..action.end() {
         if is_at(text, at, b'\n') {
@@ -115,7 +115,7 @@ fn action_cause(
     }
 }
 
-// The first `%}` behind a place that has blanks before it on its line.
+// Returns the first `%}` after a position that has blanks before it on its line.
 fn indented_close(text: &[u8], from: usize) -> Option<Span> {
     for at in from..text.len() {
         if is_at(text, at, b'\n') {
@@ -131,7 +131,7 @@ fn indented_close(text: &[u8], from: usize) -> Option<Span> {
     None
 }
 
-/// Why something that begins on a line is open where the text ends.
+/// Explains why a construct that begins on a line is open at the end of the text.
 pub(crate) fn open_cause(
     alloc: Global,
     text: &[u8],

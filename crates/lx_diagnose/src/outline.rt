@@ -1,4 +1,4 @@
-//! The outline of a text: which names are declared where, and where the parts of one rule stand.
+//! The outline of a text: its declarations with their lines, and the parts of one rule.
 
 use crate::places::{Span, between};
 use crate::scan::{is_at, is_blank_at, next_blank, part};
@@ -7,7 +7,7 @@ use lx_rules::name_table::add_number;
 use std::alloc::{AllocError, Global};
 use std::collections::BTreeMap;
 
-/// The definition of a name, on this line.
+/// The definition of a name, with its line.
 #[derive(Clone, Copy)]
 pub(crate) struct DefinitionLine {
     pub line: u32,
@@ -15,14 +15,14 @@ pub(crate) struct DefinitionLine {
     pub substitute: Span,
 }
 
-/// A condition that is declared on this line.
+/// A declared condition, with its line.
 #[derive(Clone, Copy)]
 pub(crate) struct ConditionLine {
     pub line: u32,
     pub name: Span,
 }
 
-/// The definitions and conditions of a text, and the rule that begins on one line, where that is told; of what is declared twice, both.
+/// The definitions and conditions of a text, and the rule that begins on the sought line, if there is one. Has both if a name is declared twice.
 #[derive(Drop)]
 pub(crate) struct Outline {
     pub definitions: Vec<DefinitionLine>,
@@ -31,7 +31,7 @@ pub(crate) struct Outline {
     pub rule: Option<RuleExtent>,
 }
 
-// A line of the text: its number, and where it stands without its end.
+// The number of a line, and its position without the line end.
 #[derive(Clone, Copy)]
 struct NumberedLine {
     number: u32,
@@ -78,7 +78,7 @@ fn take_definition(
     }
 }
 
-// The rule that is looked for, as far as this line; whether that is the last rule that began.
+// Takes the first line of the sought rule, or a further line of its action. Returns true if the last rule that began is the sought one.
 fn take_rule(
     outline: &mut Outline,
     line: NumberedLine,
@@ -116,7 +116,7 @@ fn add_names(
     Ok(())
 }
 
-/// The outline of a text, with the rule that begins on this line.
+/// Returns the outline of a text, with the rule that begins on this line.
 pub(crate) fn outline_of(alloc: Global, text: &[u8], sought: u32) -> Result<Outline, AllocError> {
     let mut outline = Outline {
         definitions: Vec::new(alloc),

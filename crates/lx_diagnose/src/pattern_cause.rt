@@ -1,4 +1,4 @@
-//! Causes of patterns and substitutes that have no reading (E10).
+//! Causes of unreadable patterns and substitutes (E10).
 
 use crate::body_cause::{Body, body_cause};
 use crate::causes::PatternCause;
@@ -11,10 +11,10 @@ use crate::scan::is_at;
 use crate::sectioning::RuleExtent;
 use std::alloc::{AllocError, Global};
 
-// The most bytes of a pattern or a substitute.
+// Greatest number of bytes of a pattern or a substitute.
 const MAX_PATTERN_BYTES: usize = 1024;
 
-// Why a text has no reading, as a pattern of which nothing but the text is known, or as a substitute.
+// Explains why a text is unreadable as a pattern or as a substitute. Looks at no more than the text.
 fn text_cause(
     alloc: Global,
     text: &[u8],
@@ -38,7 +38,7 @@ fn text_cause(
     }
 }
 
-// Returns the cause, and of a string that is empty or open that a quote before it was to be a byte, where an expression begins with a quote.
+// Refines the cause of an empty or open string. If the expression begins with a quote, an earlier quote was probably meant as a byte.
 fn cause_by_quotes(text: &[u8], span: Span, cause: PatternCause, found: Found) -> PatternCause {
     let at = found.at.start;
     if !is_at(text, span.start, b'"') {
@@ -52,8 +52,8 @@ fn cause_by_quotes(text: &[u8], span: Span, cause: PatternCause, found: Found) -
     }
 }
 
-// The cause of the first definition to which the rule leads whose substitute has no reading: it is told at the name in the rule, with the place in the
-// definition beside it.
+// Returns the cause of the first definition to which the rule leads whose substitute is unreadable. The place is the name in the rule, and the second
+// place is in the definition.
 fn definition_cause(
     alloc: Global,
     outline: &Outline,
@@ -78,7 +78,7 @@ fn definition_cause(
     Ok(None)
 }
 
-/// Why a rule has no reading: its list of conditions, its pattern, or a substitute to which it leads.
+/// Explains why a rule is unreadable: its list of conditions, its pattern, or a substitute to which it leads.
 pub(crate) fn pattern_cause(
     alloc: Global,
     outline: &Outline,

@@ -1,12 +1,12 @@
-//! Words of causes that have something of the text in them: `@` stands for the name, `~` for the other name, and `#` for the line of that. Nothing where what
-//! `explain` says in general is all.
+//! Phrases of causes that quote the text: `@` is replaced by the name, `~` by the other name, and `#` by the line of the other name. A phrase is
+//! empty if the text of `explain` says all.
 
 use crate::causes::{
     ActionCause, Cause, ConditionCause, DepthCause, LimitCause, LineCause, NameCause, OpenCause,
     PatternCause, RulesCause, TwiceCause,
 };
 
-/// The words of a cause; nothing where what `explain` says is all.
+/// Returns the phrase of a cause. It is empty if the text of `explain` says all.
 pub(crate) fn phrase_of(cause: Cause) -> &'static str {
     match cause {
         Cause::NoRules(RulesCause::IndentedPercent) =>
@@ -58,7 +58,7 @@ pub(crate) fn phrase_of(cause: Cause) -> &'static str {
     }
 }
 
-/// What stands at the second place of a cause.
+/// Returns the description of the second place of a cause.
 pub fn note_words(cause: Cause) -> &'static str {
     match cause {
         Cause::NotClosed(OpenCause::Group) => "%} has to begin the line",

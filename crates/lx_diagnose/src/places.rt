@@ -1,6 +1,6 @@
-//! Places: where something stands.
+//! Places in a text.
 
-/// A part of the text: where it begins, and how many bytes it has.
+/// A part of the text: its start, and its number of bytes.
 #[derive(Clone, Copy)]
 pub struct Span {
     pub start: usize,
@@ -8,14 +8,14 @@ pub struct Span {
 }
 
 impl Span {
-    /// Where it ends.
+    /// Returns the position after its last byte.
     pub fn end(self) -> usize {
         self.start.saturating_add(self.len)
     }
 }
 
-/// A place: how many bytes of the text stand before it, its line and its column, both counted from 1, and how many bytes of the line it has. A column of 0 is
-/// not known, and a line of 0 none.
+/// A place: the number of bytes before it in the text, its line and column, both counted from 1, and its number of bytes. A column of 0 is unknown,
+/// and a line of 0 is none.
 #[derive(Clone, Copy)]
 pub struct Place {
     pub start: usize,
@@ -24,7 +24,7 @@ pub struct Place {
     pub width: usize,
 }
 
-/// The bytes from a place up to another.
+/// Returns the part from `start` up to `end`.
 pub fn between(start: usize, end: usize) -> Span {
     Span {
         start,
@@ -32,7 +32,7 @@ pub fn between(start: usize, end: usize) -> Span {
     }
 }
 
-/// One byte.
+/// Returns the part of one byte.
 pub fn one_byte(start: usize) -> Span {
     Span { start, len: 1 }
 }

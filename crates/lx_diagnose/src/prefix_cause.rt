@@ -1,4 +1,4 @@
-//! Causes of what stands before a pattern (E10).
+//! Causes of wrong text before a pattern (E10).
 
 use crate::causes::PatternCause;
 use crate::found::{Found, found_at, found_byte, found_named};
@@ -11,16 +11,16 @@ use crate::sectioning::{RuleExtent, RulePrefix};
 use lx_spec::action::read_action;
 use std::alloc::{AllocError, Global};
 
-// What no pattern is, and a rule of flex for the end of a file begins with.
+// Start of a flex rule for the end of a file, which is no pattern.
 const END_OF_FILE: &[u8] = b"<<EOF>>";
 
-// Whether a name of a condition, or `0`, stands from one place up to another.
+// Returns true if the text from `start` up to `end` is the name of a condition, or `0`.
 fn is_name_in(text: &[u8], start: usize, end: usize) -> bool {
     start < end && !is_digit_at(text, start) && behind_word(text, start, end) == end
         || part(text, between(start, end)) == b"0".as_slice()
 }
 
-// The first of the texts between commas that is no name of a condition.
+// Returns the first text between commas that isn't the name of a condition.
 fn first_other(text: &[u8], names: Span) -> Option<Span> {
     let mut start = names.start;
     let end = names.end();
@@ -39,7 +39,7 @@ fn first_other(text: &[u8], names: Span) -> Option<Span> {
     }
 }
 
-// Whether a name stands there with blanks before it or behind it.
+// Returns true if the field is a name with blanks before or after it.
 fn is_name_with_blanks(text: &[u8], field: Span) -> bool {
     let end = field.end();
     let start = behind_blanks(text, field.start, end);
@@ -94,7 +94,7 @@ fn behind_list_cause(text: &[u8], rule: RuleExtent) -> Option<(PatternCause, Fou
     None
 }
 
-// A comment that is read as a pattern: `//` alone may be meant as one.
+// Explains a comment that is read as a pattern. `//` without more may be meant as a pattern.
 fn comment_cause(
     alloc: Global,
     text: &[u8],
@@ -114,7 +114,7 @@ fn comment_cause(
     }
 }
 
-/// Why a rule has no reading, where that shows before its pattern is read.
+/// Explains why a rule is unreadable, if this shows before its pattern is read.
 pub(crate) fn prefix_cause(
     alloc: Global,
     text: &[u8],

@@ -1,9 +1,9 @@
-//! Steps over the bytes of a text by their places. What lies outside the text has no bytes.
+//! Scans the bytes of a text by their positions. A position outside the text has no byte.
 
 use crate::places::Span;
 use lx_rules::identifier::is_word_byte;
 
-/// The bytes of a part of the text.
+/// Returns the bytes of a part of the text.
 pub fn part(text: &[u8], span: Span) -> &[u8] {
     if span.start <= text.len() && span.len <= text.len() - span.start {
         &text[span.start..span.start + span.len]
@@ -12,12 +12,12 @@ pub fn part(text: &[u8], span: Span) -> &[u8] {
     }
 }
 
-/// Whether this byte stands there.
+/// Returns true if this byte is at this position.
 pub fn is_at(text: &[u8], at: usize, byte: u8) -> bool {
     at < text.len() && text[at] == byte
 }
 
-/// Whether these bytes stand there.
+/// Returns true if these bytes are at this position.
 pub fn begins_at(text: &[u8], at: usize, word: &[u8]) -> bool {
     part(
         text,
@@ -28,22 +28,22 @@ pub fn begins_at(text: &[u8], at: usize, word: &[u8]) -> bool {
     ) == word
 }
 
-/// Whether a space or a tab stands there.
+/// Returns true if a space or a tab is at this position.
 pub fn is_blank_at(text: &[u8], at: usize) -> bool {
     is_at(text, at, b' ') || is_at(text, at, b'\t')
 }
 
-/// Whether a letter, a digit or `_` stands there.
+/// Returns true if a letter, a digit or `_` is at this position.
 pub fn is_word_at(text: &[u8], at: usize) -> bool {
     at < text.len() && is_word_byte(text[at])
 }
 
-/// Whether a digit stands there.
+/// Returns true if a digit is at this position.
 pub fn is_digit_at(text: &[u8], at: usize) -> bool {
     at < text.len() && text[at].is_ascii_digit()
 }
 
-/// The first place from one up to another where no blank stands.
+/// Returns the first position from `from` up to `end` that has no blank.
 pub fn behind_blanks(text: &[u8], from: usize, end: usize) -> usize {
     for at in from..end {
         if !is_blank_at(text, at) {
@@ -53,7 +53,7 @@ pub fn behind_blanks(text: &[u8], from: usize, end: usize) -> usize {
     end
 }
 
-/// The first place from one up to another where a blank stands.
+/// Returns the first position from `from` up to `end` that has a blank.
 pub fn next_blank(text: &[u8], from: usize, end: usize) -> usize {
     for at in from..end {
         if is_blank_at(text, at) {
@@ -63,7 +63,7 @@ pub fn next_blank(text: &[u8], from: usize, end: usize) -> usize {
     end
 }
 
-/// The first place from one up to another where no letter, digit or `_` stands.
+/// Returns the first position from `from` up to `end` that has no letter, digit or `_`.
 pub fn behind_word(text: &[u8], from: usize, end: usize) -> usize {
     for at in from..end {
         if !is_word_at(text, at) {
@@ -73,7 +73,7 @@ pub fn behind_word(text: &[u8], from: usize, end: usize) -> usize {
     end
 }
 
-/// The first place from one up to another where no digit stands.
+/// Returns the first position from `from` up to `end` that has no digit.
 pub fn behind_digits(text: &[u8], from: usize, end: usize) -> usize {
     for at in from..end {
         if !is_digit_at(text, at) {
@@ -83,7 +83,7 @@ pub fn behind_digits(text: &[u8], from: usize, end: usize) -> usize {
     end
 }
 
-/// The first place from one up to another where these bytes stand.
+/// Returns the first position from `from` up to `end` where these bytes begin.
 pub fn find(text: &[u8], from: usize, end: usize, word: &[u8]) -> Option<usize> {
     for at in from..end {
         if begins_at(text, at, word) {
@@ -93,7 +93,7 @@ pub fn find(text: &[u8], from: usize, end: usize, word: &[u8]) -> Option<usize> 
     None
 }
 
-/// The place behind the last byte from one place up to another that is no blank.
+/// Returns the position after the last byte from `from` up to `end` that isn't a blank.
 pub fn before_blanks(text: &[u8], from: usize, end: usize) -> usize {
     let mut last = from;
     for at in from..end {
@@ -104,7 +104,7 @@ pub fn before_blanks(text: &[u8], from: usize, end: usize) -> usize {
     last
 }
 
-/// Whether the word is one of those in a list, each of which has a blank on both sides.
+/// Returns true if the word is in the list, in which each word has a blank on both sides.
 pub fn is_listed(list: &[u8], word: &[u8]) -> bool {
     for at in 0..list.len() {
         if is_at(list, at, b' ')

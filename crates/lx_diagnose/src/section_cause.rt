@@ -1,4 +1,4 @@
-//! Causes of names that are declared twice (E05), of limits (E06), and of a text without Rules (E02).
+//! Causes of names declared twice (E05), of exceeded limits (E06), and of a text without rules section (E02).
 
 use crate::causes::{LimitCause, RulesCause, TwiceCause};
 use crate::found::{Found, found_at, found_noted};
@@ -12,7 +12,7 @@ const RETURN: &[u8] = b"return";
 
 const BEGIN: &[u8] = b"BEGIN";
 
-// The first of the definitions with this name.
+// Returns the first of the definitions with this name.
 fn definition_named(definitions: &[DefinitionLine], text: &[u8], name: Span) -> Option<Span> {
     for definition in definitions {
         if part(text, definition.name) == part(text, name) {
@@ -22,7 +22,7 @@ fn definition_named(definitions: &[DefinitionLine], text: &[u8], name: Span) -> 
     None
 }
 
-// Of a name that stands twice, the later place with the first one.
+// Returns the later place of a name that is declared twice, with the first place.
 fn again(name: Span, first: Option<Span>) -> Option<Found> {
     match first {
         Some(first) => if first.start < name.start {
@@ -65,7 +65,7 @@ fn condition_again(
     None
 }
 
-/// Which name is declared a second time on a line.
+/// Returns the name that is declared a second time on a line.
 pub(crate) fn twice_cause(
     outline: &Outline,
     text: &[u8],
@@ -84,7 +84,7 @@ pub(crate) fn twice_cause(
     }
 }
 
-/// Which limit is passed on a line.
+/// Returns the limit that is exceeded on a line.
 pub(crate) fn limit_cause(outline: &Outline, line: u32, whole: Span) -> (LimitCause, Found) {
     for definition in &outline.definitions {
         if definition.line == line {
@@ -99,14 +99,14 @@ pub(crate) fn limit_cause(outline: &Outline, line: u32, whole: Span) -> (LimitCa
     (LimitCause::Rules, found_at(whole))
 }
 
-// A cause without a line of its own: what it is about is the second place.
+// Returns a cause without its own line: its place is the second place.
 fn noted(at: Span) -> Found {
     let mut place = found_noted(at, at);
     place.other = at;
     place
 }
 
-// The first `%%` with blanks before it on its line.
+// Returns the first `%%` with blanks before it on its line.
 fn indented_percent(text: &[u8]) -> Option<Span> {
     for at in 0..text.len() {
         let begins = at == 0 || is_at(text, at - 1, b'\n');
@@ -123,7 +123,7 @@ fn indented_percent(text: &[u8]) -> Option<Span> {
     None
 }
 
-// Whether what stands for a name begins or ends as an action does.
+// Returns true if a substitute begins or ends like an action.
 fn is_like_action(text: &[u8], substitute: Span) -> bool {
     let last = substitute.end().saturating_sub(1);
     is_at(text, substitute.start, b'{') && !is_at(text, last, b'}')
@@ -132,7 +132,7 @@ fn is_like_action(text: &[u8], substitute: Span) -> bool {
         || substitute.len > 1 && is_at(text, last, b';')
 }
 
-/// Why no line begins Rules.
+/// Explains why no line begins the rules section.
 pub(crate) fn rules_cause(outline: &Outline, text: &[u8]) -> (RulesCause, Found) {
     if let Some(percent) = indented_percent(text) {
         return (RulesCause::IndentedPercent, noted(percent));

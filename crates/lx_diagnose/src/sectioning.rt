@@ -1,4 +1,4 @@
-//! What each line of a specification is, where it stands.
+//! The kinds of a specification's lines, with their positions.
 
 use crate::places::{Span, between};
 use crate::scan::{begins_at, behind_blanks, find, is_at, part};
@@ -6,26 +6,26 @@ use lx_spec::block::{Count, Mode, is_closed, with_line};
 use lx_spec::line::{Line, line_of};
 use lx_spec::rule_line::{Prefix, RuleLine, rule_line_of};
 
-/// Where a line stands.
+/// The section that a line is in.
 #[derive(Clone, Copy)]
 pub enum Section {
-    /// In Definitions, outside of comments and groups.
+    /// The definitions section, outside of comments and groups.
     Definitions,
-    /// In a comment of Definitions.
+    /// A comment in the definitions section.
     Comment,
-    /// In a group of Definitions, between `%{` and `%}`.
+    /// A group in the definitions section, between `%{` and `%}`.
     Group,
-    /// In Rules, where a rule may begin.
+    /// The rules section, at a line on which a rule may begin.
     Rules,
-    /// In a group of Rules.
+    /// A group in the rules section.
     RulesGroup,
-    /// In the action of a rule, of which so much was counted.
+    /// The action of a rule, with the braces that were counted.
     Action(Count),
-    /// Behind Rules.
+    /// The part after the rules section.
     Behind,
 }
 
-/// What stands before a pattern: nothing, a `<` that isn't closed, or what `<` and `>` enclose.
+/// The text before a pattern: nothing, a `<` that isn't closed, or the text between `<` and `>`.
 #[derive(Clone, Copy)]
 pub enum RulePrefix {
     Absent,
@@ -33,7 +33,7 @@ pub enum RulePrefix {
     Listed(Span),
 }
 
-/// Where the parts of a rule stand: its first line, and what that begins with; the action goes on to the end of its last line.
+/// The positions of the parts of a rule: its first line with its prefix and pattern, and the action, which goes on to the end of its last line.
 #[derive(Clone, Copy)]
 pub struct RuleExtent {
     pub line: Span,
@@ -42,32 +42,32 @@ pub struct RuleExtent {
     pub action: Span,
 }
 
-/// What a line is.
+/// The kind of a line.
 #[derive(Clone, Copy)]
 pub enum LineKind {
-    /// It says nothing: it is of a comment or a group, has no form, or ends Rules.
+    /// The line declares nothing: it is in a comment or a group, is malformed, or ends the rules section.
     Silent,
-    /// It declares conditions.
+    /// The line declares conditions.
     Conditions,
-    /// It defines a name.
+    /// The line defines a name.
     Definition { name: Span, substitute: Span },
-    /// The `%%` behind which Rules stand.
+    /// The `%%` that begins the rules section.
     RulesBegin,
-    /// A line of Rules that is skipped.
+    /// A skipped line of the rules section.
     Skipped,
     /// The first line of a rule, whose action may go on.
     Rule(RuleExtent),
     /// A further line of an action.
     MoreAction,
-    /// It stands behind Rules.
+    /// A line after the rules section.
     Behind,
 }
 
-// No text has so many bytes.
+// A number of bytes that no text has.
 const MAX_BRACES: usize = 4_294_967_296;
 
 impl RuleExtent {
-    /// The rule with a further line of its action.
+    /// Returns the rule with a further line of its action.
     pub fn with_line(self, line: Span) -> RuleExtent {
         RuleExtent {
             line: self.line,
@@ -118,7 +118,7 @@ fn kind_in_definitions(text: &[u8], line: Span) -> (LineKind, Section) {
     }
 }
 
-// What stands before the pattern, and where that begins.
+// Returns the prefix, and the position where the pattern begins.
 fn prefix_and_pattern(line: Span, prefix: &Prefix) -> (RulePrefix, usize) {
     match prefix {
         Prefix::Absent => (RulePrefix::Absent, line.start),
@@ -170,7 +170,7 @@ fn kind_in_rules(text: &[u8], line: Span) -> (LineKind, Section) {
     }
 }
 
-/// What a line is that stands in a section, and where the next line stands.
+/// Returns the kind of a line in a section, and the section of the next line.
 pub fn kind_of_line(text: &[u8], line: Span, section: Section) -> (LineKind, Section) {
     match section {
         Section::Definitions => kind_in_definitions(text, line),
@@ -206,7 +206,7 @@ pub fn kind_of_line(text: &[u8], line: Span, section: Section) -> (LineKind, Sec
     }
 }
 
-/// The line from one place up to another, without CR at its end where LF stands behind it.
+/// Returns the line from `start` up to `end`, without a CR that comes before its LF.
 pub fn line_between(text: &[u8], start: usize, end: usize) -> Span {
     if start < end && is_at(text, end - 1, b'\r') && is_at(text, end, b'\n') {
         between(start, end - 1)

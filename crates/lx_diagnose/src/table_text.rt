@@ -1,4 +1,4 @@
-//! Why a text is no table's (B01).
+//! Explains why a text isn't that of tables (B01).
 
 ghost use Rattle.std.specs.Prelude.{◌<◌, IfOk, length};
 ghost use Rattle.lx_diagnose.specs.Printed.{ArePrinted};
@@ -9,13 +9,13 @@ use crate::wording::{Fillings, filled, printed, told};
 use crate::words_of;
 use std::alloc::{AllocError, Global};
 
-// What each table's text begins with.
+// Start of each text of tables.
 const BEGINNING: &[u8] = b"lx-tables ";
 
-// The last line of each table's text.
+// Last line of each text of tables.
 const LAST_LINE: &[u8] = b"end";
 
-/// Why a text is no table's.
+/// The reason why a text isn't that of tables.
 #[derive(Clone, Copy)]
 pub enum TableCause {
     NoTable,
@@ -25,7 +25,7 @@ pub enum TableCause {
     Cut,
 }
 
-// The number that stands behind the beginning.
+// Returns the position of the version number.
 fn version_of(text: &[u8]) -> Span {
     let start = BEGINNING.len();
     between(start, behind_digits(text, start, text.len()))
@@ -42,14 +42,14 @@ fn is_specification(text: &[u8]) -> bool {
     begins_at(text, 0, b"%%") || find(text, 0, text.len(), b"\n%%").is_some()
 }
 
-// Whether the last line is another than the end of a table.
+// Returns true if the last line isn't the end of tables.
 fn is_truncated(text: &[u8]) -> bool {
     let end = text.len();
     let last = end.saturating_sub(LAST_LINE.len() + 2);
     !(begins_at(text, last, b"\nend\n") && last.saturating_add(LAST_LINE.len() + 2) == end)
 }
 
-/// Why a text is no table's, where it isn't.
+/// Explains why a text isn't that of tables.
 pub fn table_cause(text: &[u8]) -> TableCause {
     if text.is_empty() {
         return TableCause::Cut;
@@ -75,7 +75,7 @@ pub fn table_cause(text: &[u8]) -> TableCause {
     }
 }
 
-/// The word by which `explain` tells of a cause: its name, or that of the code.
+/// Returns the word by which `explain` knows a cause: its name, or that of the code.
 pub fn table_topic(cause: TableCause) -> &'static str {
     match cause {
         TableCause::NoTable => "B01",
@@ -95,7 +95,7 @@ fn table_phrase(cause: TableCause) -> &'static str {
     }
 }
 
-// How many lines end in a text.
+// Counts the lines that end in a text.
 fn count_lines(text: &[u8]) -> u32 {
     let mut lines: u32 = 0;
     for byte in text {
@@ -106,7 +106,8 @@ fn count_lines(text: &[u8]) -> u32 {
     lines
 }
 
-/// Why a text is no table's, in words, in one line without an end. Bytes of the text outside 32 to 126 stand as `\xHH`. Err: memory was refused.
+/// Explains in one line, without a newline, why a text isn't that of tables. Shows bytes of the text outside 32 to 126 as `\xHH`. Err: an allocation
+/// failed.
 pub fn table_sentence(alloc: Global, cause: TableCause, text: &[u8]) -> Result<Vec<u8>, AllocError>
     ensures printed { IfOk result (λ words. ArePrinted words.items) }
     ensures some { IfOk result (λ words. 0 < length words.items) }

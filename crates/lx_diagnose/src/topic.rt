@@ -1,4 +1,4 @@
-//! What `explain` says of a cause.
+//! Topics of `explain` for causes.
 
 ghost use Rattle.std.specs.Prelude.{◌≡◌};
 ghost use Rattle.lx_diagnose.specs.Causes.{code_of};
@@ -8,7 +8,7 @@ use crate::causes::Cause;
 use crate::naming::name_of;
 use crate::to_do;
 
-/// The code of a cause, as it is printed.
+/// Returns the code of a cause, as it is printed.
 pub fn code_word(cause: Cause) -> &'static str
     ensures { result.now ≡ word_of (code_of cause) }
 {
@@ -29,7 +29,7 @@ pub fn code_word(cause: Cause) -> &'static str
     }
 }
 
-/// The word by which `explain` tells of a cause: its name, or that of its code.
+/// Returns the word by which `explain` knows a cause: its name, or that of its code.
 pub fn topic_of(cause: Cause) -> &'static str {
     let name = name_of(cause);
     if name.is_empty() {
@@ -39,7 +39,7 @@ pub fn topic_of(cause: Cause) -> &'static str {
     }
 }
 
-/// What to write in place of what is refused, in the words of `explain`.
+/// Returns the advice of `explain`: what to write instead.
 pub fn hint(cause: Cause) -> &'static str {
     to_do(topic_of(cause))
 }

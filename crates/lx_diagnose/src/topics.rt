@@ -1,5 +1,5 @@
-//! All that is said: a paragraph for each code and for each cause, and two empty lines between the codes. A paragraph begins with the name, of a cause with its code
-//! behind it in parentheses, and then has a line that says what is wrong, one that says what to do, and mostly one with an example.
+//! All topics: a paragraph for each code and for each cause, with two empty lines between the codes. A paragraph begins with the name; a cause has
+//! its code after it in parentheses. Then come a line on what is wrong, a line on what to do, and mostly a line with an example.
 
 pub(crate) const TOPICS: &str = r#"E01
     the text is longer than 1,048,576 bytes

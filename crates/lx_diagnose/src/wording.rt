@@ -1,4 +1,4 @@
-//! A cause in words.
+//! Puts a cause into words.
 
 ghost use Rattle.std.specs.Prelude.{◌≡◌, ◌<◌, ◌++◌, IfOk, OnOk, decimal, length};
 ghost use Rattle.lx_diagnose.specs.Printed as specs;
@@ -13,10 +13,10 @@ use crate::words_of;
 use itoa::Buffer;
 use std::alloc::{AllocError, Global};
 
-// The most bytes of a name that are shown.
+// Greatest number of bytes of a name that are shown.
 const MAX_NAME_BYTES: usize = 64;
 
-/// What is put into a phrase.
+/// The parts that fill a phrase.
 #[derive(Clone, Copy)]
 pub struct Fillings<'t> {
     pub name: &'t [u8],
@@ -37,7 +37,7 @@ fn digit(n: u8) -> u8
     if n < 10 { b'0' + n } else { b'A' + (n - 10) }
 }
 
-// A byte that is printed stands for itself, and any other one as `\xHH`.
+// Appends a printable byte unchanged, and any other one as `\xHH`.
 fn push_byte(text: &mut Vec<u8>, byte: u8) -> Result<(), AllocError>
     ensures { OnOk result (text.new.items ≡ text.old.items ++ specs.escaped byte) }
 {
@@ -65,7 +65,7 @@ fn push_printed(text: &mut Vec<u8>, bytes: &[u8]) -> Result<(), AllocError>
     Ok(())
 }
 
-// A name, of which the first bytes are shown where it is longer than so many.
+// Appends a name. Of a name longer than `most`, only the first bytes are shown.
 #[tactic(auto, unfolding(crate::specs::Printed::shown_name))]
 fn push_name(text: &mut Vec<u8>, name: &[u8], most: usize) -> Result<(), AllocError>
     ensures value { OnOk result (text.new.items ≡ text.old.items ++ specs.shown_name most name.now) }
@@ -86,7 +86,7 @@ fn push_line(text: &mut Vec<u8>, line: u32) -> Result<(), AllocError>
     push_printed(text, digits.format(line).as_bytes())
 }
 
-// A byte of a phrase, or what is put there.
+// Appends a byte of a phrase, or the part that replaces it.
 #[tactic(auto, unfolding(crate::specs::Printed::filling))]
 fn push_filled(text: &mut Vec<u8>, byte: u8, fillings: &Fillings) -> Result<(), AllocError>
     ensures value { OnOk result (text.new.items ≡ text.old.items ++ specs.filling fillings.now.name.now fillings.now.other.now fillings.now.line byte) }
@@ -113,7 +113,7 @@ fn push_phrase(text: &mut Vec<u8>, phrase: &[u8], fillings: &Fillings) -> Result
     Ok(())
 }
 
-/// Some bytes as they are shown. Err: memory was refused.
+/// Returns bytes as they are shown. Err: an allocation failed.
 pub fn printed(alloc: Global, bytes: &[u8]) -> Result<Vec<u8>, AllocError>
     ensures value { IfOk result (λ words. words.items ≡ specs.shown bytes.now) }
     ensures printed { IfOk result (λ words. ArePrinted words.items) }
@@ -123,7 +123,7 @@ pub fn printed(alloc: Global, bytes: &[u8]) -> Result<Vec<u8>, AllocError>
     Ok(words)
 }
 
-/// A phrase with what is put into it.
+/// Fills a phrase.
 pub fn filled(alloc: Global, phrase: &[u8], fillings: &Fillings) -> Result<Vec<u8>, AllocError>
     ensures value { IfOk result (λ words. words.items ≡ specs.filled fillings.now.name.now fillings.now.other.now fillings.now.line phrase.now) }
     ensures printed { IfOk result (λ words. ArePrinted words.items) }
@@ -133,7 +133,7 @@ pub fn filled(alloc: Global, phrase: &[u8], fillings: &Fillings) -> Result<Vec<u
     Ok(words)
 }
 
-/// The words, or a `?` where there are none.
+/// Returns the words, or `?` if they are empty.
 pub fn told(mut words: Vec<u8>) -> Result<Vec<u8>, AllocError>
     requires { ArePrinted words.items }
     ensures printed { IfOk result (λ told. ArePrinted told.items) }
@@ -145,7 +145,7 @@ pub fn told(mut words: Vec<u8>) -> Result<Vec<u8>, AllocError>
     Ok(words)
 }
 
-/// A diagnosis of a text in words, in one line without an end. Bytes of the text outside 32 to 126 stand as `\xHH`. Err: memory was refused.
+/// Puts a diagnosis of a text into one line, without a newline. Shows bytes of the text outside 32 to 126 as `\xHH`. Err: an allocation failed.
 pub fn sentence(alloc: Global, diagnosis: &Diagnosis, text: &[u8]) -> Result<Vec<u8>, AllocError>
     ensures printed { IfOk result (λ words. ArePrinted words.items) }
     ensures some { IfOk result (λ words. 0 < length words.items) }

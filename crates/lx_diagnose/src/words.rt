@@ -1,4 +1,4 @@
-//! The words of an action with their places, and where they stop being statements.
+//! The words of an action with their places, and the first word that isn't part of a statement.
 
 use crate::places::{Span, between};
 use crate::scan::{is_at, part};
@@ -6,7 +6,7 @@ use lx_spec::action::{Turn, turn_at};
 use lx_spec::word::{Piece, Word, piece_at};
 use std::alloc::{AllocError, Global};
 
-/// The words of an action, where each stands, and where the text stops being words, if it does.
+/// The words of an action with their places, and the position where the text stops being words, if it does.
 #[derive(Drop)]
 pub struct PlacedWords<'t> {
     pub words: Vec<Word<'t>>,
@@ -14,7 +14,7 @@ pub struct PlacedWords<'t> {
     pub stop: Option<usize>,
 }
 
-// The text behind a CR that stands before LF, as lines of an action are joined by LF alone.
+// Skips a CR before an LF. The lines of an action are joined by LF only.
 fn behind_return<'t>(text: &[u8], at: usize, rest: &'t [u8]) -> Option<&'t [u8]> {
     if is_at(text, at, b'\r') && is_at(text, at.saturating_add(1), b'\n') && !rest.is_empty() {
         Some(&rest[1..])
@@ -23,7 +23,7 @@ fn behind_return<'t>(text: &[u8], at: usize, rest: &'t [u8]) -> Option<&'t [u8]>
     }
 }
 
-/// The words of an action.
+/// Splits an action into words.
 pub fn words_of<'t>(
     alloc: Global,
     text: &'t [u8],
@@ -60,7 +60,7 @@ pub fn words_of<'t>(
     })
 }
 
-/// The number of the first word with which no statement begins, where there is one.
+/// Returns the number of the first word that begins no statement, if there is one.
 pub(crate) fn failing_word(words: &[Word]) -> Option<usize> {
     let mut at: usize = 0;
     let mut depth: usize = 0;
@@ -88,7 +88,7 @@ pub(crate) fn failing_word(words: &[Word]) -> Option<usize> {
     None
 }
 
-/// Where a word stands; where there are no more, where the words stop or end.
+/// Returns the place of a word. If there is no such word, returns the place where the words stop or end.
 pub(crate) fn place_at(words: &PlacedWords, number: usize, end: usize) -> Span {
     if number < words.places.len() {
         return words.places[number];
@@ -99,7 +99,7 @@ pub(crate) fn place_at(words: &PlacedWords, number: usize, end: usize) -> Span {
     }
 }
 
-/// The place behind the word before one.
+/// Returns the position after the previous word.
 pub(crate) fn behind_word_before(words: &PlacedWords, number: usize) -> usize {
     if number == 0 || number > words.places.len() {
         0

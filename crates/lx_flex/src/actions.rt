@@ -1,4 +1,4 @@
-//! What an action does, as far as lx has it (flex's manual, "Actions").
+//! Actions, with the parts that lx supports (flex's manual, "Actions").
 
 use crate::conditions::{StartCondition, place_of};
 use crate::cursor::front;
@@ -13,38 +13,37 @@ pub(crate) enum Step {
     Echo,
     /// `BEGIN` of the condition with this number.
     Begin(u16),
-    /// `return` of a kind as it is written.
+    /// `return` of a kind, as it is written.
     Return(Vec<u8>),
 }
 
 /// An action.
 #[derive(Drop)]
 pub(crate) enum Action {
-    /// `|`, that of the next rule.
+    /// `|`, the action of the next rule.
     Bar,
-    /// Steps that lx has too.
+    /// Steps that lx supports too.
     Steps(Vec<Step>),
     /// C text.
     Code {
-        /// The text.
         text: Vec<u8>,
-        /// The line on which it begins.
+        /// Line on which the text begins.
         line: u32,
-        /// The conditions that it begins in any case.
+        /// Conditions that the text begins unconditionally.
         begins: Vec<Step>,
-        /// What lx can't do, in the order of the text.
+        /// Constructs that lx can't do, in the order of the text.
         problems: Vec<Problem>,
     },
 }
 
-/// What lx can't do, and the line on which it is.
+/// A construct that lx can't do, with its line.
 #[derive(Clone, Copy, PartialEq, Eq)]
 pub(crate) struct Problem {
     pub(crate) line: u32,
     pub(crate) cause: Cause,
 }
 
-/// Whether the bytes are a decimal number below 2,147,483,648 without a zero before it.
+/// Returns true if the bytes are a decimal number below 2,147,483,648 without a leading zero.
 fn is_small_number(word: &[u8]) -> bool {
     if word.len() > 10 || (word.len() > 1 && front(1, word) == b"0".as_slice()) {
         return false;
@@ -61,7 +60,7 @@ fn is_small_number(word: &[u8]) -> bool {
     number < 2_147_483_648
 }
 
-/// Whether the word is a name that isn't one of flex's own.
+/// Returns true if the word is a name that isn't one of flex's own.
 fn is_kind_name(word: &[u8]) -> bool {
     let Some((first, _)) = word.split_first() else {
         return false;
@@ -69,7 +68,7 @@ fn is_kind_name(word: &[u8]) -> bool {
     !first.is_ascii_digit() && front(2, word) != b"yy".as_slice()
 }
 
-/// Whether the character constant has the same byte in C and in lx: one byte of ASCII, or a backslash and a letter or mark of C.
+/// Returns true if the character constant has the same byte in C and in lx: one ASCII byte, or a backslash with a letter or mark of C.
 fn is_plain_character(constant: &[u8]) -> bool {
     match constant {
         [b'\'', byte, b'\''] => byte.is_ascii()
@@ -84,7 +83,7 @@ fn is_plain_character(constant: &[u8]) -> bool {
     }
 }
 
-/// The kind of a `return`, where lx has it.
+/// Returns the kind of a `return`, if lx supports it.
 fn kind_of(token: Token) -> Option<&[u8]> {
     match token {
         Token::Word(word) => {
@@ -105,7 +104,7 @@ fn kind_of(token: Token) -> Option<&[u8]> {
     }
 }
 
-/// The one token up to the `;`, in parentheses or not.
+/// Takes the single token up to the `;`, with or without parentheses.
 fn operand<'a>(tokens: &mut Tokens<'a>) -> Option<Token<'a>> {
     let first = tokens.next()?;
     if first != Token::Mark(b'(') {
@@ -123,7 +122,7 @@ fn operand<'a>(tokens: &mut Tokens<'a>) -> Option<Token<'a>> {
     }
 }
 
-/// The condition of a `BEGIN`.
+/// Returns the condition of a `BEGIN`.
 fn begun(conditions: &[StartCondition], token: Token) -> Option<u16> {
     match token {
         Token::Word(word) => place_of(conditions, word),
@@ -131,7 +130,7 @@ fn begun(conditions: &[StartCondition], token: Token) -> Option<u16> {
     }
 }
 
-/// What a statement that begins with a word does, where lx has it.
+/// Returns the step of a statement that begins with this word, if lx supports it.
 fn step_of(
     alloc: Global,
     tokens: &mut Tokens,
@@ -163,7 +162,7 @@ fn step_of(
     }
 }
 
-/// The steps of a text, where it is nothing but statements that lx has.
+/// Returns the steps of a text, if it has only statements that lx supports.
 fn steps_of(
     alloc: Global,
     text: &[u8],
@@ -200,7 +199,7 @@ fn steps_of(
     Ok(None)
 }
 
-/// What lx can't do, by the functions of flex's that do it.
+/// flex functions that lx can't do, with the causes that are reported.
 const PROBLEMS: &[(&[u8], Cause)] = &[
     (b"yymore", Cause::More),
     (b"yyless", Cause::Less),
@@ -223,14 +222,14 @@ const PROBLEMS: &[(&[u8], Cause)] = &[
     (b"yy_set_bol", Cause::LineBegin),
 ];
 
-/// The same by the macros of flex's that take no arguments.
+/// flex macros without arguments that lx can't do, with the causes that are reported.
 const MACRO_PROBLEMS: &[(&[u8], Cause)] = &[
     (b"REJECT", Cause::Reject),
     (b"YY_FLUSH_BUFFER", Cause::OtherBuffer),
     (b"YY_NEW_FILE", Cause::OtherBuffer),
 ];
 
-/// Finds the word in a table.
+/// Returns the cause of a word in a table.
 fn cause_in(table: &[(&[u8], Cause)], word: &[u8]) -> Option<Cause> {
     for (name, cause) in table {
         if word == *name {
@@ -240,7 +239,7 @@ fn cause_in(table: &[(&[u8], Cause)], word: &[u8]) -> Option<Cause> {
     None
 }
 
-/// What lx can't do in the place of a word of flex's; `called` says that a parenthesis follows.
+/// Returns the cause if lx can't do the flex construct of this word. `called` is true if a parenthesis follows.
 fn problem_of(word: &[u8], called: bool) -> Option<Cause> {
     match cause_in(MACRO_PROBLEMS, word) {
         Some(cause) => Some(cause),
@@ -254,7 +253,7 @@ fn problem_of(word: &[u8], called: bool) -> Option<Cause> {
     }
 }
 
-/// The words behind which C text may be left out.
+/// Words after which C text may be skipped at run time.
 const BRANCHING: &[&[u8]] = &[
     b"if",
     b"else",
@@ -272,24 +271,24 @@ const BRANCHING: &[&[u8]] = &[
     b"yyterminate",
 ];
 
-/// Whether what stands behind the word may be left out.
+/// Returns true if the text after the word may be skipped at run time.
 fn is_branching(word: &[u8]) -> bool {
     BRANCHING.contains(&word)
 }
 
-/// Whether a mark may leave out what stands behind it: `?`, `&`, `|`, or a line for the preprocessor.
+/// Returns true if the text after this mark may be skipped at run time: `?`, `&`, `|`, or a preprocessor line.
 fn is_branching_mark(mark: u8) -> bool {
     mark == b'?' || mark == b'&' || mark == b'|' || mark == b'#'
 }
 
-/// What was found in C text.
+/// The findings in C text.
 #[derive(Drop)]
 struct Found {
-    /// The line on which the text begins.
+    /// Line on which the text begins.
     first_line: u32,
     begins: Vec<Step>,
     problems: Vec<Problem>,
-    /// Whether what follows may be left out.
+    /// True if the rest of the text may be skipped at run time.
     branching: bool,
 }
 
@@ -302,7 +301,7 @@ fn note(found: &mut Found, line: u32, cause: Cause) -> Result<(), AllocError> {
     Ok(())
 }
 
-/// What a `BEGIN` in C text does.
+/// Notes the effect of a `BEGIN` in C text.
 fn note_begin(
     found: &mut Found,
     tokens: &mut Tokens,
@@ -323,7 +322,7 @@ fn note_begin(
     Ok(())
 }
 
-/// A word of C text; `member` says that it stands behind `.` or `->`.
+/// Notes a word of C text. `member` is true if it comes after `.` or `->`.
 fn note_word(
     found: &mut Found,
     tokens: &mut Tokens,
@@ -348,7 +347,7 @@ fn note_word(
     }
 }
 
-/// Finds what C text does that lx has to do, or can't. `branching` says that all of it may be left out.
+/// Finds what lx has to do for C text, and what it can't. `branching` is true if all of the text may be skipped at run time.
 fn look_through(
     alloc: Global,
     text: &[u8],
@@ -386,7 +385,7 @@ fn look_through(
     Ok(found)
 }
 
-/// The action that a C text is.
+/// Returns the action of a C text.
 pub(crate) fn action_of(
     alloc: Global,
     text: &[u8],
@@ -410,7 +409,7 @@ pub(crate) fn action_of(
     })
 }
 
-/// Returns what the code before the first rule does that lx can't. flex runs it at each call, so no rule can have its BEGIN.
+/// Returns what lx can't do of the code before the first rule. flex runs this code at each call, so no rule can have its BEGIN.
 pub(crate) fn problems_before_rules(
     alloc: Global,
     text: &[u8],

@@ -1,9 +1,9 @@
-//! How far C text goes in a file (flex's manual, "Format of the Input File", "Actions").
+//! Finds the end of C text in a file (flex's manual, "Format of the Input File", "Actions").
 
 use crate::cursor::{Cursor, between, front, place_of, skip};
 use crate::report::{Cause, Stop, stopped};
 
-/// Where in C text a byte stands.
+/// The construct of C text that a byte is in.
 #[derive(Clone, Copy, PartialEq, Eq)]
 enum Place {
     Code,
@@ -12,19 +12,19 @@ enum Place {
     Comment,
 }
 
-/// What is known within C text.
+/// The state of a scan of C text.
 #[derive(Clone, Copy)]
 struct Scan {
     place: Place,
-    /// How many braces are open; flex counts closing ones below none too.
+    /// Number of open braces. flex counts closing ones below zero too.
     open: i64,
-    /// Whether a backslash takes the next byte along.
+    /// True if a backslash escapes the next byte.
     escaped: bool,
-    /// The byte before.
+    /// Previous byte.
     before: u8,
 }
 
-/// The place behind a byte of code.
+/// Returns the construct after a byte of code.
 fn behind_code(before: u8, byte: u8) -> Place {
     if byte == b'"' {
         Place::String
@@ -37,7 +37,7 @@ fn behind_code(before: u8, byte: u8) -> Place {
     }
 }
 
-/// The place behind a byte that isn't escaped.
+/// Returns the construct after a byte that isn't escaped.
 fn behind(scan: Scan, byte: u8) -> Place {
     match scan.place {
         Place::Code => behind_code(scan.before, byte),
@@ -65,7 +65,7 @@ fn behind(scan: Scan, byte: u8) -> Place {
     }
 }
 
-/// What is known behind a byte.
+/// Returns the state after a byte.
 fn next_scan(scan: Scan, byte: u8) -> Scan {
     let quoted = scan.place == Place::String || scan.place == Place::Character;
     if quoted && scan.escaped {
@@ -94,12 +94,12 @@ fn next_scan(scan: Scan, byte: u8) -> Scan {
     }
 }
 
-/// Whether the action ends before this newline.
+/// Returns true if the action ends before this newline.
 fn ends_here(scan: Scan) -> bool {
     scan.open <= 0 && scan.place != Place::Comment && !scan.escaped
 }
 
-/// How many bytes an action has: up to the first line's end at which no brace and no comment is open; none where it isn't closed.
+/// Returns the number of bytes of an action, up to the first line end with no brace or comment open. Returns `None` if the action isn't closed.
 fn action_length(text: &[u8]) -> Option<usize> {
     let mut scan = Scan {
         place: Place::Code,
@@ -118,7 +118,7 @@ fn action_length(text: &[u8]) -> Option<usize> {
     if ends_here(scan) { Some(count) } else { None }
 }
 
-/// The C text of an action, from here to its end; what follows is the next line.
+/// Takes the C text of an action, from here to its end. The next line follows.
 pub(crate) fn take_action<'a>(cursor: &mut Cursor<'a>) -> Result<&'a [u8], Stop> {
     let rest = cursor.rest();
     let Some(length) = action_length(rest) else {
@@ -128,7 +128,7 @@ pub(crate) fn take_action<'a>(cursor: &mut Cursor<'a>) -> Result<&'a [u8], Stop>
     Ok(front(length, rest))
 }
 
-/// The C text up to `%}`, from behind `%{` on; what follows is the line behind that of `%}`.
+/// Takes the C text up to `%}`, starting after `%{`. The line after that of `%}` follows.
 pub(crate) fn take_block<'a>(cursor: &mut Cursor<'a>) -> Result<&'a [u8], Stop> {
     let rest = cursor.rest();
     let Some(length) = place_of(rest, b"%}") else {
@@ -139,7 +139,7 @@ pub(crate) fn take_block<'a>(cursor: &mut Cursor<'a>) -> Result<&'a [u8], Stop> 
     Ok(front(length, rest))
 }
 
-/// Goes on behind a line that begins with `%}`.
+/// Skips to the line after the one that begins with `%}`.
 pub(crate) fn skip_block(cursor: &mut Cursor) -> Result<(), Stop> {
     let line = cursor.line;
     cursor.skip_line();
@@ -156,7 +156,7 @@ pub(crate) fn skip_block(cursor: &mut Cursor) -> Result<(), Stop> {
     stopped(line, Cause::NotClosed)
 }
 
-/// Goes on behind the line that holds the end of a comment, from behind its `/*` on.
+/// Skips to the line after the one with the end of a comment, starting after its `/*`.
 pub(crate) fn skip_comment(cursor: &mut Cursor) -> Result<(), Stop> {
     let Some(length) = place_of(cursor.rest(), b"*/") else {
         return stopped(cursor.line, Cause::NotClosed);
@@ -166,7 +166,7 @@ pub(crate) fn skip_comment(cursor: &mut Cursor) -> Result<(), Stop> {
     Ok(())
 }
 
-/// How many bytes stand up to and with the brace that closes the first one.
+/// Returns the number of bytes up to and including the brace that closes the first one.
 fn braced_length(text: &[u8]) -> Option<usize> {
     let mut open: u64 = 0;
     let mut count: usize = 0;
@@ -184,7 +184,7 @@ fn braced_length(text: &[u8]) -> Option<usize> {
     None
 }
 
-/// Goes on behind the line of the brace that closes `%top{`.
+/// Skips to the line after the one with the brace that closes `%top{`.
 pub(crate) fn skip_braces(cursor: &mut Cursor) -> Result<(), Stop> {
     let Some(length) = braced_length(cursor.rest()) else {
         return stopped(cursor.line, Cause::NotClosed);
@@ -194,7 +194,7 @@ pub(crate) fn skip_braces(cursor: &mut Cursor) -> Result<(), Stop> {
     Ok(())
 }
 
-/// The text without what a file's lines have around it: blanks at the front, and blanks and carriage returns at the end.
+/// Strips white space at the start and at the end, including carriage returns.
 pub(crate) fn tidy(text: &[u8]) -> &[u8] {
     let mut start: usize = 0;
     let mut end: usize = 0;
@@ -213,7 +213,7 @@ pub(crate) fn tidy(text: &[u8]) -> &[u8] {
     between(start, end, text)
 }
 
-/// Counts the lines that end before the first byte that isn't blank.
+/// Counts the lines that end before the first byte that isn't white space.
 pub(crate) fn lines_before(text: &[u8]) -> u32 {
     let mut lines: u32 = 0;
     for byte in text {
@@ -227,7 +227,7 @@ pub(crate) fn lines_before(text: &[u8]) -> u32 {
     lines
 }
 
-/// The text behind a mark at its front.
+/// Returns the text after a mark at its start.
 pub(crate) fn behind_mark<'a>(mark: &[u8], text: &'a [u8]) -> Option<&'a [u8]> {
     if front(mark.len(), text) == mark {
         Some(skip(mark.len(), text))

@@ -1,4 +1,4 @@
-//! Whether lx reads what was printed as what was read of the file for flex.
+//! Checks that lx reads the printed text as it was read from the flex file.
 
 ghost use Rattle.std.specs.Prelude.{◌≡◌, true, map, OnOk};
 ghost use Rattle.std.specs.Option.{option_map};
@@ -14,12 +14,12 @@ use lx_rules::{Condition, Definition, Rule};
 use lx_spec::{SpecFault, read_spec};
 use std::alloc::Global;
 
-/// Why what was printed doesn't do.
+/// Reason why the printed text is unusable.
 #[derive(Clone, Copy)]
 pub(crate) enum CheckFault {
-    /// lx refuses it.
+    /// lx rejects it.
     Refused(SpecFault),
-    /// lx reads it otherwise.
+    /// lx reads it differently.
     NotTheSame,
 }
 
@@ -154,7 +154,7 @@ fn are_definitions(definitions: &[ImportedDefinition], read: &[Definition]) -> b
     right.is_empty()
 }
 
-/// Reads what was printed as lx does. It fails where lx refuses it, or reads other conditions, definitions or rules.
+/// Reads the printed text as lx does. Err: lx rejects it, or reads other conditions, definitions or rules.
 pub(crate) fn check(
     alloc: Global,
     text: &[u8],

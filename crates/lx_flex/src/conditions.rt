@@ -6,14 +6,14 @@ use std::alloc::{AllocError, Global};
 /// A start condition.
 #[derive(Drop)]
 pub(crate) struct StartCondition {
-    /// Its name in flex, which may have hyphens.
+    /// Name in flex, which may have hyphens.
     pub(crate) name: Vec<u8>,
-    /// Its name in lx.
+    /// Name in lx.
     pub(crate) lx_name: Vec<u8>,
     pub(crate) exclusive: bool,
 }
 
-/// The place of the condition with this name; `INITIAL` and `0` are the first.
+/// Returns the number of the condition with this name. `INITIAL` and `0` are the first one.
 pub(crate) fn place_of(conditions: &[StartCondition], name: &[u8]) -> Option<u16> {
     if name == b"0".as_slice() {
         return Some(0);
@@ -37,7 +37,7 @@ fn is_lx_name(conditions: &[StartCondition], name: &[u8]) -> bool {
     false
 }
 
-/// The name with `_` for each hyphen.
+/// Returns the name with `_` for each hyphen.
 pub(crate) fn without_hyphens(alloc: Global, name: &[u8]) -> Result<Vec<u8>, AllocError> {
     let mut renamed = Vec::new(alloc);
     for byte in name {
@@ -46,7 +46,7 @@ pub(crate) fn without_hyphens(alloc: Global, name: &[u8]) -> Result<Vec<u8>, All
     Ok(renamed)
 }
 
-/// A name for lx that no condition has yet.
+/// Returns a name for lx that no condition has yet.
 pub(crate) fn new_name(
     alloc: Global,
     conditions: &[StartCondition],
@@ -62,14 +62,14 @@ pub(crate) fn new_name(
     Ok(renamed)
 }
 
-/// Whether the byte is one of a name of flex.
+/// Returns true if the byte may be in a flex name.
 fn is_name_byte(byte: u8, first: bool) -> bool {
     byte.is_ascii_alphabetic()
         || byte == b'_'
         || (!first && (byte.is_ascii_digit() || byte == b'-'))
 }
 
-/// The name at the front of a text: a letter or `_`, then letters, digits, `_` and hyphens; empty where there is none.
+/// Returns the name at the start of a text: a letter or `_`, then letters, digits, `_` and hyphens. The result is empty if there is none.
 pub(crate) fn name_at(text: &[u8]) -> &[u8] {
     let mut count: usize = 0;
     for byte in text {
@@ -81,7 +81,7 @@ pub(crate) fn name_at(text: &[u8]) -> &[u8] {
     front(count, text)
 }
 
-/// The numbers that are in either list, rising.
+/// Returns the numbers that are in either list, in ascending order.
 pub(crate) fn joined(
     alloc: Global,
     count: u16,

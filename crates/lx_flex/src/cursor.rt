@@ -1,16 +1,16 @@
-//! A place in a file, and what stands there.
+//! A position in a file.
 
-/// The text without its first n bytes.
+/// Returns the text without its first n bytes.
 pub(crate) fn skip(n: usize, text: &[u8]) -> &[u8] {
     if n <= text.len() { &text[n..] } else { &[] }
 }
 
-/// The first n bytes of the text, or all of it.
+/// Returns the first n bytes of the text, or all of it.
 pub(crate) fn front(n: usize, text: &[u8]) -> &[u8] {
     if n <= text.len() { &text[..n] } else { text }
 }
 
-/// The bytes from one place to another.
+/// Returns the bytes from one position up to another.
 pub(crate) fn between(from: usize, to: usize, text: &[u8]) -> &[u8] {
     skip(from, front(to, text))
 }
@@ -19,7 +19,7 @@ pub(crate) fn is_blank(byte: u8) -> bool {
     byte == b' ' || byte == b'\t'
 }
 
-/// How many blanks stand at the front.
+/// Returns the number of blanks at the start.
 pub(crate) fn blank_run(text: &[u8]) -> usize {
     let mut count: usize = 0;
     for byte in text {
@@ -31,7 +31,7 @@ pub(crate) fn blank_run(text: &[u8]) -> usize {
     count
 }
 
-/// The text without the blanks at its end.
+/// Returns the text without the blanks at its end.
 pub(crate) fn trimmed(text: &[u8]) -> &[u8] {
     let mut end: usize = 0;
     let mut at: usize = 0;
@@ -44,7 +44,7 @@ pub(crate) fn trimmed(text: &[u8]) -> &[u8] {
     front(end, text)
 }
 
-/// How many bytes stand before the first newline.
+/// Returns the number of bytes before the first newline.
 fn line_length(text: &[u8]) -> usize {
     let mut count: usize = 0;
     for byte in text {
@@ -56,7 +56,7 @@ fn line_length(text: &[u8]) -> usize {
     count
 }
 
-/// Where these bytes first stand in the text.
+/// Returns the position of the first occurrence of these bytes.
 pub(crate) fn place_of(text: &[u8], part: &[u8]) -> Option<usize> {
     let mut at: usize = 0;
     for _ in text {
@@ -68,7 +68,7 @@ pub(crate) fn place_of(text: &[u8], part: &[u8]) -> Option<usize> {
     None
 }
 
-/// A place in a text, with its line, counted from 1.
+/// A position in a text, with its line, counted from 1.
 #[derive(Clone, Copy)]
 pub(crate) struct Cursor<'a> {
     pub(crate) text: &'a [u8],
@@ -77,32 +77,29 @@ pub(crate) struct Cursor<'a> {
 }
 
 impl<'a> Cursor<'a> {
-    /// What is left.
+    /// Returns the rest of the text.
     pub(crate) fn rest(&self) -> &'a [u8] {
         skip(self.at, self.text)
     }
 
-    /// Whether nothing is left.
     pub(crate) fn is_at_end(&self) -> bool {
         self.rest().is_empty()
     }
 
-    /// The byte that stands so many bytes further on.
+    /// Returns the byte `n` bytes ahead.
     pub(crate) fn peek_at(&self, n: usize) -> Option<u8> {
         self.rest().get(n).copied()
     }
 
-    /// Whether the next byte is this one.
     pub(crate) fn is_at(&self, byte: u8) -> bool {
         self.peek_at(0) == Some(byte)
     }
 
-    /// Whether these bytes stand next.
     pub(crate) fn begins_with(&self, prefix: &[u8]) -> bool {
         front(prefix.len(), self.rest()) == prefix
     }
 
-    /// The rest of the line, without its end.
+    /// Returns the rest of the line, without its end.
     pub(crate) fn line_rest(&self) -> &'a [u8] {
         let rest = self.rest();
         let line = front(line_length(rest), rest);
@@ -112,7 +109,7 @@ impl<'a> Cursor<'a> {
         }
     }
 
-    /// Goes on by so many bytes.
+    /// Advances by `n` bytes.
     pub(crate) fn advance(&mut self, n: usize) {
         for byte in front(n, self.rest()) {
             if *byte == b'\n' {
@@ -122,19 +119,18 @@ impl<'a> Cursor<'a> {
         self.at = self.at.saturating_add(n).min(self.text.len());
     }
 
-    /// Goes on behind the end of the line.
+    /// Advances to the next line.
     pub(crate) fn skip_line(&mut self) {
         let length = line_length(self.rest());
         self.advance(length.saturating_add(1));
     }
 
-    /// Goes on behind blanks.
     pub(crate) fn skip_blanks(&mut self) {
         let count = blank_run(self.rest());
         self.advance(count);
     }
 
-    /// Whether nothing but blanks is left of the line.
+    /// Returns true if the rest of the line has only blanks.
     pub(crate) fn is_blank_line(&self) -> bool {
         blank_run(self.line_rest()) == self.line_rest().len()
     }

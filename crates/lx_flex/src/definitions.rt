@@ -8,13 +8,13 @@ use crate::report::{Cause, Reports, Stop, stopped};
 use lx_flex_pattern::Options;
 use std::alloc::{AllocError, Global};
 
-/// The most definitions.
+/// Greatest number of definitions.
 const MAX_DEFINITIONS: usize = 1024;
 
-/// The most start conditions.
+/// Greatest number of start conditions.
 const MAX_CONDITIONS: usize = 64;
 
-/// A definition as it is written.
+/// A definition, as it is written.
 #[derive(Drop)]
 pub(crate) struct RawDefinition {
     pub(crate) line: u32,
@@ -22,16 +22,16 @@ pub(crate) struct RawDefinition {
     pub(crate) text: Vec<u8>,
 }
 
-/// What the definitions section says.
+/// The declarations of the definitions section.
 #[derive(Drop)]
 pub(crate) struct Declared {
-    /// `INITIAL`, and then the conditions in the order in which they are declared.
+    /// `INITIAL`, and then the conditions in the order of their declaration.
     pub(crate) conditions: Vec<StartCondition>,
     pub(crate) definitions: Vec<RawDefinition>,
     pub(crate) options: Options,
 }
 
-/// Nothing but `INITIAL`.
+/// Returns the declarations before any line is read: only `INITIAL`.
 pub(crate) fn nothing_declared(alloc: Global) -> Result<Declared, AllocError> {
     let mut conditions = Vec::new(alloc);
     conditions.push(StartCondition {
@@ -87,7 +87,7 @@ fn add_condition(
     Ok(())
 }
 
-/// The names behind `%s` or `%x`.
+/// Reads the names after `%s` or `%x`.
 fn read_conditions(
     alloc: Global,
     cursor: &mut Cursor,
@@ -114,7 +114,7 @@ fn read_conditions(
     Ok(())
 }
 
-/// A definition's line.
+/// Reads the line of a definition.
 fn read_definition(
     alloc: Global,
     cursor: &mut Cursor,
@@ -142,7 +142,7 @@ fn read_definition(
     Ok(())
 }
 
-/// Whether the letter behind a `%` begins a line that flex passes over.
+/// Returns true if flex skips a line with this letter after its `%`.
 fn is_passed_over(letter: Option<u8>) -> bool {
     match letter {
         Some(letter) => matches!(
@@ -153,12 +153,12 @@ fn is_passed_over(letter: Option<u8>) -> bool {
     }
 }
 
-/// How many bytes `%s` or `%x` and the letters behind it have.
+/// Returns the number of bytes of `%s` or `%x`, with the letters after it.
 fn directive_length(line: &[u8]) -> usize {
     name_at(skip(1, line)).len().saturating_add(1)
 }
 
-/// A line that begins with `%`, but not with `%%`.
+/// Reads a line that begins with `%`, but not with `%%`.
 fn read_directive(
     alloc: Global,
     cursor: &mut Cursor,
@@ -190,7 +190,7 @@ fn read_directive(
     Ok(())
 }
 
-/// Whether the line is for the preprocessor's line count, `#line`.
+/// Returns true if the line is a `#line` directive.
 fn is_line_directive(line: &[u8]) -> bool {
     if front(1, line) != b"#".as_slice() {
         return false;
@@ -199,7 +199,7 @@ fn is_line_directive(line: &[u8]) -> bool {
     front(4, skip(crate::cursor::blank_run(rest), rest)) == b"line".as_slice()
 }
 
-/// One line of definitions, or what begins on it.
+/// Reads one line of the definitions section, or the construct that begins on it.
 fn read_line(
     alloc: Global,
     cursor: &mut Cursor,
@@ -224,7 +224,7 @@ fn read_line(
     read_definition(alloc, cursor, declared, reports)
 }
 
-/// Reads the definitions section, up to and with its `%%` line.
+/// Reads the definitions section, up to and including its `%%` line.
 pub(crate) fn read_definitions(
     alloc: Global,
     cursor: &mut Cursor,

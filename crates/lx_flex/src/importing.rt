@@ -1,4 +1,4 @@
-//! Bringing a whole file over.
+//! Imports a whole flex file.
 
 ghost use Rattle.std.specs.Prelude.{◌≡◌, map, IfOk, OnOk};
 ghost use Rattle.lx_flex.specs.Imported.{IsImported};
@@ -16,38 +16,38 @@ use crate::rules::read_rules;
 use lx_rules::Condition;
 use std::alloc::{AllocError, Global};
 
-/// The most bytes of a file.
+/// Greatest number of bytes of a file.
 const MAX_FILE_BYTES: usize = 1_048_576;
 
-/// How a file is brought over.
+/// The options of an import.
 #[derive(Debug, Clone, Copy)]
 pub struct Options<'a> {
-    /// Whether what lx can't do is left out, and reported, in the place of refusing the file.
+    /// True if constructs that lx can't do are left out and reported. Otherwise the file is rejected for them.
     pub lossy: bool,
-    /// What the kinds of the C text begin with, as it is written: they have it in capitals.
+    /// Prefix of the kinds of the C text, as it is written. The kinds have it in capitals.
     pub prefix: &'a [u8],
-    /// The name of the file, which the lines `#line` of the C text have.
+    /// Name of the file for the `#line` lines of the C text.
     pub file: &'a [u8],
 }
 
-/// A file that was brought over.
+/// An imported file.
 #[derive(Drop)]
 pub struct Imported {
     /// The specification for lx.
     pub specification: Vec<u8>,
-    /// The C text of the rules that return their numbers, as cases of a switch.
+    /// C text of the rules that return their numbers, as cases of a switch.
     pub cases: Vec<u8>,
-    /// What is to be said; nothing of it is fatal.
+    /// Remarks for the user. None of them is fatal.
     pub reports: Vec<Report>,
-    /// The conditions by their names in lx, `INITIAL` first.
+    /// Conditions by their names in lx, `INITIAL` first.
     pub conditions: Vec<Condition>,
-    /// The definitions that lx has by a name.
+    /// Definitions that lx has by a name.
     pub definitions: Vec<ImportedDefinition>,
-    /// The rules, in order, without those for `<<EOF>>`.
+    /// Rules, in order, without those for `<<EOF>>`.
     pub rules: Vec<ImportedRule>,
 }
 
-/// What was read and printed, before lx reads it.
+/// The text that was read and printed, before lx reads it.
 #[derive(Drop)]
 struct Draft {
     specification: Vec<u8>,
@@ -112,7 +112,7 @@ fn draft_of(
     })
 }
 
-/// The line of the file of the rule that lx refuses, by the line of what was printed: the rules are its last lines.
+/// Returns the line in the file of the rule that lx rejects. `line` is its line in the printed text, whose last lines are the rules.
 fn own_line(draft: &Draft, line: u32) -> u32 {
     let mut lines: usize = 0;
     for byte in draft.specification.as_slice() {
@@ -131,7 +131,7 @@ fn own_line(draft: &Draft, line: u32) -> u32 {
     }
 }
 
-/// What is to be said where lx doesn't read what was printed as it should; none where memory was refused.
+/// Returns the remark on why lx doesn't read the printed text as it should. Returns `None` if an allocation failed.
 fn check_report(draft: &Draft, fault: CheckFault) -> Option<(u32, Cause)> {
     match fault {
         CheckFault::NotTheSame => Some((0, Cause::NotTheSame)),
@@ -149,7 +149,7 @@ fn refused(reports: Reports) -> Fault {
     Fault::Refused(reports.list)
 }
 
-/// The draft as what was brought over, where lx reads it as what was read of the file.
+/// Returns the draft as an imported file, if lx reads it as it was read from the file.
 fn checked(alloc: Global, draft: Draft, reports: Reports) -> Result<Imported, Fault>
     ensures { IfOk result (λ i. IsImported (map condition_view i.conditions.items) (map definition_of i.definitions.items) (map rule_of i.rules.items) i.specification.items) }
 {
@@ -185,12 +185,13 @@ fn checked(alloc: Global, draft: Draft, reports: Reports) -> Result<Imported, Fa
     })
 }
 
-/// Brings a specification for flex over to one for lx (flex's manual, "Format of the Input File").
+/// Imports a flex specification: makes one for lx (flex's manual, "Format of the Input File").
 ///
-/// At Ok lx accepts the specification, and reads it as the conditions, the rules and, of the definitions, those that rules reach, that were
-/// read of the file: as many rules, in the same order, each active in the same conditions, with the same anchors and the same texts. It fails
-/// with reports, at least one of them fatal, where something can't be brought over; with `lossy` that is left out where there is something
-/// to put in its place, and only reported.
+/// At Ok lx accepts the new specification, and reads the same conditions and rules from it, and of the definitions those that rules reach. The rules
+/// have the same number and order. Each is active in the same conditions, with the same anchors and the same texts.
+///
+/// Err: reports, at least one of them fatal, if something can't be imported. With `lossy` it is left out, if there is a replacement, and only
+/// reported.
 pub fn import(alloc: Global, text: &[u8], options: Options) -> Result<Imported, Fault>
     ensures { IfOk result (λ i. IsImported (map condition_view i.conditions.items) (map definition_of i.definitions.items) (map rule_of i.rules.items) i.specification.items) }
 {

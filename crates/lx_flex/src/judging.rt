@@ -1,4 +1,4 @@
-//! Rules of a file as rules of lx: what becomes of `<<EOF>>` rules and of actions, and what is to be reported.
+//! Turns rules of a flex file into rules of lx, with their `<<EOF>>` rules and actions, and reports losses.
 
 use crate::actions::Action;
 use crate::report::{Cause, Reports, Stop};
@@ -6,27 +6,27 @@ use crate::rules::RawRule;
 use lx_flex_pattern::{Pattern, Reading, Tree, translate};
 use std::alloc::{AllocError, Global};
 
-/// Where a rule is active, and what it matches.
+/// The conditions in which a rule is active, and its pattern.
 #[derive(Debug, Drop)]
 pub struct ImportedRule {
-    /// Its line in the file.
+    /// Line of the rule in the file.
     pub line: u32,
-    /// The numbers of its conditions, rising; none where it names none.
+    /// Numbers of its conditions, in ascending order. `None` if it names none.
     pub conditions: Option<Vec<u16>>,
-    /// What it matches.
+    /// Pattern of the rule.
     pub pattern: Pattern,
 }
 
-/// A rule with its texts in lx.
+/// A rule with its text in lx.
 #[derive(Drop)]
 pub(crate) struct JudgedRule {
     pub(crate) rule: ImportedRule,
-    /// Its pattern in lx.
+    /// Pattern of the rule in lx.
     pub(crate) text: Vec<u8>,
     pub(crate) action: Action,
 }
 
-/// The rules without those for `<<EOF>>`, from the last to the first; a rule whose action is that of such a one gets it.
+/// Removes the rules for `<<EOF>>`. Returns the others from the last to the first. A rule whose action is that of a removed one gets that action.
 pub(crate) fn without_ends(
     alloc: Global,
     rules: Vec<RawRule>,
@@ -74,7 +74,7 @@ pub(crate) fn without_ends(
     Ok(kept)
 }
 
-/// Whether the tree matches the empty word; of a name it isn't known, and taken for no.
+/// Returns true if the tree matches the empty word. A name isn't known, and counts as false.
 fn matches_nothing(tree: &Tree) -> bool {
     match tree {
         Tree::Empty => true,
@@ -90,7 +90,7 @@ fn matches_nothing(tree: &Tree) -> bool {
     }
 }
 
-/// What is to be said of a pattern with `$` and of one with something else behind it.
+/// Reports on a pattern with `$` or with another trailing context.
 fn judge_pattern(
     reports: &mut Reports,
     rule: &ImportedRule,
@@ -109,7 +109,7 @@ fn judge_pattern(
     Ok(())
 }
 
-/// Reports what lx can't do of an action. What the action begins in any case, and the rule's number, stay.
+/// Reports what lx can't do of an action. Keeps the conditions that the action begins unconditionally, and the rule's number.
 fn judge_action(
     reports: &mut Reports,
     rule_line: u32,
@@ -133,7 +133,7 @@ fn judge_action(
     Ok(())
 }
 
-/// The rule's pattern in lx, or none with a report.
+/// Returns the rule's pattern in lx, or `None` with a report.
 fn text_of(
     alloc: Global,
     reports: &mut Reports,
@@ -149,7 +149,7 @@ fn text_of(
     }
 }
 
-/// The rules as lx has them, with all that is to be said of them.
+/// Returns the rules as lx has them, and reports all remarks on them.
 pub(crate) fn judged(
     alloc: Global,
     rules: Vec<RawRule>,

@@ -1,4 +1,4 @@
-//! Which definitions lx has by a name, and which stand for themselves wherever they are named.
+//! Decides which definitions lx has by a name, and which are expanded at each use.
 
 use crate::conditions::without_hyphens;
 use crate::cursor::front;
@@ -7,21 +7,21 @@ use crate::report::Stop;
 use lx_flex_pattern::{Names, Tree, read_pattern, translate_substitute};
 use std::alloc::{AllocError, Global};
 
-/// How often the definitions are gone over: as many names may stand behind one another in lx.
+/// Greatest number of passes over the definitions, which is the greatest depth of names in lx.
 const MAX_PASSES: u32 = 32;
 
-/// A definition of lx.
+/// A definition in lx.
 #[derive(Debug, Drop)]
 pub struct ImportedDefinition {
-    /// Its name in lx.
+    /// Name of the definition in lx.
     pub name: Vec<u8>,
-    /// What it stands for.
+    /// Tree of its substitute.
     pub tree: Tree,
-    /// Its text in lx.
+    /// Text of its substitute in lx.
     pub text: Vec<u8>,
 }
 
-/// Whether flex puts the text in as it is: where it begins with `^` or ends with `$`.
+/// Returns true if flex inserts the text without parentheses, because it begins with `^` or ends with `$`.
 fn is_anchored(text: &[u8]) -> bool {
     let ends = match text.last() {
         Some(last) => *last == b'$',
@@ -39,7 +39,7 @@ fn has_name(names: &[Vec<u8>], name: &[u8]) -> bool {
     false
 }
 
-/// A name for lx that none of these has.
+/// Returns a name for lx that none of these names equals.
 fn new_name(alloc: Global, names: &[Vec<u8>], name: &[u8]) -> Result<Vec<u8>, AllocError> {
     let mut renamed = without_hyphens(alloc, name)?;
     for _ in names {
@@ -51,7 +51,7 @@ fn new_name(alloc: Global, names: &[Vec<u8>], name: &[u8]) -> Result<Vec<u8>, Al
     Ok(renamed)
 }
 
-/// The definitions' names in lx, in order.
+/// Returns the definitions' names in lx, in order.
 fn lx_names(alloc: Global, definitions: &[RawDefinition]) -> Result<Vec<Vec<u8>>, AllocError> {
     let mut names = Vec::new(alloc);
     for definition in definitions {
@@ -61,7 +61,7 @@ fn lx_names(alloc: Global, definitions: &[RawDefinition]) -> Result<Vec<Vec<u8>>
     Ok(names)
 }
 
-/// The name in lx of the definition at a place; none where it stands for itself.
+/// Returns the name in lx of the definition with this number, or `None` if it is expanded.
 fn lx_name_at<'a>(lx: &'a [Vec<u8>], inlined: &[usize], place: usize) -> Option<&'a Vec<u8>> {
     if inlined.contains(&place) {
         None
@@ -70,7 +70,7 @@ fn lx_name_at<'a>(lx: &'a [Vec<u8>], inlined: &[usize], place: usize) -> Option<
     }
 }
 
-/// Adds a definition, which stands for itself where it has no name in lx.
+/// Adds a definition, which is expanded if it has no name in lx.
 fn add_definition(
     alloc: Global,
     names: &mut Names,
@@ -89,7 +89,7 @@ fn add_definition(
     )
 }
 
-/// The definitions, of which those at these places stand for themselves.
+/// Returns the definitions. Those with the numbers in `inlined` are expanded.
 fn names_of(
     alloc: Global,
     definitions: &[RawDefinition],
@@ -110,7 +110,7 @@ fn names_of(
     Ok(names)
 }
 
-/// The definition as lx has it; none where it can't be a substitute.
+/// Returns the definition as lx has it, or `None` if it can't be a substitute.
 fn imported(
     alloc: Global,
     declared: &Declared,
@@ -137,14 +137,14 @@ fn imported(
     }
 }
 
-/// What lx has of the definitions, and the names that patterns may use.
+/// The definitions of lx, and the names that patterns may use.
 #[derive(Drop)]
 pub(crate) struct Naming {
     pub(crate) names: Names,
     pub(crate) definitions: Vec<ImportedDefinition>,
 }
 
-/// Goes over the definitions once; whether further ones have to stand for themselves.
+/// Makes one pass over the definitions. Returns true if more of them have to be expanded.
 fn pass(
     alloc: Global,
     declared: &Declared,
@@ -176,7 +176,7 @@ fn pass(
     Ok((definitions, more))
 }
 
-/// Finds out which definitions lx can have by a name: those that are substitutes once the others stand for themselves.
+/// Finds the definitions that lx can have by a name: those that are substitutes once the others are expanded.
 pub(crate) fn naming_of(alloc: Global, declared: &Declared) -> Result<Naming, Stop> {
     let raw = declared.definitions.as_slice();
     let lx = lx_names(alloc, raw)?;

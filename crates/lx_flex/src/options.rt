@@ -5,11 +5,11 @@ use crate::report::{Cause, Reports};
 use lx_flex_pattern::Options;
 use std::alloc::{AllocError, Global};
 
-/// The words that change no token, with a blank on each side.
+/// Option words that change no token, with a blank on each side.
 const HARMLESS: &[u8] =
     b" 7bit 8bit align always-interactive array backup batch bison-bridge bison-locations c++ debug default ecs fast full input interactive line main meta-ecs never-interactive perf-report pointer read reentrant reject stack stdinit stdout unistd unput verbose warn yylineno yymore yywrap yy_push_state yy_pop_state yy_top_state yy_scan_buffer yy_scan_bytes yy_scan_string yyalloc yyrealloc yyfree yyget_debug yyset_debug yyget_extra yyset_extra yyget_leng yyget_text yyget_lineno yyset_lineno yyget_in yyset_in yyget_out yyset_out yyget_lval yyset_lval yyget_lloc yyset_lloc extra-type outfile prefix yyclass header header-file tables-file tables-verify ";
 
-/// The bytes of a word of options.
+/// Returns the number of bytes of an option word.
 fn word_length(text: &[u8]) -> usize {
     let mut count: usize = 0;
     for byte in text {
@@ -21,7 +21,7 @@ fn word_length(text: &[u8]) -> usize {
     count
 }
 
-/// The word without each `no` before it, and whether it is switched on.
+/// Returns the word without its leading `no`s, and true if it is switched on.
 fn sense_of(word: &[u8]) -> (&[u8], bool) {
     let mut rest = word;
     let mut on = true;
@@ -43,16 +43,16 @@ fn is_harmless(alloc: Global, word: &[u8]) -> Result<bool, AllocError> {
     Ok(!word.is_empty() && place_of(HARMLESS, wanted.as_slice()).is_some())
 }
 
-/// What a word changes of how patterns are read.
+/// The change of an option word to the reading of patterns.
 #[derive(Clone, Copy)]
 enum Change {
-    /// Small letters and capitals are the same.
+    /// Case is ignored.
     Folds,
-    /// They differ.
+    /// Case matters.
     Differs,
     /// Intervals bind as in POSIX.
     Posix,
-    /// So they do, and names stand without parentheses.
+    /// Intervals bind as in POSIX, and names are inserted without parentheses.
     Lex,
 }
 
@@ -88,7 +88,7 @@ fn with_change(options: Options, change: Change, on: bool) -> Options {
     }
 }
 
-/// The options with what a word changes of them; none where it changes nothing there.
+/// Returns the options with the change of a word, or `None` if it changes nothing here.
 fn changed(options: Options, word: &[u8], on: bool) -> Option<Options> {
     for (name, change) in CHANGES {
         if word == *name {
@@ -98,7 +98,7 @@ fn changed(options: Options, word: &[u8], on: bool) -> Option<Options> {
     None
 }
 
-/// How many bytes a mark between words has: `=`, or a text in quotes; 0 where a word stands there.
+/// Returns the number of bytes of a mark between words: `=`, or a quoted text. Returns 0 if a word follows.
 fn mark_length(text: &[u8]) -> usize {
     match text.split_first() {
         None => 0,
@@ -116,7 +116,7 @@ fn mark_length(text: &[u8]) -> usize {
     }
 }
 
-/// The word in small letters, as flex takes it.
+/// Returns the word in lower case, as flex takes it.
 fn in_small_letters(alloc: Global, word: &[u8]) -> Result<Vec<u8>, AllocError> {
     let mut small = Vec::new(alloc);
     for byte in word {
@@ -125,7 +125,7 @@ fn in_small_letters(alloc: Global, word: &[u8]) -> Result<Vec<u8>, AllocError> {
     Ok(small)
 }
 
-/// Takes one word of a line; what is left of the line.
+/// Takes one word of a line. Returns the rest of the line.
 fn read_word<'a>(
     alloc: Global,
     text: &'a [u8],
@@ -153,7 +153,7 @@ fn read_word<'a>(
     Ok(skip(length, text))
 }
 
-/// Reads the words of a line, from behind `%option` on.
+/// Reads the words of a line after `%option`.
 pub(crate) fn read_options(
     alloc: Global,
     cursor: &mut Cursor,

@@ -1,4 +1,4 @@
-//! The specification for lx, and the C text of actions.
+//! Prints the specification for lx, and the C text of actions.
 
 use crate::actions::{Action, Step};
 use crate::conditions::StartCondition;
@@ -20,7 +20,7 @@ fn push_all(text: &mut Vec<u8>, parts: &[&[u8]]) -> Result<(), AllocError> {
     Ok(())
 }
 
-/// `%s` or `%x` and a name, on a line; `INITIAL` has none.
+/// Appends a line with `%s` or `%x` and a name for each condition except `INITIAL`.
 fn push_conditions(text: &mut Vec<u8>, conditions: &[StartCondition]) -> Result<(), AllocError> {
     let mut first = true;
     for condition in conditions {
@@ -57,7 +57,7 @@ fn push_definitions(
     Ok(())
 }
 
-/// The name of a condition in lx.
+/// Returns the name of a condition in lx.
 fn condition_name(conditions: &[StartCondition], number: u16) -> &[u8] {
     match conditions.get(usize::from(number)) {
         Some(condition) => condition.lx_name.as_slice(),
@@ -65,7 +65,7 @@ fn condition_name(conditions: &[StartCondition], number: u16) -> &[u8] {
     }
 }
 
-/// The conditions before a pattern.
+/// Appends the conditions before a pattern.
 fn push_list(
     text: &mut Vec<u8>,
     conditions: &[StartCondition],
@@ -112,7 +112,7 @@ fn push_steps(
     Ok(())
 }
 
-/// Steps as an action: `;` for none, and braces round several.
+/// Appends steps as an action: `;` for none, and braces around several.
 fn push_action_steps(
     text: &mut Vec<u8>,
     conditions: &[StartCondition],
@@ -129,7 +129,7 @@ fn push_action_steps(
     push(text, b" }")
 }
 
-/// The action of C text: what it begins in any case, and the rule's number as a kind.
+/// Appends the action for C text: the conditions that it begins unconditionally, and the rule's number as a kind.
 fn push_code(
     text: &mut Vec<u8>,
     conditions: &[StartCondition],
@@ -178,7 +178,7 @@ fn push_rule(
     push(text, b"\n")
 }
 
-/// The specification.
+/// Prints the specification.
 pub(crate) fn specification(
     alloc: Global,
     declared: &Declared,
@@ -198,7 +198,7 @@ pub(crate) fn specification(
     Ok(text)
 }
 
-/// The prefix in capitals.
+/// Appends the prefix in capitals.
 fn push_prefix(text: &mut Vec<u8>, prefix: &[u8]) -> Result<(), AllocError> {
     for byte in prefix {
         text.push(byte.to_ascii_uppercase())?;
@@ -206,7 +206,7 @@ fn push_prefix(text: &mut Vec<u8>, prefix: &[u8]) -> Result<(), AllocError> {
     Ok(())
 }
 
-/// A file's name in quotes, as C has it.
+/// Appends a file's name in quotes, in C syntax.
 fn push_file(text: &mut Vec<u8>, file: &[u8]) -> Result<(), AllocError> {
     text.push(b'"')?;
     for byte in file {
@@ -223,7 +223,7 @@ fn push_file(text: &mut Vec<u8>, file: &[u8]) -> Result<(), AllocError> {
     Ok(())
 }
 
-/// The label of a rule's case.
+/// Appends the label of a rule's case.
 fn push_label(text: &mut Vec<u8>, prefix: &[u8], number: u32) -> Result<(), AllocError> {
     let mut digits = Buffer::new();
     push(text, b"case ")?;
@@ -231,7 +231,7 @@ fn push_label(text: &mut Vec<u8>, prefix: &[u8], number: u32) -> Result<(), Allo
     push_all(text, &[b"_RULE_", digits.format(number).as_bytes(), b":\n"])
 }
 
-/// On which line of which file C text stands.
+/// Appends the `#line` directive with the file and the line of C text.
 fn push_place(text: &mut Vec<u8>, file: &[u8], line: u32) -> Result<(), AllocError> {
     let mut digits = Buffer::new();
     push_all(text, &[b"#line ", digits.format(line).as_bytes(), b" "])?;
@@ -239,7 +239,7 @@ fn push_place(text: &mut Vec<u8>, file: &[u8], line: u32) -> Result<(), AllocErr
     push(text, b"\n")
 }
 
-/// One case: the C text of a rule, with the line on which it stands.
+/// Appends one case: the C text of a rule, with its line.
 fn push_case(
     text: &mut Vec<u8>,
     options: Options,
@@ -252,7 +252,7 @@ fn push_case(
     push_all(text, &[code, b"\n    break;\n"])
 }
 
-/// The cases of a switch over kinds: the C text of each rule that returns its number.
+/// Prints the cases of a switch over kinds: the C text of each rule that returns its number.
 pub(crate) fn cases(
     alloc: Global,
     options: Options,

@@ -1,10 +1,10 @@
-//! What can't be brought over, or only with a loss, and what to do about it.
+//! Reports on constructs that can't be imported, or only with a loss, and on what to do.
 
 use crate::actions::Problem;
 use std::alloc::{AllocError, AllocFailed};
 use thiserror::Error;
 
-/// What is to be said of a line.
+/// The cause of a report.
 #[derive(Debug, Clone, Copy, PartialEq, Eq, Error)]
 pub enum Cause {
     #[error("the file has more than 1,048,576 bytes; split it")]
@@ -73,16 +73,16 @@ pub enum Cause {
     NotTheSame,
 }
 
-/// What is to be said of a line, counted from 1.
+/// A report on a line, counted from 1.
 #[derive(Debug, Clone, Copy, PartialEq, Eq)]
 pub struct Report {
     pub line: u32,
     pub cause: Cause,
-    /// Whether it keeps the file from being brought over.
+    /// True if it prevents the import of the file.
     pub fatal: bool,
 }
 
-/// Why reading stops.
+/// Reason why reading stops.
 #[derive(Clone, Copy)]
 pub(crate) enum Stop {
     At(Report),
@@ -101,12 +101,12 @@ impl<T: Drop> From<AllocFailed<T>> for Stop {
     }
 }
 
-/// Why a file isn't brought over.
+/// Reason why a file isn't imported.
 #[derive(Debug, Drop)]
 pub enum Fault {
-    /// What was found, in the order of the text; at least one report is fatal.
+    /// The reports, in the order of the text. At least one of them is fatal.
     Refused(Vec<Report>),
-    /// Memory was refused.
+    /// An allocation failed.
     Memory,
 }
 
@@ -122,20 +122,19 @@ impl<T: Drop> From<AllocFailed<T>> for Fault {
     }
 }
 
-/// The most reports that are kept.
+/// Greatest number of reports that are kept.
 const MAX_REPORTS: usize = 1000;
 
-/// What was found so far.
+/// The reports that were made.
 #[derive(Drop)]
 pub(crate) struct Reports {
     pub(crate) list: Vec<Report>,
     pub(crate) fatal: bool,
-    /// True where a loss is only reported.
+    /// True if a loss is only reported.
     pub(crate) lossy: bool,
 }
 
 impl Reports {
-    /// Whether there is a report with this cause.
     pub(crate) fn has(&self, cause: Cause) -> bool {
         for report in self.list.as_slice() {
             if report.cause == cause {
@@ -145,7 +144,7 @@ impl Reports {
         false
     }
 
-    /// Behind how many reports one of this line comes.
+    /// Returns the position for a report on this line: after those on this line and on earlier ones.
     fn place_of(&self, line: u32) -> usize {
         let mut place: usize = 0;
         for report in self.list.as_slice() {
@@ -156,7 +155,7 @@ impl Reports {
         place
     }
 
-    /// Adds a report, after those of its line and of earlier ones; above the limit the last report says that there are more.
+    /// Adds a report, after those on its line and on earlier ones. Above the limit, the last report says that there are more.
     pub(crate) fn add(&mut self, line: u32, cause: Cause, fatal: bool) -> Result<(), AllocError> {
         self.fatal = self.fatal || fatal;
         if self.list.len() < MAX_REPORTS {
@@ -172,7 +171,7 @@ impl Reports {
         Ok(())
     }
 
-    /// Adds a report of what is lost, which is fatal unless losses are only reported.
+    /// Adds a report of a loss. It is fatal unless losses are only reported.
     pub(crate) fn add_loss(&mut self, line: u32, cause: Cause) -> Result<(), AllocError> {
         let fatal = !self.lossy;
         self.add(line, cause, fatal)
@@ -187,7 +186,7 @@ impl Reports {
     }
 }
 
-/// A report that stops reading.
+/// Returns a report that stops reading.
 pub(crate) fn stopped<T>(line: u32, cause: Cause) -> Result<T, Stop> {
     Err(Stop::At(Report {
         line,

@@ -9,36 +9,36 @@ use crate::report::{Cause, Reports, Stop, stopped};
 use lx_flex_pattern::{Names, Reading, read_pattern};
 use std::alloc::{AllocError, Global};
 
-/// The most rules.
+/// Greatest number of rules.
 const MAX_RULES: usize = 4096;
 
-/// The most scopes that are open at once.
+/// Greatest number of scopes that are open at once.
 const MAX_SCOPES: usize = 64;
 
-/// A rule as it is written.
+/// A rule, as it is written.
 #[derive(Drop)]
 pub(crate) struct RawRule {
     pub(crate) line: u32,
-    /// The conditions that it names, with those of the scopes around it; none where there are none.
+    /// Conditions that it names, with those of the scopes around it. `None` if there are none.
     pub(crate) conditions: Option<Vec<u16>>,
-    /// What it matches; none for `<<EOF>>`.
+    /// Pattern of the rule. `None` for `<<EOF>>`.
     pub(crate) reading: Option<Reading>,
     pub(crate) action: Action,
 }
 
-/// A scope that is open: its conditions, with those around it, and its line.
+/// An open scope: its conditions with those around it, and its line.
 #[derive(Drop)]
 struct Scope {
     conditions: Vec<u16>,
     line: u32,
 }
 
-/// What was read of the rules.
+/// The rules that were read.
 #[derive(Drop)]
 struct Rules {
     scopes: Vec<Scope>,
     list: Vec<RawRule>,
-    /// Whether no rule was met, so that indented lines are code.
+    /// True before the first rule. Indented lines are code then.
     prologue: bool,
 }
 
@@ -53,7 +53,7 @@ fn condition_count(declared: &Declared) -> u16 {
     u16::try_from(declared.conditions.len()).unwrap_or(u16::MAX)
 }
 
-/// All conditions.
+/// Returns all conditions.
 fn all_conditions(alloc: Global, declared: &Declared) -> Result<Vec<u16>, AllocError> {
     let mut numbers = Vec::new(alloc);
     for number in 0..condition_count(declared) {
@@ -62,7 +62,7 @@ fn all_conditions(alloc: Global, declared: &Declared) -> Result<Vec<u16>, AllocE
     Ok(numbers)
 }
 
-/// Blanks and newlines between the names of a list.
+/// Skips blanks and newlines between the names of a list.
 fn skip_space(cursor: &mut Cursor) {
     let mut count: usize = 0;
     for byte in cursor.rest() {
@@ -74,7 +74,7 @@ fn skip_space(cursor: &mut Cursor) {
     cursor.advance(count);
 }
 
-/// A name of a list, into the numbers.
+/// Reads a name of a list, and adds its number.
 fn read_condition(
     cursor: &mut Cursor,
     declared: &Declared,
@@ -95,7 +95,7 @@ fn read_condition(
     Ok(true)
 }
 
-/// The conditions of a list, from behind its `<` on; none where it is no list.
+/// Reads the conditions of a list, starting after its `<`. Returns `None` if it isn't a list.
 fn read_list(
     alloc: Global,
     cursor: &mut Cursor,
@@ -125,7 +125,7 @@ fn read_list(
     Ok(None)
 }
 
-/// The action behind a pattern.
+/// Reads the action after a pattern.
 fn read_action(alloc: Global, cursor: &mut Cursor, declared: &Declared) -> Result<Action, Stop> {
     cursor.skip_blanks();
     let line = cursor.line;
@@ -148,7 +148,7 @@ fn read_action(alloc: Global, cursor: &mut Cursor, declared: &Declared) -> Resul
     )?)
 }
 
-/// The conditions of a rule: those of the scopes and its own.
+/// Returns the conditions of a rule: those of the scopes and its own.
 fn conditions_of(
     alloc: Global,
     rules: &Rules,
@@ -160,7 +160,7 @@ fn conditions_of(
     Ok(if all.is_empty() { None } else { Some(all) })
 }
 
-/// Whether what stands behind a pattern is an action or the line's end.
+/// Returns true if an action or the line's end follows the pattern.
 fn is_behind_pattern(cursor: &Cursor) -> bool {
     match cursor.peek_at(0) {
         None => true,
@@ -168,7 +168,7 @@ fn is_behind_pattern(cursor: &Cursor) -> bool {
     }
 }
 
-/// The pattern, or none with a report; what follows is its action.
+/// Reads the pattern, or returns `None` with a report. Its action follows.
 fn read_rule_pattern(
     alloc: Global,
     cursor: &mut Cursor,
@@ -195,7 +195,7 @@ fn read_rule_pattern(
     Ok(None)
 }
 
-/// A rule, from its pattern on.
+/// Reads a rule, starting at its pattern.
 fn read_rule(
     alloc: Global,
     cursor: &mut Cursor,
@@ -232,7 +232,7 @@ fn read_rule(
     Ok(())
 }
 
-/// Whether a `{` stands next that opens a scope: one with neither a name nor a number behind it that it closes.
+/// Returns true if the next byte is a `{` that opens a scope: neither a name in braces nor a number follows.
 fn opens_scope(cursor: &Cursor) -> bool {
     let Some(rest) = behind_mark(b"{", cursor.rest()) else {
         return false;
@@ -246,7 +246,7 @@ fn opens_scope(cursor: &Cursor) -> bool {
     !named && !counted
 }
 
-/// A scope opens.
+/// Opens a scope.
 fn open_scope(
     alloc: Global,
     cursor: &mut Cursor,
@@ -270,7 +270,7 @@ fn open_scope(
     Ok(())
 }
 
-/// Where nothing stands behind a list of conditions on its line, what follows stands on the next line that isn't empty.
+/// If nothing follows a list of conditions on its line, skips to the next line that isn't empty.
 fn skip_to_next(cursor: &mut Cursor, rules: &mut Rules) -> Result<(), Stop> {
     if !cursor.is_blank_line() {
         return Ok(());
@@ -284,7 +284,7 @@ fn skip_to_next(cursor: &mut Cursor, rules: &mut Rules) -> Result<(), Stop> {
     Ok(())
 }
 
-/// A list of conditions, and the rule or the scope behind it.
+/// Reads a list of conditions, and the rule or the scope after it.
 fn read_listed(
     alloc: Global,
     cursor: &mut Cursor,
@@ -315,7 +315,7 @@ fn read_listed(
     )
 }
 
-/// A scope closes.
+/// Closes a scope.
 fn close_scope(cursor: &mut Cursor, reports: &mut Reports, rules: &mut Rules) -> Result<(), Stop> {
     if rules.scopes.pop().is_none() {
         reports.add(cursor.line, Cause::BadRule, true)?;
@@ -325,7 +325,7 @@ fn close_scope(cursor: &mut Cursor, reports: &mut Reports, rules: &mut Rules) ->
     Ok(())
 }
 
-/// What is passed over on a line of rules: an empty line, code and comments; whether there was any.
+/// Skips an empty line, code or comments between rules. Returns true if there was any.
 fn skip_code(cursor: &mut Cursor, rules: &mut Rules) -> Result<bool, Stop> {
     if cursor.is_blank_line() {
         cursor.skip_line();
@@ -357,7 +357,7 @@ fn skip_code(cursor: &mut Cursor, rules: &mut Rules) -> Result<bool, Stop> {
     Ok(false)
 }
 
-/// One rule, or what else begins on a line.
+/// Reads one rule, or another construct that begins on a line.
 fn read_line(
     alloc: Global,
     cursor: &mut Cursor,

@@ -1,8 +1,8 @@
-//! The words and marks of C text, without blanks, comments and what stands in quotes.
+//! Splits C text into words and marks, without blanks, comments and quoted text.
 
 use crate::cursor::{between, front, skip};
 
-/// A word or a mark of C.
+/// A word or a mark of C text.
 #[derive(Clone, Copy, PartialEq, Eq)]
 pub(crate) enum Token<'a> {
     /// A longest run of letters, digits and `_`.
@@ -30,7 +30,7 @@ fn word_length(text: &[u8]) -> usize {
     count
 }
 
-/// How many bytes a quoted text has, from behind its opening quote to behind its closing one or to the line's end.
+/// Returns the number of bytes of a quoted text, from after its opening quote to after its closing one or to the line's end.
 fn quoted_length(text: &[u8], quote: u8) -> usize {
     let mut count: usize = 0;
     let mut escaped = false;
@@ -47,7 +47,7 @@ fn quoted_length(text: &[u8], quote: u8) -> usize {
     count
 }
 
-/// How many bytes a comment has, with what ends it; 0 where none stands there.
+/// Returns the number of bytes of a comment with its end. Returns 0 if there is none.
 fn comment_length(text: &[u8]) -> usize {
     let start = front(2, text);
     if start == b"//".as_slice() {
@@ -104,7 +104,7 @@ impl<'a> Tokens<'a> {
         between(start, self.at, self.text)
     }
 
-    /// The line on which the last word or mark ends, where the text begins on line `first`.
+    /// Returns the line on which the last word or mark ends, if the text begins on line `first`.
     pub(crate) fn line_from(&self, first: u32) -> u32 {
         let mut line = first;
         for byte in front(self.at, self.text) {
@@ -115,7 +115,7 @@ impl<'a> Tokens<'a> {
         line
     }
 
-    /// Goes on behind blanks and comments.
+    /// Skips blanks and comments.
     fn skip_nothing(&mut self) {
         for _ in 0..self.text.len() {
             let rest = skip(self.at, self.text);
@@ -130,7 +130,7 @@ impl<'a> Tokens<'a> {
         }
     }
 
-    /// The next word or mark.
+    /// Returns the next word or mark.
     pub(crate) fn next(&mut self) -> Option<Token<'a>> {
         self.skip_nothing();
         let rest = skip(self.at, self.text);

@@ -8,7 +8,7 @@ use crate::source::{MAX_FLEX_PATTERN_BYTES, Source, front, skip};
 use crate::trees::{Member, Tree};
 use std::alloc::{AllocError, Global};
 
-/// The classes by their names.
+/// Classes by their names.
 const CLASSES: &[(&[u8], Class)] = &[
     (b"alnum", Class::Alnum),
     (b"alpha", Class::Alpha),
@@ -24,7 +24,7 @@ const CLASSES: &[(&[u8], Class)] = &[
     (b"xdigit", Class::Xdigit),
 ];
 
-/// A class by its name.
+/// Returns the class with a name.
 fn class_of(name: &[u8]) -> Option<Class> {
     for (known, class) in CLASSES {
         if name == *known {
@@ -34,7 +34,7 @@ fn class_of(name: &[u8]) -> Option<Class> {
     None
 }
 
-/// How many letters stand at the front.
+/// Returns the number of letters at the start.
 fn letter_run(text: &[u8]) -> usize {
     let mut count: usize = 0;
     for byte in text {
@@ -46,7 +46,7 @@ fn letter_run(text: &[u8]) -> usize {
     count
 }
 
-/// How many bytes the `[:`, the `^`, where there is one, the letters and the `:]` take, where these stand next.
+/// Returns the number of bytes of a class, if one is next: the `[:`, an optional `^`, the letters and the `:]`.
 fn class_length(source: &Source) -> Option<usize> {
     if !source.begins_with(b"[:") {
         return None;
@@ -64,7 +64,7 @@ fn class_length(source: &Source) -> Option<usize> {
     Some(end.saturating_add(2))
 }
 
-/// A class that takes so many bytes.
+/// Reads a class of `length` bytes.
 fn read_class(source: &mut Source, length: usize, fold: bool) -> Result<Member, Cause> {
     let negated = source.peek_at(2) == Some(b'^');
     let start: usize = if negated { 3 } else { 2 };
@@ -82,7 +82,7 @@ fn read_class(source: &mut Source, length: usize, fold: bool) -> Result<Member, 
     Ok(Member::NotClass(class))
 }
 
-/// Whether a `-` that means a range stands next: one with a byte behind it that isn't the closing bracket.
+/// Returns true if a `-` that means a range is next: a byte other than the closing bracket follows it.
 fn is_at_range(source: &Source) -> bool {
     match source.peek_at(1) {
         None => false,
@@ -90,7 +90,7 @@ fn is_at_range(source: &Source) -> bool {
     }
 }
 
-/// One byte of brackets: an escape, or the byte for itself.
+/// Reads one byte of brackets: an escape, or the byte for itself.
 fn read_point(source: &mut Source) -> Result<u8, Cause> {
     let Some(byte) = source.peek() else {
         return Err(Cause::NotClosed);
@@ -105,7 +105,7 @@ fn read_point(source: &mut Source) -> Result<u8, Cause> {
     Ok(byte)
 }
 
-/// The last byte of a range, from behind its `-` on.
+/// Reads the last byte of a range, starting after its `-`.
 fn read_range_end(source: &mut Source, low: u8) -> Result<Member, Cause> {
     if is_at_range(source) || class_length(source).is_some() {
         return Err(Cause::NoForm);
@@ -117,7 +117,7 @@ fn read_range_end(source: &mut Source, low: u8) -> Result<Member, Cause> {
     Ok(Member::Range(low, high))
 }
 
-/// A member of brackets.
+/// Reads a member of brackets.
 fn read_member(source: &mut Source, first: bool, fold: bool) -> Result<Member, Cause> {
     if let Some(length) = class_length(source) {
         return read_class(source, length, fold);
@@ -133,7 +133,7 @@ fn read_member(source: &mut Source, first: bool, fold: bool) -> Result<Member, C
     read_range_end(source, low)
 }
 
-/// Whether the brackets begin with a `^` that excludes.
+/// Reads the `^` of excluding brackets, if there is one. Returns true if there is.
 fn read_caret(source: &mut Source) -> bool {
     let excluded = match source.peek_at(1) {
         None => false,
@@ -145,7 +145,7 @@ fn read_caret(source: &mut Source) -> bool {
     excluded
 }
 
-/// Brackets, from behind the `[` on.
+/// Reads brackets, starting after the `[`.
 pub(crate) fn read_brackets(alloc: Global, source: &mut Source, fold: bool) -> Result<Tree, Cause> {
     let excluded = read_caret(source);
     let mut members = Vec::new(alloc);
@@ -164,7 +164,7 @@ pub(crate) fn read_brackets(alloc: Global, source: &mut Source, fold: bool) -> R
     Err(Cause::TooLarge)
 }
 
-/// The ranges of the bytes that pass a test, given as a flag for each byte.
+/// Returns the ranges of the bytes whose flags are set.
 fn ranges_of(alloc: Global, flags: &[bool]) -> Result<Vec<Member>, AllocError> {
     let mut ranges = Vec::new(alloc);
     let mut first: Option<u8> = None;
@@ -188,7 +188,7 @@ fn ranges_of(alloc: Global, flags: &[bool]) -> Result<Vec<Member>, AllocError> {
     Ok(ranges)
 }
 
-/// What is in the first set, and in the second (`{+}`: in either; `{-}`: in the first alone).
+/// Combines two sets: for `{+}` returns the bytes that are in either, and for `{-}` those that are only in the first.
 fn combined_flags(
     alloc: Global,
     left: &Tree,
@@ -220,7 +220,7 @@ fn is_in(tree: &Tree, byte: u8) -> bool {
     }
 }
 
-/// Whether the tree is a set of all bytes but some.
+/// Returns true if the tree is a set with excluded bytes.
 pub(crate) fn is_excluded(tree: &Tree) -> bool {
     match tree {
         Tree::OneOf {
@@ -232,7 +232,7 @@ pub(crate) fn is_excluded(tree: &Tree) -> bool {
     }
 }
 
-/// The set of `[..]{+}[..]` or `[..]{-}[..]`. One without bytes excludes all bytes.
+/// Returns the set of `[..]{+}[..]` or `[..]{-}[..]`. A set without bytes is written as the exclusion of all bytes.
 pub(crate) fn combined(
     alloc: Global,
     left: &Tree,

@@ -1,11 +1,11 @@
-//! The classes of bytes in brackets (flex's manual, "Patterns"), in the locale C.
+//! Byte classes in brackets (flex's manual, "Patterns"), in the C locale.
 
 ghost use Rattle.std.specs.Prelude.{◌≡◌, false};
 ghost use Rattle.lx_ere.specs.Bytes.{is_between};
 ghost use Rattle.lx_flex_pattern.specs.Sets as specs;
 ghost use Rattle.lx_flex_pattern.specs.declared.classes.Class.TheVariants.{Punct};
 
-/// A class of bytes, as `[:alpha:]`.
+/// A class of bytes, such as `[:alpha:]`.
 #[derive(Debug, Clone, Copy, PartialEq, Eq)]
 pub enum Class {
     Alnum,
@@ -46,7 +46,7 @@ pub(crate) fn is_letter(byte: u8) -> bool
     is_upper(byte) || is_lower(byte)
 }
 
-/// The letter of the other case; any other byte as it is.
+/// Returns the letter of the other case. Returns any other byte unchanged.
 pub(crate) fn other_case(byte: u8) -> u8
     ensures { result ≡ specs.other_case byte }
 {
@@ -66,7 +66,7 @@ fn is_punct(byte: u8) -> bool
         || (is_between(58, 64, byte) || (is_between(91, 96, byte) || is_between(123, 126, byte)))
 }
 
-/// Whether the byte is of the class; where case is ignored, `upper` and `lower` have both cases.
+/// Returns true if the byte is in the class. If case is ignored, `upper` and `lower` have both cases.
 pub(crate) fn class_has(fold: bool, class: Class, byte: u8) -> bool
     ensures { result ≡ specs.class_has fold class byte }
 {

@@ -1,10 +1,10 @@
-//! Escapes (flex's manual, "Patterns": `\n`, `\123`, `\x2a`), numbers and names.
+//! Reads escapes (flex's manual, "Patterns": `\n`, `\123`, `\x2a`), numbers and names.
 
 use crate::fault::Cause;
 use crate::source::Source;
 use std::alloc::{AllocError, Global};
 
-/// The byte that a letter stands for behind a backslash.
+/// Returns the byte of a backslash with this letter.
 fn letter_byte(letter: u8) -> Option<u8> {
     match letter {
         b'a' => Some(7),
@@ -18,7 +18,7 @@ fn letter_byte(letter: u8) -> Option<u8> {
     }
 }
 
-/// The value of a digit in a base of at most 16.
+/// Returns the value of a digit in a base of at most 16.
 fn digit_value(base: u16, digit: u8) -> Option<u16> {
     let value = match digit {
         b'0'..=b'9' => u16::from(digit.saturating_sub(b'0')),
@@ -29,7 +29,7 @@ fn digit_value(base: u16, digit: u8) -> Option<u16> {
     if value < base { Some(value) } else { None }
 }
 
-/// The number of at most so many digits; 0 where there is none.
+/// Reads a number of at most `most` digits. Returns 0 if there is none.
 fn read_digits(source: &mut Source, base: u16, most: usize) -> u16 {
     let mut number: u16 = 0;
     for _ in 0..most {
@@ -52,7 +52,7 @@ fn byte_of(number: u16) -> Result<u8, Cause> {
     }
 }
 
-/// The byte of an escape, from behind the backslash on.
+/// Reads the byte of an escape, starting after the backslash.
 pub(crate) fn read_escape(source: &mut Source) -> Result<u8, Cause> {
     let Some(next) = source.peek() else {
         return Err(Cause::NotClosed);
@@ -70,7 +70,6 @@ pub(crate) fn read_escape(source: &mut Source) -> Result<u8, Cause> {
     Ok(letter_byte(next).unwrap_or(next))
 }
 
-/// Whether the byte is a decimal digit.
 pub(crate) fn is_digit(byte: Option<u8>) -> bool {
     match byte {
         Some(byte) => byte.is_ascii_digit(),
@@ -78,7 +77,7 @@ pub(crate) fn is_digit(byte: Option<u8>) -> bool {
     }
 }
 
-/// A bound of an interval: decimal digits.
+/// Reads a bound of an interval: decimal digits.
 fn read_bound(source: &mut Source) -> Result<u8, Cause> {
     if !is_digit(source.peek()) {
         return Err(Cause::BadInterval);
@@ -90,7 +89,7 @@ fn read_bound(source: &mut Source) -> Result<u8, Cause> {
     }
 }
 
-/// The bounds of an interval that flex takes: the last is at least the first, and not 0.
+/// Checks the bounds of an interval as flex does: the last is at least the first, and not 0.
 fn checked(low: u8, high: Option<u8>) -> Result<(u8, Option<u8>), Cause> {
     match high {
         Some(high) => {
@@ -119,7 +118,7 @@ fn read_high(source: &mut Source, low: u8) -> Result<(u8, Option<u8>), Cause> {
     checked(low, Some(high))
 }
 
-/// The bounds of an interval, from behind the `{` on.
+/// Reads the bounds of an interval, starting after the `{`.
 pub(crate) fn read_interval(source: &mut Source) -> Result<(u8, Option<u8>), Cause> {
     let low = read_bound(source)?;
     let bounds = read_high(source, low)?;
@@ -134,12 +133,12 @@ fn is_name_start(byte: u8) -> bool {
     byte.is_ascii_alphabetic() || byte == b'_'
 }
 
-/// Whether the byte may stand in a name of flex, which has hyphens too.
+/// Returns true if the byte may be in a flex name, which may have hyphens.
 pub fn is_name_byte(byte: u8) -> bool {
     byte.is_ascii_alphanumeric() || byte == b'_' || byte == b'-'
 }
 
-/// The name of a definition in braces, from behind the `{` on; none where there is none.
+/// Reads the name of a definition in braces, starting after the `{`. Returns `None` if there is none.
 pub(crate) fn read_name(alloc: Global, source: &mut Source) -> Result<Option<Vec<u8>>, AllocError> {
     let mut name = Vec::new(alloc);
     for byte in source.rest() {

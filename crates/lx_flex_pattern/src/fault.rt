@@ -1,12 +1,12 @@
-//! Why a pattern isn't brought over.
+//! Faults of patterns that can't be imported.
 
 use std::alloc::{AllocError, AllocFailed};
 use thiserror::Error;
 
-/// What is wrong with a pattern.
+/// The fault of a pattern.
 #[derive(Debug, Clone, Copy, PartialEq, Eq, Error)]
 pub enum Cause {
-    /// A form that flex doesn't read.
+    /// flex doesn't support this form.
     #[error("flex has no such pattern")]
     NoForm,
     /// A group, quotes or brackets aren't closed.
@@ -15,28 +15,28 @@ pub enum Cause {
     /// A name in braces isn't defined.
     #[error("a name isn't defined")]
     Undefined,
-    /// The bounds of an interval are none that flex takes.
+    /// flex doesn't accept the bounds of an interval.
     #[error("the bounds of an interval are none that flex takes")]
     BadInterval,
     /// A bound of an interval is above 255.
     #[error("a bound of an interval is above 255")]
     LargeInterval,
-    /// A number behind a backslash is above 255.
+    /// A number after a backslash is above 255.
     #[error("a number behind a backslash is above 255")]
     LargeEscape,
-    /// `[:^upper:]` or `[:^lower:]` where case is ignored, which flex itself calls ambiguous.
+    /// `[:^upper:]` or `[:^lower:]` with case ignored, which flex itself calls ambiguous.
     #[error("a class has no meaning where case is ignored")]
     AmbiguousClass,
-    /// `{+}` beside brackets with `^`, of which flex's manual and flex 2.6.4 say different things.
+    /// `{+}` next to brackets with `^`. flex's manual and flex 2.6.4 disagree on its meaning.
     #[error("{{+}} stands beside brackets with ^")]
     ExcludedUnion,
-    /// The pattern has more parts, groups or names than can be brought over.
+    /// The pattern has more parts, groups or names than can be imported.
     #[error("the pattern is too long or too deep")]
     TooLarge,
-    /// What would be printed isn't read by lx as the same pattern.
+    /// lx doesn't read the printed text as the same pattern.
     #[error("lx doesn't read the pattern")]
     NotRead,
-    /// Memory was refused.
+    /// An allocation failed.
     #[error("out of memory")]
     Memory,
 }

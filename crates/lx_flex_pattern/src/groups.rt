@@ -1,37 +1,37 @@
-//! The groups that are open while a pattern is read from left to right, on the heap, so that nesting takes no call depth.
+//! The open groups while a pattern is read from left to right. They are on the heap, so that nesting takes no stack.
 
 use crate::fault::Cause;
 use crate::trees::Tree;
 use std::alloc::{AllocError, Global};
 use std::mem;
 
-/// The most groups that may be open at once.
+/// Greatest number of groups that may be open at once.
 const MAX_OPEN_GROUPS: usize = 200;
 
-/// The most parts of a pattern: with more, what is printed would be longer than lx reads.
+/// Greatest number of parts of a pattern. With more, the printed pattern would be longer than lx accepts.
 const MAX_PARTS: u16 = 1024;
 
-/// What `(?i:`, `(?s:` and `(?x:` switch.
+/// The flags that `(?i:`, `(?s:` and `(?x:` switch.
 #[derive(Clone, Copy, PartialEq, Eq, Debug)]
 pub struct Flags {
-    /// Whether case is ignored.
+    /// True if case is ignored.
     pub fold: bool,
-    /// Whether `.` takes a newline too.
+    /// True if `.` also matches a newline.
     pub dot_all: bool,
-    /// Whether blanks and comments are skipped.
+    /// True if blanks and comments are skipped.
     pub extended: bool,
 }
 
-/// What was read of a group that isn't closed.
+/// The part of an open group that was read.
 #[derive(Drop)]
 struct Frame {
-    /// The alternatives before the last bar.
+    /// Alternatives before the last bar.
     before: Option<Tree>,
-    /// The branch behind that bar, without its last unit.
+    /// Branch after that bar, without its last unit.
     branch: Option<Tree>,
-    /// The last unit, which a repetition takes.
+    /// Last unit, which a repetition would repeat.
     unit: Option<Tree>,
-    /// What held around the group.
+    /// Flags around the group.
     flags: Flags,
 }
 
@@ -41,7 +41,7 @@ pub(crate) struct Groups {
     top: Frame,
     below: Vec<Frame>,
     parts: u16,
-    /// What holds where the text goes on.
+    /// Flags at the current position.
     pub(crate) flags: Flags,
 }
 
@@ -54,7 +54,7 @@ fn empty_frame(flags: Flags) -> Frame {
     }
 }
 
-/// The branch with its last unit.
+/// Returns the branch with its last unit.
 fn whole(
     alloc: Global,
     branch: Option<Tree>,
@@ -71,7 +71,7 @@ fn whole(
     }
 }
 
-/// The alternation so far, where something stands behind its last bar.
+/// Returns the alternation that was read. Returns `None` if nothing follows its last bar.
 fn total(alloc: Global, frame: Frame) -> Result<Option<Tree>, AllocError> {
     let Frame {
         before,
@@ -92,7 +92,7 @@ fn total(alloc: Global, frame: Frame) -> Result<Option<Tree>, AllocError> {
 }
 
 impl Groups {
-    /// Nothing was read, and no group is open.
+    /// Returns the state before anything is read, without an open group.
     pub(crate) fn new(alloc: Global, flags: Flags) -> Groups {
         Groups {
             top: empty_frame(flags),
@@ -102,12 +102,11 @@ impl Groups {
         }
     }
 
-    /// Whether a group is open.
     pub(crate) fn is_open(&self) -> bool {
         !self.below.is_empty()
     }
 
-    /// Whether nothing was read.
+    /// Returns true if nothing was read.
     pub(crate) fn is_fresh(&self) -> bool {
         self.parts == 0 && self.below.is_empty()
     }
@@ -120,7 +119,7 @@ impl Groups {
         Ok(())
     }
 
-    /// A unit behind what was read.
+    /// Appends a unit.
     pub(crate) fn push(&mut self, alloc: Global, unit: Tree) -> Result<(), Cause> {
         self.count_part()?;
         let branch = self.top.branch.take();
@@ -130,17 +129,17 @@ impl Groups {
         Ok(())
     }
 
-    /// Takes the last unit away.
+    /// Removes the last unit.
     pub(crate) fn take_unit(&mut self) -> Option<Tree> {
         self.top.unit.take()
     }
 
-    /// Puts a unit where the last one was taken away.
+    /// Puts a unit back after `take_unit`.
     pub(crate) fn put_unit(&mut self, unit: Tree) {
         self.top.unit = Some(unit);
     }
 
-    /// The last unit, repeated.
+    /// Repeats the last unit.
     pub(crate) fn repeat(&mut self, alloc: Global, low: u8, high: Option<u8>) -> Result<(), Cause> {
         self.count_part()?;
         let Some(unit) = self.top.unit.take() else {
@@ -151,7 +150,7 @@ impl Groups {
         Ok(())
     }
 
-    /// All of the branch, repeated, as POSIX has it.
+    /// Repeats the whole branch, as in POSIX.
     pub(crate) fn repeat_branch(
         &mut self,
         alloc: Global,
@@ -169,7 +168,7 @@ impl Groups {
         Ok(())
     }
 
-    /// A group opens, in which these flags hold.
+    /// Opens a group with these flags.
     pub(crate) fn open(&mut self, flags: Flags) -> Result<(), Cause> {
         if self.below.len() >= MAX_OPEN_GROUPS {
             return Err(Cause::TooLarge);
@@ -180,7 +179,7 @@ impl Groups {
         Ok(())
     }
 
-    /// The innermost group closes.
+    /// Closes the innermost group.
     pub(crate) fn close(&mut self, alloc: Global) -> Result<(), Cause> {
         let Some(outer) = self.below.pop() else {
             return Err(Cause::NoForm);
@@ -193,7 +192,7 @@ impl Groups {
         self.push(alloc, tree)
     }
 
-    /// An alternative ends.
+    /// Ends an alternative.
     pub(crate) fn next_alternative(&mut self, alloc: Global) -> Result<(), Cause> {
         let flags = self.top.flags;
         let frame = mem::replace(&mut self.top, empty_frame(flags));
@@ -204,7 +203,7 @@ impl Groups {
         Ok(())
     }
 
-    /// The alternation that was read, where no group is open and something stands behind the last bar. What follows begins anew.
+    /// Returns the alternation that was read, if no group is open and something follows the last bar. Then begins anew.
     pub(crate) fn finish(&mut self, alloc: Global) -> Result<Tree, Cause> {
         if self.is_open() {
             return Err(Cause::NotClosed);

@@ -1,4 +1,4 @@
-//! Whether what lx reads is what flex reads.
+//! Compares lx's reading of a pattern with flex's.
 
 ghost use Rattle.std.specs.Prelude.{◌≡◌, IsTrue, true};
 ghost use Rattle.lx_ere.specs.Regex.{regex_of};
@@ -25,7 +25,7 @@ fn same_names(one: &[u8], other: &[u8]) -> bool
     one == other
 }
 
-/// Whether the tree of lx has the form of that of flex, with the same bytes in each set.
+/// Returns true only if lx's tree has the form of flex's, with the same bytes in each set.
 pub(crate) fn mirrors(tree: &Tree, expr: &Expr) -> bool
     ensures { result ≡ true → Mirrors (tree_of tree.now) (regex_of expr.now) }
 {

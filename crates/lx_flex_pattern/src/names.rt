@@ -1,4 +1,4 @@
-//! The definitions that patterns name.
+//! Definitions that patterns name.
 
 use std::alloc::{AllocError, Global};
 use std::collections::BTreeMap;
@@ -6,32 +6,32 @@ use std::collections::BTreeMap;
 /// A definition.
 #[derive(Drop)]
 pub struct Definition {
-    /// Its text, as flex has it.
+    /// Text of the definition, as flex has it.
     pub text: Vec<u8>,
-    /// The name by which lx has it; none where its text stands for itself wherever it is named.
+    /// Name of the definition in lx. `None` if its text is expanded at each use.
     pub lx_name: Option<Vec<u8>>,
 }
 
-/// Definitions by their names.
+/// The definitions by their names.
 #[derive(Drop)]
 pub struct Names {
     entries: BTreeMap<Vec<u8>, Definition>,
 }
 
 impl Names {
-    /// No definitions.
+    /// Returns an empty map.
     pub fn new(alloc: Global) -> Names {
         Names {
             entries: BTreeMap::new(alloc),
         }
     }
 
-    /// The definition of a name.
+    /// Returns the definition of a name.
     pub fn get(&self, name: &[u8]) -> Option<&Definition> {
         self.entries.get(name)
     }
 
-    /// Whether the name is defined.
+    /// Returns true if the name is defined.
     pub fn has(&self, name: &[u8]) -> bool {
         self.entries.get(name).is_some()
     }

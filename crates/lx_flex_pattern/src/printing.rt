@@ -1,18 +1,18 @@
-//! Patterns as lx has them.
+//! Prints patterns in lx's syntax.
 
 use crate::classes::{Class, class_has, is_letter, other_case};
 use crate::trees::{Member, Pattern, Tree};
 use itoa::Buffer;
 use std::alloc::{AllocError, Global};
 
-/// Where a part of a pattern stands.
+/// The place of a part in a pattern.
 #[derive(Clone, Copy, PartialEq, Eq)]
 enum Level {
-    /// Where alternatives may stand.
+    /// A place where alternatives are allowed.
     Alternation,
-    /// At the beginning of an alternative.
+    /// The start of an alternative.
     Branch,
-    /// Where a unit stands.
+    /// The place of a unit.
     Unit,
 }
 
@@ -25,7 +25,7 @@ fn push_number(text: &mut Vec<u8>, number: u8) -> Result<(), AllocError> {
     text.extend_from_slice(digits.format(number).as_bytes())
 }
 
-/// The letter that stands for a byte behind a backslash.
+/// Returns the letter that represents a byte after a backslash.
 fn escape_letter(byte: u8) -> Option<u8> {
     match byte {
         7 => Some(b'a'),
@@ -43,7 +43,7 @@ fn octal_digit(value: u8) -> u8 {
     b'0'.saturating_add(value & 7)
 }
 
-/// A byte that isn't printed as itself: a letter or three octal digits behind a backslash.
+/// Appends an unprintable byte: a backslash with a letter or three octal digits.
 fn push_escape(text: &mut Vec<u8>, byte: u8) -> Result<(), AllocError> {
     push(text, b"\\")?;
     if let Some(letter) = escape_letter(byte) {
@@ -67,7 +67,7 @@ fn is_one_of(byte: u8, bytes: &[u8]) -> bool {
     bytes.iter().any(|b| *b == byte)
 }
 
-/// A byte as itself, or behind a backslash where it is one of these.
+/// Appends a byte as itself, with a backslash before it if it is special.
 fn push_byte(text: &mut Vec<u8>, byte: u8, special: &[u8]) -> Result<(), AllocError> {
     if !is_printed(byte) {
         return push_escape(text, byte);
@@ -78,10 +78,10 @@ fn push_byte(text: &mut Vec<u8>, byte: u8, special: &[u8]) -> Result<(), AllocEr
     push(text, &[byte])
 }
 
-/// The bytes that stand for themselves only behind a backslash, outside quotes and brackets; `%` and `<` at a line's begin.
+/// Bytes that need a backslash to represent themselves, outside quotes and brackets. `%` and `<` need it at the start of a line.
 const SPECIAL: &[u8] = b"\\\"[(){.*+?|^$/%<";
 
-/// A byte alone.
+/// Appends a single byte.
 fn push_single(text: &mut Vec<u8>, byte: u8) -> Result<(), AllocError> {
     if byte == b' ' {
         return push(text, b"\" \"");
@@ -126,7 +126,7 @@ fn push_class(text: &mut Vec<u8>, class: Class, fold: bool) -> Result<(), AllocE
     push(text, b":]")
 }
 
-/// The ranges of the bytes that a class hasn't.
+/// Appends the ranges of the bytes that aren't in a class.
 fn push_other_bytes(text: &mut Vec<u8>, class: Class) -> Result<(), AllocError> {
     let mut first: Option<u8> = None;
     for byte in 0..=255u8 {
@@ -174,7 +174,7 @@ fn push_brackets(
     push(text, b"]")
 }
 
-/// The byte, where the set has this one alone, whatever its case.
+/// Returns the byte of a set that has no other one, even if case is ignored.
 fn single_byte(excluded: bool, fold: bool, members: &[Member]) -> Option<u8> {
     match members {
         [Member::Range(low, high)] => {
@@ -214,7 +214,7 @@ fn tree_byte(tree: &Tree) -> Option<u8> {
     }
 }
 
-/// The bytes that the tree is, one after the other, from the last to the first; whether it is nothing else.
+/// Appends the bytes of a string tree, from the last to the first. Returns false if the tree is anything else.
 fn string_backwards(string: &mut Vec<u8>, tree: &Tree) -> Result<bool, AllocError> {
     match tree {
         Tree::Then(before, last) => {
@@ -234,7 +234,7 @@ fn string_backwards(string: &mut Vec<u8>, tree: &Tree) -> Result<bool, AllocErro
     }
 }
 
-/// The bytes that the tree is, where it is bytes one after the other.
+/// Returns the bytes of a string tree, or `None` if the tree is anything else.
 fn string_of(alloc: Global, tree: &Tree) -> Result<Option<Vec<u8>>, AllocError> {
     let mut string = Vec::new(alloc);
     if !string_backwards(&mut string, tree)? {
@@ -244,7 +244,7 @@ fn string_of(alloc: Global, tree: &Tree) -> Result<Option<Vec<u8>>, AllocError> 
     Ok(Some(string))
 }
 
-/// Whether quotes serve the string: where one of its bytes would have to stand behind a backslash or in quotes for itself.
+/// Returns true if quotes help: one of the bytes would otherwise need a backslash or its own quotes.
 fn wants_quotes(string: &[u8]) -> bool {
     string.iter().any(|b| *b == b' ' || is_one_of(*b, SPECIAL))
 }
@@ -272,7 +272,7 @@ fn push_bounds(text: &mut Vec<u8>, low: u8, high: Option<u8>) -> Result<(), Allo
     push(text, b"}")
 }
 
-/// The operator for the bounds, where there is one.
+/// Returns the operator for the bounds, if there is one.
 fn operator(low: u8, high: Option<u8>) -> Option<u8> {
     match (low, high) {
         (0, None) => Some(b'*'),
@@ -286,7 +286,7 @@ fn push_if(text: &mut Vec<u8>, wanted: bool, bytes: &[u8]) -> Result<(), AllocEr
     if wanted { push(text, bytes) } else { Ok(()) }
 }
 
-/// The tree, in parentheses where it has to be one unit and isn't.
+/// Appends the tree. Adds parentheses if it has to be one unit and isn't.
 fn push_tree(
     tree: &Tree,
     text: &mut Vec<u8>,
@@ -340,14 +340,14 @@ fn push_tree(
     }
 }
 
-/// The tree as lx has it.
+/// Prints the tree in lx's syntax.
 pub(crate) fn printed_tree(alloc: Global, tree: &Tree) -> Result<Vec<u8>, AllocError> {
     let mut text = Vec::new(alloc);
     push_tree(tree, &mut text, alloc, Level::Alternation)?;
     Ok(text)
 }
 
-/// The pattern as lx has it.
+/// Prints the pattern in lx's syntax.
 pub(crate) fn printed(alloc: Global, pattern: &Pattern) -> Result<Vec<u8>, AllocError> {
     let mut text = Vec::new(alloc);
     push_if(&mut text, pattern.line_begin, b"^")?;

@@ -1,4 +1,4 @@
-//! Patterns of flex, read from left to right once (flex's manual, "Patterns").
+//! Reads flex patterns once from left to right (flex's manual, "Patterns").
 
 use crate::brackets::{combined, is_excluded, read_brackets};
 use crate::classes::is_letter;
@@ -10,41 +10,41 @@ use crate::source::{MAX_FLEX_PATTERN_BYTES, Source, front};
 use crate::trees::{Member, Pattern, Tree};
 use std::alloc::{AllocError, Global};
 
-/// The most steps of reading: each takes a byte or puts in a definition.
+/// Greatest number of steps of reading. Each one takes a byte or inserts a definition.
 const MAX_STEPS: u32 = 32_768;
 
-/// How a file's patterns are read.
+/// The options for reading a file's patterns.
 #[derive(Debug, Clone, Copy, PartialEq, Eq)]
 pub struct Options {
-    /// Whether case is ignored: `%option case-insensitive`.
+    /// True if case is ignored: `%option case-insensitive`.
     pub fold: bool,
-    /// Whether an interval takes all to its left, and `(?` is nothing special: `%option posix-compat` and `lex-compat`.
+    /// True if an interval repeats all to its left, and `(?` has no special meaning: `%option posix-compat` and `lex-compat`.
     pub posix: bool,
-    /// Whether a definition's text stands for itself, without parentheses: `%option lex-compat`.
+    /// True if a definition's text is inserted without parentheses: `%option lex-compat`.
     pub bare_names: bool,
 }
 
-/// A pattern as it was read.
+/// A pattern that was read.
 #[derive(Debug, Drop)]
 pub struct Reading {
-    /// The pattern; where something has to follow (`r/s`), that is left out of it.
+    /// The pattern, without its trailing context (`r/s`).
     pub pattern: Pattern,
-    /// Whether something else than a newline has to follow.
+    /// True if there is a trailing context other than a newline.
     pub trailing: bool,
-    /// How many bytes the pattern has.
+    /// Number of bytes of the pattern.
     pub length: usize,
 }
 
-/// What is known while a pattern is read.
+/// The state while a pattern is read.
 #[derive(Drop)]
 struct State {
     source: Source,
     groups: Groups,
-    /// Whether the last unit is brackets, behind which `{-}` and `{+}` may stand.
+    /// True if the last unit is brackets, after which `{-}` and `{+}` may follow.
     brackets: bool,
     line_begin: bool,
     line_end: bool,
-    /// What stands before a `/`.
+    /// The part before a `/`.
     head: Option<Tree>,
 }
 
@@ -56,7 +56,7 @@ fn base_flags(options: Options) -> Flags {
     }
 }
 
-/// The set of one byte.
+/// Returns the set of one byte.
 fn byte_tree(alloc: Global, byte: u8, fold: bool) -> Result<Tree, AllocError> {
     let mut members = Vec::new(alloc);
     members.push(Member::Range(byte, byte))?;
@@ -67,7 +67,7 @@ fn byte_tree(alloc: Global, byte: u8, fold: bool) -> Result<Tree, AllocError> {
     })
 }
 
-/// The set of a period.
+/// Returns the set of a period.
 fn period_tree(alloc: Global, dot_all: bool) -> Result<Tree, AllocError> {
     let mut members = Vec::new(alloc);
     if dot_all {
@@ -82,7 +82,7 @@ fn period_tree(alloc: Global, dot_all: bool) -> Result<Tree, AllocError> {
     })
 }
 
-/// A byte of a quoted string.
+/// Reads a byte of a quoted string.
 fn read_quoted_byte(source: &mut Source) -> Result<u8, Cause> {
     let Some(byte) = source.peek() else {
         return Err(Cause::NotClosed);
@@ -97,7 +97,7 @@ fn read_quoted_byte(source: &mut Source) -> Result<u8, Cause> {
     Ok(byte)
 }
 
-/// A quoted string, from behind the `"` on.
+/// Reads a quoted string, starting after the `"`.
 fn read_quoted(alloc: Global, source: &mut Source, fold: bool) -> Result<Tree, Cause> {
     let mut string: Option<Tree> = None;
     for _ in 0..1024 {
@@ -124,7 +124,7 @@ fn push_byte(alloc: Global, state: &mut State, byte: u8) -> Result<(), Cause> {
     state.groups.push(alloc, unit)
 }
 
-/// What stands behind a text's first so many bytes, up to and with this mark.
+/// Skips the text up to and including this mark.
 fn skip_comment(source: &mut Source, mark: &[u8]) -> Result<(), Cause> {
     for _ in 0..MAX_FLEX_PATTERN_BYTES {
         if source.begins_with(mark) {
@@ -154,7 +154,7 @@ fn with_flag(flags: Flags, letter: u8, on: bool) -> Option<Flags> {
     }
 }
 
-/// The flags of a group, from behind `(?` on to behind the colon.
+/// Reads the flags of a group, from after `(?` to after the colon.
 fn read_flags(source: &mut Source, outer: Flags) -> Result<Flags, Cause> {
     let mut flags = outer;
     let mut on = true;
@@ -178,7 +178,7 @@ fn read_flags(source: &mut Source, outer: Flags) -> Result<Flags, Cause> {
     Err(Cause::NoForm)
 }
 
-/// A `(`, from behind it on.
+/// Reads a group's opening, starting after the `(`.
 fn read_open(state: &mut State, options: Options) -> Result<(), Cause> {
     let flags = state.groups.flags;
     if options.posix || !state.source.is_at(b'?') {
@@ -192,7 +192,7 @@ fn read_open(state: &mut State, options: Options) -> Result<(), Cause> {
     state.groups.open(flags)
 }
 
-/// A definition's text in front of what is left.
+/// Inserts a definition's text before the rest of the text.
 fn inline(alloc: Global, state: &mut State, text: &[u8], bare: bool) -> Result<(), Cause> {
     let begins = front(1, text) == b"^".as_slice();
     let ends = match text.last() {
@@ -209,7 +209,7 @@ fn inline(alloc: Global, state: &mut State, text: &[u8], bare: bool) -> Result<(
     }
 }
 
-/// A name in braces, from behind the `{` on.
+/// Reads a name in braces, starting after the `{`.
 fn read_named(
     alloc: Global,
     state: &mut State,
@@ -231,7 +231,7 @@ fn read_named(
     inline(alloc, state, definition.text.as_slice(), options.bare_names)
 }
 
-/// `{-}` or `{+}` and the brackets behind it, from behind the `}` on.
+/// Reads the brackets after `{-}` or `{+}`, starting after the `}`.
 fn read_combination(alloc: Global, state: &mut State, union: bool) -> Result<(), Cause> {
     if !state.brackets || !state.source.is_at(b'[') {
         return Err(Cause::NoForm);
@@ -249,7 +249,7 @@ fn read_combination(alloc: Global, state: &mut State, union: bool) -> Result<(),
     Ok(())
 }
 
-/// A `{`, from behind it on. Whether the last unit is brackets then.
+/// Reads the text after a `{`. Returns true if the last unit is then brackets.
 fn read_brace(
     alloc: Global,
     state: &mut State,
@@ -275,7 +275,7 @@ fn read_brace(
     Ok(false)
 }
 
-/// Whether nothing but a line's end or a blank stands behind the next byte.
+/// Returns true if only a line's end or a blank follows the next byte.
 fn is_last(source: &Source) -> bool {
     match source.peek_at(1) {
         None => true,
@@ -283,7 +283,7 @@ fn is_last(source: &Source) -> bool {
     }
 }
 
-/// Whether a carriage return and a newline stand so many bytes further on.
+/// Returns true if a carriage return and a newline are `n` bytes ahead.
 fn is_line_end(source: &Source, n: usize) -> bool {
     source.peek_at(n) == Some(b'\r') && source.peek_at(n.saturating_add(1)) == Some(b'\n')
 }
@@ -292,7 +292,7 @@ fn is_blank(byte: u8) -> bool {
     byte == b' ' || byte == b'\t'
 }
 
-/// A `/`, from behind it on: what was read is the head, and what follows begins anew.
+/// Reads the text after a `/`. The pattern up to it becomes the head, and a new one begins.
 fn read_slash(alloc: Global, state: &mut State) -> Result<(), Cause> {
     if state.head.is_some() || state.groups.is_open() {
         return Err(Cause::NoForm);
@@ -302,7 +302,7 @@ fn read_slash(alloc: Global, state: &mut State) -> Result<(), Cause> {
     Ok(())
 }
 
-/// What stands behind a byte that has a meaning of its own; whether it had, and whether the last unit is brackets then.
+/// Reads the text after a byte with a special meaning. Returns `None` if it has none, and otherwise true if the last unit is then brackets.
 fn read_special(
     alloc: Global,
     state: &mut State,
@@ -343,7 +343,7 @@ fn read_special(
     Ok(Some(false))
 }
 
-/// Blanks, newlines and comments inside `(?x:`; whether there was any.
+/// Skips blanks, newlines and comments inside `(?x:`. Returns true if there was any.
 fn skip_extended(state: &mut State, byte: u8) -> Result<bool, Cause> {
     if is_blank(byte) || byte == b'\n' || is_line_end(&state.source, 0) {
         state.source.advance(1);
@@ -357,7 +357,7 @@ fn skip_extended(state: &mut State, byte: u8) -> Result<bool, Cause> {
     Ok(false)
 }
 
-/// Whether the pattern ends before this byte, the next one: at a blank, at a line's end, or at the `$` of its end.
+/// Returns true if the pattern ends before this byte, which is next: at a blank, at a line's end, or at its final `$`.
 fn ends_at(state: &mut State, byte: u8) -> Result<bool, Cause> {
     if is_blank(byte) || byte == b'\n' || is_line_end(&state.source, 0) {
         return Ok(true);
@@ -373,7 +373,7 @@ fn ends_at(state: &mut State, byte: u8) -> Result<bool, Cause> {
     Ok(false)
 }
 
-/// Reads on by one part; whether the pattern goes on behind it.
+/// Reads one more part. Returns true if the pattern goes on.
 fn step(
     alloc: Global,
     state: &mut State,
@@ -418,7 +418,6 @@ fn run(alloc: Global, state: &mut State, names: &Names, options: Options) -> Res
     Err(Cause::TooLarge)
 }
 
-/// Whether the tree is a newline.
 fn is_newline(tree: &Tree) -> bool {
     match tree {
         Tree::OneOf {
@@ -430,7 +429,7 @@ fn is_newline(tree: &Tree) -> bool {
     }
 }
 
-/// What was read, with what has to follow it.
+/// Returns the pattern that was read, with its trailing context.
 fn finished(alloc: Global, state: State, window: usize) -> Result<Reading, Cause> {
     let State {
         source,
@@ -460,10 +459,10 @@ fn finished(alloc: Global, state: State, window: usize) -> Result<Reading, Cause
     })
 }
 
-/// Reads the pattern at the front of a text: up to a blank that stands for nothing, or to the line's end.
+/// Reads the pattern at the start of a text, up to a blank that separates or to the line's end. `names` are the definitions.
 ///
-/// `names` are the definitions. It fails with the cause where flex has no such pattern, and where it is too long or too deep: above 4,096
-/// bytes, 1,024 parts, 200 open groups, or 128 definitions that stand for themselves.
+/// Err: the cause if flex has no such pattern, or if it is too long or too deep. The limits are 4,096 bytes, 1,024 parts, 200 open groups, and 128
+/// expanded definitions.
 pub fn read_pattern(
     alloc: Global,
     text: &[u8],

@@ -1,4 +1,4 @@
-//! What bytes the sets of a pattern have.
+//! Tests for the bytes in a pattern's sets.
 
 ghost use Rattle.std.specs.Prelude.{◌≡◌, true};
 ghost use Rattle.std.specs.FinSet as set;
@@ -40,7 +40,7 @@ fn some_has(fold: bool, members: &[Member], byte: u8) -> bool
     false
 }
 
-/// Whether the byte is in the set of brackets.
+/// Returns true if the byte is in the set of brackets.
 pub fn set_has(excluded: bool, fold: bool, members: &[Member], byte: u8) -> bool
     ensures { result ≡ specs.set_has excluded fold members.now byte }
 {
@@ -51,14 +51,14 @@ pub fn set_has(excluded: bool, fold: bool, members: &[Member], byte: u8) -> bool
     }
 }
 
-// Whether the byte is in both sets, or in none.
+// Returns true if the byte is in both sets, or in neither.
 fn agrees(found: &ByteSet, excluded: bool, fold: bool, members: &[Member], byte: u8) -> bool
     ensures { result ≡ true → set.contains found.now byte ≡ specs.set_has excluded fold members.now byte }
 {
     found.has(byte) == set_has(excluded, fold, members, byte)
 }
 
-/// Whether the set of lx has the bytes of the brackets.
+/// Returns true if lx's set has the same bytes as the brackets.
 pub(crate) fn has_bytes(found: &ByteSet, excluded: bool, fold: bool, members: &[Member]) -> bool
     ensures { result ≡ true → HasBytes found.now (specs.set_has excluded fold members.now) }
 {

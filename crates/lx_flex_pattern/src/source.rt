@@ -1,39 +1,39 @@
-//! The text that a pattern is read from. Where a definition stands for what it says as it is written, its text is put in front of what is left.
+//! The text from which a pattern is read. An expanded definition's text is inserted before the rest.
 
 use crate::fault::Cause;
 use std::alloc::{AllocError, Global};
 
-/// The most bytes that a pattern may have in a file, comments within `(?x:` included.
+/// Greatest number of bytes of a pattern in a file, including comments within `(?x:`.
 pub const MAX_FLEX_PATTERN_BYTES: usize = 4096;
 
-/// The most bytes that may be left behind a definition's text that was put in.
+/// Greatest number of bytes that may be left after a definition's text was inserted.
 const MAX_INLINED_BYTES: usize = 8192;
 
-/// The most definitions that are put in for one pattern.
+/// Greatest number of definitions that are inserted for one pattern.
 const MAX_INLINED: u16 = 128;
 
-/// What is left of a text.
+/// The rest of a text.
 #[derive(Drop)]
 pub(crate) struct Source {
     bytes: Vec<u8>,
     at: usize,
-    /// How many bytes are left where the text itself goes on, behind what was put in.
+    /// Number of bytes left once the inserted text is used up and the text itself continues.
     own: usize,
     inlined: u16,
 }
 
-/// The text without its first n bytes.
+/// Returns the text without its first n bytes.
 pub(crate) fn skip(n: usize, text: &[u8]) -> &[u8] {
     if n <= text.len() { &text[n..] } else { &[] }
 }
 
-/// The first n bytes of the text, or all of it.
+/// Returns the first n bytes of the text, or all of it.
 pub(crate) fn front(n: usize, text: &[u8]) -> &[u8] {
     if n <= text.len() { &text[..n] } else { text }
 }
 
 impl Source {
-    /// The first bytes of the text, as many as a pattern may have.
+    /// Takes the first bytes of the text, up to the length limit of a pattern.
     pub(crate) fn new(alloc: Global, text: &[u8]) -> Result<Source, AllocError> {
         let window = front(MAX_FLEX_PATTERN_BYTES, text);
         Ok(Source {
@@ -44,47 +44,45 @@ impl Source {
         })
     }
 
-    /// What is left.
+    /// Returns the rest of the text.
     pub(crate) fn rest(&self) -> &[u8] {
         skip(self.at, self.bytes.as_slice())
     }
 
-    /// The byte that stands so many bytes further on.
+    /// Returns the byte `n` bytes ahead.
     pub(crate) fn peek_at(&self, n: usize) -> Option<u8> {
         self.rest().get(n).copied()
     }
 
-    /// The next byte.
+    /// Returns the next byte.
     pub(crate) fn peek(&self) -> Option<u8> {
         self.peek_at(0)
     }
 
-    /// Whether the next byte is this one.
     pub(crate) fn is_at(&self, byte: u8) -> bool {
         self.peek() == Some(byte)
     }
 
-    /// Whether these bytes stand next.
     pub(crate) fn begins_with(&self, prefix: &[u8]) -> bool {
         front(prefix.len(), self.rest()) == prefix
     }
 
-    /// Goes on by so many bytes.
+    /// Advances by `n` bytes.
     pub(crate) fn advance(&mut self, n: usize) {
         self.at = self.at.saturating_add(n);
     }
 
-    /// How many bytes of the text itself were read.
+    /// Returns the number of bytes of the text itself that were read.
     pub(crate) fn length(&self, window: usize) -> usize {
         window.saturating_sub(self.rest().len())
     }
 
-    /// Whether what is left is of the text itself.
+    /// Returns true if the rest belongs to the text itself.
     pub(crate) fn is_in_own_text(&self) -> bool {
         self.rest().len() <= self.own
     }
 
-    /// Puts a definition's text in front of what is left.
+    /// Inserts a definition's text before the rest.
     pub(crate) fn inline(
         &mut self,
         alloc: Global,

@@ -1,4 +1,4 @@
-//! Patterns of flex as texts that lx reads.
+//! Translates flex patterns to texts that lx reads.
 
 ghost use Rattle.std.specs.Prelude.{◌≡◌, true, IfOk, IfSome};
 ghost use Rattle.lx_ere.specs.Pattern.{IsPattern, IsSubstitute};
@@ -13,10 +13,10 @@ use crate::trees::{Pattern, Tree};
 use lx_ere::EreFault;
 use std::alloc::{AllocError, Global};
 
-/// The most bytes of a pattern or a substitute of lx.
+/// Greatest number of bytes of a pattern or a substitute in lx.
 const MAX_LX_PATTERN_BYTES: usize = 1024;
 
-/// The text as lx reads it.
+/// Reads the text as lx does.
 fn read_back(alloc: Global, text: &[u8]) -> Result<Option<lx_ere::Pattern>, AllocError>
     ensures { IfOk result (λ read. IfSome read (λ p. IsPattern text.now (reading_of p))) }
 {
@@ -27,7 +27,7 @@ fn read_back(alloc: Global, text: &[u8]) -> Result<Option<lx_ere::Pattern>, Allo
     }
 }
 
-/// The text as lx reads it where it is a substitute.
+/// Reads the text as lx does for a substitute.
 fn read_back_substitute(alloc: Global, text: &[u8]) -> Result<Option<lx_ere::Expr>, AllocError>
     ensures { IfOk result (λ read. IfSome read (λ e. IsSubstitute text.now (regex_of e))) }
 {
@@ -38,14 +38,14 @@ fn read_back_substitute(alloc: Global, text: &[u8]) -> Result<Option<lx_ere::Exp
     }
 }
 
-/// Whether the tree of lx has the same texts as that of flex; a tree of another form isn't looked at.
+/// Returns true only if lx's tree has the same texts as flex's. Compares only trees of the same form.
 pub fn has_same_texts(tree: &Tree, expr: &lx_ere::Expr) -> bool
     ensures { result ≡ true → HaveSameTexts (tree_of tree.now) (regex_of expr.now) }
 {
     mirrors(tree, expr)
 }
 
-/// Whether the pattern of lx has the anchors and the texts of that of flex.
+/// Returns true only if lx's pattern has the anchors and the texts of flex's.
 pub fn is_read_as(pattern: &Pattern, read: &lx_ere::Pattern) -> bool
     ensures { result ≡ true → IsReadAs (pattern_of pattern.now) (reading_of read.now) }
 {
@@ -58,10 +58,10 @@ pub fn is_read_as(pattern: &Pattern, read: &lx_ere::Pattern) -> bool
     has_same_texts(&pattern.tree, &read.expr)
 }
 
-/// The pattern as a text that lx reads as a pattern with the same anchors and the same texts.
+/// Translates the pattern to a text that lx reads as a pattern with the same anchors and the same texts.
 ///
-/// It fails with [`Cause::TooLarge`] where that text has more bytes than lx reads, and with [`Cause::NotRead`] where lx wouldn't read it as
-/// the same pattern; the trees of `read_pattern` are all read so.
+/// Err: [`Cause::TooLarge`] if the text has more bytes than lx accepts. [`Cause::NotRead`] if lx wouldn't read it as the same pattern, which doesn't
+/// happen to the trees of `read_pattern`.
 pub fn translate(alloc: Global, pattern: &Pattern) -> Result<Vec<u8>, Cause>
     ensures { IfOk result (λ text. IsTranslation (pattern_of pattern.now) text.items) }
 {
@@ -78,7 +78,7 @@ pub fn translate(alloc: Global, pattern: &Pattern) -> Result<Vec<u8>, Cause>
     Ok(text)
 }
 
-/// The tree as a text that lx reads as a substitute with the same texts. It fails as [`translate`] does.
+/// Translates the tree to a text that lx reads as a substitute with the same texts. Fails like [`translate`].
 pub fn translate_substitute(alloc: Global, tree: &Tree) -> Result<Vec<u8>, Cause>
     ensures { IfOk result (λ text. IsSubstituteOf (tree_of tree.now) text.items) }
 {

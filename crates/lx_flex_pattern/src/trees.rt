@@ -1,15 +1,15 @@
-//! Patterns of flex as trees (flex's manual, "Patterns").
+//! Flex patterns as trees (flex's manual, "Patterns").
 
 use crate::classes::Class;
 
 /// A member of brackets.
 #[derive(Debug, Clone, Copy, PartialEq, Eq)]
 pub enum Member {
-    /// From the first byte to the second.
+    /// The bytes from the first one to the second.
     Range(u8, u8),
     /// The bytes of a class, `[:alpha:]`.
     Class(Class),
-    /// All bytes that a class hasn't, `[:^alpha:]`.
+    /// All bytes that aren't in a class, `[:^alpha:]`.
     NotClass(Class),
 }
 
@@ -20,37 +20,37 @@ pub enum Tree {
     Empty,
     /// One byte of a set: a byte, an escape, `.` or brackets.
     OneOf {
-        /// Whether these are all bytes but the members'.
+        /// True if the set has all bytes except those of the members.
         excluded: bool,
-        /// Whether case is ignored, as in `(?i:`.
+        /// True if case is ignored, as in `(?i:`.
         fold: bool,
         /// The members.
         members: Vec<Member>,
     },
-    /// The first, then the second.
+    /// The first tree, then the second.
     Then(Box<Tree>, Box<Tree>),
-    /// Either.
+    /// Either of the two trees.
     Or(Box<Tree>, Box<Tree>),
-    /// The body from `low` to `high` times; where `high` is `None`, `low` times or any number more.
+    /// The body from `low` to `high` times. If `high` is `None`, there is no upper bound.
     Times {
-        /// What is repeated.
+        /// Repeated tree.
         body: Box<Tree>,
-        /// How often at least.
+        /// Least number of repetitions.
         low: u8,
-        /// How often at most, where there is a bound.
+        /// Greatest number of repetitions, if there is a bound.
         high: Option<u8>,
     },
-    /// What a definition's name stands for.
+    /// The expression of a definition's name.
     Name(Vec<u8>),
 }
 
 /// A pattern with its anchors.
 #[derive(Debug, Drop)]
 pub struct Pattern {
-    /// Whether a match has to begin at the beginning of a line, `^`.
+    /// True if a match has to begin at the start of a line, `^`.
     pub line_begin: bool,
-    /// Whether a newline has to follow, `$`.
+    /// True if a newline has to follow, `$`.
     pub line_end: bool,
-    /// What is matched.
+    /// Matched expression.
     pub tree: Tree,
 }

@@ -1,4 +1,4 @@
-//! Actions.
+//! Suspicious parts of actions.
 
 use crate::kinds::{KindSet, WarningKind};
 use crate::suspects::{Suspect, push_part};
@@ -8,7 +8,7 @@ use lx_spec::action::{Statement, Turn, turn_at};
 use lx_spec::word::Word;
 use std::alloc::{AllocError, Global};
 
-// The number of the first word of a statement that does anything and stands behind a return, where there is one.
+// Returns the number of the first word of a statement that has an effect and comes after a return, if there is one.
 fn dead_word(words: &[Word]) -> Option<usize> {
     let mut at: usize = 0;
     let mut has_returned = false;
@@ -31,7 +31,7 @@ fn dead_word(words: &[Word]) -> Option<usize> {
     None
 }
 
-/// Looks at an action that has a form.
+/// Examines a well-formed action.
 pub(crate) fn look_at_action(
     alloc: Global,
     text: &[u8],

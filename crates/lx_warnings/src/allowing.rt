@@ -1,11 +1,11 @@
-//! Comments that switch warnings off for what stands on the next line.
+//! Comments that switch warnings off for the next line.
 
 use crate::kinds::{KindSet, kind_named};
 use lx_diagnose::Span;
 use lx_diagnose::places::between;
 use lx_diagnose::scan::{begins_at, behind_blanks, find, next_blank, part};
 
-// What is behind a word, and behind blanks, where the word stands there.
+// Skips a word and the blanks after it. Returns `None` if the word isn't there.
 fn behind(text: &[u8], at: usize, end: usize, word: &[u8]) -> Option<usize> {
     if begins_at(text, at, word) {
         Some(behind_blanks(text, at.saturating_add(word.len()), end))
@@ -14,7 +14,7 @@ fn behind(text: &[u8], at: usize, end: usize, word: &[u8]) -> Option<usize> {
     }
 }
 
-// Where the names begin in a comment that allows something.
+// Returns the start of the names in a comment that allows warnings.
 fn names_start(text: &[u8], line: Span) -> Option<usize> {
     let end = line.end();
     let opened = behind(text, behind_blanks(text, line.start, end), end, b"/*")?;
@@ -22,7 +22,7 @@ fn names_start(text: &[u8], line: Span) -> Option<usize> {
     behind(text, marked, end, b"allow")
 }
 
-// The set with the kind of this name, if there is one.
+// Adds the kind with this name to the set, if there is one.
 fn with_named(set: KindSet, name: &[u8]) -> KindSet {
     match kind_named(name) {
         Some(kind) => set.with(kind, true),
@@ -30,7 +30,7 @@ fn with_named(set: KindSet, name: &[u8]) -> KindSet {
     }
 }
 
-/// The kinds that a line allows: those that ` /* lx: allow NAME .. */` names.
+/// Returns the kinds that a line allows by ` /* lx: allow NAME .. */`.
 pub(crate) fn allowed_by(text: &[u8], line: Span) -> KindSet {
     let mut allowed = KindSet::none();
     let Some(start) = names_start(text, line) else {

@@ -1,4 +1,4 @@
-//! Bracket expressions that may mean something else to their writer.
+//! Bracket expressions that may not mean what their writer intended.
 
 use crate::kinds::{KindSet, WarningKind};
 use crate::suspects::{Suspect, push_part};
@@ -8,17 +8,17 @@ use lx_diagnose::scan::{begins_at, behind_word, find, is_at, part};
 use lx_ere::escape::escape_at;
 use std::alloc::AllocError;
 
-// Whether the byte stands behind the first one of a character of several bytes in UTF-8 (RFC 3629, 3).
+// Returns true if the byte is a continuation byte of a multi-byte UTF-8 character (RFC 3629, 3).
 fn is_continuation_at(text: &[u8], at: usize) -> bool {
     at < text.len() && 0x80 <= text[at] && text[at] < 0xC0
 }
 
-// Whether the first byte of such a character stands there.
+// Returns true if the byte is the first one of such a character.
 fn is_lead_at(text: &[u8], at: usize) -> bool {
     at < text.len() && 0xC2 <= text[at] && text[at] < 0xF5
 }
 
-/// The character of several bytes that begins there, if one does; of no more than four bytes.
+/// Returns the multi-byte character that begins at this position, if one does. It has at most four bytes.
 pub(crate) fn character_at(text: &[u8], at: usize, end: usize) -> Option<Span> {
     let mut behind = at.saturating_add(1);
     if !is_lead_at(text, at) || behind >= end || !is_continuation_at(text, behind) {
@@ -32,7 +32,7 @@ pub(crate) fn character_at(text: &[u8], at: usize, end: usize) -> Option<Span> {
     Some(between(at, behind))
 }
 
-/// The character of several bytes that ends before a place, if one does.
+/// Returns the multi-byte character that ends before a position, if one does.
 pub(crate) fn character_before(text: &[u8], start: usize, end: usize) -> Option<Span> {
     for at in start.max(end.saturating_sub(4))..end {
         if let Some(character) = character_at(text, at, end) {
@@ -44,7 +44,7 @@ pub(crate) fn character_before(text: &[u8], start: usize, end: usize) -> Option<
     None
 }
 
-// A character of several bytes in brackets, the first one of them.
+// Warns of the first multi-byte character in brackets.
 fn look_at_characters(
     text: &[u8],
     found: &mut Vec<Suspect>,
@@ -61,7 +61,7 @@ fn look_at_characters(
     Ok(())
 }
 
-// A class without the brackets round it.
+// Warns of a class without its outer brackets.
 fn look_at_class(
     text: &[u8],
     found: &mut Vec<Suspect>,
@@ -81,7 +81,7 @@ fn look_at_class(
     Ok(())
 }
 
-// A point of brackets, and the place behind it.
+// Returns the byte of a point in brackets, and the position after it.
 fn point_at(text: &[u8], at: usize, end: usize) -> (u8, usize) {
     let rest = part(text, between(at, end));
     if begins_at(text, at, b"[.") && rest.len() >= 5 {
@@ -98,7 +98,7 @@ fn point_at(text: &[u8], at: usize, end: usize) -> (u8, usize) {
     (*first, at.saturating_add(1))
 }
 
-// The place behind a class or an equivalence class that stands there.
+// Returns the position after the class or equivalence class at this position.
 fn behind_class(text: &[u8], at: usize, end: usize) -> Option<usize> {
     let behind = at.saturating_add(2);
     if begins_at(text, at, b"[:") {
@@ -113,7 +113,7 @@ fn behind_class(text: &[u8], at: usize, end: usize) -> Option<usize> {
     }
 }
 
-// What is said of a range from this byte to that one.
+// Returns the warning on a range from byte `low` to byte `high`.
 fn range_phrase(low: u8, high: u8) -> Option<&'static str> {
     if low.is_ascii_uppercase() && high.is_ascii_lowercase() {
         Some("`@` takes [ \\ ] ^ _ and the grave accent too; for letters write A-Za-z")
@@ -124,7 +124,7 @@ fn range_phrase(low: u8, high: u8) -> Option<&'static str> {
     }
 }
 
-// Looks at the member of brackets that begins there; the result is the place behind it.
+// Examines the member of brackets that begins at this position. Returns the position after it.
 fn look_at_member(
     text: &[u8],
     found: &mut Vec<Suspect>,
@@ -169,7 +169,7 @@ fn look_at_ranges(
     Ok(())
 }
 
-/// Looks at a bracket expression.
+/// Examines a bracket expression.
 pub(crate) fn look_at_brackets(
     text: &[u8],
     found: &mut Vec<Suspect>,

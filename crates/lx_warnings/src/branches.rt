@@ -1,22 +1,22 @@
-//! The branches of a pattern, as its lexemes are read.
+//! The branches of a pattern, updated lexeme by lexeme.
 
 use lx_diagnose::Span;
 use lx_ere::lexeme::Lexeme;
 use std::alloc::{AllocError, Global};
 
-/// A branch, as far as it is read. A unit is what flex repeats: a byte, an escape, brackets, a string, a name or a group, with its `* + ?`, or all that an
-/// interval has repeated.
+/// The part of a branch that was read. A unit is what flex repeats: a byte, an escape, brackets, a string, a name or a group, with its `* + ?`. An
+/// interval in lx repeats all units of the branch.
 #[derive(Clone, Copy)]
 pub(crate) struct Branch {
-    /// Where the parenthesis stands in which it is, if there is one.
+    /// Position of the parenthesis that encloses it, if there is one.
     pub opened: usize,
     pub start: usize,
-    /// Where its last unit begins.
+    /// Start of its last unit.
     pub last: usize,
     pub units: usize,
 }
 
-/// The open branches, the innermost by itself, and whether `*`, `+` or `?` was read last.
+/// The open branches, with the innermost one apart, and a flag that is true if `*`, `+` or `?` was read last.
 #[derive(Drop)]
 pub(crate) struct Branches {
     pub outer: Vec<Branch>,
@@ -33,7 +33,7 @@ fn empty_branch(opened: usize, start: usize) -> Branch {
     }
 }
 
-/// What is open where a pattern begins.
+/// Returns the open branches at the start of a pattern.
 pub(crate) fn branches_at(alloc: Global, start: usize) -> Branches {
     Branches {
         outer: Vec::new(alloc),
@@ -60,7 +60,7 @@ fn with_interval(branch: Branch) -> Branch {
     }
 }
 
-/// The branches behind a lexeme that stands there.
+/// Updates the branches with the lexeme at this position.
 pub(crate) fn take_lexeme(
     branches: &mut Branches,
     lexeme: &Lexeme,

@@ -1,4 +1,4 @@
-//! Escapes that may mean something else to their writer.
+//! Escapes that may not mean what their writer intended.
 
 use crate::kinds::{KindSet, WarningKind};
 use crate::suspects::{Suspect, push_part};
@@ -7,14 +7,14 @@ use lx_diagnose::places::between;
 use lx_diagnose::scan::is_at;
 use std::alloc::AllocError;
 
-// From so many hexadecimal digits on a number has more than those of a byte.
+// Least number of hexadecimal digits that are more than those of a byte.
 const LONG: usize = 3;
 
 fn is_hexadecimal_at(text: &[u8], at: usize) -> bool {
     at < text.len() && text[at].is_ascii_hexdigit()
 }
 
-// The first place from one up to another where no hexadecimal digit stands.
+// Returns the first position from `from` up to `end` without a hexadecimal digit.
 fn behind_hexadecimal(text: &[u8], from: usize, end: usize) -> usize {
     for at in from..end {
         if !is_hexadecimal_at(text, at) {
@@ -24,7 +24,7 @@ fn behind_hexadecimal(text: &[u8], from: usize, end: usize) -> usize {
     end
 }
 
-// What is said of a backslash and this byte, where that is a letter or digit that has no escape of its own.
+// Returns the warning on a backslash and this byte, if the byte is a letter or digit without its own escape.
 fn letter_phrase(byte: u8) -> Option<&'static str> {
     match byte {
         b'a' | b'b' | b't' | b'n' | b'v' | b'f' | b'r' | b'x' => None,
@@ -46,7 +46,7 @@ fn letter_phrase(byte: u8) -> Option<&'static str> {
     }
 }
 
-// Looks at an escape of hexadecimal digits, of which there are so many.
+// Examines an escape with `digits` hexadecimal digits.
 fn look_at_hexadecimal(
     found: &mut Vec<Suspect>,
     allowed: &KindSet,
@@ -65,7 +65,7 @@ fn look_at_hexadecimal(
     }
 }
 
-// Looks at the escape whose backslash stands there.
+// Examines the escape whose backslash is at this position.
 fn look_at_escape(
     text: &[u8],
     found: &mut Vec<Suspect>,
@@ -92,7 +92,7 @@ fn look_at_escape(
     }
 }
 
-/// Looks at the escapes of a lexeme.
+/// Examines the escapes of a lexeme.
 pub(crate) fn look_at_escapes(
     text: &[u8],
     found: &mut Vec<Suspect>,

@@ -5,7 +5,7 @@ ghost use Rattle.lx_warnings.specs.Names.{name_text};
 ghost use Rattle.lx_warnings.specs.Kinds.{has_kind, is_usual, number};
 ghost use Rattle.lx_warnings.specs.declared.kinds.WarningKind.{WarningKind};
 
-/// What is suspicious. `explain` says of each what it means and what to do.
+/// The kind of a warning. `explain` gives its meaning and what to do.
 #[derive(Clone, Copy, Debug)]
 pub enum WarningKind {
     ConditionWord,
@@ -28,7 +28,7 @@ pub enum WarningKind {
     UnreadBytes,
 }
 
-/// The number of kinds.
+/// Number of kinds.
 pub const KINDS: usize = 18;
 
 /// All kinds.
@@ -53,7 +53,7 @@ pub const ALL: [WarningKind; KINDS] = [
     WarningKind::UnreadBytes,
 ];
 
-/// The name of a kind, as `-W` and `explain` have it.
+/// Returns the name of a kind, as `-W` and `explain` use it.
 pub fn name_of(kind: WarningKind) -> &'static str
     ensures { result.now ≡ name_text kind }
 {
@@ -79,7 +79,7 @@ pub fn name_of(kind: WarningKind) -> &'static str
     }
 }
 
-/// The kind with a name; none, where it is no name of one.
+/// Returns the kind with a name, or `None` if there is none.
 pub fn kind_named(name: &[u8]) -> Option<WarningKind>
     ensures { IfSome result (λ kind. name_text kind ≡ name.now) }
 {
@@ -98,14 +98,14 @@ fn number_of(kind: WarningKind) -> usize
     kind as usize
 }
 
-/// Some of the kinds.
+/// A set of kinds.
 #[derive(Clone, Copy, Debug)]
 pub struct KindSet {
     flags: [bool; KINDS],
 }
 
 impl KindSet {
-    /// No kind.
+    /// Returns the empty set.
     pub fn none() -> KindSet
         ensures { (kind : WarningKind) → has_kind result kind ≡ false }
     {
@@ -114,7 +114,7 @@ impl KindSet {
         }
     }
 
-    /// All kinds.
+    /// Returns the set of all kinds.
     pub fn all() -> KindSet
         ensures { (kind : WarningKind) → has_kind result kind ≡ true }
     {
@@ -123,7 +123,7 @@ impl KindSet {
         }
     }
 
-    /// The kinds that are told unless others are asked for: all but those that say what may well be meant.
+    /// Returns the default kinds: all except those that warn of what may well be intended.
     pub fn usual() -> KindSet
         ensures { (kind : WarningKind) → has_kind result kind ≡ is_usual kind }
     {
@@ -132,14 +132,14 @@ impl KindSet {
             .with(WarningKind::UnreadBytes, false)
     }
 
-    /// Whether a kind is among them.
+    /// Returns true if a kind is in the set.
     pub fn contains(&self, kind: WarningKind) -> bool
         ensures { result ≡ has_kind self.now kind }
     {
         self.flags[number_of(kind)]
     }
 
-    /// The same with a kind, or without it.
+    /// Returns the set with a kind added or removed.
     pub fn with(self, kind: WarningKind, is_in: bool) -> KindSet
         ensures { (other : WarningKind) → has_kind result other ≡ (if nat_eq (number other) (number kind) then is_in else has_kind self other) }
     {

@@ -1,4 +1,4 @@
-//! Where the parts of a specification stand, of which it is known that it is accepted.
+//! The positions of the parts of an accepted specification.
 
 use crate::allowing::allowed_by;
 use crate::kinds::KindSet;
@@ -8,14 +8,14 @@ use lx_diagnose::scan::{is_at, is_blank_at, next_blank};
 use lx_diagnose::sectioning::{LineKind, Section, kind_of_line, line_between};
 use std::alloc::{AllocError, Global};
 
-/// A part of the text, and what the line before it allows.
+/// A part of the text, with the kinds that the line before it allows.
 #[derive(Clone, Copy)]
 pub(crate) struct Part {
     pub at: Span,
     pub allowed: KindSet,
 }
 
-/// A name, and what stands for it.
+/// A name and its substitute.
 #[derive(Clone, Copy)]
 pub(crate) struct DefinitionPart {
     pub name: Span,
@@ -23,7 +23,7 @@ pub(crate) struct DefinitionPart {
     pub allowed: KindSet,
 }
 
-/// A rule: where it begins, its pattern behind the list of conditions, and its action up to the end of its last line.
+/// A rule: its start, its pattern after the list of conditions, and its action up to the end of its last line.
 #[derive(Clone, Copy)]
 pub(crate) struct RulePart {
     pub start: usize,
@@ -32,20 +32,20 @@ pub(crate) struct RulePart {
     pub allowed: KindSet,
 }
 
-/// The parts of a text, each in order.
+/// The parts of a text, each kind in order.
 #[derive(Drop)]
 pub(crate) struct Layout {
-    /// The lines that declare conditions.
+    /// Lines that declare conditions.
     pub declarations: Vec<Part>,
-    /// The names of conditions, without INITIAL.
+    /// Names of conditions, without INITIAL.
     pub conditions: Vec<Part>,
     pub definitions: Vec<DefinitionPart>,
-    /// The line that begins Rules.
+    /// The line that begins the rules section.
     pub rules_begin: Option<Part>,
     pub rules: Vec<RulePart>,
-    /// The lines of Rules that are skipped, but those of groups and actions.
+    /// Skipped lines of the rules section, except those of groups and actions.
     pub skipped: Vec<Part>,
-    /// The lines behind Rules.
+    /// Lines after the rules section.
     pub behind: Vec<Part>,
 }
 
@@ -66,7 +66,7 @@ fn take_conditions(layout: &mut Layout, text: &[u8], line: Part) -> Result<(), A
     Ok(())
 }
 
-// The rule that began last goes on with this line.
+// Extends the last rule by this line.
 fn lengthen_rule(layout: &mut Layout, line: Span) {
     if let Some(rule) = layout.rules.last_mut() {
         rule.action = between(rule.action.start, line.end());
@@ -102,7 +102,7 @@ fn take_line(
     Ok(())
 }
 
-// What a line allows on the next one, where it stands by itself.
+// Returns the kinds that a line allows on the next one, if the line isn't part of another construct.
 fn allowed_behind(text: &[u8], line: Span, section: Section) -> KindSet {
     match section {
         Section::Definitions | Section::Rules => allowed_by(text, line),
@@ -122,7 +122,7 @@ fn empty_layout(alloc: Global) -> Layout {
     }
 }
 
-/// Where the parts of a text stand.
+/// Returns the positions of the parts of a text.
 pub(crate) fn layout_of(alloc: Global, text: &[u8]) -> Result<Layout, AllocError> {
     let mut layout = empty_layout(alloc);
     let mut section = Section::Definitions;

@@ -1,4 +1,4 @@
-//! Lexemes of a pattern that may mean something else to their writer.
+//! Lexemes of a pattern that may not mean what their writer intended.
 
 use crate::brackets::{character_before, look_at_brackets};
 use crate::branches::{Branch, Branches};
@@ -11,7 +11,7 @@ use lx_diagnose::scan::is_at;
 use lx_ere::lexeme::Lexeme;
 use std::alloc::AllocError;
 
-// An interval behind several units.
+// Warns of an interval after several units.
 fn look_at_interval(
     found: &mut Vec<Suspect>,
     allowed: &KindSet,
@@ -33,7 +33,7 @@ fn look_at_interval(
     push_suspect(found, allowed, suspect)
 }
 
-// A repeat behind a repeat, or behind the last byte of a character of several.
+// Warns of a repeat after a repeat, or after the last byte of a multi-byte character.
 fn look_at_repeat(
     text: &[u8],
     found: &mut Vec<Suspect>,
@@ -63,7 +63,7 @@ fn look_at_repeat(
     }
 }
 
-// Whether a quotation mark of several bytes begins there: one of U+2018 to U+201F.
+// Returns true if a multi-byte quotation mark begins here: one of U+2018 to U+201F.
 fn is_curly_at(text: &[u8], at: usize) -> bool {
     let last = at.saturating_add(2);
     is_at(text, at, 0xE2)
@@ -73,7 +73,7 @@ fn is_curly_at(text: &[u8], at: usize) -> bool {
         && text[last] < 0xA0
 }
 
-// Looks at what is spelled by one byte, an escape or brackets.
+// Examines a lexeme that is one byte, an escape or brackets.
 fn look_at_set(
     text: &[u8],
     found: &mut Vec<Suspect>,
@@ -97,7 +97,7 @@ fn look_at_set(
     }
 }
 
-/// Looks at a lexeme that stands there, behind these branches.
+/// Examines the lexeme at this position, which comes after these branches.
 pub(crate) fn look_at_lexeme(
     text: &[u8],
     found: &mut Vec<Suspect>,
@@ -109,7 +109,7 @@ pub(crate) fn look_at_lexeme(
     match lexeme {
         Lexeme::Set(_) => look_at_set(text, found, allowed, at),
         Lexeme::Quoted(_, _) => look_at_escapes(text, found, allowed, at),
-        // It repeats a text once.
+        // it repeats a text once
         Lexeme::Interval(1, Some(1)) => Ok(()),
         Lexeme::Interval(_, _) => look_at_interval(found, allowed, branches.innermost, at),
         Lexeme::Star | Lexeme::Plus | Lexeme::Question => {

@@ -1,4 +1,4 @@
-//! What is said of a rule that is never chosen.
+//! The warning on a rule that is never chosen.
 
 use crate::warnings::Known;
 use lx_diagnose::wording::{Fillings, filled};
@@ -6,17 +6,17 @@ use lx_reach::Takers;
 use lx_spec::Spec;
 use std::alloc::{AllocError, Global};
 
-// What is said where it isn't known which rules take its texts.
+// Warning if it isn't known which rules take its texts.
 const UNKNOWN: &str =
     "this rule is never chosen: each of its matches gives way to a longer one or to a rule before it, or is empty";
 
-// What is said where it has no texts that a rule could take.
+// Warning if it has no texts that a rule could take.
 const NO_TEXT: &str = "this rule is never chosen: it matches no text of a byte or more";
 
-// The most lines that are named.
+// Greatest number of lines that are named.
 const MOST_LINES: usize = 3;
 
-// Which rules take the texts of this one, if that is known.
+// Returns the rules that take the texts of this one, if they are known.
 fn takers_of<'t>(takers: &'t [Takers], rule: usize) -> Option<&'t Takers> {
     for known in takers {
         if usize::from(known.of) == rule {
@@ -26,7 +26,7 @@ fn takers_of<'t>(takers: &'t [Takers], rule: usize) -> Option<&'t Takers> {
     None
 }
 
-// Words in which `#` stands for a number.
+// Appends words in which `#` is replaced by a number.
 fn push_number(
     alloc: Global,
     phrase: &mut Vec<u8>,
@@ -50,7 +50,7 @@ fn line_of(spec: &Spec, rule: u16) -> u32 {
     }
 }
 
-// The lines of the first of these rules, and how many others there are.
+// Appends the lines of the first of these rules, and the number of the others.
 fn push_lines(
     alloc: Global,
     phrase: &mut Vec<u8>,
@@ -84,7 +84,7 @@ fn push_lines(
     )
 }
 
-// The same with an example, for `@`.
+// Appends the rules that take its texts, and an example for `@`.
 fn push_takers(
     alloc: Global,
     phrase: &mut Vec<u8>,
@@ -109,7 +109,7 @@ fn push_takers(
     })
 }
 
-/// The words on the rule of this number, which is never chosen: which rules take its texts, with a shortest one, where that is known.
+/// Returns the warning on the rule with this number, which is never chosen. If known, it names the rules that take its texts, with a shortest text.
 pub(crate) fn phrase_and_example<'k>(
     alloc: Global,
     known: &Known<'k>,

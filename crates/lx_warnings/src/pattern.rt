@@ -1,4 +1,4 @@
-//! Patterns and what stands for names, lexeme by lexeme as they are read.
+//! Patterns and substitutes, examined lexeme by lexeme.
 
 use crate::branches::{branches_at, take_lexeme};
 use crate::kinds::KindSet;
@@ -10,7 +10,7 @@ use lx_diagnose::scan::{is_at, part};
 use lx_ere::lexeme::lexeme_at;
 use std::alloc::{AllocError, Global};
 
-// What stands behind the `^` of a pattern.
+// Returns the position after the `^` of a pattern, if it has one.
 fn behind_caret(text: &[u8], pattern: Span) -> usize {
     if is_at(text, pattern.start, b'^') {
         pattern.start.saturating_add(1)
@@ -19,7 +19,7 @@ fn behind_caret(text: &[u8], pattern: Span) -> usize {
     }
 }
 
-// Adds what is suspicious about each lexeme of a pattern, as far as that has a reading.
+// Adds the suspicious lexemes of a pattern, up to the first unreadable one.
 fn look_at_lexemes(
     alloc: Global,
     text: &[u8],
@@ -46,7 +46,7 @@ fn look_at_lexemes(
     Ok(())
 }
 
-/// Looks at a pattern or a substitute. What is found several times there is told once.
+/// Examines a pattern or a substitute. Reports repeated findings in it once.
 pub(crate) fn look_at_pattern(
     alloc: Global,
     text: &[u8],

@@ -1,4 +1,4 @@
-//! Lines that are skipped and look like rules.
+//! Skipped lines that look like rules.
 
 use crate::kinds::{KindSet, WarningKind};
 use crate::layout::{Layout, Part};
@@ -10,7 +10,7 @@ use lx_spec::action::{Action, Statement, read_action};
 use lx_spec::rule_line::{Prefix, RuleLine, rule_line_of};
 use std::alloc::{AllocError, Global};
 
-// What is said of a line that a blank begins, where the blank may be of the pattern.
+// Warning on a line that begins with a blank, if the blank may belong to the pattern.
 const BLANK_PHRASE: &str =
     "this line is skipped, since a blank begins it; a rule for a blank begins with \" \" or [ ]";
 
@@ -23,7 +23,7 @@ fn does_anything(statements: &[Statement]) -> bool {
     false
 }
 
-// Returns whether no statement of C begins as the text does.
+// Returns true if no C statement begins like the text.
 fn is_no_statement(text: &[u8]) -> bool {
     match text.first() {
         Some(byte) => matches!(*byte, b'\\' | b'[' | b'^' | b'.' | b'<' | b'"'),
@@ -31,7 +31,7 @@ fn is_no_statement(text: &[u8]) -> bool {
     }
 }
 
-// Returns whether the text is an action, with `takes_nothing` also one that does nothing.
+// Returns true if the text is an action. With `takes_nothing`, an action without effect counts too.
 fn is_action(alloc: Global, text: &[u8], takes_nothing: bool) -> Result<bool, AllocError> {
     match read_action(alloc, text)? {
         Some(Action::Shared) => Ok(true),
@@ -42,7 +42,7 @@ fn is_action(alloc: Global, text: &[u8], takes_nothing: bool) -> Result<bool, Al
     }
 }
 
-// Returns whether an action is all that stands behind the blank that begins a line, so that the blank is the pattern, or one that is repeated.
+// Returns true if only an action follows the blank at the start of the line. Then the blank, maybe repeated, is the pattern.
 fn is_action_behind_blank(alloc: Global, text: &[u8]) -> Result<bool, AllocError> {
     match text {
         [b'+' | b'*' | b'?', b' ' | b'\t', action @ ..] => is_action(alloc, action, true),
@@ -58,7 +58,7 @@ fn is_pattern(alloc: Global, text: &[u8]) -> Result<bool, AllocError> {
     }
 }
 
-// Whether the text would be a rule on one line, with an action that does something.
+// Returns true if the text would be a rule on one line, with an action that has an effect.
 fn is_rule(alloc: Global, text: &[u8]) -> Result<bool, AllocError> {
     match rule_line_of(text) {
         RuleLine::BeginsRule {
@@ -90,7 +90,7 @@ fn look_at_line(
     Ok(())
 }
 
-// Looks at a line of Rules that a blank begins: whether a rule stands behind the blank, or the blank is the pattern.
+// Examines a line of the rules section that begins with a blank. Either a rule follows the blank, or the blank is the pattern.
 fn look_at_indented(
     alloc: Global,
     text: &[u8],
@@ -112,7 +112,7 @@ fn look_at_indented(
     look_at_line(alloc, text, found, &line.allowed, suspect)
 }
 
-/// Looks at the lines of Rules that begin with a blank, and at those behind Rules.
+/// Examines the lines of the rules section that begin with a blank, and the lines after that section.
 pub(crate) fn look_at_skipped(
     alloc: Global,
     text: &[u8],

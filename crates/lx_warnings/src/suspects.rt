@@ -1,24 +1,24 @@
-//! What was found so far, without words.
+//! Findings without their text.
 
 use crate::kinds::{KindSet, WarningKind};
 use lx_diagnose::Span;
 use lx_diagnose::scan::part;
 use std::alloc::AllocError;
 
-/// What is put into a phrase.
+/// The parts that are put into a phrase.
 #[derive(Clone, Copy)]
 pub(crate) enum Subject {
     /// Two parts of the text, for `@` and for `~`.
     Parts(Span, Span),
-    /// A byte, for `@`.
+    /// One byte, for `@`.
     Byte(u8),
-    /// Nothing: the words are those on the bytes that no rule takes in the condition of this number.
+    /// No part: the phrase is about the bytes that no rule takes in the condition with this number.
     Untaken(u16),
-    /// Nothing: the words are those on the rules that take the texts of the rule of this number.
+    /// No part: the phrase is about the rules that take the texts of the rule with this number.
     Takers(usize),
 }
 
-/// What is suspicious: where it is, and a phrase with what is put into it.
+/// A finding: its kind and place, and a phrase with the parts that are put into it.
 #[derive(Clone, Copy)]
 pub(crate) struct Suspect {
     pub kind: WarningKind,
@@ -27,7 +27,7 @@ pub(crate) struct Suspect {
     pub subject: Subject,
 }
 
-/// A part of the text that is itself the word of the phrase.
+/// Returns a finding on a part of the text, which is itself the word in the phrase.
 pub(crate) fn suspect_at(kind: WarningKind, at: Span, phrase: &'static str) -> Suspect {
     Suspect {
         kind,
@@ -37,7 +37,7 @@ pub(crate) fn suspect_at(kind: WarningKind, at: Span, phrase: &'static str) -> S
     }
 }
 
-/// Adds such a part of the text, unless it is allowed.
+/// Adds such a finding, unless its kind is allowed.
 pub(crate) fn push_part(
     found: &mut Vec<Suspect>,
     allowed: &KindSet,
@@ -48,7 +48,7 @@ pub(crate) fn push_part(
     push_suspect(found, allowed, suspect_at(kind, at, phrase))
 }
 
-/// Adds what was found, unless it is allowed.
+/// Adds a finding, unless its kind is allowed.
 pub(crate) fn push_suspect(
     found: &mut Vec<Suspect>,
     allowed: &KindSet,
@@ -60,14 +60,14 @@ pub(crate) fn push_suspect(
     Ok(())
 }
 
-// Returns whether both say the same of the same words. One interval that repeats more than in flex stands for all.
+// Returns true if both report the same about the same words. One interval that repeats more than in flex represents all of them.
 fn is_again(text: &[u8], suspect: &Suspect, other: &Suspect) -> bool {
     suspect.phrase == other.phrase
         && (matches!(suspect.kind, WarningKind::Interval)
             || part(text, suspect.at) == part(text, other.at))
 }
 
-/// Adds what was found, unless the same was found before, from the suspect of this number on.
+/// Adds a finding, unless the same one is already there from number `first` on.
 pub(crate) fn push_once(
     text: &[u8],
     found: &mut Vec<Suspect>,

@@ -1,4 +1,4 @@
-//! All that is suspicious about a text.
+//! Finds all that is suspicious in a text.
 
 ghost use Rattle.std.specs.Prelude.{◌<◌, length};
 
@@ -20,7 +20,7 @@ use lx_spec::action::{Action, read_action};
 use lx_tables::Tables;
 use std::alloc::{AllocError, Global};
 
-// The words behind `%` by which conditions are declared, but for those that only begin so.
+// Words after `%` that declare conditions. Any other word that begins like one also declares, but is suspicious.
 const CONDITION_WORDS: &[u8] = b" s S x X start ";
 
 fn look_at_declaration(
@@ -48,7 +48,7 @@ fn look_at_conditions(
     entered: &[bool],
 ) -> Result<(), AllocError> {
     for i in 0..layout.conditions.len() {
-        // INITIAL is the first condition, and isn't declared.
+        // INITIAL is the first condition, and isn't declared
         if i + 1 < entered.len() && !entered[i + 1] {
             let condition = &layout.conditions[i];
             let phrase = "no rule enters the condition @";
@@ -64,7 +64,7 @@ fn look_at_conditions(
     Ok(())
 }
 
-// Whether rules reach the definition of a name.
+// Returns true if rules reach the definition of a name.
 fn is_used(spec: &Spec, name: &[u8]) -> bool {
     for definition in &spec.definitions {
         if definition.name.as_slice() == name {
@@ -82,7 +82,7 @@ fn unused_phrase(alloc: Global, substitute: &[u8]) -> Result<&'static str, Alloc
     }
 }
 
-// Looks whether a definition is used.
+// Warns of a definition that isn't used.
 fn look_at_use(
     alloc: Global,
     text: &[u8],
@@ -107,7 +107,7 @@ fn is_shared(alloc: Global, action: &[u8]) -> Result<bool, AllocError> {
     Ok(matches!(read_action(alloc, action)?, Some(Action::Shared)))
 }
 
-// A rule in a list of conditions whose pattern is what flex has for the end of a file.
+// Warns of a rule in a list of conditions whose pattern is flex's `<<EOF>>`.
 fn look_at_end_rule(
     text: &[u8],
     found: &mut Vec<Suspect>,
@@ -163,7 +163,7 @@ fn look_at_rules(
     Ok(())
 }
 
-// The name of a condition, or for INITIAL the line that begins Rules.
+// Returns the name of a condition, or for INITIAL the line that begins the rules section.
 fn condition_part(layout: &Layout, condition: u16) -> Option<&Part> {
     if condition == 0 {
         return layout.rules_begin.as_ref();
@@ -171,7 +171,7 @@ fn condition_part(layout: &Layout, condition: u16) -> Option<&Part> {
     layout.conditions.get(usize::from(condition) - 1)
 }
 
-// The bytes that no rule takes in a condition.
+// Warns of the bytes that no rule takes in a condition.
 fn look_at_untaken(
     alloc: Global,
     found: &mut Vec<Suspect>,
@@ -210,7 +210,7 @@ fn look_at_all_untaken(
     Ok(())
 }
 
-// The rules for which runs of a byte are read to their end in vain.
+// Warns of rules for which runs of a byte are read to their end without a match.
 fn look_at_runs(
     alloc: Global,
     found: &mut Vec<Suspect>,
@@ -231,7 +231,7 @@ fn look_at_runs(
     Ok(())
 }
 
-// Looks at the substitutes of definitions. Those that the specification doesn't use are passed over, where it is known.
+// Examines the substitutes of definitions. If the specification is known, skips those that it doesn't use.
 fn look_at_substitutes(
     alloc: Global,
     text: &[u8],
@@ -252,7 +252,7 @@ fn look_at_substitutes(
     Ok(())
 }
 
-/// Looks for what is suspicious about the lines of a text by themselves. Of a text that is refused no specification is known.
+/// Finds what is suspicious in single lines of a text. The specification is unknown if the text is rejected.
 pub(crate) fn look_at_lines(
     alloc: Global,
     text: &[u8],
@@ -268,7 +268,7 @@ pub(crate) fn look_at_lines(
     look_at_skipped(alloc, text, found, layout)
 }
 
-/// Looks for what is suspicious about the parts of a text; at runs of a byte only where that is asked for, since it takes long.
+/// Finds what is suspicious in the parts of a text. Examines runs of a byte only if asked, since this takes long.
 pub(crate) fn look_at_text(
     alloc: Global,
     text: &[u8],

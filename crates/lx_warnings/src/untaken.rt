@@ -1,11 +1,11 @@
-//! The bytes that no rule takes.
+//! Bytes that no rule takes.
 
 ghost use Rattle.std.specs.Prelude.{◌<◌, length};
 
 use lx_tables::Tables;
 use std::alloc::{AllocError, Global};
 
-// Whether a match may begin with this byte, at the beginning of a line or elsewhere. Each state leads to one that accepts.
+// Returns true if a match may begin with this byte, at the start of a line or elsewhere. Every state leads to an accepting one.
 fn is_taken(tables: &Tables, condition: u16, byte: u8) -> bool
     requires { condition < length tables.now.machine.starts }
 {
@@ -13,26 +13,26 @@ fn is_taken(tables: &Tables, condition: u16, byte: u8) -> bool
         || tables.step(tables.start(condition, true), byte).is_some()
 }
 
-// Whether a range of bytes that no rule takes begins with this one.
+// Returns true if a range of bytes that no rule takes begins with this one.
 fn opens(tables: &Tables, condition: u16, byte: u8) -> bool
     requires { condition < length tables.now.machine.starts }
 {
     !is_taken(tables, condition, byte) && (byte == 0 || is_taken(tables, condition, byte - 1))
 }
 
-// Whether one ends with it.
+// Returns true if such a range ends with this byte.
 fn closes(tables: &Tables, condition: u16, byte: u8) -> bool
     requires { condition < length tables.now.machine.starts }
 {
     !is_taken(tables, condition, byte) && (byte == 255 || is_taken(tables, condition, byte + 1))
 }
 
-// Returns whether a byte has a meaning of its own in brackets.
+// Returns true if a byte has a special meaning in brackets.
 fn is_bracket_operator(byte: u8) -> bool {
     matches!(byte, b'\\' | b'[' | b']' | b'^' | b'-')
 }
 
-// Returns whether an escape would go on with a digit that stands behind it.
+// Returns true if a digit after the set would continue an escape.
 fn ends_with_escape(set: &[u8]) -> bool {
     match set {
         [.., b'\\', b'x', _, _] => true,
@@ -46,7 +46,7 @@ fn digit(n: u8) -> u8
     if n < 10 { b'0' + n } else { b'A' + (n - 10) }
 }
 
-// Adds a byte as brackets have it. A digit behind an escape is an escape too, since it would be read as a part of the number.
+// Appends a byte in the syntax of brackets. A hexadecimal digit after an escape is escaped too, because it would be read as a part of the number.
 fn push_point(set: &mut Vec<u8>, byte: u8) -> Result<(), AllocError> {
     if is_bracket_operator(byte) {
         set.push(b'\\')?;
@@ -64,8 +64,8 @@ fn push_point(set: &mut Vec<u8>, byte: u8) -> Result<(), AllocError> {
     Ok(())
 }
 
-/// The bytes that no rule takes in a condition, as brackets have them between `[` and `]`: the first and the last one of each range, with a `-` between them where
-/// they differ.
+/// Returns the bytes that no rule takes in a condition, in the syntax between `[` and `]`. Each range has its first and its last byte, with a `-`
+/// between them if they differ.
 pub fn untaken_bytes(alloc: Global, tables: &Tables, condition: u16) -> Result<Vec<u8>, AllocError>
     requires { condition < length tables.now.machine.starts }
 {

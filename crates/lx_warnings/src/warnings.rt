@@ -1,4 +1,4 @@
-//! Warnings, each with its place and its words.
+//! Warnings, each with its place and its text.
 
 ghost use Rattle.std.specs.Prelude.{◌≡◌, ◌<◌, All, IfOk, length, min, true};
 ghost use Rattle.lx_diagnose.specs.Printed.{ArePrinted};
@@ -20,21 +20,21 @@ use lx_spec::Spec;
 use lx_tables::Tables;
 use std::alloc::{AllocError, Global};
 
-/// What is known of a text that is accepted.
+/// Facts about an accepted text.
 #[derive(Clone, Copy)]
 pub struct Known<'k> {
-    /// The specification that it says, and its tables.
+    /// Specification in the text, and its tables.
     pub spec: &'k Spec,
     pub tables: &'k Tables,
-    /// Of each rule whether it is ever chosen.
+    /// For each rule, true if it is ever chosen.
     pub chosen: &'k [bool],
-    /// Of each condition whether it is entered.
+    /// For each condition, true if it is entered.
     pub entered: &'k [bool],
-    /// Which rules take the texts of some that are never chosen.
+    /// Rules that take the texts of some rules that are never chosen.
     pub takers: &'k [Takers],
 }
 
-/// What is suspicious, where it is, and what is said of it, in one line.
+/// A warning: its kind, its place, and its text in one line.
 #[derive(Drop)]
 pub struct Warning {
     pub kind: WarningKind,
@@ -42,7 +42,7 @@ pub struct Warning {
     pub words: Vec<u8>,
 }
 
-/// The first warnings of a text, and how many there are in all.
+/// The first warnings of a text, and the number of all of them.
 #[derive(Drop)]
 pub struct Warnings {
     pub told: Vec<Warning>,
@@ -66,7 +66,7 @@ fn name_in(spec: &Spec, condition: u16) -> &[u8] {
     }
 }
 
-// Says of a condition which bytes no rule takes there.
+// Makes the warning on the bytes that no rule takes in a condition.
 fn untaken_words(alloc: Global, known: &Known<'_>, condition: u16) -> Result<Vec<u8>, AllocError>
     ensures { IfOk result (λ words. ArePrinted words.items) }
 {
@@ -78,7 +78,7 @@ fn untaken_words(alloc: Global, known: &Known<'_>, condition: u16) -> Result<Vec
     printed(alloc, &words)
 }
 
-// A phrase with these two for `@` and `~`.
+// Fills `@` and `~` of a phrase.
 fn filled_with(
     alloc: Global,
     phrase: &[u8],
@@ -95,7 +95,7 @@ fn filled_with(
     filled(alloc, phrase, &fillings)
 }
 
-// What is known of the text is nothing where it is refused: then no phrase speaks of it.
+// Makes the text of a finding. Without known facts, for a rejected text, no phrase needs them.
 fn phrased(
     alloc: Global,
     text: &[u8],
@@ -136,7 +136,7 @@ fn warning_of(
     })
 }
 
-// Those of the kinds that are asked for: the first of them in words, and how many there are.
+// Selects the findings of the requested kinds. Returns the first ones with their text, and the number of all of them.
 fn told_of(
     alloc: Global,
     text: &[u8],
@@ -163,9 +163,10 @@ fn told_of(
     Ok(Warnings { told, count })
 }
 
-/// The warnings of a text that is accepted, by their places, of those kinds that are asked for: the first of them, and how many there are. Err: memory was refused.
+/// Returns the warnings of an accepted text, ordered by their places, of the requested kinds: the first `most`, and the number of all of them. Err:
+/// an allocation failed.
 ///
-/// What is said of a text that isn't accepted, or by what isn't known of it, is of no use, but lies in the text all the same.
+/// If the text isn't accepted, or the facts aren't true of it, the warnings are useless, but their places are in the text.
 pub fn warnings_of(
     alloc: Global,
     text: &[u8],
@@ -184,7 +185,7 @@ pub fn warnings_of(
     told_of(alloc, text, Some(known), &suspects, asked, most)
 }
 
-// Returns those of the suspects that are on none of these lines.
+// Returns the findings that are on none of these lines.
 fn beside(
     alloc: Global,
     text: &[u8],
@@ -200,8 +201,9 @@ fn beside(
     Ok(kept)
 }
 
-/// The warnings of a text that is refused, but whose sections have a form: those that need no more than the lines of the text, by their places, of the kinds
-/// that are asked for. Those on the given lines are left out, since these have errors. The first of them, and their number. Err: memory was refused.
+/// Returns the warnings of a rejected text whose sections are well-formed. They need no more than the lines of the text. They are of the requested
+/// kinds, ordered by their places, without those on the given lines, which have errors. Returns the first `most`, and the number of all of them. Err:
+/// an allocation failed.
 pub fn warnings_beside(
     alloc: Global,
     text: &[u8],
