@@ -1,10 +1,10 @@
-//! Positions between two members of a set.
+//! Ranges of positions between two members of a set.
 
 ghost use Rattle.std.specs.Prelude.{◌≡◌, ◌<◌, ◌≤◌, ◌⊎◌, ℕ, Contains, true, length, slice_index};
 ghost use Rattle.lx_auto.specs.SetSteps.{IsRising};
 ghost use Rattle.lx_auto.specs.BarePositions.{IsBareIn};
 
-/// Positions of which none is in a set: from one on, and before another. So many members of the set stand before the first of them.
+/// A range of positions without members of a set, from `from` up to `until`. `passed` is the number of members before its first position.
 #[derive(Clone, Copy)]
 pub(crate) struct Bare {
     pub(crate) from: usize,
@@ -12,17 +12,17 @@ pub(crate) struct Bare {
     pub(crate) passed: usize,
 }
 
-/// No positions.
+/// The empty range.
 pub(crate) const NOWHERE: Bare = Bare {
     from: 0,
     until: 0,
     passed: 0,
 };
 
-// All members stand before it.
+// A position after all members.
 const BEHIND_ALL: usize = 65_536;
 
-/// Whether each member is greater than the one before.
+/// Returns true if each member is greater than the previous one.
 pub(crate) fn is_rising(set: &[u16]) -> bool
     ensures { result ≡ true → IsRising set.now }
 {
@@ -36,7 +36,7 @@ pub(crate) fn is_rising(set: &[u16]) -> bool
     true
 }
 
-// How many members stand before a position, where it is known of so many.
+// Returns the number of members before a position. The first `passed` members are known to be before it.
 fn members_before(set: &[u16], passed: usize, position: usize) -> usize
     requires within { passed ≤ length set.now }
     ensures within { result ≤ length set.now }
@@ -50,7 +50,7 @@ fn members_before(set: &[u16], passed: usize, position: usize) -> usize
     before
 }
 
-// The member with so many before it, or a position behind all.
+// Returns the member with this number, or a position after all members.
 fn member_at(set: &[u16], before: usize) -> usize
     ensures { before < length set.now → result ≡ slice_index set.now before }
 {
@@ -60,7 +60,7 @@ fn member_at(set: &[u16], before: usize) -> usize
     }
 }
 
-// How many members are known to stand before a position.
+// Returns a number of members that are known to be before a position.
 fn passed_by(bare: Bare, position: usize) -> usize
     ensures known { result ≡ bare.passed ⊎ result ≡ 0 }
     ensures before { result ≡ bare.passed → result ≡ 0 ⊎ bare.from ≤ position }
@@ -72,7 +72,7 @@ fn passed_by(bare: Bare, position: usize) -> usize
     }
 }
 
-// The positions from this one on that stand before the next member.
+// Returns the range from this position up to the next member.
 fn bare_from(set: &[u16], bare: Bare, position: usize) -> Bare
     requires rising { IsRising set.now }
     requires bare { IsBareIn set.now bare }
@@ -88,8 +88,8 @@ fn bare_from(set: &[u16], bare: Bare, position: usize) -> Bare
     }
 }
 
-/// These positions where this one is among them, else those from this one on. So all members are gone over once. There are none where it isn't
-/// known that the members rise.
+/// Returns the range if this position is in it, otherwise the range from this position on. So each member is visited once. The result is empty if the
+/// members aren't known to be in ascending order.
 pub(crate) fn bare_at(set: &[u16], rising: bool, bare: Bare, position: usize) -> Bare
     requires rising { rising ≡ true → IsRising set.now }
     requires bare { IsBareIn set.now bare }

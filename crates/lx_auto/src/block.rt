@@ -1,19 +1,19 @@
-//! What is kept of a block, a part of a rule's expression, to follow its positions.
+//! Blocks: parts of a rule's expression, with the data to follow their positions.
 
 ghost use Rattle.std.specs.Prelude.{◌<◌, ◌^◌};
 
 use crate::node::Node;
 
-/// What is kept of a block: its nodes, which of them match the empty word, and where its positions stand.
+/// A block: its nodes, a flag for each node that matches the empty word, and the range of its positions.
 #[derive(Drop)]
 pub(crate) struct Block<'s> {
     pub(crate) nodes: Vec<Node<'s>>,
     pub(crate) nulls: Vec<bool>,
-    /// Its first position.
+    /// First position of the block.
     pub(crate) base: usize,
-    /// How many positions it has.
+    /// Number of positions of the block.
     pub(crate) count: usize,
-    /// Whether they stand one behind the other: nothing in it is an alternative, optional or repeated.
+    /// True if its positions form a sequence: no part of it is an alternative, optional or repeated.
     pub(crate) is_sequence: bool,
     pub ghost small: { base < 2 ^ 32 },
     pub ghost few: { count < 2 ^ 32 },

@@ -1,4 +1,4 @@
-//! From the marked positions of blocks to those of their positions that can be read next.
+//! Steps from the marked positions of blocks to those positions of theirs that can be read next.
 
 ghost use Rattle.std.specs.Prelude.{◌≡◌, ◌+◌, ◌-◌, ◌<◌, ◌≤◌, ℕ, List, [], ◌∷◌, IfOk, OnOk, Bool, false, length, map};
 ghost use Rattle.lx_auto.specs.Blocks.{IsBlock, AreBlocks, HasEnds, HaveEnds, IsClear, last_flag, shifted};
@@ -12,14 +12,14 @@ use crate::marking::{ends_of, flag, has_flag, mark_reads, set_flag};
 use std::alloc::{AllocError, Global};
 
 impl Block<'_> {
-    // Whether a position of the block is marked.
+    // Returns true if a position of the block is marked.
     fn is_touched(&self, marks: &[bool]) -> bool
         ensures { result ≡ false → (q : ℕ) → self.now.base ≤ q → q < self.now.base + self.now.count → plain.flag marks.now q ≡ false }
     {
         has_flag(marks, self.base, self.count)
     }
 
-    // Of a sequence, whether a marked position can stand last in it: whether its last one is marked.
+    // Tests, for a sequence, if a marked position can be its last one: its last position is marked.
     fn find_last(&self, alloc: Global, marks: &[bool]) -> Result<Vec<bool>, AllocError>
         ensures { IfOk result (λ ends. ends.items ≡ plain.flag marks.now (self.now.base + self.now.count - 1) ∷ []) }
     {
@@ -29,8 +29,8 @@ impl Block<'_> {
         Ok(ends)
     }
 
-    // For each node whether a marked position can stand last in it, of a sequence for the last node alone, and nothing where no position of
-    // the block is marked.
+    // Tests for each node if a marked position can be the last one in it. The result has only the last node of a sequence. It is empty if no position
+    // of the block is marked.
     fn find_ends(&self, alloc: Global, marks: &[bool]) -> Result<Vec<bool>, AllocError>
         ensures { (e : Unfolded) → IsBlock self.now e → IfOk result (λ ends. HasEnds marks.now ends.items self.now e) }
     {
@@ -45,7 +45,7 @@ impl Block<'_> {
         Ok(ends)
     }
 
-    // Of a sequence: its first position can be read where it is entered, and each other one behind the one before it.
+    // Marks the next positions of a sequence: its first position if it is entered, and each other one after a marked position.
     fn read_sequence(&self, marks: &[bool], entered: bool, reads: &mut Vec<bool>)
         ensures set { reads.new.items ≡ shifted marks.now entered self.now.base self.now.count reads.old.items }
         ensures long { length reads.new.items ≡ length reads.old.items }
@@ -60,8 +60,7 @@ impl Block<'_> {
         }
     }
 
-    // Sets for each position of the block whether it can be read next. None can be where the block isn't entered and no position of it
-    // is marked.
+    // Sets for each position of the block if it can be read next. None can be if the block isn't entered and no position of it is marked.
     fn read(
         &self,
         alloc: Global,
@@ -88,7 +87,7 @@ impl Block<'_> {
     }
 }
 
-/// For each block, and each node of it, whether a marked position can stand last.
+/// Tests for each block, and each node of it, if a marked position can be the last one.
 pub(crate) fn find_all_ends(
     alloc: Global,
     blocks: &[Block],
@@ -103,7 +102,7 @@ pub(crate) fn find_all_ends(
     Ok(ends)
 }
 
-/// For each block whether a marked position can stand last in it.
+/// Tests for each block if a marked position can be its last one.
 pub(crate) fn last_flags(alloc: Global, ends: &[Vec<bool>]) -> Result<Vec<bool>, AllocError>
     ensures { IfOk result (λ flags. flags.items ≡ map last_flag ends.now) }
 {
@@ -115,7 +114,7 @@ pub(crate) fn last_flags(alloc: Global, ends: &[Vec<bool>]) -> Result<Vec<bool>,
     Ok(flags)
 }
 
-/// Sets for each position of the blocks whether it can be read next, where a block may be entered by its own flag.
+/// Sets for each position of the blocks if it can be read next. `entered` has a flag for each block.
 pub(crate) fn read_blocks(
     alloc: Global,
     blocks: &[Block],

@@ -1,4 +1,4 @@
-//! Blocks of an expression, numbered one behind the other.
+//! Numbers the positions of an expression's blocks, one after the other.
 
 ghost use Rattle.std.specs.Prelude.{◌≡◌, ◌+◌, ◌<◌, ◌^◌, length, IfOk};
 ghost use Rattle.lx_auto.specs.Blocks.{IsBlockOver, AreBlocksOver, leaf_total, is_sequence_node, are_sequence_nodes};
@@ -11,7 +11,7 @@ use crate::marking::{behind, nulls_of};
 use crate::node::Node;
 use std::alloc::{AllocError, Global};
 
-/// How many positions the nodes have.
+/// Returns the number of positions of the nodes.
 pub(crate) fn count_leaves(nodes: &[Node]) -> usize
     requires { length nodes.now < 2 ^ 63 }
     ensures { result ≡ length (leaves_in (nodes_view nodes.now)) }
@@ -32,7 +32,7 @@ fn is_leaf_or_joins(node: &Node) -> bool
     }
 }
 
-// Whether the positions of nodes stand one behind the other.
+// Returns true if the positions of the nodes form a sequence.
 fn are_sequence(nodes: &[Node]) -> bool
     ensures { result ≡ are_sequence_nodes (nodes_view nodes.now) }
 {
@@ -43,7 +43,7 @@ fn are_sequence(nodes: &[Node]) -> bool
     is_sequence
 }
 
-// What is kept of a block whose positions are numbered from the base on.
+// Makes a block whose positions are numbered from the base on.
 fn block_of<'s>(alloc: Global, nodes: &[Node<'s>], base: usize) -> Result<Block<'s>, AllocError>
     requires small { base + length (leaves_in (nodes_view nodes.now)) < 2 ^ 32 }
     ensures { IfOk result (λ block. IsBlockOver block (nodes_view nodes.now) base) }
@@ -61,7 +61,7 @@ fn block_of<'s>(alloc: Global, nodes: &[Node<'s>], base: usize) -> Result<Block<
     })
 }
 
-/// What is kept of the blocks with these nodes.
+/// Makes the blocks with these nodes.
 pub(crate) fn number_blocks<'s>(
     alloc: Global,
     nodes: &[Vec<Node<'s>>],

@@ -1,4 +1,4 @@
-//! The automaton of a specification (Rabin and Scott 1959: the subset construction, over sets of positions).
+//! Builds the automaton of a specification (Rabin and Scott 1959: the subset construction, over sets of positions).
 
 ghost use Rattle.std.specs.Prelude.{◌≡◌, ◌<◌, ◌≤◌, IfOk, IfErr};
 ghost use Rattle.lx_rules.specs.views.Specs.{spec_view};
@@ -19,10 +19,10 @@ use lx_rules::spec::Spec;
 use lx_rules::well_formed::specs_are_well_formed;
 use std::alloc::Global;
 
-// The most reached sets.
+// Greatest number of reached sets.
 const MOST_SETS: usize = 16_384;
 
-// The automaton over provisional classes.
+// Builds the automaton over provisional classes.
 fn draft(alloc: Global, spec: &Spec) -> Result<Draft, BuildFault>
     ensures machine { IfOk result (λ a. IsMachine a) }
     ensures automaton { IfOk result (λ a. IsAutomatonOf (spec_view spec.now) a) }
@@ -39,14 +39,14 @@ fn draft(alloc: Global, spec: &Spec) -> Result<Draft, BuildFault>
     Ok(draft)
 }
 
-/// The automaton of a specification: from each start condition, at line begin or elsewhere, a word of bytes leads to a state that
-/// accepts the earliest rule that fits it so that the rule's reach is the whole word, and to none where there is no such rule.
-/// Each state is a start or a reached set of positions, so that some text leads to it; `merge` makes the fewest of them.
+/// Builds the automaton of a specification. From each start condition, at line begin or elsewhere, a word of bytes leads to a state. The state
+/// accepts the earliest rule that fits the word so that the rule's reach is the whole word, or none if there is no such rule. Each state is a start
+/// or a reached set of positions, so that some text leads to it. `merge` reduces them to the least number.
 ///
 /// # Errors
 ///
-/// `TooManyPositions` (E30) where the specification has more than 16,384 positions, which is tested first; `TooManySets` (E31)
-/// where there are more than 16,384 reached sets; `Memory`.
+/// `TooManyPositions` (E30) if the specification has more than 16,384 positions, which is tested first. `TooManySets` (E31) if there are more than
+/// 16,384 reached sets. `Memory`.
 pub fn build(alloc: Global, spec: &Spec) -> Result<Automaton, BuildFault>
     ensures automaton { IfOk result (λ a. IsAutomatonOf (spec_view spec.now) a) }
     ensures led_to { IfOk result (λ a. AreAllLedTo a) }

@@ -1,4 +1,4 @@
-//! Expressions split into blocks of few nodes: where a set of positions touches few blocks, only these are gone over.
+//! Splits expressions into blocks of few nodes. If a set of positions touches few blocks, only these are visited.
 
 ghost use Rattle.std.specs.Prelude.{◌≡◌, ◌++◌, [], true, List, IfOk, OnOk, reverse};
 ghost use Rattle.lx_auto.specs.Unfolded.{Unfolded, leaf};
@@ -15,7 +15,7 @@ use crate::node::Node;
 use lx_ere::set::ByteSet;
 use std::alloc::{AllocError, Global};
 
-/// How many nodes a block has at most.
+/// Greatest number of nodes of a block.
 const BLOCK: usize = 512;
 
 fn binary_node(operator: BinaryOperator, right: usize) -> Node<'static>
@@ -54,7 +54,7 @@ fn unary_null(operator: UnaryOperator, body: bool) -> bool
     }
 }
 
-// The outline of one block: a leaf, and optional where the block matches the empty word.
+// Makes the outline of one block: a leaf, which is optional if the block matches the empty word.
 fn outline_nodes<'s>(
     alloc: Global,
     placeholder_set: &'s ByteSet,
@@ -70,7 +70,7 @@ fn outline_nodes<'s>(
     Ok(outline)
 }
 
-// One block as an expression that is split into blocks.
+// Wraps one block as a split expression.
 fn outline_single_block<'s>(
     alloc: Global,
     block: SingleBlock<'s>,
@@ -83,7 +83,7 @@ fn outline_single_block<'s>(
     Ok(Outlined { outline, blocks })
 }
 
-// Puts blocks behind others.
+// Appends blocks.
 fn push_blocks<'s>(
     blocks: &mut Vec<Vec<Node<'s>>>,
     more: Vec<Vec<Node<'s>>>,
@@ -96,7 +96,7 @@ fn push_blocks<'s>(
     Ok(())
 }
 
-// Two expressions that are split into blocks already.
+// Joins two split expressions.
 fn join_outlined<'s>(
     operator: BinaryOperator,
     mut left: Outlined<'s>,
@@ -111,7 +111,7 @@ fn join_outlined<'s>(
     Ok(left)
 }
 
-// Two blocks that become one.
+// Joins two blocks to one.
 fn join_single_blocks<'s>(
     operator: BinaryOperator,
     mut left: SingleBlock<'s>,
@@ -126,7 +126,7 @@ fn join_single_blocks<'s>(
     Ok(left)
 }
 
-// The outline of an expression with a first block.
+// Makes the outline of an expression with a first block.
 fn outline_growing<'s>(alloc: Global, growing: GrowingChunk<'s>) -> Result<Outlined<'s>, AllocError>
     ensures { (e : Unfolded) → IsGrowingChunkOf growing.entry e → IfOk result (λ o. IsOutlinedOf o e) }
 {
@@ -134,7 +134,7 @@ fn outline_growing<'s>(alloc: Global, growing: GrowingChunk<'s>) -> Result<Outli
     join_outlined(growing.operator, first, growing.rest)
 }
 
-// The outline of an expression.
+// Makes the outline of an expression.
 fn outlined<'s>(alloc: Global, chunk: Chunk<'s>) -> Result<Outlined<'s>, AllocError>
     ensures { (e : Unfolded) → IsChunkOf chunk.entry e → IfOk result (λ o. IsOutlinedOf o e) }
 {
@@ -145,7 +145,7 @@ fn outlined<'s>(alloc: Global, chunk: Chunk<'s>) -> Result<Outlined<'s>, AllocEr
     }
 }
 
-// Whether two blocks are to become one.
+// Returns true if two blocks are to become one.
 fn fit_together(left: &SingleBlock, right: &SingleBlock) -> bool {
     left.nodes.len().saturating_add(right.nodes.len()) < BLOCK
 }
@@ -165,7 +165,7 @@ fn are_same(one: BinaryOperator, other: BinaryOperator) -> bool
     }
 }
 
-// A block in front of an expression that is split into blocks.
+// Prepends a block to a split expression.
 fn prepend<'s>(
     operator: BinaryOperator,
     first: SingleBlock<'s>,
@@ -180,7 +180,7 @@ fn prepend<'s>(
     }
 }
 
-// A block in front of an expression with a first block, with which it may become one.
+// Prepends a block to an expression with a first block. The two blocks may become one.
 fn prepend_to_growing<'s>(
     alloc: Global,
     operator: BinaryOperator,
@@ -201,7 +201,7 @@ fn prepend_to_growing<'s>(
     })
 }
 
-// A block, and another expression behind it.
+// Joins a block and another expression.
 fn join_small<'s>(
     alloc: Global,
     operator: BinaryOperator,
@@ -227,7 +227,7 @@ fn join_small<'s>(
     }
 }
 
-// Two expressions, of which the first is split into blocks.
+// Joins a split expression and another one.
 fn join_large<'s>(
     alloc: Global,
     operator: BinaryOperator,
@@ -241,7 +241,7 @@ fn join_large<'s>(
     Ok(Chunk::Large(joined))
 }
 
-// Two expressions.
+// Joins two expressions.
 fn join<'s>(
     alloc: Global,
     operator: BinaryOperator,
@@ -260,7 +260,7 @@ fn join<'s>(
     }
 }
 
-// A node above a block.
+// Adds a node above a block.
 fn extend_single_block<'s>(
     operator: UnaryOperator,
     mut block: SingleBlock<'s>,
@@ -272,7 +272,7 @@ fn extend_single_block<'s>(
     Ok(block)
 }
 
-// A node above an expression that is split into blocks.
+// Adds a node above a split expression.
 fn extend_outlined<'s>(
     operator: UnaryOperator,
     mut body: Outlined<'s>,
@@ -283,7 +283,7 @@ fn extend_outlined<'s>(
     Ok(body)
 }
 
-// A node above an expression.
+// Adds a node above an expression.
 fn extend<'s>(
     alloc: Global,
     operator: UnaryOperator,
@@ -308,7 +308,7 @@ fn extend<'s>(
     }
 }
 
-// One leaf.
+// Makes the expression of one leaf.
 fn leaf_chunk<'s>(alloc: Global, set: &'s ByteSet) -> Result<Chunk<'s>, AllocError>
     ensures { IfOk result (λ p. IsChunkOf p (leaf set.now)) }
 {
@@ -321,14 +321,14 @@ fn leaf_chunk<'s>(alloc: Global, set: &'s ByteSet) -> Result<Chunk<'s>, AllocErr
     }))
 }
 
-// Takes off the last expression.
+// Removes the last expression.
 fn pop_chunk<'s>(chunks: &mut Vec<Chunk<'s>>) -> Option<Chunk<'s>>
     ensures { (trees : List Unfolded) → AreChunks (reverse chunks.old.items) trees → IsPopped trees (reverse chunks.new.items) result }
 {
     chunks.pop()
 }
 
-// Puts a node above the last two expressions.
+// Adds a node above the last two expressions.
 fn add_binary<'s>(
     alloc: Global,
     operator: BinaryOperator,
@@ -347,7 +347,7 @@ fn add_binary<'s>(
     Ok(())
 }
 
-// Puts a node above the last expression.
+// Adds a node above the last expression.
 fn add_unary<'s>(
     alloc: Global,
     operator: UnaryOperator,
@@ -363,7 +363,7 @@ fn add_unary<'s>(
     Ok(())
 }
 
-// One node more.
+// Adds one node.
 fn add_node<'s>(
     alloc: Global,
     node: &Node<'s>,
@@ -384,7 +384,7 @@ fn add_node<'s>(
     }
 }
 
-// The expressions whose nodes these are.
+// Returns the expressions that the nodes form.
 fn chunks_of<'s>(alloc: Global, nodes: &[Node<'s>]) -> Result<Vec<Chunk<'s>>, AllocError>
     ensures { IfOk result (λ chunks. AreChunks (reverse chunks.items) (plain.trees_from (nodes_view nodes.now) [])) }
 {
@@ -395,7 +395,7 @@ fn chunks_of<'s>(alloc: Global, nodes: &[Node<'s>]) -> Result<Vec<Chunk<'s>>, Al
     Ok(chunks)
 }
 
-// An expression, split into blocks wherever it has too many nodes for one.
+// Splits an expression into blocks wherever it has too many nodes for one.
 fn split_by_size<'s>(alloc: Global, nodes: &[Node<'s>]) -> Result<Outlined<'s>, AllocError>
     ensures { (e : Unfolded) → nodes_view nodes.now ≡ nodes_of e → IsSimplified e → IfOk result (λ o. IsSplitOf o e) }
 {
@@ -409,7 +409,7 @@ fn split_by_size<'s>(alloc: Global, nodes: &[Node<'s>]) -> Result<Outlined<'s>, 
     }
 }
 
-// An expression as one block, however many nodes it has.
+// Keeps an expression as one block, regardless of its number of nodes.
 fn keep_single_block<'s>(
     alloc: Global,
     placeholder_set: &'s ByteSet,
@@ -428,7 +428,7 @@ fn keep_single_block<'s>(
     outline_single_block(alloc, block)
 }
 
-/// An expression, split into blocks. It stays one block where its outline would have more than half as many nodes as it has itself.
+/// Splits an expression into blocks. It stays one block if its outline would have more than half of its number of nodes.
 pub(crate) fn split_into_blocks<'s>(
     alloc: Global,
     nodes: &[Node<'s>],

@@ -1,4 +1,4 @@
-//! How many positions a specification has, counted before anything is unfolded.
+//! Counts the positions of a specification before anything is unfolded.
 
 ghost use Rattle.std.specs.Prelude.{◌≡◌, ◌+◌, ◌*◌, ◌≤◌, min, map, get_or, IfOk};
 ghost use Rattle.lx_ere.specs.Regex.{regex_of};
@@ -13,10 +13,10 @@ use lx_ere::expr::Expr;
 use lx_rules::rule::Rule;
 use std::alloc::{AllocError, Global};
 
-/// One more than the positions that a specification may have: no count goes on above it.
+/// One more than the greatest number of positions of a specification. No count exceeds it.
 pub(crate) const TOO_MANY: u32 = 16_385;
 
-// Both counts together.
+// Adds two counts.
 fn sum(left: u32, right: u32) -> u32
     requires left { left ≤ max_positions + 1 }
     requires right { right ≤ max_positions + 1 }
@@ -25,7 +25,7 @@ fn sum(left: u32, right: u32) -> u32
     (left + right).min(TOO_MANY)
 }
 
-// How many copies of its body a repeat is unfolded to.
+// Returns the number of copies of its body to which a repeat is unfolded.
 fn copies(low: u8, high: Option<u8>) -> u32
     ensures value { result ≡ copies_of low high }
     ensures few { result ≤ max_interval_bound }
@@ -36,7 +36,7 @@ fn copies(low: u8, high: Option<u8>) -> u32
     }
 }
 
-// The positions of so many copies.
+// Returns the number of positions of this number of copies.
 fn product(copies: u32, count: u32) -> u32
     requires copies { copies ≤ max_interval_bound }
     requires count { count ≤ max_positions + 1 }
@@ -45,7 +45,7 @@ fn product(copies: u32, count: u32) -> u32
     (copies * count).min(TOO_MANY)
 }
 
-// The positions of an expression, by those of the definitions; none for a definition that isn't among them.
+// Counts the positions of an expression, given those of the definitions. A definition that isn't among them has none.
 fn count(expr: &Expr, names: &Names<'_>, counts: &[u32]) -> u32
     ensures { result ≡ min (max_positions + 1) (count_in (looked_up names.now.definitions.now counts.now) (regex_of expr.now)) }
 {
@@ -71,7 +71,7 @@ fn count_at(counts: &[u32], number: usize) -> u32
     }
 }
 
-// The positions of each definition, where those of its names are counted.
+// Counts the positions of each definition, given the counts of its names.
 fn next_counts(alloc: Global, names: &Names<'_>, counts: &[u32]) -> Result<Vec<u32>, AllocError>
     ensures { IfOk result (λ next. next.items ≡ counts_behind names.now.definitions.now counts.now) }
 {
@@ -82,14 +82,14 @@ fn next_counts(alloc: Global, names: &Names<'_>, counts: &[u32]) -> Result<Vec<u
     Ok(next)
 }
 
-/// The positions of the definitions, none above the limit by more than one.
+/// Counts the positions of the definitions, each count at most one above the limit.
 pub(crate) fn count_definitions(alloc: Global, names: &Names<'_>) -> Result<Vec<u32>, AllocError>
     ensures { IfOk result (λ counts. counts.items ≡ counts_at names.now.definitions.now 31) }
 {
     let mut counts = next_counts(alloc, names, &[])?;
     for _round in 0..31u32 {
         let next = next_counts(alloc, names, &counts)?;
-        // Where nothing changes once, nothing does later.
+        // once nothing changes, nothing changes later
         if next == counts {
             return Ok(counts);
         }
@@ -104,7 +104,7 @@ fn newline_count(line_end: bool) -> u32
     if line_end { 1 } else { 0 }
 }
 
-/// The positions of these rules, by those of the definitions.
+/// Counts the positions of these rules, given those of the definitions.
 pub(crate) fn count_rules(rules: &[Rule], names: &Names<'_>, counts: &[u32]) -> u32
     requires { counts.now ≡ counts_at names.now.definitions.now 31 }
     ensures { result ≡ min (max_positions + 1) (count_of_rules (map definition_view names.now.definitions.now) (map rule_view rules.now)) }

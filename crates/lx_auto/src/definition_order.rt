@@ -1,5 +1,5 @@
-//! In which order definitions are unfolded: names after what they name, so that no unfolding goes from name to name. No
-//! contract speaks of it, since in any other order the nodes would be the same.
+//! Orders the unfolding of definitions: a name comes after the names that it uses, so that no unfolding goes from name to name. No contract speaks of
+//! the order, since every order yields the same nodes.
 
 use crate::fragment::Fragment;
 use crate::names::Names;
@@ -8,18 +8,18 @@ use lx_ere::expr::Expr;
 use lx_rules::rule::Rule;
 use std::alloc::{AllocError, Global};
 
-/// Whether nodes of a definition are needed.
+/// The need for the nodes of a definition.
 #[derive(Clone, Copy)]
 pub(crate) enum Need {
-    /// No expression that is unfolded names it.
+    /// No unfolded expression uses it.
     No,
-    /// It is named, and those that it names itself aren't marked yet.
+    /// It is used, and the names that it uses aren't marked yet.
     Fresh,
-    /// It is named, and those that it names are marked.
+    /// It is used, and the names that it uses are marked.
     Known,
 }
 
-// Marks a definition that is named.
+// Marks a definition that is used.
 fn mark(needs: &mut [Need], number: usize) {
     if let Some(need) = needs.get_mut(number) {
         if let Need::No = *need {
@@ -28,7 +28,7 @@ fn mark(needs: &mut [Need], number: usize) {
     }
 }
 
-// Marks the definitions that the expression names where it is unfolded.
+// Marks the definitions that the expression uses when it is unfolded.
 fn mark_names(expr: &Expr, names: &Names<'_>, needs: &mut [Need]) {
     match expr {
         Expr::Nil => {}
@@ -54,7 +54,7 @@ fn mark_names(expr: &Expr, names: &Names<'_>, needs: &mut [Need]) {
     }
 }
 
-// Marks what the definition names, where it was marked since.
+// Marks the names that the definition uses, if it was marked since.
 fn mark_further(number: usize, names: &Names<'_>, needs: &mut [Need]) {
     let Some(definition) = names.definitions.get(number) else {
         return;
@@ -68,7 +68,7 @@ fn mark_further(number: usize, names: &Names<'_>, needs: &mut [Need]) {
     }
 }
 
-/// Which definitions have to be unfolded for these rules.
+/// Finds the definitions that have to be unfolded for these rules.
 pub(crate) fn find_needs(
     alloc: Global,
     rules: &[Rule],
@@ -89,7 +89,7 @@ pub(crate) fn find_needs(
     Ok(needs)
 }
 
-/// Whether each definition that the expression names where it is unfolded has its nodes.
+/// Returns true if each definition that the expression uses when it is unfolded has its nodes.
 pub(crate) fn is_ready(expr: &Expr, names: &Names<'_>, fragments: &[Option<Fragment<'_>>]) -> bool {
     match expr {
         Expr::Nil => true,
@@ -108,7 +108,7 @@ pub(crate) fn is_ready(expr: &Expr, names: &Names<'_>, fragments: &[Option<Fragm
     }
 }
 
-/// Whether the definition with this number is needed, has no nodes yet, and names only those that have them.
+/// Returns true if the definition with this number is needed, has no nodes yet, and uses only those that have them.
 pub(crate) fn is_next(
     needs: &[Need],
     number: usize,

@@ -1,4 +1,4 @@
-//! The draft of an automaton: a state for each start and for each position set.
+//! Drafts an automaton: a state for each start and for each position set.
 
 ghost use Rattle.std.specs.Prelude.{◌≡◌, ◌+◌, ◌*◌, ◌<◌, ◌≤◌, ◌++◌, IfOk, IfSome, None, length, map, replicate};
 ghost use Rattle.std.specs.Option.{option_map};
@@ -12,7 +12,7 @@ use crate::groups::Groups;
 use lx_automaton::Draft;
 use std::alloc::{AllocError, Global};
 
-// The states of the starts, two for each condition.
+// Returns the states of the starts, two for each condition.
 fn start_states(alloc: Global, conditions: usize) -> Result<Vec<(u32, u32)>, AllocError>
     requires { conditions ≤ max_start_conditions }
     ensures { IfOk result (λ starts. AreStartStates starts.items conditions) }
@@ -25,7 +25,7 @@ fn start_states(alloc: Global, conditions: usize) -> Result<Vec<(u32, u32)>, All
     Ok(starts)
 }
 
-// A rule, encoded: 0 for none, else one more than its number.
+// Encodes a rule: 0 for none, otherwise one more than its number.
 fn encoded_rule(rule: Option<usize>) -> u16
     requires { IfSome rule (λ r. r < max_rules) }
     ensures { decoded_option result ≡ rule }
@@ -36,7 +36,7 @@ fn encoded_rule(rule: Option<usize>) -> u16
     }
 }
 
-// The state of a set, behind so many starts, encoded likewise.
+// Encodes the state of a set in the same way. The states of the starts come before it.
 fn encoded_state(starts: usize, set: Option<usize>) -> u16
     requires starts { starts ≤ 2 * max_start_conditions }
     requires set { IfSome set (λ j. j < max_reached_sets) }
@@ -48,7 +48,7 @@ fn encoded_state(starts: usize, set: Option<usize>) -> u16
     }
 }
 
-// What the states accept, encoded: nothing at the starts, and the rules that the sets match.
+// Encodes what the states accept: nothing at the starts, and the rules that the sets match.
 fn encoded_accepted(
     alloc: Global,
     starts: usize,
@@ -64,7 +64,7 @@ fn encoded_accepted(
     Ok(encoded)
 }
 
-// The targets of all states, encoded.
+// Encodes the targets of all states.
 fn encoded_targets(
     alloc: Global,
     starts: usize,
@@ -81,7 +81,7 @@ fn encoded_targets(
     Ok(encoded)
 }
 
-/// The draft over what was explored.
+/// Drafts the automaton over the explored sets.
 pub(crate) fn draft_of(
     alloc: Global,
     conditions: usize,

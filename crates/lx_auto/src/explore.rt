@@ -1,4 +1,4 @@
-//! Position sets, reached one after the other from the starts (Rabin and Scott 1959: the subset construction).
+//! Explores the position sets that are reached from the starts (Rabin and Scott 1959: the subset construction).
 
 ghost use Rattle.std.specs.Prelude.{◌≡◌, ◌≢◌, ◌+◌, ◌*◌, ◌<◌, ◌≤◌, ◌⊎◌, [], ℕ, List, IfOk, IfErr, OnOk, length, true, false};
 ghost use Rattle.lx_ere.specs.Regex.{Regex};
@@ -29,7 +29,7 @@ use lx_rules::spec::Spec;
 use smallvec::SmallVec;
 use std::alloc::{AllocError, Global};
 
-// Whether a position has the byte.
+// Returns true if a position has the byte.
 fn has_byte(leaves: &[Leaf], position: u16, byte: u8) -> bool
     ensures { result ≡ plain_leaves.has_byte (leaves_view leaves.now) position byte }
 {
@@ -39,7 +39,7 @@ fn has_byte(leaves: &[Leaf], position: u16, byte: u8) -> bool
     }
 }
 
-// Those of the positions that have the byte.
+// Returns the positions that have the byte.
 fn positions_with_byte(
     alloc: Global,
     leaves: &[Leaf],
@@ -57,7 +57,7 @@ fn positions_with_byte(
     Ok(set)
 }
 
-// Adds the target of a state on a byte behind those that are known: the number of the set of those positions that have the byte.
+// Adds the target of a state on a byte: the number of the set of those positions that have the byte.
 fn add_target(
     alloc: Global,
     leaves: &[Leaf],
@@ -87,7 +87,7 @@ fn add_target(
     Ok(())
 }
 
-// The number of the set to which the last step leads, if it leads to one.
+// Returns the number of the set to which the last step leads, if it leads to one.
 fn last_number(targets: &[Option<usize>]) -> Option<usize> {
     match targets.last() {
         Some(last) => *last,
@@ -95,14 +95,14 @@ fn last_number(targets: &[Option<usize>]) -> Option<usize> {
     }
 }
 
-// Whether two sets have the same members.
+// Returns true if two sets have the same members.
 fn are_equal(set: &PositionSet, other: &PositionSet) -> bool
     ensures { result ≡ true → set.now.items ≡ other.now.items }
 {
     set.as_slice() == other.as_slice()
 }
 
-// Whether a set has this number.
+// Returns true if a set has this number.
 fn has_number(table: &SetTable, set: &PositionSet, number: usize) -> bool
     ensures at { result ≡ true → number < length table.now.sets.items }
     ensures same { result ≡ true → set_of table.now.sets.items number ≡ set.now.items }
@@ -113,8 +113,8 @@ fn has_number(table: &SetTable, set: &PositionSet, number: usize) -> bool
     }
 }
 
-// Where a step to a set leads: nowhere where the set is empty, else to its number. It is looked whether that is the likely one, since many steps of
-// a state lead to one set.
+// Returns the target of a step to a set: its number, or none if the set is empty. Tries the likely number first, since many steps of a state lead to
+// one set.
 fn target_of(
     alloc: Global,
     table: &mut SetTable,
@@ -144,7 +144,7 @@ fn target_of(
     Ok(Some(number))
 }
 
-/// Adds the targets of a state, one for each group of bytes; `from` are the positions that can be read next there.
+/// Adds the targets of a state, one for each group of bytes. `from` are the positions that can be read next there.
 pub(crate) fn add_row(
     alloc: Global,
     leaves: &[Leaf],
@@ -220,7 +220,7 @@ fn add_start(
     Ok(())
 }
 
-// Adds the targets of a set, and gives the rule that it matches.
+// Adds the targets of a set. Returns the rule that it matches.
 fn add_set_row(
     alloc: Global,
     positions: &PositionTable,
@@ -269,11 +269,11 @@ fn add_set_row(
     Ok(found.matched)
 }
 
-/// Reaches set after set from the starts, at most so many as the limit, and finds the steps of all starts and sets.
+/// Reaches all sets from the starts, at most `limit` of them, and finds the steps of all starts and sets.
 ///
 /// # Errors
 ///
-/// `TooManySets` where there are more; `Memory`.
+/// `TooManySets` if there are more. `Memory`.
 pub(crate) fn explore(
     alloc: Global,
     spec: &Spec,

@@ -1,4 +1,4 @@
-//! What exploring gives.
+//! Results of the exploration.
 
 use crate::set_table::SetTable;
 
@@ -6,9 +6,9 @@ use crate::set_table::SetTable;
 #[derive(Drop)]
 pub(crate) struct Explored {
     pub(crate) table: SetTable,
-    /// Row by row, first those of the starts, for each condition without line begin and then at line begin, and then those of the
-    /// sets: the number of the set to which a step on a group of bytes leads.
+    /// For each state and each group of bytes, the number of the set to which the step leads. The rows of the starts come first, for each condition
+    /// without and then at line begin. Then come the rows of the sets.
     pub(crate) targets: Vec<Option<usize>>,
-    /// Of each set the rule that it matches.
+    /// For each set, the rule that it matches.
     pub(crate) matched: Vec<Option<usize>>,
 }

@@ -1,4 +1,4 @@
-//! Why an automaton isn't built.
+//! Faults of building an automaton.
 
 ghost use Rattle.std.specs.Prelude.{◌≡◌};
 ghost use Rattle.lx_auto.specs.declared.fault.BuildFault.TheVariants.{Memory};
@@ -6,7 +6,7 @@ ghost use Rattle.lx_auto.specs.declared.fault.BuildFault.TheVariants.{Memory};
 use std::alloc::{AllocError, AllocFailed};
 use thiserror::Error;
 
-/// Why an automaton isn't built.
+/// Reason why an automaton isn't built.
 #[derive(Debug, Clone, Copy, PartialEq, Eq, Error)]
 pub enum BuildFault {
     /// The specification has more than 16,384 positions.
@@ -15,7 +15,7 @@ pub enum BuildFault {
     /// There are more than 16,384 reached sets of positions.
     #[error("E31")]
     TooManySets,
-    /// Memory was refused.
+    /// An allocation failed.
     #[error("E90")]
     Memory,
 }

@@ -1,4 +1,4 @@
-//! Nodes of the definitions that rules need.
+//! Unfolds the definitions that rules need.
 
 ghost use Rattle.std.specs.Prelude.{◌≡◌, [], map, IfOk, Some, slice_get};
 ghost use Rattle.lx_ere.specs.Regex.{regex_of};
@@ -14,7 +14,7 @@ use lx_ere::expr::Expr;
 use lx_rules::rule::Rule;
 use std::alloc::{AllocError, Global};
 
-// The nodes of an expression by themselves.
+// Unfolds an expression by itself.
 fn unfold_fragment<'s>(
     alloc: Global,
     names: &Names<'s>,
@@ -29,7 +29,7 @@ fn unfold_fragment<'s>(
     Ok(Fragment { nodes, part })
 }
 
-// Unfolds the definition with this number, where it is next.
+// Unfolds the definition with this number, if it is next.
 fn fill<'s>(
     alloc: Global,
     names: &Names<'s>,
@@ -50,7 +50,7 @@ fn fill<'s>(
     Ok(())
 }
 
-// No nodes of any definition.
+// Returns a list without nodes of any definition.
 fn no_fragments<'s>(
     alloc: Global,
     names: &Names<'s>,
@@ -64,7 +64,7 @@ fn no_fragments<'s>(
     Ok(fragments)
 }
 
-/// The nodes of the definitions that the rules need, unfolded each once.
+/// Unfolds the definitions that the rules need, each once.
 pub(crate) fn fill_fragments<'s>(
     alloc: Global,
     names: &Names<'s>,

@@ -1,4 +1,4 @@
-//! What follows a set of positions, and what a start begins with.
+//! Finds the positions after a set of positions, and those with which a start begins.
 
 ghost use Rattle.std.specs.Prelude.{◌≡◌, ◌≤◌, ◌<◌, ◌+◌, ℕ, Bool, true, false, List, IfOk, OnOk, length};
 ghost use Rattle.lx_rules.specs.Plain.{PlainSpec};
@@ -15,17 +15,17 @@ use crate::rule_part::RulePart;
 use crate::set_steps::{clear_flags, mark, places_of, step_rules, unmark};
 use std::alloc::{AllocError, Global};
 
-/// What is found of a set of positions.
+/// The positions after a set of positions, and the rule that it matches.
 #[derive(Drop)]
 pub(crate) struct Found {
-    /// The positions that can stand behind those of the set, rising.
+    /// Positions that can come after those of the set, in ascending order.
     pub(crate) next: Vec<u16>,
-    /// The earliest rule of which a position of the set ends a word.
+    /// Earliest rule of which a position of the set ends a word.
     pub(crate) matched: Option<usize>,
 }
 
-/// What follows a set of positions, and the rule that it matches. `rules_at` says of which rule a position is; nothing rests on it. The flags are of all
-/// positions; none is set before, nor after, so that they serve for set after set.
+/// Finds the positions after a set of positions, and the rule that it matches. `rules_at` has the rule of each position, only as a hint. The flags
+/// are of all positions. None is set before and after, so that they can be reused for each set.
 pub(crate) fn follow(
     alloc: Global,
     parts: &[RulePart],
@@ -52,7 +52,7 @@ pub(crate) fn follow(
     Ok(Found { next, matched })
 }
 
-/// The positions with which the rules that are active at a start can begin, rising; `active` says which these are.
+/// Finds the positions with which the rules that are active at a start can begin, in ascending order. `active` has a flag for each rule.
 pub(crate) fn begin(
     alloc: Global,
     parts: &[RulePart],
@@ -71,7 +71,7 @@ pub(crate) fn begin(
     Ok(first)
 }
 
-// One rule: where it is active its first positions can be read.
+// Marks the first positions of a rule, if it is active.
 fn begin_rule(
     alloc: Global,
     part: &RulePart,

@@ -1,9 +1,9 @@
-//! Nodes of definitions, so that a definition is unfolded once and then copied.
+//! Nodes of definitions. A definition is unfolded once and then copied.
 
 use crate::node::Node;
 use crate::part::Part;
 
-/// The nodes of what a name stands for.
+/// The nodes of a name's definition.
 #[derive(Drop)]
 pub(crate) struct Fragment<'s> {
     pub(crate) nodes: Vec<Node<'s>>,

@@ -1,4 +1,4 @@
-//! Groups of bytes that no position tells apart.
+//! Groups of bytes that no position distinguishes.
 
 ghost use Rattle.std.specs.Prelude.{◌≡◌, ◌≤◌, ◌<◌, ◌+◌, ℕ, List, true, false, All, IfOk, OnOk, MatchOption, length, slice_index};
 ghost use Rattle.lx_auto.specs.Leaves.{PlainLeaf, AreGroupsOf};
@@ -8,12 +8,12 @@ ghost use Rattle.lx_auto.specs.Grouping.{representative_of, RespectsGroups, AreT
 use crate::leaf::{Leaf, are_same, has};
 use std::alloc::{AllocError, Global};
 
-/// The bytes in groups, each with one byte that stands for it.
+/// The groups of bytes, each with one representative byte.
 #[derive(Drop)]
 pub(crate) struct Groups {
-    /// The group of each byte.
+    /// Group of each byte.
     pub(crate) classes: Vec<u8>,
-    /// The byte that stands for each group.
+    /// Representative byte of each group.
     pub(crate) representatives: Vec<u8>,
     pub ghost bytes: { length classes.items ≡ 256 },
     pub ghost below: { (b : ℕ) → b < 256 → slice_index classes.items b < length representatives.items },
@@ -21,7 +21,7 @@ pub(crate) struct Groups {
     pub ghost small: { (k : ℕ) → k < length representatives.items → slice_index representatives.items k < 256 },
 }
 
-// All bytes in one group.
+// Returns all bytes in one group.
 fn one_group(alloc: Global) -> Result<Groups, AllocError> {
     let classes = vec![in alloc; 0u8; 256]?;
     let representatives = vec![in alloc; 0u8; 1]?;
@@ -31,7 +31,7 @@ fn one_group(alloc: Global) -> Result<Groups, AllocError> {
     })
 }
 
-// The byte that stands for the group of this one.
+// Returns the representative of a byte's group.
 fn representative(groups: &Groups, byte: u8) -> u8
     ensures { result ≡ representative_of groups.now.classes.items groups.now.representatives.items byte }
 {
@@ -39,7 +39,7 @@ fn representative(groups: &Groups, byte: u8) -> u8
     groups.representatives[class as usize]
 }
 
-// Whether the leaf tells a byte from the one that stands for it.
+// Returns true if the leaf distinguishes a byte from its representative.
 fn splits(leaf: &Leaf, groups: &Groups) -> bool
     ensures { result ≡ false → RespectsGroups (leaf_view leaf.now) groups.now.classes.items groups.now.representatives.items }
 {
@@ -52,7 +52,7 @@ fn splits(leaf: &Leaf, groups: &Groups) -> bool
     false
 }
 
-// Whether the two bytes are of one group and the leaf doesn't tell them apart.
+// Returns true if the two bytes are in one group and the leaf doesn't distinguish them.
 fn are_together(leaf: &Leaf, groups: &Groups, first: u8, second: u8) -> bool
     ensures { result ≡ true → AreTogether (leaf_view leaf.now) groups.now.classes.items first second }
 {
@@ -60,7 +60,7 @@ fn are_together(leaf: &Leaf, groups: &Groups, first: u8, second: u8) -> bool
         && has(leaf, first) == has(leaf, second)
 }
 
-// The first of the new groups that the byte can go to.
+// Finds the first of the new groups to which the byte can go.
 fn find_group(leaf: &Leaf, groups: &Groups, representatives: &[u8], byte: u8) -> Option<usize>
     ensures within { MatchOption result (Unit {0}) (λ class. class < length representatives.now) }
     ensures together { MatchOption result (Unit {0}) (λ class. AreTogether (leaf_view leaf.now) groups.now.classes.items (slice_index representatives.now class) byte) }
@@ -73,7 +73,7 @@ fn find_group(leaf: &Leaf, groups: &Groups, representatives: &[u8], byte: u8) ->
     None
 }
 
-// The new group of a byte: one that is there, or one that it begins.
+// Returns the new group of a byte: an existing one, or a new one that it begins.
 fn group_for(
     leaf: &Leaf,
     groups: &Groups,
@@ -97,7 +97,7 @@ fn group_for(
     }
 }
 
-// The groups, of which each is split by whether the leaf has the byte.
+// Splits each group by the leaf's bytes.
 fn split(alloc: Global, leaf: &Leaf, groups: &Groups) -> Result<Groups, AllocError>
     ensures { IfOk result (λ new. IsSplitBelow (leaf_view leaf.now) groups.now.classes.items new.classes.items new.representatives.items 256) }
 {
@@ -113,7 +113,7 @@ fn split(alloc: Global, leaf: &Leaf, groups: &Groups) -> Result<Groups, AllocErr
     })
 }
 
-// The groups, split where the leaf tells bytes of one group apart.
+// Splits the groups if the leaf distinguishes bytes of one group.
 fn refine(alloc: Global, leaf: &Leaf, groups: Groups) -> Result<Groups, AllocError>
     ensures own { IfOk result (λ new. RespectsGroups (leaf_view leaf.now) new.classes.items new.representatives.items) }
     ensures others { (other : PlainLeaf) → RespectsGroups other groups.classes.items groups.representatives.items → IfOk result (λ new. RespectsGroups other new.classes.items new.representatives.items) }
@@ -125,10 +125,10 @@ fn refine(alloc: Global, leaf: &Leaf, groups: Groups) -> Result<Groups, AllocErr
     Ok(groups)
 }
 
-// So many leaves are kept by which the groups were split: most positions have the bytes of an earlier one.
+// Greatest number of leaves that are kept after a split. Most positions have the bytes of an earlier one.
 const MOST_KEPT: usize = 64;
 
-// Whether one of the leaves has the same bytes as this one.
+// Returns true if one of the leaves has the same bytes as this one.
 fn is_among(kept: &[Leaf], leaf: &Leaf) -> bool
     ensures { (classes representatives : List ℕ) → All (λ k. RespectsGroups (leaf_view k) classes representatives) kept.now → result ≡ true → RespectsGroups (leaf_view leaf.now) classes representatives }
 {
@@ -151,7 +151,7 @@ fn keep<'s>(kept: &mut Vec<Leaf<'s>>, leaf: Leaf<'s>) -> Result<(), AllocError>
     Ok(())
 }
 
-/// The bytes in groups that no leaf tells apart.
+/// Groups the bytes that no leaf distinguishes.
 pub(crate) fn groups_of<'s>(alloc: Global, leaves: &[Leaf<'s>]) -> Result<Groups, AllocError>
     ensures { IfOk result (λ groups. AreGroupsOf (leaves_view leaves.now) groups.classes.items groups.representatives.items) }
 {

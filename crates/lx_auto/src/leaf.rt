@@ -1,4 +1,4 @@
-//! The leaves of the positions, in order.
+//! Leaves of the positions, in order.
 
 ghost use Rattle.std.specs.Prelude.{◌≡◌, ◌++◌, ℕ, List, true, IfOk, OnOk};
 ghost use Rattle.lx_ere.specs.Regex.{Regex};
@@ -16,7 +16,7 @@ use crate::rule_part::RulePart;
 use lx_ere::set::ByteSet;
 use std::alloc::{AllocError, Global};
 
-/// What a position stands for.
+/// The meaning of a position.
 #[derive(Clone, Copy)]
 pub(crate) enum Leaf<'s> {
     /// One byte of the set.
@@ -25,7 +25,7 @@ pub(crate) enum Leaf<'s> {
     Newline,
 }
 
-/// Whether the leaf has the byte.
+/// Returns true if the leaf has the byte.
 pub(crate) fn has(leaf: &Leaf, byte: u8) -> bool
     ensures { result ≡ leaf_has (leaf_view leaf.now) byte }
 {
@@ -35,7 +35,7 @@ pub(crate) fn has(leaf: &Leaf, byte: u8) -> bool
     }
 }
 
-/// Whether the two have the same bytes, as far as it is seen at once: a set of the newline alone isn't compared with a line end.
+/// Returns true only if the two have the same bytes. This is a quick test: it doesn't compare a set of only the newline with a line end.
 pub(crate) fn are_same(a: &Leaf, b: &Leaf) -> bool
     ensures { result ≡ true → leaf_view a.now ≡ leaf_view b.now }
 {
@@ -67,7 +67,7 @@ fn push_leaves<'s>(nodes: &[Node<'s>], leaves: &mut Vec<Leaf<'s>>) -> Result<(),
     Ok(())
 }
 
-// Adds the leaves of a rule, the newline of a line end behind all others.
+// Adds the leaves of a rule, with the newline of a line end after all others.
 fn push_part<'s>(part: &RulePart<'s>, leaves: &mut Vec<Leaf<'s>>) -> Result<(), AllocError>
     ensures { OnOk result (leaves_view leaves.new.items ≡ leaves_view leaves.old.items ++ leaves_of_part part.now) }
 {
@@ -78,7 +78,7 @@ fn push_part<'s>(part: &RulePart<'s>, leaves: &mut Vec<Leaf<'s>>) -> Result<(), 
     Ok(())
 }
 
-// The leaves of the rules, one rule behind the other.
+// Collects the leaves of the rules, one rule after the other.
 fn leaves_of_all<'s>(alloc: Global, parts: &[RulePart<'s>]) -> Result<Vec<Leaf<'s>>, AllocError>
     ensures { IfOk result (λ leaves. leaves_view leaves.items ≡ leaves_of_parts parts.now) }
 {
@@ -89,7 +89,7 @@ fn leaves_of_all<'s>(alloc: Global, parts: &[RulePart<'s>]) -> Result<Vec<Leaf<'
     Ok(leaves)
 }
 
-/// The leaf of each position of the rules.
+/// Collects the leaf of each position of the rules.
 pub(crate) fn leaves_of<'s>(
     alloc: Global,
     parts: &[RulePart<'s>],

@@ -1,4 +1,4 @@
-//! Where a set of positions can end in an expression, and which positions can be read next: two passes over its nodes.
+//! Finds where a set of positions can end in an expression, and which positions can be read next, in two passes over its nodes.
 
 ghost use Rattle.std.specs.Prelude.{◌≡◌, ◌+◌, ◌<◌, ◌≤◌, ◌^◌, ◌∷◌, [], ℕ, false, IfOk, OnOk, reverse, slice_set, length};
 ghost use Rattle.lx_auto.specs.Marking as plain;
@@ -8,10 +8,10 @@ ghost use Rattle.lx_auto.specs.NodeViews.{node_view, nodes_view};
 use crate::node::Node;
 use std::alloc::{AllocError, Global};
 
-// So many flags a stack has room for at first: most expressions need no more.
+// Initial capacity of a stack, in flags. Most expressions need no more.
 const STACK: usize = 16;
 
-/// The flag at a place, and false past the end.
+/// Returns the flag with this number, or false past the end.
 #[inline(always)]
 pub(crate) fn flag(flags: &[bool], i: usize) -> bool
     ensures { result ≡ plain.flag flags.now i }
@@ -19,7 +19,7 @@ pub(crate) fn flag(flags: &[bool], i: usize) -> bool
     i < flags.len() && flags[i]
 }
 
-/// Whether one of so many flags from a place on is set. All of them are looked at, since a loop that can't stop early takes many at once.
+/// Returns true if one of `count` flags from `from` on is set. Reads all of them, since a loop that can't stop early reads many at once.
 pub(crate) fn has_flag(flags: &[bool], from: usize, count: usize) -> bool
     requires { from + count < 2 ^ 63 }
     ensures { result ≡ false → (q : ℕ) → from ≤ q → q < from + count → plain.flag flags.now q ≡ false }
@@ -32,7 +32,7 @@ pub(crate) fn has_flag(flags: &[bool], from: usize, count: usize) -> bool
     found
 }
 
-/// Sets the flag at a place, and none past the end.
+/// Sets the flag with this number. Past the end, does nothing.
 pub(crate) fn set_flag(flags: &mut Vec<bool>, i: usize, flag: bool)
     ensures set { flags.new.items ≡ slice_set flags.old.items i flag }
     ensures long { length flags.new.items ≡ length flags.old.items }
@@ -42,7 +42,7 @@ pub(crate) fn set_flag(flags: &mut Vec<bool>, i: usize, flag: bool)
     }
 }
 
-// Where the left child of a node stands that has `before` nodes before it, and `right` of them in its right child.
+// Returns the number of the left child of a node that has `before` nodes before it, and `right` of them in its right child.
 #[inline(always)]
 fn left_of(before: usize, right: usize) -> usize
     ensures { result ≡ plain.left_of before right }
@@ -63,7 +63,7 @@ fn is_null(node: &Node, nulls: &[bool]) -> bool
     }
 }
 
-/// For each node whether its expression matches the empty word.
+/// Tests for each node if its expression matches the empty word.
 pub(crate) fn nulls_of(alloc: Global, nodes: &[Node]) -> Result<Vec<bool>, AllocError>
     ensures { IfOk result (λ nulls. nulls.items ≡ nulls_from (nodes_view nodes.now) []) }
 {
@@ -88,7 +88,7 @@ fn can_end(nulls: &[bool], marks: &[bool], position: usize, node: &Node, ends: &
     }
 }
 
-/// The next position behind a node.
+/// Returns the next position after a node.
 pub(crate) fn behind(node: &Node, position: usize) -> usize
     requires { position < 2 ^ 63 }
     ensures { result ≡ behind_node (node_view node.now) position }
@@ -99,7 +99,7 @@ pub(crate) fn behind(node: &Node, position: usize) -> usize
     }
 }
 
-/// For each node whether a word whose last position is marked can end there; the first position is `first`.
+/// Tests for each node if a word whose last position is marked can end there. `first` is the first position.
 pub(crate) fn ends_of(
     alloc: Global,
     nodes: &[Node],
@@ -119,7 +119,7 @@ pub(crate) fn ends_of(
     Ok(ends)
 }
 
-// Takes off whether the next expression may be entered.
+// Pops the flag of the next expression, which is true if that may be entered.
 fn pop_flag(stack: &mut Vec<bool>) -> bool
     ensures flag { result ≡ first_flag (reverse stack.old.items) }
     ensures rest { reverse stack.new.items ≡ other_flags (reverse stack.old.items) }
@@ -130,7 +130,7 @@ fn pop_flag(stack: &mut Vec<bool>) -> bool
     }
 }
 
-// Puts on the stack whether the children of a node that has `before` nodes before it may be entered.
+// Pushes the flags of a node's children, which are true if they may be entered. The node has `before` nodes before it.
 fn push_entered(
     nulls: &[bool],
     ends: &[bool],
@@ -158,7 +158,7 @@ fn push_entered(
     Ok(())
 }
 
-// The last position of those before a node and its own.
+// Returns the last position of those before a node and its own.
 fn before(node: &Node, position: usize) -> usize
     ensures { result ≡ before_node (node_view node.now) position }
 {
@@ -168,7 +168,7 @@ fn before(node: &Node, position: usize) -> usize
     }
 }
 
-// A leaf that may be entered can be read.
+// Sets a leaf's position if it may be entered, so that it can be read.
 fn read(node: &Node, position: usize, entered: bool, reads: &mut Vec<bool>)
     ensures set { reads.new.items ≡ read_at (node_view node.now) position entered reads.old.items }
     ensures long { length reads.new.items ≡ length reads.old.items }
@@ -178,8 +178,8 @@ fn read(node: &Node, position: usize, entered: bool, reads: &mut Vec<bool>)
     }
 }
 
-/// Sets for each position of an expression whether it can be read next: behind a marked one, or at the begin of the expression where
-/// that is entered. The position behind its last one is `end`.
+/// Sets for each position of an expression if it can be read next: after a marked one, or at the start of the expression if that is entered. `end` is
+/// the position after its last one.
 pub(crate) fn mark_reads(
     alloc: Global,
     nodes: &[Node],

@@ -9,7 +9,7 @@ use lx_rules::name_table::add_number;
 use std::alloc::{AllocError, Global};
 use std::collections::BTreeMap;
 
-/// The definitions, and the number of each by its name, so that a use of a name costs no walk over them.
+/// The definitions, and the number of each by its name, so that a use of a name needs no walk over them.
 #[derive(Drop)]
 pub(crate) struct Names<'s> {
     pub(crate) definitions: &'s [Definition],
@@ -18,7 +18,7 @@ pub(crate) struct Names<'s> {
 }
 
 impl Names<'_> {
-    /// The number of the first definition with this name.
+    /// Returns the number of the first definition with this name.
     pub(crate) fn number_of(&self, name: &[u8]) -> Option<usize>
         ensures { result ≡ place_of self.now.definitions.now name.now }
     {
@@ -26,7 +26,7 @@ impl Names<'_> {
     }
 }
 
-/// These definitions by their names.
+/// Indexes these definitions by their names.
 pub(crate) fn index_names(
     alloc: Global,
     definitions: &[Definition],

@@ -2,14 +2,14 @@
 
 use lx_ere::set::ByteSet;
 
-/// A node: its only child, or its right one, stands before it, and the left one before that.
+/// A node. Its only child, or its right one, comes before it, and the left one before that.
 #[derive(Clone, Copy)]
 pub(crate) enum Node<'s> {
     /// One byte of the set.
     Leaf(&'s ByteSet),
-    /// The left child, then the right one, which has so many nodes.
+    /// The left child, then the right one, which has this number of nodes.
     Cat(usize),
-    /// Either child; the right one has so many nodes.
+    /// Either child. The right one has this number of nodes.
     Alt(usize),
     /// The child, or the empty word.
     Optional,

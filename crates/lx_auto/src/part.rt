@@ -1,4 +1,4 @@
-//! Expressions whose nodes were appended last, and what is made of them.
+//! Expressions whose nodes were appended last, and the operations on them.
 
 ghost use Rattle.std.specs.Prelude.{◌≡◌, ◌+◌, ◌&&◌, ◌||◌, min, false, IfOk};
 ghost use Rattle.lx_auto.specs.Simplified.{cat_of, alt_of, opt_of, plus_of};
@@ -10,11 +10,11 @@ use std::alloc::AllocError;
 /// The nodes of an expression, the last ones of the list.
 #[derive(Clone, Copy)]
 pub(crate) struct Part {
-    /// How many there are; none for the empty word.
+    /// Number of nodes. It is 0 for the empty word.
     pub(crate) size: usize,
-    /// Whether the expression matches the empty word.
+    /// True if the expression matches the empty word.
     pub(crate) nullable: bool,
-    /// Whether one or more of it is no more than it is.
+    /// True if a repetition of the expression equals the expression.
     pub(crate) repeated: bool,
 }
 
@@ -25,7 +25,7 @@ pub(crate) const EMPTY: Part = Part {
     repeated: false,
 };
 
-// A node above two expressions. Memory never holds so many nodes that the sum stops short.
+// Makes a node above two expressions. Memory never holds as many nodes as would saturate the sum.
 fn above_both(left: Part, right: Part, nullable: bool) -> Part
     ensures { result ≡ record { size = min 18446744073709551615 (left.size + right.size + 1); nullable = nullable; repeated = false } }
 {
@@ -36,7 +36,7 @@ fn above_both(left: Part, right: Part, nullable: bool) -> Part
     }
 }
 
-// A node above one expression.
+// Makes a node above one expression.
 fn above(part: Part, nullable: bool, repeated: bool) -> Part
     ensures { result ≡ record { size = min 18446744073709551615 (part.size + 1); nullable = nullable; repeated = repeated } }
 {
@@ -59,7 +59,7 @@ fn either(left: bool, right: bool) -> bool
     left || right
 }
 
-/// The left expression, and then the right one.
+/// Joins the left expression and then the right one.
 pub(crate) fn join(nodes: &mut Vec<Node<'_>>, left: Part, right: Part) -> Result<Part, AllocError>
     ensures { IfOk result (λ part. Joins cat_of (nodes_view nodes.old.items) (nodes_view nodes.new.items) left right part) }
 {
@@ -73,7 +73,7 @@ pub(crate) fn join(nodes: &mut Vec<Node<'_>>, left: Part, right: Part) -> Result
     Ok(above_both(left, right, both(left.nullable, right.nullable)))
 }
 
-/// The left expression or the right one.
+/// Joins the left expression or the right one.
 pub(crate) fn choose(nodes: &mut Vec<Node<'_>>, left: Part, right: Part) -> Result<Part, AllocError>
     ensures { IfOk result (λ part. Joins alt_of (nodes_view nodes.old.items) (nodes_view nodes.new.items) left right part) }
 {
@@ -87,7 +87,7 @@ pub(crate) fn choose(nodes: &mut Vec<Node<'_>>, left: Part, right: Part) -> Resu
     Ok(above_both(left, right, either(left.nullable, right.nullable)))
 }
 
-/// The expression, or the empty word.
+/// Makes the expression optional.
 pub(crate) fn optional(nodes: &mut Vec<Node<'_>>, part: Part) -> Result<Part, AllocError>
     ensures { IfOk result (λ new. Changes opt_of (nodes_view nodes.old.items) (nodes_view nodes.new.items) part new) }
 {
@@ -98,7 +98,7 @@ pub(crate) fn optional(nodes: &mut Vec<Node<'_>>, part: Part) -> Result<Part, Al
     Ok(above(part, true, part.repeated))
 }
 
-/// One or more of the expression.
+/// Repeats the expression one or more times.
 pub(crate) fn one_or_more(nodes: &mut Vec<Node<'_>>, part: Part) -> Result<Part, AllocError>
     ensures { IfOk result (λ new. Changes plus_of (nodes_view nodes.old.items) (nodes_view nodes.new.items) part new) }
 {

@@ -1,4 +1,4 @@
-//! What is known of a specification's positions before sets of them are reached.
+//! The positions of a specification before sets of them are reached.
 
 ghost use Rattle.std.specs.Prelude.{◌≤◌};
 
@@ -10,7 +10,7 @@ use crate::rule_part::RulePart;
 #[derive(Drop)]
 pub(crate) struct PositionTable<'s> {
     pub(crate) parts: Vec<RulePart<'s>>,
-    /// How many positions there are.
+    /// Number of positions.
     pub(crate) total: usize,
     pub(crate) leaves: Vec<Leaf<'s>>,
     pub(crate) groups: Groups,

@@ -1,4 +1,4 @@
-//! Repeats, written out.
+//! Writes repeats out.
 
 ghost use Rattle.std.specs.Prelude.{◌≡◌, ◌↔◌, ◌-◌, ◌<◌, ◌≤◌, false, ◌++◌, drop, length, IsTrue, IfOk, OnOk};
 ghost use Rattle.lx_auto.specs.Simplified.{simplified_counted, simplified_unbounded, simplified_repeated};
@@ -9,7 +9,7 @@ use crate::node::Node;
 use crate::part::{EMPTY, Part, join, one_or_more, optional};
 use std::alloc::AllocError;
 
-// So many copies more of the last nodes.
+// Appends `times` more copies of the last nodes.
 fn append_copies(nodes: &mut Vec<Node<'_>>, size: usize, times: u8) -> Result<(), AllocError>
     ensures { OnOk result (nodes.new.items ≡ nodes.old.items ++ copies times (drop (length nodes.old.items - size) nodes.old.items)) }
 {
@@ -21,7 +21,7 @@ fn append_copies(nodes: &mut Vec<Node<'_>>, size: usize, times: u8) -> Result<()
     Ok(())
 }
 
-// The body, and then the copies behind it, all of which may be left out where they are not required.
+// Joins the body and then the copies after it. All of it is optional unless it is required.
 fn close_copy(
     nodes: &mut Vec<Node<'_>>,
     body: Part,
@@ -38,7 +38,7 @@ fn close_copy(
     }
 }
 
-// Whether the copy before which so many are closed has to stand there.
+// Returns true if the next copy is required, after `closed` copies are closed.
 fn is_required(low: u8, high: u8, closed: u8) -> bool
     requires { closed < high }
     ensures { IsTrue result ↔ (high - closed ≤ low) }
@@ -46,7 +46,7 @@ fn is_required(low: u8, high: u8, closed: u8) -> bool
     high - closed <= low
 }
 
-// So many copies of the body, of which the first few have to stand there, and each other one only behind the one before.
+// Writes out `high` copies of the body. The first `low` are required, and each other one is optional after the one before.
 fn repeat_counted(
     nodes: &mut Vec<Node<'_>>,
     body: Part,
@@ -64,7 +64,7 @@ fn repeat_counted(
     Ok(behind)
 }
 
-// So many copies of the body, one at least, the last of which may be taken again.
+// Writes out `low` copies of the body, at least one, and repeats the last one.
 fn repeat_unbounded(nodes: &mut Vec<Node<'_>>, body: Part, low: u8) -> Result<Part, AllocError>
     requires { 0 < low }
     ensures { IfOk result (λ part. Changes (λ r. simplified_unbounded r (low - 1)) (nodes_view nodes.old.items) (nodes_view nodes.new.items) body part) }
@@ -77,7 +77,7 @@ fn repeat_unbounded(nodes: &mut Vec<Node<'_>>, body: Part, low: u8) -> Result<Pa
     Ok(behind)
 }
 
-/// Whether nothing stands for a repeat with this bound.
+/// Returns true if a repeat with this bound has no copies.
 pub(crate) fn has_no_copy(high: Option<u8>) -> bool
     ensures { result ≡ is_no_copy high }
 {
@@ -87,7 +87,7 @@ pub(crate) fn has_no_copy(high: Option<u8>) -> bool
     }
 }
 
-/// The body, written out as often as it is repeated.
+/// Writes the body out for each repetition.
 pub(crate) fn repeat(
     nodes: &mut Vec<Node<'_>>,
     body: Part,

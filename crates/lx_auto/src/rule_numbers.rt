@@ -1,9 +1,9 @@
-//! Of which rule a position is. Nothing rests on it: it is where a search for the rule begins.
+//! The rule of each position, as a hint for where to begin a search for the rule. No proof depends on it.
 
 use crate::rule_part::RulePart;
 use std::alloc::{AllocError, Global};
 
-// The greatest number that can be kept; no specification has a rule of this number.
+// Greatest number that can be kept. No specification has a rule with this number.
 const LAST_RULE: usize = 65_535;
 
 // Adds the number of a rule for each of its positions.
@@ -17,7 +17,7 @@ fn push_rule(part: &RulePart, rule: u16, rules_at: &mut Vec<u16>) -> Result<(), 
     Ok(())
 }
 
-/// The rule of each position.
+/// Returns the rule of each position.
 pub(crate) fn rules_by_position(
     alloc: Global,
     parts: &[RulePart],

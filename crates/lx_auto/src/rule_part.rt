@@ -1,24 +1,24 @@
-//! What is kept of a rule to follow its positions.
+//! Rules, with the data to follow their positions.
 
 ghost use Rattle.std.specs.Prelude.{◌<◌};
 
 use crate::block::Block;
 use crate::node::Node;
 
-/// What is kept of a rule: the nodes of its expression, the blocks it is split into, and where its positions stand.
+/// A rule: the nodes of its expression, the blocks into which it is split, and the range of its positions.
 #[derive(Drop)]
 pub(crate) struct RulePart<'s> {
     pub(crate) nodes: Vec<Node<'s>>,
-    /// The outline, an expression with a position for each block.
+    /// Outline of the rule: an expression with a position for each block.
     pub(crate) outline: Vec<Node<'s>>,
-    /// Which nodes of the outline match the empty word.
+    /// For each node of the outline, true if it matches the empty word.
     pub(crate) nulls: Vec<bool>,
     pub(crate) blocks: Vec<Block<'s>>,
-    /// The first position of the rule.
+    /// First position of the rule.
     pub(crate) base: usize,
-    /// How many positions the pattern has.
+    /// Number of positions of the pattern.
     pub(crate) count: usize,
-    /// Whether a newline stands behind them, which is one position more.
+    /// True if a newline comes after them, which is one more position.
     pub(crate) line_end: bool,
     pub ghost small: { base < 65536 },
     pub ghost few: { count < 65536 },

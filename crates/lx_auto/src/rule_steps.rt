@@ -1,4 +1,4 @@
-//! From the marked positions of a rule to those that can be read next.
+//! Steps from the marked positions of a rule to those that can be read next.
 
 ghost use Rattle.std.specs.Prelude.{◌≡◌, ◌+◌, ◌<◌, ◌≤◌, ◌^◌, ◌↔◌, [], ◌∷◌, ℕ, IfOk, OnOk, true, false, length, reverse};
 ghost use Rattle.lx_auto.specs.Marking as plain;
@@ -16,7 +16,8 @@ use crate::node::Node;
 use crate::rule_part::RulePart;
 use std::alloc::{AllocError, Global};
 
-// For each node of an outline whether a word can end there that ends in one of its blocks: nowhere, where none does, as in most sets.
+// Tests for each node of an outline if a word that ends in one of its blocks can end there. If none ends in a block, as in most sets, all flags are
+// false.
 fn outline_ends(
     alloc: Global,
     outline: &[Node],
@@ -31,7 +32,7 @@ fn outline_ends(
     vec![in alloc; false; outline.len()]
 }
 
-// Sets for each block of an outline whether it is entered: none, where the outline isn't entered and nothing ends in it.
+// Sets for each block of an outline if it is entered. None is if the outline isn't entered and nothing ends in it.
 fn mark_entered(
     alloc: Global,
     outline: &[Node],
@@ -52,15 +53,15 @@ fn mark_entered(
 }
 
 impl RulePart<'_> {
-    /// Whether a position of the rule is marked.
+    /// Returns true if a position of the rule is marked.
     pub(crate) fn is_touched(&self, marks: &[bool]) -> bool
         ensures { result ≡ false → (q : ℕ) → self.now.base ≤ q → q < self.now.base + self.now.count + 1 → plain.flag marks.now q ≡ false }
     {
         has_flag(marks, self.base, self.count + 1)
     }
 
-    /// Sets for each position of the pattern whether it can be read next, behind a marked one or at the pattern's begin where that is
-    /// entered. The answer is whether a marked position can stand last in the pattern.
+    /// Sets for each position of the pattern if it can be read next: after a marked one, or at the pattern's start if that is entered. Returns true
+    /// if a marked position can be the last one in the pattern.
     pub(crate) fn follow(
         &self,
         alloc: Global,
@@ -72,7 +73,7 @@ impl RulePart<'_> {
         ensures ended { (r : NumberedRule) → IsPartOf self.now r → IfOk result (λ ended. (ended ≡ true) ↔ CanEnd (λ p. plain.flag marks.now p ≡ true) r.tree r.base) }
         ensures reads { (r : NumberedRule) → IsPartOf self.now r → self.now.base + self.now.count ≤ length reads.old.items → IsClear reads.old.items self.now.base (self.now.base + self.now.count) → OnOk result (AreReadsOf r marks.now entered reads.old.items reads.new.items) }
     {
-        // Most sets touch few blocks: only these are gone over node by node, and the outline says which others are entered.
+        // Most sets touch few blocks. Only these are visited node by node, and the outline determines which other blocks are entered.
         let blocks = self.blocks.as_slice();
         let at_nodes = find_all_ends(alloc, blocks, marks)?;
         let at_blocks = last_flags(alloc, &at_nodes)?;
@@ -94,8 +95,8 @@ impl RulePart<'_> {
         Ok(flag(ends, ends.len().saturating_sub(1)))
     }
 
-    /// Sets for each position of the rule, the newline of a line end among them, whether it can be read next, behind a marked one. The
-    /// answer is whether a marked position ends a word of the rule.
+    /// Sets for each position of the rule, including the newline of a line end, if it can be read next after a marked one. Returns true if a marked
+    /// position ends a word of the rule.
     pub(crate) fn step(
         &self,
         alloc: Global,

@@ -1,4 +1,4 @@
-//! The rules of a specification, unfolded and numbered.
+//! Unfolds and numbers the rules of a specification.
 
 ghost use Rattle.std.specs.Prelude.{◌≡◌, ◌+◌, ◌≤◌, ◌<◌, ◌^◌, ◌⊎◌, ◌∷◌, [], length, map, IsTrue, IfOk, IfErr};
 ghost use Rattle.lx_ere.specs.Regex.{regex_of};
@@ -33,7 +33,7 @@ use lx_rules::rule::Rule;
 use lx_rules::spec::Spec;
 use std::alloc::{AllocError, Global};
 
-// The nodes of a rule's expression.
+// Unfolds a rule's expression to nodes.
 fn unfold_rule<'s>(
     alloc: Global,
     names: &Names<'s>,
@@ -49,7 +49,7 @@ fn unfold_rule<'s>(
     Ok(nodes)
 }
 
-// What is kept of a rule with these nodes, whose positions are numbered from the base on.
+// Makes the part of a rule with these nodes. Its positions are numbered from the base on.
 fn part_of(
     alloc: Global,
     nodes: Vec<Node<'_>>,
@@ -76,7 +76,7 @@ fn part_of(
     })
 }
 
-// The position behind all of a rule.
+// Returns the position after all of a rule.
 fn end_of(part: &RulePart) -> usize
     ensures { result ≡ part.now.base + part.now.count + newline_count part.now.line_end }
 {
@@ -84,7 +84,7 @@ fn end_of(part: &RulePart) -> usize
     if part.line_end { behind + 1 } else { behind }
 }
 
-// These rules, one behind the other, and how many positions they have.
+// Unfolds these rules, one after the other, and counts their positions.
 fn unfold_each<'s>(
     alloc: Global,
     names: &Names<'s>,
@@ -109,12 +109,11 @@ fn unfold_each<'s>(
     Ok(UnfoldedRules { parts, total })
 }
 
-/// The rules of a specification: names unfolded, repeats written out, what has no position left away, and positions numbered rule after
-/// rule.
+/// Unfolds the rules of a specification: unfolds names, writes repeats out, removes what has no position, and numbers the positions rule by rule.
 ///
 /// # Errors
 ///
-/// `TooManyPositions` where there are more than 16,384, before anything is unfolded; `Memory`.
+/// `TooManyPositions` if there are more than 16,384, before anything is unfolded. `Memory`.
 pub(crate) fn unfold_rules<'s>(
     alloc: Global,
     spec: &'s Spec,

@@ -1,4 +1,4 @@
-//! The number of a set in a table.
+//! Numbers the sets in a table.
 
 ghost use Rattle.std.specs.Prelude.{◌≡◌, ◌≢◌, ◌<◌, ◌≤◌, ◌⊎◌, ◌++◌, ◌∷◌, [], ℕ, None, IfOk, IfErr, OnOk, length};
 ghost use Rattle.std.specs.HashMap.{get};
@@ -10,7 +10,7 @@ use smallvec::SmallVec;
 use std::alloc::Global;
 use std::collections::HashMap;
 
-/// A table without sets.
+/// Returns a table without sets.
 pub(crate) fn empty_table(alloc: Global) -> SetTable
     ensures sets { result.sets.items ≡ [] }
     ensures numbering { IsNumbering result.sets.items result.numbers }
@@ -21,14 +21,14 @@ pub(crate) fn empty_table(alloc: Global) -> SetTable
     }
 }
 
-// The number of a set, if it is in the table.
+// Returns the number of a set, if it is in the table.
 fn known_number(table: &SetTable, set: &PositionSet) -> Option<usize>
     ensures { result ≡ get same table.now.numbers set.now }
 {
     table.numbers.get(set).copied()
 }
 
-// Puts a new set behind those in the table.
+// Adds a new set to the table.
 fn add_set(alloc: Global, table: &mut SetTable, set: PositionSet) -> Result<(), BuildFault>
     requires numbering { IsNumbering table.old.sets.items table.old.numbers }
     requires absent { get same table.old.numbers set ≡ None }
@@ -49,7 +49,7 @@ fn add_set(alloc: Global, table: &mut SetTable, set: PositionSet) -> Result<(), 
     Ok(())
 }
 
-// A set that isn't in the table gets the next number.
+// Adds a set that isn't in the table, with the next number.
 fn add_new(
     alloc: Global,
     table: &mut SetTable,
@@ -76,7 +76,7 @@ fn add_new(
     Ok(number)
 }
 
-/// The number of a set in the table, which gets it if it isn't there; there may be as many as the limit.
+/// Returns the number of a set in the table. Adds it if it isn't there. The table has at most `limit` sets.
 pub(crate) fn number_of(
     alloc: Global,
     table: &mut SetTable,

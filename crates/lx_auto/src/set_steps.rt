@@ -1,4 +1,4 @@
-//! From a set of positions to those that can be read next, and to the rule that has matched.
+//! Steps from a set of positions to those that can be read next, and to the rule that it matches.
 
 ghost use Rattle.std.specs.Prelude.{◌≡◌, ◌+◌, ◌++◌, ◌<◌, ◌≤◌, ◌↔◌, [], ℕ, List, IfOk, OnOk, Contains, true, false, length, take, drop, min, if◌then◌else◌};
 ghost use Rattle.lx_rules.specs.Plain.{PlainSpec};
@@ -15,15 +15,15 @@ use crate::marking::{has_flag, set_flag};
 use crate::rule_part::RulePart;
 use std::alloc::{AllocError, Global};
 
-// How many flags are looked at together: in most sets few are set, so that there are long stretches without one.
+// Number of flags that are tested together. In most sets few are set, so that there are long stretches without one.
 const STRETCH: usize = 64;
 
 const LONG_STRETCH: usize = 1_024;
 
-// No more flags than these are gone over for all rules at once.
+// Limit of the flags that are tested for all rules at once.
 const MOST_POSITIONS: usize = 65_536;
 
-// Before which position none is marked, from this one on, where so many are looked at together: where a stretch begins in which one is, or the end.
+// Skips whole unmarked strides. Returns the start of the first stride with a mark, or the end. No flag from `from` up to there is set.
 fn bare_by(marks: &[bool], from: usize, stretch: usize) -> usize
     requires some { 0 < stretch }
     requires few { stretch ≤ 1024 }
@@ -42,7 +42,7 @@ fn bare_by(marks: &[bool], from: usize, stretch: usize) -> usize
     until
 }
 
-// The same by stretches that fit the marks: short ones where marks are near, and long ones up to where they are.
+// Skips unmarked flags by strides that fit: short ones near marks, and long ones far from them.
 fn bare_until(marks: &[bool], from: usize) -> usize
     ensures later { from ≤ result }
     ensures within { from ≤ length marks.now → result ≤ length marks.now }
@@ -55,8 +55,8 @@ fn bare_until(marks: &[bool], from: usize) -> usize
     bare_by(marks, far, STRETCH)
 }
 
-// How many rules from this one on are left out together, or none: those before the one that has the last of these positions. `rules_at` says
-// which that is.
+// Returns the number of rules from `from` on that can be skipped together, or 0: those before the rule of the range's last position. `rules_at` has
+// the rule of each position.
 fn untouched_count(parts: &[RulePart], rules_at: &[u16], from: usize, bare: Bare) -> usize
     requires within { from < length parts.now }
     ensures within { from + result ≤ length parts.now }
@@ -78,7 +78,7 @@ fn untouched_count(parts: &[RulePart], rules_at: &[u16], from: usize, bare: Bare
     }
 }
 
-// Whether none of the positions of a rule is marked.
+// Returns true if no position of a rule is marked.
 fn is_untouched(part: &RulePart, marks: &[bool], bare: Bare) -> bool
     requires bare { (q : ℕ) → bare.from ≤ q → q < bare.until → plain.flag marks.now q ≡ false }
     requires from { bare.from ≤ part.now.base }
@@ -90,7 +90,7 @@ fn is_untouched(part: &RulePart, marks: &[bool], bare: Bare) -> bool
     !part.is_touched(marks)
 }
 
-// One rule: nothing is to be done where none of its positions is marked.
+// Steps one rule. Does nothing if none of its positions is marked.
 fn step_rule(
     alloc: Global,
     part: &RulePart,
@@ -111,7 +111,7 @@ fn step_rule(
     Ok(matched)
 }
 
-// The first rule that has matched, where rule i comes behind those before.
+// Returns the first rule that has matched, given the first one before rule `i`.
 fn first_matched(found: Option<usize>, matched: bool, i: usize) -> Option<usize>
     ensures { result ≡ (if matched then first_or found i else found) }
 {
@@ -122,7 +122,7 @@ fn first_matched(found: Option<usize>, matched: bool, i: usize) -> Option<usize>
     }
 }
 
-// Puts the positions of a rule that can be read next, a newline among them, behind those of others.
+// Appends the positions of a rule that can be read next, including its newline.
 fn push_read(part: &RulePart, reads: &[bool], next: &mut Vec<u16>) -> Result<(), AllocError>
     requires { length reads.now ≤ 65536 }
     ensures { part.now.base ≤ length reads.now → OnOk result (next.new.items ≡ next.old.items ++ places_from part.now.base (drop part.now.base (take (min (part.now.base + part.now.count + 1) (length reads.now)) reads.now))) }
@@ -133,8 +133,8 @@ fn push_read(part: &RulePart, reads: &[bool], next: &mut Vec<u16>) -> Result<(),
     Ok(())
 }
 
-/// Sets for each position whether it can be read next, behind a marked one, all of which are members of the set, and puts these positions behind others.
-/// The answer is the first rule of which a marked position ends a word.
+/// Sets for each position if it can be read next after a marked one, and appends those positions. All marked positions are members of the set.
+/// Returns the first rule of which a marked position ends a word.
 pub(crate) fn step_rules(
     alloc: Global,
     parts: &[RulePart],
@@ -171,7 +171,7 @@ pub(crate) fn step_rules(
     Ok(found)
 }
 
-/// So many flags, none of them set.
+/// Returns `total` flags, none of them set.
 pub(crate) fn clear_flags(alloc: Global, total: usize) -> Result<Vec<bool>, AllocError>
     ensures long { IfOk result (λ flags. length flags.items ≡ total) }
     ensures clear { IfOk result (λ flags. (q : ℕ) → plain.flag flags.items q ≡ false) }
@@ -179,7 +179,7 @@ pub(crate) fn clear_flags(alloc: Global, total: usize) -> Result<Vec<bool>, Allo
     vec![in alloc; false; total]
 }
 
-/// Sets the flags of a set of positions, where none is set.
+/// Sets the flags of a set of positions. None is set before.
 pub(crate) fn mark(marks: &mut Vec<bool>, set: &[u16])
     requires clear { (q : ℕ) → plain.flag marks.old.items q ≡ false }
     ensures long { length marks.new.items ≡ length marks.old.items }
@@ -190,7 +190,7 @@ pub(crate) fn mark(marks: &mut Vec<bool>, set: &[u16])
     }
 }
 
-/// Clears the flags of a set of positions: where no others are set, none is.
+/// Clears the flags of a set of positions. If no others are set, none is set after it.
 pub(crate) fn unmark(flags: &mut Vec<bool>, set: &[u16])
     ensures long { length flags.new.items ≡ length flags.old.items }
     ensures clear { ((q : ℕ) → plain.flag flags.old.items q ≡ true → Contains set.now q) → (q : ℕ) → plain.flag flags.new.items q ≡ false }
@@ -200,7 +200,7 @@ pub(crate) fn unmark(flags: &mut Vec<bool>, set: &[u16])
     }
 }
 
-// Puts the places of the flags that are set, from one place on up to another, behind others.
+// Appends the numbers of the set flags from `from` up to `end`.
 fn push_places(
     flags: &[bool],
     from: usize,
@@ -220,7 +220,7 @@ fn push_places(
     Ok(())
 }
 
-// Puts the places of the flags that are set, from one place on, behind others, rising.
+// Appends the numbers of the set flags from `from` on, in ascending order.
 fn push_places_from(flags: &[bool], from: usize, places: &mut Vec<u16>) -> Result<(), AllocError>
     requires few { length flags.now ≤ 65536 }
     requires within { from ≤ length flags.now }
@@ -235,7 +235,7 @@ fn push_places_from(flags: &[bool], from: usize, places: &mut Vec<u16>) -> Resul
     Ok(())
 }
 
-/// The places of the flags that are set, rising.
+/// Returns the numbers of the set flags, in ascending order.
 pub(crate) fn places_of(alloc: Global, flags: &[bool]) -> Result<Vec<u16>, AllocError>
     requires { length flags.now ≤ 65536 }
     ensures { IfOk result (λ places. places.items ≡ places_from 0 flags.now) }

@@ -1,9 +1,9 @@
-//! A table of position sets, each of which has its number.
+//! A table of position sets with their numbers.
 
 use smallvec::SmallVec;
 use std::collections::HashMap;
 
-/// A set of positions, rising.
+/// A set of positions, in ascending order.
 pub(crate) type PositionSet = SmallVec<u16, 8>;
 
 /// The sets in the order of their numbers, and the number of each.

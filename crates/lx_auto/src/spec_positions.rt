@@ -1,4 +1,4 @@
-//! The positions of a specification, with what is known of them.
+//! The positions of a specification.
 
 ghost use Rattle.std.specs.Prelude.{◌≡◌, ◌+◌, ◌<◌, ◌≤◌, ◌⊎◌, min, IfOk, IfErr};
 ghost use Rattle.lx_rules.specs.views.Specs.{spec_view};
@@ -18,11 +18,11 @@ use crate::rule_unfolding::unfold_rules;
 use lx_rules::spec::Spec;
 use std::alloc::{AllocError, Global};
 
-/// The positions of a specification's rules, the bytes of each, and the bytes in groups.
+/// Finds the positions of a specification's rules, the bytes of each, and the groups of bytes.
 ///
 /// # Errors
 ///
-/// `TooManyPositions` where there are more than 16,384; `Memory`.
+/// `TooManyPositions` if there are more than 16,384. `Memory`.
 pub(crate) fn positions_of<'s>(
     alloc: Global,
     spec: &'s Spec,
@@ -44,7 +44,8 @@ pub(crate) fn positions_of<'s>(
     })
 }
 
-/// How many positions a specification has, before anything is unfolded; 16,385 stands for all numbers above 16,384. Err: memory was refused.
+/// Returns the number of positions of a specification, before anything is unfolded. The result 16,385 represents all numbers above 16,384. Err: an
+/// allocation failed.
 pub fn count_positions(alloc: Global, spec: &Spec) -> Result<u32, AllocError>
     ensures { IfOk result (λ count. count ≡ min (max_positions + 1) (count_of_spec (spec_view spec.now))) }
 {

@@ -1,4 +1,4 @@
-//! Expressions, unfolded to nodes.
+//! Unfolds expressions to nodes.
 
 ghost use Rattle.std.specs.Prelude.{◌≡◌, ◌≤◌, ◌++◌, map, IfOk, OnOk, Some};
 ghost use Rattle.lx_ere.specs.Regex.{regex_of};
@@ -18,7 +18,7 @@ use lx_ere::expr::Expr;
 use lx_ere::set::ByteSet;
 use std::alloc::AllocError;
 
-/// Appends the nodes of an expression. Names whose nodes are there already are copied, and others are unfolded at most `depth` deep.
+/// Appends the nodes of an expression. Copies names that have nodes, and unfolds others at most `depth` deep.
 #[cycle(unfold)]
 pub(crate) fn unfold<'s>(
     names: &Names<'s>,
@@ -45,7 +45,7 @@ pub(crate) fn unfold<'s>(
             choose(nodes, left, right)
         }
         Expr::Times { body, low, high } => {
-            // What isn't copied once isn't unfolded, however large it is.
+            // a body without copies isn't unfolded, whatever its size
             if has_no_copy(*high) {
                 return Ok(EMPTY);
             }

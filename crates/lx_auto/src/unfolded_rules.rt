@@ -1,8 +1,8 @@
-//! The rules of a specification, unfolded.
+//! The unfolded rules of a specification.
 
 use crate::rule_part::RulePart;
 
-/// What is kept of each rule, and how many positions all have together.
+/// The parts of the rules, and the number of positions of all together.
 #[derive(Drop)]
 pub(crate) struct UnfoldedRules<'s> {
     pub(crate) parts: Vec<RulePart<'s>>,

@@ -1,4 +1,4 @@
-//! Bracket expressions (POSIX.1-2017, XBD 9.3.5, with the escapes of `lex`).
+//! Reads bracket expressions (POSIX.1-2017, XBD 9.3.5, with the escapes of `lex`).
 
 ghost use Rattle.std.specs.Prelude.{◌≡◌, ◌||◌, ℕ, Bool};
 ghost use Rattle.std.specs.Option.{option_map};
@@ -13,21 +13,21 @@ use crate::name::name_run;
 use crate::prefix::{begins_pair, begins_with, behind_byte, skip};
 use crate::set::ByteSet;
 
-/// A place in the brackets.
+/// A position in the brackets.
 #[derive(Clone, Copy)]
 enum BracketPosition {
-    /// Directly behind `[`.
+    /// The position directly after `[`.
     Opening,
-    /// Directly behind `[^`.
+    /// The position directly after `[^`.
     BehindCaret,
-    /// Further on.
+    /// Any later position.
     Inside,
 }
 
 /// A member of the brackets.
 #[derive(Clone, Copy)]
 enum Member {
-    /// From the first byte to the second.
+    /// The bytes from the first one to the second.
     Range(u8, u8),
     /// The ranges of a class.
     Class(&'static [(u8, u8)]),
@@ -51,7 +51,7 @@ fn is_inside(position: BracketPosition) -> bool
     }
 }
 
-/// Whether the byte stands for itself here, where this text stands behind it.
+/// Returns true if the byte represents itself here. `behind` is the text after it.
 fn stands_alone(position: BracketPosition, c: u8, behind: &[u8]) -> bool
     ensures { result ≡ stands_alone (position_of position) c behind.now }
 {
@@ -62,14 +62,14 @@ fn stands_alone(position: BracketPosition, c: u8, behind: &[u8]) -> bool
     !(special || caret || opens)
 }
 
-/// Whether a `-` follows that is not directly before the closing bracket.
+/// Returns true if a `-` follows that isn't directly before the closing bracket.
 fn range_follows(text: &[u8]) -> bool
     ensures { result ≡ range_follows text.now }
 {
     begins_with(b'-', text) && !begins_with(b']', skip(1, text))
 }
 
-/// One byte, the mark and `]`, as in `[.c.]` from behind `[.` on.
+/// Reads one byte, the mark and `]`, as in `[.c.]`, starting after `[.`.
 fn marked_byte_at(mark: u8, text: &[u8]) -> Option<(u8, &[u8])>
     ensures { option_map (λ f. (f.0, f.1.now)) result ≡ marked_byte_at mark text.now }
 {
@@ -81,7 +81,7 @@ fn marked_byte_at(mark: u8, text: &[u8]) -> Option<(u8, &[u8])>
     Some((*byte, behind))
 }
 
-/// The point that begins with this byte, which is no backslash.
+/// Reads the point that begins with this byte, which isn't a backslash.
 fn bare_point_at(position: BracketPosition, c: u8, rest: &[u8]) -> Option<(u8, &[u8])>
     ensures { option_map (λ f. (f.0, f.1.now)) result ≡ bare_point_at (position_of position) c rest.now }
 {
@@ -106,7 +106,7 @@ fn bare_point_at(position: BracketPosition, c: u8, rest: &[u8]) -> Option<(u8, &
     }
 }
 
-/// The point at the front, and what stands behind it.
+/// Reads the point at the start. Returns it with the text after it.
 fn point_at(position: BracketPosition, text: &[u8]) -> Option<(u8, &[u8])>
     ensures { option_map (λ f. (f.0, f.1.now)) result ≡ point_at (position_of position) text.now }
 {
@@ -118,7 +118,7 @@ fn point_at(position: BracketPosition, text: &[u8]) -> Option<(u8, &[u8])>
     }
 }
 
-/// The end of a range, from behind its `-` on.
+/// Reads the end of a range, starting after its `-`.
 fn range_end_at(text: &[u8]) -> Option<(u8, &[u8])>
     ensures { option_map (λ f. (f.0, f.1.now)) result ≡ range_end_at text.now }
 {
@@ -129,7 +129,7 @@ fn range_end_at(text: &[u8]) -> Option<(u8, &[u8])>
     }
 }
 
-/// The member that begins with this point.
+/// Reads the member that begins with this point.
 fn member_from(low: u8, rest: &[u8]) -> Option<(Member, &[u8])>
     ensures { option_map (λ f. (ranges_of f.0, f.1.now)) result ≡ member_from (low, rest.now) }
 {
@@ -144,7 +144,7 @@ fn member_from(low: u8, rest: &[u8]) -> Option<(Member, &[u8])>
     }
 }
 
-/// The ranges of a class, by its name, in the POSIX locale.
+/// Returns the ranges of a class by its name, in the POSIX locale.
 fn class_ranges(name: &[u8]) -> Option<&'static [(u8, u8)]>
     ensures { option_map (λ r. r.now) result ≡ class_ranges name.now }
 {
@@ -177,7 +177,7 @@ fn class_ranges(name: &[u8]) -> Option<&'static [(u8, u8)]>
     }
 }
 
-/// A class, from behind its `[:` on.
+/// Reads a class, starting after its `[:`.
 fn class_at(text: &[u8]) -> Option<(Member, &[u8])>
     ensures { option_map (λ f. (ranges_of f.0, f.1.now)) result ≡ class_at text.now }
 {
@@ -187,7 +187,7 @@ fn class_at(text: &[u8]) -> Option<(Member, &[u8])>
     Some((Member::Class(ranges), behind))
 }
 
-/// The member at the front, and what stands behind it.
+/// Reads the member at the start. Returns it with the text after it.
 fn member_at(position: BracketPosition, text: &[u8]) -> Option<(Member, &[u8])>
     ensures { option_map (λ f. (ranges_of f.0, f.1.now)) result ≡ member_at (position_of position) text.now }
 {
@@ -228,7 +228,7 @@ fn members_behind(mut set: ByteSet, text: &[u8]) -> Option<(ByteSet, &[u8])>
     Some((set, skip(1, rest)))
 }
 
-/// The set of the members up to the closing bracket, and what stands behind it.
+/// Reads the members up to the closing bracket. Returns their set with the text after it.
 fn members_at(position: BracketPosition, text: &[u8]) -> Option<(ByteSet, &[u8])>
     ensures { option_map (λ f. (f.0, f.1.now)) result ≡ option_map members_set (members_at (position_of position) text.now) }
 {
@@ -240,7 +240,7 @@ fn members_at(position: BracketPosition, text: &[u8]) -> Option<(ByteSet, &[u8])
     members_behind(set, rest)
 }
 
-/// The set of a bracket expression and what stands behind it, from behind its `[` on.
+/// Reads a bracket expression, starting after its `[`. Returns its set with the text after it.
 pub(crate) fn bracket_at(text: &[u8]) -> Option<(ByteSet, &[u8])>
     ensures { option_map (λ f. (f.0, f.1.now)) result ≡ bracket_at text.now }
 {

@@ -1,11 +1,11 @@
-//! Escapes and runs of digits (POSIX.1-2017, XCU `lex`, "Regular Expressions in lex", the table of escape sequences).
+//! Reads escapes and runs of digits (POSIX.1-2017, XCU `lex`, "Regular Expressions in lex", the table of escape sequences).
 
 ghost use Rattle.std.specs.Prelude.{◌≡◌, ◌≤◌, length};
 ghost use Rattle.std.specs.Option.{option_map};
 ghost use Rattle.lx_ere.specs.Escapes.{digit_of, is_digit, letter_byte};
 ghost use Rattle.lx_ere.specs.Lexing.{run_len, byte_of, number_at, hexadecimal_at, escape_at};
 
-/// The value of a digit, in a base of at most 16.
+/// Returns the value of a digit, in a base of at most 16.
 fn digit_of(c: u8) -> u8
     ensures { result ≡ digit_of c }
 {
@@ -18,14 +18,14 @@ fn digit_of(c: u8) -> u8
     }
 }
 
-/// Whether the byte is a digit in the base.
+/// Returns true if the byte is a digit in the base.
 pub(crate) fn is_digit(base: u8, c: u8) -> bool
     ensures { result ≡ is_digit base c }
 {
     c.is_ascii_hexdigit() && digit_of(c) < base
 }
 
-/// How many digits stand at the front, at most so many.
+/// Returns the number of digits at the start, at most `limit`.
 #[tactic(auto, using(crate::proofs::RunLemmas::run_steps))]
 pub(crate) fn digit_run(base: u8, limit: usize, text: &[u8]) -> usize
     ensures value { result ≡ run_len (is_digit base) limit text.now }
@@ -38,7 +38,7 @@ pub(crate) fn digit_run(base: u8, limit: usize, text: &[u8]) -> usize
     n
 }
 
-/// The number that the digits spell, where it is a byte.
+/// Returns the number that the digits spell, if it is a byte.
 fn byte_of(base: u8, digits: &[u8]) -> Option<u8>
     requires low { 1 ≤ base }
     requires high { base ≤ 16 }
@@ -53,7 +53,7 @@ fn byte_of(base: u8, digits: &[u8]) -> Option<u8>
     if value < 256 { Some(value as u8) } else { None }
 }
 
-/// The byte that the first n digits spell, and what stands behind them.
+/// Returns the byte that the first n digits spell, with the text after them.
 pub(crate) fn number_at(base: u8, n: usize, text: &[u8]) -> Option<(u8, &[u8])>
     requires low { 1 ≤ base }
     requires high { base ≤ 16 }
@@ -66,7 +66,7 @@ pub(crate) fn number_at(base: u8, n: usize, text: &[u8]) -> Option<(u8, &[u8])>
     }
 }
 
-/// The byte of a backslash and a letter.
+/// Returns the byte of a backslash with this letter.
 fn letter_byte(c: u8) -> Option<u8>
     ensures { result ≡ letter_byte c }
 {
@@ -82,10 +82,14 @@ fn letter_byte(c: u8) -> Option<u8>
     }
 }
 
-/// The byte of an escape and what stands behind it, for a text from behind the backslash on: a letter of the table; one to three octal
-/// digits, as many as stand there; `x` and all hexadecimal digits that follow, or `x` for itself where none does; any other byte but a
-/// newline, for itself. `None` where no escape stands at the front, or where the digits spell no byte (POSIX.1-2017, XCU `lex`,
-/// "Regular Expressions in lex", the table of escape sequences).
+/// Reads an escape, starting after the backslash (POSIX.1-2017, XCU `lex`, "Regular Expressions in lex", the table of escape sequences). Returns its
+/// byte with the text after it. An escape has one of these forms:
+/// - a letter of the table;
+/// - one to three octal digits, the longest run of them;
+/// - `x` and all hexadecimal digits that follow, or `x` for itself if none follows;
+/// - any other byte except a newline, for itself.
+///
+/// Returns `None` if no escape is at the start, or if the digits spell no byte.
 pub fn escape_at(text: &[u8]) -> Option<(u8, &[u8])>
     ensures { option_map (λ f. (f.0, f.1.now)) result ≡ escape_at text.now }
 {
@@ -104,7 +108,7 @@ pub fn escape_at(text: &[u8]) -> Option<(u8, &[u8])>
     }
 }
 
-/// The byte of n hexadecimal digits, or `x` itself where there are none.
+/// Returns the byte of n hexadecimal digits, or `x` itself if there are none.
 fn hexadecimal_at(n: usize, text: &[u8]) -> Option<(u8, &[u8])>
     requires { n ≤ length text.now }
     ensures { option_map (λ f. (f.0, f.1.now)) result ≡ hexadecimal_at n text.now }

@@ -19,31 +19,31 @@ pub enum Expr {
     Then(Box<Expr>, Box<Expr>),
     /// Either expression.
     Or(Box<Expr>, Box<Expr>),
-    /// The body from `low` to `high` times, each at most 255; where `high` is `None`, `low` times or any number more.
+    /// The body from `low` to `high` times, each at most 255. If `high` is `None`, there is no upper bound.
     Times {
-        /// What is repeated.
+        /// Repeated expression.
         body: Box<Expr>,
-        /// How often at least.
+        /// Least number of repetitions.
         low: u8,
-        /// How often at most, where there is a bound.
+        /// Greatest number of repetitions, if there is a bound.
         high: Option<u8>,
     },
-    /// What a name that was defined elsewhere stands for.
+    /// The expression of a name that is defined elsewhere.
     Name(Vec<u8>),
 }
 
-/// An expression and its anchors, which apply to the whole of it.
+/// An expression with its anchors, which apply to all of it.
 #[derive(Debug, Drop)]
 pub struct Pattern {
-    /// Whether a match has to begin at the beginning of a line (`^`).
+    /// True if a match has to begin at the start of a line (`^`).
     pub line_begin: bool,
-    /// Whether a match has to be followed by a newline (`$`).
+    /// True if a match has to be followed by a newline (`$`).
     pub line_end: bool,
-    /// What is matched.
+    /// Matched expression.
     pub expr: Expr,
 }
 
-/// Whether the two trees have the same form and equal parts.
+/// Returns true if the two trees have the same form and equal parts.
 fn same_tree(left: &Expr, right: &Expr) -> bool
     ensures { result ≡ same_trees (regex_of left.now) (regex_of right.now) }
 {
@@ -85,7 +85,7 @@ impl PartialEq for Expr {
 
     ghost laws = { partial_equiv_from_equiv (on_equiv regex_of trees_equivalence) };
 
-    /// Whether the two are the same tree, wherever they lie in memory.
+    /// Returns true if the two are the same tree, regardless of their places in memory.
     fn eq(&self, other: &Expr) -> bool
         ensures value { result ≡ same_trees (regex_of self.now) (regex_of other.now) }
         ensures same { IsTrue result ↔ (regex_of self.now ≡ regex_of other.now) }
@@ -103,7 +103,7 @@ impl PartialEq for Pattern {
 
     ghost laws = { partial_equiv_from_equiv (on_equiv reading_of readings_equivalence) };
 
-    /// Whether the two have the same anchors and equal trees.
+    /// Returns true if the two have the same anchors and equal trees.
     fn eq(&self, other: &Pattern) -> bool
         ensures value { result ≡ same_readings (reading_of self.now) (reading_of other.now) }
         ensures same { IsTrue result ↔ (reading_of self.now ≡ reading_of other.now) }

@@ -1,4 +1,4 @@
-//! Where the pattern of a rule ends (POSIX.1-2017, XCU `lex`, "Rules in lex").
+//! Finds the end of a rule's pattern (POSIX.1-2017, XCU `lex`, "Rules in lex").
 
 ghost use Rattle.std.specs.Prelude.{◌≡◌, ◌≤◌, ◌&&◌, length, false, nat_eq, List, ℕ, MatchOption};
 ghost use Rattle.lx_ere.specs.Brackets.{begins_with, opens_inner};
@@ -7,7 +7,7 @@ ghost use Rattle.lx_ere.specs.PatternGrammar.{BehindQuotes, BehindMark, BehindBr
 
 use crate::prefix::{begins_with, skip};
 
-/// The text behind a quoted string, from behind its opening quote on.
+/// Returns the text after a quoted string, starting after its opening quote.
 fn behind_quotes(text: &[u8]) -> &[u8]
     ensures behind { BehindQuotes text.now result.now }
     ensures shorter { length result.now ≤ length text.now }
@@ -26,14 +26,14 @@ fn behind_quotes(text: &[u8]) -> &[u8]
     rest
 }
 
-/// Whether the byte is the mark, with a `]` directly after it.
+/// Returns true if the byte is the mark, and a `]` follows directly.
 fn closes(mark: u8, first: u8, behind: &[u8]) -> bool
     ensures { result ≡ (nat_eq first mark && begins_with 93 behind.now) }
 {
     first == mark && begins_with(b']', behind)
 }
 
-/// The text behind the first mark with a `]` directly after it.
+/// Returns the text after the first mark that a `]` follows directly.
 fn behind_mark(mark: u8, text: &[u8]) -> &[u8]
     ensures behind { BehindMark mark text.now result.now }
     ensures shorter { length result.now ≤ length text.now }
@@ -48,7 +48,7 @@ fn behind_mark(mark: u8, text: &[u8]) -> &[u8]
     rest
 }
 
-/// The mark of `[:`, `[.` or `[=`, where one of them begins with this byte.
+/// Returns the mark of `[:`, `[.` or `[=`, if one of them begins with this byte.
 fn inner_mark(first: u8, behind: &[u8]) -> Option<u8>
     ensures { MatchOption result (opens_inner first behind.now ≡ false) (λ mark. IsInner mark first behind.now) }
 {
@@ -60,7 +60,7 @@ fn inner_mark(first: u8, behind: &[u8]) -> Option<u8>
     }
 }
 
-/// The text behind brackets, from behind their first `^` and `]` on.
+/// Returns the text after brackets, starting after their first `^` and `]`.
 fn behind_brackets(text: &[u8]) -> &[u8]
     ensures behind { BehindBrackets text.now result.now }
     ensures shorter { length result.now ≤ length text.now }
@@ -82,7 +82,7 @@ fn behind_brackets(text: &[u8]) -> &[u8]
     rest
 }
 
-/// The text behind the byte, where it begins with it.
+/// Skips the byte, if the text begins with it.
 fn skip_first(c: u8, text: &[u8]) -> &[u8]
     ensures value { result.now ≡ skip_first c text.now }
     ensures shorter { length result.now ≤ length text.now }
@@ -100,7 +100,7 @@ fn is_blank(c: u8) -> bool
     c == b' ' || c == b'\t'
 }
 
-/// The text from the first blank on that is in no escape, quotes or brackets.
+/// Returns the text from the first blank on that is in no escape, quotes or brackets.
 fn behind_pattern(text: &[u8]) -> &[u8]
     ensures behind { BehindPattern text.now result.now }
     ensures shorter { length result.now ≤ length text.now }
@@ -120,10 +120,10 @@ fn behind_pattern(text: &[u8]) -> &[u8]
     rest
 }
 
-/// The place of the first space or tab outside quotes, brackets and escapes, or the text's length where there is none.
+/// Returns the position of the first space or tab outside quotes, brackets and escapes, or the text's length if there is none.
 ///
-/// A backslash takes the next byte along, a quoted string runs to its closing quote, and brackets run to their closing bracket; what is not
-/// closed runs to the end. The text may have any length.
+/// A backslash escapes the next byte, a quoted string ends at its closing quote, and brackets end at their closing bracket. An unclosed construct
+/// extends to the end. The text may have any length.
 #[tactic(auto, using(crate::specs::PatternEndLaws::end_of, crate::proofs::LeastEnd::pattern_end_is))]
 pub fn pattern_end(text: &[u8]) -> usize
     ensures value { result ≡ pattern_end text.now }
@@ -133,12 +133,12 @@ pub fn pattern_end(text: &[u8]) -> usize
     text.len() - behind_pattern(text).len()
 }
 
-/// A law: a text has one place where its pattern ends.
+/// States a law: a pattern has one end in a text.
 pub fn one_pattern_end()
     ensures { (text : List ℕ) (n m : ℕ) → IsPatternEnd text n → IsPatternEnd text m → n ≡ m }
 {}
 
-/// A law: the pattern at the front of any text ends somewhere, and `pattern_end` is where.
+/// States a law: the pattern at the start of any text ends somewhere, and `pattern_end` is that position.
 pub fn some_pattern_end()
     ensures some { (text : List ℕ) → (n : ℕ) × IsPatternEnd text n }
     ensures there { (text : List ℕ) → IsPatternEnd text (pattern_end text) }

@@ -1,4 +1,4 @@
-//! Why a text is not read as an expression.
+//! Faults of reading an expression.
 
 ghost use Rattle.std.specs.Prelude.{◌≡◌};
 ghost use Rattle.lx_ere.specs.declared.fault.EreFault.TheVariants.{Memory};
@@ -6,13 +6,13 @@ ghost use Rattle.lx_ere.specs.declared.fault.EreFault.TheVariants.{Memory};
 use std::alloc::{AllocError, AllocFailed};
 use thiserror::Error;
 
-/// Why a text is not read as an expression.
+/// Reason why a text isn't read as an expression.
 #[derive(Debug, Drop, Error)]
 pub enum EreFault {
-    /// The text has no reading.
+    /// The text is unreadable.
     #[error("E10")]
     NoReading,
-    /// Memory was refused.
+    /// An allocation failed.
     #[error("E90")]
     Memory,
 }

@@ -1,4 +1,4 @@
-//! The groups that are open while a pattern is read from left to right, on the heap, so that nesting takes no call depth.
+//! The open groups while a pattern is read from left to right. They are on the heap, so that nesting takes no stack.
 
 ghost use Rattle.std.specs.Prelude.{◌≡◌, IfOk, Some, None, [], List, ℕ};
 ghost use Rattle.std.specs.Option.{option_map};
@@ -14,14 +14,14 @@ use crate::lexeme::Lexeme;
 use crate::set::ByteSet;
 use std::alloc::{AllocError, Global};
 
-/// What was read of a group that is not closed.
+/// The part of an open group that was read.
 #[derive(Drop)]
 struct Frame {
-    /// The alternatives before the last bar.
+    /// Alternatives before the last bar.
     before: Option<Expr>,
-    /// The branch behind that bar, without its last unit.
+    /// Branch after that bar, without its last unit.
     branch: Option<Expr>,
-    /// The last unit, which `*`, `+` and `?` repeat.
+    /// Last unit, which `*`, `+` and `?` repeat.
     unit: Option<Expr>,
 }
 
@@ -32,7 +32,7 @@ pub(crate) struct Groups {
     below: Vec<Frame>,
 }
 
-/// A group of which nothing was read.
+/// Returns a group of which nothing was read.
 fn empty_frame() -> Frame
     ensures { frame_of result ≡ empty_frame }
 {
@@ -43,7 +43,7 @@ fn empty_frame() -> Frame
     }
 }
 
-/// Nothing was read, and no group is open.
+/// Returns the state before anything is read, without an open group.
 pub(crate) fn no_groups(alloc: Global) -> Groups
     ensures { groups_of result ≡ stack empty_frame [] }
 {
@@ -53,7 +53,7 @@ pub(crate) fn no_groups(alloc: Global) -> Groups
     }
 }
 
-/// The branch with its last unit.
+/// Returns the branch with its last unit.
 fn whole(
     alloc: Global,
     branch: Option<Expr>,
@@ -72,7 +72,7 @@ fn whole(
     }
 }
 
-/// The alternation so far, where something stands behind its last bar.
+/// Returns the alternation that was read. Returns `None` if nothing follows its last bar.
 fn total(alloc: Global, frame: Frame) -> Result<Option<Expr>, AllocError>
     ensures { IfOk result (λ o. option_map regex_of o ≡ total (frame_of frame)) }
 {
@@ -93,7 +93,7 @@ fn total(alloc: Global, frame: Frame) -> Result<Option<Expr>, AllocError>
     }
 }
 
-/// A unit behind what was read.
+/// Appends a unit to a group.
 fn push(alloc: Global, frame: Frame, unit: Expr) -> Result<Frame, AllocError>
     ensures { IfOk result (λ next. frame_of next ≡ push (frame_of frame) (regex_of unit)) }
 {
@@ -110,7 +110,7 @@ fn push(alloc: Global, frame: Frame, unit: Expr) -> Result<Frame, AllocError>
     })
 }
 
-/// A unit behind what was read of the innermost group.
+/// Appends a unit to the innermost group.
 fn push_unit(alloc: Global, groups: Groups, unit: Expr) -> Result<Groups, AllocError>
     ensures { IfOk result (λ next. groups_of next ≡ stack (push (groups_of groups).top (regex_of unit)) (groups_of groups).below) }
 {
@@ -119,7 +119,7 @@ fn push_unit(alloc: Global, groups: Groups, unit: Expr) -> Result<Groups, AllocE
     Ok(Groups { top, below })
 }
 
-/// The bytes of a quoted string, one after the other.
+/// Joins the bytes of a quoted string, one after the other.
 fn joined(alloc: Global, first: u8, more: &[u8]) -> Result<Expr, AllocError>
     ensures { IfOk result (λ e. regex_of e ≡ joined (one_of (byte_set first)) more.now) }
 {
@@ -132,7 +132,7 @@ fn joined(alloc: Global, first: u8, more: &[u8]) -> Result<Expr, AllocError>
     Ok(string)
 }
 
-/// The last unit, repeated.
+/// Repeats the last unit.
 fn again(
     alloc: Global,
     groups: Groups,
@@ -164,7 +164,7 @@ fn again(
     }
 }
 
-/// All of the branch, repeated.
+/// Repeats the whole branch.
 fn repeat_branch(
     alloc: Global,
     groups: Groups,
@@ -196,7 +196,7 @@ fn repeat_branch(
     }
 }
 
-/// A group opens.
+/// Opens a group.
 fn open_group(groups: Groups) -> Result<Groups, AllocError>
     ensures { IfOk result (λ next. step open_group (groups_of groups) ≡ Some (groups_of next)) }
 {
@@ -208,7 +208,7 @@ fn open_group(groups: Groups) -> Result<Groups, AllocError>
     })
 }
 
-/// The innermost group closes.
+/// Closes the innermost group.
 fn close_group(alloc: Global, groups: Groups) -> Result<Option<Groups>, AllocError>
     ensures { IfOk result (λ o. option_map groups_of o ≡ step close_group (groups_of groups)) }
 {
@@ -225,7 +225,7 @@ fn close_group(alloc: Global, groups: Groups) -> Result<Option<Groups>, AllocErr
     }
 }
 
-/// An alternative ends.
+/// Ends an alternative.
 fn next_alternative(alloc: Global, groups: Groups) -> Result<Option<Groups>, AllocError>
     ensures { IfOk result (λ o. option_map groups_of o ≡ step bar (groups_of groups)) }
 {
@@ -243,7 +243,7 @@ fn next_alternative(alloc: Global, groups: Groups) -> Result<Option<Groups>, All
     }
 }
 
-/// What was read with one more lexeme; `None` where that lexeme cannot stand here.
+/// Takes one more lexeme. Returns `None` if it isn't allowed here.
 pub(crate) fn step(
     alloc: Global,
     groups: Groups,
@@ -268,7 +268,7 @@ pub(crate) fn step(
     }
 }
 
-/// The alternation that was read, where no group is open and something stands behind the last bar.
+/// Returns the alternation that was read, if no group is open and something follows the last bar.
 pub(crate) fn finish(alloc: Global, groups: Groups) -> Result<Option<Expr>, AllocError>
     ensures { IfOk result (λ o. option_map regex_of o ≡ finish (groups_of groups).top (groups_of groups).below) }
 {

@@ -1,4 +1,4 @@
-//! Lexemes of a pattern (POSIX.1-2017, XCU `lex`, "Regular Expressions in lex").
+//! Reads the lexemes of a pattern (POSIX.1-2017, XCU `lex`, "Regular Expressions in lex").
 
 ghost use Rattle.std.specs.Prelude.{◌≡◌, IfOk, List, ℕ};
 ghost use Rattle.std.specs.Option.{option_map};
@@ -13,12 +13,12 @@ use crate::prefix::{begins_with, behind_byte, skip};
 use crate::set::ByteSet;
 use std::alloc::{AllocError, Global};
 
-/// What a spelling in a pattern means.
+/// The meaning of a spelling in a pattern.
 #[derive(Drop)]
 pub enum Lexeme {
     /// A byte, an escape, a period or a bracket expression.
     Set(ByteSet),
-    /// A quoted string: its first byte, and those behind it.
+    /// A quoted string: its first byte, and those after it.
     Quoted(u8, Vec<u8>),
     /// A name in braces.
     Name(Vec<u8>),
@@ -32,7 +32,7 @@ pub enum Lexeme {
     Bar,
 }
 
-/// Whether the byte stands for itself.
+/// Returns true if the byte represents itself.
 fn is_plain(c: u8) -> bool
     ensures { result ≡ is_plain c }
 {
@@ -58,7 +58,7 @@ fn is_plain(c: u8) -> bool
     )
 }
 
-/// The lexeme that one byte is.
+/// Returns the lexeme of a single byte.
 fn byte_lexeme(c: u8) -> Option<Lexeme>
     ensures { option_map lexeme_of result ≡ byte_lexeme c }
 {
@@ -75,7 +75,7 @@ fn byte_lexeme(c: u8) -> Option<Lexeme>
     }
 }
 
-/// A byte of a quoted string, and what stands behind it.
+/// Reads a byte of a quoted string. Returns it with the text after it.
 fn quoted_byte_at(text: &[u8]) -> Option<(u8, &[u8])>
     ensures { option_map (λ f. (f.0, f.1.now)) result ≡ quoted_byte_at text.now }
 {
@@ -90,7 +90,7 @@ fn quoted_byte_at(text: &[u8]) -> Option<(u8, &[u8])>
     }
 }
 
-/// The bytes of a quoted string up to its closing quote, and what stands behind it.
+/// Reads the bytes of a quoted string up to its closing quote. Returns them with the text after it.
 fn quoted_bytes_at(alloc: Global, text: &[u8]) -> Result<Option<(Vec<u8>, &[u8])>, AllocError>
     ensures { IfOk result (λ o. option_map (λ f. (f.0.items, f.1.now)) o ≡ all_items_at quoted_byte_at 34 text.now) }
 {
@@ -106,7 +106,7 @@ fn quoted_bytes_at(alloc: Global, text: &[u8]) -> Result<Option<(Vec<u8>, &[u8])
     Ok(Some((bytes, skip(1, rest))))
 }
 
-/// A quoted string, from behind its opening quote on.
+/// Reads a quoted string, starting after its opening quote.
 fn string_at(alloc: Global, text: &[u8]) -> Result<Option<(Lexeme, &[u8])>, AllocError>
     ensures { IfOk result (λ o. option_map (λ f. (lexeme_of f.0, f.1.now)) o ≡ string_at text.now) }
 {
@@ -119,7 +119,7 @@ fn string_at(alloc: Global, text: &[u8]) -> Result<Option<(Lexeme, &[u8])>, Allo
     }
 }
 
-/// A name and its closing brace.
+/// Reads a name and its closing brace.
 fn name_at(alloc: Global, text: &[u8]) -> Result<Option<(Lexeme, &[u8])>, AllocError>
     ensures { IfOk result (λ o. option_map (λ f. (lexeme_of f.0, f.1.now)) o ≡ name_at text.now) }
 {
@@ -137,7 +137,7 @@ fn name_at(alloc: Global, text: &[u8]) -> Result<Option<(Lexeme, &[u8])>, AllocE
     }
 }
 
-/// The bound of an interval, a number of at most 255.
+/// Reads the bound of an interval, a number of at most 255.
 fn bound_at(text: &[u8]) -> Option<(u8, &[u8])>
     ensures { option_map (λ f. (f.0, f.1.now)) result ≡ bound_at text.now }
 {
@@ -145,7 +145,7 @@ fn bound_at(text: &[u8]) -> Option<(u8, &[u8])>
     if n == 0 { None } else { number_at(10, n, text) }
 }
 
-/// The rest of an interval behind its comma.
+/// Reads the rest of an interval after its comma.
 fn behind_comma_at(low: u8, text: &[u8]) -> Option<(Lexeme, &[u8])>
     ensures { option_map (λ f. (lexeme_of f.0, f.1.now)) result ≡ behind_comma_at low text.now }
 {
@@ -160,7 +160,7 @@ fn behind_comma_at(low: u8, text: &[u8]) -> Option<(Lexeme, &[u8])>
     Some((Lexeme::Interval(low, Some(high)), behind))
 }
 
-/// The rest of an interval behind its first bound.
+/// Reads the rest of an interval after its first bound.
 fn behind_low_at(low: u8, text: &[u8]) -> Option<(Lexeme, &[u8])>
     ensures { option_map (λ f. (lexeme_of f.0, f.1.now)) result ≡ behind_low_at (low, text.now) }
 {
@@ -171,7 +171,7 @@ fn behind_low_at(low: u8, text: &[u8]) -> Option<(Lexeme, &[u8])>
     }
 }
 
-/// An interval, from behind its opening brace on.
+/// Reads an interval, starting after its opening brace.
 fn interval_at(text: &[u8]) -> Option<(Lexeme, &[u8])>
     ensures { option_map (λ f. (lexeme_of f.0, f.1.now)) result ≡ interval_at text.now }
 {
@@ -179,7 +179,7 @@ fn interval_at(text: &[u8]) -> Option<(Lexeme, &[u8])>
     behind_low_at(low, rest)
 }
 
-/// Whether the text begins with a decimal digit.
+/// Returns true if the text begins with a decimal digit.
 fn starts_digit(text: &[u8]) -> bool
     ensures { result ≡ starts_digit text.now }
 {
@@ -189,7 +189,7 @@ fn starts_digit(text: &[u8]) -> bool
     }
 }
 
-/// A name or an interval, from behind its opening brace on.
+/// Reads a name or an interval, starting after its opening brace.
 fn brace_at(alloc: Global, text: &[u8]) -> Result<Option<(Lexeme, &[u8])>, AllocError>
     ensures { IfOk result (λ o. option_map (λ f. (lexeme_of f.0, f.1.now)) o ≡ brace_at text.now) }
 {
@@ -200,7 +200,7 @@ fn brace_at(alloc: Global, text: &[u8]) -> Result<Option<(Lexeme, &[u8])>, Alloc
     }
 }
 
-/// The lexeme at the front and what stands behind it; `None` where no spelling stands at the front.
+/// Reads the lexeme at the start. Returns it with the text after it, or `None` if no spelling is at the start.
 pub fn lexeme_at(alloc: Global, text: &[u8]) -> Result<Option<(Lexeme, &[u8])>, AllocError>
     ensures { IfOk result (λ o. option_map (λ f. (lexeme_of f.0, f.1.now)) o ≡ lexeme_at text.now) }
 {
@@ -216,7 +216,7 @@ pub fn lexeme_at(alloc: Global, text: &[u8]) -> Result<Option<(Lexeme, &[u8])>, 
     }
 }
 
-/// An escape, from behind its backslash on.
+/// Reads an escape, starting after its backslash.
 fn escape_lexeme(text: &[u8]) -> Option<(Lexeme, &[u8])>
     ensures { option_map (λ f. (lexeme_of f.0, f.1.now)) result ≡ as_set (escape_at text.now) }
 {
@@ -224,7 +224,7 @@ fn escape_lexeme(text: &[u8]) -> Option<(Lexeme, &[u8])>
     Some((Lexeme::Set(ByteSet::of(byte)), behind))
 }
 
-/// A bracket expression, from behind its `[` on.
+/// Reads a bracket expression, starting after its `[`.
 fn bracket_lexeme(text: &[u8]) -> Option<(Lexeme, &[u8])>
     ensures { option_map (λ f. (lexeme_of f.0, f.1.now)) result ≡ as_bracket (bracket_at text.now) }
 {
@@ -232,7 +232,7 @@ fn bracket_lexeme(text: &[u8]) -> Option<(Lexeme, &[u8])>
     Some((Lexeme::Set(set), behind))
 }
 
-/// The lexeme that one byte is, where this text stands behind it.
+/// Returns the lexeme of a single byte, with the text after it.
 fn single_lexeme(c: u8, behind: &[u8]) -> Option<(Lexeme, &[u8])>
     ensures { option_map (λ f. (lexeme_of f.0, f.1.now)) result ≡ as_single c behind.now }
 {

@@ -5,21 +5,21 @@ ghost use Rattle.std.specs.List.{list_all};
 ghost use Rattle.lx_ere.specs.Spelling.{is_name_start, is_name_byte, is_identifier};
 ghost use Rattle.lx_ere.specs.Lexing.{run_len};
 
-/// Whether the byte can begin an identifier.
+/// Returns true if the byte can begin an identifier.
 fn is_name_start(c: u8) -> bool
     ensures { result ≡ is_name_start c }
 {
     c.is_ascii_alphabetic() || c == b'_'
 }
 
-/// Whether the byte can stand in an identifier.
+/// Returns true if the byte can be in an identifier.
 fn is_name_byte(c: u8) -> bool
     ensures { result ≡ is_name_byte c }
 {
     is_name_start(c) || c.is_ascii_digit()
 }
 
-/// How many bytes at the front can stand in an identifier.
+/// Returns the number of bytes at the start that can be in an identifier.
 #[tactic(auto, using(crate::proofs::RunLemmas::run_steps))]
 pub(crate) fn name_run(text: &[u8]) -> usize
     ensures value { result ≡ run_len is_name_byte (length text.now) text.now }
@@ -32,14 +32,14 @@ pub(crate) fn name_run(text: &[u8]) -> usize
     n
 }
 
-/// Whether each byte can stand in an identifier.
+/// Returns true if each byte can be in an identifier.
 fn are_name_bytes(text: &[u8]) -> bool
     ensures { result ≡ list_all is_name_byte text.now }
 {
     text.iter().all(|c| is_name_byte(*c))
 }
 
-/// Whether the bytes are an identifier.
+/// Returns true if the bytes are an identifier.
 pub(crate) fn is_identifier(name: &[u8]) -> bool
     ensures { result ≡ is_identifier name.now }
 {

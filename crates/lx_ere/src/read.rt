@@ -1,4 +1,4 @@
-//! Patterns and substitutes, read from left to right once (POSIX.1-2017, XCU `lex`, "Regular Expressions in lex", "Definitions in lex").
+//! Reads patterns and substitutes once from left to right (POSIX.1-2017, XCU `lex`, "Regular Expressions in lex", "Definitions in lex").
 
 ghost use Rattle.std.specs.Prelude.{◌≡◌, ◌++◌, ◌⊎◌, IfOk, Err, IsTrue, List, length, ℕ};
 ghost use Rattle.lx_ere.specs.Regex.{Regex, Reading, regex_of, reading_of};
@@ -17,10 +17,10 @@ use crate::lexeme::lexeme_at;
 use crate::prefix::{begins_with, skip};
 use std::alloc::Global;
 
-/// The most bytes that a pattern or a substitute may have.
+/// Greatest number of bytes of a pattern or a substitute.
 const MAX_PATTERN_BYTES: usize = 1024;
 
-/// The alternation at the front, and what stands behind its last spelling.
+/// Reads the alternation at the start. Returns it with the text after its last spelling.
 fn read_alternation(alloc: Global, text: &[u8]) -> Result<(Expr, &[u8]), EreFault>
     ensures reading { IfOk result (λ f. Reads text.now (regex_of f.0) f.1.now) }
     ensures refused { result ≡ Err EreFault.NoReading → (tree : Regex) (ending : List ℕ) → Reads text.now tree ending → ⊥ }
@@ -43,7 +43,7 @@ fn read_alternation(alloc: Global, text: &[u8]) -> Result<(Expr, &[u8]), EreFaul
     }
 }
 
-/// The text behind a `^` at its front.
+/// Skips a `^` at the start.
 fn behind_caret(text: &[u8]) -> &[u8]
     ensures { result.now ≡ body_of text.now }
 {
@@ -54,7 +54,7 @@ fn behind_caret(text: &[u8]) -> &[u8]
     }
 }
 
-/// Whether what stands behind the alternation is the anchor of a line's end; `None` where it is no ending of a pattern.
+/// Returns true if the text is the anchor of a line's end, and false if it is empty. Returns `None` if a pattern can't end with it.
 fn ending_at(text: &[u8]) -> Option<bool>
     ensures { result ≡ ending_at text.now }
 {
@@ -69,10 +69,9 @@ fn ending_at(text: &[u8]) -> Option<bool>
 
 /// Reads a pattern: its anchors and its expression.
 ///
-/// The text has at most 1,024 bytes; it is read once, from left to right. The reading is the one that the grammar of `lex` gives (XCU `lex`,
-/// "Regular Expressions in lex"): `^` only at the beginning, `$` or `/\n` only at the end, an interval applying to all that stands to its
-/// left in its branch. It fails with [`EreFault::NoReading`] exactly where the text has no reading, and with [`EreFault::Memory`] where memory
-/// was refused.
+/// The text has at most 1,024 bytes. It is read once, from left to right. The result is the reading by the grammar of `lex` (XCU `lex`, "Regular
+/// Expressions in lex"). `^` is an anchor only at the start, `$` and `/\n` only at the end. An interval applies to all to its left in its branch.
+/// Err: [`EreFault::NoReading`] exactly if the text is unreadable, [`EreFault::Memory`] if an allocation failed.
 pub fn read_pattern(alloc: Global, text: &[u8]) -> Result<Pattern, EreFault>
     ensures reading { IfOk result (λ p. IsPattern text.now (reading_of p)) }
     ensures refused { result ≡ Err EreFault.NoReading → (r : Reading) → IsPattern text.now r → ⊥ }
@@ -92,10 +91,9 @@ pub fn read_pattern(alloc: Global, text: &[u8]) -> Result<Pattern, EreFault>
     }
 }
 
-/// Reads a substitute, the text that a name is defined as: an expression without anchors.
+/// Reads a substitute, the text by which a name is defined: an expression without anchors.
 ///
-/// The text has at most 1,024 bytes. It fails with [`EreFault::NoReading`] exactly where the text has no reading, and with
-/// [`EreFault::Memory`] where memory was refused.
+/// The text has at most 1,024 bytes. Err: [`EreFault::NoReading`] exactly if the text is unreadable, [`EreFault::Memory`] if an allocation failed.
 pub fn read_substitute(alloc: Global, text: &[u8]) -> Result<Expr, EreFault>
     ensures reading { IfOk result (λ e. IsSubstitute text.now (regex_of e)) }
     ensures refused { result ≡ Err EreFault.NoReading → (tree : Regex) → IsSubstitute text.now tree → ⊥ }
@@ -111,34 +109,34 @@ pub fn read_substitute(alloc: Global, text: &[u8]) -> Result<Expr, EreFault>
     }
 }
 
-/// A law: a front of a text is at most one spelling of a lexeme.
+/// States a law: the start of a text is at most one spelling of a lexeme.
 pub fn one_spelling()
     ensures { (t u : List ℕ) (l m : Lexeme) (v w : List ℕ) → Spells t l v → Spells u m w → t ++ v ≡ u ++ w → (t ≡ u) × (l ≡ m) × (v ≡ w) }
 {}
 
-/// A law: a text has at most one reading as a pattern.
+/// States a law: a text has at most one reading as a pattern.
 pub fn one_reading()
     ensures { (text : List ℕ) (r s : Reading) → IsPattern text r → IsPattern text s → r ≡ s }
 {}
 
-/// A law: a text has at most one reading as a substitute.
+/// States a law: a text has at most one reading as a substitute.
 pub fn one_substitute()
     ensures { (text : List ℕ) (r s : Regex) → IsSubstitute text r → IsSubstitute text s → r ≡ s }
 {}
 
-/// A law: a text has a reading as a pattern, or it has none, and likewise as a substitute: of each text it can be told which of the two is so.
+/// States a law: a text has a reading as a pattern, or it has none, and it is decidable which. The same holds for substitutes.
 pub fn some_reading()
     ensures patterns { (text : List ℕ) → ((r : Reading) × IsPattern text r) ⊎ ((r : Reading) → IsPattern text r → ⊥) }
     ensures substitutes { (text : List ℕ) → ((tree : Regex) × IsSubstitute text tree) ⊎ ((tree : Regex) → IsSubstitute text tree → ⊥) }
 {}
 
-/// A law: in each interval of what a text reads as, the low bound is at most the high one (XBD 9.4.6).
+/// States a law: in each interval of a reading, the low bound is at most the high one (XBD 9.4.6).
 pub fn bounds_are_ordered()
     ensures patterns { (text : List ℕ) (r : Reading) → IsPattern text r → IsTrue (has_ordered_bounds r.tree) }
     ensures substitutes { (text : List ℕ) (tree : Regex) → IsSubstitute text tree → IsTrue (has_ordered_bounds tree) }
 {}
 
-/// A law: a text that has a reading as a pattern has no space or tab outside quotes, brackets and escapes, so it ends where `pattern_end` says.
+/// States a law: a text with a reading as a pattern has no space or tab outside quotes, brackets and escapes. So `pattern_end` is its end.
 pub fn pattern_reaches_end()
     ensures { (text : List ℕ) (r : Reading) → IsPattern text r → IsPatternEnd text (length text) }
 {}

@@ -5,7 +5,7 @@ ghost use Rattle.std.specs.FinSet as set;
 
 use std::marker::Model;
 
-/// A set of bytes, by a bit for each byte: byte `b` is bit `b % 64` of word `b / 64`.
+/// A set of bytes, with a bit for each byte: byte `b` is bit `b % 64` of word `b / 64`.
 #[derive(Debug, Drop)]
 pub struct ByteSet {
     words: [u64; 4],
@@ -34,7 +34,7 @@ impl PartialEq for ByteSet {
 
     ghost laws = { partial_equiv_from_equiv sets_equivalence };
 
-    /// Whether the two have the same bytes.
+    /// Returns true if the two have the same bytes.
     fn eq(&self, other: &ByteSet) -> bool
         ensures value { result ≡ same_sets self.now other.now }
         ensures same { IsTrue result ↔ (self.now ≡ other.now) }
@@ -54,14 +54,14 @@ impl Eq for ByteSet {
 impl ByteSet {
     ghost use Rattle.lx_ere.specs.Bytes.{bytes_where, byte_set, is_between, in_ranges};
 
-    /// The set without bytes.
+    /// Returns the empty set.
     pub(crate) fn empty() -> ByteSet
         ensures { result ≡ bytes_where (λ _. false) }
     {
         ByteSet { words: [0; 4] }
     }
 
-    /// The set of one byte.
+    /// Returns the set of one byte.
     pub fn of(byte: u8) -> ByteSet
         ensures { result ≡ byte_set byte }
     {
@@ -70,14 +70,14 @@ impl ByteSet {
         set
     }
 
-    /// The set of all bytes but one.
+    /// Returns the set of all bytes except one.
     pub(crate) fn all_but(byte: u8) -> ByteSet
         ensures { result ≡ bytes_where (λ b. not (is_between byte byte b)) }
     {
         ByteSet::of(byte).complement()
     }
 
-    /// Whether the byte is in the set.
+    /// Returns true if the byte is in the set.
     pub fn has(&self, byte: u8) -> bool
         ensures { result ≡ set.contains self.now byte }
     {
@@ -110,7 +110,7 @@ impl ByteSet {
         }
     }
 
-    /// The bytes that are not in the set.
+    /// Returns the bytes that aren't in the set.
     pub(crate) fn complement(&self) -> ByteSet
         ensures { (test : ℕ → Bool) → self.now ≡ bytes_where test → result ≡ bytes_where (λ b. not (test b)) }
     {

@@ -1,4 +1,4 @@
-//! Actions: their statements (XCU `lex`, "Actions in lex").
+//! Reads actions: their statements (XCU `lex`, "Actions in lex").
 
 ghost use Rattle.std.specs.Prelude.{◌≡◌, ◌+◌, ◌≤◌, length, drop, IfSome, OnSome, IfOk, MatchOption, List};
 ghost use Rattle.std.specs.List.{list_all};
@@ -32,11 +32,11 @@ pub enum Statement<'a> {
 pub enum Action<'a> {
     /// `|`: the action of the next rule.
     Shared,
-    /// The statements, with braces left away.
+    /// The statements, without braces.
     Own(Vec<Statement<'a>>),
 }
 
-/// What stands at the front of some words: nothing, a brace, a statement of so many words, or no statement.
+/// The construct at the start of some words: nothing, a brace, a statement with its number of words, or no statement.
 #[derive(Drop)]
 pub enum Turn<'t> {
     Finished,
@@ -86,7 +86,7 @@ fn value_of(word: Word<'_>) -> Option<Value<'_>>
     }
 }
 
-/// Whether the text is an identifier, or `0`.
+/// Returns true if the text is an identifier, or `0`.
 pub(crate) fn is_condition_name(text: &[u8]) -> bool
     ensures { result ≡ plain.is_condition_name text.now }
 {
@@ -106,7 +106,7 @@ fn condition_of(word: Word<'_>) -> Option<&[u8]>
     }
 }
 
-// The one word of a group whose parenthesis is open.
+// Returns the only word of a group whose parenthesis is open.
 fn in_group<'t>(words: &[Word<'t>]) -> Option<Word<'t>>
     ensures value { option_map (λ w. (word_view w, words_view (drop 2 words.now))) result ≡ plain.in_group (words_view words.now) }
     ensures within { OnSome result (2 ≤ length words.now) }
@@ -123,7 +123,7 @@ fn in_group<'t>(words: &[Word<'t>]) -> Option<Word<'t>>
     }
 }
 
-// One word, or one word in parentheses, and how many words that takes.
+// Returns one word, or one word in parentheses, with the number of words that this takes.
 fn operand_at<'t>(words: &[Word<'t>]) -> Option<(Word<'t>, usize)>
     ensures value { option_map (λ r. (word_view r.0, words_view (drop r.1 words.now))) result ≡ plain.operand_at (words_view words.now) }
     ensures within { IfSome result (λ r. r.1 ≤ length words.now) }
@@ -140,7 +140,7 @@ fn operand_at<'t>(words: &[Word<'t>]) -> Option<(Word<'t>, usize)>
     }
 }
 
-// The statement, where a semicolon stands behind it.
+// Returns the statement, if a semicolon follows.
 fn ended<'t>(statement: Statement<'t>, words: &[Word]) -> Option<Statement<'t>>
     ensures value { option_map (λ s. (statement_view s, words_view (drop 1 words.now))) result ≡ plain.ended (statement_view statement.entry) (words_view words.now) }
     ensures within { OnSome result (1 ≤ length words.now) }
@@ -174,7 +174,7 @@ fn begun<'t>(word: Word<'t>, words: &[Word]) -> Option<Statement<'t>>
     }
 }
 
-// What stands behind `return`, and how many words that takes.
+// Reads the words after `return`. Returns the statement with the number of these words.
 fn return_at<'t>(words: &[Word<'t>]) -> Option<(Statement<'t>, usize)>
     ensures value { option_map (λ r. (statement_view r.0, words_view (drop r.1 words.now))) result ≡ plain.return_at (plain.operand_at (words_view words.now)) }
     ensures within { IfSome result (λ r. r.1 ≤ length words.now) }
@@ -188,7 +188,7 @@ fn return_at<'t>(words: &[Word<'t>]) -> Option<(Statement<'t>, usize)>
     }
 }
 
-// What stands behind `BEGIN`, and how many words that takes.
+// Reads the words after `BEGIN`. Returns the statement with the number of these words.
 fn begin_at<'t>(words: &[Word<'t>]) -> Option<(Statement<'t>, usize)>
     ensures value { option_map (λ r. (statement_view r.0, words_view (drop r.1 words.now))) result ≡ plain.begin_at (plain.operand_at (words_view words.now)) }
     ensures within { IfSome result (λ r. r.1 ≤ length words.now) }
@@ -202,7 +202,7 @@ fn begin_at<'t>(words: &[Word<'t>]) -> Option<(Statement<'t>, usize)>
     }
 }
 
-// The statement whose first word is letters, and how many words stand behind that word.
+// Reads a statement whose first word is letters. Returns it with the number of words after that word.
 fn letters_at<'t>(text: &[u8], words: &[Word<'t>]) -> Option<(Statement<'t>, usize)>
     ensures value { option_map (λ r. (statement_view r.0, words_view (drop r.1 words.now))) result ≡ plain.letters_at text.now (words_view words.now) }
     ensures within { IfSome result (λ r. r.1 ≤ length words.now) }
@@ -221,7 +221,7 @@ fn letters_at<'t>(text: &[u8], words: &[Word<'t>]) -> Option<(Statement<'t>, usi
     }
 }
 
-/// What stands at the front of some words.
+/// Returns the construct at the start of some words.
 pub fn turn_at<'t>(words: &[Word<'t>]) -> Turn<'t>
     ensures value { turn_view words.now result ≡ plain.turn_at (words_view words.now) }
     ensures within { TakesWords result (length words.now) }
@@ -241,7 +241,7 @@ pub fn turn_at<'t>(words: &[Word<'t>]) -> Turn<'t>
     }
 }
 
-// The statements that words are; `None` where they aren't statements.
+// Reads words as statements. Returns `None` if they aren't statements.
 fn read_statements<'t>(
     alloc: Global,
     words: &[Word<'t>],
@@ -291,7 +291,7 @@ fn is_bar(words: &[Word]) -> bool
     }
 }
 
-/// The action that a text is; `None` where it has no form.
+/// Reads a text as an action. Returns `None` if it is malformed.
 pub fn read_action<'t>(alloc: Global, text: &'t [u8]) -> Result<Option<Action<'t>>, AllocError>
     ensures { IfOk result (λ o. MatchOption o ((a : plain.Action) → IsAction text.now a → ⊥) (λ a. IsAction text.now (action_view a))) }
 {

@@ -1,9 +1,9 @@
-//! Where an action ends.
+//! Finds the end of an action.
 
 ghost use Rattle.std.specs.Prelude.{◌≡◌, ◌+◌, ◌<◌, ◌≤◌, length};
 ghost use Rattle.lx_spec.specs.Blocks as plain;
 
-/// What the bytes before make of the next one.
+/// The meaning of the bytes before for the next one.
 #[derive(Clone, Copy)]
 pub enum Mode {
     Code,
@@ -15,7 +15,7 @@ pub enum Mode {
     Escaped(u8),
 }
 
-/// The braces so far.
+/// The braces that were counted.
 #[derive(Clone, Copy)]
 pub struct Count {
     pub opened: usize,
@@ -34,7 +34,7 @@ fn behind_code(c: u8) -> Mode
     }
 }
 
-/// What a byte makes of the mode before it.
+/// Returns the mode after a byte.
 pub fn next_mode(mode: Mode, c: u8) -> Mode
     ensures { result ≡ plain.next_mode mode c }
 {
@@ -65,14 +65,14 @@ pub fn next_mode(mode: Mode, c: u8) -> Mode
     }
 }
 
-/// Whether a brace counts in this mode.
+/// Returns true if a brace counts in this mode.
 pub fn counts(mode: Mode) -> bool
     ensures { result ≡ plain.counts mode }
 {
     matches!(mode, Mode::Code | Mode::Slash)
 }
 
-/// What the end of a line makes of the mode before it.
+/// Returns the mode after the end of a line.
 pub fn behind_line(mode: Mode) -> Mode
     ensures { result ≡ plain.behind_line mode }
 {
@@ -101,7 +101,7 @@ fn with_byte(count: Count, c: u8) -> Count
     }
 }
 
-/// One more line.
+/// Counts one more line.
 pub fn with_line(count: Count, line: &[u8]) -> Count
     requires opened { count.opened + length line.now < 18446744073709551616 }
     requires closed { count.closed + length line.now < 18446744073709551616 }
@@ -126,8 +126,7 @@ fn is_outside(mode: Mode) -> bool
     !matches!(mode, Mode::Comment | Mode::Star)
 }
 
-/// Whether the action ends with the lines that were counted: no comment is open, and as many braces at least are
-/// closed as opened.
+/// Returns true if the action ends with the counted lines: no comment is open, and at least the opened braces are closed.
 pub fn is_closed(count: Count) -> bool
     ensures { result ≡ plain.is_closed count }
 {

@@ -1,4 +1,4 @@
-//! The specification that rules without a fault say.
+//! Builds the specification of rules without a fault.
 
 ghost use Rattle.std.specs.Prelude.{◌≡◌, [], ◌∷◌, Some, ◌+◌, ◌<◌, ◌≤◌, length, map, IfOk, vec_len};
 ghost use Rattle.std.specs.Option.{option_map};
@@ -34,7 +34,7 @@ use lx_rules::spec::Spec;
 use lx_rules::steps::Steps;
 use std::alloc::{AllocError, Global};
 
-// What some statements return.
+// Returns the value that some statements return.
 fn returned_by<'t>(statements: &[Statement<'t>]) -> Option<Value<'t>>
     ensures { option_map value_view result ≡ plain.returned_by (statements_view statements.now) }
 {
@@ -46,7 +46,7 @@ fn returned_by<'t>(statements: &[Statement<'t>]) -> Option<Value<'t>>
     None
 }
 
-// The kinds with one more behind them, where it is a name that isn't there yet.
+// Adds a returned value to the kinds, if it is a name that isn't there yet.
 fn with_value(alloc: Global, kinds: KindIndex, value: Value) -> Result<KindIndex, AllocError>
     ensures kinds { IfOk result (λ new. names_view new.kinds.items ≡ plain.with_kind (names_view kinds.kinds.items) (Some (value_view value.entry))) }
     ensures one { IfOk result (λ new. vec_len new.kinds ≤ vec_len kinds.kinds + 1) }
@@ -57,7 +57,7 @@ fn with_value(alloc: Global, kinds: KindIndex, value: Value) -> Result<KindIndex
     }
 }
 
-// The kinds with what is returned, if anything is.
+// Adds the returned value to the kinds, if there is one.
 fn with_returned(
     alloc: Global,
     kinds: KindIndex,
@@ -72,7 +72,7 @@ fn with_returned(
     }
 }
 
-// The statements of an action: none where it is the next rule's, which returns the same.
+// Returns the statements of an action. It has none if its action is the next rule's, which returns the same.
 fn own_statements<'s, 'r>(action: &'s Action<'r>) -> &'s [Statement<'r>]
     ensures { statements_view result.now ≡ plain.first_own (action_view action.now ∷ []) }
 {
@@ -82,7 +82,7 @@ fn own_statements<'s, 'r>(action: &'s Action<'r>) -> &'s [Statement<'r>]
     }
 }
 
-// The names that the rules return, in order of first appearance.
+// Collects the names that the rules return, in order of first appearance.
 fn kinds_of(alloc: Global, resolved: &[ResolvedRule]) -> Result<KindIndex, AllocError>
     ensures kinds { IfOk result (λ kinds. names_view kinds.kinds.items ≡ plain.kinds_of (map resolved_view resolved.now)) }
     ensures few { IfOk result (λ kinds. vec_len kinds.kinds ≤ length resolved.now) }
@@ -108,7 +108,7 @@ fn kind_of(kinds: &KindIndex, value: Value) -> Kind
     }
 }
 
-// The steps of some statements, up to and with the first return.
+// Returns the steps of some statements, up to and including the first return.
 fn steps_of(
     alloc: Global,
     start_conditions: &[StartCondition],
@@ -137,7 +137,7 @@ fn steps_of(
     Ok(steps)
 }
 
-// The steps of the last rule, shared with it.
+// Returns the steps of the last rule, shared with it.
 fn shared_steps(alloc: Global, rules: &[Rule]) -> Result<Steps, AllocError>
     ensures { IfOk result (λ steps. steps ≡ steps_at_end (map rule_view rules.now)) }
 {
@@ -147,7 +147,7 @@ fn shared_steps(alloc: Global, rules: &[Rule]) -> Result<Steps, AllocError>
     }
 }
 
-// The steps of an action, where the rules behind it are these, from the last one to the first.
+// Returns the steps of an action, given the rules after it, from the last one to the first.
 fn steps_before(
     alloc: Global,
     start_conditions: &[StartCondition],
@@ -185,7 +185,7 @@ fn rule_of(line: u32, rule: ResolvedRule, action: Steps) -> Rule
     }
 }
 
-// The rules, each with its steps.
+// Returns the rules, each with its steps.
 fn rules_of(
     alloc: Global,
     start_conditions: &[StartCondition],
@@ -210,7 +210,7 @@ fn rules_of(
     Ok(rules)
 }
 
-// The conditions, in the order in which they are declared.
+// Returns the conditions, in the order of their declaration.
 fn conditions_from(
     alloc: Global,
     start_conditions: &[StartCondition],
@@ -229,7 +229,7 @@ fn conditions_from(
     Ok(conditions)
 }
 
-/// The specification that the rules of the sections say.
+/// Builds the specification from the sections, their definitions and the rules that were read.
 pub fn spec_of(
     alloc: Global,
     sections: &ParsedSections,

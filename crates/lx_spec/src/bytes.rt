@@ -1,4 +1,4 @@
-//! Bytes and words.
+//! Tests and counts of bytes at the start of a text.
 
 ghost use Rattle.std.specs.Prelude.{◌≡◌, ◌≤◌, length};
 ghost use Rattle.std.specs.List.{prefix_len};
@@ -35,7 +35,7 @@ pub(crate) fn has_pair(a: u8, b: u8, text: &[u8]) -> bool
     false
 }
 
-// How many blanks stand at the front.
+// Returns the number of blanks at the start.
 pub(crate) fn blanks_len(text: &[u8]) -> usize
     ensures value { result ≡ prefix_len bytes.is_blank text.now }
     ensures within { result ≤ length text.now }

@@ -1,4 +1,4 @@
-//! What can be wrong with a rule, cause by cause in the order in which it is answered.
+//! Checks a rule for its faults, in the order in which they are reported.
 
 ghost use Rattle.std.specs.Prelude.{◌≡◌, ◌<◌, ◌∷◌, [], length, IfOk, map};
 ghost use Rattle.std.specs.List.{list_all};
@@ -25,7 +25,7 @@ use lx_ere::fault::EreFault;
 use lx_ere::read::{one_reading, read_pattern};
 use std::alloc::Global;
 
-/// What the prefix of a rule lists.
+/// Reads the list of conditions in the prefix of a rule.
 pub(crate) fn read_prefix<'a>(
     alloc: Global,
     symbols: &SymbolTable,
@@ -55,7 +55,7 @@ pub(crate) fn read_prefix<'a>(
     }
 }
 
-// The conditions of the prefix are declared.
+// Checks that the conditions of the prefix are declared.
 pub(crate) fn check_names(
     symbols: &SymbolTable,
     rule: &RawRule,
@@ -76,7 +76,7 @@ pub(crate) fn check_names(
     }
 }
 
-// The names of the pattern lead to no substitute without a reading, to no name that isn't defined, and along 32 names at most.
+// Checks that the names of the pattern lead to no unreadable substitute, to no undefined name, and along at most 32 names.
 fn check_pattern(
     alloc: Global,
     symbols: &SymbolTable,
@@ -115,7 +115,7 @@ fn check_pattern(
     Ok(())
 }
 
-// The pattern, with what it reaches.
+// Reads the pattern, and checks the names that it reaches.
 pub(crate) fn read_expression(
     alloc: Global,
     symbols: &SymbolTable,
@@ -142,7 +142,7 @@ pub(crate) fn read_expression(
     }
 }
 
-// The action has a form.
+// Reads the action, and checks that it is well-formed.
 pub(crate) fn read_whole_action<'r>(
     alloc: Global,
     symbols: &SymbolTable,
@@ -180,7 +180,7 @@ fn all_begin_declared(start_conditions: &[StartCondition], statements: &[Stateme
         .all(|s| begins_declared(start_conditions, *s))
 }
 
-// The conditions that the action begins are declared.
+// Checks that the conditions that the action begins are declared.
 pub(crate) fn check_begins(
     symbols: &SymbolTable,
     rule: &RawRule,
@@ -206,7 +206,7 @@ pub(crate) fn check_begins(
     }
 }
 
-// A rule follows one whose action is that of the next.
+// Checks that a rule follows one whose action is that of the next.
 pub(crate) fn check_next(
     symbols: &SymbolTable,
     rule: &RawRule,

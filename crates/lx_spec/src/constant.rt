@@ -7,7 +7,7 @@ ghost use Rattle.lx_spec.specs.Constants as plain;
 
 use lx_ere::escape::escape_at;
 
-/// The number that decimal digits spell, where it is below the limit.
+/// Returns the number that decimal digits spell, if it is below the limit.
 pub(crate) fn decimal_below(limit: u32, digits: &[u8]) -> Option<u32>
     requires { limit ≤ returned_number_limit }
     ensures value { result ≡ plain.decimal_below limit digits.now }
@@ -27,7 +27,7 @@ pub(crate) fn decimal_below(limit: u32, digits: &[u8]) -> Option<u32>
     }
 }
 
-// What a constant encloses, and the text behind it.
+// Returns the byte that a constant encloses, and the text after it.
 fn enclosed_at(text: &[u8]) -> Option<(u8, &[u8])>
     ensures value { option_map (λ r. (r.0, r.1.now)) result ≡ plain.enclosed_at text.now }
     ensures less { IfSome result (λ r. length r.1.now ≤ length text.now) }
@@ -55,7 +55,7 @@ fn behind_quote(text: &[u8]) -> Option<&[u8]>
     }
 }
 
-/// The byte of a constant from behind its first `'`, and the text behind it.
+/// Returns the byte of a constant, starting after its first `'`, and the text after it.
 pub(crate) fn constant_at(text: &[u8]) -> Option<(u8, &[u8])>
     ensures value { option_map (λ r. (r.0, r.1.now)) result ≡ plain.constant_at text.now }
     ensures less { IfSome result (λ r. length r.1.now ≤ length text.now) }

@@ -1,4 +1,4 @@
-//! Where each definition leads: to a substitute without a reading, to a name that isn't defined, or along 33 names.
+//! Faults to which definitions lead: an unreadable substitute, an undefined name, or a chain of 33 names.
 
 ghost use Rattle.std.specs.Prelude.{◌≡◌, ℕ, ◌<◌, ◌↔◌, length, map, IsTrue, IfOk, Contains, slice_index, nat_le};
 ghost use Rattle.lx_rules.specs.Limits.{max_name_depth};
@@ -13,8 +13,8 @@ use crate::graph::{MAX_NAME_DEPTH, depths_of, spread};
 use lx_ere::expr::Expr;
 use std::alloc::{AllocError, Global};
 
-/// For each definition whether it leads to one whose substitute has no reading, whether it leads to a name that isn't
-/// defined, and whether `MAX_NAME_DEPTH` names follow it in a chain.
+/// The faults of each definition: it leads to an unreadable substitute, it leads to an undefined name, or `MAX_NAME_DEPTH` names follow it in a
+/// chain.
 #[derive(Drop)]
 pub struct DefinitionFaults {
     pub unreadable: Vec<bool>,
@@ -38,7 +38,7 @@ fn too_deep_of(alloc: Global, depths: &[u8]) -> Result<Vec<bool>, AllocError>
     depths.iter().map(|d| MAX_NAME_DEPTH <= *d).collect(alloc)
 }
 
-/// Where each definition leads, found once for all rules.
+/// Finds the faults to which each definition leads, once for all rules.
 pub fn definition_faults_of(
     alloc: Global,
     dictionary: &Dictionary,
@@ -60,7 +60,7 @@ pub fn definition_faults_of(
     })
 }
 
-/// Whether one of these numbers is marked.
+/// Returns true if one of these numbers is marked.
 pub(crate) fn any_marked(numbers: &[usize], marks: &[bool]) -> bool
     requires { (k : ℕ) → k < length numbers.now → slice_index numbers.now k < length marks.now }
     ensures { IsTrue result ↔ ((j : ℕ) × Contains numbers.now j × IsTrue (is_marked marks.now j)) }

@@ -10,7 +10,7 @@ use lx_rules::name_table::add_number;
 use std::alloc::{AllocError, Global};
 use std::collections::BTreeMap;
 
-/// The definitions, and the number of each by its name, so that a use of a name costs no walk over them.
+/// The definitions, and the number of each by its name, so that a use of a name needs no walk over them.
 #[derive(Drop)]
 pub struct DefinitionIndex<'s, 'a> {
     pub definitions: &'s [RawDefinition<'a>],
@@ -19,7 +19,7 @@ pub struct DefinitionIndex<'s, 'a> {
 }
 
 impl DefinitionIndex<'_, '_> {
-    /// The number of the first definition with this name.
+    /// Returns the number of the first definition with this name.
     pub(crate) fn number_of(&self, name: &[u8]) -> Option<usize>
         ensures { result ≡ plain.number_of (map raw_definition_view self.now.definitions.now) name.now }
     {
@@ -27,7 +27,7 @@ impl DefinitionIndex<'_, '_> {
     }
 }
 
-/// The index of these definitions.
+/// Indexes these definitions by their names.
 pub fn definition_index_of<'s, 'a>(
     alloc: Global,
     definitions: &'s [RawDefinition<'a>],

@@ -1,4 +1,4 @@
-//! What the definitions read as, and which mentions which.
+//! Reads the definitions, and finds the ones that each mentions.
 
 ghost use Rattle.std.specs.Prelude.{◌≡◌, ◌<◌, ◌++◌, Some, None, Ok, Err, map, length, IfOk, OnOk};
 ghost use Rattle.lx_ere.specs.Regex.{regex_of};
@@ -15,8 +15,8 @@ use lx_ere::fault::EreFault;
 use lx_ere::read::read_substitute;
 use std::alloc::{AllocError, Global};
 
-/// What the definitions read as, in order: nothing where a substitute has no reading; the mentions of definitions by
-/// definitions; and which definitions name what isn't defined.
+/// The trees of the definitions, in order, `None` for an unreadable substitute. Also has the mentions of definitions by definitions, and a flag for
+/// each definition that uses an undefined name.
 #[derive(Drop)]
 pub struct Dictionary {
     pub trees: Vec<Option<Expr>>,
@@ -24,7 +24,7 @@ pub struct Dictionary {
     pub incomplete: Vec<bool>,
 }
 
-/// Adds the numbers of the definitions that an expression names, and says whether each name in it is defined.
+/// Adds the numbers of the definitions that an expression uses. Returns true if each name in it is defined.
 #[tactic(auto, using(crate::proofs::Rows::row_steps))]
 pub(crate) fn push_row(
     index: &DefinitionIndex,
@@ -52,7 +52,7 @@ pub(crate) fn push_row(
     }
 }
 
-// What a substitute reads as; nothing where it has no reading.
+// Reads a substitute. Returns `None` if it is unreadable.
 fn read_tree(alloc: Global, substitute: &[u8]) -> Result<Option<Expr>, AllocError>
     ensures { IfOk result (λ t. plain.IsTreeOf substitute.now (tree_view t)) }
 {
@@ -63,7 +63,7 @@ fn read_tree(alloc: Global, substitute: &[u8]) -> Result<Option<Expr>, AllocErro
     }
 }
 
-// The numbers of the definitions that a tree names, and whether it names what isn't defined.
+// Returns the numbers of the definitions that a tree uses, and true if it uses an undefined name.
 fn row_in(
     alloc: Global,
     index: &DefinitionIndex,
@@ -92,7 +92,7 @@ fn push_mentions(i: usize, row: &[usize], mentions: &mut Vec<Mention>) -> Result
     Ok(())
 }
 
-// Adds what definition i reads as and mentions.
+// Adds the tree and the mentions of definition i.
 fn with_definition(
     alloc: Global,
     index: &DefinitionIndex,

@@ -1,4 +1,4 @@
-//! Why a specification isn't read.
+//! Faults of specifications.
 
 ghost use Rattle.std.specs.Prelude.{◌≡◌};
 ghost use Rattle.lx_spec.specs.Faults.{out_of_memory};
@@ -6,28 +6,28 @@ ghost use Rattle.lx_spec.specs.Faults.{out_of_memory};
 use std::alloc::{AllocError, AllocFailed};
 use thiserror::Error;
 
-/// What is wrong with a specification.
+/// The code of a specification's fault.
 #[derive(Debug, Clone, Copy, PartialEq, Eq, Error)]
 pub enum Code {
     /// The text is longer than 1,048,576 bytes.
     #[error("E01")]
     TooLong,
-    /// The text ends in Definitions, with no line `%%`.
+    /// The text ends in the definitions section, without a line `%%`.
     #[error("E02")]
     NoRules,
     /// A group between `%{` and `%}`, a comment or an action isn't closed.
     #[error("E03")]
     NotClosed,
-    /// A line of Definitions has no form.
+    /// A line of the definitions section is malformed.
     #[error("E04")]
     NoForm,
     /// The name of a definition or of a condition is declared a second time.
     #[error("E05")]
     Twice,
-    /// A definition, a condition or a rule stands above the limit.
+    /// A definition, a condition or a rule exceeds the limit.
     #[error("E06")]
     TooMany,
-    /// A list of conditions, a pattern or a substitute has no reading.
+    /// A list of conditions, a pattern or a substitute is unreadable.
     #[error("E10")]
     NoReading,
     /// A name in braces isn't defined.
@@ -39,18 +39,18 @@ pub enum Code {
     /// A condition isn't declared.
     #[error("E13")]
     NoCondition,
-    /// An action has no form.
+    /// An action is malformed.
     #[error("E20")]
     NoAction,
     /// No rule follows one whose action is that of the next.
     #[error("E21")]
     NoNext,
-    /// Memory was refused.
+    /// An allocation failed.
     #[error("E90")]
     Memory,
 }
 
-/// What is wrong, and at which line, counted from 1; line 0 stands beside `TooLong`, `NoRules` and `Memory`.
+/// A fault with its line, counted from 1. The line of `TooLong`, `NoRules` and `Memory` is 0.
 #[derive(Debug, Clone, Copy, PartialEq, Eq, Error)]
 #[error("{code} at line {line}")]
 pub struct SpecFault {

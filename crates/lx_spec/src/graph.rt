@@ -1,4 +1,4 @@
-//! Which definitions mention which, by their numbers, and what follows from that.
+//! The graph of mentions between definitions, and the facts that follow from it.
 
 ghost use Rattle.std.specs.Prelude.{◌≡◌, ℕ, ◌+◌, ◌<◌, ◌≤◌, ◌↔◌, [], slice_index, Contains, IsTrue, IfOk, OnOk, vec_len};
 ghost use Rattle.lx_rules.specs.Limits.{max_name_depth};
@@ -6,17 +6,17 @@ ghost use Rattle.lx_spec.specs.Graph.{IsMention, AreBelow, Leads, AreMarked, lis
 
 use std::alloc::{AllocError, Global};
 
-/// One definition mentions another, both by their numbers.
+/// A mention of one definition by another, by their numbers.
 #[derive(Clone, Copy)]
 pub struct Mention {
     pub from: usize,
     pub to: usize,
 }
 
-// The most names that are counted behind the first one of a chain.
+// Greatest number of names that are counted after the first one of a chain.
 pub(crate) const MAX_NAME_DEPTH: u8 = 32;
 
-// So many empty lists.
+// Returns `count` empty lists.
 fn empty_lists(alloc: Global, count: usize) -> Result<Vec<Vec<usize>>, AllocError>
     ensures len { IfOk result (λ lists. vec_len lists ≡ count) }
     ensures empty { IfOk result (λ lists. (j : ℕ) → list_at lists.items j ≡ []) }
@@ -28,7 +28,7 @@ fn empty_lists(alloc: Global, count: usize) -> Result<Vec<Vec<usize>>, AllocErro
     Ok(lists)
 }
 
-// For each definition the list of those that mention it.
+// Returns for each definition the list of those that mention it.
 fn mentioners_of(
     alloc: Global,
     count: usize,
@@ -45,7 +45,7 @@ fn mentioners_of(
     Ok(mentioners)
 }
 
-// The numbers of the definitions that are marked.
+// Returns the numbers of the marked definitions.
 fn numbers_of(alloc: Global, marks: &[bool]) -> Result<Vec<usize>, AllocError>
     ensures { IfOk result (λ numbers. (i : ℕ) → Contains numbers.items i ↔ IsTrue (is_marked marks.now i)) }
 {
@@ -58,7 +58,7 @@ fn numbers_of(alloc: Global, marks: &[bool]) -> Result<Vec<usize>, AllocError>
     Ok(numbers)
 }
 
-// Marks the definitions with these numbers, and puts those of them that weren't marked onto the stack.
+// Marks the definitions with these numbers, and pushes the newly marked ones onto the stack.
 fn mark_all(
     numbers: &[usize],
     marks: &mut Vec<bool>,
@@ -76,7 +76,7 @@ fn mark_all(
     Ok(())
 }
 
-/// Marks each definition that leads to one that is marked.
+/// Marks each definition that leads to a marked one.
 pub(crate) fn spread(
     alloc: Global,
     mentions: &[Mention],
@@ -87,7 +87,7 @@ pub(crate) fn spread(
     ensures led { IfOk result (λ m. (i : ℕ) → IsTrue (is_marked m.items i) ↔ Leads mentions.now marks.items i) }
 {
     let mentioners = mentioners_of(alloc, marks.len(), mentions)?;
-    // The marked definitions whose mentioners may still be without a mark.
+    // marked definitions whose mentioners may still be unmarked
     let mut pending = numbers_of(alloc, &marks)?;
     let mut marks = marks;
     while let Some(number) = pending.pop() {
@@ -96,7 +96,7 @@ pub(crate) fn spread(
     Ok(marks)
 }
 
-// One round: each depth is one more at least than those of what the definition mentions.
+// Makes one round: each depth becomes at least one more than those of the mentioned definitions.
 fn deepen(mentions: &[Mention], depths: &mut Vec<u8>)
     requires below { AreBelow mentions.now (vec_len depths.old) }
     ensures len { vec_len depths.new ≡ vec_len depths.old }
@@ -109,7 +109,7 @@ fn deepen(mentions: &[Mention], depths: &mut Vec<u8>)
     }
 }
 
-/// How many more names follow each definition in a chain of mentions, where `MAX_NAME_DEPTH` stands for so many or more.
+/// Returns for each definition the number of names that can follow it in a chain of mentions. `MAX_NAME_DEPTH` represents all greater numbers too.
 pub(crate) fn depths_of(
     alloc: Global,
     count: usize,

@@ -1,4 +1,4 @@
-//! The names that rules return.
+//! Names that rules return.
 
 ghost use Rattle.std.specs.Prelude.{◌≡◌, ◌+◌, ◌≤◌, ℕ, List, [], Some, nat_eq, IfOk, vec_len};
 ghost use Rattle.std.specs.Cmp.Lexicographic.{pointwise};
@@ -12,7 +12,7 @@ use lx_rules::name_table::add_number;
 use std::alloc::{AllocError, Global};
 use std::collections::BTreeMap;
 
-/// Names, and the place of each, so that a return costs no walk over them.
+/// The names, and the place of each, so that a return needs no walk over them.
 #[derive(Drop)]
 pub struct KindIndex {
     pub kinds: Vec<Vec<u8>>,
@@ -21,7 +21,7 @@ pub struct KindIndex {
 }
 
 impl KindIndex {
-    /// No names.
+    /// Returns an empty index.
     pub(crate) fn new(alloc: Global) -> KindIndex
         ensures { names_view result.kinds.items ≡ [] }
     {
@@ -31,7 +31,7 @@ impl KindIndex {
         }
     }
 
-    /// The place of this name.
+    /// Returns the place of this name.
     pub(crate) fn place_of(&self, text: &[u8]) -> Option<usize>
         ensures { result ≡ position (λ k. pointwise nat_eq k text.now) (names_view self.now.kinds.items) }
     {
@@ -39,7 +39,7 @@ impl KindIndex {
     }
 }
 
-/// The same with this name behind them, where it isn't there yet.
+/// Adds this name, if it isn't there yet.
 pub(crate) fn with_name(
     alloc: Global,
     index: KindIndex,

@@ -1,4 +1,4 @@
-//! What a line of the first section says by itself (XCU `lex`, "Definitions in lex").
+//! Classifies a line of the definitions section by itself (XCU `lex`, "Definitions in lex").
 
 ghost use Rattle.std.specs.Prelude.{◌≡◌, ◌≤◌, length};
 ghost use Rattle.std.specs.List.{list_all, prefix_len};
@@ -13,23 +13,23 @@ use crate::bytes::{
 };
 use lx_rules::identifier::{is_digit, is_identifier};
 
-/// What a line of the first section says. The names of conditions stand in `names` with blanks between.
+/// The form of a line of the definitions section. The names of conditions are in `names` with blanks between them.
 #[derive(Drop)]
 pub enum Line<'a> {
     /// The line is empty, code, a comment or a declaration without effect.
     Skipped,
-    /// A comment begins, and goes on over the next lines.
+    /// A comment begins, and continues on the next lines.
     OpensComment,
     /// A group `%{` begins.
     OpensGroup,
     /// The line `%%`.
     RulesBegin,
-    /// `%s` or `%x` with names of conditions.
+    /// A line `%s` or `%x` with names of conditions.
     Conditions {
         exclusive: bool,
         names: &'a [u8],
     },
-    /// A name, and what it stands for.
+    /// A name and its substitute.
     Definition {
         name: &'a [u8],
         substitute: &'a [u8],
@@ -38,7 +38,7 @@ pub enum Line<'a> {
     NoForm,
 }
 
-// How many bytes stand before the first blank.
+// Returns the number of bytes before the first blank.
 fn no_blanks_len(text: &[u8]) -> usize
     ensures value { result ≡ prefix_len bytes.is_no_blank text.now }
     ensures within { result ≤ length text.now }
@@ -46,7 +46,7 @@ fn no_blanks_len(text: &[u8]) -> usize
     text.iter().take_while(|c| !is_blank(**c)).count()
 }
 
-/// The first word of a text with blanks between words, and the text behind it.
+/// Returns the first word of a text, and the text after it. Blanks separate words.
 pub fn next_word(text: &[u8]) -> Option<(&[u8], &[u8])>
     ensures { option_map (λ w. (w.0.now, w.1.now)) result ≡ bytes.next_word text.now }
 {
@@ -207,7 +207,7 @@ fn named_text(text: &[u8]) -> Line<'_>
     definition_line(&text[..n], &text[n..])
 }
 
-/// The first form of Definitions that fits the line.
+/// Returns the first form of the definitions section that fits the line.
 pub fn line_of(text: &[u8]) -> Line<'_>
     ensures { line_view result ≡ plain.line_of text.now }
 {

@@ -1,4 +1,4 @@
-//! What the sections say, entry by entry.
+//! The entries of the sections.
 
 ghost use Rattle.std.specs.Prelude.{◌<◌, ◌≤◌, length};
 ghost use Rattle.lx_rules.specs.Limits.{max_definitions, max_rules, max_start_conditions};
@@ -13,14 +13,14 @@ pub struct StartCondition<'a> {
     pub exclusive: bool,
 }
 
-/// A name, and the text that it stands for.
+/// A name and its substitute.
 #[derive(Drop)]
 pub struct RawDefinition<'a> {
     pub name: &'a [u8],
     pub substitute: &'a [u8],
 }
 
-/// A rule as it stands in the text. The lines of its action are joined by LF.
+/// A rule as it is written. The lines of its action are joined by LF.
 #[derive(Drop)]
 pub struct RawRule<'a> {
     pub line: u32,
@@ -30,7 +30,7 @@ pub struct RawRule<'a> {
     pub ghost counted: { 0 < line },
 }
 
-/// A rule whose action goes on, with the braces of the lines so far.
+/// A rule whose action continues, with the braces of its lines.
 #[derive(Drop)]
 pub struct OpenRule<'a> {
     pub rule: RawRule<'a>,
@@ -39,7 +39,7 @@ pub struct OpenRule<'a> {
     pub ghost closed: { count.closed ≤ length rule.action.items },
 }
 
-/// What the sections say, in order.
+/// The entries of the sections, in order.
 #[derive(Drop)]
 pub struct ParsedSections<'a> {
     pub start_conditions: Vec<StartCondition<'a>>,

@@ -1,4 +1,4 @@
-//! The conditions that a rule names (XCU `lex`, "Regular Expressions in lex": `<state>`).
+//! Reads the conditions of a rule (XCU `lex`, "Regular Expressions in lex": `<state>`).
 
 ghost use Rattle.std.specs.Prelude.{◌≡◌, ◌<◌, ◌≤◌, ◌∷◌, [], MatchOption, length, map, nat_eq, is_some, IfOk, IfSome};
 ghost use Rattle.std.specs.List.{list_all, prefix_len, position};
@@ -19,7 +19,7 @@ fn field_len(text: &[u8]) -> usize
     text.iter().take_while(|c| **c != b',').count()
 }
 
-// The text before the first comma, and the text behind that comma.
+// Splits a text at its first comma.
 fn next_field(text: &[u8]) -> (&[u8], Option<&[u8]>)
     ensures { MatchOption result.1 (plain.fields_of text.now ≡ result.0.now ∷ []) (λ rest. (plain.fields_of text.now ≡ result.0.now ∷ plain.fields_of rest.now) × (length rest.now < length text.now)) }
 {
@@ -30,7 +30,7 @@ fn next_field(text: &[u8]) -> (&[u8], Option<&[u8]>)
     }
 }
 
-/// The texts between the commas of a text.
+/// Splits a text at its commas.
 pub(crate) fn read_fields<'a>(alloc: Global, text: &'a [u8]) -> Result<Vec<&'a [u8]>, AllocError>
     ensures { IfOk result (λ fields. texts_of fields.items ≡ plain.fields_of text.now) }
 {
@@ -46,7 +46,7 @@ pub(crate) fn read_fields<'a>(alloc: Global, text: &'a [u8]) -> Result<Vec<&'a [
     }
 }
 
-/// Whether each of the texts is the name of a condition, or `0`.
+/// Returns true if each of the texts is the name of a condition, or `0`.
 pub(crate) fn are_condition_names(fields: &[&[u8]]) -> bool
     ensures { result ≡ list_all (λ f. names_condition f.now) fields.now }
 {
@@ -66,7 +66,7 @@ fn is_zero(name: &[u8]) -> bool
     name == b"0".as_slice()
 }
 
-/// The number of the condition with this name, where `0` is `INITIAL`.
+/// Returns the number of the condition with this name. `0` is `INITIAL`.
 pub(crate) fn condition_number(start_conditions: &[StartCondition], name: &[u8]) -> Option<usize>
     requires { 0 < length start_conditions.now }
     ensures number { result ≡ plain.condition_number (map start_condition_view start_conditions.now) name.now }
@@ -86,7 +86,7 @@ fn is_declared(start_conditions: &[StartCondition], name: &[u8]) -> bool
     condition_number(start_conditions, name).is_some()
 }
 
-/// Whether each of the texts names a condition that is declared.
+/// Returns true if each of the texts names a declared condition.
 pub(crate) fn are_declared(start_conditions: &[StartCondition], names: &[&[u8]]) -> bool
     requires { 0 < length start_conditions.now }
     ensures { result ≡ list_all (λ f. is_some (plain.condition_number (map start_condition_view start_conditions.now) f.now)) names.now }

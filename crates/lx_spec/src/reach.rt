@@ -1,4 +1,4 @@
-//! Which definitions rules reach, and the list of them.
+//! Finds the definitions that rules reach.
 
 ghost use Rattle.std.specs.Prelude.{◌≡◌, ℕ, ◌<◌, ◌≤◌, ◌↔◌, false, map, reverse, length, IfOk, OnOk, IsTrue, Contains, vec_len, slice_index};
 ghost use Rattle.std.specs.List.{flat_map};
@@ -20,7 +20,7 @@ use lx_ere::expr::Expr;
 use lx_rules::definition::Definition;
 use std::alloc::{AllocError, Global};
 
-// The numbers of the definitions that the patterns of rules name.
+// Returns the numbers of the definitions that the patterns of rules use.
 fn row_of_all(
     alloc: Global,
     index: &DefinitionIndex,
@@ -35,7 +35,7 @@ fn row_of_all(
     Ok(row)
 }
 
-// Each mention turned round: from what is mentioned to what mentions it.
+// Reverses each mention.
 fn turned(alloc: Global, mentions: &[Mention]) -> Result<Vec<Mention>, AllocError>
     ensures { IfOk result (λ v. v.items ≡ map (λ m. mention_of m.to m.from) mentions.now) }
 {
@@ -49,7 +49,7 @@ fn turned(alloc: Global, mentions: &[Mention]) -> Result<Vec<Mention>, AllocErro
     Ok(turned)
 }
 
-// So many marks, of which those with these numbers are set.
+// Returns `count` marks, of which those with these numbers are set.
 fn marks_at(alloc: Global, count: usize, numbers: &[usize]) -> Result<Vec<bool>, AllocError>
     requires { (k : ℕ) → k < length numbers.now → slice_index numbers.now k < count }
     ensures len { IfOk result (λ marks. vec_len marks ≡ count) }
@@ -80,7 +80,7 @@ fn reached_of(
     spread(alloc, &turned, marks)
 }
 
-// Adds definition i where it is marked; the definitions stand in the other order.
+// Adds definition i if it is marked. The definitions are added in reverse order.
 fn push_marked(
     alloc: Global,
     raw_definitions: &[RawDefinition],
@@ -104,7 +104,7 @@ fn push_marked(
     Ok(())
 }
 
-// The definitions that are marked, in the order of the text.
+// Returns the marked definitions, in the order of the text.
 fn marked_of(
     alloc: Global,
     raw_definitions: &[RawDefinition],
@@ -132,7 +132,7 @@ fn marked_of(
     Ok(definitions)
 }
 
-/// The definitions that rules reach, in the order of the text.
+/// Returns the definitions that rules reach, in the order of the text.
 pub(crate) fn definitions_of(
     alloc: Global,
     index: &DefinitionIndex,

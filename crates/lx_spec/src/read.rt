@@ -1,4 +1,4 @@
-//! Specifications, read whole.
+//! Reads complete specifications.
 
 ghost use Rattle.std.specs.Prelude.{◌≡◌, ◌≢◌, ◌⊎◌, ℕ, List, Option, map, IfOk, IfErr};
 ghost use Rattle.lx_ere.specs.PatternEnd.{pattern_end};
@@ -31,10 +31,10 @@ use lx_ere::read::{one_reading, one_substitute, some_reading};
 use lx_rules::spec::Spec;
 use std::alloc::Global;
 
-// The most bytes of a specification.
+// Greatest number of bytes of a specification.
 const MAX_SPECIFICATION_BYTES: usize = 1_048_576;
 
-// What the definitions read as and what the rules say, or the first fault of the rules.
+// Reads the definitions and the rules. Err: the first fault of the rules.
 fn resolve_sections<'r, 't>(
     alloc: Global,
     sections: &'r ParsedSections<'t>,
@@ -58,10 +58,10 @@ fn resolve_sections<'r, 't>(
     Ok((dictionary, resolved))
 }
 
-/// Reads a specification of `lex` (XCU `lex`, "Input Files"): what its sections declare, and what each of its rules says.
+/// Reads a `lex` specification (XCU `lex`, "Input Files"): the declarations of its sections, and its rules.
 ///
-/// It fails with the first fault of the text: those of the sections come first, in the order of the text, and then those of the
-/// rules, rule by rule. It fails with [`Code::Memory`], at line 0, where memory was refused.
+/// Err: the first fault of the text. Those of the sections come first, in the order of the text, and then those of the rules, rule by rule.
+/// [`Code::Memory`], at line 0, if an allocation failed.
 pub fn read_spec(alloc: Global, text: &[u8]) -> Result<Spec, SpecFault>
     ensures fault { IfErr result (λ f. f.code ≢ Code.Memory → IsFault text.now f) }
     ensures memory { IfErr result (λ f. f.code ≡ Code.Memory → f.line ≡ 0) }
@@ -80,8 +80,8 @@ pub fn read_spec(alloc: Global, text: &[u8]) -> Result<Spec, SpecFault>
     Ok(spec)
 }
 
-/// A law: `pattern_end`, by which the definitions behind the clauses of `read_spec` end patterns, is the one function that says where the
-/// grammar ends them.
+/// States a law: `pattern_end` is the only function that ends patterns as the grammar does. The definitions behind the contract of `read_spec` end
+/// patterns by it.
 pub fn patterns_end()
     ensures there { (text : List ℕ) → IsPatternEnd text (pattern_end text) }
     ensures one { (ends : List ℕ → ℕ) → ((text : List ℕ) → IsPatternEnd text (ends text)) → ends ≡ pattern_end }
@@ -90,7 +90,7 @@ pub fn patterns_end()
     one_pattern_end();
 }
 
-/// A law: a text has one verdict: it has at most one first fault, it says at most one specification, and not both.
+/// States a law: a text has one verdict. It has at most one first fault, it is at most one specification, and not both.
 pub fn one_verdict()
     ensures fault { (text : List ℕ) (e f : SpecFault) → IsFault text e → IsFault text f → e ≡ f }
     ensures spec { (text : List ℕ) (s t : PlainSpec) → IsRead text s → IsRead text t → s ≡ t }
@@ -100,7 +100,7 @@ pub fn one_verdict()
     one_substitute();
 }
 
-/// A law: every text has a verdict: a first fault, or a specification that it says.
+/// States a law: every text has a verdict: a first fault, or the specification that it is.
 pub fn some_verdict()
     ensures { (text : List ℕ) → ((f : SpecFault) × IsFault text f) ⊎ ((spec : PlainSpec) × IsRead text spec) }
 {

@@ -1,4 +1,4 @@
-//! What actions return (XCU `lex`, "Actions in lex": `return`).
+//! Values that actions return (XCU `lex`, "Actions in lex": `return`).
 
 ghost use Rattle.std.specs.Prelude.{◌<◌, IsTrue};
 ghost use Rattle.lx_rules.specs.Identifiers.{is_identifier};
@@ -18,7 +18,7 @@ pub struct Identifier<'a> {
     pub ghost named: { IsTrue (is_identifier text.now) },
 }
 
-/// What is returned, as it stands in the text.
+/// A returned value, as it is written.
 #[derive(Clone, Copy)]
 pub enum Value<'a> {
     Name(Identifier<'a>),

@@ -1,4 +1,4 @@
-//! What a line of the second section says by itself (XCU `lex`, "Rules in lex").
+//! Classifies a line of the rules section by itself (XCU `lex`, "Rules in lex").
 
 ghost use Rattle.std.specs.Prelude.{◌≡◌, ◌≤◌, length};
 ghost use Rattle.std.specs.List.{prefix_len};
@@ -8,18 +8,18 @@ ghost use Rattle.lx_spec.specs.views.RuleLines.{prefix_view, rule_line_view};
 use crate::bytes::{begins_with, blanks_len, is_blank};
 use lx_ere::pattern_end;
 
-/// What stands before a pattern.
+/// The text before a pattern.
 #[derive(Drop)]
 pub enum Prefix<'a> {
-    /// Nothing.
+    /// No prefix.
     Absent,
-    /// A `<` with no `>` on its line.
+    /// A `<` without a `>` on its line.
     Unclosed,
-    /// What `<` and the first `>` enclose.
+    /// The text between `<` and the first `>`.
     Listed(&'a [u8]),
 }
 
-/// What a line of the second section says.
+/// The form of a line of the rules section.
 #[derive(Drop)]
 pub enum RuleLine<'a> {
     /// The line is empty or code.
@@ -28,7 +28,7 @@ pub enum RuleLine<'a> {
     OpensGroup,
     /// The second line `%%`.
     RulesEnd,
-    /// A rule begins, and its action with this text.
+    /// A rule begins. The text of its action begins here.
     BeginsRule {
         prefix: Prefix<'a>,
         pattern: &'a [u8],
@@ -36,7 +36,7 @@ pub enum RuleLine<'a> {
     },
 }
 
-// How many bytes stand before the first `>`.
+// Returns the number of bytes before the first `>`.
 fn inside_len(text: &[u8]) -> usize
     ensures value { result ≡ prefix_len plain.is_inside text.now }
     ensures within { result ≤ length text.now }
@@ -86,7 +86,7 @@ fn rule_begins<'a>(prefix: Prefix<'a>, text: &'a [u8]) -> RuleLine<'a>
     rule_split(n, prefix, text)
 }
 
-/// The first form of Rules that fits the line.
+/// Returns the first form of the rules section that fits the line.
 pub fn rule_line_of(text: &[u8]) -> RuleLine<'_>
     ensures { rule_line_view result ≡ plain.rule_line_of text.now }
 {

@@ -1,4 +1,4 @@
-//! The sections: what they say, or their first fault.
+//! Reads the sections, up to their first fault.
 
 ghost use Rattle.std.specs.Prelude.{◌≡◌, ◌+◌, ◌<◌, ◌≤◌, List, ℕ, length, nat_eq, IfOk, IfErr, Err, []};
 ghost use Rattle.std.specs.List.{list_any};
@@ -22,27 +22,27 @@ use crate::rule_line::{Prefix, RuleLine, rule_line_of};
 use bstr::ByteSlice;
 use std::alloc::Global;
 
-// The most start conditions, definitions and rules of a specification.
+// Greatest numbers of start conditions, definitions and rules of a specification.
 const MAX_START_CONDITIONS: usize = 64;
 
 const MAX_DEFINITIONS: usize = 1024;
 
 const MAX_RULES: usize = 4096;
 
-/// Where a line stands.
+/// The construct that a line is in.
 #[derive(Drop)]
 pub enum Place<'a> {
-    /// By itself in the first section.
+    /// The definitions section itself.
     Definitions,
-    /// In a comment of the first section that began at this line.
+    /// A comment of the definitions section that began at this line.
     Comment(u32),
-    /// In a group of the first section that began at this line.
+    /// A group of the definitions section that began at this line.
     Group(u32),
-    /// By itself in the second section.
+    /// The rules section itself.
     Rules,
-    /// In a group of the second section that began at this line.
+    /// A group of the rules section that began at this line.
     RulesGroup(u32),
-    /// In the action of a rule.
+    /// The action of a rule.
     Action(OpenRule<'a>),
 }
 
@@ -154,7 +154,7 @@ fn with_rule<'a>(
     Ok(sections)
 }
 
-// One line of the first section that stands by itself.
+// Takes a line of the definitions section itself.
 fn take_definition<'a>(
     sections: ParsedSections<'a>,
     number: u32,
@@ -182,7 +182,7 @@ fn take_definition<'a>(
     }
 }
 
-// A rule, where its action is closed; else the next line goes on with it.
+// Adds a rule if its action is closed. Otherwise its action continues on the next line.
 fn continue_rule<'a>(
     sections: ParsedSections<'a>,
     begun: OpenRule<'a>,
@@ -199,7 +199,7 @@ fn continue_rule<'a>(
     }
 }
 
-// The rule that begins on a line, with the first line of its action.
+// Begins a rule on a line, with the first line of its action.
 fn first_line<'a>(
     alloc: Global,
     line: u32,
@@ -232,7 +232,7 @@ fn first_line<'a>(
     })
 }
 
-// The rule with one more line of its action.
+// Adds one more line to the action of the rule.
 fn next_line<'a>(begun: OpenRule<'a>, line: &[u8]) -> Result<OpenRule<'a>, SpecFault>
     ensures rule { IfOk result (λ more. raw_rule_view more.rule ≡ plain.longer (raw_rule_view begun.entry.rule) line.now) }
     ensures count { IfOk result (λ more. more.count ≡ blocks.with_line begun.entry.count line.now) }
@@ -245,7 +245,7 @@ fn next_line<'a>(begun: OpenRule<'a>, line: &[u8]) -> Result<OpenRule<'a>, SpecF
     Ok(OpenRule { rule, count })
 }
 
-// One line of the second section that stands by itself.
+// Takes a line of the rules section itself.
 fn take_rule<'a>(
     alloc: Global,
     sections: ParsedSections<'a>,
@@ -270,7 +270,7 @@ fn take_rule<'a>(
     }
 }
 
-// One line: what is said then, and where the next line stands; nowhere behind the line that ends the rules.
+// Takes one line. Returns the sections and the construct that the next line is in. Returns `None` after the line that ends the rules.
 fn take_line<'a>(
     alloc: Global,
     sections: ParsedSections<'a>,
@@ -315,7 +315,7 @@ fn take_line<'a>(
     }
 }
 
-// What is said where the text ends.
+// Returns the sections at the end of the text.
 fn at_end<'a>(
     sections: ParsedSections<'a>,
     place: Place<'a>,
@@ -355,7 +355,7 @@ fn only_initial<'a>(alloc: Global) -> Result<ParsedSections<'a>, SpecFault>
     })
 }
 
-/// What the sections of a text say, or their first fault in the order of the text.
+/// Reads the sections of a text. Err: their first fault in the order of the text.
 pub fn read_sections<'a>(alloc: Global, text: &'a [u8]) -> Result<ParsedSections<'a>, SpecFault>
     requires { length text.now ≤ max_specification_bytes }
     ensures { Gives sections_view result (plain.sections_of text.now) }

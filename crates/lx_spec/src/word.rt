@@ -1,4 +1,4 @@
-//! The words of an action (XCU `lex`, "Actions in lex").
+//! Splits an action into words (XCU `lex`, "Actions in lex").
 
 ghost use Rattle.std.specs.Prelude.{◌≡◌, ◌+◌, ◌<◌, ◌≤◌, length, IfSome, IfOk, MatchOption, List};
 ghost use Rattle.std.specs.List.{prefix_len};
@@ -35,14 +35,14 @@ pub enum Word<'a> {
     CloseGroup,
 }
 
-/// What stands at the front of a text.
+/// The construct at the start of a text.
 #[derive(Drop)]
 pub enum Piece<'a> {
-    /// Nothing.
+    /// The end of the text.
     Ended,
-    /// A blank, a line's end or a comment, and this text behind it.
+    /// A blank, a line's end or a comment, with the text after it.
     Passed(&'a [u8]),
-    /// A word, and this text behind it.
+    /// A word, with the text after it.
     Found(Word<'a>, &'a [u8]),
     /// No word of an action.
     NoWord,
@@ -62,7 +62,7 @@ fn sign_of<'a>(c: u8) -> Option<Word<'a>>
     }
 }
 
-// The text behind the first `*/`.
+// Returns the text after the first `*/`.
 fn behind_comment(text: &[u8]) -> Option<&[u8]>
     ensures value { option_map (λ r. r.now) result ≡ plain.behind_comment text.now }
     ensures less { IfSome result (λ r. length r.now ≤ length text.now) }
@@ -84,7 +84,7 @@ fn line_len(text: &[u8]) -> usize
     text.iter().take_while(|c| **c != b'\n').count()
 }
 
-// A comment over lines, from behind its `/` on.
+// Reads a comment of several lines, starting after its `/`.
 fn comment_at(text: &[u8]) -> Piece<'_>
     ensures value { piece_view result ≡ plain.comment_at text.now }
     ensures less { LeavesLess result (length text.now + 1) }
@@ -107,7 +107,7 @@ fn letters_piece(text: &[u8]) -> Piece<'_>
     Piece::Found(Word::Letters(&text[..n]), &text[n..])
 }
 
-// The piece that is one byte, or a constant from behind its first byte on.
+// Reads a piece of one byte, or a constant, starting after its first byte.
 fn sign_piece(c: u8, text: &[u8]) -> Piece<'_>
     ensures value { piece_view result ≡ plain.sign_piece c text.now }
     ensures less { LeavesLess result (length text.now + 1) }
@@ -125,7 +125,7 @@ fn sign_piece(c: u8, text: &[u8]) -> Piece<'_>
     }
 }
 
-/// The first form that fits the front of the text.
+/// Returns the first form that fits the start of the text.
 pub fn piece_at(text: &[u8]) -> Piece<'_>
     ensures value { piece_view result ≡ plain.piece_at text.now }
     ensures less { LeavesLess result (length text.now) }
@@ -147,7 +147,7 @@ pub fn piece_at(text: &[u8]) -> Piece<'_>
     }
 }
 
-/// The words of an action, one after the other; `None` where the text isn't words.
+/// Splits an action into words. Returns `None` if the text isn't words.
 pub(crate) fn read_words<'a>(
     alloc: Global,
     text: &'a [u8],
