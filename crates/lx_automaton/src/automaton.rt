@@ -6,23 +6,23 @@ ghost use Rattle.lx_automaton.specs.EncodedOptions.{decoded_option, machine_of};
 
 use std::marker::Model;
 
-/// The number of a state: a state of an automaton where it is below the automaton's `states()`.
+/// The number of a state. It is a state of an automaton if it is below the automaton's `states()`.
 #[derive(Clone, Copy, Debug, PartialEq, Eq)]
 pub struct State(pub u32);
 
-/// A deterministic automaton over bytes. Two bytes are of one class exactly where every state steps alike on both, and the
-/// classes are numbered by their least bytes.
+/// A deterministic automaton over bytes. Two bytes are in one class exactly if every state has equal steps on both. The classes are numbered by their
+/// least bytes.
 #[derive(Drop)]
 pub struct Automaton {
-    /// Of each start condition the state without line begin, and the state at line begin.
+    /// For each start condition, the state without line begin and the state at line begin.
     starts: Vec<(u32, u32)>,
-    /// The class of each of the 256 bytes.
+    /// Class of each of the 256 bytes.
     classes: Vec<u8>,
-    /// How many classes there are.
+    /// Number of classes.
     width: usize,
-    /// Of each state 0, or one more than the rule that it accepts.
+    /// For each state, 0 or one more than the rule that it accepts.
     accepted: Vec<u16>,
-    /// Row by row 0, or one more than the target: of state s on class c at s * width + c.
+    /// Row by row, 0 or one more than the target. The target of state s on class c is at s * width + c.
     targets: Vec<u16>,
 }
 
@@ -35,8 +35,8 @@ impl Model for Automaton {
 }
 
 impl Automaton {
-    /// The automaton of these lists: of each condition the two states in which it begins, the class of each byte and how many classes there are, and
-    /// encoded as 0 for none or one more than a number, the rules that the states accept, and their targets row by row.
+    /// Makes an automaton of these lists: for each condition the two states in which it begins, the class of each byte, and the number of classes.
+    /// The accepted rules of the states, and their targets row by row, are encoded as 0 for none or one more than a number.
     pub fn of(
         starts: Vec<(u32, u32)>,
         classes: Vec<u8>,
@@ -57,7 +57,7 @@ impl Automaton {
         }
     }
 
-    /// How many start conditions there are: 1 to 64.
+    /// Returns the number of start conditions, 1 to 64.
     pub fn conditions(&self) -> u16
         ensures count { result ≡ length self.now.starts }
         ensures machine { IsMachine self.now }
@@ -66,7 +66,7 @@ impl Automaton {
         self.starts.len() as u16
     }
 
-    /// How many states there are: at most 16,512.
+    /// Returns the number of states, at most 16,512.
     pub fn states(&self) -> u32
         ensures count { result ≡ state_count self.now }
         ensures machine { IsMachine self.now }
@@ -74,7 +74,7 @@ impl Automaton {
         self.accepted.len() as u32
     }
 
-    /// The state in which a condition begins, at the beginning of a line or elsewhere.
+    /// Returns the state in which a condition begins, at the start of a line or elsewhere.
     pub fn start(&self, condition: u16, at_line_begin: bool) -> State
         requires { condition < length self.now.starts }
         ensures start { result.0 ≡ start_of self.now condition at_line_begin }
@@ -88,7 +88,7 @@ impl Automaton {
         }
     }
 
-    /// How many classes of bytes there are: 1 to 256.
+    /// Returns the number of byte classes, 1 to 256.
     pub fn classes(&self) -> u16
         ensures count { result ≡ self.now.width }
         ensures machine { IsMachine self.now }
@@ -97,7 +97,7 @@ impl Automaton {
         self.width as u16
     }
 
-    /// The class of a byte.
+    /// Returns the class of a byte.
     pub fn class(&self, byte: u8) -> u8
         ensures class { result ≡ slice_index self.now.classes byte }
         ensures below { result < self.now.width }
@@ -106,7 +106,7 @@ impl Automaton {
         self.classes[byte as usize]
     }
 
-    /// Where a state steps on a class of bytes; None where the step is missing.
+    /// Returns the target of a state on a class of bytes, or None if the step is missing.
     pub fn class_step(&self, state: State, class: u8) -> Option<State>
         requires state { state.0 < state_count self.now }
         requires class { class < self.now.width }
@@ -121,7 +121,7 @@ impl Automaton {
         }
     }
 
-    /// Where a state steps on a byte; None where the step is missing.
+    /// Returns the target of a state on a byte, or None if the step is missing.
     pub fn step(&self, state: State, byte: u8) -> Option<State>
         requires { state.0 < state_count self.now }
         ensures target { option_map (λ s. s.0) result ≡ target_of self.now state.0 byte }
@@ -130,7 +130,7 @@ impl Automaton {
         self.class_step(state, self.class(byte))
     }
 
-    /// The rule that a state accepts; None where it accepts none.
+    /// Returns the rule that a state accepts, or None if it accepts none.
     pub fn accepts(&self, state: State) -> Option<u16>
         requires { state.0 < state_count self.now }
         ensures { result ≡ accepted_by self.now state.0 }
@@ -143,28 +143,28 @@ impl Automaton {
         }
     }
 
-    /// Of each start condition the state without line begin, and the state at line begin.
+    /// Returns for each start condition the state without line begin and the state at line begin.
     pub fn starts(&self) -> &[(u32, u32)]
         ensures { result.now ≡ self.now.starts }
     {
         &self.starts
     }
 
-    /// The class of each of the 256 bytes.
+    /// Returns the class of each of the 256 bytes.
     pub fn byte_classes(&self) -> &[u8]
         ensures { result.now ≡ self.now.classes }
     {
         &self.classes
     }
 
-    /// Of each state 0, or one more than the rule that it accepts.
+    /// Returns for each state 0 or one more than the rule that it accepts.
     pub fn encoded_rules(&self) -> &[u16]
         ensures { map decoded_option result.now ≡ self.now.accepted }
     {
         &self.accepted
     }
 
-    /// Row by row 0, or one more than the target: of state s on class c at s * classes + c.
+    /// Returns row by row 0 or one more than the target. The target of state s on class c is at s * classes + c.
     pub fn encoded_targets(&self) -> &[u16]
         ensures { map decoded_option result.now ≡ self.now.targets }
     {

@@ -1,4 +1,4 @@
-//! Byte classes: two bytes are of one class exactly where every state steps alike on both.
+//! Byte classes: two bytes are in one class exactly if every state has equal steps on both.
 
 ghost use Rattle.std.specs.Prelude.{◌≡◌, ◌<◌, ◌≤◌, ◌+◌, ◌*◌, ◌↔◌, ℕ, IsTrue, IfOk, OnOk, IfSome, IfNone, MatchOption, length, slice_index, vec_len};
 ghost use Rattle.lx_automaton.specs.Automata.{IsMachine, HasByteClasses, HasSameSteps, state_count};
@@ -9,10 +9,10 @@ use crate::automaton::Automaton;
 use crate::draft::Draft;
 use std::alloc::{AllocError, Global};
 
-// How many bytes there are.
+// Number of bytes.
 const BYTES: usize = 256;
 
-/// Whether one of these states steps differently on the two classes.
+/// Returns true if one of these states has different steps on the two classes.
 fn are_distinguished(
     draft: &Draft,
     class: usize,
@@ -33,7 +33,7 @@ fn are_distinguished(
     false
 }
 
-/// The first state that steps differently on the two classes.
+/// Returns the first state with different steps on the two classes.
 fn first_distinguishing_state(draft: &Draft, class: usize, other: usize) -> Option<usize>
     requires class { class < draft.now.width }
     requires other { other < draft.now.width }
@@ -47,8 +47,8 @@ fn first_distinguishing_state(draft: &Draft, class: usize, other: usize) -> Opti
     None
 }
 
-/// Whether every state steps alike on the two classes. States that distinguish classes are tried first; each one more of them splits
-/// the classes further, so there are at most 255, and seldom are all states gone over.
+/// Returns true if every state has equal steps on the two classes. Tries the states that distinguish classes first. Each one of them splits the
+/// classes further, so there are at most 255, and seldom are all states tried.
 fn has_same_columns(
     draft: &Draft,
     class: usize,
@@ -71,7 +71,7 @@ fn has_same_columns(
     }
 }
 
-/// The first byte below this one whose provisional class is the same.
+/// Returns the first byte below this one that has the same provisional class.
 fn earlier_byte(draft: &Draft, byte: usize) -> Option<usize>
     requires { byte < 256 }
     ensures below { IfSome result (λ b. b < byte) }
@@ -86,7 +86,7 @@ fn earlier_byte(draft: &Draft, byte: usize) -> Option<usize>
     None
 }
 
-/// The number of the representative with the class's column; without one the next number.
+/// Returns the number of the representative with the class's column, or the next number if there is none.
 fn number_for(
     draft: &Draft,
     representatives: &[u8],
@@ -110,7 +110,7 @@ fn number_for(
     Ok(representatives.len())
 }
 
-/// Numbers one byte more.
+/// Numbers one more byte.
 fn add_byte(
     draft: &Draft,
     byte: usize,
@@ -156,7 +156,7 @@ fn add_row(
     Ok(())
 }
 
-/// The rows of all states over the representatives.
+/// Makes the rows of all states over the representatives.
 fn rows_over(alloc: Global, draft: &Draft, representatives: &[u8]) -> Result<Vec<u16>, AllocError>
     requires classes { (j : ℕ) → j < length representatives.now → slice_index representatives.now j < draft.now.width }
     ensures { IfOk result (λ encoded. AreRows draft.now representatives.now encoded.items (state_count draft.now * length representatives.now)) }
@@ -169,7 +169,7 @@ fn rows_over(alloc: Global, draft: &Draft, representatives: &[u8]) -> Result<Vec
 }
 
 impl Automaton {
-    /// The automaton of these lists, as `of` has them, over its byte classes: the classes that are handed in may be finer.
+    /// Makes an automaton of these lists, like `of`, over its byte classes. The given classes may be finer.
     pub fn over_byte_classes(
         alloc: Global,
         starts: Vec<(u32, u32)>,
@@ -188,7 +188,7 @@ impl Automaton {
     }
 }
 
-/// The automaton that steps alike, over byte classes.
+/// Makes the automaton with equal steps over byte classes.
 pub fn with_byte_classes(alloc: Global, draft: &Draft) -> Result<Automaton, AllocError>
     ensures machine { IfOk result (λ a. IsMachine a) }
     ensures classes { IfOk result (λ a. HasByteClasses a) }

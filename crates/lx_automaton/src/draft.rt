@@ -1,4 +1,4 @@
-//! Automata whose classes of bytes are provisional: `with_byte_classes` makes automata of them.
+//! Automata with provisional byte classes, of which `with_byte_classes` makes automata.
 
 ghost use Rattle.std.specs.Prelude.{◌≡◌, ◌<◌, ◌≤◌, slice_index};
 ghost use Rattle.lx_automaton.specs.Automata.{Machine, IsMachine, state_count, class_target};
@@ -6,7 +6,8 @@ ghost use Rattle.lx_automaton.specs.EncodedOptions.{machine_of, decoded_option};
 
 use std::marker::Model;
 
-/// An automaton over provisional classes, at most 256: every state steps alike on the bytes of one class, and may step alike on two classes.
+/// An automaton over at most 256 provisional classes. Every state has equal steps on the bytes of one class, and may also have equal steps on two
+/// classes.
 #[derive(Drop)]
 pub struct Draft {
     pub(crate) starts: Vec<(u32, u32)>,
@@ -25,7 +26,7 @@ impl Model for Draft {
 }
 
 impl Draft {
-    /// How many states there are.
+    /// Returns the number of states.
     pub(crate) fn states(&self) -> usize
         ensures count { result ≡ state_count self.now }
         ensures machine { IsMachine self.now }
@@ -33,7 +34,7 @@ impl Draft {
         self.accepted.len()
     }
 
-    /// The provisional class of a byte.
+    /// Returns the provisional class of a byte.
     pub(crate) fn class(&self, byte: usize) -> usize
         requires { byte < 256 }
         ensures class { result ≡ slice_index self.now.classes byte }
@@ -43,7 +44,7 @@ impl Draft {
         self.classes[byte] as usize
     }
 
-    /// Where a state steps on a class, encoded: 0, or one more than the target.
+    /// Returns the target of a state on a class, encoded: 0 for none, or one more than the target.
     pub(crate) fn encoded_target(&self, state: usize, class: usize) -> u16
         requires state { state < state_count self.now }
         requires class { class < self.now.width }
@@ -52,7 +53,7 @@ impl Draft {
         self.targets[state * self.width + class]
     }
 
-    /// The draft of these lists, kept as an automaton's are.
+    /// Makes a draft of these lists, which are those of an automaton.
     pub fn of(
         starts: Vec<(u32, u32)>,
         classes: Vec<u8>,

@@ -1,4 +1,4 @@
-//! The lists of an automaton, with its states in another order.
+//! Reorders the lists of an automaton by a new order of its states.
 
 ghost use Rattle.std.specs.Prelude.{◌≡◌, ◌<◌, ◌≤◌, ◌+◌, ◌*◌, ℕ, IfOk, OnOk, length, slice_index};
 ghost use Rattle.lx_rules.specs.Limits.{max_rules};
@@ -10,7 +10,7 @@ use crate::state_order::StateOrder;
 use crate::{Automaton, State};
 use std::alloc::{AllocError, Global};
 
-/// The new number of a state.
+/// Returns the new number of a state.
 fn number(state_order: &StateOrder, state: State) -> u32
     requires met { AreAllMet state_order.now.states.items state_order.now.encoded_options.items }
     requires state { state.0 < length state_order.now.encoded_options.items }
@@ -19,7 +19,7 @@ fn number(state_order: &StateOrder, state: State) -> u32
     u32::from(state_order.encoded_options[state.0 as usize]) - 1
 }
 
-/// The starts by their new numbers.
+/// Returns the starts by their new numbers.
 pub fn starts_of(
     alloc: Global,
     automaton: &Automaton,
@@ -38,7 +38,7 @@ pub fn starts_of(
     Ok(starts)
 }
 
-/// The class of each byte.
+/// Returns the class of each byte.
 pub fn classes_of(alloc: Global, automaton: &Automaton) -> Result<Vec<u8>, AllocError>
     ensures { IfOk result (λ classes. classes.items ≡ automaton.now.classes) }
 {
@@ -49,7 +49,7 @@ pub fn classes_of(alloc: Global, automaton: &Automaton) -> Result<Vec<u8>, Alloc
     Ok(classes)
 }
 
-/// The encoded option of the rule that a state accepts, where it is one of so many: of a state to which no text leads nothing is known.
+/// Returns the encoded option of the rule that a state accepts, if it is below `rules`. The rule of a state to which no text leads is unknown.
 fn encoded_rule(automaton: &Automaton, state: u32, rules: u16) -> u16
     requires state { state < state_count automaton.now }
     requires rules { rules ≤ max_rules }
@@ -61,7 +61,7 @@ fn encoded_rule(automaton: &Automaton, state: u32, rules: u16) -> u16
     }
 }
 
-/// The encoded options of the rules that the states accept.
+/// Returns the encoded options of the rules that the states accept.
 pub fn accepted_of(
     alloc: Global,
     automaton: &Automaton,
@@ -80,7 +80,7 @@ pub fn accepted_of(
     Ok(accepted)
 }
 
-/// Where a state steps on a class, as an encoded option: 0, or one more than the new number.
+/// Returns the target of a state on a class as an encoded option: 0, or one more than the new number.
 fn encoded_target(automaton: &Automaton, state_order: &StateOrder, state: u32, class: u8) -> u16
     requires met { AreAllMet state_order.now.states.items state_order.now.encoded_options.items }
     requires long { length state_order.now.encoded_options.items ≡ state_count automaton.now }
@@ -119,7 +119,7 @@ fn add_row(
     Ok(())
 }
 
-/// The rows of the states.
+/// Makes the rows of the states.
 pub fn rows_of(
     alloc: Global,
     automaton: &Automaton,

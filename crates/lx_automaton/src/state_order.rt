@@ -1,5 +1,5 @@
-//! The order in which tables have the states of an automaton: the starts in the order of the conditions, for each first without line begin and
-//! then at line begin, each state when it is first met; then those to which the states in order step, by rising class.
+//! The order of an automaton's states in tables. The starts come first, in the order of the conditions, for each condition without and then at line
+//! begin. Then come the targets of the states in order, by ascending class. Each state has its place when it is first met.
 
 ghost use Rattle.std.specs.Prelude.{◌≡◌, ◌≢◌, ◌<◌, ◌≤◌, ℕ, IfOk, OnOk, length, slice_index};
 ghost use Rattle.lx_automaton.specs.Automata.{state_count, max_states};
@@ -11,13 +11,13 @@ use std::alloc::{AllocError, Global};
 /// The states of an automaton in another order.
 #[derive(Drop)]
 pub struct StateOrder {
-    /// The states that were met, in that order.
+    /// States that were met, in the new order.
     pub states: Vec<u32>,
-    /// Of each state 0 before it is met, or one more than its place among those.
+    /// For each state, 0 before it is met, or one more than its place among the met ones.
     pub encoded_options: Vec<u16>,
 }
 
-/// A state gets the next number, unless it has one.
+/// Gives a state the next number, unless it has one.
 fn meet(state_order: &mut StateOrder, state: u32) -> Result<(), AllocError>
     requires met { AreMet state_order.old.states.items state_order.old.encoded_options.items }
     requires state { state < length state_order.old.encoded_options.items }
@@ -36,7 +36,7 @@ fn meet(state_order: &mut StateOrder, state: u32) -> Result<(), AllocError>
     Ok(())
 }
 
-/// The starts get numbers.
+/// Gives numbers to the starts.
 fn meet_starts(automaton: &Automaton, state_order: &mut StateOrder) -> Result<(), AllocError>
     requires met { AreMet state_order.old.states.items state_order.old.encoded_options.items }
     requires long { length state_order.old.encoded_options.items ≡ state_count automaton.now }
@@ -50,7 +50,7 @@ fn meet_starts(automaton: &Automaton, state_order: &mut StateOrder) -> Result<()
     Ok(())
 }
 
-/// The states to which one steps get numbers.
+/// Gives numbers to the targets of a state.
 fn meet_targets(
     automaton: &Automaton,
     state_order: &mut StateOrder,
@@ -70,7 +70,7 @@ fn meet_targets(
     Ok(())
 }
 
-/// All states get numbers that have none: no text leads to those.
+/// Gives numbers to all other states. No text leads to them.
 fn meet_others(automaton: &Automaton, state_order: &mut StateOrder) -> Result<(), AllocError>
     requires met { AreMet state_order.old.states.items state_order.old.encoded_options.items }
     requires long { length state_order.old.encoded_options.items ≡ state_count automaton.now }
@@ -83,7 +83,7 @@ fn meet_others(automaton: &Automaton, state_order: &mut StateOrder) -> Result<()
     Ok(())
 }
 
-/// The new order of all states.
+/// Returns the new order of all states.
 pub fn state_order_of(alloc: Global, automaton: &Automaton) -> Result<StateOrder, AllocError>
     ensures met { IfOk result (λ state_order. AreAllMet state_order.states.items state_order.encoded_options.items) }
     ensures long { IfOk result (λ state_order. length state_order.encoded_options.items ≡ state_count automaton.now) }

@@ -1,4 +1,4 @@
-//! Between which states those of a block stand.
+//! Bounds of the states of blocks.
 
 ghost use Rattle.std.specs.Prelude.{◌≡◌, ◌<◌, ◌≤◌, ◌++◌, ◌∷◌, [], ℕ, IfOk, OnOk, length, max, min, slice_index, slice_set};
 ghost use Rattle.lx_minimize.specs.Completion.{IsComplete};
@@ -8,21 +8,21 @@ ghost use Rattle.lx_minimize.specs.BlockBounds.{AreBounds};
 use crate::{Complete, Partition};
 use std::alloc::{AllocError, Global};
 
-/// Of each block a state with none before it, and one with none behind it.
+/// For each block, a lower and an upper bound of its states.
 #[derive(Drop)]
 pub(crate) struct Bounds {
     pub(crate) lows: Vec<u16>,
     pub(crate) highs: Vec<u16>,
 }
 
-/// Two states between which some stand.
+/// A range of states, from a low one to a high one.
 #[derive(Clone, Copy)]
 pub(crate) struct StateRange {
     pub(crate) low: u16,
     pub(crate) high: u16,
 }
 
-// A state more of a block.
+// Adds a state of a block to its bounds.
 fn add_state(bounds: &mut Bounds, block: u16, state: u16)
     requires low { block < length bounds.old.lows.items }
     requires high { block < length bounds.old.highs.items }
@@ -34,7 +34,7 @@ fn add_state(bounds: &mut Bounds, block: u16, state: u16)
     bounds.highs[at] = bounds.highs[at].max(state);
 }
 
-/// The bounds of all blocks.
+/// Returns the bounds of all blocks.
 pub(crate) fn bounds_of(alloc: Global, m: &Complete, p: &Partition) -> Result<Bounds, AllocError>
     requires complete { IsComplete m.now }
     requires sound { IsSound m.now p.now }
@@ -51,7 +51,7 @@ pub(crate) fn bounds_of(alloc: Global, m: &Complete, p: &Partition) -> Result<Bo
     Ok(bounds)
 }
 
-/// Between which states these stand.
+/// Returns the range of these states.
 pub(crate) fn range_of(states: &[u16]) -> StateRange
     ensures low { (j : ℕ) → j < length states.now → result.low ≤ slice_index states.now j }
     ensures high { (j : ℕ) → j < length states.now → slice_index states.now j ≤ result.high }

@@ -1,4 +1,4 @@
-//! The states among which those are that step into a set.
+//! Candidates for the states that step into a set.
 
 ghost use Rattle.std.specs.Prelude.{◌≡◌, ◌<◌, ◌≤◌, ℕ, true, IfOk, OnOk, Contains, length};
 ghost use Rattle.lx_minimize.specs.Completion.{total, IsComplete, max_complete_states};
@@ -9,7 +9,7 @@ use crate::Complete;
 use crate::predecessors::Predecessors;
 use std::alloc::{AllocError, Global};
 
-/// All states.
+/// Returns all states.
 pub(crate) fn all_states(alloc: Global, count: usize) -> Result<Vec<u16>, AllocError>
     requires { count ≤ max_complete_states }
     ensures { IfOk result (λ states. AreStatesBelow count states.items) }
@@ -21,7 +21,7 @@ pub(crate) fn all_states(alloc: Global, count: usize) -> Result<Vec<u16>, AllocE
     Ok(states)
 }
 
-// Adds those of the states that are below the count.
+// Adds the states that are below the count.
 fn add_below(states: &[u16], count: usize, all: &mut Vec<u16>) -> Result<(), AllocError>
     ensures { OnOk result (AddsBelow states.now count all.old.items all.new.items) }
 {
@@ -33,7 +33,7 @@ fn add_below(states: &[u16], count: usize, all: &mut Vec<u16>) -> Result<(), All
     Ok(())
 }
 
-// The states that step to one of the members on a class.
+// Returns the states that step to one of the members on a class.
 fn sources_of_all(
     alloc: Global,
     m: &Complete,
@@ -54,8 +54,8 @@ fn sources_of_all(
     Ok(states)
 }
 
-/// The states among which all are that step into a set on a class: those that do, where each state is listed where it steps to, and
-/// else all states.
+/// Returns candidates for the states that step into a set on a class. If each state is listed at its targets, returns exactly these states, otherwise
+/// all.
 pub(crate) fn sources_into(
     alloc: Global,
     m: &Complete,

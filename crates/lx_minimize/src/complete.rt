@@ -6,17 +6,17 @@ ghost use Rattle.lx_minimize.specs.Completion.{total, step_of, label_of, IsCompl
 use lx_automaton::Automaton;
 use std::alloc::{AllocError, Global};
 
-/// An automaton that steps on every class from every state: state 0 stands for a missing step, s + 1 for the state s.
+/// An automaton that has a step on every class from every state. State 0 represents a missing step, and s + 1 the state s.
 #[derive(Drop)]
 pub struct Complete {
     pub width: usize,
-    /// Row by row: the target of state s on class c is at s * width + c.
+    /// Targets row by row. The target of state s on class c is at s * width + c.
     pub next: Vec<u16>,
-    /// Of each state 0, or one more than the rule that it accepts.
+    /// For each state, 0 or one more than the rule that it accepts.
     pub labels: Vec<u16>,
 }
 
-/// Where a state steps on a class.
+/// Returns the target of a state on a class.
 #[inline]
 pub fn step(m: &Complete, state: usize, class: usize) -> usize
     requires complete { IsComplete m.now }
@@ -28,7 +28,7 @@ pub fn step(m: &Complete, state: usize, class: usize) -> usize
     m.next[state * m.width + class] as usize
 }
 
-/// The completion of an automaton.
+/// Returns the completion of an automaton.
 pub fn completion_of(alloc: Global, automaton: &Automaton) -> Result<Complete, AllocError>
     ensures { IfOk result (λ m. IsCompletion automaton.now m) }
 {

@@ -1,4 +1,4 @@
-//! The states of blocks, looked for 32 at a time.
+//! Finds the states of blocks, 32 at a time.
 
 ghost use Rattle.std.specs.Prelude.{◌≡◌, ◌≢◌, ◌<◌, ◌≤◌, ◌+◌, ℕ, true, false, IfOk, IfSome, IfNone, Contains, length, slice_index};
 ghost use Rattle.lx_minimize.specs.Partitions.{AreFlags, flag};
@@ -7,10 +7,10 @@ ghost use Rattle.lx_minimize.specs.Completion.{max_complete_states};
 use std::alloc::{AllocError, Global};
 use std::simd::prelude::*;
 
-// So many states are looked at at once.
+// Number of states that are tested at once.
 const LANES: usize = 32;
 
-// How many of the next 32 states come before the first one of the block.
+// Returns the number of states before the first one of the block, among the next 32.
 #[inline(always)]
 fn lanes_before(blocks: &[u16], from: usize, number: u16) -> usize
     requires { from + 32 ≤ length blocks.now }
@@ -23,7 +23,7 @@ fn lanes_before(blocks: &[u16], from: usize, number: u16) -> usize
     LANES.min(mask.trailing_zeros() as usize)
 }
 
-/// The first state of a block from a place on, before an end.
+/// Returns the first state of a block from `from` up to `end`.
 pub(crate) fn next_of_block(blocks: &[u16], from: usize, end: usize, number: u16) -> Option<usize>
     requires order { from ≤ end }
     requires end { end ≤ length blocks.now }
@@ -49,14 +49,14 @@ pub(crate) fn next_of_block(blocks: &[u16], from: usize, end: usize, number: u16
     None
 }
 
-/// The states of a block: as flags of all states, and in a list.
+/// The states of a block, as flags of all states and as a list.
 #[derive(Drop)]
 pub(crate) struct Members {
     pub(crate) inside: Vec<bool>,
     pub(crate) states: Vec<u16>,
 }
 
-/// The states of a block, all of which stand between a low one and a high one.
+/// Returns the states of a block, given a lower and an upper bound of them.
 pub(crate) fn members_between(
     alloc: Global,
     blocks: &[u16],
@@ -82,7 +82,7 @@ pub(crate) fn members_between(
     Ok(Members { inside, states })
 }
 
-/// The states of a block.
+/// Returns the states of a block.
 pub(crate) fn members_of(alloc: Global, blocks: &[u16], number: u16) -> Result<Members, AllocError>
     requires { length blocks.now ≤ max_complete_states }
     ensures flags { IfOk result (λ members. AreFlags blocks.now number (length blocks.now) members.inside.items) }

@@ -1,4 +1,4 @@
-//! Merging of equivalent states (Moore 1956, Hopcroft 1971).
+//! Merges equivalent states (Moore 1956, Hopcroft 1971).
 
 ghost use Rattle.std.specs.Prelude.{◌≡◌, IfOk, length};
 ghost use Rattle.lx_rules.specs.Plain.{PlainSpec};
@@ -12,9 +12,9 @@ use crate::{by_labels, completion_of};
 use lx_automaton::{Automaton, with_byte_classes};
 use std::alloc::{AllocError, Global};
 
-/// The minimal automaton with the same answers, so one of the same specification: no two of its states are equivalent, and each
-/// of its steps leads to a state from which some word leads to an accepting one. A start from which nothing is ever accepted is
-/// a state without steps. Where some text leads to each state of the automaton, so it does to each of the minimal one's.
+/// Returns the minimal automaton with the same answers, which is one of the same specification. No two of its states are equivalent, and each of its
+/// steps leads to a state from which some word leads to an accepting one. A start from which nothing is ever accepted is a state without steps. If
+/// some text leads to each state of the given automaton, the same holds for the minimal one.
 pub fn merge(alloc: Global, automaton: &Automaton) -> Result<Automaton, AllocError>
     ensures conditions { IfOk result (λ m. length m.starts ≡ length automaton.now.starts) }
     ensures answers { IfOk result (λ m. AreEquivalentMachines automaton.now m) }

@@ -1,4 +1,4 @@
-//! States that move out of their block, and classes on which states of a block step apart.
+//! Finds states that move out of their block, and classes on which states of a block have different steps.
 
 ghost use Rattle.std.specs.Prelude.{◌≡◌, ◌≢◌, ◌<◌, ◌↔◌, ℕ, Bool, IsTrue, IfOk, IfSome, IfNone, length, slice_index, Contains};
 ghost use Rattle.lx_minimize.specs.Completion.{total, step_of, IsComplete};
@@ -9,7 +9,7 @@ use crate::members::next_of_block;
 use crate::{Complete, Partition, step};
 use std::alloc::{AllocError, Global};
 
-/// Whether the state steps into the set.
+/// Returns true if the state steps into the set.
 #[inline]
 pub(crate) fn steps_into(m: &Complete, inside: &[bool], state: usize, class: usize) -> bool
     requires complete { IsComplete m.now }
@@ -21,7 +21,7 @@ pub(crate) fn steps_into(m: &Complete, inside: &[bool], state: usize, class: usi
     inside[step(m, state, class)]
 }
 
-/// Whether a state is in the block and steps into the set, or where `wanted` is false, out of it.
+/// Returns true if a state is in the block and steps into the set. If `wanted` is false, it has to step out of it.
 #[inline]
 fn is_moved(
     m: &Complete,
@@ -42,7 +42,7 @@ fn is_moved(
     blocks[state] == from && steps_into(m, inside, state, class) == wanted
 }
 
-// The states of a block that step into the set, or where `wanted` is false, out of it: all states of the block are gone through.
+// Returns the states of a block that step into the set, or out of it if `wanted` is false. Tries all states of the block.
 fn moved_states_of_all(
     alloc: Global,
     m: &Complete,
@@ -69,7 +69,7 @@ fn moved_states_of_all(
     Ok(moved_states)
 }
 
-// Those of the states that are in the block and step into the set, or where `wanted` is false, out of it.
+// Returns those of `states` that are in the block and step into the set, or out of it if `wanted` is false.
 fn moved_states_among(
     alloc: Global,
     m: &Complete,
@@ -96,7 +96,7 @@ fn moved_states_among(
     Ok(moved_states)
 }
 
-/// The states of a block that step into the set, or where `wanted` is false, out of it. All that step into it are among `sources`.
+/// Returns the states of a block that step into the set, or out of it if `wanted` is false. All that step into it are among `sources`.
 pub(crate) fn moved_states_of(
     alloc: Global,
     m: &Complete,
@@ -120,7 +120,7 @@ pub(crate) fn moved_states_of(
     moved_states_of_all(alloc, m, blocks, inside, from, class, false)
 }
 
-/// A state of the block that isn't moved: the representative, where that isn't.
+/// Returns a state of the block that isn't moved, which is the representative unless that is moved.
 pub(crate) fn remaining_state_of(
     m: &Complete,
     blocks: &[u16],
@@ -146,7 +146,7 @@ pub(crate) fn remaining_state_of(
     first_remaining_state(m, blocks, inside, from, class, wanted)
 }
 
-// The first state of the block that isn't moved.
+// Returns the first state of the block that isn't moved.
 fn first_remaining_state(
     m: &Complete,
     blocks: &[u16],
@@ -183,7 +183,7 @@ pub(crate) fn renumber(blocks: &mut [u16], moved_states: &[u16], fresh: u16)
     }
 }
 
-/// A state and a class on which it steps to another block than the representative of its block.
+/// Returns a class on which the state steps to another block than the representative of its block.
 fn unstable_class(m: &Complete, p: &Partition, s: usize) -> Option<usize>
     requires complete { IsComplete m.now }
     requires sound { IsSound m.now p.now }
@@ -200,7 +200,7 @@ fn unstable_class(m: &Complete, p: &Partition, s: usize) -> Option<usize>
     None
 }
 
-/// A state and a class on which it steps to another block than the representative of its block.
+/// Returns a state and a class on which it steps to another block than the representative of its block.
 pub(crate) fn first_unstable(m: &Complete, p: &Partition) -> Option<(usize, usize)>
     requires complete { IsComplete m.now }
     requires sound { IsSound m.now p.now }

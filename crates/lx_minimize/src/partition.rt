@@ -1,4 +1,4 @@
-//! Divisions of states into blocks, of which the first is by the states' labels.
+//! Partitions of states into blocks. The first partition is by the states' labels.
 
 ghost use Rattle.std.specs.Prelude.{◌≡◌, ◌≢◌, ◌<◌, ◌≤◌, ◌+◌, ◌++◌, ◌∷◌, [], ℕ, IfOk, OnOk, length, slice_index};
 ghost use Rattle.lx_minimize.specs.Completion.{total, label_of, IsComplete};
@@ -7,14 +7,14 @@ ghost use Rattle.lx_minimize.specs.Partitions.{IsSound, AreLabelledBelow, AreBlo
 use crate::complete::Complete;
 use std::alloc::{AllocError, Global};
 
-/// A division of the states into blocks: the block of each state, and a state of each block.
+/// A partition of the states into blocks: the block of each state, and a representative state of each block.
 #[derive(Drop)]
 pub struct Partition {
     pub block_of: Vec<u16>,
     pub representatives: Vec<u16>,
 }
 
-/// The largest label of a state.
+/// Returns the greatest label of a state.
 fn largest_label(m: &Complete) -> u16
     ensures { (s : ℕ) → s < total m.now → label_of m.now s ≤ result }
 {
@@ -25,7 +25,7 @@ fn largest_label(m: &Complete) -> u16
     largest
 }
 
-/// The block of each label, before there is one: 0 stands for none, else one more than the block.
+/// Returns the block of each label before there is any. An entry is 0 for none, otherwise one more than the block.
 fn no_blocks(alloc: Global, m: &Complete) -> Result<Vec<u16>, AllocError>
     ensures { IfOk result (λ block_by_label. AreBlocksByLabel m.now [] block_by_label.items) }
 {
@@ -33,7 +33,7 @@ fn no_blocks(alloc: Global, m: &Complete) -> Result<Vec<u16>, AllocError>
     vec![in alloc; 0; largest as usize + 1]
 }
 
-/// The block of the representatives' labels that has the state's label; without one the next number.
+/// Returns the block with the state's label, or the next number if there is none.
 fn block_for(m: &Complete, representatives: &[u16], block_by_label: &[u16], state: usize) -> usize
     requires state { state < total m.now }
     requires labels { AreBlocksByLabel m.now representatives.now block_by_label.now }
@@ -48,7 +48,7 @@ fn block_for(m: &Complete, representatives: &[u16], block_by_label: &[u16], stat
     encoded as usize - 1
 }
 
-/// Puts one state more into the block with this number.
+/// Adds a state to the block with this number.
 fn push_state(
     m: &Complete,
     state: usize,
@@ -74,7 +74,7 @@ fn push_state(
     Ok(())
 }
 
-/// Puts one state more into the block of its label.
+/// Adds a state to the block of its label.
 fn add_state(
     m: &Complete,
     state: usize,
@@ -98,7 +98,7 @@ fn add_state(
     Ok(())
 }
 
-/// All states in the blocks of their labels.
+/// Returns all states in the blocks of their labels.
 fn labelled_states(alloc: Global, m: &Complete) -> Result<Partition, AllocError>
     requires { IsComplete m.now }
     ensures { IfOk result (λ p. AreLabelledBelow m.now (total m.now) p.block_of.items p.representatives.items) }
@@ -121,7 +121,7 @@ fn labelled_states(alloc: Global, m: &Complete) -> Result<Partition, AllocError>
     })
 }
 
-/// The blocks of states that have one label.
+/// Returns the partition by labels.
 pub fn by_labels(alloc: Global, m: &Complete) -> Result<Partition, AllocError>
     requires { IsComplete m.now }
     ensures { IfOk result (λ p. IsSound m.now p) }

@@ -12,7 +12,7 @@ use crate::{Complete, Partition, step};
 use lx_automaton::{Automaton, Draft};
 use std::alloc::{AllocError, Global};
 
-/// The state of the quotient for a state of the automaton.
+/// Returns the state of the quotient for a state of the automaton.
 fn state_of(m: &Complete, p: &Partition, state: u32) -> u32
     requires complete { IsComplete m.now }
     requires sound { IsSound m.now p.now }
@@ -27,7 +27,7 @@ fn state_of(m: &Complete, p: &Partition, state: u32) -> u32
     }
 }
 
-/// The starts of the quotient.
+/// Returns the starts of the quotient.
 fn starts_of(
     alloc: Global,
     m: &Complete,
@@ -47,7 +47,7 @@ fn starts_of(
     Ok(new)
 }
 
-/// Whether a start is in block 0, so that nothing is ever accepted from it.
+/// Returns true if a start is in block 0, so that nothing is ever accepted from it.
 fn has_dead_start(m: &Complete, p: &Partition, starts: &[(u32, u32)]) -> bool
     requires complete { IsComplete m.now }
     requires sound { IsSound m.now p.now }
@@ -64,7 +64,7 @@ fn has_dead_start(m: &Complete, p: &Partition, starts: &[(u32, u32)]) -> bool
     false
 }
 
-/// The states that the quotient's states stand for.
+/// Returns the states that represent the quotient's states.
 fn rows_of(alloc: Global, p: &Partition, dead: bool) -> Result<Vec<u16>, AllocError>
     requires { 0 < block_count p.now }
     ensures rows { IfOk result (λ rows. AreRowStates p.now rows.items) }
@@ -77,7 +77,7 @@ fn rows_of(alloc: Global, p: &Partition, dead: bool) -> Result<Vec<u16>, AllocEr
     Ok(rows)
 }
 
-/// The labels of these states.
+/// Returns the labels of these states.
 fn labels_of(alloc: Global, m: &Complete, rows: &[u16]) -> Result<Vec<u16>, AllocError>
     requires { (i : ℕ) → i < length rows.now → slice_index rows.now i < total m.now }
     ensures { IfOk result (λ labels. AreLabels m.now rows.now labels.items (length rows.now)) }
@@ -89,7 +89,7 @@ fn labels_of(alloc: Global, m: &Complete, rows: &[u16]) -> Result<Vec<u16>, Allo
     Ok(labels)
 }
 
-/// Adds the row of the blocks that one of these states steps to.
+/// Adds the row of the blocks to which one of these states steps.
 fn add_row(
     m: &Complete,
     p: &Partition,
@@ -110,7 +110,7 @@ fn add_row(
     Ok(())
 }
 
-/// The blocks that these states step to: a block's number is its state, encoded, and 0 is nowhere.
+/// Returns the blocks to which these states step. A block's number is its encoded state, and 0 is none.
 fn targets_of(
     alloc: Global,
     m: &Complete,
@@ -129,7 +129,7 @@ fn targets_of(
     Ok(targets)
 }
 
-/// The automaton of the blocks, over the automaton's classes.
+/// Makes the automaton of the blocks, over the automaton's classes.
 pub(crate) fn quotient(
     alloc: Global,
     automaton: &Automaton,

@@ -1,4 +1,4 @@
-//! Splitting blocks until states of one block step to the same blocks.
+//! Splits blocks until states of one block step to the same blocks.
 
 ghost use Rattle.std.specs.Prelude.{◌≡◌, ◌≢◌, ◌<◌, ◌+◌, ◌^◌, ◌++◌, ◌∷◌, [], ℕ, Bool, true, false, None, IfOk, IfSome, OnOk, length, slice_index, slice_set};
 ghost use Rattle.lx_minimize.specs.Completion.{total, step_of, IsComplete};
@@ -14,7 +14,7 @@ use crate::worklist::refine_by_worklist;
 use crate::{Complete, Partition, step};
 use std::alloc::{AllocError, Global};
 
-/// Which states are to move: of block 0 those that don't step as state 0 does, of other blocks those that are wanted.
+/// Returns the side of the states that move. Of block 0 they are those that don't step like state 0, and of other blocks the wanted ones.
 pub(crate) fn side_of(
     m: &Complete,
     inside: &[bool],
@@ -34,7 +34,7 @@ pub(crate) fn side_of(
     }
 }
 
-/// Gives the moved states a block of their own.
+/// Gives the moved states a new block.
 fn divide(
     m: &Complete,
     p: &mut Partition,
@@ -56,8 +56,8 @@ fn divide(
     Ok(())
 }
 
-/// Splits a block by which of its states step into the set, where only some do: between which states those stand that were moved. The wanted states
-/// move into a new block, in block 0 those that don't step as state 0 does. All that step into the set are among `sources`.
+/// Splits a block by its steps into the set, if only some of its states step into it. The wanted states move into a new block; of block 0 those that
+/// don't step like state 0. All that step into the set are among `sources`. Returns the range of the moved states.
 pub(crate) fn split(
     alloc: Global,
     m: &Complete,
@@ -112,7 +112,7 @@ pub(crate) fn split(
     Ok(Some(moved))
 }
 
-// The same, where it isn't known which states step into the set: all are gone through.
+// Does the same as `split` without knowing the states that step into the set. Tries all of them.
 fn split_slowly(
     alloc: Global,
     m: &Complete,
@@ -174,7 +174,7 @@ pub(crate) fn refined(
 {
     let mut p = start;
     refine_by_worklist(alloc, m, &mut p)?;
-    // Without a fault in the order nothing is left to split.
+    // if the order was right, nothing is left to split
     while let Some((s, class)) = first_unstable(m, &p) {
         split_at(alloc, m, &mut p, s, class)?;
     }

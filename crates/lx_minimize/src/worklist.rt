@@ -1,5 +1,5 @@
-//! The worklist by which blocks are split (Hopcroft 1971): blocks that are still to be used as splitters, where of two
-//! parts the smaller one gets the new number and is used. What is proved of the partition doesn't rest on their order.
+//! The worklist by which blocks are split (Hopcroft 1971): the blocks that are still to be used as splitters. Of the two parts of a split, the
+//! smaller one gets the new number and is used. The proofs about the partition don't depend on the order.
 
 ghost use Rattle.std.specs.Prelude.{◌≡◌, ◌<◌, ◌≤◌, ◌+◌, ◌-◌, ◌*◌, ◌++◌, ◌∷◌, [], ℕ, true, Contains, IfOk, OnOk, length, vec_len};
 ghost use Rattle.lx_minimize.specs.Completion.{total, IsComplete, max_complete_states};
@@ -16,18 +16,18 @@ use crate::split::{side_of, split};
 use crate::{Complete, Partition};
 use std::alloc::{AllocError, Global};
 
-/// The blocks that are still to be used as splitters, and what the choice of splits goes by.
+/// The blocks that are still to be used as splitters, with the data for choosing splits.
 #[derive(Drop)]
 pub(crate) struct Worklist {
-    /// How many states each block has.
+    /// Number of states of each block.
     pub(crate) sizes: Vec<u32>,
-    /// How many states of each block step into the splitter.
+    /// Number of states of each block that step into the splitter.
     pub(crate) hits: Vec<u32>,
-    /// The blocks that have such states.
+    /// Blocks that have such states.
     pub(crate) touched: Vec<u16>,
-    /// The blocks that are still to be used as splitters.
+    /// Blocks that are still to be used as splitters.
     pub(crate) pending: Vec<u16>,
-    /// Between which states those of each block stand.
+    /// Bounds of the states of each block.
     pub(crate) bounds: Bounds,
 }
 
@@ -40,7 +40,7 @@ fn count_state(counts: &mut [u32], block: u16)
     }
 }
 
-/// The worklist for a partition, with all its blocks pending.
+/// Returns the worklist for a partition, with all its blocks pending.
 fn worklist_of(alloc: Global, m: &Complete, p: &Partition) -> Result<Worklist, AllocError>
     requires complete { IsComplete m.now }
     requires sound { IsSound m.now p.now }
@@ -54,7 +54,7 @@ fn worklist_of(alloc: Global, m: &Complete, p: &Partition) -> Result<Worklist, A
     let hits = vec![in alloc; 0; count]?;
     let mut pending = Vec::with_capacity(alloc, count)?;
     for i in 0..p.block_of.len() {
-        // Each block once, at its representative.
+        // each block once, at its representative
         if p.representatives.get(p.block_of[i] as usize).copied() == Some(i as u16) {
             pending.push(p.block_of[i])?;
         }
@@ -69,7 +69,7 @@ fn worklist_of(alloc: Global, m: &Complete, p: &Partition) -> Result<Worklist, A
     })
 }
 
-/// Counts a state that steps into the splitter for its block.
+/// Counts a state that steps into the splitter, for its block.
 #[inline]
 fn hit(worklist: &mut Worklist, block: u16) -> Result<(), AllocError>
     ensures pending { OnOk result (vec_len worklist.new.pending ≡ vec_len worklist.old.pending) }
@@ -85,7 +85,7 @@ fn hit(worklist: &mut Worklist, block: u16) -> Result<(), AllocError>
     Ok(())
 }
 
-/// Counts for each block its states that step into the splitter, which are these.
+/// Counts for each block its states among these, which step into the splitter.
 fn count_hits(worklist: &mut Worklist, p: &Partition, sources: &[u16]) -> Result<(), AllocError>
     ensures pending { OnOk result (vec_len worklist.new.pending ≡ vec_len worklist.old.pending) }
     ensures bounds { worklist.new.bounds ≡ worklist.old.bounds }
@@ -98,7 +98,7 @@ fn count_hits(worklist: &mut Worklist, p: &Partition, sources: &[u16]) -> Result
     Ok(())
 }
 
-/// Takes the count of a block's hits, which begins anew.
+/// Returns the count of a block's hits, and resets it.
 fn take_hits(worklist: &mut Worklist, block: usize) -> u32
     ensures pending { vec_len worklist.new.pending ≡ vec_len worklist.old.pending }
     ensures touched { vec_len worklist.new.touched ≡ vec_len worklist.old.touched }
@@ -113,7 +113,7 @@ fn take_hits(worklist: &mut Worklist, block: usize) -> u32
     }
 }
 
-/// Notes that a block was split, between which states those of the new one stand, and that it is to be used.
+/// Notes that a block was split, with the range of the new one's states, and that the new one is to be used.
 fn add_block(
     worklist: &mut Worklist,
     from: usize,
@@ -137,7 +137,7 @@ fn add_block(
     Ok(())
 }
 
-/// Splits a block by which of its states step into the set.
+/// Splits a block by its steps into the set.
 fn split_touched(
     alloc: Global,
     m: &Complete,
@@ -177,7 +177,7 @@ fn split_touched(
     Ok(())
 }
 
-/// Splits all blocks by which of their states step into the set on a class. All that do are among `sources`.
+/// Splits all blocks by their steps into the set on a class. All states that step into it are among `sources`.
 fn split_by(
     alloc: Global,
     m: &Complete,
@@ -204,7 +204,7 @@ fn split_by(
     Ok(())
 }
 
-/// The states of a block, by the bounds of all blocks.
+/// Returns the states of a block, by the bounds of all blocks.
 fn members_by(
     alloc: Global,
     p: &Partition,
@@ -225,7 +225,7 @@ fn members_by(
     members_of(alloc, &p.block_of, block)
 }
 
-/// Splits all blocks by which of their states step into a block, on each class.
+/// Splits all blocks by their steps into a block, on each class.
 fn split_all(
     alloc: Global,
     m: &Complete,
@@ -251,7 +251,7 @@ fn split_all(
     Ok(())
 }
 
-/// Splits blocks as long as some are pending.
+/// Splits blocks while some are pending.
 pub(crate) fn refine_by_worklist(
     alloc: Global,
     m: &Complete,

@@ -1,4 +1,4 @@
-//! The items of a text by the joined table, appended to a list.
+//! Appends the items of a text to a list, by the joined table.
 
 ghost use Rattle.std.specs.Prelude.{◌≡◌, ◌<◌, ◌≤◌, ◌+◌, IfOk, IsTrue, OnOk, length};
 ghost use Rattle.lx_tables.specs.Joined.{IsJoined};
@@ -12,7 +12,7 @@ use crate::place::Place;
 use lx_tables::{Joined, Tables};
 use std::alloc::AllocError;
 
-/// How far runs came: to a place, and before which byte the last one stopped; and whether that was for want of room alone.
+/// The end of some runs: the place, the byte before which the last run stopped, and a flag that is true if it stopped only for lack of room.
 #[derive(Clone, Copy, Debug)]
 pub(crate) struct Reached {
     pub(crate) place: Place,
@@ -21,7 +21,7 @@ pub(crate) struct Reached {
 }
 
 impl Reached {
-    // At a place, with nothing looked at behind it.
+    // Returns the end of no run at a place. Nothing was read after it.
     fn at(place: Place) -> Reached
         ensures { result.place ≡ place }
     {
@@ -33,7 +33,7 @@ impl Reached {
     }
 }
 
-// Appends the items of the matches that the joined table tells from a place on, of `most` matches at most.
+// Appends the items of the matches from a place on that the joined table determines, of at most `most` matches.
 fn append_run(
     tables: &Tables,
     joined: &Joined,
@@ -75,8 +75,8 @@ fn append_run(
     })
 }
 
-/// Appends the items of the matches from a place on, until the list has `most` items or the joined table tells no further match. The ends are
-/// found where there is room for them.
+/// Appends the items of the matches from a place on. Ends when the list has `most` items, or when the joined table determines no further match.
+/// `ends` is scratch memory for the ends of matches.
 pub(crate) fn append_runs(
     tables: &Tables,
     text: &[u8],

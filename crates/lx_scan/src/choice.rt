@@ -1,4 +1,4 @@
-//! The choice among rules: tables step byte by byte, and the last place at which a rule with a token is accepted counts.
+//! Chooses among rules. The tables step byte by byte, and the last position at which a rule with a token is accepted counts.
 
 ghost use Rattle.std.specs.Prelude.{◌≡◌, ◌<◌, length, nat_lt};
 ghost use Rattle.std.specs.Option.{option_or};
@@ -8,7 +8,7 @@ ghost use Rattle.lx_scan.specs.Answers.{choice_of, furthest, match_after, token_
 
 use lx_tables::{State, Tables};
 
-// Whether a rule that is accepted after so many bytes, one at least, has a token: the newline of a `$` alone is none.
+// Returns true if a rule that is accepted after `read` bytes, at least one, has a token. The newline of a `$` alone is none.
 #[inline(always)]
 pub(crate) fn has_token(tables: &Tables, rule: u16, read: usize) -> bool
     requires rule { rule < length tables.now.rules }
@@ -18,7 +18,7 @@ pub(crate) fn has_token(tables: &Tables, rule: u16, read: usize) -> bool
     read > 1 || !tables.cut(rule)
 }
 
-// The last rule with a token that is accepted, and after how many bytes, once a state is reached after one byte more.
+// Returns the last accepted rule with a token, and the number of bytes after which it was accepted, given one more state.
 #[inline(always)]
 fn latest(
     tables: &Tables,
@@ -36,7 +36,8 @@ fn latest(
     }
 }
 
-// The last rule with a token that is accepted in the text, and after how many bytes: one step a byte, until a step is missing.
+// Returns the last accepted rule with a token in the text, and the number of bytes after which it was accepted. Takes one step a byte, until a step
+// is missing.
 #[tactic(auto, using(crate::proofs::Stepping::scan_steps))]
 fn last_accepted(tables: &Tables, condition: u16, begin: bool, text: &[u8]) -> Option<(u16, usize)>
     requires { condition < length tables.now.machine.starts }
@@ -55,7 +56,7 @@ fn last_accepted(tables: &Tables, condition: u16, begin: bool, text: &[u8]) -> O
     last
 }
 
-// How long the token of a rule is that is accepted after so many bytes: the newline of a `$` isn't part of it.
+// Returns the length of a token whose rule is accepted after `read` bytes. The newline of a `$` isn't a part of it.
 pub(crate) fn len_of_token(tables: &Tables, rule: u16, read: usize) -> usize
     requires rule { rule < length tables.now.rules }
     requires some { 0 < read }
@@ -64,7 +65,7 @@ pub(crate) fn len_of_token(tables: &Tables, rule: u16, read: usize) -> usize
     if tables.cut(rule) { read - 1 } else { read }
 }
 
-/// The rule that is chosen for the front of a text, and the length of its token (XCU `lex`, "Rules in lex").
+/// Returns the chosen rule for the start of a text, and the length of its token (XCU `lex`, "Rules in lex").
 pub(crate) fn choose(
     tables: &Tables,
     condition: u16,

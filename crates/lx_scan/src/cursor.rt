@@ -1,4 +1,4 @@
-//! The items of a text one after the other.
+//! Reads the items of a text one after the other.
 
 ghost use Rattle.std.specs.Prelude.{◌≡◌, ◌<◌, ◌≤◌, ◌++◌, ℕ, List, [], length, IfNone, OnErr, OnOk};
 ghost use Rattle.std.specs.Option.{ForSome};
@@ -20,20 +20,20 @@ use lx_rules::rule::Step;
 use lx_tables::Tables;
 use std::alloc::AllocError;
 
-/// Between two items of a text: at a match, with so many steps of its rule's action done, and before the place behind it.
+/// A position between two items of a text. It is at a match of which some steps of the rule's action are done, and before the place after the match.
 #[derive(Clone, Copy, Debug, PartialEq, Eq)]
 pub struct Cursor {
-    // The match; before the first one it is one of no rule.
+    // The match. Before the first one, it is a match of no rule.
     pub(crate) found: Match,
-    // The line on which it begins.
+    // Line on which the match begins.
     pub(crate) line: u64,
-    // How many steps are done where it matches.
+    // Number of steps of the match that are done.
     pub(crate) done: usize,
-    // The place behind it.
+    // The place after the match.
     pub(crate) place: Place,
 }
 
-// What is done where a rule matches, or none: a byte that no rule matches is echoed.
+// Returns the steps of a match. A byte that no rule matches is echoed.
 pub(crate) fn steps_of_match(tables: &Tables, found: Match) -> &[Step]
     requires { ForSome found.rule (λ i. i < length tables.now.rules) }
     ensures { result.now ≡ steps_at tables.now (choice_in found) }
@@ -44,7 +44,7 @@ pub(crate) fn steps_of_match(tables: &Tables, found: Match) -> &[Step]
     }
 }
 
-// The item that a step gives of `len` bytes from `start`, which stands on this line.
+// Returns the item of a step for `len` bytes from `start` on this line, if the step has one.
 pub(crate) fn item_of(step: Step, line: u64, start: usize, len: usize) -> Option<Item>
     ensures { result ≡ item_of_step step line start len }
 {
@@ -61,7 +61,7 @@ pub(crate) fn item_of(step: Step, line: u64, start: usize, len: usize) -> Option
 }
 
 impl Cursor {
-    /// Before the first item of a text.
+    /// Returns the cursor before the first item of a text.
     pub fn begin() -> Cursor
         ensures items { (table : Table) (text : List ℕ) → items_left table text result ≡ items_of table text }
         ensures in_text { (table : Table) (text : List ℕ) → IsTable table → IsInText table text result }
@@ -69,7 +69,7 @@ impl Cursor {
         Cursor::at(Place::begin())
     }
 
-    // Before the first item from a place on.
+    // Returns the cursor before the first item from a place on.
     fn at(place: Place) -> Cursor
         ensures items { (table : Table) (text : List ℕ) → items_left table text result ≡ items_after table text place }
         ensures in_text { (table : Table) (text : List ℕ) → IsPlace table text place → IsInText table text result }
@@ -86,7 +86,7 @@ impl Cursor {
         }
     }
 
-    /// How many bytes of the text stand before what it looks at next.
+    /// Returns the number of bytes before the next part of the text that it will read.
     pub fn offset(&self) -> usize
         ensures place { result ≡ self.now.place.offset }
         ensures within { (table : Table) (text : List ℕ) → IsInText table text self.now → result ≤ length text }
@@ -94,7 +94,7 @@ impl Cursor {
         self.place.offset
     }
 
-    // The next item at the match, if a step that is left gives one.
+    // Returns the next item of the match, if a step that is left has one.
     fn next_at_match(&mut self, tables: &Tables) -> Option<Item>
         requires { ForSome self.old.found.rule (λ i. i < length tables.now.rules) }
         ensures same { self.new ≡ record self.old { done = self.new.done } }
@@ -114,7 +114,7 @@ impl Cursor {
         None
     }
 
-    /// The next item, and None behind the last one. It takes no memory.
+    /// Returns the next item, or None after the last one. Allocates nothing.
     pub fn next_item(&mut self, tables: &Tables, text: &[u8]) -> Option<Item>
         requires { IsInText tables.now text.now self.old }
         ensures in_text { IsInText tables.now text.now self.new }
@@ -135,7 +135,7 @@ impl Cursor {
         item
     }
 
-    /// The same by what is remembered of the text, so that no part of it is gone over again and again.
+    /// Does the same as `next_item`, with a memory of the text, so that no part of the text is read again and again.
     pub fn next_item_by(
         &mut self,
         tables: &Tables,
@@ -163,8 +163,8 @@ impl Cursor {
         item
     }
 
-    // Goes on by the joined table as far as that tells the matches, and has it remembered before which byte it stopped; unless steps are left at
-    // its match, or it went that far before. So what the joined table doesn't tell is looked at once.
+    // Continues by the joined table while that determines the matches, and notes in `memory` the byte before which it stopped. Does nothing if steps
+    // of the match are left, or if it went that far before. So each match that the joined table doesn't determine is tried only once.
     fn run_on(
         &mut self,
         tables: &Tables,
@@ -190,10 +190,9 @@ impl Cursor {
         Ok(())
     }
 
-    /// Appends the next items to a list until it has `most`, or all of them where fewer are left. Most of them are found by the joined table,
-    /// without a jump for each match. It goes by what is remembered of the text, which has to be of these tables and this text, and stays so.
-    /// AllocError where memory is refused: then the cursor is where it was, the list may have some of the items, and something more may be
-    /// remembered.
+    /// Appends the next items to a list until it has `most`, or all items if fewer are left. Finds most of them by the joined table, without a jump
+    /// for each match. `memory` has to belong to these tables and this text, and still does afterwards. AllocError if an allocation fails: then the
+    /// cursor is unchanged, the list may have some of the items, and `memory` may have grown.
     pub fn next_items(
         &mut self,
         tables: &Tables,

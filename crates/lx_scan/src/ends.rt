@@ -1,4 +1,4 @@
-//! The ends of matches, found by the joined table: one look-up a byte, and no jump that depends on the text but where a run stops.
+//! Finds the ends of matches by the joined table: one look-up a byte, and no jump that depends on the text except where a run stops.
 
 ghost use Rattle.std.specs.Prelude.{if◌then◌else◌, ◌≡◌, ◌<◌, ◌≤◌, ◌+◌, ℕ, length, nat_eq, nat_le, slice_index, take};
 ghost use Rattle.lx_tables.specs.Joined.{IsJoined, transition_at};
@@ -8,7 +8,7 @@ ghost use Rattle.lx_scan.specs.Ends.{IsPlace, LeadTo, place_behind};
 use crate::place::Place;
 use lx_tables::{Joined, Tables, Transition, UNTOLD};
 
-/// The end of a match: the code of what has ended, the place behind its last byte, and the line there.
+/// The end of a match: the code of the ended match, the position after its last byte, and the line there.
 #[derive(Clone, Copy, Debug, PartialEq, Eq)]
 pub struct End {
     pub code: usize,
@@ -17,7 +17,7 @@ pub struct End {
 }
 
 impl End {
-    /// What stands where no end was found yet.
+    /// The value of an entry before an end is found.
     pub(crate) const NONE: End = End {
         code: 0,
         offset: 0,
@@ -25,7 +25,7 @@ impl End {
     };
 }
 
-/// What a run finds: how many matches end, the condition behind the last one, and before which byte it stopped.
+/// The result of a run: the number of matches that ended, the condition after the last one, and the byte before which the run stopped.
 #[derive(Clone, Copy, Debug)]
 pub(crate) struct Run {
     pub(crate) count: usize,
@@ -33,7 +33,7 @@ pub(crate) struct Run {
     pub(crate) stop: usize,
 }
 
-// The entry of a row in a column. The column is added first, since the row is known last.
+// Returns the entry of a row in a column. Adds the column first, since the row is known last.
 #[inline(always)]
 fn entry_at(entries: &[Transition], row: usize, column: u8) -> &Transition
     requires { row + column < length entries.now }
@@ -43,7 +43,7 @@ fn entry_at(entries: &[Transition], row: usize, column: u8) -> &Transition
     &entries[row]
 }
 
-// One for a newline, which has the last column alone. To ask whether it is below takes three instructions less than whether it is the same.
+// Returns 1 for a newline, which has the last column alone. A test for below takes three instructions less than a test for equality.
 #[inline(always)]
 fn newline(column: u8, last: u8) -> u64
     ensures value { result ≡ (if nat_le last column then 1 else 0) }
@@ -52,7 +52,7 @@ fn newline(column: u8, last: u8) -> u64
     if column < last { 0 } else { 1 }
 }
 
-// One for a code of what has ended.
+// Returns 1 for a code of an ended match, otherwise 0.
 #[inline(always)]
 fn ending(code: usize) -> usize
     ensures value { result ≡ (if nat_eq code 0 then 0 else 1) }
@@ -61,8 +61,8 @@ fn ending(code: usize) -> usize
     if code == 0 { 0 } else { 1 }
 }
 
-/// The ends of the matches from a place on, `most` at most, up to the first one that the joined table doesn't tell. Each byte writes one over
-/// the last, which counts only where a match has ended.
+/// Finds the ends of the matches from a place on, at most `most`, up to the first one that the joined table doesn't determine. Each byte writes an
+/// end after the last one, which counts only if a match has ended.
 #[inline(never)]
 pub(crate) fn find_ends(
     tables: &Tables,

@@ -1,4 +1,4 @@
-//! Items in one form, whatever they are, so that no jump depends on that.
+//! Items in a single form, so that no jump depends on their kind.
 
 ghost use Rattle.std.specs.Prelude.{◌≡◌};
 ghost use Rattle.lx_tables.specs.Labels.{kind_of_label};
@@ -9,7 +9,7 @@ use lx_rules::rule::Kind;
 use lx_tables::{kind_of_label, label_of};
 use std::marker::Model;
 
-/// An item in one form, whatever it is. Contracts see the item.
+/// An item in a single form, whatever its kind. Contracts see the item.
 #[derive(Drop)]
 pub struct FlatItem {
     pub(crate) line: u64,
@@ -29,7 +29,7 @@ impl Model for FlatItem {
 }
 
 impl FlatItem {
-    /// An item in this form.
+    /// Converts an item to this form.
     pub fn of(item: Item) -> FlatItem
         ensures { result ≡ item }
     {
@@ -54,7 +54,7 @@ impl FlatItem {
         }
     }
 
-    /// The item.
+    /// Returns the item.
     pub fn item(&self) -> Item
         ensures { result ≡ self.now }
     {
@@ -72,7 +72,7 @@ impl FlatItem {
         }
     }
 
-    /// The line on which it begins.
+    /// Returns the line on which it begins.
     #[inline(always)]
     pub fn line(&self) -> u64
         ensures { result ≡ line_of self.now }
@@ -80,7 +80,7 @@ impl FlatItem {
         self.line
     }
 
-    /// The place of its first byte in its text.
+    /// Returns the position of its first byte in its text.
     #[inline(always)]
     pub fn start(&self) -> usize
         ensures { result ≡ start_of self.now }
@@ -88,7 +88,7 @@ impl FlatItem {
         self.start
     }
 
-    /// How many bytes it has.
+    /// Returns its number of bytes.
     #[inline(always)]
     pub fn len(&self) -> usize
         ensures { result ≡ len_of self.now }
@@ -96,7 +96,7 @@ impl FlatItem {
         self.len
     }
 
-    /// The label of its kind, or of an echo.
+    /// Returns the label of its kind, or of an echo.
     #[inline(always)]
     pub fn label(&self) -> u64
         ensures { kind_of_label result ≡ kind_of_item self.now }

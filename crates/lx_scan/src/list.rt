@@ -1,4 +1,4 @@
-//! Lists of items that are used again.
+//! Lists of items that are reused.
 
 ghost use Rattle.std.specs.Prelude.{◌≡◌, ◌<◌, ◌≤◌, ◌+◌, ◌-◌, [], ◌∷◌, ◌++◌, ℕ, IfNone, IfOk, OnOk, if◌then◌else◌, length, nat_eq, slice_index, take};
 ghost use Rattle.lx_tables.specs.Joined.{AreLabels};
@@ -17,7 +17,7 @@ use std::marker::Model;
 /// A list of items. It keeps its memory when it is cleared.
 #[derive(Drop)]
 pub struct ItemList {
-    // Those behind the first `len` mean nothing.
+    // Items after the first `len` mean nothing.
     room: Vec<FlatItem>,
     len: usize,
 }
@@ -33,7 +33,7 @@ impl Model for ItemList {
     ghost invariant = { λ s. s.len ≤ length s.room.items };
 }
 
-// Makes room for so many items.
+// Makes room for `count` items.
 fn make_room(room: &mut Vec<FlatItem>, count: usize) -> Result<(), AllocError>
     ensures same { (n : ℕ) → n ≤ length room.old.items → take n room.new.items ≡ take n room.old.items }
     ensures more { length room.old.items ≤ length room.new.items }
@@ -53,7 +53,7 @@ fn make_room(room: &mut Vec<FlatItem>, count: usize) -> Result<(), AllocError>
     Ok(())
 }
 
-// One for the label of an item.
+// Returns 1 for the label of an item, otherwise 0.
 #[inline(always)]
 fn item_count(label: u64) -> usize
     ensures value { result ≡ (if nat_eq label 0 then 0 else 1) }
@@ -62,7 +62,7 @@ fn item_count(label: u64) -> usize
     if label == 0 { 0 } else { 1 }
 }
 
-// Items that were placed: where they end in the room, and the place and the line behind the last match.
+// The result of placing items: their end in the room, and the position and line after the last match.
 #[derive(Clone, Copy)]
 struct Placed {
     len: usize,
@@ -70,7 +70,7 @@ struct Placed {
     line: u64,
 }
 
-// Places the items of matches one behind the other. Each match writes one over the last, which counts only where the match gives one: so no jump
+// Places the items of matches one after the other. Each match writes an item after the last one, which counts only if the match has one. So no jump
 // depends on that.
 fn place_items(
     tables: &Tables,
@@ -114,7 +114,7 @@ fn place_items(
 }
 
 impl ItemList {
-    /// An empty one. It takes no memory.
+    /// Returns an empty list. Allocates nothing.
     pub fn new(alloc: Global) -> ItemList
         ensures { result ≡ [] }
     {
@@ -130,7 +130,7 @@ impl ItemList {
         self.len
     }
 
-    /// For how many items there is memory.
+    /// Returns the number of items for which there is memory.
     pub fn capacity(&self) -> usize {
         self.room.capacity()
     }
@@ -147,14 +147,14 @@ impl ItemList {
         self.len = 0;
     }
 
-    /// Makes room for so many items in all.
+    /// Makes room for `count` items in total.
     pub fn reserve(&mut self, count: usize) -> Result<(), AllocError>
         ensures { self.new ≡ self.old }
     {
         make_room(&mut self.room, count)
     }
 
-    /// Puts an item behind the others.
+    /// Appends an item.
     pub fn push(&mut self, item: Item) -> Result<(), AllocError>
         ensures { OnOk result (self.new ≡ self.old ++ item ∷ []) }
     {
@@ -164,7 +164,7 @@ impl ItemList {
         Ok(())
     }
 
-    /// Takes off the last item.
+    /// Removes the last item.
     pub fn pop(&mut self) -> Option<Item>
         ensures items { self.old ≡ self.new ++ listed result }
         ensures none { IfNone result (self.old ≡ []) }
@@ -176,7 +176,7 @@ impl ItemList {
         Some(self.room[self.len].item())
     }
 
-    /// Puts the items of matches behind the others, and gives where the last match ended, and the line there.
+    /// Appends the items of matches. Returns the position where the last match ended, and the line there.
     pub(crate) fn push_ends(
         &mut self,
         tables: &Tables,
@@ -197,7 +197,7 @@ impl ItemList {
         Ok((placed.offset, placed.line))
     }
 
-    /// Puts its items behind those of a `Vec`. Where memory is refused some of them stand there.
+    /// Appends its items to a `Vec`. If an allocation fails, some of them were appended.
     pub fn append_to(&self, items: &mut Vec<Item>) -> Result<(), AllocError>
         ensures { OnOk result (items.new.items ≡ items.old.items ++ self.now) }
     {
@@ -207,7 +207,7 @@ impl ItemList {
         Ok(())
     }
 
-    /// The items as a `Vec`.
+    /// Returns the items as a `Vec`.
     pub fn to_vec(&self) -> Result<Vec<Item>, AllocError>
         ensures { IfOk result (λ items. items.items ≡ self.now) }
     {

@@ -1,4 +1,4 @@
-//! The choice among rules by a memory of the text: a run over it stops where nothing more is accepted, as earlier runs have shown.
+//! Chooses among rules with a memory of the text: a run over the text stops where earlier runs have shown that nothing more is accepted.
 
 ghost use Rattle.std.specs.Prelude.{◌≡◌, ◌<◌, ◌≤◌, ◌-◌, IsTrue, MatchOption, drop, length};
 ghost use Rattle.std.specs.Option.{option_or};
@@ -13,11 +13,11 @@ use crate::memory::ScanMemory;
 use crate::place::Place;
 use lx_tables::{State, Tables};
 
-// A run is remembered that went on in vain for so many bytes. Shorter ones are usual, and cost little.
+// Least number of bytes of a failed lookahead that is remembered. Shorter ones are usual, and cost little.
 const LONG: usize = 64;
 
-/// What a run has found: the last rule with a token that was accepted, and after how many bytes; and the place behind which none was accepted,
-/// with the state there.
+/// The result of a run: the last accepted rule with a token, and the number of bytes after which it was accepted. Also the position after which none
+/// was accepted, with the state there.
 #[derive(Clone, Copy)]
 struct Found {
     last: Option<(u16, usize)>,
@@ -25,8 +25,8 @@ struct Found {
     state: State,
 }
 
-// Takes note of what is accepted once a state is reached before byte `at`, so many bytes behind the begin. Where nothing is, it writes nothing:
-// a value that was given back would be copied at each byte.
+// Notes the rule that is accepted in a state before byte `at`, after `read` bytes. If none is accepted, it writes nothing: a returned value would be
+// copied at each byte.
 #[inline(always)]
 fn accept_at(tables: &Tables, state: State, at: usize, read: usize, found: &mut Found)
     requires state { state.0 < state_count tables.now.machine }
@@ -43,7 +43,7 @@ fn accept_at(tables: &Tables, state: State, at: usize, read: usize, found: &mut 
     }
 }
 
-// Goes over the text from a place on, until a step is missing or nothing more is accepted; gives what it found and before which byte it stopped.
+// Reads the text from a place on, until a step is missing or nothing more is accepted. Returns the result, and the byte before which it stopped.
 #[tactic(auto, using(crate::proofs::Failing::run_steps))]
 #[inline(never)]
 fn run_from(tables: &Tables, text: &[u8], place: Place, memory: &ScanMemory) -> (Found, usize)
@@ -78,7 +78,7 @@ fn run_from(tables: &Tables, text: &[u8], place: Place, memory: &ScanMemory) -> 
     (found, at)
 }
 
-// Keeps the states of a run that went on in vain from a place to before byte `end`.
+// Keeps the states of a failed lookahead from a position to before byte `end`.
 #[cold]
 #[inline(never)]
 #[tactic(auto, using(crate::proofs::Failing::keep_steps))]
@@ -110,7 +110,7 @@ fn keep_run(
     }
 }
 
-// Has a run remembered that went on in vain for long.
+// Remembers a failed lookahead if it was long.
 #[inline(always)]
 fn remember(tables: &Tables, text: &[u8], found: Found, end: usize, memory: &mut ScanMemory)
     requires table { IsTable tables.now }
@@ -126,7 +126,7 @@ fn remember(tables: &Tables, text: &[u8], found: Found, end: usize, memory: &mut
     }
 }
 
-/// The rule that is chosen at a place of a text, and the length of its token, by what is remembered of the text.
+/// Returns the chosen rule at a place of a text, and the length of its token, with a memory of the text.
 pub(crate) fn choose_by(
     tables: &Tables,
     text: &[u8],

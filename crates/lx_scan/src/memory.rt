@@ -1,4 +1,4 @@
-//! What a scanner remembers of a text: the states in which it went on in vain (Reps 1998, "Maximal-munch tokenization in linear time").
+//! The memory of a scanner for a text: the states in which lookahead failed (Reps 1998, "Maximal-munch tokenization in linear time").
 
 ghost use Rattle.std.specs.Prelude.{◌≡◌, ℕ, ◌+◌, ◌*◌, ◌/◌, ◌%◌, ◌<◌, List, IfSome, IsTrue, drop, length, slice_index};
 ghost use Rattle.lx_tables.specs.Model.{Table};
@@ -8,16 +8,16 @@ use crate::ends::End;
 use lx_tables::State;
 use std::alloc::Global;
 
-// States are kept of each place that is a multiple of this.
+// Distance between positions for which states are kept: the multiples of this number.
 const SPACING: usize = 32;
 
-// So many are kept of a place.
+// Number of states that are kept for a position.
 const STATES: usize = 4;
 
-// Of states that find no room at their place so many are kept, of all places together.
+// Number of further states that are kept for all positions together, if their positions have no room.
 const OTHERS: usize = 65_536;
 
-// So many ends of matches are found at once.
+// Number of ends of matches that are found at once.
 const ENDS: usize = 256;
 
 /// A state from which nothing more is accepted before a byte of the text.
@@ -27,20 +27,20 @@ pub struct FailedState {
     pub state: u32,
 }
 
-/// What a scanner remembers of one text by one table, so that it doesn't go over any part of it again and again. It gives the same items
-/// without it, slower. It takes memory once a run went on in vain, 8 bytes for each 32 of the text; where memory is refused it keeps less.
+/// The memory of a scanner for one text and one table, so that it doesn't read any part of the text again and again. Without it the items are the
+/// same, only slower. It allocates after a failed lookahead: 8 bytes for each 32 of the text. If an allocation fails, it keeps less.
 #[derive(Drop)]
 pub struct ScanMemory {
-    // Of each place four numbers: one more than a state, or 0.
+    // Four numbers for each position: one more than a state, or 0.
     marks: Vec<u16>,
     others: Vec<Option<FailedState>>,
-    // Before which byte the last run over the joined table stopped.
+    // Byte before which the last run over the joined table stopped.
     pub(crate) stop: usize,
-    // Where a run finds the ends of matches. They stand here, so that the room isn't cleared for each call; what it holds between two means nothing.
+    // Scratch memory for the ends of matches. It is here so that it isn't cleared for each call. Its contents mean nothing between calls.
     pub(crate) ends: [End; 256],
 }
 
-// A number that is kept; 0 where none is.
+// Returns a kept number, or 0 if there is none.
 #[inline(always)]
 fn mark_at(marks: &[u16], slot: usize) -> u16
     ensures { result ≡ slice_index marks.now slot }
@@ -48,7 +48,7 @@ fn mark_at(marks: &[u16], slot: usize) -> u16
     if slot < marks.len() { marks[slot] } else { 0 }
 }
 
-// Whether a number is kept of a place.
+// Returns true if a number is kept for a position.
 fn is_marked(marks: &[u16], place: usize, number: u16) -> bool
     requires { place % 32 ≡ 0 }
     ensures { IsTrue result → IsMarked marks.now place number }
@@ -62,7 +62,7 @@ fn is_marked(marks: &[u16], place: usize, number: u16) -> bool
     false
 }
 
-// Where a number of a place is kept, or may be.
+// Returns the slot in which a number of a position is kept, or may be.
 fn slot_for(marks: &[u16], place: usize, number: u16) -> Option<usize>
     requires { place % 32 ≡ 0 }
     ensures { IfSome result (λ slot. (slot < length marks.now) × (slot / 4 * 32 ≡ place)) }
@@ -76,14 +76,15 @@ fn slot_for(marks: &[u16], place: usize, number: u16) -> Option<usize>
     None
 }
 
-// Which of the others a state is at a place. States of one place are far from one another, and so are not in the way of other places.
+// Returns the index of a state at a position among the further states. States of one position are far from each other, so they aren't in the way of
+// other positions.
 fn index_of(place: usize, state: State) -> usize
     ensures { result < 65536 }
 {
     (place / SPACING + state.0 as usize * 40_503) % OTHERS
 }
 
-// Whether a state is among the others.
+// Returns true if a state is among the further states.
 fn is_among(others: &[Option<FailedState>], place: usize, state: State) -> bool
     ensures { IsTrue result → IsAmong others.now place state.0 }
 {
@@ -97,7 +98,7 @@ fn is_among(others: &[Option<FailedState>], place: usize, state: State) -> bool
     }
 }
 
-// Whether a state is kept of a place before this one, or none.
+// Returns true if the kept state is for a position before this one, or if none is kept.
 fn is_before(kept: Option<FailedState>, from: usize) -> bool {
     match kept {
         Some(found) => found.place < from,
@@ -106,7 +107,7 @@ fn is_before(kept: Option<FailedState>, from: usize) -> bool {
 }
 
 impl ScanMemory {
-    /// Nothing is remembered yet. It takes no memory.
+    /// Returns an empty memory. Allocates nothing.
     pub fn new(alloc: Global) -> ScanMemory
         ensures { (table : Table) (text : List ℕ) → IsMemoryOf table text result }
     {
@@ -118,7 +119,7 @@ impl ScanMemory {
         }
     }
 
-    // Whether nothing more is accepted from a state before a byte, as far as it is remembered.
+    // Returns true if it remembers that nothing more is accepted from a state before a byte.
     #[inline(always)]
     pub(crate) fn has_failed(&self, place: usize, state: State) -> bool
         requires { state.0 < 65535 }
@@ -127,7 +128,7 @@ impl ScanMemory {
         place % SPACING == 0 && !self.marks.is_empty() && self.is_kept(place, state)
     }
 
-    // Whether a state is kept of a place.
+    // Returns true if a state is kept for a position.
     #[inline(never)]
     fn is_kept(&self, place: usize, state: State) -> bool
         requires place { place % 32 ≡ 0 }
@@ -137,7 +138,7 @@ impl ScanMemory {
         is_marked(&self.marks, place, state.0 as u16 + 1) || is_among(&self.others, place, state)
     }
 
-    // Makes room for the numbers of a text, unless memory is refused.
+    // Makes room for the numbers of a text, unless an allocation fails.
     pub(crate) fn make_room(&mut self, len: usize)
         ensures { (table : Table) (text : List ℕ) → IsMemoryOf table text self.old → IsMemoryOf table text self.new }
     {
@@ -146,7 +147,7 @@ impl ScanMemory {
         }
     }
 
-    // Makes room for the others, unless memory is refused.
+    // Makes room for the further states, unless an allocation fails.
     fn make_room_beside(&mut self)
         ensures { (table : Table) (text : List ℕ) → IsMemoryOf table text self.old → IsMemoryOf table text self.new }
     {
@@ -155,7 +156,7 @@ impl ScanMemory {
         }
     }
 
-    // Keeps a state beside the numbers of its place, where another one that is kept there is before `from`.
+    // Keeps a state among the further ones, if the one that is kept there is for a position before `from`.
     fn keep_beside(&mut self, place: usize, state: State, from: usize)
         ensures { (table : Table) (text : List ℕ) → IsMemoryOf table text self.old → IsFailed table.machine (drop place text) state.0 → IsMemoryOf table text self.new }
     {
@@ -169,8 +170,7 @@ impl ScanMemory {
         }
     }
 
-    // Keeps that nothing more is accepted from a state before a byte, if it is one of those of which that is kept. States of places before `from`
-    // may make room.
+    // Keeps that nothing more is accepted from a state before a byte, if such a position is kept. States of positions before `from` may be replaced.
     #[inline(always)]
     pub(crate) fn keep(&mut self, place: usize, state: State, from: usize)
         requires { state.0 < 65535 }

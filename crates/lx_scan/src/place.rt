@@ -1,9 +1,9 @@
-//! Where a scanner stands, and what it finds there.
+//! Places of a scanner in a text, and matches.
 
 ghost use Rattle.std.specs.Prelude.{◌≡◌};
 ghost use Rattle.lx_scan.specs.Items.{first_place};
 
-/// Where a scanner stands: before byte `offset` of the text, from 0, under a start condition, at line begin or not, and on a line, from 1.
+/// A place of a scanner: before byte `offset` of the text, from 0, under a start condition, at line begin or not, and on a line, from 1.
 #[derive(Clone, Copy, Debug, PartialEq, Eq)]
 pub struct Place {
     pub offset: usize,
@@ -13,7 +13,7 @@ pub struct Place {
 }
 
 impl Place {
-    /// Before the first byte: in the condition INITIAL, whose number is 0, at line begin, on line 1.
+    /// Returns the place before the first byte: in the condition INITIAL, whose number is 0, at line begin, on line 1.
     pub fn begin() -> Place
         ensures { result ≡ first_place }
     {
@@ -26,8 +26,8 @@ impl Place {
     }
 }
 
-/// A match: of a rule, by its number from 0, or of none, which is a byte that is echoed. `start` is the place of its first byte, and `len` how
-/// many bytes its token has.
+/// A match of a rule, by its number from 0, or of none, for a byte that is echoed. `start` is the position of its first byte, and `len` the number of
+/// bytes of its token.
 #[derive(Clone, Copy, Debug, PartialEq, Eq)]
 pub struct Match {
     pub rule: Option<u16>,

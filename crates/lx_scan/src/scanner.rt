@@ -1,4 +1,4 @@
-//! The scanner: the items of a text, match by match.
+//! The scanner: finds the items of a text, match by match.
 
 ghost use Rattle.std.specs.Prelude.{◌≡◌, ◌<◌, ◌≤◌, ◌+◌, ◌-◌, ◌^◌, ◌++◌, length, nat_eq, slice_index, take, drop, None, IfOk, OnOk, MatchOption};
 ghost use Rattle.std.specs.Option.{ForSome, option_map};
@@ -20,10 +20,10 @@ use lx_tables::Tables;
 use lx_tables::well_formed::tables_are_well_formed;
 use std::alloc::{AllocError, Global};
 
-// So many items are found at once.
+// Number of items that are found at once.
 const AT_ONCE: usize = 1024;
 
-/// The condition behind the steps of an action that is done in a condition.
+/// Returns the condition after the steps of an action that begins in a condition.
 pub fn condition_behind(steps: &[Step], condition: u16) -> u16
     ensures { result ≡ condition_after steps.now condition }
 {
@@ -36,7 +36,7 @@ pub fn condition_behind(steps: &[Step], condition: u16) -> u16
     now
 }
 
-// How many of the bytes are newlines.
+// Counts the newlines among the bytes.
 fn newlines_in(bytes: &[u8]) -> u64
     ensures count { result ≡ newlines bytes.now }
     ensures few { result ≤ length bytes.now }
@@ -50,7 +50,7 @@ fn newlines_in(bytes: &[u8]) -> u64
     count
 }
 
-// The match that a choice is at a place. Where no rule is chosen, a byte alone is echoed.
+// Returns the match of a choice at a position. If no rule is chosen, a single byte is echoed.
 fn match_of(start: usize, choice: Option<(u16, usize)>) -> Match
     ensures start { result.start ≡ start }
     ensures choice { choice_in result ≡ choice }
@@ -63,7 +63,7 @@ fn match_of(start: usize, choice: Option<(u16, usize)>) -> Match
     Match { rule, start, len }
 }
 
-// The match at a place with this rest of the text.
+// Returns the match at a place with this rest of the text.
 fn match_at(tables: &Tables, rest: &[u8], place: Place) -> Match
     requires known { place.condition < length tables.now.machine.starts }
     requires more { 0 < length rest.now }
@@ -74,7 +74,7 @@ fn match_at(tables: &Tables, rest: &[u8], place: Place) -> Match
     match_of(place.offset, choice)
 }
 
-// The match at a place of a text, by what is remembered of it.
+// Returns the match at a place of a text, with a memory of the text.
 fn match_by(tables: &Tables, text: &[u8], place: Place, memory: &mut ScanMemory) -> Match
     requires known { place.condition < length tables.now.machine.starts }
     requires more { place.offset < length text.now }
@@ -87,7 +87,7 @@ fn match_by(tables: &Tables, text: &[u8], place: Place, memory: &mut ScanMemory)
     match_of(place.offset, choice)
 }
 
-// The place behind a match, at line begin exactly where its last byte is a newline.
+// Returns the place after a match. It is at line begin exactly if the match's last byte is a newline.
 fn place_behind(tables: &Tables, rest: &[u8], place: Place, found: Match) -> Place
     requires some { 0 < found.len }
     requires within { found.len ≤ length rest.now }
@@ -108,9 +108,9 @@ fn place_behind(tables: &Tables, rest: &[u8], place: Place, found: Match) -> Pla
     }
 }
 
-/// The match at a place and the place behind it; None only at the end of the text. It takes no memory. The place has to be in the text, its
-/// condition one of the tables, and its line at least 1 and at most one more than its offset; the next place is such a place again. Nothing is
-/// kept from call to call: where matches are looked for far ahead in vain, each does it anew.
+/// Returns the match at a place and the place after it, or None only at the end of the text. Allocates nothing. The place has to be in the text, with
+/// a condition of the tables. Its line is at least 1, and at most one more than its offset. The next place is such a place too. Keeps nothing between
+/// calls: a call repeats a failed lookahead of an earlier one.
 pub fn next_match(tables: &Tables, text: &[u8], place: Place) -> Option<(Match, Place)>
     requires within { place.offset ≤ length text.now }
     requires known { place.condition < length tables.now.machine.starts }
@@ -127,7 +127,7 @@ pub fn next_match(tables: &Tables, text: &[u8], place: Place) -> Option<(Match, 
     Some((found, next))
 }
 
-/// The same by what is remembered of the text, which grows where a run went on in vain for long.
+/// Does the same as `next_match`, with a memory of the text, which grows after a long failed lookahead.
 pub(crate) fn next_match_by(
     tables: &Tables,
     text: &[u8],
@@ -150,11 +150,11 @@ pub(crate) fn next_match_by(
     Some((found, next))
 }
 
-/// The items of a text by the tables (XCU `lex`, "Rules in lex" and "Actions in lex"). AllocError where memory is refused.
+/// Returns the items of a text by the tables (XCU `lex`, "Rules in lex" and "Actions in lex"). AllocError if an allocation fails.
 pub fn scan(alloc: Global, tables: &Tables, text: &[u8]) -> Result<Vec<Item>, AllocError>
     ensures { IfOk result (λ items. items.items ≡ items_of tables.now text.now) }
 {
-    // a law: that there is a condition
+    // a law: there is a condition
     tables_are_well_formed(tables);
     let mut cursor = Cursor::begin();
     let mut memory = ScanMemory::new(alloc);

@@ -1,6 +1,6 @@
-//! What a line of ranges has of each byte.
+//! Values of bytes in a line of ranges.
 
-/// The value of each byte: its class, or where a state steps on it.
+/// The value of each byte: its class, or the target of a state's step on it.
 #[derive(Clone, Copy)]
 pub(crate) enum ByteValues {
     Classes,

@@ -1,4 +1,4 @@
-//! What tables have of a specification: its kinds, and of its rules the line ends and the steps.
+//! Copies the kinds of a specification, and the line ends and steps of its rules, for tables.
 
 ghost use Rattle.std.specs.Prelude.{◌≡◌, IfOk, map};
 ghost use Rattle.lx_rules.specs.views.Specs.{spec_view};
@@ -10,7 +10,7 @@ use crate::TableRule;
 use lx_rules::spec::Spec;
 use std::alloc::{AllocError, Global};
 
-/// The names of the kinds.
+/// Copies the names of the kinds.
 pub(crate) fn kinds_of(alloc: Global, spec: &Spec) -> Result<Vec<Vec<u8>>, AllocError>
     ensures { IfOk result (λ kinds. names_view kinds.items ≡ (spec_view spec.now).kinds) }
 {
@@ -21,7 +21,7 @@ pub(crate) fn kinds_of(alloc: Global, spec: &Spec) -> Result<Vec<Vec<u8>>, Alloc
     Ok(kinds)
 }
 
-/// The line ends and the steps of the rules.
+/// Copies the line ends and the steps of the rules.
 pub(crate) fn rules_of(alloc: Global, spec: &Spec) -> Result<Vec<TableRule>, AllocError>
     ensures { IfOk result (λ rules. rules_view rules.items ≡ map table_rule (spec_view spec.now).rules) }
 {

@@ -1,8 +1,8 @@
-//! The texts of some tables.
+//! Texts of some tables.
 
 ghost use Rattle.lx_tables.specs.Examples.{HaveTheirTexts};
 
-/// A law: four tables have these texts of versions 1 and 2.
+/// States a law: four tables have these texts of versions 1 and 2.
 pub fn examples_have_their_texts()
     ensures { HaveTheirTexts }
 {}

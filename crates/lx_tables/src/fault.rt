@@ -1,4 +1,4 @@
-//! Why tables aren't read.
+//! Faults of reading tables.
 
 ghost use Rattle.std.specs.Prelude.{◌≡◌};
 ghost use Rattle.lx_tables.specs.declared.fault.TableFault.TheVariants.{Memory};
@@ -6,13 +6,13 @@ ghost use Rattle.lx_tables.specs.declared.fault.TableFault.TheVariants.{Memory};
 use std::alloc::{AllocError, AllocFailed};
 use thiserror::Error;
 
-/// Why tables aren't read.
+/// Reason why tables aren't read.
 #[derive(Debug, Clone, Copy, PartialEq, Eq, Error)]
 pub enum TableFault {
-    /// The text is no table's, of either version.
+    /// The text isn't that of tables, in either version.
     #[error("B01")]
     NoTables,
-    /// Memory was refused.
+    /// An allocation failed.
     #[error("B90")]
     Memory,
 }

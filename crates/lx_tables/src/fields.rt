@@ -1,4 +1,4 @@
-//! The fields of a table's text, read leniently: each function answers for every text, with a value and what stands behind it.
+//! Reads the fields of a table text leniently: each function returns a value for every text, with the rest of the text.
 
 ghost use Rattle.std.specs.Prelude.{◌≡◌, ◌<◌, ◌≤◌, ◌==◌, drop, slice_index};
 ghost use Rattle.lx_automaton.specs.EncodedOptions.{decoded_option};
@@ -9,7 +9,7 @@ use crate::limits::{MAX_RULES, MAX_START_CONDITIONS, MAX_STATES};
 use crate::version::Version;
 use lx_rules::rule::{Kind, Step};
 
-/// The number at the front of a text. It grows no more from 429,496,729 on, so that it fits.
+/// Reads the number at the start of a text. The number stops growing at 429,496,729, so that it fits.
 pub(crate) fn number(text: &[u8]) -> (u32, &[u8])
     ensures value { (result.0, result.1.now) ≡ read_digits 0 text.now }
     ensures small { result.0 < 4294967290 }
@@ -25,14 +25,14 @@ pub(crate) fn number(text: &[u8]) -> (u32, &[u8])
     (n, rest)
 }
 
-/// What stands behind so many bytes.
+/// Returns the text after `count` bytes.
 pub(crate) fn behind(text: &[u8], count: usize) -> &[u8]
     ensures { result.now ≡ drop count text.now }
 {
     &text[count.min(text.len())..]
 }
 
-/// The number behind a word of so many bytes, or the most that it may be.
+/// Reads the number after a word of `word` bytes. Returns at most `most`.
 pub(crate) fn count(text: &[u8], word: usize, most: u32) -> (u32, &[u8])
     ensures value { (result.0, result.1.now) ≡ read_count most word text.now }
     ensures few { result.0 ≤ most }
@@ -41,7 +41,7 @@ pub(crate) fn count(text: &[u8], word: usize, most: u32) -> (u32, &[u8])
     (n.min(most), behind(rest, 1))
 }
 
-/// A number as an encoded option: one more where it is one of so many, else 0.
+/// Encodes a number as an option: one more than it if it is below the limit, otherwise 0.
 fn encoded_option_below(limit: u32, n: u32) -> u16
     requires { limit < 65536 }
     ensures { decoded_option result ≡ below limit n }
@@ -49,7 +49,7 @@ fn encoded_option_below(limit: u32, n: u32) -> u16
     if n < limit { n as u16 + 1 } else { 0 }
 }
 
-/// The number, but at least `low` and at most `high`.
+/// Returns the number, limited to the range from `low` to `high`.
 pub(crate) fn clamped(low: u32, high: u32, n: u32) -> u32
     requires { low ≤ high }
     ensures value { result ≡ within low high n }
@@ -59,7 +59,7 @@ pub(crate) fn clamped(low: u32, high: u32, n: u32) -> u32
     n.min(high).max(low)
 }
 
-/// The two states of a start.
+/// Reads the two states of a start.
 pub(crate) fn start(text: &[u8]) -> ((u32, u32), &[u8])
     ensures { (result.0, result.1.now) ≡ read_start text.now }
 {
@@ -68,7 +68,7 @@ pub(crate) fn start(text: &[u8]) -> ((u32, u32), &[u8])
     ((elsewhere, at_begin), behind(rest, 1))
 }
 
-/// The bytes up to the line's end.
+/// Reads the bytes up to the line's end.
 pub(crate) fn line(text: &[u8]) -> (&[u8], &[u8])
     ensures { (result.0.now, result.1.now) ≡ read_line text.now }
 {
@@ -79,21 +79,21 @@ pub(crate) fn line(text: &[u8]) -> (&[u8], &[u8])
     (&text[..end], behind(&text[end..], 1))
 }
 
-/// The name of a kind.
+/// Reads the name of a kind.
 pub(crate) fn kind(text: &[u8]) -> (&[u8], &[u8])
     ensures { (result.0.now, result.1.now) ≡ read_kind text.now }
 {
     line(behind(text, 5))
 }
 
-/// The byte at a place; 0 behind the text.
+/// Returns the byte at a position, or 0 after the end.
 pub fn byte_at(text: &[u8], place: usize) -> u8
     ensures { result ≡ slice_index text.now place }
 {
     if place < text.len() { text[place] } else { 0 }
 }
 
-/// The step of a letter with a number.
+/// Returns the step of a letter with a number.
 fn numbered_step(letter: u8, n: u32) -> Step
     ensures { result ≡ step_of letter n }
 {
@@ -105,7 +105,7 @@ fn numbered_step(letter: u8, n: u32) -> Step
     }
 }
 
-/// A step behind its space.
+/// Reads a step after its space.
 pub(crate) fn step(text: &[u8]) -> (Step, &[u8])
     ensures { (result.0, result.1.now) ≡ read_step text.now }
 {
@@ -119,7 +119,7 @@ pub(crate) fn step(text: &[u8]) -> (Step, &[u8])
     (numbered_step(*letter, n), more)
 }
 
-/// The rule that a state accepts, as an encoded option.
+/// Reads the rule that a state accepts, as an encoded option.
 pub(crate) fn accepts(text: &[u8]) -> (u16, &[u8])
     ensures { (decoded_option result.0, result.1.now) ≡ read_accepts text.now }
 {
@@ -130,7 +130,7 @@ pub(crate) fn accepts(text: &[u8]) -> (u16, &[u8])
     (encoded_option_below(MAX_RULES as u32, rule), rest)
 }
 
-/// A range of bytes: its first, the one behind its last, and its value.
+/// Reads a range of bytes: its first byte, the one after its last, and its value.
 fn range(text: &[u8]) -> ((u32, u32, u32), &[u8])
     ensures { (result.0, result.1.now) ≡ read_range text.now }
 {
@@ -140,7 +140,7 @@ fn range(text: &[u8]) -> ((u32, u32, u32), &[u8])
     ((low, high + 1, value), rest)
 }
 
-/// An entry: its class, the next one, and its target.
+/// Reads an entry: its class, the next class, and its target.
 fn entry(text: &[u8]) -> ((u32, u32, u32), &[u8])
     ensures { (result.0, result.1.now) ≡ read_entry text.now }
 {
@@ -149,7 +149,7 @@ fn entry(text: &[u8]) -> ((u32, u32, u32), &[u8])
     ((class, class + 1, target), rest)
 }
 
-/// The next places with one value: the first, the one behind the last, and the value.
+/// Reads the next entries with the same value: the first, the one after the last, and the value.
 pub(crate) fn run(text: &[u8], version: Version) -> ((u32, u32, u32), &[u8])
     ensures { (result.0, result.1.now) ≡ read_run version text.now }
 {
@@ -159,7 +159,7 @@ pub(crate) fn run(text: &[u8], version: Version) -> ((u32, u32, u32), &[u8])
     }
 }
 
-/// A run's value as an encoded option, which is 0 where that is no number of a state.
+/// Encodes a run's value as an option, which is 0 if the value isn't the number of a state.
 pub(crate) fn encoded_value(value: u32) -> u16
     ensures { decoded_option result ≡ below max_states value }
 {

@@ -14,7 +14,7 @@ use lx_automaton::State;
 use lx_rules::rule::Step;
 use std::alloc::{AllocError, Global};
 
-// So many entries take 4 MB.
+// Greatest number of entries. They take 4 MB.
 const MAX_ENTRIES: usize = 524_288;
 
 fn bit(newline: bool) -> usize
@@ -32,14 +32,14 @@ fn encoded(state: Option<u32>) -> usize
     }
 }
 
-// What has ended in a state of the joined table that has no step further, and the condition behind it.
+// The match that has ended in a state of the joined table without a further step, and the condition after it.
 #[derive(Clone, Copy)]
 struct Ending {
     code: u32,
     condition: u16,
 }
 
-// The condition behind an action.
+// Returns the condition after an action.
 fn condition_behind_steps(steps: &[Step], condition: u16) -> u16
     ensures { result ≡ condition_behind steps.now condition }
 {
@@ -52,7 +52,7 @@ fn condition_behind_steps(steps: &[Step], condition: u16) -> u16
     now
 }
 
-// How many items an action gives.
+// Returns the number of items of an action.
 fn item_count(steps: &[Step]) -> usize
     ensures count { result ≡ item_count steps.now }
     ensures few { result ≤ length steps.now }
@@ -67,7 +67,7 @@ fn item_count(steps: &[Step]) -> usize
     count
 }
 
-// The label of the first item that an action gives, or 0 where it gives none.
+// Returns the label of the first item of an action, or 0 if it has none.
 fn label_given(steps: &[Step]) -> u64
     ensures { step_of_label result ≡ giving steps.now }
 {
@@ -81,7 +81,7 @@ fn label_given(steps: &[Step]) -> u64
     0
 }
 
-// The code of a rule that has ended.
+// Returns the code of a rule that has ended.
 fn code_of_rule(tables: &Tables, rule: u16) -> u32
     requires table { IsTable tables.now }
     requires rule { rule < length tables.now.rules }
@@ -119,7 +119,7 @@ fn ending_in(tables: &Tables, q: JoinedState) -> Ending
     }
 }
 
-// Where a state steps on a class.
+// Returns the target of a state on a class.
 fn target(tables: &Tables, state: Option<u32>, class: u8) -> Option<u32>
     requires state { ForSome state (λ s. s < state_count tables.now.machine) }
     requires class { class < tables.now.machine.width }
@@ -131,7 +131,7 @@ fn target(tables: &Tables, state: Option<u32>, class: u8) -> Option<u32>
     }
 }
 
-// The state with a number.
+// Returns the state with a number.
 fn state_at(tables: &Tables, number: usize) -> JoinedState
     requires table { IsTable tables.now }
     requires number { number < joined_states tables.now }
@@ -152,7 +152,7 @@ fn state_at(tables: &Tables, number: usize) -> JoinedState
     }
 }
 
-// The state behind a byte of a class, which is a newline or not, and what has ended before it.
+// Returns the state after a byte of a class, which is a newline or not, and the code of the match that ended before it.
 fn step(
     tables: &Tables,
     q: JoinedState,
@@ -182,7 +182,7 @@ fn step(
     )
 }
 
-// The entry of a state in a column.
+// Returns the entry of a state in a column.
 fn entry(tables: &Tables, q: JoinedState, ending: Ending, column: u16) -> Transition
     requires table { IsTable tables.now }
     requires room { joined_len tables.now ≤ max_joined_entries }
@@ -222,7 +222,7 @@ fn add_row(tables: &Tables, number: usize, entries: &mut Vec<Transition>) -> Res
     Ok(())
 }
 
-// The entries of all states.
+// Makes the entries of all states.
 fn entries_of(alloc: Global, tables: &Tables, states: usize) -> Result<Vec<Transition>, AllocError>
     requires table { IsTable tables.now }
     requires room { joined_len tables.now ≤ max_joined_entries }
@@ -236,7 +236,7 @@ fn entries_of(alloc: Global, tables: &Tables, states: usize) -> Result<Vec<Trans
     Ok(entries)
 }
 
-// The column of each byte.
+// Makes the column of each byte.
 fn columns_of(alloc: Global, tables: &Tables) -> Result<Vec<u8>, AllocError>
     requires { tables.now.machine.width < 256 }
     ensures bytes { IfOk result (λ columns. length columns.items ≡ 256) }
@@ -254,7 +254,7 @@ fn columns_of(alloc: Global, tables: &Tables) -> Result<Vec<u8>, AllocError>
     Ok(columns)
 }
 
-// Of each code the label of what is given.
+// Makes the label of each code.
 fn labels_of(alloc: Global, tables: &Tables) -> Result<Vec<u64>, AllocError>
     ensures { IfOk result (λ labels. AreLabels tables.now labels.items) }
 {
@@ -267,7 +267,7 @@ fn labels_of(alloc: Global, tables: &Tables) -> Result<Vec<u64>, AllocError>
     Ok(labels)
 }
 
-// The joined table, unless it is too large.
+// Makes the joined table, unless it is too large.
 fn joined_of(alloc: Global, tables: &Tables) -> Result<Option<Joined>, AllocError>
     ensures { IfOk result (λ joined. ForSome joined (λ j. IsJoined tables.now j.columns.items j.entries.items j.labels.items)) }
 {
@@ -287,8 +287,7 @@ fn joined_of(alloc: Global, tables: &Tables) -> Result<Option<Joined>, AllocErro
 }
 
 impl Tables {
-    /// The state of the joined table behind the first byte of a match: under a condition, at line begin or not, by a byte of this class, which is
-    /// a newline or not.
+    /// Returns the state of the joined table after the first byte of a match. The byte has this class, and is a newline or not.
     pub fn begun(
         &self,
         condition: u16,
@@ -309,7 +308,7 @@ impl Tables {
         }
     }
 
-    /// Where the row of a state of the joined table begins.
+    /// Returns the start of a joined state's row.
     pub fn row(&self, q: JoinedState) -> usize
         requires { IsJoinedState self.now q }
         ensures row { result ≡ joined_number self.now q * joined_width self.now }
@@ -320,7 +319,7 @@ impl Tables {
         number * (usize::from(self.classes()) + 1)
     }
 
-    /// The condition of the state whose row begins there.
+    /// Returns the condition of the state whose row begins at this entry.
     pub fn condition_of_row(&self, row: usize) -> u16
         requires { row < joined_len self.now }
         ensures { (q : JoinedState) → IsJoinedState self.now q → row ≡ joined_number self.now q * joined_width self.now → result ≡ q.condition }
@@ -329,7 +328,7 @@ impl Tables {
         (number / (self.states() as usize + 1) / 2) as u16
     }
 
-    /// The same tables with their joined table, unless it is too large. AllocError where memory is refused.
+    /// Adds the joined table to these tables, unless it is too large. AllocError if an allocation fails.
     pub(crate) fn with_joined(self, alloc: Global) -> Result<Tables, AllocError>
         ensures { IfOk result (λ tables. tables ≡ self) }
     {

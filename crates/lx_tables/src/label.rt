@@ -1,14 +1,14 @@
-//! What an item is, as a number, so that a scanner gives items without a jump for what they are.
+//! Labels: items as numbers, so that a scanner emits items without a jump on their kind.
 
 ghost use Rattle.std.specs.Prelude.{◌≡◌, ◌<◌, Some};
 ghost use Rattle.lx_tables.specs.Labels.{kind_of_label, step_of_kind, step_of_label};
 
 use lx_rules::rule::Kind;
 
-/// The label of an echo. Those of tokens are above it, and 0 stands for no item.
+/// Label of an echo. Labels of tokens are greater, and 0 means no item.
 pub const ECHO_LABEL: u64 = 1;
 
-/// The label of a token of a kind, or of an echo, which has none.
+/// Returns the label of a token of a kind, or of an echo, which has none.
 pub fn label_of(kind: Option<Kind>) -> u64
     ensures kind { kind_of_label result ≡ kind }
     ensures step { step_of_label result ≡ Some (step_of_kind kind) }
@@ -21,7 +21,7 @@ pub fn label_of(kind: Option<Kind>) -> u64
     }
 }
 
-/// The kind of the token with a label; an echo has none.
+/// Returns the kind of the token with a label. An echo has none.
 pub fn kind_of_label(label: u64) -> Option<Kind>
     ensures { result ≡ kind_of_label label }
 {

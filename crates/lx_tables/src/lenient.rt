@@ -1,4 +1,4 @@
-//! A table's text, read leniently: each function answers for every text, with the lists that it has if it is one.
+//! Reads a table text leniently: each function returns lists for every text. If the text is that of tables, they are its lists.
 
 ghost use Rattle.std.specs.Prelude.{◌≡◌, ◌++◌, ◌≤◌, ◌/◌, IfOk, OnOk, length, map, min, replicate};
 ghost use Rattle.lx_rules.specs.views.Rules.{names_view};
@@ -19,7 +19,7 @@ use lx_rules::rule::Step;
 use lx_rules::steps::Steps;
 use std::alloc::{AllocError, Global};
 
-/// A count of conditions and their starts.
+/// Reads a count of conditions and their starts.
 fn starts(alloc: Global, text: &[u8]) -> Result<(Vec<(u32, u32)>, &[u8]), AllocError>
     ensures { IfOk result (λ r. (r.0.items, r.1.now) ≡ read_list max_start_conditions 11 read_start text.now) }
 {
@@ -34,7 +34,7 @@ fn starts(alloc: Global, text: &[u8]) -> Result<(Vec<(u32, u32)>, &[u8]), AllocE
     Ok((starts, rest))
 }
 
-/// A count of kinds and their names.
+/// Reads a count of kinds and their names.
 fn kinds(alloc: Global, text: &[u8]) -> Result<(Vec<Vec<u8>>, &[u8]), AllocError>
     ensures { IfOk result (λ r. (names_view r.0.items, r.1.now) ≡ read_list max_kinds 6 read_kind text.now) }
 {
@@ -49,7 +49,7 @@ fn kinds(alloc: Global, text: &[u8]) -> Result<(Vec<Vec<u8>>, &[u8]), AllocError
     Ok((kinds, rest))
 }
 
-/// Steps up to the line's end, so many at most.
+/// Reads steps up to the line's end, at most `most`.
 fn steps(alloc: Global, text: &[u8], most: usize) -> Result<(Vec<Step>, &[u8]), AllocError>
     ensures { IfOk result (λ r. (r.0.items, r.1.now) ≡ read_steps most text.now) }
 {
@@ -65,7 +65,7 @@ fn steps(alloc: Global, text: &[u8], most: usize) -> Result<(Vec<Step>, &[u8]), 
     Ok((steps, behind(rest, 1)))
 }
 
-/// The line of a rule.
+/// Reads the line of a rule.
 fn rule(alloc: Global, text: &[u8]) -> Result<(TableRule, &[u8]), AllocError>
     ensures { IfOk result (λ r. (rule_view r.0, r.1.now) ≡ read_rule text.now) }
 {
@@ -75,7 +75,7 @@ fn rule(alloc: Global, text: &[u8]) -> Result<(TableRule, &[u8]), AllocError>
     Ok((TableRule { line_end, steps }, rest))
 }
 
-/// A count of rules and their lines.
+/// Reads a count of rules and their lines.
 fn rules(alloc: Global, text: &[u8]) -> Result<(Vec<TableRule>, &[u8]), AllocError>
     ensures { IfOk result (λ r. (rules_view r.0.items, r.1.now) ≡ read_list max_rules 6 read_rule text.now) }
 {
@@ -90,7 +90,7 @@ fn rules(alloc: Global, text: &[u8]) -> Result<(Vec<TableRule>, &[u8]), AllocErr
     Ok((rules, rest))
 }
 
-/// Conditions, kinds and rules.
+/// Reads conditions, kinds and rules.
 fn front(alloc: Global, text: &[u8]) -> Result<(RawFront, &[u8]), AllocError>
     ensures { IfOk result (λ r. (front_view r.0, r.1.now) ≡ read_front text.now) }
 {
@@ -107,7 +107,7 @@ fn front(alloc: Global, text: &[u8]) -> Result<(RawFront, &[u8]), AllocError>
     ))
 }
 
-/// Adds an encoded option so many times.
+/// Adds an encoded option `times` times.
 fn push_many(
     encoded_options: &mut Vec<u16>,
     times: u32,
@@ -121,7 +121,7 @@ fn push_many(
     Ok(())
 }
 
-/// Adds the encoded options of so many places, and gives what stands behind them.
+/// Adds the encoded options of a row of this width. Returns the rest of the text.
 fn row<'a>(
     text: &'a [u8],
     version: Version,
@@ -147,7 +147,7 @@ fn row<'a>(
     Ok(rest)
 }
 
-/// Adds the rule that a state accepts, and its row, and gives what stands behind its line.
+/// Adds the rule that a state accepts, and its row. Returns the text after its line.
 fn state<'a>(
     text: &'a [u8],
     version: Version,
@@ -163,7 +163,7 @@ fn state<'a>(
     Ok(behind(rest, 1))
 }
 
-/// A count of states and their lines: the encoded options of the rules that they accept, and their rows.
+/// Reads a count of states and their lines. Returns the encoded options of the rules that they accept, and their rows.
 fn states(
     alloc: Global,
     text: &[u8],
@@ -182,7 +182,7 @@ fn states(
     Ok((accepted, targets))
 }
 
-/// The class of an encoded option that was read.
+/// Returns the class of an encoded option.
 fn class_of_encoded_option(encoded_option: u16) -> u8
     ensures { result ≡ class_of (decoded_option encoded_option) }
 {
@@ -193,7 +193,7 @@ fn class_of_encoded_option(encoded_option: u16) -> u8
     }
 }
 
-/// The classes of encoded options that were read.
+/// Returns the classes of encoded options.
 fn classes_of_encoded_options(alloc: Global, encoded_options: &[u16]) -> Result<Vec<u8>, AllocError>
     ensures { IfOk result (λ classes. classes.items ≡ map class_of (map decoded_option encoded_options.now)) }
 {
@@ -204,7 +204,7 @@ fn classes_of_encoded_options(alloc: Global, encoded_options: &[u16]) -> Result<
     Ok(classes)
 }
 
-/// The class of each byte.
+/// Reads the class of each byte.
 fn classes(alloc: Global, text: &[u8]) -> Result<(Vec<u8>, &[u8]), AllocError>
     ensures { IfOk result (λ r. (r.0.items, r.1.now) ≡ read_classes text.now) }
 {
@@ -213,7 +213,7 @@ fn classes(alloc: Global, text: &[u8]) -> Result<(Vec<u8>, &[u8]), AllocError>
     Ok((classes_of_encoded_options(alloc, &encoded_options)?, rest))
 }
 
-/// The bytes, each as a class of its own.
+/// Returns the bytes, each as its own class.
 fn bytes_as_classes(alloc: Global) -> Result<Vec<u8>, AllocError>
     ensures { IfOk result (λ classes. classes.items ≡ all_bytes) }
 {
@@ -224,7 +224,7 @@ fn bytes_as_classes(alloc: Global) -> Result<Vec<u8>, AllocError>
     Ok(classes)
 }
 
-/// A text of version 1.
+/// Reads a text of version 1.
 fn first_version(alloc: Global, text: &[u8]) -> Result<RawTables, AllocError>
     ensures { IfOk result (λ raw. raw_view raw ≡ read_1 text.now) }
 {
@@ -242,7 +242,7 @@ fn first_version(alloc: Global, text: &[u8]) -> Result<RawTables, AllocError>
     })
 }
 
-/// A text of version 2.
+/// Reads a text of version 2.
 fn second_version(alloc: Global, text: &[u8]) -> Result<RawTables, AllocError>
     ensures { IfOk result (λ raw. raw_view raw ≡ read_2 text.now) }
 {
@@ -261,7 +261,7 @@ fn second_version(alloc: Global, text: &[u8]) -> Result<RawTables, AllocError>
     })
 }
 
-/// The lists of a text, whatever it is: those of a table where the text is that of one, and of version 1 those of the table by bytes.
+/// Reads the lists of any text. If the text is that of tables, they are its lists, and for version 1 those of the tables by bytes.
 pub fn read_leniently(alloc: Global, text: &[u8]) -> Result<RawTables, AllocError>
     ensures { IfOk result (λ raw. raw_view raw ≡ read_text text.now) }
 {

@@ -1,4 +1,4 @@
-//! Tests of lists that were read: whether they can be those of tables.
+//! Tests of lists that were read: they can be those of tables.
 
 ghost use Rattle.std.specs.Prelude.{◌≡◌, ◌≤◌, ◌↔◌, nat_lt, nat_le, IsTrue, IfOk, length};
 ghost use Rattle.std.specs.List.{list_all};
@@ -19,19 +19,20 @@ use lx_rules::rule::{Kind, Step};
 use std::alloc::{AllocError, Global};
 use std::collections::BTreeMap;
 
-/// The most start conditions of tables.
+/// Greatest number of start conditions of tables.
 pub(crate) const MAX_START_CONDITIONS: usize = 64;
 
-/// The most kinds that have names.
+/// Greatest number of kinds with names.
 pub(crate) const MAX_KINDS: usize = 4_096;
 
-/// The most rules.
+/// Greatest number of rules.
 pub(crate) const MAX_RULES: usize = 4_096;
 
-/// The most states.
+/// Greatest number of states.
 pub(crate) const MAX_STATES: usize = 16_512;
 
-// Whether the lists are as long as they are to be. What is read leniently is, but for the conditions; to test it is cheaper than to prove that.
+// Returns true if the lists have the right lengths. Lists that were read leniently have them, except for the conditions. The test is cheaper than a
+// proof.
 fn have_lengths(raw: &RawTables) -> bool
     ensures { result ≡ limits.have_lengths raw.now.starts.items raw.now.classes.items raw.now.width raw.now.accepted.items raw.now.targets.items }
 {
@@ -55,7 +56,7 @@ fn are_classes(classes: &[u8], width: usize) -> bool
     classes.iter().all(|class| usize::from(*class) < width)
 }
 
-/// Whether each encoded option is 0, or one more than a number below.
+/// Returns true if each encoded option is 0, or one more than a number below `numbers`.
 fn are_encoded_options(encoded_options: &[u16], numbers: usize) -> bool
     ensures { result ≡ list_all (λ encoded_option. nat_le encoded_option numbers) encoded_options.now }
 {
@@ -123,7 +124,7 @@ fn are_identifiers(names: &[Vec<u8>]) -> bool
     names.iter().all(|name| is_identifier(name))
 }
 
-/// Whether no two names are the same, from the last one on.
+/// Returns true if no two names are the same, from the last one on.
 fn are_distinct(alloc: Global, names: &[Vec<u8>]) -> Result<bool, AllocError>
     ensures { IfOk result (λ yes. yes ≡ invariant.are_distinct (names_view names.now)) }
 {
@@ -152,7 +153,7 @@ fn are_kinds(alloc: Global, names: &[Vec<u8>]) -> Result<bool, AllocError>
     are_distinct(alloc, names)
 }
 
-/// Whether the lists are those of tables, but for the byte classes.
+/// Returns true if the lists are those of tables. Doesn't test the byte classes.
 pub fn has_limits(alloc: Global, raw: &RawTables) -> Result<bool, AllocError>
     ensures { IfOk result (λ yes. IsTrue yes ↔ HasLimits (raw_view raw.now)) }
 {

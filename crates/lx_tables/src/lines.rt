@@ -1,4 +1,4 @@
-//! The lines of a table's text.
+//! Writes the lines of a table text.
 
 ghost use Rattle.std.specs.Prelude.{◌≡◌, ◌<◌, ◌≤◌, ◌+◌, ◌++◌, ◌∷◌, ℕ, List, OnOk, OnErr, codes, drop, length};
 ghost use Rattle.std.specs.List.{flat_map};
@@ -93,7 +93,7 @@ pub(crate) fn write_rule<W: Write>(
     write_bytes(out, b"\n")
 }
 
-/// The value of a byte as an encoded option: 0 for none, or one more.
+/// Returns the value of a byte as an encoded option: 0 for none, or one more than it.
 fn encoded_value(tables: &Tables, values: ByteValues, byte: u8) -> u16
     requires { HasState tables.now.machine values }
     ensures { decoded_option result ≡ value_of tables.now.machine values byte }
@@ -133,7 +133,7 @@ fn write_range<W: Write>(
     )
 }
 
-/// Writes the ranges of the bytes by their values, each as long as it can be.
+/// Writes the longest ranges of bytes with equal values.
 fn write_ranges<W: Write>(out: &mut W, tables: &Tables, values: ByteValues) -> Result<(), io::Error>
     requires { HasState tables.now.machine values }
     ensures ok { OnOk result (Wrote (W.contents out.old) (W.contents out.new) (byte_ranges (value_of tables.now.machine values))) }
@@ -154,7 +154,7 @@ fn write_ranges<W: Write>(out: &mut W, tables: &Tables, values: ByteValues) -> R
     write_range(out, low, 255, value)
 }
 
-// Puts a mark and a number before what stands in the row from a place on. The answer is where the row begins then.
+// Places a mark and a number before the part of the row from `end` on. Returns the new start of that part.
 fn place_number(row: &mut [u8], end: usize, mark: u8, value: u16) -> usize
     requires room { length (number value) < end }
     requires within { end ≤ length row.old }
@@ -167,7 +167,7 @@ fn place_number(row: &mut [u8], end: usize, mark: u8, value: u16) -> usize
     digits - 1
 }
 
-// The same for the entry of a class.
+// Places the entry of a class before the part of the row from `end` on. Returns the new start of that part.
 fn place_entry(row: &mut [u8], end: usize, class: u16, encoded_option: u16) -> usize
     requires room { 10 ≤ end }
     requires within { end ≤ length row.old }
@@ -184,10 +184,10 @@ fn place_entry(row: &mut [u8], end: usize, class: u16, encoded_option: u16) -> u
     place_number(row, target, b' ', class)
 }
 
-/// So many bytes the classes of a state take at most: each a space, three digits, a colon and five digits.
+/// Greatest number of bytes of a state's classes: each has a space, three digits, a colon and five digits.
 pub(crate) const ROW: usize = 2_560;
 
-// Puts the classes of a state that have a step at the end of the row, the last one first. The answer is where they begin.
+// Places the classes of a state that have a step at the end of the row, the last one first. Returns their start.
 fn place_entries(row: &mut [u8], tables: &Tables, state: u32) -> usize
     requires long { length row.old ≡ 2560 }
     requires state { state < state_count tables.now.machine }
@@ -204,7 +204,7 @@ fn place_entries(row: &mut [u8], tables: &Tables, state: u32) -> usize
     begin
 }
 
-/// Writes of a state the classes that have a step, in one write.
+/// Writes the classes of a state that have a step, in one write.
 fn write_entries<W: Write>(
     out: &mut W,
     tables: &Tables,
@@ -231,7 +231,7 @@ fn write_accepts<W: Write>(out: &mut W, rule: Option<u16>) -> Result<(), io::Err
     }
 }
 
-/// Writes where a state steps.
+/// Writes the targets of a state.
 fn write_targets<W: Write>(
     out: &mut W,
     tables: &Tables,
@@ -251,7 +251,7 @@ fn write_targets<W: Write>(
     }
 }
 
-/// Writes the line of a state. What the row has doesn't matter.
+/// Writes the line of a state. The contents of `row` don't matter.
 pub(crate) fn write_state<W: Write>(
     out: &mut W,
     tables: &Tables,

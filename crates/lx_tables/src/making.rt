@@ -1,4 +1,4 @@
-//! Tables of a specification.
+//! Makes the tables of a specification.
 
 ghost use Rattle.std.specs.Prelude.{IfOk};
 ghost use Rattle.lx_rules.specs.views.Specs.{spec_view};
@@ -15,9 +15,11 @@ use lx_rules::well_formed::specs_are_well_formed;
 use std::alloc::{AllocError, Global};
 
 impl Tables {
-    /// The tables of a specification and an automaton of it, with the states in the order of `lx gen`: the starts in the order of the
-    /// conditions, for each first without line begin and then at line begin, each state when it is first met; then the targets of the
-    /// states in the order of their numbers, by rising byte; and behind them the states to which no text leads.
+    /// Makes the tables of a specification from its automaton, with the states in the order of `lx gen`.
+    ///
+    /// Each state has its place when it is first met. The starts are met first, in the order of the conditions, for each condition without and then
+    /// at line begin. Then come the targets of the states, in the order of their numbers, by ascending byte. The states to which no text leads come
+    /// last.
     pub fn of(alloc: Global, spec: &Spec, automaton: &Automaton) -> Result<Tables, AllocError>
         requires { IsAutomatonOf (spec_view spec.now) automaton.now }
         ensures tables { IfOk result (λ tables. AreTablesOf (spec_view spec.now) tables) }
@@ -29,7 +31,7 @@ impl Tables {
         tables.with_joined(alloc)
     }
 
-    /// The same without the joined table, by which texts are scanned fast: for tables that are printed.
+    /// Makes the tables without the joined table, for tables that are only printed. The joined table makes scans fast.
     pub fn unjoined_of(
         alloc: Global,
         spec: &Spec,

@@ -1,4 +1,4 @@
-//! The text of tables, printed in either version.
+//! Prints the text of tables in either version.
 
 ghost use Rattle.std.specs.Prelude.{◌≡◌, OnOk, OnErr, length};
 ghost use Rattle.std.specs.List.{flat_map, range_with_len};
@@ -45,7 +45,7 @@ fn write_rules<W: Write>(out: &mut W, tables: &Tables) -> Result<(), io::Error>
     Ok(())
 }
 
-/// Writes what both versions have: conditions, kinds and rules.
+/// Writes the part that both versions have: conditions, kinds and rules.
 fn write_front<W: Write>(out: &mut W, tables: &Tables) -> Result<(), io::Error>
     ensures ok { OnOk result (Wrote (W.contents out.old) (W.contents out.new) (front_text tables.now)) }
     ensures err { OnErr result (WrotePrefix (W.contents out.old) (W.contents out.new) (front_text tables.now)) }
@@ -86,7 +86,7 @@ fn write_states<W: Write>(out: &mut W, tables: &Tables, version: Version) -> Res
 }
 
 impl Tables {
-    /// Writes the text of version 2, without memory. Behind an error, or a write of 0 bytes, which is one, a prefix of it was written.
+    /// Writes the text of version 2. Allocates nothing. A write of 0 bytes is an error. After an error, a prefix of the text was written.
     pub fn print<W: Write>(&self, out: &mut W) -> Result<(), io::Error>
         ensures ok { OnOk result (Wrote (W.contents out.old) (W.contents out.new) (text_2 self.now)) }
         ensures err { OnErr result (WrotePrefix (W.contents out.old) (W.contents out.new) (text_2 self.now)) }
@@ -98,7 +98,7 @@ impl Tables {
         write_states(out, self, Version::Second)
     }
 
-    /// Writes the text of version 1, without memory. Behind an error, or a write of 0 bytes, which is one, a prefix of it was written.
+    /// Writes the text of version 1. Allocates nothing. A write of 0 bytes is an error. After an error, a prefix of the text was written.
     pub fn print_first<W: Write>(&self, out: &mut W) -> Result<(), io::Error>
         ensures ok { OnOk result (Wrote (W.contents out.old) (W.contents out.new) (text_1 self.now)) }
         ensures err { OnErr result (WrotePrefix (W.contents out.old) (W.contents out.new) (text_1 self.now)) }

@@ -1,4 +1,4 @@
-//! Tables, read from either version of their text.
+//! Reads tables from either version of their text.
 
 ghost use Rattle.std.specs.Prelude.{◌≡◌, ◌↔◌, IsTrue, IfOk, IfErr};
 ghost use Rattle.lx_tables.specs.Limits.{HasLimits};
@@ -13,7 +13,7 @@ use crate::{RawTables, byte_at, has_limits, read_leniently};
 use lx_automaton::Automaton;
 use std::alloc::{AllocError, Global};
 
-/// Tables of lists that were tested, over byte classes.
+/// Makes tables over byte classes from tested lists.
 fn classed(alloc: Global, raw: RawTables) -> Result<Tables, AllocError>
     requires { HasLimits (raw_view raw) }
     ensures classed { IfOk result (λ tables. IsClassed (raw_view raw) tables) }
@@ -30,7 +30,7 @@ fn classed(alloc: Global, raw: RawTables) -> Result<Tables, AllocError>
     Ok(Tables::of_parts(automaton, raw.kinds, raw.rules))
 }
 
-/// The text of version 1, where so many bytes are expected.
+/// Prints the text of version 1. `expected` is its expected length.
 fn first_text(alloc: Global, tables: &Tables, expected: usize) -> Result<Vec<u8>, AllocError>
     ensures { IfOk result (λ printed. printed.items ≡ text_1 tables.now) }
 {
@@ -41,7 +41,7 @@ fn first_text(alloc: Global, tables: &Tables, expected: usize) -> Result<Vec<u8>
     }
 }
 
-/// The text of version 2, where so many bytes are expected.
+/// Prints the text of version 2. `expected` is its expected length.
 fn second_text(alloc: Global, tables: &Tables, expected: usize) -> Result<Vec<u8>, AllocError>
     ensures { IfOk result (λ printed. printed.items ≡ text_2 tables.now) }
 {
@@ -52,7 +52,7 @@ fn second_text(alloc: Global, tables: &Tables, expected: usize) -> Result<Vec<u8
     }
 }
 
-/// Whether the text is that of the tables, in the version that it says.
+/// Returns true if the text is that of the tables, in its own version.
 fn is_text_of(alloc: Global, tables: &Tables, text: &[u8]) -> Result<bool, AllocError>
     ensures { IfOk result (λ same. IsTrue same ↔ (text.now ≡ own_text text.now tables.now)) }
 {
@@ -63,8 +63,8 @@ fn is_text_of(alloc: Global, tables: &Tables, text: &[u8]) -> Result<bool, Alloc
 }
 
 impl Tables {
-    /// The tables whose text this is, of either version. It fails with [`TableFault::NoTables`], B01, only where it is no table's text: where a
-    /// number has a leading zero, say, or a byte stands behind the end; and with [`TableFault::Memory`], B90, where memory is refused.
+    /// Reads tables from a text of either version. Err: [`TableFault::NoTables`], B01, only if the text isn't that of tables, for example because a
+    /// number has a leading zero or a byte follows the end. [`TableFault::Memory`], B90, if an allocation failed.
     pub fn read(alloc: Global, text: &[u8]) -> Result<Tables, TableFault>
         ensures tables { IfOk result (λ tables. IsTextOf tables text.now) }
         ensures table { IfOk result (λ tables. IsTable tables) }

@@ -1,8 +1,8 @@
-//! What tables keep of a rule.
+//! Rules of tables.
 
 use lx_rules::steps::Steps;
 
-/// A rule: whether it ends with `$`, and the steps of its action.
+/// A rule: the steps of its action, and a flag that is true if it ends with `$`.
 #[derive(Drop)]
 pub struct TableRule {
     pub line_end: bool,

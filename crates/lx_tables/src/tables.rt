@@ -1,4 +1,4 @@
-//! Tables of a scanner in memory: an automaton over byte classes, kinds, and what rules do.
+//! Tables of a scanner in memory: an automaton over byte classes, kinds, and the actions of rules.
 
 ghost use Rattle.std.specs.Prelude.{◌≡◌, ◌<◌, ◌≤◌, length, IfSome, option_map, slice_index};
 ghost use Rattle.std.specs.Option.{ForSome};
@@ -15,15 +15,15 @@ use lx_automaton::{Automaton, State};
 use lx_rules::rule::Step;
 use std::marker::Model;
 
-/// The tables of a scanner: an automaton over byte classes, the kinds of tokens, and of each rule whether it ends with `$` and the
-/// steps of its action.
+/// The tables of a scanner: an automaton over byte classes, the kinds of tokens, and the rules. Each rule has the steps of its action, and a flag
+/// that is true if it ends with `$`.
 #[derive(Drop)]
 pub struct Tables {
     pub(crate) automaton: Automaton,
-    /// The names of the kinds.
+    /// Names of the kinds.
     pub(crate) kinds: Vec<Vec<u8>>,
     pub(crate) rules: Vec<TableRule>,
-    // What the others say once more, for speed: no contract tells whether it is there.
+    // Table that repeats the others for speed. No contract depends on its presence.
     pub(crate) joined: Option<Joined>,
 }
 
@@ -36,7 +36,7 @@ impl Model for Tables {
 }
 
 impl Tables {
-    /// The tables of these parts.
+    /// Makes tables of these parts.
     pub(crate) fn of_parts(
         automaton: Automaton,
         kinds: Vec<Vec<u8>>,
@@ -54,7 +54,7 @@ impl Tables {
         }
     }
 
-    /// How many start conditions there are: 1 to 64.
+    /// Returns the number of start conditions, 1 to 64.
     pub fn conditions(&self) -> u16
         ensures count { result ≡ length self.now.machine.starts }
         ensures table { IsTable self.now }
@@ -62,7 +62,7 @@ impl Tables {
         self.automaton.conditions()
     }
 
-    /// The state in which a condition begins, at the beginning of a line or elsewhere.
+    /// Returns the state in which a condition begins, at the start of a line or elsewhere.
     pub fn start(&self, condition: u16, at_line_begin: bool) -> State
         requires { condition < length self.now.machine.starts }
         ensures start { result.0 ≡ start_of self.now.machine condition at_line_begin }
@@ -72,7 +72,7 @@ impl Tables {
         self.automaton.start(condition, at_line_begin)
     }
 
-    /// How many states there are: 1 to 16,512.
+    /// Returns the number of states, 1 to 16,512.
     pub fn states(&self) -> u32
         ensures count { result ≡ state_count self.now.machine }
         ensures table { IsTable self.now }
@@ -80,7 +80,7 @@ impl Tables {
         self.automaton.states()
     }
 
-    /// Where a state steps on a class: 0 for nowhere, or one more than the target.
+    /// Returns the target of a state on a class, encoded: 0 for none, or one more than the target.
     pub(crate) fn encoded_option(&self, state: u32, class: u8) -> u16
         requires state { state < state_count self.now.machine }
         requires class { class < self.now.machine.width }
@@ -92,7 +92,7 @@ impl Tables {
         }
     }
 
-    /// Where a state steps on a class of bytes; None where the step is missing.
+    /// Returns the target of a state on a class of bytes, or None if the step is missing.
     pub fn class_step(&self, state: State, class: u8) -> Option<State>
         requires state { state.0 < state_count self.now.machine }
         requires class { class < self.now.machine.width }
@@ -102,7 +102,7 @@ impl Tables {
         self.automaton.class_step(state, class)
     }
 
-    /// Where a state steps on a byte; None where the step is missing.
+    /// Returns the target of a state on a byte, or None if the step is missing.
     pub fn step(&self, state: State, byte: u8) -> Option<State>
         requires { state.0 < state_count self.now.machine }
         ensures target { option_map (λ s. s.0) result ≡ target_of self.now.machine state.0 byte }
@@ -112,7 +112,7 @@ impl Tables {
         self.automaton.step(state, byte)
     }
 
-    /// The rule that a state accepts; None where it accepts none.
+    /// Returns the rule that a state accepts, or None if it accepts none.
     pub fn accepts(&self, state: State) -> Option<u16>
         requires { state.0 < state_count self.now.machine }
         ensures rule { result ≡ accepted_by self.now.machine state.0 }
@@ -121,7 +121,7 @@ impl Tables {
         self.automaton.accepts(state)
     }
 
-    /// How many rules there are: at most 4,096.
+    /// Returns the number of rules, at most 4,096.
     pub fn rules(&self) -> u16
         ensures count { result ≡ length self.now.rules }
         ensures table { IsTable self.now }
@@ -129,7 +129,7 @@ impl Tables {
         self.rules.len() as u16
     }
 
-    /// Whether a rule ends with `$`, so that the newline behind its tokens is left away.
+    /// Returns true if a rule ends with `$`. Then the newline after its tokens is cut off.
     pub fn cut(&self, rule: u16) -> bool
         requires { rule < length self.now.rules }
         ensures { result ≡ (rule_at self.now rule).line_end }
@@ -137,7 +137,7 @@ impl Tables {
         self.rules[rule as usize].line_end
     }
 
-    /// The steps of a rule's action; a return stands last.
+    /// Returns the steps of a rule's action. A return comes last.
     pub fn steps(&self, rule: u16) -> &[Step]
         requires { rule < length self.now.rules }
         ensures { result.now ≡ (rule_at self.now rule).steps }
@@ -145,14 +145,14 @@ impl Tables {
         self.rules[rule as usize].steps.as_slice()
     }
 
-    /// How many kinds with names there are: at most 4,096.
+    /// Returns the number of kinds with names, at most 4,096.
     pub fn kinds(&self) -> u32
         ensures { result ≡ length self.now.kinds }
     {
         self.kinds.len() as u32
     }
 
-    /// The name of a kind: an identifier.
+    /// Returns the name of a kind, which is an identifier.
     pub fn kind(&self, number: u32) -> &[u8]
         requires { number < length self.now.kinds }
         ensures { result.now ≡ kind_at self.now number }
@@ -160,8 +160,8 @@ impl Tables {
         &self.kinds[number as usize]
     }
 
-    /// How many byte classes there are: 1 to 256. Two bytes are of one class exactly where every state steps to the same state on both,
-    /// or on neither; the classes are numbered from 0 by their least bytes.
+    /// Returns the number of byte classes, 1 to 256. Two bytes are in one class exactly if every state has the same step on both, or none on both.
+    /// The classes are numbered from 0 by their least bytes.
     pub fn classes(&self) -> u16
         ensures count { result ≡ self.now.machine.width }
         ensures few { result ≤ 256 }
@@ -171,7 +171,7 @@ impl Tables {
         self.automaton.classes()
     }
 
-    /// The byte class of a byte.
+    /// Returns the class of a byte.
     pub fn class(&self, byte: u8) -> u8
         ensures class { result ≡ slice_index self.now.machine.classes byte }
         ensures below { result < self.now.machine.width }
@@ -179,7 +179,7 @@ impl Tables {
         self.automaton.class(byte)
     }
 
-    /// The joined table of the same automaton and rules, if it is kept.
+    /// Returns the joined table of the same automaton and rules, if there is one.
     pub fn joined(&self) -> Option<&Joined>
         ensures joined { IfSome result (λ j. IsJoined self.now j.now.columns.items j.now.entries.items j.now.labels.items) }
         ensures table { IsTable self.now }

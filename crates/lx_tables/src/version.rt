@@ -1,4 +1,4 @@
-//! The versions of the table text.
+//! Versions of the table text.
 
 /// A version of the table text: steps by ranges of bytes, or by classes.
 #[derive(Clone, Copy)]

@@ -1,4 +1,4 @@
-//! Bytes and numbers, written without memory. A write of 0 bytes or an error is a fault, behind which a prefix was written.
+//! Writes bytes and numbers without allocation. A write of 0 bytes or an error is a fault. After it, a prefix was written.
 
 ghost use Rattle.std.specs.Prelude.{◌++◌, OnOk, OnErr};
 ghost use Rattle.std.specs.List.{flat_map};
@@ -8,7 +8,7 @@ ghost use Rattle.lx_tables.specs.Texts.{number, count_line};
 use itoa::Buffer;
 use std::io::{self, Write};
 
-/// Writes bytes in one write, or in further ones for the rest of what was taken in part.
+/// Writes bytes in one write, or in further ones for what the device didn't accept.
 pub(crate) fn write_bytes<W: Write>(out: &mut W, bytes: &[u8]) -> Result<(), io::Error>
     ensures ok { OnOk result (Wrote (W.contents out.old) (W.contents out.new) bytes.now) }
     ensures err { OnErr result (WrotePrefix (W.contents out.old) (W.contents out.new) bytes.now) }
@@ -24,7 +24,7 @@ pub(crate) fn write_bytes<W: Write>(out: &mut W, bytes: &[u8]) -> Result<(), io:
     Ok(())
 }
 
-/// Writes parts, one behind the other.
+/// Writes parts, one after the other.
 pub(crate) fn write_parts<W: Write>(out: &mut W, parts: &[&[u8]]) -> Result<(), io::Error>
     ensures ok { OnOk result (Wrote (W.contents out.old) (W.contents out.new) (flat_map (λ part. part.now) parts.now)) }
     ensures err { OnErr result (WrotePrefix (W.contents out.old) (W.contents out.new) (flat_map (λ part. part.now) parts.now)) }
