@@ -9,10 +9,10 @@ use std::io;
 use std::io::{Error, ErrorKind, Input as StandardInput, Read};
 use std::rt::Files;
 
-// An error keeps no longer message than 80 bytes.
+// The message of an error has at most 80 bytes.
 const NOT_UTF8: &str = "its name isn't UTF-8; name a link to it, or read it as -";
 
-// The part of a file that is wanted.
+// The part of a file that the program reads.
 #[derive(Clone, Copy)]
 enum Wanted {
     All,
@@ -20,12 +20,12 @@ enum Wanted {
     Names { separator: u8, most: usize },
 }
 
-// Why a file couldn't be opened, or be read to its end.
+// Reason why a file couldn't be opened, or wasn't read to its end.
 #[derive(Clone, Copy)]
 enum Reason {
-    // The system's number.
+    // The system's error number.
     System(i32),
-    // The standard library opens no file by a name that isn't UTF-8.
+    // The standard library doesn't open a file whose name isn't UTF-8.
     NotUtf8,
 }
 
@@ -46,14 +46,14 @@ impl Reason {
 #[derive(Drop)]
 pub struct FileSources<'a, R> {
     rt: &'a R,
-    // The one of the last file.
+    // Reason for the last file.
     reason: Option<Reason>,
-    // The same of each file that was cut short, in the order in which they were read.
+    // Reason for each file that was cut short, in the order in which they were read.
     cut_reasons: Vec<Option<Reason>>,
 }
 
 impl<'a, R: AllocGlobal + Files + StandardInput> FileSources<'a, R> {
-    /// The files that the runtime reaches.
+    /// Returns the files that the runtime reaches.
     pub fn new(rt: &'a R) -> FileSources<'a, R> {
         FileSources {
             rt,
@@ -62,7 +62,7 @@ impl<'a, R: AllocGlobal + Files + StandardInput> FileSources<'a, R> {
         }
     }
 
-    // Reads as much as is wanted, and keeps why that failed.
+    // Reads the wanted part of a file, and keeps the reason if that fails.
     fn read_file<F: Read + Drop>(
         &mut self,
         alloc: Global,
@@ -82,20 +82,20 @@ impl<'a, R: AllocGlobal + Files + StandardInput> FileSources<'a, R> {
         Ok(input)
     }
 
-    // Keeps the reason of a file that is cut short.
+    // Keeps the reason why a file is cut short.
     fn cut(&mut self) -> Result<(), SourceFault> {
         self.cut_reasons
             .push(self.reason)
             .map_err(|_| SourceFault::Memory)
     }
 
-    // Keeps why a file can't be opened.
+    // Keeps the reason why a file can't be opened.
     fn refuse(&mut self, error: &Error) -> Result<Input, SourceFault> {
         self.reason = Reason::of(error);
         Err(fault_of(error))
     }
 
-    // Answers that a file is cut before its first byte, so that the other files of a folder are listed.
+    // Returns a file that is cut before its first byte, so that the other files of a directory are listed.
     fn leave_out(&mut self, alloc: Global) -> Result<Input, SourceFault> {
         self.reason = Some(Reason::NotUtf8);
         self.cut()?;
@@ -105,7 +105,7 @@ impl<'a, R: AllocGlobal + Files + StandardInput> FileSources<'a, R> {
         })
     }
 
-    // Reads as much of the file with this name as is wanted.
+    // Reads the wanted part of the file with this name.
     fn read_wanted(
         &mut self,
         alloc: Global,
@@ -130,7 +130,7 @@ impl<'a, R: AllocGlobal + Files + StandardInput> FileSources<'a, R> {
 impl<R: AllocGlobal + Files + StandardInput> Sources for FileSources<'_, R> {
     ghost use Rattle.std.specs.Prelude.{⊤};
 
-    // Nothing is claimed of what the system gives for a path.
+    // no claim about what the system gives for a path
     ghost gives = { λ _ _ _ _. ⊤ };
 
     fn read(&mut self, alloc: Global, name: &str) -> Result<Input, SourceFault> {
@@ -170,7 +170,7 @@ fn fault_of(error: &Error) -> SourceFault {
     }
 }
 
-/// A reader that keeps why its last read failed.
+/// A reader that keeps the reason why its last read failed.
 #[derive(Drop)]
 struct Noting<F> {
     file: F,

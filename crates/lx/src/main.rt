@@ -22,14 +22,15 @@ use std::rt::{Env, Files};
 use std::sync::Wait;
 use std::thread::Threads;
 
-// So many bytes of output are gathered where one thread does all the work: so there are few calls of the system. The lines of a listing come
-// in writes of as many and more, which go to the stream without a copy.
+// Number of output bytes that are buffered if one thread does all the work, so that there are few system calls. The lines of a listing come in writes
+// of this size or more, which go to the stream without a copy.
 const GATHERED: usize = 65_536;
 
-// And so many where workers make the lines: a block of long lines, which isn't gathered with others, goes to the stream without a copy too.
+// Number of output bytes that are buffered if workers make the lines. A block of long lines, which isn't gathered with others, then also goes to the
+// stream without a copy.
 const GATHERED_OF_WORKERS: usize = 4_096;
 
-// The exit status where the program's own work doesn't begin, since memory is refused for the words or the buffer.
+// Exit status if the program can't start, because an allocation for the arguments or the buffer failed.
 const NO_MEMORY: u8 = 5;
 
 fn main(rt: HostRuntime) -> ExitCode {
@@ -42,7 +43,7 @@ fn main(rt: HostRuntime) -> ExitCode {
     }
 }
 
-// Runs the program over the system's files and streams. The one fault is memory.
+// Runs the program over the system's files and streams. The only error is a failed allocation.
 fn start<
     R: AllocGlobal + Env + Files + Input + Print + RandomSource + Threads + Wait + Sync,
     E: Write,

@@ -1,22 +1,22 @@
-//! Names of files that aren't UTF-8. The program and `clap` want words of text, so each byte of such a name that is no text is carried by a
-//! character of its own, out of a range for private use. A name that has one of these characters itself carries their bytes.
+//! File names that aren't UTF-8. The program and `clap` need arguments that are text. So each byte of such a name that isn't text is carried by its
+//! own character, from a range for private use. If a name has one of these characters itself, others carry its bytes.
 
 use bstr::decode_utf8;
 use std::alloc::{AllocError, Global};
 use std::io;
 use std::io::Write;
 
-// The character that carries the byte 0; those of the bytes up to 255 follow it.
+// The character that carries the byte 0. Those for the bytes up to 255 follow it.
 const FIRST: u32 = 0x10_FE00;
 
-// The bytes of a text of UTF-8 with which each of these characters begins.
+// First bytes of the UTF-8 of each of these characters.
 const LEAD: [u8; 2] = [0xF4, 0x8F];
 
 fn carrier_of(byte: u8) -> char {
     char::from_u32(FIRST + u32::from(byte)).unwrap_or(char::REPLACEMENT_CHARACTER)
 }
 
-// The byte that a character carries, if it is one of those.
+// Returns the byte that a character carries, if it is one of those.
 fn carried_by(c: char) -> Option<u8> {
     u8::try_from(u32::from(c).checked_sub(FIRST)?).ok()
 }
@@ -28,7 +28,7 @@ fn push_carriers(text: &mut String, bytes: &[u8]) -> Result<(), AllocError> {
     Ok(())
 }
 
-/// Returns the text that stands for bytes: themselves, where they are UTF-8 and have none of these characters.
+/// Returns the text that represents bytes. It has the same bytes if they are UTF-8 without any of these characters.
 pub fn text_of(alloc: Global, bytes: &[u8]) -> Result<String, AllocError> {
     let mut text = String::new(alloc);
     let mut rest = bytes;
@@ -44,12 +44,12 @@ pub fn text_of(alloc: Global, bytes: &[u8]) -> Result<String, AllocError> {
     Ok(text)
 }
 
-/// Returns true where a text stands for bytes that aren't its own.
+/// Returns true if a text represents other bytes than its own.
 pub fn carries_bytes(text: &str) -> bool {
     text.chars().any(|c| carried_by(c).is_some())
 }
 
-/// A writer to the error stream, which shows bytes that a text carries as the listing does, as `\xE9`.
+/// A writer to stderr. It shows bytes that a text carries as the listing does, as `\xE9`.
 #[derive(Drop)]
 pub struct ShownNames<W> {
     out: W,
@@ -75,7 +75,7 @@ impl<W: Write> ShownNames<W> {
     }
 }
 
-// Returns true where a character may stand in bytes that carries a byte.
+// Returns true if the bytes may have a character that carries a byte.
 fn may_carry(bytes: &[u8]) -> bool {
     bytes
         .windows(LEAD.len())

@@ -1,4 +1,4 @@
-//! The standard output as the program's.
+//! Standard output as the program's output.
 
 ghost use Rattle.std.specs.Prelude.{◌≡◌, [], OnOk};
 ghost use Rattle.std.specs.Io.KnownBytes.{Keeps};
@@ -7,7 +7,7 @@ use lx_tool::Output;
 use std::io;
 use std::io::{BufWriter, ErrorKind, Write};
 
-/// A buffered writer that remembers that the other end of its pipe was closed.
+/// A buffered writer that remembers if the other end of its pipe was closed.
 #[derive(Drop)]
 pub struct PipeOutput<W: Write + Drop> {
     out: BufWriter<W>,
@@ -23,7 +23,7 @@ impl<W: Write + Drop> PipeOutput<W> {
     }
 }
 
-// Returns true where a call answered that the other end of a pipe was closed.
+// Returns true if the result says that the other end of a pipe was closed.
 fn is_broken<T>(answer: &io::Result<T>) -> bool {
     match answer {
         Ok(_) => false,
@@ -47,7 +47,7 @@ impl<W: Write + Drop> Output for PipeOutput<W> {
     ghost use Rattle.std.specs.Prelude.{◌≡◌, []};
     ghost use Rattle.std.specs.Io.Buffered.{writer_buffer};
 
-    // The buffer is empty.
+    // the buffer is empty
     ghost sent = { λ output. writer_buffer output.out ≡ [] };
 
     fn send(&mut self) -> io::Result<()> {

@@ -1,4 +1,4 @@
-//! Names of one file, through links or by other paths.
+//! Recognizes names of one file, through links or by other paths.
 
 use lx_tool::STANDARD_INPUT;
 use std::alloc::AllocError;
@@ -12,10 +12,10 @@ use std::rt::Files;
 // The path of standard input.
 const INPUT_PATH: &str = "/dev/stdin";
 
-// A chain of more links has no end for the system either.
+// Greatest number of links in a chain. The system doesn't follow more either.
 const MOST_LINKS: usize = 40;
 
-/// Returns true where two names are those of one regular file, or of a file that isn't there yet.
+/// Returns true if two names are those of one regular file, or of a file that doesn't exist yet.
 pub fn is_same_file<R: AllocGlobal + Files>(
     rt: &R,
     name: &str,
@@ -45,7 +45,7 @@ fn is_same_node(one: &Metadata, other: &Metadata) -> bool {
     one.dev() == other.dev() && one.ino() == other.ino()
 }
 
-// Returns true where two files would be made in one folder and with one name.
+// Returns true if two files would be made in the same directory and with the same name.
 fn is_same_place<R: AllocGlobal + Files>(rt: &R, path: &str, other: &str) -> io::Result<bool> {
     let path = behind_links(rt, path)?;
     let other = behind_links(rt, other)?;
@@ -56,7 +56,7 @@ fn is_same_place<R: AllocGlobal + Files>(rt: &R, path: &str, other: &str) -> io:
     Ok(is_same_node(&folder, &fs::metadata(rt, folder_of(other.as_path()))?))
 }
 
-// The folder of a path.
+// Returns the directory of a path.
 fn folder_of(path: Path<'_>) -> &str {
     match path.parent() {
         Some(folder) if !folder.as_str().is_empty() => folder.as_str(),
@@ -64,7 +64,7 @@ fn folder_of(path: Path<'_>) -> &str {
     }
 }
 
-// The path that a chain of links leads to.
+// Returns the path to which a chain of links leads.
 fn behind_links<R: AllocGlobal + Files>(rt: &R, path: &str) -> io::Result<PathBuf> {
     let mut path = PathBuf::from_str(rt.alloc(), path)?;
     for _ in 0..MOST_LINKS {

@@ -10,26 +10,26 @@ use std::random::RandomSource;
 use std::rt::Files;
 use std::{fs, io};
 
-// The system's number for bytes that are no text, which a new file's name may not have here.
+// The system's error number for bytes that aren't text. This program gives no new file such a name.
 const NO_TEXT: i32 = 84;
 
-/// The file that was not made, and the system's reason as its number.
+/// A file that wasn't made, and the system's reason as its number.
 #[derive(Drop)]
 struct Fault {
     name: String,
     reason: i32,
 }
 
-/// The files of the system, by their paths. A file is replaced by a new one beside it, which takes its name once it is whole.
+/// The files of the system, by their paths. A file is replaced atomically: by a temporary file in the same directory that is renamed to it.
 #[derive(Drop)]
 pub struct FileTargets<'a, R> {
     rt: &'a R,
-    // The last file that was not made, as far as it is known.
+    // Last file that wasn't made, if it is known.
     fault: Option<Fault>,
 }
 
 impl<'a, R> FileTargets<'a, R> {
-    /// The files that the runtime reaches.
+    /// Returns the files that the runtime reaches.
     pub fn new(rt: &'a R) -> FileTargets<'a, R> {
         FileTargets { rt, fault: None }
     }
@@ -38,7 +38,7 @@ impl<'a, R> FileTargets<'a, R> {
 impl<R: AllocGlobal + Files + RandomSource> Targets for FileTargets<'_, R> {
     ghost use Rattle.std.specs.Prelude.{⊤};
 
-    // Nothing is claimed of what the system does with a file, and of which file has which name.
+    // no claim about what the system does with a file, and about the names of files
     ghost places = { λ _ _ _ _. ⊤ };
 
     ghost same = { λ _ _ _ _. ⊤ };
@@ -65,7 +65,7 @@ impl<R: AllocGlobal + Files + RandomSource> Targets for FileTargets<'_, R> {
     }
 }
 
-// Returns a fault with its reason, where the system gave one and memory isn't refused.
+// Returns a fault with its reason, if the system gave one and no allocation fails.
 fn fault_at<R: AllocGlobal>(rt: &R, name: &str, error: &Error) -> Option<Fault> {
     let reason = error.raw_os_error()?;
     let name = String::from_str(rt.alloc(), name).ok()?;
@@ -79,8 +79,8 @@ fn fault_of(error: &Error) -> TargetFault {
     }
 }
 
-// Puts the bytes under a name, as `>` of a shell does: through a symbolic link into the file that it names, be it there or not, and never into a
-// file that can't be written. A regular file is replaced, and another one that is there is written to.
+// Writes the bytes to the file with this name, like `>` of a shell. Follows a symbolic link, even to a file that doesn't exist. Never writes to a
+// file without write permission. Replaces a regular file, and writes to any other existing one.
 fn put<R: AllocGlobal + Files + RandomSource>(rt: &R, name: &str, bytes: &[u8]) -> io::Result<()> {
     if carries_bytes(name) {
         return Err(Error::from_raw_os_error(NO_TEXT));
@@ -99,12 +99,12 @@ fn put<R: AllocGlobal + Files + RandomSource>(rt: &R, name: &str, bytes: &[u8]) 
     }
 }
 
-// Returns true where there is something with this name, be it a link to nothing.
+// Returns true if this name exists, even as a dangling link.
 fn is_there<R: Files>(rt: &R, name: &str) -> bool {
     fs::symlink_metadata(rt, name).is_ok()
 }
 
-// Replaces the file with this name, or the one that a link with this name leads to.
+// Replaces the file with this name, or the file to which this link leads.
 fn replace_behind_links<R: AllocGlobal + Files + RandomSource>(
     rt: &R,
     name: &str,
@@ -115,7 +115,7 @@ fn replace_behind_links<R: AllocGlobal + Files + RandomSource>(
     replace(rt, path.as_str(), bytes, permissions)
 }
 
-// Makes the file that a link names which isn't there. It is made empty first, so that its path is known; after a fault it is removed.
+// Makes the missing file to which a link leads. Makes it empty first, so that its path is known, and removes it after a fault.
 fn put_behind_link<R: AllocGlobal + Files + RandomSource>(
     rt: &R,
     name: &str,
@@ -130,7 +130,7 @@ fn put_behind_link<R: AllocGlobal + Files + RandomSource>(
     done
 }
 
-// Writes the bytes to a new file beside the one with this path, which then takes its place; after a fault it is removed.
+// Writes the bytes to a temporary file next to the one with this path, and renames it to that path. Removes it after a fault.
 fn replace<R: AllocGlobal + Files + RandomSource>(
     rt: &R,
     path: &str,
@@ -150,7 +150,7 @@ fn replace<R: AllocGlobal + Files + RandomSource>(
     done
 }
 
-// A name that can't be guessed, in the same folder.
+// Returns a name in the same directory that can't be guessed.
 fn name_beside<R: AllocGlobal + RandomSource>(rt: &R, path: &str) -> io::Result<String> {
     let mut bytes = [0; 8];
     rt.fill_bytes(&mut bytes)?;

@@ -1,17 +1,17 @@
-//! The words of the command line, of any bytes.
+//! Reads the command-line arguments, of any bytes.
 
 use crate::names::text_of;
 use std::alloc::{AllocError, Global};
 use std::env::FillError;
 use std::rt::Env;
 
-// No name of a file is longer. A longer word is read once more.
+// Size of the first buffer. No file name is longer. A longer argument is read once more.
 const FEW_BYTES: usize = 4_096;
 
-// The system takes no longer word.
+// Greatest length of an argument. The system accepts no longer one.
 const MOST_BYTES: usize = 131_072;
 
-/// Returns the words. One that isn't UTF-8 is a text that stands for its bytes.
+/// Returns the arguments. One that isn't UTF-8 becomes a text that represents its bytes.
 pub fn read_words<R: Env>(rt: &R, alloc: Global) -> Result<Vec<String>, AllocError> {
     let mut words = Vec::new(alloc);
     for i in 0..usize::MAX {
@@ -23,7 +23,7 @@ pub fn read_words<R: Env>(rt: &R, alloc: Global) -> Result<Vec<String>, AllocErr
     Ok(words)
 }
 
-// Returns the word of this number, from 0; none, where there are fewer.
+// Returns the argument with this number, from 0, or none if there are fewer.
 fn read_word<R: Env>(rt: &R, alloc: Global, number: usize) -> Result<Option<String>, AllocError> {
     let mut few = [0u8; FEW_BYTES];
     match rt.arg(number, &mut few) {
@@ -45,7 +45,7 @@ fn read_long_word<R: Env>(
     }
 }
 
-/// Returns true where words ask for workers, by which the output is gathered, and nothing else goes: a file may have such a name.
+/// Returns true if arguments ask for workers. Only the size of the output buffer depends on it, since a file may have such a name too.
 pub fn want_workers(words: &[String]) -> bool {
     words.iter().any(|word| word.as_str() == "scan" || word.as_str().starts_with("-j"))
 }

@@ -3,7 +3,7 @@
 use lx_scan::Item;
 use lx_spec::Kind;
 
-/// A token on line 1.
+/// Returns a token on line 1.
 pub fn token(name: u32, start: usize, len: usize) -> Item {
     Item::Token {
         kind: Kind::Name(name),
@@ -13,7 +13,7 @@ pub fn token(name: u32, start: usize, len: usize) -> Item {
     }
 }
 
-/// An Echo of one byte.
+/// Returns an Echo of one byte.
 pub fn echo(line: u64, start: usize) -> Item {
     Item::Echo {
         line,

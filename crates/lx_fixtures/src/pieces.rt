@@ -1,4 +1,4 @@
-//! Pieces of plans, and strangers among them.
+//! Pieces of plans, and foreign pieces among them.
 
 ghost use Rattle.std.specs.Prelude.{◌≡◌, ◌<◌, IfOk};
 ghost use Rattle.lx_piece.specs.Arrivals.{AreHonest};
@@ -8,7 +8,7 @@ ghost use Rattle.lx_piece.specs.Plans.{files_of};
 use lx_piece::{Cutter, Items, Mark, Piece, Plan};
 use std::alloc::{AllocError, Global};
 
-/// A piece without items.
+/// Returns a piece without items.
 pub fn piece(alloc: Global, run: u64, file: u32, number: u64, mark: Mark) -> Piece
     ensures run { result.run ≡ run }
     ensures file { result.file ≡ file }
@@ -22,7 +22,7 @@ pub fn piece(alloc: Global, run: u64, file: u32, number: u64, mark: Mark) -> Pie
     }
 }
 
-/// The first piece of a file.
+/// Returns the first piece of a file.
 pub fn first_piece(alloc: Global, plan: &Plan, file: u32) -> Result<Piece, AllocError>
     requires { file < files_of plan.now }
     ensures { IfOk result (IsPieceOf plan.now) }
@@ -33,7 +33,7 @@ pub fn first_piece(alloc: Global, plan: &Plan, file: u32) -> Result<Piece, Alloc
     }
 }
 
-/// The pieces of two files of one piece each, with a piece of another run and one of another file between.
+/// Returns the pieces of two files of one piece each, with a piece of another run and one of another file between them.
 pub fn among_strangers(alloc: Global, plan: &Plan) -> Result<Vec<Piece>, AllocError>
     requires run { plan.now.run ≡ 1 }
     requires files { files_of plan.now ≡ 2 }

@@ -12,27 +12,27 @@ use lx_tables::Tables;
 use std::alloc::{AllocError, Global};
 use thiserror::Error;
 
-/// Why there is no plan.
+/// Reason why there is no plan.
 #[derive(Debug, Drop, Error)]
 pub enum NoPlan {
-    /// The specification is refused, or memory was for it.
+    /// The specification is rejected, or an allocation for it failed.
     #[error("{0}")]
     Specification(#[from] SpecFault),
-    /// Its automaton is too large, or memory was refused for it.
+    /// Its automaton is too large, or an allocation for it failed.
     #[error("{0}")]
     Automaton(#[from] BuildFault),
     #[error("out of memory")]
     Memory(#[from] AllocError),
 }
 
-/// The tables of a specification, with as few states as may be.
+/// Returns the merged tables of a specification.
 pub fn tables_of(alloc: Global, spec: &str) -> Result<Tables, NoPlan> {
     let spec = read_spec(alloc, spec.as_bytes())?;
     let automaton = merge(alloc, &build(alloc, &spec)?)?;
     Ok(Tables::of(alloc, &spec, &automaton)?)
 }
 
-/// Files by their bytes, each with whether its reading failed behind them.
+/// Returns files by their bytes. The flag is true if the reading failed after them.
 pub fn inputs(alloc: Global, files: &[(&[u8], bool)]) -> Result<Vec<Input>, AllocError>
     ensures { IfOk result (λ inputs. vec_len inputs ≡ length files.now) }
 {
@@ -44,7 +44,7 @@ pub fn inputs(alloc: Global, files: &[(&[u8], bool)]) -> Result<Vec<Input>, Allo
     Ok(inputs)
 }
 
-/// The plan of run 1 of such files by the tables of a specification.
+/// Returns the plan of run 1 of such files by the tables of a specification.
 pub fn plan_of(
     alloc: Global,
     spec: &str,
@@ -62,7 +62,7 @@ pub fn plan_of(
     Ok(Plan::new(tables, inputs(alloc, files)?, per_piece, 1))
 }
 
-/// The plan of the mixed files by the mixed rules.
+/// Returns the plan of the mixed files by the mixed rules.
 pub fn mixed_plan(alloc: Global, per_piece: u32) -> Result<Plan, NoPlan>
     requires some_items { 0 < per_piece }
     requires few_items { per_piece ≤ max_items }
@@ -72,7 +72,7 @@ pub fn mixed_plan(alloc: Global, per_piece: u32) -> Result<Plan, NoPlan>
     plan_of(alloc, MIXED_RULES, MIXED_FILES.as_slice(), per_piece)
 }
 
-/// The pieces of all files of a plan, the last file first.
+/// Returns the pieces of all files of a plan, the last file first.
 pub fn last_file_first(alloc: Global, plan: &Plan) -> Result<Vec<Piece>, AllocError>
     ensures { IfOk result (λ pieces. AreHonest plan.now pieces.items) }
 {

@@ -1,4 +1,4 @@
-//! Readers that are handed a piece.
+//! Gives pieces to readers.
 
 ghost use Rattle.std.specs.Prelude.{◌≡◌, ◌+◌, ◌<◌, ◌≤◌, IfOk, OnErr, replicate};
 ghost use Rattle.lx_piece.specs.Plans.{IsPlan, files_of};
@@ -6,7 +6,7 @@ ghost use Rattle.lx_piece.specs.Plans.{IsPlan, files_of};
 use lx_piece::{Cutter, Plan, Reader, ReaderFault};
 use std::alloc::{AllocError, Global};
 
-/// Hands a reader that took nothing the first piece of the first file.
+/// Gives the first piece of the first file to a reader that took nothing.
 pub fn take_first<R: Reader>(
     alloc: Global,
     plan: &Plan,

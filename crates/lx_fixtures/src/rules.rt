@@ -3,7 +3,7 @@
 /// The first and the second text of tables.
 pub type Texts = (&'static str, &'static str);
 
-/// Words, numbers and what stands between them.
+/// Rules for words, numbers and white space.
 pub const THREE_RULES: &str = "%%\n[a-z]+ return ID;\n[0-9]+ return NUM;\n[ \\n]+ ;\n";
 
 /// The texts of their tables.
@@ -30,11 +30,11 @@ pub const NO_RULES_TEXTS: Texts = (
     "lx-tables 2\nconditions 1\nstart 0 0\nkinds 0\nrules 0\nclasses 1\nclass 0-255:0\nstates 1\nstate -\nend\n",
 );
 
-/// Names, numbers and what stands between `<` and `>`, which gives an Echo and a token.
+/// Rules for names, numbers and texts between `<` and `>`, which yield an Echo and a token.
 pub const MIXED_RULES: &str =
     "%%\n[a-z]+ return ID;\n[0-9]+ return NUM;\n\" \"+ ;\n\"<\"[^>]*\">\" { ECHO; return 65; }\n";
 
-/// A file whose last byte is skipped, an empty one, one with bytes that are escaped, and two whose reading failed, at once or later.
+/// A file whose last byte is skipped, an empty one, one with escaped bytes, and two whose reading failed, at once or later.
 pub const MIXED_FILES: [(&[u8], bool); 5] = [
     (b"ab 12 ", false),
     (b"", false),
@@ -43,7 +43,7 @@ pub const MIXED_FILES: [(&[u8], bool); 5] = [
     (b"7 ", true),
 ];
 
-/// Their listing.
+/// Listing of the mixed files.
 pub const MIXED_LISTING: &str = "\
 0 T ID 1 0 2 ab
 0 T NUM 1 3 2 12

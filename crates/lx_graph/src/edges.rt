@@ -1,4 +1,4 @@
-//! The edges from a state to others.
+//! Appends the edges from a state to others.
 
 ghost use Rattle.std.specs.Prelude.{◌≡◌, ◌<◌, ◌≤◌, ◌++◌, OnOk, option_map, decimal};
 ghost use Rattle.std.specs.List.{flat_map};
@@ -22,7 +22,7 @@ fn is_target(tables: &Tables, state: u32, target: u32, class: u16) -> bool
     }
 }
 
-// Whether the state steps to the target on a class before this one.
+// Returns true if the state steps to the target on a class before this one.
 fn is_led_before(tables: &Tables, state: u32, target: u32, class: u16) -> bool
     requires state { state < state_count tables.now.machine }
     requires class { class ≤ tables.now.machine.width }
@@ -71,7 +71,7 @@ fn push_edge(text: &mut Vec<u8>, tables: &Tables, state: u32, class: u16) -> Res
     }
 }
 
-/// The edges from a state.
+/// Appends the edges from a state.
 pub(crate) fn push_edges(text: &mut Vec<u8>, tables: &Tables, state: u32) -> Result<(), AllocError>
     requires { state < state_count tables.now.machine }
     ensures { OnOk result (text.new.items ≡ text.old.items ++ specs.edges_text tables.now.machine state) }

@@ -1,4 +1,4 @@
-//! The graph as a text.
+//! Makes the text of the graph.
 
 ghost use Rattle.std.specs.Prelude.{◌≡◌, ◌++◌, IfOk, OnOk, length};
 ghost use Rattle.std.specs.List.{flat_map, range_with_len};
@@ -28,10 +28,13 @@ fn push_states(text: &mut Vec<u8>, tables: &Tables, names: &[Vec<u8>]) -> Result
     Ok(())
 }
 
-/// The automaton of tables as a graph in DOT, the language of Graphviz. Each state is a node with its number; one that accepts a rule has a second circle and
-/// says what the rule's action does. Where a state steps to another, an edge has the ranges of bytes on which it does: `[a-z]`, and `\xHH` for bytes that
-/// aren't printed. Each start condition has an edge to the state in which it begins, and one with `^` where that is another at the beginning of a line.
-/// `names` are the names of the conditions, identifiers, in order; a condition without a name stands there by its number. Err: memory was refused.
+/// Returns the automaton of tables as a graph in DOT, the language of Graphviz.
+///
+/// Each state is a node with its number. A state that accepts a rule has a second circle, and shows the rule's action. An edge from a state to its
+/// target has the ranges of bytes of this step: `[a-z]`, and `\xHH` for unprintable bytes. Each start condition has an edge to the state in which it
+/// begins. It has another one with `^` if that state differs at the start of a line.
+///
+/// `names` are the names of the conditions, identifiers, in order. A condition without a name has its number. Err: an allocation failed.
 pub fn graph_of(alloc: Global, tables: &Tables, names: &[Vec<u8>]) -> Result<Vec<u8>, AllocError>
     ensures { IfOk result (λ text. text.items ≡ specs.graph_text tables.now (names_view names.now)) }
 {

@@ -1,4 +1,4 @@
-//! What stands at the nodes and the edges of the graph, put behind a text. Where memory is refused a part of it stands there.
+//! Appends the labels of the graph's nodes and edges to a text. If an allocation fails, a part was appended.
 
 ghost use Rattle.std.specs.Prelude.{◌≡◌, ◌<◌, ◌++◌, OnOk, codes, decimal, length, map, option_map};
 ghost use Rattle.std.specs.List.{flat_map};
@@ -19,7 +19,7 @@ fn push_number(text: &mut Vec<u8>, number: u64) -> Result<(), AllocError>
     text.extend_from_slice(digits.format(number).as_bytes())
 }
 
-/// A number with some bytes before it.
+/// Appends bytes and then a number.
 pub(crate) fn push_numbered(
     text: &mut Vec<u8>,
     before: &[u8],
@@ -68,7 +68,7 @@ fn leads(tables: &Tables, state: u32, target: u32, byte: u8) -> bool
     }
 }
 
-// Whether the bytes of a range begin with this one.
+// Returns true if a range of bytes begins with this one.
 fn opens(tables: &Tables, state: u32, target: u32, byte: u8) -> bool
     requires { state < state_count tables.now.machine }
     ensures { result ≡ specs.opens (specs.leads tables.now.machine state target) byte }
@@ -76,7 +76,7 @@ fn opens(tables: &Tables, state: u32, target: u32, byte: u8) -> bool
     byte == 0 || !leads(tables, state, target, byte - 1)
 }
 
-// Whether the bytes of a range end with this one.
+// Returns true if a range of bytes ends with this one.
 fn closes(tables: &Tables, state: u32, target: u32, byte: u8) -> bool
     requires { state < state_count tables.now.machine }
     ensures { result ≡ specs.closes (specs.leads tables.now.machine state target) byte }
@@ -106,7 +106,7 @@ fn push_close(text: &mut Vec<u8>, closed: bool, byte: u8) -> Result<(), AllocErr
     Ok(())
 }
 
-// What a byte adds to the ranges of those on which the state steps to the target.
+// Appends the part that a byte adds to the ranges on which the state steps to the target.
 fn push_range_part(
     text: &mut Vec<u8>,
     tables: &Tables,
@@ -142,7 +142,7 @@ fn push_range_at(
     push_range_part(text, tables, state, target, byte as u8)
 }
 
-/// The ranges of the bytes on which the state steps to the target.
+/// Appends the ranges of the bytes on which the state steps to the target.
 pub(crate) fn push_ranges(
     text: &mut Vec<u8>,
     tables: &Tables,
@@ -158,7 +158,7 @@ pub(crate) fn push_ranges(
     Ok(())
 }
 
-/// The name of a condition, or its number.
+/// Appends the name of a condition, or its number.
 pub(crate) fn push_condition(
     text: &mut Vec<u8>,
     names: &[Vec<u8>],
@@ -222,7 +222,7 @@ fn push_steps(
     Ok(())
 }
 
-/// What is done behind a match of a rule.
+/// Appends the action of a rule.
 pub(crate) fn push_action(
     text: &mut Vec<u8>,
     tables: &Tables,

@@ -1,4 +1,4 @@
-//! The nodes of states and of start conditions.
+//! Appends the nodes of states and of start conditions.
 
 ghost use Rattle.std.specs.Prelude.{◌≡◌, ◌<◌, ◌++◌, OnOk, decimal, length};
 ghost use Rattle.lx_automaton.specs.Automata.{state_count};
@@ -51,7 +51,7 @@ fn push_node(
     }
 }
 
-/// A state and its edges.
+/// Appends a state with its edges.
 pub(crate) fn push_state(
     text: &mut Vec<u8>,
     tables: &Tables,
@@ -106,7 +106,7 @@ fn push_line_edge(
     text.extend_from_slice(b" [label=\"^\"];\n")
 }
 
-/// A condition and where it begins.
+/// Appends a condition with the edges to the states in which it begins.
 pub(crate) fn push_start(
     text: &mut Vec<u8>,
     tables: &Tables,

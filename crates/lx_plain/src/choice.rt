@@ -1,4 +1,4 @@
-//! The choice among the rules: each is matched against the text, as far as it goes.
+//! Chooses among the rules: matches each one against the text, as far as it goes.
 
 ghost use Rattle.std.specs.Prelude.{◌≡◌, ◌<◌, ◌+◌, ◌^◌, ◌↔◌, ℕ, IsTrue, IfOk, length, nat_eq, slice_get, Some};
 ghost use Rattle.std.specs.Ordering.{nat_cmp};
@@ -18,10 +18,10 @@ use lx_rules::spec::Spec;
 use std::alloc::{AllocError, Global};
 use std::collections::BTreeSet;
 
-// How deep names of a specification are nested at most.
+// Greatest depth of a specification's names.
 const NESTING: u8 = 32;
 
-/// Whether the rule is active in the condition.
+/// Returns true if the rule is active in the condition.
 pub(crate) fn is_active(spec: &Spec, rule: &Rule, condition: u16) -> bool
     requires { condition < length (spec_view spec.now).conditions }
     ensures { IsTrue result ↔ IsActive (spec_view spec.now) (rule_view rule.now) condition }
@@ -32,7 +32,7 @@ pub(crate) fn is_active(spec: &Spec, rule: &Rule, condition: u16) -> bool
     }
 }
 
-// The place before the first byte.
+// Returns the set of only the position before the first byte.
 fn front(alloc: Global) -> Result<BTreeSet<usize>, AllocError>
     ensures { IfOk result (λ places. (j : ℕ) → contains nat_cmp places j ≡ nat_eq j 0) }
 {
@@ -41,7 +41,7 @@ fn front(alloc: Global) -> Result<BTreeSet<usize>, AllocError>
     Ok(places)
 }
 
-// The lengths of the words at the front of the text that the expression matches.
+// Returns the lengths of the words at the start of the text that the expression matches.
 fn lengths(
     alloc: Global,
     spec: &Spec,
@@ -54,7 +54,7 @@ fn lengths(
     ends(alloc, &spec.definitions, NESTING, expr, text, &front)
 }
 
-// Whether a fit of the rule may begin here: under this condition, where a line begins or not.
+// Returns true if a fit of the rule may begin here: under this condition, at the start of a line or not.
 fn may_begin(spec: &Spec, rule: &Rule, condition: u16, begin: bool) -> bool
     requires { condition < length (spec_view spec.now).conditions }
     ensures { IsTrue result ↔ (IsActive (spec_view spec.now) (rule_view rule.now) condition × (IsTrue (rule_view rule.now).reading.line_begin → IsTrue begin)) }
@@ -62,14 +62,14 @@ fn may_begin(spec: &Spec, rule: &Rule, condition: u16, begin: bool) -> bool
     is_active(spec, rule, condition) && (begin || !rule.pattern.line_begin)
 }
 
-// Whether a fit of the rule may end behind n bytes.
+// Returns true if a fit of the rule may end after n bytes.
 fn may_end(rule: &Rule, text: &[u8], n: usize) -> bool
     ensures { IsTrue result ↔ ((0 < n) × (IsTrue (rule_view rule.now).reading.line_end → slice_get text.now n ≡ Some 10)) }
 {
     n > 0 && (!rule.pattern.line_end || text.get(n) == Some(&b'\n'))
 }
 
-/// The greatest number of bytes at the front of the text that the rule fits.
+/// Returns the greatest number of bytes at the start of the text that the rule fits.
 pub(crate) fn longest(
     alloc: Global,
     spec: &Spec,
@@ -93,7 +93,7 @@ pub(crate) fn longest(
     Ok(None)
 }
 
-// How far a fit of n bytes reaches: where the pattern ends with `$` the newline counts.
+// Returns the reach of a fit of n bytes. If the pattern ends with `$`, the newline counts.
 fn reach_of(rule: &Rule, n: usize) -> usize
     requires { n + 1 < 2 ^ 64 }
     ensures { result ≡ reach (rule_view rule.now) n }
@@ -101,7 +101,7 @@ fn reach_of(rule: &Rule, n: usize) -> usize
     if rule.pattern.line_end { n + 1 } else { n }
 }
 
-/// The rule and the number of bytes with the greatest reach, and among these the earliest rule.
+/// Returns the rule and the number of bytes with the greatest reach, and among these the earliest rule.
 pub(crate) fn choose(
     alloc: Global,
     spec: &Spec,

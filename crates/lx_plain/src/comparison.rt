@@ -1,4 +1,4 @@
-//! All ways to the items of a text: by tables with and without merging, by both of their texts read again, in one scan and piece by piece.
+//! Compares all ways to the items of a text: by tables with and without merging, by both of their texts read again, in one scan and piece by piece.
 
 ghost use Rattle.std.specs.Prelude.{◌<◌, ◌≤◌};
 ghost use Rattle.lx_piece.specs.Plans.{IsPlan, max_items};
@@ -12,7 +12,7 @@ use lx_scan::{Item, scan};
 use lx_tables::Tables;
 use std::alloc::{AllocError, Global};
 
-/// A fault where this doesn't hold, by the name of what differs.
+/// Returns a fault with the name of the difference if `is_same` is false.
 fn holds(is_same: bool, what: &'static str) -> Result<(), Fault> {
     if is_same {
         Ok(())
@@ -21,7 +21,7 @@ fn holds(is_same: bool, what: &'static str) -> Result<(), Fault> {
     }
 }
 
-/// The items of the pieces of a plan's first file, one piece after the other.
+/// Returns the items of the pieces of a plan's first file, one piece after the other.
 fn items_of_pieces(alloc: Global, plan: &Plan) -> Result<Vec<Item>, AllocError>
     requires { IsPlan plan.now }
 {
@@ -33,7 +33,7 @@ fn items_of_pieces(alloc: Global, plan: &Plan) -> Result<Vec<Item>, AllocError>
     Ok(items)
 }
 
-/// Compares the items of a text that tables cut in pieces of so many.
+/// Compares the items of a text in pieces of `per_piece` items, by tables.
 fn compare_pieces(
     alloc: Global,
     tables: Tables,
@@ -50,7 +50,7 @@ fn compare_pieces(
     holds(found.as_slice() == items, "the items of pieces")
 }
 
-/// Compares the items of pieces of so many, by tables that are read from a printed text.
+/// Compares the items in pieces of `per_piece` items, by tables that are read from a printed text.
 fn compare_printed_pieces(
     alloc: Global,
     printed: &[u8],
@@ -65,7 +65,7 @@ fn compare_printed_pieces(
     compare_pieces(alloc, tables, text, items, per_piece)
 }
 
-/// Compares what a printed text of tables gives, once it is read.
+/// Compares the items by tables that are read from a printed text.
 fn compare_printed(
     alloc: Global,
     printed: &[u8],
@@ -79,14 +79,14 @@ fn compare_printed(
     compare_scanned(alloc, &tables, text, items, "the items by printed tables")
 }
 
-/// Compares both texts of the tables that are read from a printed text with those that were printed.
+/// Compares both texts of the tables that are read from a printed text with the printed ones.
 fn compare_texts(alloc: Global, printed: &[u8], first: &[u8], second: &[u8]) -> Result<(), Fault> {
     let tables = Tables::read(alloc, printed)?;
     compare_first(alloc, &tables, first)?;
     compare_second(alloc, &tables, second)
 }
 
-/// Compares the first text of tables with the one that was printed.
+/// Compares the first text of tables with the printed one.
 fn compare_first(alloc: Global, tables: &Tables, printed: &[u8]) -> Result<(), Fault> {
     let again = first_text_of(alloc, tables)?;
     holds(
@@ -95,7 +95,7 @@ fn compare_first(alloc: Global, tables: &Tables, printed: &[u8]) -> Result<(), F
     )
 }
 
-/// Compares the second text of tables with the one that was printed.
+/// Compares the second text of tables with the printed one.
 fn compare_second(alloc: Global, tables: &Tables, printed: &[u8]) -> Result<(), Fault> {
     let again = second_text_of(alloc, tables)?;
     holds(
@@ -104,7 +104,7 @@ fn compare_second(alloc: Global, tables: &Tables, printed: &[u8]) -> Result<(), 
     )
 }
 
-/// Compares the items that a scan gives of a text.
+/// Compares the items of a text by a scan.
 fn compare_scanned(
     alloc: Global,
     tables: &Tables,
@@ -124,27 +124,27 @@ fn compare_unmerged(alloc: Global, spec: &Spec, text: &[u8], items: &[Item]) -> 
     compare_scanned(alloc, &tables, text, items, what)
 }
 
-/// The tables of a specification, merged.
+/// Makes the merged tables of a specification.
 fn merged_tables(alloc: Global, spec: &Spec) -> Result<Tables, Fault> {
     let automaton = build(alloc, spec)?;
     Ok(Tables::of(alloc, spec, &merge(alloc, &automaton)?)?)
 }
 
-/// The first text of tables.
+/// Prints the first text of tables.
 fn first_text_of(alloc: Global, tables: &Tables) -> Result<Vec<u8>, Fault> {
     let mut text = Vec::new(alloc);
     tables.print_first(&mut text)?;
     Ok(text)
 }
 
-/// The second text of tables.
+/// Prints the second text of tables.
 fn second_text_of(alloc: Global, tables: &Tables) -> Result<Vec<u8>, Fault> {
     let mut text = Vec::new(alloc);
     tables.print(&mut text)?;
     Ok(text)
 }
 
-/// Compares all that a printed text of tables gives, once it is read.
+/// Compares all results of a printed text of tables, once it is read.
 fn compare_read(
     alloc: Global,
     printed: &[u8],
@@ -171,7 +171,7 @@ fn compare_tables(
     compare_read(alloc, texts.1, texts, text, items)
 }
 
-/// Compares the items of a text by a specification with those that all ways by tables lead to.
+/// Compares the items of a text by a specification with the items of all ways by tables.
 pub(crate) fn compare(
     alloc: Global,
     spec: &Spec,

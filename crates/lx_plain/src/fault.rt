@@ -1,4 +1,4 @@
-//! Why nothing is listed.
+//! Faults of the program.
 
 use lx_auto::BuildFault;
 use lx_spec::SpecFault;
@@ -7,7 +7,7 @@ use std::alloc::AllocError;
 use std::io;
 use thiserror::Error;
 
-/// Why nothing is listed.
+/// Reason why nothing is listed.
 #[derive(Debug, Drop, Error)]
 pub(crate) enum Fault {
     #[error("two words are wanted: a specification and a file")]
@@ -23,7 +23,7 @@ pub(crate) enum Fault {
     Tables(#[from] TableFault),
     #[error("out of memory")]
     Memory(#[from] AllocError),
-    /// This way leads to something else than the plain scanner.
+    /// This way has another result than the plain scanner.
     #[error("other than by the plain scanner: {0}")]
     Differs(&'static str),
 }

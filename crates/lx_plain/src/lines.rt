@@ -1,11 +1,11 @@
-//! The lines of items, written by the formatter of the standard library.
+//! Writes the lines of items by the formatter of the standard library.
 
 use lx_scan::Item;
 use lx_spec::Kind;
 use std::alloc::{AllocError, Global};
 use std::fmt::Write;
 
-// A byte as it stands in a line.
+// Appends a byte as a line shows it.
 fn show_byte(out: &mut String, byte: u8) -> Result<(), AllocError> {
     match byte {
         b'\\' => out.push_str("\\\\"),
@@ -14,7 +14,7 @@ fn show_byte(out: &mut String, byte: u8) -> Result<(), AllocError> {
     }
 }
 
-// The name of a kind, or its number.
+// Appends the name of a kind, or its number.
 fn show_kind(out: &mut String, kinds: &[Vec<u8>], kind: Kind) -> Result<(), AllocError> {
     match kind {
         Kind::Number(number) => write!(out, "{number}"),
@@ -30,7 +30,7 @@ fn show_kind(out: &mut String, kinds: &[Vec<u8>], kind: Kind) -> Result<(), Allo
     }
 }
 
-/// The lines of the items of a text, the only file.
+/// Returns the lines of the items of a text, the only file.
 pub(crate) fn lines_of(
     alloc: Global,
     kinds: &[Vec<u8>],

@@ -1,7 +1,7 @@
 //! Lists a file by a plain matcher without an automaton, and compares every other way to the items with it.
 //!
-//! The words are the names of the specification and of the file. Where a way leads to other items it says which, and ends with status 1; what can't
-//! be read, or is refused, has status 2.
+//! The arguments are the names of the specification and of the file. If a way has other items, the program names it and exits with status 1. If a
+//! file can't be read or is rejected, the status is 2.
 #![tactic(auto)]
 
 mod choice;

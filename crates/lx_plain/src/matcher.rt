@@ -1,4 +1,4 @@
-//! The plain matcher: from sets of places, the places to which the words of an expression lead.
+//! The plain matcher: finds the positions to which the words of an expression lead from a set of positions.
 
 ghost use Rattle.std.specs.Prelude.{◌≡◌, IfOk, map};
 ghost use Rattle.lx_ere.specs.Regex.{regex_of};
@@ -13,7 +13,7 @@ use lx_rules::definition::Definition;
 use std::alloc::{AllocError, Global};
 use std::collections::BTreeSet;
 
-/// The places to which words of the expression lead from the starts, names unfolded at most `depth` deep.
+/// Returns the positions to which words of the expression lead from the starts. Unfolds names at most `depth` deep.
 #[cycle(matcher)]
 pub(crate) fn ends(
     alloc: Global,
@@ -26,7 +26,7 @@ pub(crate) fn ends(
     requires { AreWithin text.now starts.now }
     ensures { IfOk result (λ ends. AreEnds (Matches (NameMatches (map definition_view definitions.now) depth) (regex_of expr.now)) text.now starts.now ends) }
 {
-    // Names that double and intervals in one another would else be gone into for nothing, many times over.
+    // otherwise nested intervals, and names that double, would be followed many times for nothing
     if starts.is_empty() {
         return Ok(BTreeSet::new(alloc));
     }
@@ -55,7 +55,7 @@ pub(crate) fn ends(
     }
 }
 
-// The places to which exactly so many words of the body lead.
+// Returns the positions to which exactly `count` words of the body lead.
 #[cycle(matcher)]
 fn exactly(
     alloc: Global,
@@ -76,7 +76,7 @@ fn exactly(
     Ok(places)
 }
 
-// The places to which at most so many words of the body lead.
+// Returns the positions to which at most `most` words of the body lead.
 #[cycle(matcher)]
 fn at_most(
     alloc: Global,
@@ -99,7 +99,7 @@ fn at_most(
     Ok(reached)
 }
 
-// The places to which any number of words of the body leads. Only from places that are new does it go on.
+// Returns the positions to which any number of words of the body leads. Continues only from new positions.
 #[cycle(matcher)]
 fn any_number(
     alloc: Global,
@@ -121,7 +121,7 @@ fn any_number(
     Ok(reached)
 }
 
-// The places to which words lead that the name stands for.
+// Returns the positions to which words of the name's expression lead.
 #[cycle(matcher)]
 fn named(
     alloc: Global,

@@ -1,4 +1,4 @@
-//! Sets of places of a text.
+//! Sets of positions in a text.
 
 ghost use Rattle.std.specs.Prelude.{◌≡◌, ℕ, ◌+◌, false, ◌∷◌, [], ◌||◌, ◌&&◌, not, IsTrue, IfOk, OnOk};
 ghost use Rattle.std.specs.FinSet as set;
@@ -12,7 +12,7 @@ use lx_ere::set::ByteSet;
 use std::alloc::{AllocError, Global};
 use std::collections::BTreeSet;
 
-/// The places behind one byte of the set, from each of the starts.
+/// Returns the positions after one byte of the set, from each of the starts.
 pub(crate) fn behind_byte(
     alloc: Global,
     set: &ByteSet,
@@ -30,7 +30,7 @@ pub(crate) fn behind_byte(
     Ok(ends)
 }
 
-// Whether a byte of the set stands at the place.
+// Returns true if a byte of the set is at the position.
 fn has_byte_at(set: &ByteSet, text: &[u8], place: usize) -> bool
     ensures { result ≡ is_byte_at set.now text.now place }
 {
@@ -40,7 +40,7 @@ fn has_byte_at(set: &ByteSet, text: &[u8], place: usize) -> bool
     }
 }
 
-/// Adds the further places to those that are there, and gives those that are new.
+/// Adds further positions. Returns those that are new.
 pub(crate) fn add_new(
     alloc: Global,
     places: &mut BTreeSet<usize>,
@@ -52,7 +52,7 @@ pub(crate) fn add_new(
     ensures new { IfOk result (λ fresh. (j : ℕ) → contains nat_cmp fresh j ≡ (contains nat_cmp further.now j && not (contains nat_cmp places.old j))) }
 {
     let mut fresh = BTreeSet::new(alloc);
-    // That the places are in order.
+    // the positions are in order
     let _len = places.len();
     for place in further {
         if places.insert(*place)? {
@@ -62,13 +62,13 @@ pub(crate) fn add_new(
     Ok(fresh)
 }
 
-/// A copy of the places.
+/// Returns a copy of the positions.
 pub(crate) fn copy_of(places: &BTreeSet<usize>) -> Result<BTreeSet<usize>, AllocError>
     ensures same { IfOk result (λ copy. (j : ℕ) → contains nat_cmp copy j ≡ contains nat_cmp places.now j) }
     ensures ordered { IfOk result (λ copy. IsOrdered nat_cmp copy) }
 {
     let copy = places.clone()?;
-    // That the copy is in order.
+    // the copy is in order
     let _len = copy.len();
     Ok(copy)
 }

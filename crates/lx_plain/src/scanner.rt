@@ -1,4 +1,4 @@
-//! The items of a text, match after match by the plain choice. What it relies on it asks of the choice each time.
+//! Finds the items of a text, match after match, by the plain choice. Checks at each match what it relies on.
 
 use crate::choice::choose;
 use lx_rules::rule::Step;
@@ -6,10 +6,10 @@ use lx_rules::spec::Spec;
 use lx_scan::Item;
 use std::alloc::{AllocError, Global};
 
-/// What is done where no rule matches.
+/// Steps if no rule matches.
 const ECHO: &[Step] = &[Step::Echo];
 
-// The condition behind the steps, and their items of `len` bytes from `start`, on this line, which are added.
+// Adds the items of the steps, with `len` bytes from `start` on this line. Returns the condition after the steps.
 fn take_steps(
     items: &mut Vec<Item>,
     steps: &[Step],
@@ -34,7 +34,7 @@ fn take_steps(
     Ok(behind)
 }
 
-// The steps and the number of bytes that are chosen at the front of a text.
+// Returns the chosen steps and the number of bytes at the start of a text.
 fn chosen<'a>(
     alloc: Global,
     spec: &'a Spec,
@@ -54,7 +54,7 @@ fn chosen<'a>(
     }
 }
 
-// How many of the bytes are newlines.
+// Counts the newlines among the bytes.
 fn newlines_in(bytes: &[u8]) -> u64 {
     let mut count: u64 = 0;
     for byte in bytes {
@@ -65,7 +65,7 @@ fn newlines_in(bytes: &[u8]) -> u64 {
     count
 }
 
-/// The items of the text by the rules of the specification.
+/// Returns the items of the text by the rules of the specification.
 pub(crate) fn plain_items(
     alloc: Global,
     spec: &Spec,

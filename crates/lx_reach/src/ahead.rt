@@ -1,4 +1,4 @@
-//! Rules for which runs of one byte are read to their end in vain.
+//! Finds rules for which lookahead over a run of one byte fails.
 
 ghost use Rattle.std.specs.Prelude.{◌≡◌, ◌<◌, ◌≤◌, ◌⊎◌, IfNone, IfSome, None, OnOk, Some, length};
 ghost use Rattle.lx_automaton.specs.Automata.{state_count};
@@ -8,14 +8,14 @@ use crate::reached::meet_targets;
 use lx_tables::{State, Tables};
 use std::alloc::{AllocError, Global};
 
-/// A rule for which a run of this byte, however long, is read to its end without a match on the way.
+/// A rule for which a run of this byte, of any length, is read to its end without a match on the way.
 #[derive(Clone, Copy)]
 pub struct FarAhead {
     pub rule: u16,
     pub byte: u8,
 }
 
-// The state behind so many of a byte, if they lead to one.
+// Returns the state after `count` bytes, if they lead to one.
 fn behind_run(tables: &Tables, state: State, byte: u8, count: u32) -> Option<State>
     requires { state.0 < state_count tables.now.machine }
     ensures { IfSome result (λ s. s.0 < state_count tables.now.machine) }
@@ -27,7 +27,7 @@ fn behind_run(tables: &Tables, state: State, byte: u8, count: u32) -> Option<Sta
     Some(state)
 }
 
-// Whether none of the states behind one, two and more of a byte accepts, up to so many.
+// Returns true if none of `count` successive states on a byte, from `state` on, accepts, and each has a step.
 fn is_in_vain(tables: &Tables, state: State, byte: u8, count: u32) -> bool
     requires { state.0 < state_count tables.now.machine }
 {
@@ -44,7 +44,8 @@ fn is_in_vain(tables: &Tables, state: State, byte: u8, count: u32) -> bool
     true
 }
 
-// A state of the round in which the runs of a byte end, where none of its states accepts. A run as long as there are states has come to it.
+// Returns a state of the cycle in which the runs of a byte end, if none of the cycle's states accepts. A run as long as the number of states reaches
+// the cycle.
 fn round_in_vain(tables: &Tables, start: State, byte: u8) -> Option<State>
     requires { start.0 < state_count tables.now.machine }
     ensures { IfSome result (λ s. s.0 < state_count tables.now.machine) }
@@ -57,7 +58,7 @@ fn round_in_vain(tables: &Tables, start: State, byte: u8) -> Option<State>
     }
 }
 
-// The less of two rules.
+// Returns the smaller one of two rules.
 fn earlier(rule: Option<u16>, other: Option<u16>) -> Option<u16>
     ensures among { IfSome result (λ n. (rule ≡ Some n) ⊎ (other ≡ Some n)) }
     ensures first { IfSome result (λ n. IfSome rule (λ r. n ≤ r)) }
@@ -71,7 +72,7 @@ fn earlier(rule: Option<u16>, other: Option<u16>) -> Option<u16>
     }
 }
 
-// The first of the rules to whose matches a state may lead.
+// Returns the first of the rules to whose matches a state can lead.
 fn first_rule(alloc: Global, tables: &Tables, state: State) -> Result<Option<u16>, AllocError>
     requires { state.0 < state_count tables.now.machine }
 {
@@ -97,7 +98,7 @@ fn is_found(found: &[FarAhead], rule: u16) -> bool {
     false
 }
 
-// Looks at the runs of a byte from a state.
+// Examines the runs of a byte from a state.
 fn look_at_run(
     alloc: Global,
     tables: &Tables,
@@ -142,8 +143,9 @@ fn look_at_start(
     Ok(())
 }
 
-/// The rules for which some run of one byte, from the beginning of a match in a condition of these, is read to its end and no match ends within it: a text of many such bytes
-/// may be read to its end again behind each of them. Each of the rules once. Err: memory was refused.
+/// Finds the rules for which lookahead over some run of one byte fails. The run is at the start of a match in one of these conditions. It is read to
+/// its end, and no match ends within it. A text of such bytes may be read to its end again after each of them. Returns each of the rules once. Err:
+/// an allocation failed.
 pub fn far_ahead(
     alloc: Global,
     tables: &Tables,

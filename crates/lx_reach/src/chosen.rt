@@ -1,4 +1,4 @@
-//! Which rules are chosen for some text.
+//! Finds the rules that are chosen for some text.
 
 ghost use Rattle.std.specs.Prelude.{◌≡◌, ◌<◌, ◌≤◌, ◌⊎◌, ℕ, true, false, IfOk, length, slice_index, slice_index_or};
 ghost use Rattle.lx_automaton.specs.Automata.{state_count};
@@ -10,7 +10,7 @@ use lx_tables::well_formed::tables_are_well_formed;
 use lx_tables::{State, Tables};
 use std::alloc::{AllocError, Global};
 
-// Marks the rule that a state accepts; one that ends with `$` only where such rules count.
+// Marks the rule that a state accepts. Marks one that ends with `$` only if `with_line_ends`.
 fn mark_state(tables: &Tables, state: u32, with_line_ends: bool, flags: &mut Vec<bool>)
     requires state { state < state_count tables.now.machine }
     requires long { length flags.old.items ≡ length tables.now.rules }
@@ -39,8 +39,8 @@ fn mark(tables: &Tables, states: &[u32], with_line_ends: bool, flags: &mut Vec<b
     }
 }
 
-// Of each rule whether it is the choice for some text of bytes in a condition from the first one up to the end. A match of no bytes is never a choice,
-// and the newline of a `$` is no part of the token: so a rule with `$` is chosen by no text of one byte.
+// Tests for each rule if it is the choice for some text of bytes in a condition from `first` up to `end`. A match of no bytes is never a choice. The
+// newline of a `$` isn't a part of the token, so no text of one byte has a rule with `$` as its choice.
 fn taken(alloc: Global, tables: &Tables, first: u16, end: u16) -> Result<Vec<bool>, AllocError>
     requires end { end ≤ length tables.now.machine.starts }
     ensures { IfOk result (λ flags. AreFlagsOf (length tables.now.rules) (IsTaken tables.now first end) flags.items) }
@@ -54,20 +54,20 @@ fn taken(alloc: Global, tables: &Tables, first: u16, end: u16) -> Result<Vec<boo
     Ok(flags)
 }
 
-/// Of each rule whether it is the choice for some text of bytes, in some condition, at the beginning of a line or elsewhere (XCU `lex`, "Rules in lex").
-/// A condition counts also where nothing enters it. Err: memory was refused.
+/// Tests for each rule if it is the choice for some text of bytes, in some condition (XCU `lex`, "Rules in lex"). The text may be at the start of a
+/// line or elsewhere. Also counts conditions that are never entered. Err: an allocation failed.
 pub fn chosen_rules(alloc: Global, tables: &Tables) -> Result<Vec<bool>, AllocError>
     ensures { IfOk result (λ flags. AreFlagsOf (length tables.now.rules) (IsEverChosen tables.now) flags.items) }
 {
     taken(alloc, tables, 0, tables.conditions())
 }
 
-/// The same for one condition: of each rule whether it is the choice there for some text of bytes.
+/// Tests for each rule if it is the choice for some text of bytes in this condition.
 pub fn chosen_in(alloc: Global, tables: &Tables, condition: u16) -> Result<Vec<bool>, AllocError>
     requires { condition < length tables.now.machine.starts }
     ensures { IfOk result (λ flags. AreFlagsOf (length tables.now.rules) (IsChosenIn tables.now condition) flags.items) }
 {
-    // a law, that conditions are few
+    // a law: there are few conditions
     tables_are_well_formed(tables);
     taken(alloc, tables, condition, condition + 1)
 }

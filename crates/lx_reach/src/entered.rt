@@ -1,4 +1,4 @@
-//! Which start conditions are entered.
+//! Finds the start conditions that are entered.
 
 ghost use Rattle.std.specs.Prelude.{◌≡◌, ◌≢◌, ◌<◌, ◌≤◌, ◌⊎◌, ℕ, true, false, IfOk, OnOk, length, slice_index, slice_index_or};
 ghost use Rattle.lx_scan.specs.Steps.{condition_after};
@@ -13,7 +13,7 @@ use lx_scan::scanner::condition_behind;
 use lx_tables::Tables;
 use std::alloc::{AllocError, Global};
 
-// The conditions that stand behind the actions of the rules that the flags mark.
+// Meets the conditions after the actions of the marked rules.
 fn meet_behind(
     tables: &Tables,
     condition: u16,
@@ -40,7 +40,7 @@ fn meet_behind(
     Ok(())
 }
 
-// The conditions that are entered, in the order in which they were met.
+// Returns the conditions that are entered, in the order in which they were met.
 fn entered(alloc: Global, tables: &Tables) -> Result<Met, AllocError>
     ensures long { IfOk result (λ met. length met.places.items ≡ length tables.now.machine.starts) }
     ensures only { IfOk result (λ met. (c : ℕ) → slice_index met.places.items c ≢ 0 → IsEntered tables.now c) }
@@ -58,7 +58,7 @@ fn entered(alloc: Global, tables: &Tables) -> Result<Met, AllocError>
     Ok(met)
 }
 
-// Of each number whether it isn't 0.
+// Tests for each number if it isn't 0.
 fn marks_of(alloc: Global, places: &[u16]) -> Result<Vec<bool>, AllocError>
     ensures long { IfOk result (λ flags. length flags.items ≡ length places.now) }
     ensures holds { IfOk result (λ flags. (n : ℕ) → slice_index_or flags.items n false ≡ true → slice_index places.now n ≢ 0) }
@@ -71,8 +71,8 @@ fn marks_of(alloc: Global, places: &[u16]) -> Result<Vec<bool>, AllocError>
     Ok(flags)
 }
 
-/// Of each start condition whether it is entered: INITIAL, and from each condition that is entered those that stand behind the actions of the rules that
-/// are chosen in it (XCU `lex`, "Actions in lex": BEGIN). Err: memory was refused.
+/// Tests for each start condition if it is entered: INITIAL is, and from each entered condition those after the actions of the rules that are chosen
+/// in it (XCU `lex`, "Actions in lex": BEGIN). Err: an allocation failed.
 pub fn entered_conditions(alloc: Global, tables: &Tables) -> Result<Vec<bool>, AllocError>
     ensures { IfOk result (λ flags. AreFlagsOf (length tables.now.machine.starts) (IsEntered tables.now) flags.items) }
 {

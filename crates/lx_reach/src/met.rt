@@ -1,4 +1,4 @@
-//! Numbers that are met one after the other, each once: states, or conditions.
+//! Numbers, of states or conditions, that are met one after the other, each once.
 
 ghost use Rattle.std.specs.Prelude.{◌≡◌, ◌≢◌, ◌<◌, ◌≤◌, ◌⊎◌, ℕ, IfOk, OnOk, length, slice_index};
 ghost use Rattle.lx_automaton.specs.Automata.{max_states};
@@ -10,11 +10,11 @@ use std::alloc::{AllocError, Global};
 #[derive(Drop)]
 pub struct Met {
     pub numbers: Vec<u32>,
-    /// Of each number 0, or one more than its place among those.
+    /// For each number, 0 or one more than its place among those.
     pub places: Vec<u16>,
 }
 
-/// None of the numbers below a count. Err: memory was refused.
+/// Returns the state in which no number below a count is met. Err: an allocation failed.
 pub fn none_met(alloc: Global, count: usize) -> Result<Met, AllocError>
     ensures met { IfOk result (λ met. AreMet met.numbers.items met.places.items) }
     ensures long { IfOk result (λ met. length met.places.items ≡ count) }
@@ -27,7 +27,7 @@ pub fn none_met(alloc: Global, count: usize) -> Result<Met, AllocError>
     })
 }
 
-/// Puts a number behind the others, unless it is there. Err: memory was refused, and it is not put there.
+/// Adds a number, unless it is there. Err: an allocation failed, and it isn't added.
 pub fn meet(met: &mut Met, number: u32) -> Result<(), AllocError>
     requires met { AreMet met.old.numbers.items met.old.places.items }
     requires number { number < length met.old.places.items }

@@ -1,4 +1,4 @@
-//! The states to which texts lead from a range of conditions.
+//! Finds the states to which texts lead from a range of conditions.
 
 ghost use Rattle.std.specs.Prelude.{◌≡◌, ◌≢◌, ◌<◌, ◌≤◌, ◌⊎◌, ℕ, IfOk, OnOk, length, slice_index};
 ghost use Rattle.lx_automaton.specs.Automata.{state_count};
@@ -8,7 +8,7 @@ use crate::met::{Met, meet, none_met};
 use lx_tables::{State, Tables};
 use std::alloc::{AllocError, Global};
 
-// The states in which the conditions from the first one up to the end begin.
+// Meets the states in which the conditions from `first` up to `end` begin.
 fn meet_starts(tables: &Tables, first: u16, end: u16, met: &mut Met) -> Result<(), AllocError>
     requires end { end ≤ length tables.now.machine.starts }
     requires met { AreMet met.old.numbers.items met.old.places.items }
@@ -26,7 +26,7 @@ fn meet_starts(tables: &Tables, first: u16, end: u16, met: &mut Met) -> Result<(
     Ok(())
 }
 
-/// Puts the states to which one steps behind the others, as [`meet`] does. Err: memory was refused, and some of them are not put there.
+/// Meets the targets of a state, like [`meet`]. Err: an allocation failed, and some of them aren't added.
 pub fn meet_targets(tables: &Tables, met: &mut Met, state: u32) -> Result<(), AllocError>
     requires met { AreMet met.old.numbers.items met.old.places.items }
     requires long { length met.old.places.items ≡ state_count tables.now.machine }
@@ -47,7 +47,7 @@ pub fn meet_targets(tables: &Tables, met: &mut Met, state: u32) -> Result<(), Al
     Ok(())
 }
 
-/// The states to which some text leads from the conditions from the first one up to the end, be it the empty text. Err: memory was refused.
+/// Returns the states to which some text, maybe the empty one, leads from the conditions from `first` up to `end`. Err: an allocation failed.
 pub fn reached(alloc: Global, tables: &Tables, first: u16, end: u16) -> Result<Met, AllocError>
     requires end { end ≤ length tables.now.machine.starts }
     ensures met { IfOk result (λ met. AreMet met.numbers.items met.places.items) }
@@ -66,7 +66,7 @@ pub fn reached(alloc: Global, tables: &Tables, first: u16, end: u16) -> Result<M
     Ok(met)
 }
 
-/// The states to which those of a list step. Err: memory was refused.
+/// Returns the targets of the states in a list. Err: an allocation failed.
 pub fn targets_of(alloc: Global, tables: &Tables, from: &Met) -> Result<Met, AllocError>
     requires met { AreMet from.now.numbers.items from.now.places.items }
     requires long { length from.now.places.items ≡ state_count tables.now.machine }

@@ -1,4 +1,4 @@
-//! By tables of a specification the rules that are chosen are those that are chosen by its rules.
+//! A law: by the tables of a specification, the chosen rules are those that its rules choose.
 
 ghost use Rattle.std.specs.Prelude.{◌<◌, ◌↔◌, ℕ, length};
 ghost use Rattle.lx_rules.specs.Plain.{PlainSpec};
@@ -7,7 +7,7 @@ ghost use Rattle.lx_reach.specs.Chosen.{IsChosenBy, IsChosenIn, IsEverChosen, Is
 
 use lx_scan::ruling::{choice_is_by_rules, one_choice};
 
-/// A law: by tables of a specification a rule is chosen in a condition exactly where it is by the rules, and so it is with some condition.
+/// States a law: by the tables of a specification, a rule is chosen in a condition exactly if it is by the rules. The same holds for some condition.
 pub fn chosen_is_by_rules()
     ensures one { (spec : PlainSpec) (table : Table) (condition rule : ℕ) → AreTablesOf spec table → condition < length spec.conditions → IsChosenIn table condition rule ↔ IsChosenBy spec condition rule }
     ensures some { (spec : PlainSpec) (table : Table) (rule : ℕ) → AreTablesOf spec table → IsEverChosen table rule ↔ IsEverChosenBy spec rule }

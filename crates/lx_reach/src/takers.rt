@@ -1,4 +1,4 @@
-//! Which rules take the texts of a rule that is never chosen.
+//! Finds the rules that take the texts of a rule that is never chosen.
 
 ghost use Rattle.std.specs.Prelude.{◌≡◌, ◌+◌, ◌<◌, ◌≤◌, All, IfOk, IfSome, OnOk, length};
 ghost use Rattle.lx_reach.specs.Takers.{IsPair, IsTaker, max_pairs};
@@ -7,30 +7,30 @@ use lx_tables::{State, Tables};
 use std::alloc::{AllocError, Global};
 use std::collections::HashSet;
 
-/// The rules that take the texts of a rule which is never chosen.
+/// The rules that take the texts of a rule that is never chosen.
 #[derive(Drop)]
 pub struct Takers {
-    /// That rule.
+    /// Number of that rule.
     pub of: u16,
-    /// Each of these rules once. Where all texts were looked at and none is here, the rule matches no text of a byte.
+    /// Each of these rules once. If all texts were examined and none is here, the rule matches no text of a byte.
     pub rules: Vec<u16>,
-    /// A shortest text of that rule which the first of these takes.
+    /// A shortest text of that rule that the first of these takes.
     pub example: Vec<u8>,
-    /// Whether all texts were looked at.
+    /// True if all texts were examined.
     pub is_whole: bool,
 }
 
-// The most pairs of states that are looked at.
+// Greatest number of pairs of states that are examined.
 const MAX_PAIRS: usize = 20_000;
 
-// Two states to which one text leads: where the rule is alone, and where all rules are asked.
+// Two states to which one text leads: in the tables of the rule alone, and in those of all rules.
 #[derive(Clone, Copy)]
 pub(crate) struct Pair {
     pub alone: u32,
     pub all: u32,
-    // How many bytes the text has, or 2 where it has more.
+    // Number of bytes of the text, or 2 if it has more.
     pub level: u8,
-    // The last byte of the text, and the place of the pair to which the bytes before it lead.
+    // Last byte of the text, and the place of the pair to which the bytes before it lead.
     pub byte: u8,
     pub before: usize,
 }
@@ -39,7 +39,7 @@ pub(crate) struct Pair {
 #[derive(Drop)]
 struct Search {
     pairs: Vec<Pair>,
-    // Their states and levels.
+    // States and levels of the pairs.
     known: HashSet<(u32, u32, u8)>,
     is_whole: bool,
 }
@@ -62,7 +62,7 @@ fn meet(search: &mut Search, alone: &Tables, all: &Tables, pair: Pair) -> Result
     Ok(())
 }
 
-// Where a condition begins.
+// Returns the pair in which a condition begins.
 fn begun(alone: &Tables, all: &Tables, condition: u16, at_line_begin: bool) -> Pair
     requires alone { condition < length alone.now.machine.starts }
     requires all { condition < length all.now.machine.starts }
@@ -83,7 +83,7 @@ fn next_level(level: u8) -> u8
     if level < 2 { level + 1 } else { 2 }
 }
 
-// The pair behind one more byte, where both states step.
+// Returns the pair after one more byte, if both states have a step.
 fn behind(alone: &Tables, all: &Tables, pair: Pair, place: usize, byte: u8) -> Option<Pair>
     requires { IsPair alone.now.machine all.now.machine pair }
     ensures { IfSome result (IsPair alone.now.machine all.now.machine) }
@@ -153,7 +153,8 @@ fn searched(alloc: Global, alone: &Tables, all: &Tables) -> Result<Search, Alloc
     Ok(search)
 }
 
-// The rule that takes the text of a pair, where that is a text of the rule alone. The newline of a `$` is no part of the token, so that text has two bytes then.
+// Returns the rule that takes the text of a pair, if that is a text of the rule alone. The newline of a `$` isn't a part of the token, so the text
+// has at least two bytes then.
 fn taker(alone: &Tables, all: &Tables, pair: Pair) -> Option<u16>
     requires { IsPair alone.now.machine all.now.machine pair }
     ensures { IfSome result (IsTaker alone.now.machine all.now.machine) }
@@ -164,7 +165,7 @@ fn taker(alone: &Tables, all: &Tables, pair: Pair) -> Option<u16>
     if pair.level < least { None } else { Some(rule) }
 }
 
-// The text that leads to the pair at a place.
+// Returns the text that leads to the pair at a place.
 fn text_of(alloc: Global, pairs: &[Pair], place: usize) -> Result<Vec<u8>, AllocError> {
     let mut text = Vec::new(alloc);
     let mut at = place;
@@ -176,8 +177,9 @@ fn text_of(alloc: Global, pairs: &[Pair], place: usize) -> Result<Vec<u8>, Alloc
     Ok(text)
 }
 
-/// The rules that take the texts of the rule of this number, by the tables of that rule alone, with the same conditions, and by those of all rules: each answers a text of
-/// one byte or more that the rule alone matches. Where more than 20,000 pairs of states would have to be looked at, not all are found. Err: memory was refused.
+/// Finds the rules that take the texts of the rule with this number. `alone` are the tables of that rule only, with the same conditions, and `all`
+/// those of all rules. A rule takes a text if it is chosen for a text of a byte or more that the rule alone matches. Not all are found if more than
+/// 20,000 pairs of states would have to be examined. Err: an allocation failed.
 pub fn takers_of(alloc: Global, alone: &Tables, all: &Tables, of: u16) -> Result<Takers, AllocError>
     ensures of { IfOk result (λ takers. takers.of ≡ of) }
     ensures rules { IfOk result (λ takers. All (IsTaker alone.now.machine all.now.machine) takers.rules.items) }

@@ -1,4 +1,4 @@
-//! Which rules are active at a start: in a condition, at line begin or elsewhere.
+//! Finds the rules that are active at a start: in a condition, at line begin or elsewhere.
 
 ghost use Rattle.std.specs.Prelude.{◌≡◌, ◌<◌, ◌↔◌, true, IfOk, length};
 ghost use Rattle.lx_rules.specs.Choice.{IsActive};
@@ -10,7 +10,7 @@ use crate::rule::Rule;
 use crate::spec::Spec;
 use std::alloc::{AllocError, Global};
 
-// Whether the rule is active in the condition.
+// Returns true if the rule is active in the condition.
 fn is_active(spec: &Spec, rule: &Rule, condition: u16) -> bool
     requires { condition < length (spec_view spec.now).conditions }
     ensures { (result ≡ true) ↔ IsActive (spec_view spec.now) (rule_view rule.now) condition }
@@ -21,7 +21,7 @@ fn is_active(spec: &Spec, rule: &Rule, condition: u16) -> bool
     }
 }
 
-// Whether the rule is active in the condition, at line begin or not.
+// Returns true if the rule is active in the condition, at line begin or not.
 fn is_active_at(spec: &Spec, rule: &Rule, condition: u16, begin: bool) -> bool
     requires { condition < length (spec_view spec.now).conditions }
     ensures { (result ≡ true) ↔ IsActiveAt (spec_view spec.now) (rule_view rule.now) condition begin }
@@ -29,7 +29,7 @@ fn is_active_at(spec: &Spec, rule: &Rule, condition: u16, begin: bool) -> bool
     is_active(spec, rule, condition) && (begin || !rule.pattern.line_begin)
 }
 
-/// For each rule whether it is active in the condition, at line begin or not.
+/// Tests for each rule if it is active in the condition, at line begin or not.
 pub fn active_rules(
     alloc: Global,
     spec: &Spec,

@@ -4,6 +4,6 @@
 #[derive(Drop)]
 pub struct Condition {
     pub name: Vec<u8>,
-    /// Whether only rules that name the condition are active in it.
+    /// True if only rules that name the condition are active in it.
     pub exclusive: bool,
 }

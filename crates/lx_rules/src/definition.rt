@@ -2,7 +2,7 @@
 
 use lx_ere::expr::Expr;
 
-/// A name, and the expression that it stands for.
+/// A name and its expression.
 #[derive(Drop)]
 pub struct Definition {
     pub name: Vec<u8>,

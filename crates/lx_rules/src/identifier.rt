@@ -1,4 +1,4 @@
-//! Identifiers, and the bytes of which they are made.
+//! Identifiers, and the bytes of which they consist.
 
 ghost use Rattle.std.specs.Prelude.{◌≡◌};
 ghost use Rattle.std.specs.List.{list_all};
@@ -10,21 +10,21 @@ fn is_letter(c: u8) -> bool
     c.is_ascii_alphabetic()
 }
 
-/// Whether the byte is a digit, in ASCII.
+/// Returns true if the byte is an ASCII digit.
 pub fn is_digit(c: u8) -> bool
     ensures { result ≡ bytes.is_digit c }
 {
     b'0' <= c && c <= b'9'
 }
 
-/// Whether the byte is a letter or a digit, in ASCII.
+/// Returns true if the byte is an ASCII letter or digit.
 pub fn is_alphanumeric(c: u8) -> bool
     ensures { result ≡ bytes.is_alphanumeric c }
 {
     is_letter(c) || is_digit(c)
 }
 
-/// Whether the byte is a letter, a digit or `_`, in ASCII.
+/// Returns true if the byte is an ASCII letter, a digit or `_`.
 pub fn is_word_byte(c: u8) -> bool
     ensures { result ≡ bytes.is_word_byte c }
 {
@@ -43,7 +43,7 @@ fn are_word_bytes(text: &[u8]) -> bool
     text.iter().all(|c| is_word_byte(*c))
 }
 
-/// Whether the text is an identifier: a letter or `_`, then letters, digits or `_`, in ASCII.
+/// Returns true if the text is an identifier: a letter or `_`, then letters, digits or `_`, in ASCII.
 pub fn is_identifier(text: &[u8]) -> bool
     ensures { result ≡ bytes.is_identifier text.now }
 {

@@ -1,4 +1,4 @@
-//! Tables of numbers by name, for definitions and for kinds alike.
+//! Tables of numbers by name, for definitions and for kinds.
 ghost use Rattle.std.specs.Prelude.{◌≡◌, ℕ, List, Some, None, nat_eq, cond, OnOk};
 ghost use Rattle.std.specs.Cmp.Lexicographic.{pointwise};
 ghost use Rattle.std.specs.Option.{option_or};
@@ -7,7 +7,7 @@ ghost use Rattle.lx_rules.specs.views.NameTables.{number_at};
 use std::alloc::{AllocError, Global};
 use std::collections::BTreeMap;
 
-/// Adds the number of a name, where the name has none yet.
+/// Adds the number of a name, if the name has none yet.
 pub fn add_number(
     alloc: Global,
     numbers: &mut BTreeMap<Vec<u8>, usize>,

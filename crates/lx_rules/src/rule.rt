@@ -1,4 +1,4 @@
-//! Rules, and what they do.
+//! Rules and their actions.
 
 use crate::steps::Steps;
 use lx_ere::expr::Pattern;
@@ -15,22 +15,22 @@ pub enum Kind {
 /// One step of an action.
 #[derive(Debug, Clone, Copy, PartialEq, Eq)]
 pub enum Step {
-    /// `ECHO`: the matched text is copied to the output.
+    /// `ECHO`: copies the matched text to the output.
     Echo,
-    /// `BEGIN`: the start condition with this number is entered.
+    /// `BEGIN`: enters the start condition with this number.
     Begin(u16),
-    /// `return`: a token of this kind.
+    /// `return`: returns a token of this kind.
     Return(Kind),
 }
 
-/// A rule: where it is active, what it matches and what it does.
+/// A rule: the conditions in which it is active, its pattern and its action.
 #[derive(Drop)]
 pub struct Rule {
     /// The line on which the rule begins, counted from 1.
     pub line: u32,
-    /// The numbers of the conditions in which the rule is active, rising; with none it is active in each inclusive condition.
+    /// Numbers of the conditions in which the rule is active, in ascending order. Without any, it is active in each inclusive condition.
     pub conditions: Option<Vec<u16>>,
     pub pattern: Pattern,
-    /// The steps of the action in order; a return stands last. A rule whose action is that of the next shares its steps.
+    /// Steps of the action in order. A return comes last. A rule whose action is that of the next rule shares its steps.
     pub action: Steps,
 }

@@ -1,4 +1,4 @@
-//! A specification, read.
+//! Specifications that were read.
 
 ghost use Rattle.std.specs.Prelude.{◌<◌, ◌≤◌, length, map, IsTrue};
 ghost use Rattle.std.specs.List.{list_all};
@@ -12,18 +12,23 @@ use crate::condition::Condition;
 use crate::definition::Definition;
 use crate::rule::Rule;
 
-/// A specification. Its ghost fields say what every value keeps: the limits, INITIAL first, names that are distinct, kinds in
-/// order of first appearance, numbers in range, a return last, names defined and nested at most 32 deep, and the low bound of each
-/// interval at most its high one.
+/// A specification. Its ghost fields state what holds for every value:
+/// - the limits hold;
+/// - INITIAL is first;
+/// - names are distinct, defined, and nested at most 32 deep;
+/// - kinds are in the order of their first appearance;
+/// - numbers are in range;
+/// - a return is last;
+/// - the low bound of each interval is at most its high one.
 #[derive(Drop)]
 pub struct Spec {
-    /// `INITIAL`, and then the conditions in the order in which they are declared: at most 64.
+    /// `INITIAL`, and then the conditions in the order of their declaration: at most 64.
     pub conditions: Vec<Condition>,
-    /// The definitions that rules reach, in the order of the text: at most 1,024.
+    /// Definitions that rules reach, in the order of the text: at most 1,024.
     pub definitions: Vec<Definition>,
-    /// The identifiers that actions return, each once, in the order in which they first appear.
+    /// Identifiers that actions return, each once, in the order of their first appearance.
     pub kinds: Vec<Vec<u8>>,
-    /// At most 4,096 rules, in the order of the text.
+    /// Rules in the order of the text: at most 4,096.
     pub rules: Vec<Rule>,
     pub ghost some_conditions: { 0 < length conditions.items },
     pub ghost few_conditions: { length conditions.items ≤ max_start_conditions },

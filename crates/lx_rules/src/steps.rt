@@ -7,7 +7,7 @@ use std::alloc::AllocError;
 use std::marker::Model;
 use std::sync::ArcSlice;
 
-/// The steps of an action in order. They lie in memory once, whatever the number of rules that have them: a clone shares them.
+/// The steps of an action in order. They are in memory once, regardless of the number of rules that have them: a clone shares them.
 #[derive(Drop)]
 pub struct Steps {
     shared: ArcSlice<Step>,
@@ -24,7 +24,7 @@ impl Model for Steps {
 }
 
 impl Steps {
-    /// The steps of a list.
+    /// Makes steps of a list.
     pub fn from_vec(steps: Vec<Step>) -> Result<Steps, AllocError>
         ensures { IfOk result (λ s. s ≡ steps.items) }
     {
@@ -32,7 +32,7 @@ impl Steps {
         Ok(Steps { shared })
     }
 
-    /// The steps, in order.
+    /// Returns the steps in order.
     pub fn as_slice(&self) -> &[Step]
         ensures { result.now ≡ self.now }
     {
