@@ -44,7 +44,7 @@ fn read_three_rules(rt: &impl Print, alloc: Global) -> Result<(), Stop> {
     }
 }
 
-/// `read_spec` of the three rules.
+/// Calls `read_spec` with the three rules.
 pub(crate) fn reads_spec(rt: &impl Print, alloc: Global) -> Result<(), Stop> {
     match unless_refused(rt, read_three_rules(rt, alloc)) {
         Some(ended) => ended,
@@ -60,7 +60,7 @@ fn print_no_step(rt: &impl Print, byte: u8) -> Result<(), Stop> {
     printed(println!(rt; "no step on {byte}"))
 }
 
-/// Prints what is accepted behind one byte.
+/// Prints what is accepted after one byte.
 fn print_step(rt: &impl Print, automaton: &Automaton, byte: u8) -> Result<(), Stop>
     requires { 0 < length automaton.now.starts }
 {
@@ -71,7 +71,7 @@ fn print_step(rt: &impl Print, automaton: &Automaton, byte: u8) -> Result<(), St
     }
 }
 
-/// Prints how many states there are, and what is accepted behind one byte.
+/// Prints the number of states, and what is accepted after one byte.
 pub(crate) fn print_automaton(rt: &impl Print, automaton: &Automaton) -> Result<(), Stop> {
     let (conditions, states) = (automaton.conditions(), automaton.states());
     printed(println!(rt; "{conditions} conditions, {states} states"))?;
@@ -92,7 +92,7 @@ fn build_once(rt: &impl Print, alloc: Global, spec: &Spec) -> Result<(), Stop> {
     }
 }
 
-/// `build` of the three rules.
+/// Calls `build` with the three rules.
 pub(crate) fn builds(rt: &impl Print, alloc: Global) -> Result<(), Stop> {
     let spec = three_rules(alloc)?;
     match unless_refused(rt, build_once(rt, alloc, &spec)) {
@@ -101,7 +101,7 @@ pub(crate) fn builds(rt: &impl Print, alloc: Global) -> Result<(), Stop> {
     }
 }
 
-/// The automaton of a specification.
+/// Builds the automaton of a specification.
 pub(crate) fn automaton_of(alloc: Global, spec: &Spec) -> Result<Automaton, Stop> {
     match build(alloc, spec) {
         Ok(automaton) => Ok(automaton),
@@ -116,7 +116,7 @@ fn merge_once(rt: &impl Print, alloc: Global, automaton: &Automaton) -> Result<(
     }
 }
 
-/// `merge` of their automaton.
+/// Calls `merge` with their automaton.
 pub(crate) fn merges(rt: &impl Print, alloc: Global) -> Result<(), Stop> {
     let spec = three_rules(alloc)?;
     let automaton = automaton_of(alloc, &spec)?;
@@ -138,8 +138,8 @@ fn print_made(rt: &impl Print, made: Result<Tables, AllocError>) -> Result<(), S
     }
 }
 
-// That the automaton is the specification's is known here alone, so both calls stand here.
-/// `Tables::of` of their merged automaton.
+// Only here it is known that the automaton is the specification's, so both calls are made here.
+/// Calls `Tables::of` with their merged automaton.
 pub(crate) fn makes_tables(rt: &impl Print, alloc: Global) -> Result<(), Stop> {
     let spec = three_rules(alloc)?;
     let Ok(built) = build(alloc, &spec) else {
@@ -165,7 +165,7 @@ fn read_tables_once(rt: &impl Print, alloc: Global) -> Result<(), Stop> {
     }
 }
 
-/// `Tables::read` of version 1 of their text.
+/// Calls `Tables::read` with version 1 of their text.
 pub(crate) fn reads_tables(rt: &impl Print, alloc: Global) -> Result<(), Stop> {
     match unless_refused(rt, read_tables_once(rt, alloc)) {
         Some(ended) => ended,
@@ -191,7 +191,7 @@ fn scan_once(rt: &impl Print, alloc: Global, tables: &Tables) -> Result<(), Stop
     }
 }
 
-/// `scan` of two words by the three rules.
+/// Calls `scan` with two words and the three rules.
 pub(crate) fn scans(rt: &impl Print, alloc: Global) -> Result<(), Stop> {
     let tables = tables_of(alloc, THREE_RULES)?;
     match unless_refused(rt, scan_once(rt, alloc, &tables)) {

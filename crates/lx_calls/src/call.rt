@@ -1,4 +1,4 @@
-//! The calls, by their names.
+//! The calls by their names.
 
 use crate::stop::Stop;
 use crate::{
@@ -52,7 +52,7 @@ pub(crate) enum Call {
     MeetingGate,
 }
 
-/// All of them, those that take memory first, each with the sign that stands before its name, `==` where it takes memory and else `--`, and its name.
+/// All calls, each with a mark and its name. The mark is `==` if the call allocates, and otherwise `--`. Those that allocate come first.
 pub(crate) const ALL: &[(Call, &str, &str)] = &[
     (Call::ReadPattern, "==", "read_pattern"),
     (Call::ReadSubstitute, "==", "read_substitute"),
@@ -139,7 +139,7 @@ impl Call {
     }
 }
 
-/// Makes a call, and prints what it answers.
+/// Makes a call, and prints its result.
 fn drive<R: Print + Threads + Wait + Sync>(rt: &R, alloc: Global, call: Call) -> io::Result<()> {
     match call.make(rt, alloc) {
         Ok(()) => Ok(()),
@@ -149,7 +149,7 @@ fn drive<R: Print + Threads + Wait + Sync>(rt: &R, alloc: Global, call: Call) ->
     }
 }
 
-/// Makes the call of this name.
+/// Makes the call with this name.
 pub(crate) fn drive_named<R: Print + Threads + Wait + Sync>(
     rt: &R,
     alloc: Global,
@@ -163,7 +163,7 @@ pub(crate) fn drive_named<R: Print + Threads + Wait + Sync>(
     Err(io::Error::from(io::ErrorKind::NotFound))
 }
 
-/// Makes a call, with its name before what it answers.
+/// Makes a call, and prints its name and its result.
 fn drive_with_name<R: Print + Threads + Wait + Sync>(
     rt: &R,
     alloc: Global,
@@ -173,7 +173,7 @@ fn drive_with_name<R: Print + Threads + Wait + Sync>(
     drive(rt, alloc, call)
 }
 
-/// Makes each call, with its name before what it answers.
+/// Makes each call, and prints its name and its result.
 pub(crate) fn drive_all<R: Print + Threads + Wait + Sync>(rt: &R, alloc: Global) -> io::Result<()> {
     for row in ALL {
         drive_with_name(rt, alloc, *row)?;

@@ -1,4 +1,4 @@
-//! Pieces, and the collector that puts them in order.
+//! Calls on pieces, and on the collector that puts them in order.
 
 ghost use Rattle.std.specs.Prelude.{◌≡◌, ◌<◌, ◌≤◌, IfOk, length};
 ghost use Rattle.lx_piece.specs.Cutting.{IsCutterOf};
@@ -38,7 +38,7 @@ fn print_next(rt: &impl Print, plan: &Plan, cutter: &mut Cutter) -> Result<(), S
     }
 }
 
-/// Prints three times what a cutter of the first file gives.
+/// Prints the results of three calls of a cutter of the first file.
 fn print_first_pieces(rt: &impl Print, alloc: Global, plan: &Plan) -> Result<(), Stop>
     requires { IsPlan plan.now }
 {
@@ -48,7 +48,7 @@ fn print_first_pieces(rt: &impl Print, alloc: Global, plan: &Plan) -> Result<(),
     print_next(rt, plan, &mut cutter)
 }
 
-/// A file of so many bytes, each of which is an Echo, in pieces of 256.
+/// Returns the plan of a file of `len` bytes, each of which is an Echo, in pieces of 256.
 fn echo_plan(alloc: Global, len: usize) -> Result<Plan, Stop>
     requires { len ≤ 512 }
     ensures { IfOk result IsPlan }
@@ -66,7 +66,7 @@ fn print_two(rt: &impl Print, alloc: Global, first: &Plan, second: &Plan) -> Res
     print_first_pieces(rt, alloc, second)
 }
 
-/// Makes two plans more, and prints the first pieces of all.
+/// Makes two more plans, and prints the first pieces of all.
 fn cuts_with(rt: &impl Print, alloc: Global, full: &Plan, one_more: &Plan) -> Result<(), Stop>
     requires full { IsPlan full.now }
     requires one_more { IsPlan one_more.now }
@@ -79,14 +79,14 @@ fn cuts_with(rt: &impl Print, alloc: Global, full: &Plan, one_more: &Plan) -> Re
     }
 }
 
-/// `next_piece` of files of 256, 257 and 512 bytes, and of two words one by one.
+/// Calls `next_piece` on files of 256, 257 and 512 bytes, and on two words one by one.
 pub(crate) fn cuts(rt: &impl Print, alloc: Global) -> Result<(), Stop> {
     let full = echo_plan(alloc, 256)?;
     let one_more = echo_plan(alloc, 257)?;
     cuts_with(rt, alloc, &full, &one_more)
 }
 
-/// Prints whether a collector's first file is closed and cut, and whether all files are closed.
+/// Prints if a collector's first file is closed and cut, and if all files are closed.
 fn print_collector(rt: &impl Print, collector: &Collector) -> Result<(), Stop>
     requires { 0 < length collector.now.buffers }
 {
@@ -102,7 +102,7 @@ fn make_collector_once(rt: &impl Print, alloc: Global) -> Result<(), Stop> {
     }
 }
 
-/// `Collector::new` of three files.
+/// Calls `Collector::new` for three files.
 pub(crate) fn makes_collector(rt: &impl Print, alloc: Global) -> Result<(), Stop> {
     match unless_refused(rt, make_collector_once(rt, alloc)) {
         Some(ended) => ended,
@@ -151,7 +151,7 @@ fn deliver(rt: &impl Print, collector: &mut Collector) -> Result<(), Stop>
     }
 }
 
-/// Prints what is delivered, four pieces at most.
+/// Prints the delivered pieces, at most four.
 fn print_delivered(rt: &impl Print, collector: &mut Collector) -> Result<(), Stop>
     requires { 0 < length collector.old.buffers }
     ensures { length collector.new.buffers ≡ length collector.old.buffers }
@@ -162,7 +162,7 @@ fn print_delivered(rt: &impl Print, collector: &mut Collector) -> Result<(), Sto
     print_collector(rt, collector)
 }
 
-/// The pieces of a file in another order, with one again and one behind the last.
+/// The pieces of a file in another order, with a duplicate and one after the last.
 const TURNS: &[(u64, Mark)] = &[
     (2, Mark::Whole),
     (0, Mark::More),
@@ -171,7 +171,7 @@ const TURNS: &[(u64, Mark)] = &[
     (3, Mark::More),
 ];
 
-/// Offers pieces in another order, and prints what is delivered behind each.
+/// Offers pieces in another order, and prints what is delivered after each.
 fn offer_turns(rt: &impl Print, alloc: Global, collector: &mut Collector) -> Result<(), Stop>
     requires { 0 < length collector.old.buffers }
 {
@@ -182,7 +182,7 @@ fn offer_turns(rt: &impl Print, alloc: Global, collector: &mut Collector) -> Res
     Ok(())
 }
 
-/// `offer` of pieces in another order, and what is delivered behind each.
+/// Calls `offer` with pieces in another order, and delivers after each.
 pub(crate) fn offers(rt: &impl Print, alloc: Global) -> Result<(), Stop> {
     match Collector::new(alloc, 1, 1) {
         Ok(mut collector) => offer_turns(rt, alloc, &mut collector),
@@ -207,7 +207,7 @@ fn prepared(alloc: Global) -> Result<Collector, Stop>
     Ok(collector)
 }
 
-/// `deliver`, `is_closed`, `is_cut` and `all_closed` of a collector that holds the three pieces of a cut file.
+/// Calls `deliver`, `is_closed`, `is_cut` and `all_closed` on a collector that holds the three pieces of a cut file.
 pub(crate) fn delivers(rt: &impl Print, alloc: Global) -> Result<(), Stop> {
     let mut collector = prepared(alloc)?;
     refuse_from_here(alloc);

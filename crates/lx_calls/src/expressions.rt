@@ -1,10 +1,10 @@
-//! Patterns and substitutes, read and printed in full: `(a b)` is a and then b, and an interval stands behind what it repeats.
+//! Reads patterns and substitutes, and prints them in full: `(a b)` is a and then b, and an interval follows what it repeats.
 
 use crate::stop::{Stop, printed, refuse_from_here, say, say_fault, unless_refused};
 use lx_ere::{ByteSet, EreFault, Expr, Pattern, pattern_end, read_pattern, read_substitute};
 use std::alloc::Global;
 
-/// Intervals, names and escapes.
+/// Texts with intervals, names and escapes.
 const TEXTS: &[&str] = &["ab{2}", "a({D}{1,2})", "\"\\01\"\"1\"", "\\x41*"];
 
 fn print_text(rt: &impl Print, text: &str) -> Result<(), Stop> {
@@ -93,7 +93,7 @@ fn print_read(rt: &impl Print, alloc: Global, text: &str) -> Result<(), Stop> {
     }
 }
 
-/// `read_pattern` of each text.
+/// Calls `read_pattern` with each text.
 pub(crate) fn reads_patterns(rt: &impl Print, alloc: Global) -> Result<(), Stop> {
     for text in TEXTS {
         print_read(rt, alloc, text)?;
@@ -116,7 +116,7 @@ fn print_substitute(rt: &impl Print, alloc: Global, text: &str) -> Result<(), St
     }
 }
 
-/// `read_substitute` of each text.
+/// Calls `read_substitute` with each text.
 pub(crate) fn reads_substitutes(rt: &impl Print, alloc: Global) -> Result<(), Stop> {
     for text in TEXTS {
         print_substitute(rt, alloc, text)?;
@@ -137,7 +137,7 @@ fn print_members(rt: &impl Print, expr: &Expr) -> Result<(), Stop> {
     Ok(())
 }
 
-/// `has` of a set of digits.
+/// Calls `has` on a set of digits.
 pub(crate) fn has(rt: &impl Print, alloc: Global) -> Result<(), Stop> {
     let Ok(digits) = read_substitute(alloc, b"[0-9]") else {
         return Err(Stop::NotBegun);
@@ -153,7 +153,7 @@ fn print_end(rt: &impl Print, end: usize) -> Result<(), Stop> {
     printed(println!(rt; "{end}"))
 }
 
-/// `pattern_end` behind quotes, brackets and escapes.
+/// Calls `pattern_end` with quotes, brackets and escapes.
 pub(crate) fn ends_patterns(rt: &impl Print, alloc: Global) -> Result<(), Stop> {
     refuse_from_here(alloc);
     for text in LINES {

@@ -1,4 +1,4 @@
-//! Listings.
+//! Calls that write listings.
 
 ghost use Rattle.lx_piece.specs.Plans.{IsPlan};
 
@@ -12,7 +12,7 @@ use std::alloc::{AllocError, Global};
 use std::io;
 use std::io::Write;
 
-/// More bytes than any listing here has.
+/// A length that no listing here reaches.
 pub(crate) const ROOM: usize = 256;
 
 fn print_part_to(rt: &impl Print, written: &[u8]) -> io::Result<()> {
@@ -28,12 +28,12 @@ fn print_part_to(rt: &impl Print, written: &[u8]) -> io::Result<()> {
     out.write_all(b"refused\n")
 }
 
-/// Prints what was written before memory was refused.
+/// Prints what was written before an allocation failed.
 pub(crate) fn print_part(rt: &impl Print, written: &[u8]) -> Result<(), Stop> {
     printed(print_part_to(rt, written))
 }
 
-/// Memory for a listing.
+/// Returns memory for a listing.
 pub(crate) fn room_for_listing(alloc: Global) -> Result<Vec<u8>, Stop> {
     match Vec::with_capacity(alloc, ROOM) {
         Ok(room) => Ok(room),
@@ -41,7 +41,7 @@ pub(crate) fn room_for_listing(alloc: Global) -> Result<Vec<u8>, Stop> {
     }
 }
 
-/// Prints what was written by a run that ended so.
+/// Prints what a run has written, or its fault.
 pub(crate) fn print_written(
     rt: &impl Print,
     written: &[u8],
@@ -70,14 +70,14 @@ fn print_listing_into(
     print_written(rt, written, ended)
 }
 
-/// `print_listing` of two words by the three rules.
+/// Calls `print_listing` with two words and the three rules.
 pub(crate) fn prints_listing(rt: &impl Print, alloc: Global) -> Result<(), Stop> {
     let plan = plan_of(alloc, THREE_RULES, FILE_OF_TWO_WORDS, 1)?;
     let mut written = room_for_listing(alloc)?;
     print_listing_into(rt, alloc, &plan, &mut written)
 }
 
-// The writer's type is a parameter here and below, since a listing that is made over a lent local isn't covered by the prover.
+// The writer's type is a parameter here and below, since the prover doesn't support a listing over a borrowed local.
 fn faults_over<W: Write + Drop>(alloc: Global, plan: &Plan, out: W) -> Result<u64, Stop> {
     match Listing::new(alloc, plan, out) {
         Ok(listing) => Ok(listing.faults()),
@@ -92,13 +92,13 @@ fn print_faults(rt: &impl Print, faults: Result<u64, Stop>) -> Result<(), Stop> 
     }
 }
 
-/// Makes a listing over the output, and prints how many faults it has.
+/// Makes a listing over the output, and prints its number of faults.
 fn make_listing_once(rt: &impl Print, alloc: Global, plan: &Plan) -> Result<(), Stop> {
     let faults = faults_over(alloc, plan, io::writer(rt));
     print_faults(rt, faults)
 }
 
-/// `Listing::new` over the output.
+/// Calls `Listing::new` over the output.
 pub(crate) fn makes_listing(rt: &impl Print, alloc: Global) -> Result<(), Stop> {
     let plan = plan_of(alloc, THREE_RULES, FILE_OF_TWO_WORDS, 1)?;
     match unless_refused(rt, make_listing_once(rt, alloc, &plan)) {
@@ -107,7 +107,7 @@ pub(crate) fn makes_listing(rt: &impl Print, alloc: Global) -> Result<(), Stop> 
     }
 }
 
-/// A new listing takes the only piece, and writes its lines.
+/// Gives the only piece to a new listing, which writes its lines.
 fn take_once<W: Write + Drop>(
     alloc: Global,
     plan: &Plan,
@@ -124,7 +124,7 @@ fn take_once<W: Write + Drop>(
     }
 }
 
-/// Prints what was written of a piece that was taken so.
+/// Prints what was written of a piece, or the fault.
 fn print_taken(
     rt: &impl Print,
     written: &[u8],
@@ -137,7 +137,7 @@ fn print_taken(
     }
 }
 
-/// `Listing::take` of a piece with two words.
+/// Calls `Listing::take` with a piece of two words.
 pub(crate) fn takes(rt: &impl Print, alloc: Global) -> Result<(), Stop> {
     let plan = plan_of(alloc, THREE_RULES, FILE_OF_TWO_WORDS, 256)?;
     let mut written = room_for_listing(alloc)?;
@@ -159,7 +159,7 @@ fn faults_unfed<W: Write + Drop>(alloc: Global, plan: &Plan, out: W) -> Result<u
     Ok(listing.faults())
 }
 
-/// `faults` of a listing.
+/// Calls `faults` on a listing.
 pub(crate) fn counts_faults(rt: &impl Print, alloc: Global) -> Result<(), Stop> {
     let plan = plan_of(alloc, THREE_RULES, FILE_OF_TWO_WORDS, 1)?;
     let faults = faults_unfed(alloc, &plan, io::writer(rt));

@@ -18,7 +18,7 @@ use crate::call::{drive_all, drive_named};
 use std::process::ExitCode;
 use std::{env, io};
 
-// The exit status where a word is no call's name, or the output fails.
+// Exit status if an argument isn't the name of a call, or if the output fails.
 const FAILED: u8 = 1;
 
 fn main(rt: HostRuntime) -> ExitCode {
@@ -33,7 +33,7 @@ fn main(rt: HostRuntime) -> ExitCode {
     }
 }
 
-// The first word behind the program's name.
+// Returns the first argument after the program's name.
 fn word(rt: &HostRuntime) -> io::Result<Option<String>> {
     let mut words = env::args(rt)?;
     let _program = words.next();

@@ -1,4 +1,4 @@
-//! Claims and posts.
+//! Calls on claims and posts.
 
 ghost use Rattle.std.specs.Prelude.{◌≡◌, ◌≤◌, [], All, IfOk, vec_capacity};
 ghost use Rattle.lx_piece.specs.Pieces.{IsPieceOf};
@@ -25,7 +25,7 @@ fn print_count(rt: &impl Print, count: usize, what: &str) -> Result<(), Stop> {
     printed(println!(rt; "{count} {what}"))
 }
 
-/// `Claims::new` of three files and two workers.
+/// Calls `Claims::new` for three files and two workers.
 pub(crate) fn makes_claims(rt: &impl Print, alloc: Global) -> Result<(), Stop> {
     match unless_refused(rt, make_claims_once(rt, alloc)) {
         Some(ended) => ended,
@@ -40,7 +40,7 @@ fn make_post_once<R: Print + Wait>(rt: &R, alloc: Global, plan: &Plan) -> Result
     }
 }
 
-/// `Post::new` for two workers.
+/// Calls `Post::new` for two workers.
 pub(crate) fn makes_post<R: Print + Wait>(rt: &R, alloc: Global) -> Result<(), Stop> {
     let plan = plan_of(alloc, THREE_RULES, THREE_FILES.as_slice(), 1)?;
     match unless_refused(rt, make_post_once(rt, alloc, &plan)) {
@@ -57,7 +57,7 @@ fn print_drawn(rt: &impl Print, claims: &Claims, seat: &mut ClaimSeat) -> Result
     printed(println!(rt; "{drawn:?}"))
 }
 
-/// Draws once by each of two seats.
+/// Draws once with each of two seats.
 fn draw_by_each(
     rt: &impl Print,
     claims: &Claims,
@@ -73,7 +73,7 @@ fn draw_by_each(
     print_drawn(rt, claims, second)
 }
 
-/// Draws three times by each of two seats.
+/// Draws three times with each of two seats.
 fn draw_six_times(
     rt: &impl Print,
     claims: &Claims,
@@ -90,7 +90,7 @@ fn draw_six_times(
     draw_by_each(rt, claims, first, second)
 }
 
-/// Settles, and prints of how many files.
+/// Settles, and prints the number of files.
 fn settle(rt: &impl Print, claims: Claims, seats: Vec<ClaimSeat>) -> Result<(), Stop>
     requires { All (λ seat. IsSeatOf claims seat) seats.items }
 {
@@ -100,7 +100,7 @@ fn settle(rt: &impl Print, claims: Claims, seats: Vec<ClaimSeat>) -> Result<(), 
     }
 }
 
-/// Draws by two seats in turn, until both were answered that no file is left, and settles.
+/// Draws with two seats in turn, until both learnt that no file is left, and settles.
 fn draw_in_turn(
     rt: &impl Print,
     claims: Claims,
@@ -140,7 +140,7 @@ fn draw_by_two(
     draw_in_turn(rt, claims, first, second, done)
 }
 
-/// `draw` and `settle` of three files and two seats.
+/// Calls `draw` and `settle` for three files and two seats.
 pub(crate) fn draws(rt: &impl Print, alloc: Global) -> Result<(), Stop> {
     match Claims::new(alloc, 3, 2) {
         Ok((claims, seats)) => draw_by_two(rt, alloc, claims, seats),
@@ -164,7 +164,7 @@ fn print_note(rt: &impl Print, note: &Note) -> Result<(), Stop> {
     }
 }
 
-/// Sends a file's piece, and the end.
+/// Sends a file's piece, and then the end.
 fn send_two<R: Wait>(rt: &R, plan: &Plan, post: &Post, pass: &mut SendPass, piece: Piece)
     requires piece { IsPieceOf plan.now piece }
     requires pass { pass.old ≡ fresh_send post.now plan.now 0 }
@@ -201,7 +201,7 @@ fn receive_three<R: Print + Wait>(rt: &R, post: &Post, take: &mut TakePass) -> R
     print_received(rt, post, take)
 }
 
-/// Finishes, and prints whether it did.
+/// Finishes, and prints the result.
 fn finish_and_say<R: Print + Wait>(
     rt: &R,
     post: Post,
@@ -240,7 +240,7 @@ fn send_and_receive<R: Print + Wait>(
     finish_and_say(rt, post, take, passes)
 }
 
-/// `send`, `receive` and `finish` of one worker.
+/// Calls `send`, `receive` and `finish` for one worker.
 pub(crate) fn sends<R: Print + Wait>(rt: &R, alloc: Global) -> Result<(), Stop> {
     let plan = plan_of(alloc, THREE_RULES, FILE_OF_TWO_WORDS, 256)?;
     let Ok(piece) = first_piece(alloc, &plan, 0) else {
@@ -254,7 +254,7 @@ pub(crate) fn sends<R: Print + Wait>(rt: &R, alloc: Global) -> Result<(), Stop> 
     send_and_receive(rt, &plan, post, pass, take, piece, room)
 }
 
-/// Prints the piece that arrives first, and then whether none arrives.
+/// Prints the piece that arrives first, and then if another one arrives.
 fn print_arrivals<R: Print + Wait>(
     rt: &R,
     arrivals: &mut PostArrivals<'_, R>,
@@ -285,7 +285,7 @@ fn send_and_arrive<R: Print + Wait>(
     printed(println!(rt; "no arrival behind it {is_last}, {fault:?}"))
 }
 
-/// A post of one worker with a send pass, and the pass that takes.
+/// Makes a post of one worker, with a send pass and the pass that takes.
 fn post_of_one<R: Wait>(
     rt: &R,
     alloc: Global,
@@ -304,7 +304,7 @@ fn post_of_one<R: Wait>(
     }
 }
 
-/// `PostArrivals::new`, `next` and `into_pass` of one worker.
+/// Calls `PostArrivals::new`, `next` and `into_pass` for one worker.
 pub(crate) fn arrives<R: Print + Wait>(rt: &R, alloc: Global) -> Result<(), Stop> {
     let plan = plan_of(alloc, THREE_RULES, FILE_OF_TWO_WORDS, 256)?;
     let Ok(piece) = first_piece(alloc, &plan, 0) else {

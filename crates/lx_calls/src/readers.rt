@@ -1,4 +1,4 @@
-//! Readers, printers, makers and the scanner's step, which take no memory.
+//! Calls of readers, printers, makers and the scanner's step. They allocate nothing.
 
 ghost use Rattle.std.specs.Prelude.{◌≡◌, ◌<◌, IfOk, length, vec_len};
 ghost use Rattle.lx_piece.specs.Plans.{files_of, kinds_of};
@@ -15,7 +15,7 @@ use lx_tables::Tables;
 use std::alloc::{AllocError, Global};
 use std::io;
 
-/// The readers of an automaton.
+/// Calls the readers of an automaton.
 pub(crate) fn reads_automaton(rt: &impl Print, alloc: Global) -> Result<(), Stop> {
     let spec = three_rules(alloc)?;
     let automaton = automaton_of(alloc, &spec)?;
@@ -57,7 +57,7 @@ fn print_state(rt: &impl Print, number: u32, rule: Option<u16>) -> Result<(), St
     printed(println!(rt; "leads to {number}, which accepts {rule:?}"))
 }
 
-/// Prints the class of a byte, and where it leads from the start.
+/// Prints the class of a byte, and its target from the start.
 fn print_step(rt: &impl Print, tables: &Tables, byte: u8) -> Result<(), Stop>
     requires { 0 < length tables.now.machine.starts }
 {
@@ -87,21 +87,21 @@ fn print_all(rt: &impl Print, tables: &Tables) -> Result<(), Stop> {
     print_kinds(rt, tables)
 }
 
-/// The readers of tables.
+/// Calls the readers of tables.
 pub(crate) fn reads_tables(rt: &impl Print, alloc: Global) -> Result<(), Stop> {
     let tables = tables_of(alloc, THREE_RULES)?;
     refuse_from_here(alloc);
     print_all(rt, &tables)
 }
 
-/// `print`.
+/// Calls `print`.
 pub(crate) fn prints(rt: &impl Print, alloc: Global) -> Result<(), Stop> {
     let tables = tables_of(alloc, THREE_RULES)?;
     refuse_from_here(alloc);
     print_tables(rt, &tables)
 }
 
-/// `print_first`.
+/// Calls `print_first`.
 pub(crate) fn prints_first(rt: &impl Print, alloc: Global) -> Result<(), Stop> {
     let tables = tables_of(alloc, THREE_RULES)?;
     refuse_from_here(alloc);
@@ -121,7 +121,7 @@ fn print_match(rt: &impl Print, tables: &Tables, text: &[u8]) -> Result<(), Stop
     Ok(())
 }
 
-/// `next_match` from `Place::begin` on, the first match alone.
+/// Calls `next_match` from `Place::begin` on, for the first match only.
 pub(crate) fn matches(rt: &impl Print, alloc: Global) -> Result<(), Stop> {
     let tables = tables_of(alloc, THREE_RULES)?;
     refuse_from_here(alloc);
@@ -131,7 +131,7 @@ pub(crate) fn matches(rt: &impl Print, alloc: Global) -> Result<(), Stop> {
     }
 }
 
-/// A file of two words.
+/// Returns a file of two words.
 fn files_of_two_words(alloc: Global) -> Result<Vec<Input>, AllocError>
     ensures { IfOk result (λ files. vec_len files ≡ 1) }
 {
@@ -142,7 +142,7 @@ fn files_of_two_words(alloc: Global) -> Result<Vec<Input>, AllocError>
     }
 }
 
-/// Prints what a plan of one file and some kinds says of itself.
+/// Prints the properties of a plan with one file and some kinds.
 fn print_plan(rt: &impl Print, plan: &Plan) -> Result<(), Stop>
     requires file { 0 < files_of plan.now }
     requires kind { 0 < length (kinds_of plan.now) }
@@ -152,7 +152,7 @@ fn print_plan(rt: &impl Print, plan: &Plan) -> Result<(), Stop>
     printed(println!(rt; "{count} file, {bytes:?}, {kind:?}"))
 }
 
-/// `Plan::new`, its readers, and `Cutter::new`.
+/// Calls `Plan::new`, its readers, and `Cutter::new`.
 pub(crate) fn plans(rt: &impl Print, alloc: Global) -> Result<(), Stop> {
     let tables = tables_of(alloc, THREE_RULES)?;
     if tables.kinds() == 0 {
@@ -168,7 +168,7 @@ pub(crate) fn plans(rt: &impl Print, alloc: Global) -> Result<(), Stop> {
     ended
 }
 
-/// Prints what arrives next.
+/// Prints the next arrival.
 fn print_arrival(rt: &impl Print, arrivals: &mut ListArrivals<'_>) -> Result<(), Stop> {
     match arrivals.next() {
         Some(piece) => print_piece(rt, &piece),
@@ -176,7 +176,7 @@ fn print_arrival(rt: &impl Print, arrivals: &mut ListArrivals<'_>) -> Result<(),
     }
 }
 
-/// `ListArrivals::new` and `next`, of the pieces of two files and two strangers.
+/// Calls `ListArrivals::new` and `next` with the pieces of two files and two foreign pieces.
 pub(crate) fn arrives(rt: &impl Print, alloc: Global) -> Result<(), Stop> {
     let plan = plan_of(alloc, NO_RULES, &[(b"", false), (b"", false)], 256)?;
     if plan.files() != 2 {
@@ -193,7 +193,7 @@ pub(crate) fn arrives(rt: &impl Print, alloc: Global) -> Result<(), Stop> {
     Ok(())
 }
 
-/// `text` of a token.
+/// Calls `text` on a token.
 pub(crate) fn lends(rt: &impl Print, alloc: Global) -> Result<(), Stop> {
     let token = Item::Token {
         kind: Kind::Name(1),

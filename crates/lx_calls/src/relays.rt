@@ -1,4 +1,4 @@
-//! A relay of two files, with strangers among their pieces.
+//! Calls a relay of two files, with foreign pieces among theirs.
 
 ghost use Rattle.std.specs.Prelude.{◌≡◌, IfOk, length, replicate};
 ghost use Rattle.lx_piece.specs.Plans.{files_of};
@@ -17,7 +17,7 @@ struct Tally<'a> {
     ghost each_count: { length counts.items ≡ files_of plan.now },
 }
 
-/// A tally that has counted nothing.
+/// Returns a tally that has counted nothing.
 fn fresh_tally(alloc: Global, plan: &Plan) -> Result<Tally<'_>, AllocError>
     ensures plan { IfOk result (λ tally. tally.plan.now ≡ plan.now) }
     ensures counts { IfOk result (λ tally. tally.counts.items ≡ replicate (files_of plan.now) 0) }
@@ -53,7 +53,7 @@ impl<'a> Reader for Tally<'a> {
     ghost follows_on = { λ _ _ _ _ _. tt };
 }
 
-/// What a relay answered, and how many pieces it handed on.
+/// The result of a relay, and the number of pieces that it delivered.
 #[derive(Drop)]
 struct Relayed {
     answer: Result<Vec<Reply>, RelayFault>,
@@ -91,7 +91,7 @@ fn print_replies(rt: &impl Print, replies: &[Reply]) -> Result<(), Stop> {
     Ok(())
 }
 
-/// Relays the pieces, and prints the replies and how many pieces were handed on.
+/// Relays the pieces, and prints the replies and the number of delivered pieces.
 fn relay_and_print(rt: &impl Print, alloc: Global, plan: &Plan) -> Result<(), Stop>
     requires run { plan.now.run ≡ 1 }
     requires files { files_of plan.now ≡ 2 }
@@ -107,7 +107,7 @@ fn relay_and_print(rt: &impl Print, alloc: Global, plan: &Plan) -> Result<(), St
     }
 }
 
-/// `relay` of two empty files among strangers.
+/// Calls `relay` with two empty files among foreign pieces.
 pub(crate) fn relays(rt: &impl Print, alloc: Global) -> Result<(), Stop> {
     let plan = plan_of(alloc, NO_RULES, &[(b"", false), (b"", false)], 256)?;
     if plan.files() != 2 {

@@ -1,4 +1,4 @@
-//! Specifications, tables and plans for the calls: where they can't be made, the call isn't begun.
+//! Specifications, tables and plans for the calls. If they can't be made, the call isn't begun.
 
 ghost use Rattle.std.specs.Prelude.{◌≡◌, ◌<◌, ◌≤◌, IfOk, length};
 ghost use Rattle.lx_piece.specs.Plans.{IsPlan, max_items};
@@ -10,10 +10,10 @@ use lx_spec::{Spec, read_spec};
 use lx_tables::Tables;
 use std::alloc::Global;
 
-/// Two words, in a file that was read to its end.
+/// Two words in a file that was read to its end.
 pub(crate) const FILE_OF_TWO_WORDS: &[(&[u8], bool)] = &[(lx_fixtures::TWO_WORDS, false)];
 
-/// The specification of the three rules.
+/// Reads the specification of the three rules.
 pub(crate) fn three_rules(alloc: Global) -> Result<Spec, Stop> {
     match read_spec(alloc, THREE_RULES.as_bytes()) {
         Ok(spec) => Ok(spec),
@@ -21,7 +21,7 @@ pub(crate) fn three_rules(alloc: Global) -> Result<Spec, Stop> {
     }
 }
 
-/// The tables of a specification.
+/// Makes the tables of a specification.
 pub(crate) fn tables_of(alloc: Global, spec: &str) -> Result<Tables, Stop> {
     match lx_fixtures::tables_of(alloc, spec) {
         Ok(tables) => Ok(tables),
@@ -29,7 +29,7 @@ pub(crate) fn tables_of(alloc: Global, spec: &str) -> Result<Tables, Stop> {
     }
 }
 
-/// The plan of run 1 of these files by the tables of a specification.
+/// Makes the plan of run 1 of these files by the tables of a specification.
 pub(crate) fn plan_of(
     alloc: Global,
     spec: &str,

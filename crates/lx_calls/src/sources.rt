@@ -1,4 +1,4 @@
-//! Sources of files.
+//! Calls of sources of files.
 
 use crate::stop::{Stop, printed, say_fault, unless_refused};
 use lx_fixtures::TWO_WORDS;
@@ -19,7 +19,7 @@ fn read_second(rt: &impl Print, alloc: Global, sources: &mut ListSources<'_>) ->
     }
 }
 
-/// `read` of the second file of a list.
+/// Calls `read` for the second file of a list.
 pub(crate) fn reads_source(rt: &impl Print, alloc: Global) -> Result<(), Stop> {
     let mut sources = ListSources::new(FILES);
     match unless_refused(rt, read_second(rt, alloc, &mut sources)) {

@@ -1,21 +1,21 @@
-//! How a driver ends, and what it says.
+//! Ends of a driver, and their output.
 
 use std::alloc::{AllocError, Global};
 use std::fmt::Display;
 use std::io;
 
-/// Why a driver stopped before its answer was whole.
+/// Reason why a driver stopped early.
 #[derive(Clone, Copy)]
 pub(crate) enum Stop {
-    /// Memory was refused before the call was made.
+    /// An allocation before the call failed.
     NotBegun,
-    /// The call answered that memory was refused.
+    /// The call returned that an allocation failed.
     Refused,
     /// The output failed.
     Output,
 }
 
-/// How a driver ended whose last act was to print.
+/// Returns the end of a driver whose last act was to print.
 pub(crate) fn printed(ended: io::Result<()>) -> Result<(), Stop> {
     match ended {
         Ok(()) => Ok(()),
@@ -28,12 +28,12 @@ pub(crate) fn say(rt: &impl Print, line: &str) -> Result<(), Stop> {
     printed(println!(rt; "{line}"))
 }
 
-/// Prints why a call failed, where it wasn't for want of memory.
+/// Prints why a call failed, if it wasn't for lack of memory.
 pub(crate) fn say_fault(rt: &impl Print, fault: &impl Display) -> Result<(), Stop> {
     printed(println!(rt; "{fault}"))
 }
 
-/// How a driver ended whose call was made once. None where that was refused memory, which is said: the call is then made once more.
+/// Returns the end of a driver that made its call once. If an allocation failed, reports that and returns None: the call is then made once more.
 pub(crate) fn unless_refused(rt: &impl Print, ended: Result<(), Stop>) -> Option<Result<(), Stop>> {
     match ended {
         Err(Stop::Refused) => match say(rt, "refused") {
@@ -44,10 +44,10 @@ pub(crate) fn unless_refused(rt: &impl Print, ended: Result<(), Stop>) -> Option
     }
 }
 
-/// So many bytes nothing else asks for.
+/// A number of bytes that nothing else requests.
 const LAST_REQUEST: usize = 1_234_567;
 
-/// Asks for so many bytes; behind this request `tests/refuse-memory` refuses all others. From here on nothing may be asked for.
+/// Requests a marked number of bytes. After this request, `tests/refuse-memory` fails all others. So the driver may request nothing from here on.
 pub(crate) fn refuse_from_here(alloc: Global) {
     let block: Result<Vec<u8>, AllocError> = Vec::with_capacity(alloc, LAST_REQUEST);
     drop(block);

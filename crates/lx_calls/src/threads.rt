@@ -1,4 +1,4 @@
-//! Runs of several threads, and the gates that they pass.
+//! Calls of runs with several threads, and of the gates that they pass.
 
 ghost use Rattle.std.specs.Prelude.{◌<◌, ◌≤◌};
 
@@ -15,7 +15,7 @@ use std::sync::Wait;
 use std::thread;
 use std::thread::Threads;
 
-/// Lists the files of a plan by so many workers.
+/// Lists the files of a plan by `workers` workers.
 fn list_once<R: Threads + Wait + Sync, W: Write + Drop>(
     rt: &R,
     alloc: Global,
@@ -33,7 +33,7 @@ fn list_once<R: Threads + Wait + Sync, W: Write + Drop>(
     Ok(ended)
 }
 
-/// `scan_all` of three files by so many workers.
+/// Calls `scan_all` with three files and `workers` workers.
 pub(crate) fn scans_all<R: Print + Threads + Wait + Sync>(
     rt: &R,
     alloc: Global,
@@ -54,14 +54,14 @@ pub(crate) fn scans_all<R: Print + Threads + Wait + Sync>(
     print_written(rt, &written, ended)
 }
 
-/// `pass` of an open gate.
+/// Calls `pass` on an open gate.
 pub(crate) fn passes_open(rt: &impl Print, alloc: Global) -> Result<(), Stop> {
     refuse_from_here(alloc);
     OpenGate.pass(0, 0, 0);
     say(rt, "passed")
 }
 
-/// `pass` of a meeting gate by two threads, and `met`.
+/// Calls `pass` on a meeting gate by two threads, and `met`.
 pub(crate) fn meets<R: Print + Threads>(rt: &R, alloc: Global) -> Result<(), Stop> {
     let gate = MeetingGate::new();
     let ((), ()) = thread::join(

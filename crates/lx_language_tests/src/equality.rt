@@ -1,11 +1,12 @@
-//! Sets, trees and patterns compared: other spellings of one reading, a difference in each part, and deep trees that lean either way.
+//! Compares sets, trees and patterns: other spellings of one reading, a difference in each part, and deep trees that lean either way.
 
 use crate::texts::{formatted, holds, put, put_times};
 use lx_ere::{ByteSet, Expr, Pattern, read_pattern, read_substitute};
 use std::alloc::AllocError;
 use std::process::Abort;
 
-/// A deep tree as a text: a head, a front some times, a middle, and as often a back; and another head and middle, which stand deepest.
+/// The text of a deep tree: a head, a repeated front, a middle, and an equally repeated back. Has a second head and a second middle, which are
+/// deepest in the tree.
 struct Shape {
     heads: (&'static str, &'static str),
     front: &'static str,
@@ -53,7 +54,7 @@ const SHAPES: &[Shape] = &[
     },
 ];
 
-/// The text of a shape with this head and this middle.
+/// Returns the text of a shape with this head and this middle.
 fn text_of<R: Abort + AllocGlobal>(rt: &R, shape: &Shape, head: &str, middle: &str) -> String {
     let mut text = String::new(rt.alloc());
     put(rt, &mut text, head);
@@ -63,7 +64,7 @@ fn text_of<R: Abort + AllocGlobal>(rt: &R, shape: &Shape, head: &str, middle: &s
     text
 }
 
-/// Whether `==` and `!=` answer of two patterns, either way round, that they are equal (`equal`) or that they are not, and `==` that the one is itself.
+/// Returns true if `==` and `!=` compare two patterns as expected, either way round, and if `==` holds between a pattern and itself.
 fn are_compared(left: &Pattern, right: &Pattern, equal: bool) -> bool {
     (left == right) == equal
         && (right == left) == equal
@@ -72,29 +73,29 @@ fn are_compared(left: &Pattern, right: &Pattern, equal: bool) -> bool {
         && left == left
 }
 
-/// The pattern of a text.
+/// Reads the pattern of a text.
 fn pattern_of<R: Abort + AllocGlobal>(rt: &R, text: &str) -> Pattern {
     read_pattern(rt.alloc(), text.as_bytes()).expect(rt, text)
 }
 
-/// The tree of a text.
+/// Reads the tree of a text.
 fn tree_of<R: Abort + AllocGlobal>(rt: &R, text: &str) -> Expr {
     read_substitute(rt.alloc(), text.as_bytes()).expect(rt, text)
 }
 
-/// Asserts it of the patterns that two texts read as.
+/// Asserts that the patterns of two texts are equal, or that they aren't.
 fn compare<R: Abort + AllocGlobal>(rt: &R, first: &str, second: &str, equal: bool) {
     let left = pattern_of(rt, first);
     let right = pattern_of(rt, second);
     expect_compared(rt, are_compared(&left, &right, equal), first, second);
 }
 
-/// Asserts that two texts are compared as wanted.
+/// Asserts that two texts are compared as expected.
 fn expect_compared(rt: &impl Abort, is_so: bool, first: &str, second: &str) {
     assert!(rt; is_so, "{first} {second}");
 }
 
-/// Asserts it of each of these.
+/// Asserts that the patterns of each pair of texts are equal, or that they aren't.
 fn compare_all<R: Abort + AllocGlobal>(rt: &R, rows: &[(&str, &str)], equal: bool) {
     for (first, second) in rows {
         compare(rt, first, second, equal);
@@ -170,7 +171,7 @@ fn deep_trees_are_compared(rt: HostRuntime) {
     }
 }
 
-/// Asserts of a tree whether it is that of a text, and that it is itself, and not empty.
+/// Asserts that a tree is equal to that of a text, or that it isn't, and that it is equal to itself and not empty.
 fn compare_tree<R: Abort + AllocGlobal>(rt: &R, left: &Expr, text: &str, equal: bool) {
     let right = tree_of(rt, text);
     holds(rt, (*left == right) == equal, text);
@@ -178,7 +179,7 @@ fn compare_tree<R: Abort + AllocGlobal>(rt: &R, left: &Expr, text: &str, equal: 
     holds(rt, right == right, text);
 }
 
-/// Asserts of a tree that it differs from the empty one, either way round.
+/// Asserts that a tree differs from the empty one, either way round.
 fn is_not_empty(rt: &impl Abort, tree: &Expr) {
     holds(rt, Expr::Nil == Expr::Nil, "nil");
     holds(rt, *tree != Expr::Nil, "tree");
@@ -193,7 +194,7 @@ fn trees_of_substitutes_are_compared(rt: HostRuntime) {
     is_not_empty(&rt, &left);
 }
 
-/// The set that a text reads as, if it is one.
+/// Reads the set of a text, if it is one.
 fn set_of<R: Abort + AllocGlobal>(rt: &R, text: Result<String, AllocError>) -> Option<ByteSet> {
     let text = formatted(rt, text);
     match tree_of(rt, text.as_str()) {
@@ -202,22 +203,22 @@ fn set_of<R: Abort + AllocGlobal>(rt: &R, text: Result<String, AllocError>) -> O
     }
 }
 
-/// The set of a byte, by its octal digits.
+/// Returns the set of a byte, by its octal digits.
 fn octal_set<R: Abort + AllocGlobal>(rt: &R, byte: u8) -> Option<ByteSet> {
     set_of(rt, format!(in rt.alloc(); "\\{byte:03o}"))
 }
 
-/// The set of a byte, by its hexadecimal digits.
+/// Returns the set of a byte, by its hexadecimal digits.
 fn hexadecimal_set<R: Abort + AllocGlobal>(rt: &R, byte: u8) -> Option<ByteSet> {
     set_of(rt, format!(in rt.alloc(); "\\x{byte:x}"))
 }
 
-/// The set of all bytes but one.
+/// Returns the set of all bytes except one.
 fn rest_set<R: Abort + AllocGlobal>(rt: &R, byte: u8) -> Option<ByteSet> {
     set_of(rt, format!(in rt.alloc(); "[^\\{byte:03o}]"))
 }
 
-/// Compares a byte's set with itself, its rest and that of the opposite byte.
+/// Compares a byte's set with itself, its complement and the set of the opposite byte.
 fn compare_sets<R: Abort + AllocGlobal>(rt: &R, byte: u8) {
     let one = octal_set(rt, byte);
     let same = hexadecimal_set(rt, byte);

@@ -1,10 +1,10 @@
-//! Spellings and what they read as, worked out by hand from the grammar of `lex`; memory refused; deep nesting.
+//! Tests spellings against readings that were derived by hand from the grammar of `lex`, failed allocations, and deep nesting.
 
 use crate::texts::{formatted, holds, put, put_name, put_number, put_times};
 use lx_ere::{ByteSet, EreFault, Expr, Pattern, pattern_end, read_pattern, read_substitute};
 use std::process::Abort;
 
-/// A range of bytes, as `65` or `65-90`.
+/// Appends a range of bytes, as `65` or `65-90`.
 fn show_range(rt: &impl Abort, out: &mut String, first: u8, last: u8) {
     if !out.as_str().ends_with('[') {
         put(rt, out, " ");
@@ -16,7 +16,7 @@ fn show_range(rt: &impl Abort, out: &mut String, first: u8, last: u8) {
     }
 }
 
-/// A set by its ranges, as `[65-90 97-122]`.
+/// Appends a set by its ranges, as `[65-90 97-122]`.
 fn show_set(rt: &impl Abort, out: &mut String, set: &ByteSet) {
     put(rt, out, "[");
     let mut begun: Option<u8> = None;
@@ -36,7 +36,7 @@ fn show_set(rt: &impl Abort, out: &mut String, set: &ByteSet) {
     put(rt, out, "]");
 }
 
-/// An interval, as `{1,2}` or `{1,}`.
+/// Appends an interval, as `{1,2}` or `{1,}`.
 fn show_interval(rt: &impl Abort, out: &mut String, low: u8, high: Option<u8>) {
     put(rt, out, "{");
     put_number(rt, out, u32::from(low));
@@ -47,7 +47,7 @@ fn show_interval(rt: &impl Abort, out: &mut String, low: u8, high: Option<u8>) {
     put(rt, out, "}");
 }
 
-/// An expression: `(a b)` one then the other, `(a|b)` either, `a{1,2}` and `a{1,}` repeated, `<D>` a name.
+/// Appends an expression: `(a b)` one then the other, `(a|b)` either, `a{1,2}` and `a{1,}` repeated, `<D>` a name.
 pub(crate) fn show(rt: &impl Abort, out: &mut String, expr: &Expr) {
     match expr {
         Expr::Nil => put(rt, out, "nil"),
@@ -78,7 +78,7 @@ pub(crate) fn show(rt: &impl Abort, out: &mut String, expr: &Expr) {
     }
 }
 
-/// A pattern, with `^ ` before it and ` $` behind it where it has these anchors.
+/// Appends a pattern, with `^ ` before it and ` $` after it if it has these anchors.
 pub(crate) fn show_pattern(rt: &impl Abort, out: &mut String, pattern: &Pattern) {
     if pattern.line_begin {
         put(rt, out, "^ ");
@@ -89,7 +89,7 @@ pub(crate) fn show_pattern(rt: &impl Abort, out: &mut String, pattern: &Pattern)
     }
 }
 
-/// What a text reads as, or the fault's code.
+/// Returns the reading of a text, or the fault's code.
 fn reading<R: Abort + AllocGlobal>(rt: &R, text: &[u8]) -> String {
     match read_pattern(rt.alloc(), text) {
         Ok(pattern) => shown(rt, &pattern),
@@ -97,30 +97,30 @@ fn reading<R: Abort + AllocGlobal>(rt: &R, text: &[u8]) -> String {
     }
 }
 
-/// A pattern as a text.
+/// Returns a pattern as a text.
 fn shown<R: Abort + AllocGlobal>(rt: &R, pattern: &Pattern) -> String {
     let mut out = String::new(rt.alloc());
     show_pattern(rt, &mut out, pattern);
     out
 }
 
-/// A fault's code.
+/// Returns a fault's code.
 fn code<R: Abort + AllocGlobal>(rt: &R, fault: EreFault) -> String {
     formatted(rt, format!(in rt.alloc(); "{fault}"))
 }
 
-/// Asserts that a text, which is named so, was read as wanted.
+/// Asserts that a text with this name was read as expected.
 fn expect_reading(rt: &impl Abort, name: &str, got: &str, want: &str) {
     assert!(rt; got == want, "{name} reads as {got}");
 }
 
-/// Asserts what a text reads as.
+/// Asserts the reading of a text.
 fn expect_pattern<R: Abort + AllocGlobal>(rt: &R, name: &str, text: &[u8], want: &str) {
     let got = reading(rt, text);
     expect_reading(rt, name, got.as_str(), want);
 }
 
-/// Each line of the table has a pattern, and behind ` => ` what it reads as.
+/// Asserts the readings of a table, whose lines have a pattern, ` => ` and its reading. Returns the number of lines.
 fn expect_table<R: Abort + AllocGlobal>(rt: &R, table: &str) -> usize {
     let mut count = 0usize;
     for line in table.lines() {
@@ -478,7 +478,7 @@ const BRACKETED: &str = r#"
 [a[:] => E10
 "#;
 
-/// The tables, and how many rows each has.
+/// The tables, and the number of rows of each.
 const TABLES: &[(&str, usize)] = &[
     (ESCAPES, 50),
     (LEXEMES, 53),
@@ -488,7 +488,7 @@ const TABLES: &[(&str, usize)] = &[
     (BRACKETED, 51),
 ];
 
-/// Asserts what a table's patterns read as, and how many it has.
+/// Asserts the readings of a table's patterns, and their number.
 fn expect_rows<R: Abort + AllocGlobal>(rt: &R, table: &str, rows: usize) {
     let count = expect_table(rt, table);
     assert!(rt; count == rows, "{count} rows");
@@ -533,7 +533,7 @@ const SUBSTITUTES: &[(&str, &str)] = &[
     ("(", "E10"),
 ];
 
-/// What a text reads as where no anchors may stand, or the fault's code.
+/// Returns the reading of a text without anchors, or the fault's code.
 fn substitute<R: Abort + AllocGlobal>(rt: &R, text: &[u8]) -> String {
     match read_substitute(rt.alloc(), text) {
         Ok(expr) => shown_expr(rt, &expr),
@@ -541,14 +541,14 @@ fn substitute<R: Abort + AllocGlobal>(rt: &R, text: &[u8]) -> String {
     }
 }
 
-/// An expression as a text.
+/// Returns an expression as a text.
 fn shown_expr<R: Abort + AllocGlobal>(rt: &R, expr: &Expr) -> String {
     let mut out = String::new(rt.alloc());
     show(rt, &mut out, expr);
     out
 }
 
-/// Asserts it.
+/// Asserts the reading of a substitute.
 fn expect_substitute<R: Abort + AllocGlobal>(rt: &R, text: &str, want: &str) {
     let got = substitute(rt, text.as_bytes());
     expect_reading(rt, text, got.as_str(), want);
@@ -561,7 +561,7 @@ fn substitutes_have_no_anchors(rt: HostRuntime) {
     }
 }
 
-/// A front, a middle and a back, the first and last repeated.
+/// Returns a text with a front, a middle and a back. The front and the back are repeated.
 fn nested<R: Abort + AllocGlobal>(
     rt: &R,
     front: &str,
@@ -576,7 +576,7 @@ fn nested<R: Abort + AllocGlobal>(
     text
 }
 
-/// A front, how often it stands, a middle, a back, and whether the text is read.
+/// A front, its number of repetitions, a middle, a back, and true if the text is readable.
 type Deep = (&'static str, usize, &'static str, &'static str, bool);
 
 const DEEP: &[Deep] = &[
@@ -593,23 +593,23 @@ const DEEP: &[Deep] = &[
     ("\\xa", 341, "", "", true),
 ];
 
-/// Whether a text is read as a pattern.
+/// Returns true if a text is readable as a pattern.
 fn is_pattern<R: AllocGlobal>(rt: &R, text: &[u8]) -> bool {
     read_pattern(rt.alloc(), text).is_ok()
 }
 
-/// Whether a text is read as a substitute.
+/// Returns true if a text is readable as a substitute.
 fn is_substitute<R: AllocGlobal>(rt: &R, text: &[u8]) -> bool {
     read_substitute(rt.alloc(), text).is_ok()
 }
 
-/// Asserts whether a text is read.
+/// Asserts that a text is readable, or that it isn't.
 fn expect_read<R: Abort + AllocGlobal>(rt: &R, text: &[u8], reads: bool, front: &str) {
     holds(rt, is_pattern(rt, text) == reads, front);
     holds(rt, is_substitute(rt, text) == reads, front);
 }
 
-/// Asserts it of a deep text.
+/// Asserts that a deep text is readable, or that it isn't.
 fn expect_deep<R: Abort + AllocGlobal>(rt: &R, deep: &Deep) {
     let (front, times, middle, back, reads) = *deep;
     let text = nested(rt, front, times, middle, back);
@@ -623,7 +623,7 @@ fn deep_trees_are_read_and_dropped(rt: HostRuntime) {
     }
 }
 
-/// Texts, and where the pattern ends that they begin with.
+/// Texts, and the position where the pattern at their start ends.
 const ENDS: &[(&str, usize)] = &[
     ("", 0),
     ("a", 1),
@@ -657,7 +657,7 @@ const ENDS: &[(&str, usize)] = &[
     ("a{1, 2}", 4),
 ];
 
-/// Asserts where a pattern ends.
+/// Asserts the position where a pattern ends.
 fn expect_end(rt: &impl Abort, text: &str, want: usize) {
     holds(rt, pattern_end(text.as_bytes()) == want, text);
 }
@@ -669,12 +669,12 @@ fn patterns_end_at_the_first_blank_outside(rt: HostRuntime) {
     }
 }
 
-/// Whether memory was refused to a reading.
+/// Returns true if an allocation failed during a reading.
 fn lacks_memory(read: &Result<Pattern, EreFault>) -> bool {
     matches!(read, Err(EreFault::Memory))
 }
 
-/// Whether both readings gave the same pattern.
+/// Returns true if both readings have the same pattern.
 fn are_equal(one: &Result<Pattern, EreFault>, other: &Result<Pattern, EreFault>) -> bool {
     match (one, other) {
         (Ok(pattern), Ok(same)) => pattern == same,
@@ -682,7 +682,7 @@ fn are_equal(one: &Result<Pattern, EreFault>, other: &Result<Pattern, EreFault>)
     }
 }
 
-/// Asserts that two readings of one text are equal, or that memory was refused to one.
+/// Asserts that two readings of one text are equal, or that an allocation failed during one.
 fn expect_answered(
     rt: &impl Abort,
     one: &Result<Pattern, EreFault>,

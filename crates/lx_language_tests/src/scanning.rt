@@ -1,4 +1,4 @@
-//! The scanner over tables: items with their lines, matches and places, and tables that are of no specification.
+//! Tests the scanner over tables: items with their lines, matches and places, and tables that belong to no specification.
 
 use crate::table_texts::{tables_by, tables_in};
 use crate::texts::holds;
@@ -9,10 +9,10 @@ use std::process::Abort;
 
 const LINE_END: &str = "%%\nfoo return F;\nfoo$ return E;\n";
 
-/// Runs of `a` and newlines, and single ones of `b`.
+/// Rules for runs of `a` and newlines, and for single `b`s.
 const TWO_LINES: &str = "%%\n[a\\n]+ return T;\nb return B;\n";
 
-/// The items of `a`, a newline and `b`.
+/// Items of `a`, a newline and `b`.
 const TWO_TOKENS: &[Item] = &[
     Item::Token {
         kind: Kind::Name(0),
@@ -28,7 +28,7 @@ const TWO_TOKENS: &[Item] = &[
     },
 ];
 
-/// The items of two lines of `foo`, the second without a newline.
+/// Items of two lines of `foo`, the second without a newline.
 const TWO_ENDS: &[Item] = &[
     Item::Token {
         kind: Kind::Name(1),
@@ -67,14 +67,14 @@ fn items_have_the_lines_on_which_they_begin(rt: HostRuntime) {
     scans_by(&rt, LINE_END, b"foo\nfoo", TWO_ENDS);
 }
 
-/// The first match of two lines of `foo`.
+/// First match of two lines of `foo`.
 const FOUND: Match = Match {
     rule: Some(1),
     start: 0,
     len: 3,
 };
 
-/// The place behind it.
+/// The place after that match.
 const BEHIND: Place = Place {
     offset: 3,
     condition: 0,
@@ -82,7 +82,7 @@ const BEHIND: Place = Place {
     line: 1,
 };
 
-/// Asserts what the first match of two lines of `foo` is, and that an empty text has none.
+/// Asserts the first match of two lines of `foo`, and that an empty text has none.
 fn matches_first(rt: &impl Abort, tables: &Tables) {
     holds(rt, tables.conditions() == 1, "one condition");
     let first = next_match(tables, b"foo\nfoo", Place::begin());
@@ -100,7 +100,7 @@ fn a_match_leads_to_the_place_behind_it(rt: HostRuntime) {
     matches_first(&rt, &tables);
 }
 
-/// A rule that ends with `$`, and steps that take no newline: after an `a` alone there is no token.
+/// Tables with a rule that ends with `$` and steps that take no newline: there is no token after a single `a`.
 const MADE_UP: &str =
     "lx-tables 1\nconditions 1\nstart 0 0\nkinds 1\nkind E\nrules 1\nrule 1 k0\nstates 2\nstate - 97-97:1\nstate 0\nend\n";
 

@@ -1,4 +1,4 @@
-//! Worked specifications: what each says, or its fault.
+//! Tests worked specifications: their contents, or their faults.
 
 use crate::expressions::{show, show_pattern};
 use crate::texts::{formatted, holds, put, put_name, put_number};
@@ -6,7 +6,7 @@ use lx_spec::{Code, Definition, Rule, Spec, SpecFault, Step, read_spec};
 use std::fmt::Write;
 use std::process::Abort;
 
-/// A name, with `!` before it where it is of an exclusive condition.
+/// Appends a name, with `!` before it for an exclusive condition.
 fn show_name(rt: &impl Abort, out: &mut String, name: &[u8], exclusive: bool) {
     if exclusive {
         put(rt, out, "!");
@@ -15,7 +15,7 @@ fn show_name(rt: &impl Abort, out: &mut String, name: &[u8], exclusive: bool) {
     put(rt, out, " ");
 }
 
-/// The conditions and the kinds by their names.
+/// Appends the conditions and the kinds by their names.
 fn show_names(rt: &impl Abort, out: &mut String, spec: &Spec) {
     for condition in &spec.conditions {
         show_name(rt, out, condition.name.as_slice(), condition.exclusive);
@@ -27,19 +27,19 @@ fn show_names(rt: &impl Abort, out: &mut String, spec: &Spec) {
     put(rt, out, "\n");
 }
 
-/// A definition.
+/// Appends a definition.
 fn show_definition(rt: &impl Abort, out: &mut String, definition: &Definition) {
     show_name(rt, out, definition.name.as_slice(), false);
     show(rt, out, &definition.expr);
     put(rt, out, "\n");
 }
 
-/// The conditions and the steps of a rule.
+/// Appends the conditions and the steps of a rule.
 fn show_action(rt: &impl Abort, out: &mut String, conditions: &Option<Vec<u16>>, action: &[Step]) {
     writeln!(out, " {conditions:?} {action:?}").expect(rt, "memory");
 }
 
-/// A rule: the first line, the pattern, the conditions and the steps.
+/// Appends a rule: the first line, the pattern, the conditions and the steps.
 fn show_rule(rt: &impl Abort, out: &mut String, rule: &Rule) {
     put_number(rt, out, rule.line);
     put(rt, out, " ");
@@ -47,7 +47,7 @@ fn show_rule(rt: &impl Abort, out: &mut String, rule: &Rule) {
     show_action(rt, out, &rule.conditions, rule.action.as_slice());
 }
 
-/// The definitions and the rules, one a line.
+/// Appends the definitions and the rules, one a line.
 fn show_lines(rt: &impl Abort, out: &mut String, spec: &Spec) {
     for definition in &spec.definitions {
         show_definition(rt, out, definition);
@@ -57,7 +57,7 @@ fn show_lines(rt: &impl Abort, out: &mut String, spec: &Spec) {
     }
 }
 
-/// What a specification says.
+/// Returns the contents of a specification.
 fn shown<R: Abort + AllocGlobal>(rt: &R, spec: &Spec) -> String {
     let mut out = String::new(rt.alloc());
     show_names(rt, &mut out, spec);
@@ -65,7 +65,7 @@ fn shown<R: Abort + AllocGlobal>(rt: &R, spec: &Spec) -> String {
     out
 }
 
-/// What a text says, or its fault.
+/// Returns the contents of a text, or its fault.
 fn saying<R: Abort + AllocGlobal>(rt: &R, text: &[u8]) -> String {
     match read_spec(rt.alloc(), text) {
         Ok(spec) => shown(rt, &spec),
@@ -73,25 +73,25 @@ fn saying<R: Abort + AllocGlobal>(rt: &R, text: &[u8]) -> String {
     }
 }
 
-/// A fault as it is printed.
+/// Returns a fault as it is printed.
 fn fault_of<R: Abort + AllocGlobal>(rt: &R, fault: &SpecFault) -> String {
     formatted(rt, format!(in rt.alloc(); "{fault}"))
 }
 
-/// Asserts that a text says this.
+/// Asserts the contents of a text.
 fn expect_saying<R: Abort + AllocGlobal>(rt: &R, text: &[u8], want: &str) {
     let got = saying(rt, text);
     holds(rt, got.as_str() == want, got.as_str());
 }
 
-/// Asserts that each text says what stands behind it.
+/// Asserts the contents of each text.
 fn expect<R: Abort + AllocGlobal>(rt: &R, rows: &[(&[u8], &str)]) {
     for (text, want) in rows {
         expect_saying(rt, text, want);
     }
 }
 
-/// Rules that are refused.
+/// Rules that are rejected.
 const REFUSED_RULES: &[(&[u8], &str)] = &[
     (b"%%\na/b ;\n", "E10 at line 2"),
     (b"%%\n(^a) ;\n", "E10 at line 2"),
@@ -108,7 +108,7 @@ const REFUSED_RULES: &[(&[u8], &str)] = &[
     (b"%%\n<A> a ;\n", "E13 at line 2"),
 ];
 
-/// Definitions that are refused, and one that no rule reaches.
+/// Definitions that are rejected, and one that no rule reaches.
 const REFUSED_DEFINITIONS: &[(&[u8], &str)] = &[
     (b"A {A}\n%%\n{A} ;\n", "E12 at line 3"),
     (b"a b\n", "E02 at line 0"),
@@ -120,7 +120,7 @@ const REFUSED_DEFINITIONS: &[(&[u8], &str)] = &[
     (b"A (\n%%\na ;\n", "INITIAL / \n3 [97] None []\n"),
 ];
 
-/// Conditions, definitions that rules reach, kinds in order of first appearance, steps.
+/// Specifications with conditions, definitions that rules reach, kinds in order of first appearance, and steps.
 const READ: &[(&[u8], &str)] = &[
     (
         b"%x C\n%s S\r\nD [0-9]\n%%\na |\n<S,0>b { ECHO; return AB; }\n<C>{D} return 'A'; return Z;\nc BEGIN C;\n%%\n}{\n",
@@ -140,7 +140,7 @@ const READ: &[(&[u8], &str)] = &[
     ),
 ];
 
-/// CR LF reads as LF.
+/// Specifications in which CR LF reads as LF.
 const CR_LF: &[(&[u8], &str)] = &[
     (
         b"D [0-9]\n%%\na{D}+ return ID;\n. ;\n",
@@ -170,7 +170,7 @@ fn refused_memory_is_answered_as_such(rt: HostRuntime) {
     assert!(rt; is_so);
 }
 
-/// A fault that is of a line.
+/// A fault on a line.
 const NO_ACTION: SpecFault = SpecFault {
     code: Code::NoAction,
     line: 7,

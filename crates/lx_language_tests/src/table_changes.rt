@@ -1,11 +1,11 @@
-//! Single changes of the texts of three rules, and whether what is then written is a table's text.
+//! Changes the texts of three rules in single places, and tests if the result is still a text of tables.
 
 use crate::table_texts::expect_read;
 use crate::texts::formatted;
 use lx_fixtures::THREE_RULES_TEXTS;
 use std::process::Abort;
 
-/// What stands in a text, what is written in its place, and whether that is a table's text too.
+/// The old part of a text, the new part, and true if the result is a text of tables too.
 type Change = (&'static str, &'static str, bool);
 
 /// Changes of the conditions, of the kinds and of counts.
@@ -191,13 +191,13 @@ const CLASSES: &[Change] = &[
         "state - 1:1 3:3\nstate 2 1:1\nstate 1\n",
         false,
     ),
-    // Two classes with the same steps.
+    // two classes with the same steps
     (
         "classes 4\nclass 0-9:0 10-10:1 11-31:0 32-32:1 33-47:0 48-57:2 58-96:0 97-122:3 123-255:0\nstates 4\nstate - 1:1 2:2 3:3\nstate 2 1:1\nstate 1 2:2\nstate 0 3:3\n",
         "classes 5\nclass 0-9:0 10-10:1 11-31:0 32-32:2 33-47:0 48-57:3 58-96:0 97-122:4 123-255:0\nstates 4\nstate - 1:1 2:1 3:2 4:3\nstate 2 1:1 2:1\nstate 1 3:2\nstate 0 4:3\n",
         false,
     ),
-    // The numbers of two classes exchanged.
+    // the numbers of two classes exchanged
     (
         "class 0-9:0 10-10:1 11-31:0 32-32:1 33-47:0 48-57:2 58-96:0 97-122:3 123-255:0\nstates 4\nstate - 1:1 2:2 3:3\nstate 2 1:1\n",
         "class 0-9:1 10-10:0 11-31:1 32-32:0 33-47:1 48-57:2 58-96:1 97-122:3 123-255:1\nstates 4\nstate - 0:1 2:2 3:3\nstate 2 0:1\n",
@@ -205,27 +205,27 @@ const CLASSES: &[Change] = &[
     ),
 ];
 
-/// The text with another piece in the place of the first one that is so.
+/// Returns the text with the first occurrence of a part replaced.
 fn changed<R: Abort + AllocGlobal>(rt: &R, text: &str, old: &str, new: &str) -> String {
     let (front, back) = text.split_once(old).expect(rt, old);
     formatted(rt, format!(in rt.alloc(); "{front}{new}{back}"))
 }
 
-/// Asserts of a changed text whether it is a table's.
+/// Asserts that a changed text is that of tables, or that it isn't.
 fn reads_change<R: Abort + AllocGlobal>(rt: &R, text: &str, change: &Change) {
     let (old, new, accepted) = *change;
     let text = changed(rt, text, old, new);
     expect_read(rt, text.as_str(), accepted);
 }
 
-/// Asserts of each changed text whether it is a table's.
+/// Asserts the same for each of the changes.
 fn reads_changes<R: Abort + AllocGlobal>(rt: &R, text: &str, changes: &[Change]) {
     for change in changes {
         reads_change(rt, text, change);
     }
 }
 
-/// Asserts it of the changes of both versions, and of these.
+/// Asserts the same for the changes of both versions, and for these.
 fn reads_all<R: Abort + AllocGlobal>(rt: &R, text: &str, own: &[Change]) {
     reads_changes(rt, text, NAMES);
     reads_changes(rt, text, RULES);

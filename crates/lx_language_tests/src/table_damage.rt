@@ -1,15 +1,15 @@
-//! Damaged texts of tables: fronts, and each byte changed in every way.
+//! Damages texts of tables: prefixes, and each byte changed in every way.
 
 use crate::table_texts::{SAMPLES, read_text};
 use std::process::Abort;
 
-/// Asserts that a front of a text is not read.
+/// Asserts that a prefix of a text isn't read.
 fn reads_not<R: Abort + AllocGlobal>(rt: &R, front: &[u8]) {
     let read = read_text(rt, front);
     assert!(rt; read.is_none(), "{front:?}");
 }
 
-/// Asserts that no front of a text is read.
+/// Asserts that no prefix of a text is read.
 fn reads_no_front<R: Abort + AllocGlobal>(rt: &R, text: &[u8]) {
     for end in 0..text.len() {
         reads_not(rt, &text[..end]);
@@ -24,12 +24,12 @@ fn no_front_of_a_text_is_read(rt: HostRuntime) {
     }
 }
 
-/// Adds bytes to a text.
+/// Appends bytes to a text.
 fn put_bytes(rt: &impl Abort, out: &mut Vec<u8>, bytes: &[u8]) {
     out.extend_from_slice(bytes).expect(rt, "memory");
 }
 
-/// These in a row.
+/// Joins three parts.
 fn joined<R: Abort + AllocGlobal>(rt: &R, front: &[u8], middle: &[u8], back: &[u8]) -> Vec<u8> {
     let mut all = Vec::new(rt.alloc());
     put_bytes(rt, &mut all, front);
@@ -38,20 +38,20 @@ fn joined<R: Abort + AllocGlobal>(rt: &R, front: &[u8], middle: &[u8], back: &[u
     all
 }
 
-/// Asserts that a text is no table's, or is printed again.
+/// Asserts that a text isn't that of tables, or is printed unchanged.
 fn reads_as_itself<R: Abort + AllocGlobal>(rt: &R, text: &[u8]) {
     if let Some(printed) = read_text(rt, text) {
         assert!(rt; printed.as_slice() == text, "{text:?}");
     }
 }
 
-/// Asserts that a text, with this in place of one of its bytes, is no table's, or is printed again.
+/// Asserts that a text with one byte replaced isn't that of tables, or is printed unchanged.
 fn reads_nothing_else<R: Abort + AllocGlobal>(rt: &R, front: &[u8], middle: &[u8], back: &[u8]) {
     let damaged = joined(rt, front, middle, back);
     reads_as_itself(rt, &damaged);
 }
 
-/// Asserts it of a byte of a text, turned into each other one, left out, and doubled.
+/// Asserts the same for a byte of a text that is changed to each other one, left out, and doubled.
 fn reads_no_damaged_byte<R: Abort + AllocGlobal>(rt: &R, front: &[u8], byte: u8, back: &[u8]) {
     for other in 0..=u8::MAX {
         reads_nothing_else(rt, front, &[other], back);
@@ -60,7 +60,7 @@ fn reads_no_damaged_byte<R: Abort + AllocGlobal>(rt: &R, front: &[u8], byte: u8,
     reads_nothing_else(rt, front, &[byte, byte], back);
 }
 
-/// Asserts it of each byte of a text.
+/// Asserts the same for each byte of a text.
 fn reads_no_damage<R: Abort + AllocGlobal>(rt: &R, text: &[u8]) {
     for at in 0..text.len() {
         reads_no_damaged_byte(rt, &text[..at], text[at], &text[at + 1..]);

@@ -1,10 +1,10 @@
-//! Texts of tables at the limits and just above them, and counts that promise more than there is.
+//! Tests texts of tables at the limits and just above them, and counts that promise more than the text has.
 
 use crate::table_texts::expect_read;
 use crate::texts::{formatted, put, put_char, put_number};
 use std::process::Abort;
 
-/// Adds a line in which each `#` is a number.
+/// Appends a line in which each `#` is replaced by a number.
 fn put_line(rt: &impl Abort, text: &mut String, line: &str, number: u32) {
     for letter in line.chars() {
         if letter == '#' {
@@ -15,7 +15,7 @@ fn put_line(rt: &impl Abort, text: &mut String, line: &str, number: u32) {
     }
 }
 
-/// Adds a line with a count, and as many lines with their numbers.
+/// Appends a line with a count, and then that number of lines with their numbers.
 fn put_lines(rt: &impl Abort, text: &mut String, head: &str, count: u32, line: &str) {
     put_line(rt, text, head, count);
     for number in 0..count {
@@ -23,13 +23,13 @@ fn put_lines(rt: &impl Abort, text: &mut String, head: &str, count: u32, line: &
     }
 }
 
-/// The lines of a text of tables: the one of each condition, kind, rule and state.
+/// The lines of a text of tables, one each for a condition, a kind, a rule and a state.
 type Lines = [&'static str; 4];
 
-/// How many conditions, kinds, rules and states there are.
+/// Numbers of conditions, kinds, rules and states.
 type Counts = [u32; 4];
 
-/// A text of tables: of version 1 where no lines of classes are given, else of version 2.
+/// Makes a text of tables. It has version 1 if no lines of classes are given, otherwise version 2.
 fn made<R: Abort + AllocGlobal>(rt: &R, classes: &str, counts: Counts, lines: Lines) -> String {
     let [conditions, kinds, rules, states] = counts;
     let [start, kind, rule, state] = lines;
@@ -48,7 +48,7 @@ fn made<R: Abort + AllocGlobal>(rt: &R, classes: &str, counts: Counts, lines: Li
 /// One class of all bytes.
 const ONE_CLASS: &str = "classes 1\nclass 0-255:0\n";
 
-/// Counts and lines that are written in both versions alike, and whether there are such tables.
+/// Counts and lines that both versions share, and true if there are such tables.
 const BOTH: &[(Counts, Lines, bool)] = &[
     (
         [64, 0, 1, 1],
@@ -115,7 +115,7 @@ const BOTH: &[(Counts, Lines, bool)] = &[
     ),
 ];
 
-/// The lines of 16,512 states, their classes, and whether there are such tables.
+/// Lines of 16,512 states, their classes, and true if there are such tables.
 const STATES: &[(&'static str, &'static str, bool)] = &[
     ("", "state - 0-255:16511\n", true),
     ("", "state - 0-255:16512\n", false),
@@ -123,7 +123,7 @@ const STATES: &[(&'static str, &'static str, bool)] = &[
     (ONE_CLASS, "state - 0:16512\n", false),
 ];
 
-/// Asserts whether such a text is read.
+/// Asserts that such a text is read, or that it isn't.
 fn expect_made<R: Abort + AllocGlobal>(
     rt: &R,
     classes: &str,
@@ -135,7 +135,7 @@ fn expect_made<R: Abort + AllocGlobal>(
     expect_read(rt, text.as_str(), accepted);
 }
 
-/// Asserts it of the texts in both versions.
+/// Asserts the same for the texts in both versions.
 fn reads_both<R: Abort + AllocGlobal>(rt: &R) {
     for (counts, lines, accepted) in BOTH {
         expect_made(rt, "", *counts, *lines, *accepted);
@@ -143,7 +143,7 @@ fn reads_both<R: Abort + AllocGlobal>(rt: &R) {
     }
 }
 
-/// Asserts it of the texts of 16,512 states.
+/// Asserts the same for the texts of 16,512 states.
 fn reads_states<R: Abort + AllocGlobal>(rt: &R) {
     for (classes, state, accepted) in STATES {
         let lines = ["start 16511 0\n", "", "", *state];
@@ -157,7 +157,7 @@ fn counts_and_numbers_are_read_up_to_their_limits(rt: HostRuntime) {
     reads_states(&rt);
 }
 
-/// What stands before the classes, which are those of all bytes, and before the states, in the text of either version, and a step in it.
+/// Parts of a text of either version: the part before the classes, which are those of all bytes, the part before the states, and a step.
 type Full = (&'static str, &'static str, &'static str, &'static str);
 
 const FULL: &[Full] = &[
@@ -175,7 +175,7 @@ const FULL: &[Full] = &[
     ),
 ];
 
-/// Tables with a class for each byte: on each byte the first state steps to the state of its number.
+/// Makes tables with a class for each byte. On each byte the first state steps to the state with its number.
 fn full_classes<R: Abort + AllocGlobal>(rt: &R, full: &Full) -> String {
     let (head, class, states, step) = *full;
     let mut text = String::new(rt.alloc());
@@ -199,7 +199,7 @@ fn each_byte_may_have_a_class_of_its_own(rt: HostRuntime) {
     }
 }
 
-/// Counts behind which the text ends.
+/// Counts after which the text ends.
 const PROMISES: &[&str] = &[
     "conditions 64\n",
     "conditions 4294967295\n",
@@ -215,7 +215,7 @@ const PROMISES: &[&str] = &[
     "conditions 1\nstart 0 0\nkinds 0\nrules 0\nclasses 1\nclass 0-255:0\nstates 99999999999999999999\n",
 ];
 
-/// Asserts twenty times that a text with such a count is refused.
+/// Asserts twenty times that a text with such a count is rejected.
 fn refuses_promise<R: Abort + AllocGlobal>(rt: &R, head: &str, promise: &str) {
     let text = formatted(rt, format!(in rt.alloc(); "{head}{promise}"));
     for _time in 0..20 {
@@ -223,7 +223,7 @@ fn refuses_promise<R: Abort + AllocGlobal>(rt: &R, head: &str, promise: &str) {
     }
 }
 
-/// Each is read many times: a count costs no more than a text with as much.
+/// Each is read many times: a large count costs no more than a text of its real size.
 #[test]
 fn counts_that_promise_too_much_are_refused_at_once(rt: HostRuntime) {
     for promise in PROMISES {

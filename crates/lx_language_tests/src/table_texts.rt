@@ -1,4 +1,4 @@
-//! The texts of tables, worked out by hand: specifications print them, and what is read is printed again.
+//! Tests texts of tables that were worked out by hand: specifications print them, and tables that were read are printed again.
 
 use crate::texts::holds;
 use lx_fixtures::{NO_RULES, NO_RULES_TEXTS, THREE_RULES, THREE_RULES_TEXTS, Texts, tables_of};
@@ -15,7 +15,7 @@ const AT_LINE_BEGIN: Texts = (
     "lx-tables 2\nconditions 1\nstart 0 1\nkinds 2\nkind H\nkind S\nrules 2\nrule 0 k0\nrule 0 k1\nclasses 2\nclass 0-34:0 35-35:1 36-255:0\nstates 4\nstate - 1:2\nstate - 1:3\nstate 1\nstate 0\nend\n",
 );
 
-/// Specifications and the texts of their tables.
+/// Specifications with the texts of their tables.
 pub(crate) const SAMPLES: &[(&str, Texts)] = &[
     (THREE_RULES, THREE_RULES_TEXTS),
     ("%%\na$ return E;\n", AT_LINE_END),
@@ -23,7 +23,7 @@ pub(crate) const SAMPLES: &[(&str, Texts)] = &[
     (NO_RULES, NO_RULES_TEXTS),
 ];
 
-/// The text of version 1, or of version 2.
+/// Returns the text of version 1, or of version 2.
 fn text_of<R: Abort + AllocGlobal>(rt: &R, tables: &Tables, first: bool) -> Vec<u8> {
     let mut out = Vec::new(rt.alloc());
     let printed = if first {
@@ -35,7 +35,7 @@ fn text_of<R: Abort + AllocGlobal>(rt: &R, tables: &Tables, first: bool) -> Vec<
     out
 }
 
-/// The text of the tables that are read from a text, in the version that it says; None where it is no table's.
+/// Returns the text of the tables in a text, in its own version. Returns None if the text isn't that of tables.
 pub(crate) fn read_text<R: Abort + AllocGlobal>(rt: &R, text: &[u8]) -> Option<Vec<u8>> {
     match Tables::read(rt.alloc(), text) {
         Ok(tables) => Some(text_of(rt, &tables, !text.starts_with(b"lx-tables 2"))),
@@ -44,7 +44,7 @@ pub(crate) fn read_text<R: Abort + AllocGlobal>(rt: &R, text: &[u8]) -> Option<V
     }
 }
 
-/// Asserts that a text is a table's, which is printed again, or that it is none.
+/// Asserts that a text is that of tables, which is printed again, or that it isn't.
 pub(crate) fn expect_read<R: Abort + AllocGlobal>(rt: &R, text: &str, accepted: bool) {
     let is_so = match read_text(rt, text.as_bytes()) {
         Some(printed) => accepted && printed.as_slice() == text.as_bytes(),
@@ -53,7 +53,7 @@ pub(crate) fn expect_read<R: Abort + AllocGlobal>(rt: &R, text: &str, accepted: 
     holds(rt, is_so, text);
 }
 
-/// Asserts that this is the text of version 1, or of version 2.
+/// Asserts the text of version 1, or of version 2.
 fn has_text<R: Abort + AllocGlobal>(rt: &R, tables: &Tables, first: bool, wanted: &str) {
     let printed = text_of(rt, tables, first);
     holds(rt, printed.as_slice() == wanted.as_bytes(), wanted);
@@ -65,17 +65,17 @@ pub(crate) fn has_texts<R: Abort + AllocGlobal>(rt: &R, tables: &Tables, texts: 
     has_text(rt, tables, false, texts.1);
 }
 
-/// The tables of a specification, with as few states as may be.
+/// Makes the merged tables of a specification.
 pub(crate) fn tables_by<R: Abort + AllocGlobal>(rt: &R, spec: &str) -> Tables {
     tables_of(rt.alloc(), spec).expect(rt, spec)
 }
 
-/// The tables that a text reads as.
+/// Reads the tables in a text.
 pub(crate) fn tables_in<R: Abort + AllocGlobal>(rt: &R, text: &str) -> Tables {
     Tables::read(rt.alloc(), text.as_bytes()).expect(rt, text)
 }
 
-/// Asserts that the tables which a text reads as have these texts.
+/// Asserts that the tables in a text have these texts.
 fn reads_to<R: Abort + AllocGlobal>(rt: &R, text: &str, texts: Texts) {
     let tables = tables_in(rt, text);
     has_texts(rt, &tables, texts);
@@ -87,7 +87,7 @@ fn makes<R: Abort + AllocGlobal>(rt: &R, spec: &str, texts: Texts) {
     has_texts(rt, &tables, texts);
 }
 
-/// Asserts it of the tables of a specification, and of those that both texts read as.
+/// Asserts the same for the tables of a specification, and for those in both texts.
 fn makes_and_reads<R: Abort + AllocGlobal>(rt: &R, spec: &str, texts: Texts) {
     makes(rt, spec, texts);
     reads_to(rt, texts.0, texts);

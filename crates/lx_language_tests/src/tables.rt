@@ -1,4 +1,4 @@
-//! Tables of specifications: the texts that they print, of both versions. The automata aren't merged.
+//! Tests tables of specifications: the texts that they print, in both versions. The automata aren't merged.
 
 use crate::table_texts::has_texts;
 use lx_auto::build;
@@ -7,7 +7,7 @@ use lx_spec::{Spec, read_spec};
 use lx_tables::Tables;
 use std::process::Abort;
 
-/// Specifications, and the texts of their tables.
+/// Specifications with the texts of their tables.
 const ROWS: &[(&str, Texts)] = &[
     (
         "%%\n",
@@ -32,19 +32,19 @@ const ROWS: &[(&str, Texts)] = &[
     ),
 ];
 
-/// The tables of a specification by the automaton as it is built.
+/// Makes the tables of a specification without merging its automaton.
 fn unmerged_tables<R: Abort + AllocGlobal>(rt: &R, spec: &Spec) -> Tables {
     let automaton = build(rt.alloc(), spec).expect(rt, "built");
     Tables::of(rt.alloc(), spec, &automaton).expect(rt, "memory")
 }
 
-/// Asserts which texts the tables of a specification print.
+/// Asserts the texts of a specification's tables.
 fn prints<R: Abort + AllocGlobal>(rt: &R, spec: &Spec, texts: Texts) {
     let tables = unmerged_tables(rt, spec);
     has_texts(rt, &tables, texts);
 }
 
-/// Asserts which texts the tables of a specification print.
+/// Asserts the texts of the tables of a specification's text.
 fn prints_both<R: Abort + AllocGlobal>(rt: &R, spec: &str, texts: Texts) {
     let spec = read_spec(rt.alloc(), spec.as_bytes()).expect(rt, spec);
     prints(rt, &spec, texts);

@@ -1,4 +1,4 @@
-//! The program over sources and streams of a test's own: which status and which line come when. What real files and streams show is a row of `tests/rows`.
+//! Tests the program over sources and streams of a test's own: its exit statuses and lines. Rows of `tests/rows` test real files and streams.
 
 use crate::asserts::{same, same_bytes};
 use crate::running::{FILES, Row, expect, status_of, status_over};
@@ -11,7 +11,7 @@ use std::process::Abort;
 use std::sync::Wait;
 use std::thread::Threads;
 
-/// The listing of the text that the program holds.
+/// Listing of the text that is stored in the program.
 const STORED: &[u8] = b"0 T ID 1 0 2 ab\n0 T NUM 1 3 2 12\n";
 
 #[test]
@@ -28,7 +28,7 @@ fn a_command_line_without_a_name_counts_as_the_name_alone(rt: HostRuntime) {
 /// Two files with one name.
 const TWICE: &[(&str, &[u8])] = &[("S", b"%%\n"), ("F", b"a"), ("F", b"b")];
 
-/// The first of them is listed.
+/// A run that lists the first of them.
 const FIRST: Row = (&["run", "S", "F"], &[], 0, "0 E - 1 0 1 a\n", "");
 
 #[test]
@@ -36,7 +36,7 @@ fn of_two_files_with_one_name_the_first_is_read(rt: HostRuntime) {
     expect(&rt, TWICE, &FIRST);
 }
 
-/// Files for which there is no memory.
+/// Sources that fail to allocate.
 #[derive(Drop)]
 struct Exhausted;
 
@@ -68,7 +68,7 @@ fn an_error_stream_that_fails_changes_nothing(rt: HostRuntime) {
     same_bytes(&rt, err.held.as_slice(), b"", &"error stream");
 }
 
-/// Asserts that a run whose output isn't flushed says that it can't write.
+/// Asserts that a run whose output isn't flushed reports that it can't write.
 fn fails_to_flush<R: Abort + AllocGlobal + Threads + Wait + Sync>(
     rt: &R,
     words: &[&str],
@@ -80,7 +80,7 @@ fn fails_to_flush<R: Abort + AllocGlobal + Threads + Wait + Sync>(
     same_bytes(rt, err.as_slice(), b"lx: cannot write\n", &words);
 }
 
-/// Asserts it of a run that writes something.
+/// Asserts the same for a run that writes something.
 fn fails_behind_some<R: Abort + AllocGlobal + Threads + Wait + Sync>(rt: &R, words: &[&str]) {
     let mut out = Unflushed {
         bytes: Vec::new(rt.alloc()),
@@ -95,7 +95,7 @@ fn an_output_that_is_not_flushed_has_failed(rt: HostRuntime) {
     fails_behind_some(&rt, &["-h"]);
 }
 
-/// Asserts it of a run that writes the tables without rules.
+/// Asserts the same for a run that writes the tables without rules.
 fn fails_behind_tables<R: Abort + AllocGlobal + Threads + Wait + Sync>(rt: &R, words: &[&str]) {
     let mut out = Unflushed {
         bytes: Vec::new(rt.alloc()),

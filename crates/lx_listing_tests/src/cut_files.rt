@@ -1,4 +1,4 @@
-//! Files whose reading failed: they are listed as far as they were read, which is said on the output and on the error stream.
+//! Tests files whose reading failed: the part that was read is listed, and the output and stderr report the failure.
 
 use crate::asserts::{same, same_bytes};
 use crate::running::{FILES, Row, expect, status_of};
@@ -9,20 +9,20 @@ use std::process::Abort;
 use std::sync::Wait;
 use std::thread::Threads;
 
-/// Asserts that such runs end so.
+/// Asserts the results of such runs.
 fn expect_all<R: Abort + AllocGlobal + Threads + Wait + Sync>(rt: &R, rows: &[Row]) {
     for row in rows {
         expect(rt, FILES, row);
     }
 }
 
-/// The listing of `a`, which is cut, and of `empty` and `lines`.
+/// Listing of `a`, which is cut, and of `empty` and `lines`.
 const FIRST_CUT: &str = "0 T ID 1 0 1 a\n0 ! cut\n2 T NUM 1 0 1 1\n2 T NUM 2 2 1 2\n";
 
-/// The listing of `words`, cut.
+/// Listing of `words`, cut.
 const WORDS: &str = "0 T ID 1 0 2 ab\n0 T NUM 1 3 2 12\n0 ! cut\n";
 
-/// What is said where `words` is cut.
+/// Line on stderr if `words` is cut.
 const WORDS_CUT: &str = "lx: cut short words\n";
 
 const LISTED: &[Row] = &[
@@ -148,7 +148,7 @@ fn other_faults_come_before_cut_files(rt: HostRuntime) {
     expect_all(&rt, OTHER_FAULTS);
 }
 
-/// Asserts that a run over the cut file `words` whose output fails says that and nothing else.
+/// Asserts that a run over the cut file `words` whose output fails reports only that failure.
 fn fails<R: Abort + AllocGlobal + Threads + Wait + Sync, O: Write>(rt: &R, out: &mut O) {
     let mut sources = ListSources::with_cut(FILES, &["words"]);
     let mut err: Vec<u8> = Vec::new(rt.alloc());
@@ -157,14 +157,14 @@ fn fails<R: Abort + AllocGlobal + Threads + Wait + Sync, O: Write>(rt: &R, out: 
     same_bytes(rt, err.as_slice(), b"lx: cannot write\n", &"words");
 }
 
-/// The calls at which an output fails, and what was written by then.
+/// The calls at which an output fails, and the bytes that were written by then.
 const FRONTS: &[(u64, &str)] = &[
     (1, ""),
     (2, "0 T ID 1 0 2 ab\n"),
     (3, "0 T ID 1 0 2 ab\n0 T NUM 1 3 2 12\n"),
 ];
 
-/// Asserts what such a run has written where its output fails at this call.
+/// Asserts the bytes that such a run has written if its output fails at this call.
 fn fails_behind<R: Abort + AllocGlobal + Threads + Wait + Sync>(rt: &R, call: u64, written: &str) {
     let mut out = failing_writer(rt.alloc(), 4_096, call, false);
     fails(rt, &mut out);
@@ -182,10 +182,10 @@ fn an_output_that_fails_is_all_that_is_said(rt: HostRuntime) {
     fails(&rt, &mut out);
 }
 
-/// The listing of `words` and `empty`, both cut.
+/// Listing of `words` and `empty`, both cut.
 const BOTH_CUT: &[u8] = b"0 T ID 1 0 2 ab\n0 T NUM 1 3 2 12\n0 ! cut\n1 ! cut\n";
 
-/// Asserts that a run over two cut files has its status and its output where the error stream fails at this call.
+/// Asserts the status and the output of a run over two cut files if stderr fails at this call.
 fn says_nothing<R: Abort + AllocGlobal + Threads + Wait + Sync>(rt: &R, call: u64) {
     let mut sources = ListSources::with_cut(FILES, &["words", "empty"]);
     let mut out: Vec<u8> = Vec::new(rt.alloc());

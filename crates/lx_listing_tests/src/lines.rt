@@ -1,5 +1,4 @@
-//! Lines by both ways in which they are made: placed behind one another, or field by field, as those of long texts and of texts near the end of a
-//! file are.
+//! Tests both ways to make lines: placed one after the other, or field by field for long texts and for texts near the end of a file.
 
 ghost use Rattle.std.specs.Prelude.{◌<◌, ◌≤◌, length};
 
@@ -7,7 +6,7 @@ use crate::asserts::same_bytes;
 use crate::plans::{listing_of, made, put, put_times};
 use std::process::Abort;
 
-/// Asserts that files have this listing by the rules.
+/// Asserts the listing of files by the rules.
 fn lists<R: Abort + AllocGlobal>(rt: &R, spec: &str, files: &[(&[u8], bool)], wanted: &[u8])
     requires some_files { 0 < length files.now }
     requires few_files { length files.now ≤ 65536 }
@@ -17,7 +16,7 @@ fn lists<R: Abort + AllocGlobal>(rt: &R, spec: &str, files: &[(&[u8], bool)], wa
     same_bytes(rt, out.as_slice(), wanted, &spec);
 }
 
-/// Kinds by name and by number, two of which share the place where the front of their lines is kept, and one with a name that is too long to be kept.
+/// Rules for kinds by name and by number. Two kinds share the slot for their prefixes, and one has a name that is too long to be kept.
 const FIELD_RULES: &str = "\
 %%
 [a-z]+  return WORD;
@@ -28,7 +27,7 @@ const FIELD_RULES: &str = "\
 \" \"+  ;
 ";
 
-/// The same text at the front of a file, with more behind it than is read at once, and as a file.
+/// The same text at the start of a file, with more after it than is read at once, and as a whole file.
 const FIELD_FILES: &[(&[u8], bool)] = &[
     (b"ab 12+!+-\\\n\x01\xE9cd                        ", false),
     (b"ab 12+!+-\\\n\x01\xE9cd", false),
@@ -64,15 +63,15 @@ fn lists_a_text_alike_wherever_its_file_ends(rt: HostRuntime) {
     lists(&rt, FIELD_RULES, FIELD_FILES, FIELD_LISTING);
 }
 
-/// Words, and all else is skipped.
+/// Rules that return words and skip all else.
 const WORDS: &str = "%%\n[^ \\n]+ return 1;\n[ \\n]+ ;\n";
 
-/// Asserts that a file has this listing by the rule of words.
+/// Asserts the listing of a file by the rule for words.
 fn lists_words<R: Abort + AllocGlobal>(rt: &R, text: &[u8], wanted: &[u8]) {
     lists(rt, WORDS, &[(text, false)], wanted);
 }
 
-/// Adds the front of the line of a word.
+/// Appends the start of the line of a word.
 fn put_front<R: Abort + AllocGlobal>(
     rt: &R,
     wanted: &mut Vec<u8>,
@@ -84,7 +83,7 @@ fn put_front<R: Abort + AllocGlobal>(
     put(rt, wanted, front.as_bytes());
 }
 
-/// Adds the line of the word `a`.
+/// Appends the line of the word `a`.
 fn put_line<R: Abort + AllocGlobal>(rt: &R, wanted: &mut Vec<u8>, line: u32, start: usize) {
     put_front(rt, wanted, line, start, 1);
     put(rt, wanted, b"a\n");
@@ -101,10 +100,10 @@ fn goes_on_with_the_digits_of_line_and_start(rt: HostRuntime) {
     lists_words(&rt, &text, &wanted);
 }
 
-/// Lengths about those at which a text is placed in another way, or isn't placed.
+/// Lengths near those at which a text is placed in another way, or isn't placed.
 const LENGTHS: &[usize] = &[1, 2, 15, 16, 17, 31, 32, 33, 96, 97, 192, 193];
 
-/// Adds a word of so many bytes, of which the one at a place, if there is one, is escaped, and its line.
+/// Appends a word of `len` bytes, of which the one at `place`, if there is one, is escaped. Also appends its line.
 fn put_word<R: Abort + AllocGlobal>(
     rt: &R,
     text: &mut Vec<u8>,
@@ -126,7 +125,7 @@ fn put_word<R: Abort + AllocGlobal>(
     put(rt, wanted, b"\n");
 }
 
-/// Adds four words of so many bytes, of which the first, the middle one, the last and none is escaped.
+/// Appends four words of `len` bytes, of which the first byte, the middle one, the last and none is escaped.
 fn put_words<R: Abort + AllocGlobal>(rt: &R, text: &mut Vec<u8>, wanted: &mut Vec<u8>, len: usize) {
     put_word(rt, text, wanted, len, 0);
     put_word(rt, text, wanted, len, len / 2);

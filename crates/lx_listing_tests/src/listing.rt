@@ -1,4 +1,4 @@
-//! Listings of plans: each form of line, pieces of later files, writers that take a part or fail.
+//! Tests listings of plans: each form of line, pieces of later files, and writers that accept a part or fail.
 
 ghost use Rattle.std.specs.Prelude.{◌<◌, ◌≤◌};
 ghost use Rattle.lx_piece.specs.Plans.{IsPlan, max_items};
@@ -18,7 +18,7 @@ use std::process::Abort;
 use std::sync::Wait;
 use std::thread::Threads;
 
-/// Asserts how the mixed files are listed in pieces of so many items.
+/// Asserts the listing of the mixed files, with `per_piece` items a piece.
 fn lists_mixed<R: Abort + AllocGlobal>(rt: &R, per_piece: u32)
     requires some_items { 0 < per_piece }
     requires few_items { per_piece ≤ max_items }
@@ -35,7 +35,7 @@ fn lists_each_form_of_line_whatever_the_pieces_are(rt: HostRuntime) {
     lists_mixed(&rt, 256);
 }
 
-/// Asserts how they are listed by their tables.
+/// Asserts their listing by their tables.
 fn lists_by_tables<R: Abort + AllocGlobal + Threads + Wait + Sync>(rt: &R, per_piece: u32)
     requires some_items { 0 < per_piece }
     requires few_items { per_piece ≤ max_items }
@@ -55,13 +55,13 @@ fn lists_files_by_tables(rt: HostRuntime) {
     lists_by_tables(&rt, 256);
 }
 
-/// Asserts what was written, in so many calls.
+/// Asserts the written bytes, and the number of calls.
 fn wrote(rt: &impl Abort, out: &Failing, wanted: &[u8], calls: u64) {
     same(rt, &out.calls, &calls);
     holds(rt, out.held.as_slice() == wanted, calls);
 }
 
-/// Asserts what a listing by so many workers writes, in so many calls.
+/// Asserts the bytes and the number of calls of a listing by `workers` workers.
 fn writes<R: Abort + AllocGlobal + Threads + Wait + Sync>(
     rt: &R,
     plan: &Plan,
@@ -78,7 +78,7 @@ fn writes<R: Abort + AllocGlobal + Threads + Wait + Sync>(
     wrote(rt, &out, wanted, calls);
 }
 
-/// Asserts it without workers and of two, where each line is written by itself, and where many are at once.
+/// Asserts the same without workers and with two, if each line is written by itself, and if many are written at once.
 fn writes_in<R: Abort + AllocGlobal + Threads + Wait + Sync>(
     rt: &R,
     plan: &Plan,
@@ -92,7 +92,7 @@ fn writes_in<R: Abort + AllocGlobal + Threads + Wait + Sync>(
     writes(rt, plan, 2, LineWrites::Whole, wanted, whole);
 }
 
-/// Asserts what `print_listing` writes, so many bytes a call, in so many calls.
+/// Prints a listing by `print_listing`, and asserts that it succeeds.
 fn prints<R: Abort + AllocGlobal>(rt: &R, plan: &Plan, out: &mut Failing) {
     same(rt, &print_listing(rt.alloc(), plan, out), &Ok(()));
 }
@@ -106,18 +106,18 @@ fn writes_each_line_by_itself_or_many_at_once(rt: HostRuntime) {
     same(&rt, &out.calls, &14);
 }
 
-/// What stands in the long text.
+/// Number of repetitions in the long text.
 const LONG: u32 = 60_000;
 
-/// Adds the line of a long text, in its escaped form.
+/// Appends the line of a long text, escaped.
 fn put_long<R: Abort>(rt: &R, wanted: &mut Vec<u8>, front: &[u8]) {
     put(rt, wanted, front);
     put_times(rt, wanted, b"\\x01a", LONG);
     put(rt, wanted, b">\n");
 }
 
-/// An Echo and a token have the same text of 120,002 bytes, which is escaped. Its 30 parts have 10,240 bytes at most, and what is gathered goes on
-/// once it has more than 98,304. Were a line made whole, it would be a write of its own, and there would be four.
+/// An Echo and a token have the same text of 120,002 bytes, which is escaped. Its 30 parts have at most 10,240 bytes, and gathered lines are written
+/// once they have more than 98,304 bytes. A whole line would be its own write, so that there would be four writes.
 #[test]
 fn writes_long_texts_in_parts(rt: HostRuntime) {
     let mut text = Vec::new(rt.alloc());
@@ -132,13 +132,14 @@ fn writes_long_texts_in_parts(rt: HostRuntime) {
     writes_cut(&rt, text.as_slice(), wanted.as_slice());
 }
 
-/// Asserts what is written of such a text, which is cut.
+/// Asserts the writes for such a text, which is cut.
 fn writes_cut<R: Abort + AllocGlobal + Threads + Wait + Sync>(rt: &R, text: &[u8], wanted: &[u8]) {
     let plan = made(rt, MIXED_RULES, &[(text, true)], 256);
     writes_in(rt, &plan, wanted, 5, 6);
 }
 
-/// Asserts that a listing by the main thread, whose writer fails at this call or never, ends so with two calls, and how much it has written.
+/// Asserts the result of a listing by the main thread with two calls, and the number of bytes that it has written. Its writer fails at this call or
+/// never.
 fn gathers<R: Abort + AllocGlobal + Threads + Wait + Sync>(
     rt: &R,
     plan: &Plan,
@@ -154,7 +155,7 @@ fn gathers<R: Abort + AllocGlobal + Threads + Wait + Sync>(
     same(rt, &out.held.len(), &held);
 }
 
-/// Asserts it of a plan whose listing has 151,890 bytes.
+/// Asserts the same for a plan whose listing has 151,890 bytes.
 fn gathers_lines<R: Abort + AllocGlobal + Threads + Wait + Sync>(rt: &R, plan: &Plan) {
     let wanted = listing_of(rt, plan);
     same(rt, &wanted.len(), &151_890);
@@ -162,14 +163,14 @@ fn gathers_lines<R: Abort + AllocGlobal + Threads + Wait + Sync>(rt: &R, plan: &
     gathers(rt, plan, &wanted, 2, Err(RunFault::Reader), 130_606);
 }
 
-/// Asserts it of the plan of these Echoes.
+/// Asserts the same for the plan of these Echoes.
 fn gathers_echoes<R: Abort + AllocGlobal + Threads + Wait + Sync>(rt: &R, text: &[u8]) {
     let plan = made(rt, NO_RULES, &[(text, false)], 256);
     gathers_lines(rt, &plan);
 }
 
-/// The listing of 9,000 Echoes of one byte has 151,890 bytes. Its first 7,748 lines leave together, behind which less room is left in 131,072 bytes
-/// than a line may take.
+/// The listing of 9,000 Echoes of one byte has 151,890 bytes. Its first 7,748 lines are written together: after them, 131,072 bytes have less room
+/// left than a line may take.
 #[test]
 fn gathers_lines_until_they_are_worth_a_write(rt: HostRuntime) {
     let mut text = Vec::new(rt.alloc());
@@ -185,15 +186,14 @@ fn writes_the_rest_of_what_was_taken_in_part(rt: HostRuntime) {
     same_bytes(&rt, out.held.as_slice(), MIXED_LISTING.as_bytes(), &1);
 }
 
-/// The calls at which a writer fails, and the lines of the text `hi` without rules that were written by then; where it is cut a third one stands
-/// behind them.
+/// Calls at which a writer fails, and the lines of the text `hi` without rules that were written by then. If the file is cut, a third line follows.
 const HI: &[(u64, &str)] = &[
     (1, ""),
     (2, "0 E - 1 0 1 h\n"),
     (3, "0 E - 1 0 1 h\n0 E - 1 1 1 i\n"),
 ];
 
-/// Asserts what was written where the writer fails at a call.
+/// Asserts what was written if the writer fails at a call.
 fn ends_at<R: Abort + AllocGlobal>(
     rt: &R,
     plan: &Plan,
@@ -216,7 +216,7 @@ fn ends_where_the_writer_fails(rt: HostRuntime) {
     }
 }
 
-// The writer's type is a parameter, since a listing that is made over a lent local isn't covered by the prover.
+// The writer's type is a parameter, since the prover doesn't support a listing over a borrowed local.
 fn relay_last_file_first<R: Abort + AllocGlobal, W: Write + Drop>(
     rt: &R,
     plan: &Plan,
@@ -229,7 +229,7 @@ fn relay_last_file_first<R: Abort + AllocGlobal, W: Write + Drop>(
     listing.faults()
 }
 
-/// Asserts how such a relay of the mixed files writes them.
+/// Asserts the output of such a relay of the mixed files.
 fn holds_pieces<R: Abort + AllocGlobal>(rt: &R, per_piece: u32)
     requires some_items { 0 < per_piece }
     requires few_items { per_piece ≤ max_items }
@@ -240,14 +240,14 @@ fn holds_pieces<R: Abort + AllocGlobal>(rt: &R, per_piece: u32)
     wrote(rt, &out, MIXED_LISTING.as_bytes(), 14);
 }
 
-/// It writes each line by itself, also where a piece has several.
+/// It writes each line by itself, also if a piece has several.
 #[test]
 fn holds_the_pieces_of_later_files(rt: HostRuntime) {
     holds_pieces(&rt, 1);
     holds_pieces(&rt, 256);
 }
 
-/// Asserts that a new listing whose writer fails answers so at the first piece, and when it is handed that again.
+/// Asserts the results of a new listing whose writer fails, at the first piece, and when it gets that piece again.
 fn take_twice<R: Abort + AllocGlobal, W: Write + Drop>(rt: &R, plan: &Plan, out: W)
     requires { IsPlan plan.now }
 {

@@ -1,4 +1,4 @@
-//! Outputs that fail at one of their calls: the program ends there with status 4, and a front of what it writes was written.
+//! Tests outputs that fail at one of their calls: the program ends there with status 4, after a prefix of its output.
 
 use crate::asserts::{holds, same_bytes};
 use crate::running::{FILES, status_over};
@@ -9,12 +9,12 @@ use std::process::Abort;
 use std::sync::Wait;
 use std::thread::Threads;
 
-/// How a writer fails: so many bytes are taken at a time, and a call fails by taking nothing, or by an error.
+/// The way in which a writer fails: the number of bytes that it accepts at a time, and true if it fails by accepting nothing instead of by an error.
 type Way = (usize, bool);
 
 const WAYS: &[Way] = &[(4_096, false), (4_096, true), (1, false), (1, true)];
 
-/// Whether a run was done before the call at which its output fails. Where it wasn't, it said that it can't write, and nothing else.
+/// Returns true if a run was done before the call at which its output fails. Otherwise asserts that it reported only that it can't write.
 fn is_done(rt: &impl Abort, status: u8, err: &[u8], call: u64) -> bool {
     let done = status == 0;
     let said = if done { "" } else { "lx: cannot write\n" };
@@ -23,7 +23,7 @@ fn is_done(rt: &impl Abort, status: u8, err: &[u8], call: u64) -> bool {
     done
 }
 
-/// Runs the program with an output that fails at this call: whether it was done before.
+/// Runs the program with an output that fails at this call. Returns true if the run was done before.
 fn run_failing<R: Abort + AllocGlobal + Threads + Wait + Sync>(
     rt: &R,
     words: &[&str],
@@ -35,8 +35,7 @@ fn run_failing<R: Abort + AllocGlobal + Threads + Wait + Sync>(
     is_done(rt, status, err.as_slice(), call)
 }
 
-/// Asserts that a writer that fails at this call, and takes so many bytes at a time, holds the text where it was done before that
-/// call, and else a front of it.
+/// Asserts that a writer that fails at this call holds the whole text if it was done before, and otherwise a prefix of it.
 fn holds_front(rt: &impl Abort, out: &Failing, most: usize, call: u64, text: &[u8], done: bool) {
     let (held, calls) = (out.held.as_slice(), out.calls);
     let is_whole = held.len() == text.len();
@@ -46,7 +45,7 @@ fn holds_front(rt: &impl Abort, out: &Failing, most: usize, call: u64, text: &[u
     holds(rt, done || most != 1 || is_call, call);
 }
 
-/// Asserts it of a run of the program.
+/// Asserts the same for a run of the program.
 fn writes_front<R: Abort + AllocGlobal + Threads + Wait + Sync>(
     rt: &R,
     words: &[&str],
@@ -59,7 +58,7 @@ fn writes_front<R: Abort + AllocGlobal + Threads + Wait + Sync>(
     holds_front(rt, &out, way.0, call, text, done);
 }
 
-/// Asserts it of each way and each call.
+/// Asserts the same for each way and each call.
 fn writes_fronts<R: Abort + AllocGlobal + Threads + Wait + Sync>(
     rt: &R,
     words: &[&str],
@@ -93,7 +92,7 @@ fn a_command_whose_output_fails_has_written_a_front(rt: HostRuntime) {
 /// The first lines of the listing of three files.
 const TWO_LINES: &[u8] = b"0 T ID 1 0 1 a\n2 T NUM 1 0 1 1\n";
 
-/// The words of a run, the call of its output that fails, and what was written by then.
+/// Arguments of a run, the call at which its output fails, and the bytes that were written by then.
 const LINES: &[(&[&str], u64, &[u8])] = &[
     (&["run", "S", "a", "empty", "lines"], 1, b""),
     (&["run", "S", "a", "empty", "lines"], 2, b"0 T ID 1 0 1 a\n"),
@@ -106,7 +105,7 @@ const LINES: &[(&[&str], u64, &[u8])] = &[
     (&[], 1, b""),
 ];
 
-/// Asserts what a run has written by the call at which its output fails.
+/// Asserts the bytes that a run has written by the call at which its output fails.
 fn writes_by<R: Abort + AllocGlobal + Threads + Wait + Sync>(
     rt: &R,
     words: &[&str],
@@ -126,7 +125,7 @@ fn a_line_goes_out_in_one_write(rt: HostRuntime) {
     }
 }
 
-/// Asserts that printing tables in their first or second version to a writer that fails at this call leaves a front of the text there.
+/// Asserts that printing tables, in their first or second version, to a writer that fails at this call leaves a prefix of the text there.
 fn prints_front<R: Abort + AllocGlobal>(rt: &R, tables: &Tables, first: bool, way: Way, call: u64) {
     let (text, other) = THREE_RULES_TEXTS;
     let mut out = failing_writer(rt.alloc(), way.0, call, way.1);
@@ -139,7 +138,7 @@ fn prints_front<R: Abort + AllocGlobal>(rt: &R, tables: &Tables, first: bool, wa
     }
 }
 
-/// Asserts it of each way and each call.
+/// Asserts the same for each way and each call.
 fn prints_fronts<R: Abort + AllocGlobal>(rt: &R, tables: &Tables, calls: u64) {
     for way in WAYS {
         for call in 1..=calls {

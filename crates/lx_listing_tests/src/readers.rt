@@ -1,4 +1,4 @@
-//! Readers, read to their end, or as far as they can be read.
+//! Tests reading of readers to their end, or to a read error.
 
 use crate::asserts::{same, same_bytes};
 use lx_tool::{SourceFault, read_to_end};
@@ -6,14 +6,14 @@ use std::io;
 use std::io::{ErrorKind, Read};
 use std::process::Abort;
 
-/// What one read does.
+/// The result of one read.
 #[derive(Clone, Copy)]
 enum Turn {
     Gives(&'static [u8]),
     Fails(ErrorKind),
 }
 
-/// A reader that does these, one a read, and is then at its end.
+/// A reader with these results, one for each read, and then the end.
 #[derive(Drop)]
 struct Turns {
     rest: &'static [Turn],
@@ -36,7 +36,7 @@ impl Read for Turns {
     }
 }
 
-/// What a reader does, the bytes that are read, whether they are cut, and how many turns are left.
+/// The results of a reader, the bytes that are read, true if they are cut, and the number of results that are left.
 type Row = (&'static [Turn], &'static [u8], bool, usize);
 
 const ROWS: &[Row] = &[
@@ -82,7 +82,7 @@ fn a_reader_is_read_to_its_end_or_to_its_fault(rt: HostRuntime) {
     }
 }
 
-/// What a reader does for which memory is refused.
+/// The results of a reader for which an allocation fails.
 const REFUSED: &[Turn] = &[Turn::Gives(b"ab"), Turn::Fails(ErrorKind::OutOfMemory)];
 
 #[test]

@@ -1,4 +1,4 @@
-//! Runs of the program over sources and streams of a test's own.
+//! Runs the program over sources and streams of a test's own.
 
 use crate::asserts::{same, same_bytes};
 use lx_tool::{ListSources, Sources, run};
@@ -7,13 +7,13 @@ use std::process::Abort;
 use std::sync::Wait;
 use std::thread::Threads;
 
-/// Adds a word.
+/// Appends an argument.
 fn put_word<R: Abort + AllocGlobal>(rt: &R, words: &mut Vec<String>, word: &str) {
     let word = String::from_str(rt.alloc(), word).expect(rt, "memory");
     words.push(word).expect(rt, "memory");
 }
 
-/// The name of the program, and these words behind it.
+/// Returns the name of the program, and these arguments after it.
 fn words_of<R: Abort + AllocGlobal>(rt: &R, words: &[&str]) -> Vec<String> {
     let mut all = Vec::new(rt.alloc());
     put_word(rt, &mut all, "lx");
@@ -23,7 +23,7 @@ fn words_of<R: Abort + AllocGlobal>(rt: &R, words: &[&str]) -> Vec<String> {
     all
 }
 
-/// The status of a run of the program with these words behind its name.
+/// Returns the status of a run of the program with these arguments.
 pub(crate) fn status_of<
     R: Abort + AllocGlobal + Threads + Wait + Sync,
     S: Sources,
@@ -34,7 +34,7 @@ pub(crate) fn status_of<
     run(rt, rt.alloc(), &words, sources, out, err)
 }
 
-/// The status of such a run over these files.
+/// Returns the status of such a run over these files.
 pub(crate) fn status_over<R: Abort + AllocGlobal + Threads + Wait + Sync, O: Write, E: Write>(
     rt: &R,
     words: &[&str],
@@ -45,7 +45,7 @@ pub(crate) fn status_over<R: Abort + AllocGlobal + Threads + Wait + Sync, O: Wri
     status_of(rt, words, &mut ListSources::new(files), out, err)
 }
 
-/// The words of a run, the files that are cut, and its status, output and lines on the error stream.
+/// Arguments of a run, the files that are cut, and its status, output and lines on stderr.
 pub(crate) type Row = (
     &'static [&'static str],
     &'static [&'static str],
@@ -54,7 +54,7 @@ pub(crate) type Row = (
     &'static str,
 );
 
-/// Asserts that a run over files, some of which are cut, ends so.
+/// Asserts the results of a run over files, some of which are cut.
 pub(crate) fn expect<R: Abort + AllocGlobal + Threads + Wait + Sync>(
     rt: &R,
     files: &[(&str, &[u8])],
@@ -70,7 +70,7 @@ pub(crate) fn expect<R: Abort + AllocGlobal + Threads + Wait + Sync>(
     same_bytes(rt, err.as_slice(), lines.as_bytes(), &words);
 }
 
-/// The three rules, a specification that is refused, and one without rules; tables of the three rules of the first version; and files.
+/// The three rules, a specification that is rejected, and one without rules; tables of the three rules in the first version; and files.
 pub(crate) const FILES: &[(&str, &[u8])] = &[
     (
         "S",

@@ -1,4 +1,4 @@
-//! Listings of files that several threads scan: the same bytes as by one thread.
+//! Tests listings of files that several threads scan: they have the same bytes as by one thread.
 
 ghost use Rattle.std.specs.Prelude.{◌<◌, ◌≤◌};
 ghost use Rattle.lx_piece.specs.Plans.{max_items};
@@ -15,7 +15,7 @@ use std::process::Abort;
 use std::sync::Wait;
 use std::thread::Threads;
 
-/// Lists a plan's files by workers. The writer's type is a parameter, since a listing that is made over a lent local isn't covered by the prover.
+/// Lists a plan's files by workers. The writer's type is a parameter, since the prover doesn't support a listing over a borrowed local.
 pub(crate) fn scan_over<R: Threads + Wait + Sync, G: Gate + Sync, W: Write + Drop>(
     rt: &R,
     alloc: Global,
@@ -32,7 +32,7 @@ pub(crate) fn scan_over<R: Threads + Wait + Sync, G: Gate + Sync, W: Write + Dro
     Ok((ended, listing.faults()))
 }
 
-/// Asserts that a plan's files are listed so by so many workers.
+/// Asserts the listing of a plan's files by `workers` workers.
 fn lists_by<R: Abort + AllocGlobal + Threads + Wait + Sync>(
     rt: &R,
     plan: &Plan,
@@ -48,7 +48,7 @@ fn lists_by<R: Abort + AllocGlobal + Threads + Wait + Sync>(
     same_bytes(rt, out.as_slice(), wanted, &workers);
 }
 
-/// Asserts that a plan's files are listed so by one thread, and by 1, 2 and 8 workers.
+/// Asserts the listing of a plan's files by one thread, and by 1, 2 and 8 workers.
 fn lists<R: Abort + AllocGlobal + Threads + Wait + Sync>(rt: &R, plan: &Plan, wanted: &[u8]) {
     let alone = listing_of(rt, plan);
     same_bytes(rt, alone.as_slice(), wanted, &0);
@@ -57,7 +57,7 @@ fn lists<R: Abort + AllocGlobal + Threads + Wait + Sync>(rt: &R, plan: &Plan, wa
     lists_by(rt, plan, 8, wanted);
 }
 
-/// Files with whether their reading failed, and their listing by the three rules.
+/// Files, with a flag for a failed reading, and their listing by the three rules.
 type Row = (&'static [(&'static [u8], bool)], &'static [u8]);
 
 const ROWS: &[Row] = &[
@@ -81,7 +81,7 @@ const ROWS: &[Row] = &[
     (&[(b"", true)], b"0 ! cut\n"),
 ];
 
-/// Asserts it of a row in pieces of so many items.
+/// Asserts the listing of a row, with `per_piece` items a piece.
 fn lists_row<R: Abort + AllocGlobal + Threads + Wait + Sync>(rt: &R, row: &Row, per_piece: u32)
     requires some_items { 0 < per_piece }
     requires few_items { per_piece ≤ max_items }
@@ -92,7 +92,7 @@ fn lists_row<R: Abort + AllocGlobal + Threads + Wait + Sync>(rt: &R, row: &Row, 
     lists(rt, &plan, wanted);
 }
 
-/// Asserts it of the mixed files.
+/// Asserts the listing of the mixed files.
 fn lists_mixed<R: Abort + AllocGlobal + Threads + Wait + Sync>(rt: &R, per_piece: u32)
     requires some_items { 0 < per_piece }
     requires few_items { per_piece ≤ max_items }
@@ -101,7 +101,7 @@ fn lists_mixed<R: Abort + AllocGlobal + Threads + Wait + Sync>(rt: &R, per_piece
     lists(rt, &plan, MIXED_LISTING.as_bytes());
 }
 
-/// Asserts it of all files in pieces of so many items.
+/// Asserts the listings of all files, with `per_piece` items a piece.
 fn lists_all<R: Abort + AllocGlobal + Threads + Wait + Sync>(rt: &R, per_piece: u32)
     requires some_items { 0 < per_piece }
     requires few_items { per_piece ≤ max_items }

@@ -1,6 +1,6 @@
-//! Memory refused to a run of several threads: it answers so, every worker is joined, and what was listed by then is a prefix of the listing; the
-//! next run goes on as if nothing had been. With ample memory each run succeeds; `rt try --test --fail-alloc N` refuses the Nth allocation of each
-//! test. A test whose own memory is refused ends there.
+//! Tests failed allocations in a run of several threads. The run reports them, every worker is joined, and what was listed by then is a prefix of the
+//! listing. The next run continues as if nothing had failed. With enough memory each run succeeds. `rt try --test --fail-alloc N` fails the Nth
+//! allocation of each test. A test that can't allocate itself ends there.
 
 ghost use Rattle.std.specs.Prelude.{◌<◌, ◌≤◌};
 
@@ -14,18 +14,18 @@ use std::process::Abort;
 use std::sync::Wait;
 use std::thread::Threads;
 
-/// What became of a run.
+/// The outcome of a run.
 #[derive(Clone, Copy, Debug, PartialEq, Eq)]
 enum Outcome {
     /// All was listed.
     Whole,
-    /// Memory was refused, and a prefix was listed.
+    /// An allocation failed, and a prefix was listed.
     Part,
-    /// The test itself had no memory.
+    /// The test itself can't allocate.
     Untried,
 }
 
-/// Asserts that a run which wrote this listed all, or a prefix for want of memory.
+/// Asserts that a run which wrote this listed all, or a prefix for lack of memory.
 fn outcome_of(rt: &impl Abort, ended: Result<(), RunFault>, written: &[u8]) -> Outcome {
     match ended {
         Ok(()) => {
@@ -40,7 +40,7 @@ fn outcome_of(rt: &impl Abort, ended: Result<(), RunFault>, written: &[u8]) -> O
     }
 }
 
-/// Lists these files by so many workers, into memory that is reserved.
+/// Lists these files by `workers` workers, into reserved memory.
 fn list_three<R: Threads + Wait + Abort + Sync>(
     rt: &R,
     alloc: Global,
@@ -60,7 +60,7 @@ fn list_three<R: Threads + Wait + Abort + Sync>(
     outcome_of(rt, ended, out.as_slice())
 }
 
-/// Lists them, and all again where only a part was listed.
+/// Lists them, and all again if only a part was listed.
 fn list_again<R: Threads + Wait + Abort + Sync>(rt: &R, alloc: Global, plan: &Plan, workers: u8)
     requires some_workers { 0 < workers }
     requires few_workers { workers ≤ 8 }

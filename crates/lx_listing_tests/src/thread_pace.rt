@@ -1,4 +1,4 @@
-//! How much of later files a run holds while an earlier one stands still.
+//! Tests the amount of later files that a run holds while an earlier one is held.
 
 use crate::asserts::same;
 use crate::thread_listings::scan_over;
@@ -11,37 +11,37 @@ use std::sync::atomic::{AtomicU64, Ordering};
 use std::thread;
 use std::thread::Threads;
 
-// A piece has so many items.
+// Number of items of a piece.
 const ITEMS: u32 = 256;
 
-// Bytes of which each is an item of 40 bytes.
+// Number of bytes of a file. Each of them is an item of 40 bytes.
 const BYTES: usize = 50_000;
 
-// With many files a worker draws no further one where 12 MB are held, or 6 MB where it is the second. The file that it cut, a piece by each of two
-// workers and 256 between the threads come on top.
+// With many files, the first worker draws no further file once 12 MB are held, and the second one once 6 MB are. The file that it cuts, a piece by
+// each of two workers, and 256 pieces between the threads are added.
 const MOST_OF_MANY: u64 = (3 << 22) / (40 * 256) + 196 + 2 + 256;
 
-// The bound is reached before the first file is done: a list takes at most twice the memory of its items.
+// The bound is reached before the first file is done. A list takes at most twice the memory of its items.
 const LEAST_OF_MANY: u64 = (3 << 21) / (2 * 40 * 256);
 
-// Within a file 24 MB are held.
+// Within a file, 24 MB are held.
 const MOST_OF_ONE: u64 = (3 << 23) / (40 * 256) + 2 + 256;
 
 const LEAST_OF_ONE: u64 = (3 << 23) / (2 * 40 * 256);
 
-// So many turns without a pass of another worker: it stands still.
+// Number of turns without a pass of another worker after which it counts as waiting.
 const TURNS: u32 = 200_000;
 
 const ROUNDS: u32 = 10_000;
 
-/// A gate that holds the first file until the worker of the others stands still.
+/// A gate that holds the first file until the worker of the others waits.
 #[derive(Drop)]
 struct StillGate {
     others: AtomicU64,
     by_then: AtomicU64,
 }
 
-/// Turns until the count has risen no more for a while, and gives it.
+/// Yields until the count hasn't risen for a while. Returns the count.
 fn turns_until_still(count: &AtomicU64) -> u64 {
     for _round in 0..ROUNDS {
         let before = count.load(Ordering::SeqCst);
@@ -66,7 +66,7 @@ impl Gate for StillGate {
     }
 }
 
-// A file of so many bytes.
+// Returns a file of this length.
 fn file_of<R: Abort + AllocGlobal>(rt: &R, bytes: usize) -> Input {
     Input {
         bytes: vec![in rt.alloc(); b'x'; bytes].expect(rt, "memory"),
@@ -74,7 +74,7 @@ fn file_of<R: Abort + AllocGlobal>(rt: &R, bytes: usize) -> Input {
     }
 }
 
-// A file of one byte, and these behind it.
+// Returns a file of one byte, and `later` files of this length after it.
 fn files_of_echoes<R: Abort + AllocGlobal>(rt: &R, later: usize, bytes: usize) -> Vec<Input> {
     let mut files = Vec::new(rt.alloc());
     files.push(file_of(rt, 1)).expect(rt, "memory");
@@ -84,7 +84,7 @@ fn files_of_echoes<R: Abort + AllocGlobal>(rt: &R, later: usize, bytes: usize) -
     files
 }
 
-// Their plan.
+// Makes the plan of these files.
 fn plan_of_echoes<R: Abort + AllocGlobal>(rt: &R, later: usize, bytes: usize) -> Plan {
     let files = files_of_echoes(rt, later, bytes);
     assert!(rt; !files.is_empty() && files.len() <= 100);
@@ -92,7 +92,7 @@ fn plan_of_echoes<R: Abort + AllocGlobal>(rt: &R, later: usize, bytes: usize) ->
     Plan::new(tables, files, ITEMS, 1)
 }
 
-// How many pieces of the later files of a plan come while the first file stands still.
+// Returns the number of pieces of a plan's later files that are cut while the first file is held.
 fn held_pieces<R: Abort + AllocGlobal + Threads + Wait + Sync>(rt: &R, plan: &Plan) -> u64 {
     let gate = StillGate {
         others: AtomicU64::new(0),
@@ -104,7 +104,7 @@ fn held_pieces<R: Abort + AllocGlobal + Threads + Wait + Sync>(rt: &R, plan: &Pl
     gate.by_then.load(Ordering::SeqCst)
 }
 
-// Asserts that so many pieces of these later files come.
+// Asserts bounds for the number of such pieces.
 fn holds_between<R: Abort + AllocGlobal + Threads + Wait + Sync>(
     rt: &R,
     later: usize,

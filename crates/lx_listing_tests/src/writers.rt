@@ -4,14 +4,14 @@ use std::alloc::Global;
 use std::io;
 use std::io::{ErrorKind, Write};
 
-/// A writer that takes at most so many bytes at a time, and fails at one of its calls.
+/// A writer that accepts at most `most` bytes at a time, and fails at one of its calls.
 #[derive(Drop)]
 pub(crate) struct Failing {
     pub(crate) held: Vec<u8>,
     most: usize,
     pub(crate) calls: u64,
     fails_at: u64,
-    /// It fails by taking nothing, and else by an error.
+    /// True if it fails by accepting nothing, otherwise it fails by an error.
     takes_nothing: bool,
 }
 

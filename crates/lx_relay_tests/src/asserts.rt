@@ -8,7 +8,7 @@ pub(crate) fn same<T: PartialEq + Debug>(rt: &impl Abort, found: &T, wanted: &T)
     assert_eq!(rt; *found, *wanted);
 }
 
-/// Asserts of what has this number that it is as wanted.
+/// Asserts that the condition with this number holds.
 pub(crate) fn holds(rt: &impl Abort, is_so: bool, number: u64) {
     assert!(rt; is_so, "at {number}");
 }

@@ -1,4 +1,4 @@
-//! Claims of files: seats draw each file once, and all is given back that can't be settled yet.
+//! Tests claims of files: seats draw each file once, and claims that can't be settled yet come back completely.
 
 ghost use Rattle.std.specs.Prelude.{◌≡◌, ◌∷◌, [], All};
 ghost use Rattle.lx_post.specs.Claimed.{IsSeatOf};
@@ -7,7 +7,7 @@ use crate::asserts::same;
 use lx_post::{ClaimSeat, Claims, Unsettled};
 use std::process::Abort;
 
-/// Asserts that this is what a seat draws next.
+/// Asserts what a seat draws next.
 fn draws(rt: &impl Abort, claims: &Claims, seat: &mut ClaimSeat, wanted: Option<u32>)
     requires { IsSeatOf claims.now seat.old }
     ensures { IsSeatOf claims.now seat.new }
@@ -15,7 +15,7 @@ fn draws(rt: &impl Abort, claims: &Claims, seat: &mut ClaimSeat, wanted: Option<
     same(rt, &claims.draw(seat), &wanted);
 }
 
-/// Asserts that claims don't settle with these seats, and gives both back.
+/// Asserts that claims don't settle with these seats. Returns both.
 fn stays_unsettled(
     rt: &impl Abort,
     claims: Claims,
@@ -48,7 +48,7 @@ fn both_stay_unsettled<R: Abort + AllocGlobal>(
     }
 }
 
-/// Asserts that claims don't settle with the first seat alone, and that they do with both.
+/// Asserts that claims don't settle with only the first seat, and that they do with both.
 fn settles_with_both<R: Abort + AllocGlobal>(
     rt: &R,
     claims: Claims,
@@ -65,7 +65,7 @@ fn settles_with_both<R: Abort + AllocGlobal>(
     same(rt, &claims.settle(seats).ok(), &Some(3));
 }
 
-/// Draws three files by two seats, which don't settle before each was answered that no file is left.
+/// Draws three files with two seats, which don't settle before both learnt that no file is left.
 fn draw_three<R: Abort + AllocGlobal>(
     rt: &R,
     claims: Claims,
@@ -82,7 +82,7 @@ fn draw_three<R: Abort + AllocGlobal>(
     draw_last(rt, claims, first, second);
 }
 
-/// Draws nothing more by two seats, of which the second was answered that no file is left.
+/// Draws nothing more with two seats, of which the second learnt that no file is left.
 fn draw_last<R: Abort + AllocGlobal>(rt: &R, claims: Claims, first: ClaimSeat, second: ClaimSeat)
     requires these { IsSeatOf claims first × IsSeatOf claims second }
 {

@@ -1,4 +1,4 @@
-//! A collector: what it answers to arrivals, in which order it delivers, and which files it then counts as closed and as cut.
+//! Tests a collector: its replies to arrivals, the order of its deliveries, and the files that it then counts as closed and as cut.
 
 ghost use Rattle.std.specs.Prelude.{◌≡◌, ◌<◌, ◌≤◌, length};
 
@@ -7,7 +7,7 @@ use lx_fixtures::piece;
 use lx_piece::{Collector, Mark, Piece, Reply, Why};
 use std::process::Abort;
 
-/// The reply to a piece.
+/// Offers a piece, and returns the reply.
 fn reply_of(collector: &mut Collector, piece: Piece) -> Reply
     ensures { length collector.new.buffers ≡ length collector.old.buffers }
 {
@@ -17,7 +17,7 @@ fn reply_of(collector: &mut Collector, piece: Piece) -> Reply
     }
 }
 
-/// The file and the number of the piece that is delivered next.
+/// Returns the file and the number of the piece that is delivered next.
 fn delivered(collector: &mut Collector) -> Option<(u32, u64)>
     ensures { length collector.new.buffers ≡ length collector.old.buffers }
 {
@@ -27,7 +27,7 @@ fn delivered(collector: &mut Collector) -> Option<(u32, u64)>
     }
 }
 
-/// Asserts that this is the reply to a piece.
+/// Asserts the reply to a piece.
 pub(crate) fn expect_reply(
     rt: &impl Abort,
     collector: &mut Collector,
@@ -39,7 +39,7 @@ pub(crate) fn expect_reply(
     same(rt, &reply_of(collector, offered), &wanted);
 }
 
-/// Asserts that this is delivered next.
+/// Asserts what is delivered next.
 pub(crate) fn expect_delivery(
     rt: &impl Abort,
     collector: &mut Collector,
@@ -50,7 +50,7 @@ pub(crate) fn expect_delivery(
     same(rt, &delivered(collector), &wanted);
 }
 
-/// The run, file, number and mark of an arrival at a collector of run 1, the reply to it, and what is delivered then, where that is asked for.
+/// An arrival at a collector of run 1, by its run, file, number and mark. Also the reply to it, and what is delivered then, if anything is asked for.
 type Turn = (u64, u32, u64, Mark, Reply, Option<&'static [(u32, u64)]>);
 
 /// Asserts that these are delivered, and then nothing.
@@ -63,7 +63,7 @@ fn expect_deliveries(rt: &impl Abort, collector: &mut Collector, wanted: &[(u32,
     expect_delivery(rt, collector, None);
 }
 
-/// Asserts that a turn goes so.
+/// Asserts the results of a turn.
 fn expect_turn<R: Abort + AllocGlobal>(rt: &R, collector: &mut Collector, turn: &Turn)
     ensures { length collector.new.buffers ≡ length collector.old.buffers }
 {
@@ -75,14 +75,14 @@ fn expect_turn<R: Abort + AllocGlobal>(rt: &R, collector: &mut Collector, turn: 
     }
 }
 
-/// Asserts that the turns go so.
+/// Asserts the results of the turns.
 fn expect_turns<R: Abort + AllocGlobal>(rt: &R, collector: &mut Collector, turns: &[Turn]) {
     for turn in turns {
         expect_turn(rt, collector, turn);
     }
 }
 
-/// A collector of run 1 to which nothing came.
+/// Returns a collector of run 1 to which no piece has come.
 fn fresh_collector<R: Abort + AllocGlobal>(rt: &R, files: u32) -> Collector
     requires some { 0 < files }
     requires few { files ≤ 65536 }
@@ -101,7 +101,7 @@ const CONTRADICTS: Reply = Reply::Refused(Why::Contradicts);
 
 const WRONG_RUN: Reply = Reply::Refused(Why::WrongRun);
 
-/// The pieces of a file in another order, with one again and one behind the last.
+/// The pieces of a file in another order, with a duplicate and one after the last.
 const ONE_FILE: &[Turn] = &[
     (1, 0, 2, Mark::Whole, ACCEPTED, Some(&[])),
     (1, 0, 0, Mark::More, ACCEPTED, Some(&[(0, 0)])),
@@ -117,7 +117,7 @@ fn orders_the_pieces_of_a_file(rt: HostRuntime) {
     holds(&rt, collector.all_closed(), 1);
 }
 
-/// Asserts that the turns go so in a collector of so many files to which nothing came.
+/// Asserts the results of the turns in a new collector of `files` files.
 fn expect_fresh<R: Abort + AllocGlobal>(rt: &R, files: u32, turns: &[Turn])
     requires some { 0 < files }
     requires few { files ≤ 65536 }
@@ -165,17 +165,17 @@ fn refuses_the_greatest_number(rt: HostRuntime) {
     expect_fresh(&rt, 1, GREATEST);
 }
 
-/// Of each of three files whether it is closed, and whether it is cut.
+/// For each of three files, flags for closed and cut.
 type Ends = [(bool, bool); 3];
 
-/// Whether a file is closed, and whether it is cut.
+/// Returns the flags of a file for closed and cut.
 fn end_of(collector: &Collector, file: u32) -> (bool, bool)
     requires { file < length collector.now.buffers }
 {
     (collector.is_closed(file), collector.is_cut(file))
 }
 
-/// Asserts these of three files.
+/// Asserts the flags of three files.
 fn expect_ends(rt: &impl Abort, collector: &Collector, wanted: &Ends)
     requires { length collector.now.buffers ≡ 3 }
 {
@@ -190,7 +190,7 @@ const WHOLE: (bool, bool) = (true, false);
 
 const CUT: (bool, bool) = (true, true);
 
-/// Turns, and the ends of the three files behind each.
+/// Turns, and the flags of the three files after each.
 const THREE_FILES: &[(Turn, Ends)] = &[
     ((1, 0, 0, Mark::Cut, ACCEPTED, None), [OPEN, OPEN, OPEN]),
     (
@@ -218,7 +218,7 @@ fn a_file_is_cut_once_its_piece_that_says_so_was_delivered(rt: HostRuntime) {
     holds(&rt, collector.all_closed(), 3);
 }
 
-/// What the plain program below keeps of an accepted piece.
+/// The parts of an accepted piece that the plain program below keeps.
 #[derive(Clone, Copy)]
 struct Accepted {
     file: u32,
@@ -226,8 +226,8 @@ struct Accepted {
     mark: Mark,
 }
 
-/// The arrivals from which every list of six is made: the three pieces of a plan of two files, the first of which is cut, one that
-/// contradicts them, and a stranger, which is of another file or of another run.
+/// Returns one of the arrivals of which all lists of six consist. They are the three pieces of a plan of two files, the first of which is cut, a
+/// piece that contradicts them, and a foreign piece, of another file or of another run.
 fn arrival(symbol: u32, turn: u32) -> (u64, Accepted) {
     let (run, file, number, mark) = match symbol {
         0 => (1, 0, 0, Mark::More),
@@ -240,7 +240,7 @@ fn arrival(symbol: u32, turn: u32) -> (u64, Accepted) {
     (run, Accepted { file, number, mark })
 }
 
-/// Whether a piece of the file with this number was accepted.
+/// Returns true if a piece of the file with this number was accepted.
 fn is_accepted(accepted: &[Accepted], file: u32, number: u64) -> bool {
     for q in accepted {
         if q.file == file && q.number == number {
@@ -250,7 +250,7 @@ fn is_accepted(accepted: &[Accepted], file: u32, number: u64) -> bool {
     false
 }
 
-/// Whether a marked piece of the file below this number was accepted.
+/// Returns true if a closing piece of the file below this number was accepted.
 fn is_marked_below(accepted: &[Accepted], file: u32, number: u64) -> bool {
     for q in accepted {
         if q.file == file && q.mark != Mark::More && q.number < number {
@@ -260,7 +260,7 @@ fn is_marked_below(accepted: &[Accepted], file: u32, number: u64) -> bool {
     false
 }
 
-/// Whether a piece of the file below this number was accepted that says it is cut.
+/// Returns true if a piece below this number that marks the file as cut was accepted.
 fn is_cut_below(accepted: &[Accepted], file: u32, number: u64) -> bool {
     for q in accepted {
         if q.file == file && q.mark == Mark::Cut && q.number < number {
@@ -270,7 +270,7 @@ fn is_cut_below(accepted: &[Accepted], file: u32, number: u64) -> bool {
     false
 }
 
-/// Whether a piece of the file above this number was accepted.
+/// Returns true if a piece of the file above this number was accepted.
 fn is_any_above(accepted: &[Accepted], file: u32, number: u64) -> bool {
     for q in accepted {
         if q.file == file && q.number > number {
@@ -280,7 +280,7 @@ fn is_any_above(accepted: &[Accepted], file: u32, number: u64) -> bool {
     false
 }
 
-/// The first cause that holds against an arrival, in a collector of run 1 and two files.
+/// Returns the first cause that holds against an arrival, in a collector of run 1 and two files.
 fn plain_reply(before: &[Accepted], run: u64, p: Accepted) -> Reply {
     if run != 1 {
         Reply::Refused(Why::WrongRun)
@@ -297,7 +297,7 @@ fn plain_reply(before: &[Accepted], run: u64, p: Accepted) -> Reply {
     }
 }
 
-/// The next delivery, where so many pieces of each of two files were delivered.
+/// Returns the next delivery, given the number of delivered pieces of each of two files.
 fn plain_delivery(accepted: &[Accepted], counts: (u64, u64)) -> Option<(u32, u64)> {
     if is_accepted(accepted, 0, counts.0) {
         Some((0, counts.0))
@@ -308,7 +308,7 @@ fn plain_delivery(accepted: &[Accepted], counts: (u64, u64)) -> Option<(u32, u64
     }
 }
 
-/// Whether the file is closed and whether it is cut, where so many of its pieces were delivered.
+/// Returns the flags of the file for closed and cut, given its number of delivered pieces.
 fn plain_end(accepted: &[Accepted], file: u32, count: u64) -> (bool, bool) {
     (
         is_marked_below(accepted, file, count),
@@ -324,7 +324,7 @@ fn raised(counts: (u64, u64), file: u32) -> (u64, u64) {
     }
 }
 
-/// Asserts that this is delivered next in a list of arrivals.
+/// Asserts what is delivered next in a list of arrivals.
 fn expect_delivered(
     rt: &impl Abort,
     collector: &mut Collector,
@@ -336,7 +336,7 @@ fn expect_delivered(
     holds(rt, delivered(collector) == wanted, u64::from(list));
 }
 
-/// Asserts that all is delivered as defined, where so many pieces of each file were, and gives how many then are.
+/// Asserts that all is delivered as defined, given the number of delivered pieces of each file. Returns the new numbers.
 fn delivers_as_defined(
     rt: &impl Abort,
     collector: &mut Collector,
@@ -381,7 +381,7 @@ fn ends_as_defined(
     );
 }
 
-/// Asserts that an arrival is answered as defined, and adds it to those that are accepted if it is.
+/// Asserts that the reply to an arrival is as defined, and adds the arrival to the accepted ones if it is accepted.
 fn answers_as_defined<R: Abort + AllocGlobal>(
     rt: &R,
     collector: &mut Collector,
@@ -400,7 +400,7 @@ fn answers_as_defined<R: Abort + AllocGlobal>(
     }
 }
 
-/// Offers the six arrivals that a number spells, and delivers all after each, or only after the last.
+/// Offers the six arrivals that a number encodes, and delivers all after each, or only after the last.
 fn six_turns<R: Abort + AllocGlobal>(
     rt: &R,
     collector: &mut Collector,
@@ -423,7 +423,7 @@ fn six_turns<R: Abort + AllocGlobal>(
     }
 }
 
-/// Offers them to a collector of two files to which nothing came.
+/// Offers the six arrivals to a new collector of two files.
 fn compares_with_the_plain_program<R: Abort + AllocGlobal>(
     rt: &R,
     list: u32,

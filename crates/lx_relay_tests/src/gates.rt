@@ -1,5 +1,4 @@
-//! Gates that hold one pass until something else has come to be. They turn 10,000,000 times at most, and yield the processor each
-//! time.
+//! Gates that hold a worker until some event. They yield the processor at most 10,000,000 times.
 
 use lx_post::Gate;
 use std::sync::atomic::{AtomicBool, AtomicU64, Ordering};
@@ -7,7 +6,7 @@ use std::thread;
 
 const TURNS: u32 = 10_000_000;
 
-/// Whether all of these flags are set, but for the one at this index.
+/// Returns true if all of these flags are set, except for the one at index `but`.
 fn are_set(flags: &[AtomicBool], but: usize) -> bool {
     for (index, flag) in flags.iter().enumerate() {
         if index != but && !flag.load(Ordering::SeqCst) {
@@ -17,7 +16,7 @@ fn are_set(flags: &[AtomicBool], but: usize) -> bool {
     true
 }
 
-/// Turns until all of these flags are set, but for the one at this index. False where the limit is met.
+/// Yields until all of these flags are set, except for the one at index `but`. Returns false at the limit of turns.
 fn turns_until_set(flags: &[AtomicBool], but: usize) -> bool {
     for _ in 0..TURNS {
         if are_set(flags, but) {
@@ -51,7 +50,7 @@ impl FileGate {
         }
     }
 
-    /// How often each file was passed.
+    /// Returns the number of passes of each file.
     pub(crate) fn passes(&self) -> [u64; 3] {
         [
             self.passes[0].load(Ordering::SeqCst),
@@ -78,7 +77,7 @@ impl Gate for FileGate {
     }
 }
 
-/// A gate that holds the pass for piece 1 of one of two files until a reader has said that it took the other file's last piece.
+/// A gate that holds the pass for piece 1 of one of two files, until a reader has taken the other file's last piece.
 #[derive(Drop)]
 pub(crate) struct PieceGate {
     held: u32,
@@ -99,12 +98,12 @@ impl PieceGate {
         }
     }
 
-    /// How many passes there were.
+    /// Returns the number of passes.
     pub(crate) fn passes(&self) -> u64 {
         self.passes.load(Ordering::SeqCst)
     }
 
-    /// Whether a pass came to where it is held, and went on when the other file was closed.
+    /// Returns true if a pass was held, and went on when the other file was closed.
     pub(crate) fn has_held(&self) -> bool {
         self.has_held.load(Ordering::SeqCst) && !self.gave_up.load(Ordering::SeqCst)
     }

@@ -7,7 +7,7 @@ use lx_piece::{Piece, Plan, Reader, ReaderFault};
 use std::process::Abort;
 use std::sync::atomic::{AtomicBool, Ordering};
 
-/// A reader that keeps the pieces that it takes, and fails at each call behind the first so many.
+/// A reader that keeps the pieces that it takes, and fails at each call after the first `room`.
 #[derive(Drop)]
 pub(crate) struct Keeper<'a> {
     plan: &'a Plan,
@@ -17,12 +17,12 @@ pub(crate) struct Keeper<'a> {
     room: u64,
     fault: ReaderFault,
     faults: u64,
-    /// Of each of the first files, whether its last piece was taken.
+    /// For each of the first files, true once its last piece was taken.
     closed: &'a [AtomicBool],
     ghost each_count: { length counts.items ≡ files_of plan.now },
 }
 
-/// A keeper that takes so many pieces, then fails so, and says of the first files when it took the last piece.
+/// Returns a keeper that takes `room` pieces and then fails with `fault`. It sets a flag in `closed` when it takes the last piece of a file.
 pub(crate) fn keeper_of<'a, R: Abort + AllocGlobal>(
     rt: &R,
     plan: &'a Plan,
@@ -46,7 +46,7 @@ pub(crate) fn keeper_of<'a, R: Abort + AllocGlobal>(
     }
 }
 
-/// A keeper that takes all pieces.
+/// Returns a keeper that takes all pieces.
 pub(crate) fn fresh_keeper<'a, R: Abort + AllocGlobal>(rt: &R, plan: &'a Plan) -> Keeper<'a>
     ensures plan { result.plan.now ≡ plan.now }
     ensures counts { result.counts.items ≡ replicate (files_of plan.now) 0 }

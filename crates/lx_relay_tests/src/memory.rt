@@ -1,5 +1,5 @@
-//! Memory refused: the answer says so, what was handed in comes back, and the next try goes on as if nothing had been. With ample memory each
-//! call succeeds; `rt try --test --fail-alloc N` refuses the Nth allocation of each test. A test whose own memory is refused ends there.
+//! Tests failed allocations: the result reports them, what was passed in comes back, and the next try continues as if nothing had failed. With enough
+//! memory each call succeeds. `rt try --test --fail-alloc N` fails the Nth allocation of each test. A test that can't allocate itself ends there.
 
 ghost use Rattle.std.specs.Prelude.{◌<◌};
 ghost use Rattle.lx_piece.specs.Cutting.{IsCutterOf};
@@ -15,10 +15,10 @@ use lx_piece::{Collector, Cutter, Items, Mark, Piece, Plan, Refused, RelayFault,
 use std::alloc::{AllocError, Global};
 use std::process::Abort;
 
-/// How many files, or pieces of one file, a collector is offered.
+/// Number of files, or pieces of one file, that a collector is offered.
 const MANY: u32 = 40;
 
-/// A piece of run 1 with one item, which begins at the piece's number.
+/// Returns a piece of run 1 with one item, which begins at the piece's number.
 fn with_item(alloc: Global, file: u32, number: u32, mark: Mark) -> Result<Piece, AllocError> {
     let start = number as usize;
     let items = vec![in alloc; echo(1, start); 1]?;
@@ -38,7 +38,7 @@ fn expect_with_item(rt: &impl Abort, piece: &Piece, file: u32, number: u64, mark
     same(rt, &piece.items.as_slice(), &[item].as_slice());
 }
 
-/// Offers a piece of `with_item`. Where it comes back, it is for want of memory, and whole.
+/// Offers a piece of `with_item`. If it comes back, asserts that this is for lack of memory, and that it is unchanged.
 fn offer_again(rt: &impl Abort, collector: &mut Collector, offered: Piece) -> Option<Piece> {
     let (file, number, mark) = (offered.file, offered.number, offered.mark);
     match collector.offer(offered) {
@@ -51,7 +51,7 @@ fn offer_again(rt: &impl Abort, collector: &mut Collector, offered: Piece) -> Op
     }
 }
 
-/// Delivers the first pieces of the files from one up to another, and then nothing.
+/// Delivers the first pieces of the files from `from` up to `to`, and then nothing.
 fn expect_files(rt: &impl Abort, collector: &mut Collector, from: u32, to: u32) {
     for file in from..to {
         expect_delivery(rt, collector, Some((file, 0)));
@@ -66,8 +66,8 @@ fn a_collector_is_made_or_memory_was_refused(rt: HostRuntime) {
     }
 }
 
-/// Offers a file's piece, where the files up to an end wait behind it. Where it comes back, these are delivered before it is offered again. The end of
-/// those that then wait; `Err` where the test has no memory.
+/// Offers a file's piece while the later files up to `end` wait. If it comes back, these are delivered before it is offered again. Returns the end of
+/// those that then wait. Err: the test can't allocate.
 fn offer_file(
     rt: &impl Abort,
     alloc: Global,
@@ -89,7 +89,7 @@ fn offer_file(
     }
 }
 
-/// Offers the pieces of all files, the last file first, and gives the end of those that then wait.
+/// Offers the pieces of all files, the last file first. Returns the end of those that then wait.
 fn offer_files(
     rt: &impl Abort,
     alloc: Global,
@@ -113,7 +113,7 @@ fn a_file_whose_piece_came_back_has_none_to_deliver(rt: HostRuntime) {
     }
 }
 
-/// Offers the piece of a number, behind which nothing is delivered unless it is the first. `Err` where the test has no memory.
+/// Offers the piece of a number. Nothing is delivered after it unless it is the first. Err: the test can't allocate.
 fn offer_number(
     rt: &impl Abort,
     alloc: Global,
@@ -144,7 +144,7 @@ fn offer_numbers(
     Ok(())
 }
 
-/// Delivers the pieces of a file behind its first, which closes it.
+/// Delivers the pieces of a file after its first, which closes it.
 fn expect_numbers(rt: &impl Abort, collector: &mut Collector) {
     for number in 1..MANY {
         expect_delivery(rt, collector, Some((0, u64::from(number))));
@@ -163,13 +163,13 @@ fn a_number_that_came_back_is_not_held(rt: HostRuntime) {
     }
 }
 
-/// Asserts a piece's number, how many items it has, and its mark.
+/// Asserts a piece's number, its number of items, and its mark.
 fn expect_cut(rt: &impl Abort, piece: &Piece, number: u64, len: usize, mark: Mark) {
     let found = (piece.number, piece.items.as_slice().len(), piece.mark);
     same(rt, &found, &(number, len, mark));
 }
 
-/// The cutter's next piece, at the second try where memory was refused at the first.
+/// Asserts the cutter's next piece. Tries again if the first try failed to allocate.
 fn expect_piece<R: Abort>(
     rt: &R,
     cutter: &mut Cutter,
@@ -191,7 +191,7 @@ fn expect_piece<R: Abort>(
     }
 }
 
-/// Asserts that these are the pieces of a file of 600 items.
+/// Asserts the pieces of a file of 600 items.
 fn expect_three(rt: &impl Abort, alloc: Global, plan: &Plan)
     requires { IsPlan plan.now }
 {
@@ -209,18 +209,18 @@ fn a_cutter_gives_the_piece_that_was_refused(rt: HostRuntime) {
     }
 }
 
-/// What became of a relay.
+/// The outcome of a relay.
 #[derive(Clone, Copy, Debug, PartialEq, Eq)]
 enum Outcome {
     /// All pieces were taken.
     Whole,
-    /// Memory was refused, and the files behind one of which not all was taken have nothing.
+    /// An allocation failed. The files after one that wasn't taken completely have nothing.
     Part,
-    /// The test itself had no memory.
+    /// The test itself can't allocate.
     Untried,
 }
 
-/// How many pieces of each of three files were taken, after each but the last.
+/// Numbers of pieces of three files that were taken, after each one except the last.
 const FRONTS: &[[u64; 3]] = &[
     [0, 0, 0],
     [0, 0, 1],
@@ -245,7 +245,7 @@ fn expect_whole(rt: &impl Abort, replies: &[Reply], taken: &[u64]) {
     same(rt, &taken, &[3, 1, 2].as_slice());
 }
 
-/// Asserts that a relay took all, or a part for want of memory.
+/// Asserts that a relay took all pieces, or a part for lack of memory.
 fn expect_relayed(
     rt: &impl Abort,
     relayed: Result<Vec<Reply>, RelayFault>,
@@ -275,7 +275,7 @@ fn relay_three(rt: &impl Abort, alloc: Global, plan: &Plan) -> Outcome {
     expect_relayed(rt, relayed, &tally.counts)
 }
 
-/// Relays them, and all again where only a part was taken.
+/// Relays them, and all again if only a part was taken.
 fn relay_again(rt: &impl Abort, alloc: Global, plan: &Plan) {
     if relay_three(rt, alloc, plan) == Outcome::Part {
         same(rt, &relay_three(rt, alloc, plan), &Outcome::Whole);

@@ -1,4 +1,4 @@
-//! A file's pieces: full ones, and a last one that is marked.
+//! Tests a file's pieces: full ones, and a last one that is marked.
 
 ghost use Rattle.std.specs.Prelude.{◌<◌, ◌≤◌, length};
 ghost use Rattle.lx_piece.specs.Cutting.{IsCutterOf};
@@ -12,10 +12,10 @@ use lx_scan::Item;
 use lx_spec::Kind;
 use std::process::Abort;
 
-/// An item's kind, `None` for an Echo, its line, its first byte and how many bytes it has.
+/// An item's kind, `None` for an Echo, its line, its first byte and its number of bytes.
 type ItemParts = (Option<Kind>, u64, usize, usize);
 
-/// A piece's file, number and mark, how many items it has, and the first and the last of them.
+/// A piece's file, number, mark and number of items, and the first and the last of its items.
 type Shape = (u32, u64, Mark, usize, Option<ItemParts>, Option<ItemParts>);
 
 fn item_parts(item: Item) -> ItemParts {
@@ -58,13 +58,13 @@ fn expect_shapes(rt: &impl Abort, pieces: &[Piece], wanted: &[Shape]) {
     }
 }
 
-/// Asserts that the pieces of a plan, the last file first, have these shapes.
+/// Asserts the shapes of a plan's pieces, the last file first.
 fn expect<R: Abort + AllocGlobal>(rt: &R, plan: &Plan, wanted: &[Shape]) {
     let pieces = last_file_first(rt.alloc(), plan).expect(rt, "memory");
     expect_shapes(rt, &pieces, wanted);
 }
 
-/// The plan of such files by the tables of a specification.
+/// Makes the plan of such files by the tables of a specification.
 fn made<R: Abort + AllocGlobal>(rt: &R, spec: &str, files: &[(&[u8], bool)], per_piece: u32) -> Plan
     requires some_files { 0 < length files.now }
     requires few_files { length files.now ≤ 65536 }
@@ -75,7 +75,7 @@ fn made<R: Abort + AllocGlobal>(rt: &R, spec: &str, files: &[(&[u8], bool)], per
     plan_of(rt.alloc(), spec, files, per_piece).expect(rt, "memory")
 }
 
-/// Asserts it of the plan of such files by the tables of a specification.
+/// Asserts the shapes of the pieces of such files by the tables of a specification.
 fn expect_of<R: Abort + AllocGlobal>(
     rt: &R,
     spec: &str,
@@ -100,7 +100,7 @@ const SECOND: Option<Kind> = Some(Kind::Name(1));
 
 const NUMBER: Option<Kind> = Some(Kind::Number(65));
 
-/// The pieces of the mixed files, of two items at most. The text between `<` and `>` gives an Echo and a token, which lie in two pieces.
+/// Pieces of the mixed files, of at most two items. The text between `<` and `>` yields an Echo and a token, which are in two pieces.
 const MIXED: &[Shape] = &[
     (
         4,
@@ -167,7 +167,7 @@ fn the_last_piece_of_a_file_is_marked(rt: HostRuntime) {
     expect_of(&rt, MIXED_RULES, MIXED_FILES.as_slice(), 2, MIXED);
 }
 
-/// The pieces of files of 256, 257, 512 and no Echoes.
+/// Pieces of files of 256, 257, 512 and 0 Echoes.
 const FULL: &[Shape] = &[
     (3, 0, Mark::Whole, 0, None, None),
     (
@@ -218,7 +218,7 @@ fn cuts_files_into_full_pieces_and_a_rest(rt: HostRuntime) {
     expect(&rt, &plan, FULL);
 }
 
-/// Two words in a file with skipped text behind them, which was read to its end.
+/// Pieces of two words in a file with skipped text after them, which was read to its end.
 const WHOLE_WORDS: &[Shape] = &[
     (
         0,
@@ -238,7 +238,7 @@ const WHOLE_WORDS: &[Shape] = &[
     ),
 ];
 
-/// The same, where its reading failed.
+/// Pieces of the same words, if the reading of the file failed.
 const CUT_WORDS: &[Shape] = &[
     (
         0,
@@ -258,7 +258,7 @@ const CUT_WORDS: &[Shape] = &[
     ),
 ];
 
-/// The two words in a file that was read to its end, and in one that wasn't.
+/// Two words in a file that was read to its end, and in one that wasn't.
 const WHOLE_FILE: &[(&[u8], bool)] = &[(TWO_WORDS, false)];
 
 const CUT_FILE: &[(&[u8], bool)] = &[(TWO_WORDS, true)];
@@ -269,7 +269,7 @@ fn the_last_piece_is_marked_though_skipped_text_follows(rt: HostRuntime) {
     expect_of(&rt, THREE_RULES, CUT_FILE, 1, CUT_WORDS);
 }
 
-/// A rule whose action gives three items.
+/// A rule whose action yields three items.
 const THREE_ITEMS: &str = "%%\na { ECHO; ECHO; return A; }\n";
 
 const TWO_MATCHES: &[Shape] = &[
@@ -307,7 +307,7 @@ fn the_items_of_one_action_lie_in_two_pieces(rt: HostRuntime) {
     expect_of(&rt, THREE_ITEMS, TWICE, 2, TWO_MATCHES);
 }
 
-/// Asserts whether a cutter gives a piece.
+/// Asserts that a cutter has a further piece, or that it hasn't.
 fn gives<R: Abort>(rt: &R, plan: &Plan, cutter: &mut Cutter, wanted: bool)
     requires { IsCutterOf plan.now cutter.old }
     ensures { IsCutterOf plan.now cutter.new }
@@ -316,7 +316,7 @@ fn gives<R: Abort>(rt: &R, plan: &Plan, cutter: &mut Cutter, wanted: bool)
     holds(rt, piece.is_some() == wanted, 0);
 }
 
-/// Asserts that a cutter gives this many pieces, and then none, however often it is asked.
+/// Asserts that a cutter has this number of pieces, and then none, also when it is asked again.
 fn ends_behind<R: Abort>(rt: &R, plan: &Plan, cutter: &mut Cutter, pieces: u32)
     requires { IsCutterOf plan.now cutter.old }
 {
@@ -328,7 +328,7 @@ fn ends_behind<R: Abort>(rt: &R, plan: &Plan, cutter: &mut Cutter, pieces: u32)
     }
 }
 
-/// Asserts it of the cutter of a plan's first file.
+/// Asserts the number of pieces of a plan's first file.
 fn first_ends_behind<R: Abort + AllocGlobal>(rt: &R, plan: &Plan, pieces: u32)
     requires { IsPlan plan.now }
 {
@@ -336,13 +336,13 @@ fn first_ends_behind<R: Abort + AllocGlobal>(rt: &R, plan: &Plan, pieces: u32)
     ends_behind(rt, plan, &mut cutter, pieces);
 }
 
-/// Asserts it of a file of these bytes by the three rules, in pieces of one item.
+/// Asserts the number of pieces of a file of these bytes by the three rules, with one item a piece.
 fn file_ends_behind<R: Abort + AllocGlobal>(rt: &R, bytes: &[u8], cut: bool, pieces: u32) {
     let plan = made(rt, THREE_RULES, &[(bytes, cut)], 1);
     first_ends_behind(rt, &plan, pieces);
 }
 
-/// Files, and how many pieces of one item each has.
+/// Files, with their numbers of pieces of one item.
 const COUNTED: &[(&[u8], u32)] = &[(b"", 1), (b"a1a", 3), (b"a1a ", 3)];
 
 #[test]

@@ -1,4 +1,4 @@
-//! Plans for the tests. Only want of memory may keep one from being made, so that is what a test is told.
+//! Plans for the tests. Only a lack of memory may prevent one, so this is the only error.
 
 ghost use Rattle.std.specs.Prelude.{◌≡◌, ◌<◌, ◌≤◌, IfOk, length, vec_len};
 ghost use Rattle.lx_piece.specs.Plans.{IsPlan, max_items};
@@ -8,7 +8,7 @@ use lx_piece::{Input, Plan};
 use std::alloc::{AllocError, Global};
 use std::process::Abort;
 
-/// The plan of run 1 of these files by the tables of a specification.
+/// Makes the plan of run 1 of these files by the tables of a specification.
 pub(crate) fn plan_by(
     alloc: Global,
     spec: &str,
@@ -28,7 +28,7 @@ pub(crate) fn plan_by(
     }
 }
 
-/// Files of so many bytes.
+/// Returns files with these lengths.
 fn inputs_of_lens(alloc: Global, lens: &[usize]) -> Result<Vec<Input>, AllocError>
     ensures { IfOk result (λ inputs. vec_len inputs ≡ length lens.now) }
 {
@@ -40,7 +40,7 @@ fn inputs_of_lens(alloc: Global, lens: &[usize]) -> Result<Vec<Input>, AllocErro
     Ok(inputs)
 }
 
-/// The plan of run 1 of files of so many bytes, each of which is an Echo.
+/// Makes the plan of run 1 of files with these lengths, each byte of which is an Echo.
 pub(crate) fn echo_plan(alloc: Global, lens: &[usize], per_piece: u32) -> Result<Plan, AllocError>
     requires some_files { 0 < length lens.now }
     requires few_files { length lens.now ≤ 65536 }
@@ -53,7 +53,7 @@ pub(crate) fn echo_plan(alloc: Global, lens: &[usize], per_piece: u32) -> Result
     plan_by(alloc, NO_RULES, files, per_piece)
 }
 
-/// The plan of run 1 of such files by the tables of a specification.
+/// Makes the plan of run 1 of such files by the tables of a specification.
 pub(crate) fn plan_of(
     alloc: Global,
     spec: &str,
@@ -71,7 +71,7 @@ pub(crate) fn plan_of(
     plan_by(alloc, spec, files, per_piece)
 }
 
-/// The plan of files of so many Echoes. Where there is no memory for it, the test ends there.
+/// Makes the plan of files of Echoes with these lengths. If an allocation for it fails, the test ends.
 pub(crate) fn echoes<R: Abort + AllocGlobal>(rt: &R, lens: &[usize], per_piece: u32) -> Plan
     requires some_files { 0 < length lens.now }
     requires few_files { length lens.now ≤ 65536 }

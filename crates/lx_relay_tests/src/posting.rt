@@ -1,4 +1,4 @@
-//! A post, used from one thread: what is sent comes in order, and all is given back that can't be finished yet.
+//! Tests a post from one thread: notes arrive in the order in which they were sent, and a post that can't be finished yet comes back completely.
 
 ghost use Rattle.std.specs.Prelude.{◌≡◌, ◌<◌, All};
 ghost use Rattle.lx_piece.specs.Pieces.{IsPieceOf};
@@ -13,12 +13,12 @@ use lx_post::{Note, Post, PostArrivals, SendPass, TakePass, Unfinished, WorkerFa
 use std::process::Abort;
 use std::sync::Wait;
 
-/// What a note says.
+/// The contents of a note.
 #[derive(Clone, Copy, Debug, PartialEq, Eq)]
 enum Saying {
     /// The worker, and the piece's file and number.
     Piece(u8, u32, u64),
-    /// The worker, how many files it finished, and why it ended before.
+    /// The worker, its number of finished files, and the reason why it ended early.
     End(u8, u32, Option<WorkerFault>),
 }
 
@@ -33,7 +33,7 @@ fn said(note: &Note) -> Saying {
     }
 }
 
-/// What the note says that is received next.
+/// Receives the next note, and returns its contents.
 fn received<R: Wait>(rt: &R, post: &Post, take: &mut TakePass) -> Option<Saying>
     requires { IsTakePassOf post.now take.old }
     ensures { IsTakePassOf post.now take.new }
@@ -44,7 +44,7 @@ fn received<R: Wait>(rt: &R, post: &Post, take: &mut TakePass) -> Option<Saying>
     }
 }
 
-/// Asserts that the note which is received next says this, or that none is received.
+/// Asserts the contents of the next note, or that none is received.
 fn receives<R: Wait + Abort>(rt: &R, post: &Post, take: &mut TakePass, wanted: Option<Saying>)
     requires { IsTakePassOf post.now take.old }
     ensures { IsTakePassOf post.now take.new }
@@ -52,7 +52,7 @@ fn receives<R: Wait + Abort>(rt: &R, post: &Post, take: &mut TakePass, wanted: O
     same(rt, &received(rt, post, take), &wanted);
 }
 
-/// A post of two workers with room for so many notes, the pass of each, and the one to receive with.
+/// Makes a post of two workers with room for `room` notes, the pass of each, and the one to receive with.
 fn post_of_two<R: Wait + Abort + AllocGlobal>(
     rt: &R,
     plan: &Plan,
@@ -71,7 +71,7 @@ fn post_of_two<R: Wait + Abort + AllocGlobal>(
     }
 }
 
-/// An end of a worker that met no fault.
+/// Returns an end of a worker that met no fault.
 fn end(worker: u8, files: u32) -> Note
     ensures { result ≡ Note.End worker files None }
 {
@@ -82,7 +82,7 @@ fn end(worker: u8, files: u32) -> Note
     }
 }
 
-/// Asserts that a post doesn't finish with these passes, and gives all back.
+/// Asserts that a post doesn't finish with these passes, and returns all.
 fn stays_unfinished<R: Wait + Abort>(
     rt: &R,
     post: Post,
@@ -99,7 +99,7 @@ fn stays_unfinished<R: Wait + Abort>(
     }
 }
 
-/// Asserts that a post doesn't finish with the passes of both its workers, and gives all back.
+/// Asserts that a post doesn't finish with the passes of both its workers, and returns all.
 fn both_stay_unfinished<R: Wait + Abort + AllocGlobal>(
     rt: &R,
     post: Post,
@@ -119,7 +119,7 @@ fn both_stay_unfinished<R: Wait + Abort + AllocGlobal>(
     }
 }
 
-/// Sends the piece of the first file by the first worker and its end, and asserts that each comes at once.
+/// Sends the piece of the first file and the end by the first worker, and asserts that each arrives at once.
 fn send_by_first<R: Wait + Abort>(
     rt: &R,
     post: &Post,
@@ -147,7 +147,7 @@ fn finishes<R: Wait + Abort>(rt: &R, post: Post, take: TakePass, passes: Vec<Sen
     holds(rt, finish(rt, post, take, passes).is_ok(), 0);
 }
 
-/// Asserts that a post doesn't finish with the pass of its first worker alone, and that it does with both.
+/// Asserts that a post doesn't finish with only the pass of its first worker, and that it does with both.
 fn finishes_with_both<R: Wait + Abort + AllocGlobal>(
     rt: &R,
     post: Post,
@@ -166,7 +166,7 @@ fn finishes_with_both<R: Wait + Abort + AllocGlobal>(
     finishes(rt, post, take, passes);
 }
 
-/// Receives the end of the second worker, behind which nothing comes, and finishes.
+/// Receives the end of the second worker, after which nothing comes, and finishes.
 fn receive_last_end<R: Wait + Abort + AllocGlobal>(
     rt: &R,
     post: Post,
@@ -195,7 +195,7 @@ fn finishes_once_every_end_came<R: Wait + Abort + AllocGlobal>(rt: &R, plan: &Pl
     receive_last_end(rt, post, take, first, second);
 }
 
-/// The first piece of a file.
+/// Returns the first piece of a file.
 fn piece_of<R: Abort + AllocGlobal>(rt: &R, plan: &Plan, file: u32) -> Piece
     requires { file < files_of plan.now }
     ensures { IsPieceOf plan.now result }
@@ -210,7 +210,7 @@ fn a_post_with_room_for_one_note_finishes_once_every_end_came(rt: HostRuntime) {
     finishes_once_every_end_came(&rt, &plan, piece);
 }
 
-/// Sends the first piece of a file and an end of its worker.
+/// Sends the first piece of a file and the end of its worker.
 fn send_piece_and_end<R: Wait>(
     rt: &R,
     post: &Post,
@@ -232,7 +232,7 @@ fn send_piece_and_end<R: Wait>(
     post.send(rt, pass, end);
 }
 
-/// Asserts that the piece which arrives next has this file and number, or that none arrives.
+/// Asserts the file and number of the piece that arrives next, or that none arrives.
 fn arrives<R: Wait + Abort>(rt: &R, arrivals: &mut PostArrivals<'_, R>, wanted: Option<(u32, u64)>)
     ensures queue { arrivals.new.pass.queue ≡ arrivals.old.pass.queue }
     ensures workers { arrivals.new.pass.workers ≡ arrivals.old.pass.workers }
@@ -240,7 +240,7 @@ fn arrives<R: Wait + Abort>(rt: &R, arrivals: &mut PostArrivals<'_, R>, wanted: 
     same(rt, &next_place(arrivals), &wanted);
 }
 
-/// The file and the number of the piece that arrives next.
+/// Returns the file and the number of the piece that arrives next.
 fn next_place<R: Wait>(arrivals: &mut PostArrivals<'_, R>) -> Option<(u32, u64)>
     ensures queue { arrivals.new.pass.queue ≡ arrivals.old.pass.queue }
     ensures workers { arrivals.new.pass.workers ≡ arrivals.old.pass.workers }
@@ -251,7 +251,7 @@ fn next_place<R: Wait>(arrivals: &mut PostArrivals<'_, R>) -> Option<(u32, u64)>
     }
 }
 
-/// Asserts that the pieces of two files arrive, and that this is the fault which the arrivals name.
+/// Asserts that the pieces of two files arrive, and that the arrivals name this fault.
 fn name_fault<R: Wait + Abort>(
     rt: &R,
     post: &Post,
@@ -271,7 +271,7 @@ fn name_fault<R: Wait + Abort>(
     take
 }
 
-/// Asserts that the pieces of two workers arrive, of which one ends so, and that this is what the arrivals name.
+/// Asserts that the pieces of two workers arrive, one of which ends with this fault, and that the arrivals name it.
 fn arrive_and_name<R: Wait + Abort + AllocGlobal>(
     rt: &R,
     plan: &Plan,
@@ -289,7 +289,7 @@ fn arrive_and_name<R: Wait + Abort + AllocGlobal>(
     finishes(rt, post, take, passes);
 }
 
-/// Asserts it of two files, of which the one's worker ends so.
+/// Asserts the same for two files, one of whose workers ends with this fault.
 fn names_fault<R: Wait + Abort + AllocGlobal>(rt: &R, plan: &Plan, fault: Option<WorkerFault>)
     requires { files_of plan.now ≡ 2 }
 {

@@ -1,4 +1,4 @@
-//! Whole runs of a relay: strangers among the pieces, as many files as there may be, a reader that fails.
+//! Tests complete runs of a relay: foreign pieces, the greatest number of files, and a reader that fails.
 
 ghost use Rattle.std.specs.Prelude.{◌≡◌, IfOk, length, replicate};
 ghost use Rattle.lx_piece.specs.Plans.{files_of};
@@ -13,7 +13,7 @@ use lx_piece::{
 use std::alloc::{AllocError, Global};
 use std::process::Abort;
 
-/// A reader that counts the pieces of each file, keeps the last one's mark, and fails once it has taken so many.
+/// A reader that counts the pieces of each file, keeps the last one's mark, and fails once it has taken `room` pieces.
 #[derive(Drop)]
 pub(crate) struct Tally<'a> {
     plan: &'a Plan,
@@ -25,7 +25,7 @@ pub(crate) struct Tally<'a> {
     ghost each_mark: { length marks.items ≡ files_of plan.now },
 }
 
-/// A tally that has counted nothing.
+/// Returns a tally that has counted nothing.
 pub(crate) fn fresh_tally(alloc: Global, plan: &Plan, room: u64) -> Result<Tally<'_>, AllocError>
     ensures plan { IfOk result (λ tally. tally.plan.now ≡ plan.now) }
     ensures counts { IfOk result (λ tally. tally.counts.items ≡ replicate (files_of plan.now) 0) }
@@ -71,7 +71,7 @@ impl<'a> Reader for Tally<'a> {
     ghost follows_on = { λ _ _ _ _ _. tt };
 }
 
-/// What a relay of these pieces, as they lie, answers.
+/// Relays these pieces in their order. Returns the result.
 pub(crate) fn relay_list(
     alloc: Global,
     plan: &Plan,
@@ -95,12 +95,12 @@ const AMONG_STRANGERS: &[Reply] = &[
     Reply::Accepted,
 ];
 
-/// The replies of a relay that ended well.
+/// Returns the replies of a relay that succeeded.
 fn replies_of(rt: &impl Abort, found: Result<Vec<Reply>, RelayFault>) -> Vec<Reply> {
     found.expect(rt, "replies")
 }
 
-/// A tally that has counted nothing. Where there is no memory for it, the test ends there.
+/// Returns a tally that has counted nothing. If an allocation for it fails, the test ends.
 fn tally_of<'a, R: Abort + AllocGlobal>(rt: &R, plan: &'a Plan, room: u64) -> Tally<'a>
     ensures plan { result.plan.now ≡ plan.now }
     ensures counts { result.counts.items ≡ replicate (files_of plan.now) 0 }
@@ -115,7 +115,7 @@ fn expect_replies(rt: &impl Abort, found: Result<Vec<Reply>, RelayFault>, wanted
     same(rt, &replies.as_slice(), &wanted);
 }
 
-/// Asserts that one piece of each of two files was taken, the first file's whole, and the second's with this mark.
+/// Asserts that one piece of each of two files was taken. The first file is whole, and the second one has this mark.
 fn expect_two(rt: &impl Abort, tally: &Tally<'_>, second: Mark) {
     same(rt, &tally.counts.as_slice(), &[1, 1].as_slice());
     same(
@@ -125,7 +125,7 @@ fn expect_two(rt: &impl Abort, tally: &Tally<'_>, second: Mark) {
     );
 }
 
-/// Relays the pieces of two empty files among strangers, the second of which has this mark.
+/// Relays the pieces of two empty files among foreign pieces. The second file has this mark.
 fn relay_among_strangers<R: Abort + AllocGlobal>(rt: &R, plan: &Plan, second: Mark)
     requires run { plan.now.run ≡ 1 }
     requires files { files_of plan.now ≡ 2 }
@@ -137,7 +137,7 @@ fn relay_among_strangers<R: Abort + AllocGlobal>(rt: &R, plan: &Plan, second: Ma
     expect_two(rt, &tally, second);
 }
 
-/// Relays two empty files among strangers, the second of which is cut or not.
+/// Relays two empty files among foreign pieces. The second file is cut or not.
 fn relay_two<R: Abort + AllocGlobal>(rt: &R, cut: bool, second: Mark) {
     let files: [(&[u8], bool); 2] = [(b"", false), (b"", cut)];
     let plan = plan_of(rt.alloc(), NO_RULES, &files, 256).expect(rt, "memory");
@@ -151,7 +151,7 @@ fn relays_whole_and_cut_files_among_strangers(rt: HostRuntime) {
     relay_two(&rt, true, Mark::Cut);
 }
 
-/// Whether each file was counted once.
+/// Returns true if each file was counted once.
 fn are_counted_once(counts: &[u64]) -> bool {
     for count in counts {
         if *count != 1 {
@@ -161,7 +161,7 @@ fn are_counted_once(counts: &[u64]) -> bool {
     true
 }
 
-/// Whether each file's last mark says that it is whole.
+/// Returns true if each file's last mark is Whole.
 fn are_whole(marks: &[Mark]) -> bool {
     for mark in marks {
         if *mark != Mark::Whole {
@@ -171,25 +171,25 @@ fn are_whole(marks: &[Mark]) -> bool {
     true
 }
 
-/// Asserts that so many files were counted once, and are whole.
+/// Asserts that this number of files were counted once, and are whole.
 fn expect_all(rt: &impl Abort, tally: &Tally<'_>, files: usize) {
     let (counts, marks) = (tally.counts.as_slice(), tally.marks.as_slice());
     holds(rt, counts.len() == files && are_counted_once(counts), 1);
     holds(rt, marks.len() == files && are_whole(marks), 2);
 }
 
-/// The plan of as many files as there may be, which are empty.
+/// Makes the plan with the greatest number of files, which are empty.
 fn plan_of_most<R: Abort + AllocGlobal>(rt: &R) -> Plan {
     let lens = vec![in rt.alloc(); 0; 65_536].expect(rt, "memory");
     echoes(rt, &lens, 1)
 }
 
-/// Asserts that a relay answers so many pieces.
+/// Asserts the number of a relay's replies.
 fn expect_count(rt: &impl Abort, found: Result<Vec<Reply>, RelayFault>, wanted: usize) {
     same(rt, &replies_of(rt, found).len(), &wanted);
 }
 
-/// Relays as many empty files as there may be.
+/// Relays the greatest number of empty files.
 fn relay_most<R: Abort + AllocGlobal>(rt: &R, plan: &Plan) {
     let mut tally = tally_of(rt, plan, u64::MAX);
     let pieces = last_file_first(rt.alloc(), plan).expect(rt, "memory");
@@ -204,7 +204,7 @@ fn relays_as_many_files_as_there_may_be(rt: HostRuntime) {
     relay_most(&rt, &plan);
 }
 
-/// The number of the piece that arrives next.
+/// Returns the number of the piece that arrives next.
 fn next_number(arrivals: &mut ListArrivals<'_>) -> Option<u64> {
     match arrivals.next() {
         Some(piece) => Some(piece.number),

@@ -1,4 +1,4 @@
-//! What is handed on of many files that several threads cut: the pieces of each file, in order, as one thread cuts them.
+//! Tests the pieces of many files that several threads cut: each file's pieces are delivered in order, as one thread cuts them.
 
 ghost use Rattle.std.specs.Prelude.{◌≡◌, ◌<◌, ◌≤◌, IfSome, length, vec_len};
 ghost use Rattle.lx_piece.specs.Plans.{max_items};
@@ -15,10 +15,10 @@ use std::thread::Threads;
 
 const FILES: u32 = 60;
 
-/// Words, numbers, blanks, what gives two items and what no rule takes.
+/// Words, numbers, blanks, text that yields two items, and text that no rule takes.
 const TEXT: &[u8; 17] = b"ab 12<x>\n~z9 <y>c";
 
-/// The bytes of a file, 0 to 2,679 of them.
+/// Returns the bytes of a file, 0 to 2,679 of them.
 fn bytes_of<R: Abort + AllocGlobal>(rt: &R, file: u32) -> Vec<u8>
     requires { file < 60 }
 {
@@ -31,7 +31,7 @@ fn bytes_of<R: Abort + AllocGlobal>(rt: &R, file: u32) -> Vec<u8>
     bytes
 }
 
-/// A file, each seventh of which is cut.
+/// Returns a file. Each seventh one is cut.
 fn file_of<R: Abort + AllocGlobal>(rt: &R, file: u32) -> Input
     requires { file < 60 }
 {
@@ -41,7 +41,7 @@ fn file_of<R: Abort + AllocGlobal>(rt: &R, file: u32) -> Input
     }
 }
 
-/// 60 files.
+/// Returns 60 files.
 fn many_files<R: Abort + AllocGlobal>(rt: &R) -> Vec<Input>
     ensures { vec_len result ≡ 60 }
 {
@@ -52,7 +52,7 @@ fn many_files<R: Abort + AllocGlobal>(rt: &R) -> Vec<Input>
     files
 }
 
-/// Their plan.
+/// Makes the plan of these files.
 fn plan_of_many<R: Abort + AllocGlobal>(rt: &R, per_piece: u32) -> Plan
     requires some_items { 0 < per_piece }
     requires few_items { per_piece ≤ max_items }
@@ -61,18 +61,18 @@ fn plan_of_many<R: Abort + AllocGlobal>(rt: &R, per_piece: u32) -> Plan
     plan_by(rt.alloc(), MIXED_RULES, files, per_piece).expect(rt, "memory")
 }
 
-/// A piece's run, file, number and mark.
+/// Returns a piece's run, file, number and mark.
 pub(crate) fn head(piece: &Piece) -> (u64, u32, u64, Mark) {
     (piece.run, piece.file, piece.number, piece.mark)
 }
 
-/// Asserts that these two are one piece.
+/// Asserts that the two are the same piece.
 fn expect_same(rt: &impl Abort, found: &Piece, wanted: &Piece) {
     same(rt, &head(found), &head(wanted));
     same(rt, &found.items.as_slice(), &wanted.items.as_slice());
 }
 
-/// Where the first piece of a file stands from an index on.
+/// Returns the index of the first piece of a file from an index on.
 fn index_of(pieces: &[Piece], from: usize, file: u32) -> Option<usize>
     ensures { IfSome result (λ index. index < length pieces.now) }
 {
@@ -84,14 +84,14 @@ fn index_of(pieces: &[Piece], from: usize, file: u32) -> Option<usize>
     None
 }
 
-/// Asserts that the first piece of a file from an index on is this one, and gives the index behind it.
+/// Asserts the first piece of a file from an index on. Returns the index after it.
 fn expect_next(rt: &impl Abort, found: &[Piece], from: usize, wanted: &Piece) -> usize {
     let index = index_of(found, from, wanted.file).expect(rt, "a piece is missing");
     expect_same(rt, &found[index], wanted);
     index.saturating_add(1)
 }
 
-/// Asserts that the pieces of a file stand among these as they do among those, of which there are some.
+/// Asserts that the pieces of a file are the same, in the same order, in both lists. There is at least one.
 fn expect_file(rt: &impl Abort, found: &[Piece], wanted: &[Piece], file: u32) {
     let mut behind = 0usize;
     for piece in wanted {
@@ -103,7 +103,7 @@ fn expect_file(rt: &impl Abort, found: &[Piece], wanted: &[Piece], file: u32) {
     holds(rt, is_whole, u64::from(file));
 }
 
-/// Asserts that so many workers hand on the pieces of each file as they are wanted.
+/// Asserts that this number of workers delivers the expected pieces of each file.
 fn hands_on_by<R: Abort + AllocGlobal + Threads + Wait + Sync>(
     rt: &R,
     plan: &Plan,
@@ -119,14 +119,14 @@ fn hands_on_by<R: Abort + AllocGlobal + Threads + Wait + Sync>(
     expect_files(rt, &keeper.pieces, wanted);
 }
 
-/// Asserts that the pieces of each file stand among these as they do among those.
+/// Asserts that the pieces of each file are the same, in the same order, in both lists.
 fn expect_files(rt: &impl Abort, found: &[Piece], wanted: &[Piece]) {
     for file in 0..FILES {
         expect_file(rt, found, wanted, file);
     }
 }
 
-/// Asserts it of one worker, of three and of eight.
+/// Asserts the same for one worker, three and eight.
 fn hands_on_by_each<R: Abort + AllocGlobal + Threads + Wait + Sync>(rt: &R, plan: &Plan) {
     let wanted = last_file_first(rt.alloc(), plan).expect(rt, "memory");
     hands_on_by(rt, plan, 1, &wanted);
@@ -134,7 +134,7 @@ fn hands_on_by_each<R: Abort + AllocGlobal + Threads + Wait + Sync>(rt: &R, plan
     hands_on_by(rt, plan, 8, &wanted);
 }
 
-/// Asserts it of the many files in pieces of so many items.
+/// Asserts the same for the many files, with `per_piece` items a piece.
 fn hands_on_many<R: Abort + AllocGlobal + Threads + Wait + Sync>(rt: &R, per_piece: u32)
     requires some_items { 0 < per_piece }
     requires few_items { per_piece ≤ max_items }

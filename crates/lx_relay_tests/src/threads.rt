@@ -1,4 +1,4 @@
-//! Runs of several threads: how they are held to, what was handed on by then, and how they end.
+//! Tests runs of several threads: how they are held, what they have delivered by then, and how they end.
 
 ghost use Rattle.std.specs.Prelude.{◌<◌, ◌≤◌};
 
@@ -12,7 +12,7 @@ use std::process::Abort;
 use std::sync::Wait;
 use std::thread::Threads;
 
-/// Asserts that a test's run of this number ended so, with so many calls of its reader.
+/// Asserts the end of a test's run with this number, and the number of calls of its reader.
 fn expect_end(
     rt: &impl Abort,
     run: u64,
@@ -25,7 +25,7 @@ fn expect_end(
     same(rt, &keeper.calls, &calls);
 }
 
-/// Asserts that a run by so many workers through a gate takes every file to its end, in so many calls of its reader.
+/// Asserts that a run by `workers` workers through a gate takes every file to its end, with this number of calls of its reader.
 fn expect_whole<R: Abort + AllocGlobal + Threads + Wait + Sync, G: Gate + Sync>(
     rt: &R,
     plan: &Plan,
@@ -50,7 +50,7 @@ fn two_workers_meet_before_their_first_pieces(rt: HostRuntime) {
     holds(&rt, gate.met(), 0);
 }
 
-/// Asserts that two workers begin every other file while one of them is held before one.
+/// Asserts that two workers begin all other files while one of them is held before one.
 fn holds_before<R: Abort + AllocGlobal + Threads + Wait + Sync>(rt: &R, plan: &Plan, held: u32) {
     let gate = FileGate::new(held);
     let run = u64::from(held);
@@ -67,7 +67,7 @@ fn every_other_file_is_begun_while_a_worker_is_held_before_one(rt: HostRuntime) 
     }
 }
 
-/// Asserts that of two workers the one hands on a file whole while the other is held in the other file.
+/// Asserts that one of two workers delivers a file completely while the other is held in the other file.
 fn holds_in<R: Abort + AllocGlobal + Threads + Wait + Sync>(rt: &R, plan: &Plan, gate: &PieceGate) {
     let closed = gate.closed.as_slice();
     let keeper = keeper_of(rt, plan, u64::MAX, ReaderFault::Device, closed);
@@ -75,7 +75,7 @@ fn holds_in<R: Abort + AllocGlobal + Threads + Wait + Sync>(rt: &R, plan: &Plan,
     expect_end(rt, 0, ended, Ok(()), &keeper, 4);
 }
 
-/// Asserts it of one of two files.
+/// Asserts the same for one of two files.
 fn holds_in_file<R: Abort + AllocGlobal + Threads + Wait + Sync>(rt: &R, plan: &Plan, held: u32) {
     let gate = PieceGate::new(held);
     holds_in(rt, plan, &gate);
@@ -91,7 +91,7 @@ fn a_file_is_handed_on_whole_while_a_worker_is_held_in_another(rt: HostRuntime) 
     }
 }
 
-/// The lengths of a hundred files.
+/// Lengths of a hundred files.
 const HUNDRED: &[usize] = &[300; 100];
 
 #[test]
@@ -102,10 +102,10 @@ fn eight_workers_hand_on_every_piece_once(rt: HostRuntime) {
     }
 }
 
-/// How many pieces a reader takes before it fails.
+/// Numbers of pieces that a reader takes before it fails.
 const ROOMS: &[u64] = &[0, 1, 777, 29_999];
 
-/// Asserts that a reader which fails so behind so many pieces isn't called again, and that this is how the run ends.
+/// Asserts that a reader that fails after `room` pieces isn't called again, and that the run ends with this fault.
 fn fails_behind<R: Abort + AllocGlobal + Threads + Wait + Sync>(
     rt: &R,
     plan: &Plan,
