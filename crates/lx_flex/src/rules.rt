@@ -270,7 +270,7 @@ fn open_scope(
     Ok(())
 }
 
-/// If nothing follows a list of conditions on its line, skips to the next line that isn't empty.
+/// Skips to the next line that isn't empty, if nothing follows a list of conditions on its line.
 fn skip_to_next(cursor: &mut Cursor, rules: &mut Rules) -> Result<(), Stop> {
     if !cursor.is_blank_line() {
         return Ok(());

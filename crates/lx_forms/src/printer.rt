@@ -14,8 +14,8 @@ use lx_piece::{Items, KeepItems, Piece, Plan, ReaderFault, Taker, plans_are_well
 use std::alloc::Global;
 use std::snapshot::Snapshot;
 
-/// Writes the lines of a plan's pieces in a form. The pieces arrive in the plan's order. The lines of a piece are one block. If an allocation for it
-/// fails, nothing of the piece is written.
+/// A printer of the lines of a plan's pieces in a form. The pieces arrive in the plan's order. The lines of a piece are one block. If an allocation
+/// for it fails, nothing of the piece is written.
 #[derive(Drop)]
 pub struct FormPrinter<'a, S: LineSink> {
     pub(crate) form: &'a Form<'a>,

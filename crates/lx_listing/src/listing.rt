@@ -39,10 +39,10 @@ fn shown_piece(plan: &Plan, piece: Piece) -> Piece<Shown>
     }
 }
 
-/// Writes the lines of a plan's files in their order, with the cut line after those of a file whose reading failed. Holds the pieces of later files
-/// until the earlier ones are closed. Each line goes out in one write, or in further ones for what the device didn't accept. A write of 0 bytes or an
-/// error is a fault of the device. If an allocation fails for a line, nothing of it is written. After a fault of either kind it writes nothing more.
-/// Each later call returns Device, which is counted.
+/// A reader that writes the lines of a plan's files in their order, with the cut line after those of a file whose reading failed. Holds the pieces of
+/// later files until the earlier ones are closed. Each line goes out in one write, or in further ones for what the device didn't accept. A write of 0
+/// bytes or an error is a fault of the device. If an allocation fails for a line, nothing of it is written. After a fault of either kind it writes
+/// nothing more. Each later call returns Device, which is counted.
 #[derive(Drop)]
 pub struct Listing<'a, W: Write> {
     plan: &'a Plan,

@@ -13,7 +13,7 @@ use std::alloc::{AllocError, Global};
 // Greatest number of text bytes of a piece for which a worker makes the lines. Longer texts are written in parts, so no block holds them.
 const MOST: usize = 262_144;
 
-/// Makes the lines of a piece if many pieces are under way and its texts aren't long. Otherwise leaves its items.
+/// A maker of a piece's lines, if many pieces are under way and its texts aren't long. Otherwise it leaves the items.
 #[derive(Clone, Copy, Drop)]
 pub struct LineMaker<Y: Spares> {
     alloc: Global,

@@ -14,7 +14,7 @@ use lx_line::PlanDraft;
 use lx_piece::{Piece, Plan, ReaderFault, Taker, plans_are_well_formed};
 use std::alloc::Global;
 
-/// Writes the lines of a plan's pieces, which arrive in the plan's order. Writes the cut line after those of a file whose reading failed. If an
+/// A printer of the lines of a plan's pieces, which arrive in the plan's order. Writes the cut line after those of a file whose reading failed. If an
 /// allocation fails, whole lines of the piece were written, or none.
 #[derive(Drop)]
 pub struct Printer<Y: Spares, S: LineSink> {

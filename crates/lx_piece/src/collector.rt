@@ -73,7 +73,7 @@ fn fresh_buffers<C: Drop>(alloc: Global, files: u32) -> Result<Vec<ReorderBuffer
     Ok(buffers)
 }
 
-/// Puts the pieces of a run's files in order.
+/// A collector, which puts the pieces of a run's files in order.
 #[derive(Drop)]
 pub struct Collector<C = Items> {
     run: u64,

@@ -76,7 +76,7 @@ fn mark(is_last: bool, is_cut: bool) -> Mark
     }
 }
 
-/// Cuts a file into its pieces, one after the other. It scans no further than to the first item after the piece.
+/// A cutter of a file into its pieces, one after the other. It scans no further than to the first item after the piece.
 #[derive(Drop)]
 pub struct Cutter {
     alloc: Global,

@@ -14,9 +14,9 @@ use std::alloc::{AllocError, AllocFailed, Global};
 use std::collections::VecDeque;
 use std::marker::Model;
 
-/// Passes the pieces of a plan's files on in the plan's order, to a taker that holds nothing. Pieces of the first open file go on at once. Pieces of
-/// later files go on once the files before them are closed. After a fault of either kind it passes nothing on. Each call then returns Device, which
-/// is counted. Each call gets the plan, so that the maker of a queue over a borrowed writer may keep the plan next to it.
+/// A queue that passes the pieces of a plan's files on in the plan's order, to a taker that holds nothing. Pieces of the first open file go on at
+/// once. Pieces of later files go on once the files before them are closed. After a fault of either kind it passes nothing on. Each call then returns
+/// Device, which is counted. Each call gets the plan, so that the maker of a queue over a borrowed writer may keep the plan next to it.
 #[derive(Drop)]
 pub struct TurnQueue<M: Maker, T: Taker<M>> {
     taker: T,

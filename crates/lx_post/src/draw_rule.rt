@@ -22,7 +22,7 @@ pub struct Bounds {
     pub workers: u8,
 }
 
-/// The numbers below both the word and the number of files are drawn, each once.
+/// The rule of drawing: the numbers below both the word and the number of files are drawn, each once.
 pub struct DrawRule;
 
 impl TableRule<(), SeatView, Bounds> for DrawRule {
@@ -34,7 +34,7 @@ impl TableRule<(), SeatView, Bounds> for DrawRule {
     ghost first = { λ b. seat_view b.files b.workers 0 [] };
 }
 
-/// Gives one part of a seat to a new seat.
+/// A split that gives one part of a seat to a new seat.
 pub struct OnePart;
 
 impl Split<SeatView> for OnePart {
@@ -45,7 +45,7 @@ impl Split<SeatView> for OnePart {
     ghost right = { one_part };
 }
 
-/// Joins two seats, with all that they drew.
+/// A join of two seats, with all that they drew.
 pub struct Together;
 
 impl Join<SeatView> for Together {

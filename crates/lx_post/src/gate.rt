@@ -2,7 +2,7 @@
 
 /// A point at which a worker may be held. Each worker passes it before it cuts a piece, including the last piece of the file.
 pub trait Gate {
-    /// Called when worker `worker` is about to cut piece `number` of file `file`.
+    /// Passes worker `worker`, or holds it. It is about to cut piece `number` of file `file`.
     fn pass(&self, worker: u8, file: u32, number: u64);
 }
 

@@ -32,7 +32,7 @@ pub struct PassView<C> {
     pub received: LinkedList<Note<C>>,
 }
 
-/// For each worker, its received notes followed by its queued ones are the notes that it sent.
+/// The rule of the post: for each worker, its received notes followed by its queued ones are the notes that it sent.
 pub struct PostRule<M: Maker> {
     of: PhantomData<M>,
 }
@@ -58,7 +58,7 @@ impl Naming for Brand {
     ghost plan = { no_plan };
 }
 
-/// Turns the first pass into the one that takes. The pass that is split off is spent.
+/// A split that turns the first pass into the one that takes. The pass that is split off is spent.
 pub struct Opening<J: Naming> {
     of: PhantomData<J>,
 }
@@ -71,7 +71,7 @@ impl<J: Naming, C> Split<PassView<C>> for Opening<J> {
     ghost right = { λ _. spent_pass };
 }
 
-/// Gives the next worker a pass, split off the pass that takes.
+/// A split that gives the next worker a pass, from the pass that takes.
 pub struct NextWorker;
 
 impl<C> Split<PassView<C>> for NextWorker {
@@ -82,7 +82,7 @@ impl<C> Split<PassView<C>> for NextWorker {
     ghost right = { next_worker };
 }
 
-/// Joins a worker's pass to the one that takes.
+/// A join of a worker's pass to the one that takes.
 pub struct Joining;
 
 impl<C> Join<PassView<C>> for Joining {

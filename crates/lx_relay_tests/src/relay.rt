@@ -87,7 +87,7 @@ pub(crate) fn relay_list(
     relay(alloc, plan, &mut arrivals, tally)
 }
 
-/// The replies to the pieces among strangers.
+/// The replies to the pieces of two files among foreign pieces.
 const AMONG_STRANGERS: &[Reply] = &[
     Reply::Accepted,
     Reply::Refused(Why::WrongRun),

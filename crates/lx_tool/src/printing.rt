@@ -128,7 +128,7 @@ fn told_of(alloc: Global, tables: &Tables, fault: KindFault) -> Result<PrintFaul
     }
 }
 
-// If a C scanner is printed, rejects tables with kinds that C doesn't allow, or with too many states for direct code.
+// Rejects tables with kinds that C doesn't allow, or with too many states for direct code, if a C scanner is printed.
 fn judge_kinds<'a>(
     alloc: Global,
     words: &CWords<'_>,
