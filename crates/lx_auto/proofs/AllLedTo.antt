@@ -17,7 +17,7 @@ use Rattle.lx_auto.proofs.Membership.{same_rising}
 use Rattle.lx_auto.proofs.MoreSets.{some_member}
 use Rattle.lx_auto.proofs.SetStepped.{nothing_read}
 
--- the condition of a start, and whether it is that at line begin
+-- the condition of a start, and a flag for line begin
 start_parts : (s n : ℕ) → s < 2 * n → (c : ℕ) × (begin : Bool) × (c < n) × (s ≡ start_number c begin)
 start_parts zero zero h = absurd (omega (arith, h))
 start_parts (suc s) zero h = absurd (omega (arith, h))
@@ -68,7 +68,7 @@ module _ (spec : PlainSpec) (leaves : List PlainLeaf) (classes representatives :
       nothing_read spec (simplified_pattern spec.definitions) 0 spec.rules x.condition x.begin q
       (subst (λ w. InPositionSet spec (numbered (simplified_pattern spec.definitions) 0 spec.rules) (record { condition = x.condition; begin = x.begin; word = w }) q) e h)
 
-  -- where the text of a set leads
+  -- the state to which the text of a set leads
   state_of_set : (x : StartAndWord) (j : ℕ) → j < length sets → IsSetOf spec (numbered (simplified_pattern spec.definitions) 0 spec.rules) x (set_of sets j) →
       (q : ℕ) → InPositionSet spec (numbered (simplified_pattern spec.definitions) 0 spec.rules) x q → (s : Option ℕ) →
       IsAfter spec (simplified_pattern spec.definitions) leaves classes representatives sets matched targets m of groups explored draft x s → s ≡ Some (start_count spec + j)

@@ -37,7 +37,7 @@ bool_cases : (b : Bool) → (b ≡ true) ⊎ (b ≡ false)
 bool_cases true = inl refl
 bool_cases false = inr refl
 
--- where marks stand at members alone, none of these positions is marked
+-- if only members have marks, none of these positions is marked
 pub unmarked_in : (S : List ℕ) (marks : List Bool) (from until : ℕ) → ((q : ℕ) → flag marks q ≡ true → Contains S q) →
     ((q : ℕ) → from ≤ q → q < until → Contains S q → ⊥) → (q : ℕ) → from ≤ q → q < until → flag marks q ≡ false
 unmarked_in S marks from until members absent q low high = elim (bool_cases (flag marks q)) [

@@ -15,7 +15,7 @@ use Rattle.lx_auto.proofs.StepAll.{some_at}
 module _ (marks : List Bool) (spec : PlainSpec) (rules : List NumberedRule) (parts : List RulePart) (total i j from until : ℕ) (first : RulePart)
     (numbered : AreNumbered spec rules) (are : ArePartsOf parts rules total) (inside : i < length parts) (at : slice_get parts i ≡ Some first) (low : from ≤ first.base)
     (within : j ≤ length parts) (high : EndBefore parts j until) (bare : (q : ℕ) → from ≤ q → q < until → flag marks q ≡ false) where
-  -- the positions of rules behind one another rise
+  -- the positions of later rules are greater
   rising : (k l : ℕ) (r s : NumberedRule) → k ≤ l → slice_get rules k ≡ Some r → slice_get rules l ≡ Some s → r.base ≤ s.base
   rising k l r s order here there = elim (cases_lt k l) [
     | inl before ↦ let apart = numbered.apart k l r s before here there in omega arith

@@ -1,4 +1,4 @@
--- What is found of a block, and of blocks one behind the other.
+-- The results of the passes over a block, and over blocks one after the other.
 use Rattle.std.proofs.Common.{◌≡◌, ℕ, zero, suc, ◌+◌, ◌-◌, ◌≤◌, ◌<◌, ◌⊎◌, inl, inr, Bool, true, false, ◌&&◌, ◌||◌, List, [], ◌∷◌, ◌++◌, Some, None, length, map, take, drop, refl, sym, ◌∙◌, ap, ap₂, subst, arith, append_assoc, append-nil}
 use Rattle.std.proofs.lemmas.Bool.Decides.{eqb_tells}
 use Rattle.std.specs.Prelude.{nat_eq, reverse, slice_get, slice_set}
@@ -40,7 +40,7 @@ pub nil_of : (xs : List Bool) → nat_eq (length xs) 0 ≡ true → xs ≡ []
 nil_of xs h = elim (eqb_tells (length xs) 0) [ inl y ↦ no_items xs y.1 | inr n ↦ let no : true ≡ false = sym h ∙ n.0 in absurd (cc) ]
 
 module _ (marks : List Bool) where
-  -- where no position is marked
+  -- if no position is marked
   untouched_ended : (e : Unfolded) (p : ℕ) → ((q : ℕ) → p ≤ q → q < p + position_count e → flag marks q ≡ false) → ended marks e p ≡ false
   untouched_ended e p none = elim (either_way (ended marks e p)) [
     | inl t ↦
@@ -168,7 +168,7 @@ no_ends_yet marks blocks ends nil = record {
   each = λ i b x e at found is. let no : None ≡ Some x = sym (ap (λ l. slice_get l i) nil) ∙ found in absurd (cc);
 }
 
--- what the flags of blocks say of their expressions
+-- the meaning of the blocks' flags for their expressions
 flags_tell : (marks flags front : List Bool) (blocks : List Block) (ends : List (Vec Bool Global)) (es : List Unfolded) (j k : ℕ) → AreBlocks blocks es k →
     length ends ≡ length blocks →
     ((i : ℕ) (b : Block) (x : Vec Bool Global) (e : Unfolded) → slice_get blocks i ≡ Some b → slice_get ends i ≡ Some x → IsBlock b e → HasEnds marks x.items b e) →

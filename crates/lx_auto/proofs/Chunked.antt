@@ -1,4 +1,4 @@
--- Nodes in post-order make their expression again, and what it is split into.
+-- Nodes in post-order yield their expression again, and so does its split form.
 use Rattle.std.proofs.Common.{◌≡◌, ◌-◌, ◌<◌, inl, inr, Bool, List, [], ◌∷◌, ◌++◌, Some, None, length, refl, sym, ◌∙◌, ap, ap₂, subst, arith, append_assoc, append-nil}
 use Rattle.std.proofs.lemmas.List.{map-append}
 use Rattle.std.specs.FinSet as set
@@ -85,7 +85,7 @@ trees_made (alt a b) more trees s =
 trees_made (opt a) more trees s = ap (λ l. trees_from l trees) (append_assoc (nodes_of a) (opt_node ∷ []) more) ∙ trees_made a (opt_node ∷ more) trees s
 trees_made (plus a) more trees s = ap (λ l. trees_from l trees) (append_assoc (nodes_of a) (plus_node ∷ []) more) ∙ trees_made a (plus_node ∷ more) trees s
 
--- what is on the stack once all nodes are there
+-- the stack after all nodes
 pub tree_alone : (e : Unfolded) (nodes : List PlainNode) → nodes ≡ nodes_of e → HasNoEmptyPart e → trees_from nodes [] ≡ e ∷ []
 tree_alone e nodes n s = ap (λ l. trees_from l []) (n ∙ sym (append-nil (nodes_of e))) ∙ trees_made e [] [] s
 
@@ -106,7 +106,7 @@ popped_none e nodes rest n t h = elim t [
   | inr s ↦ let x : e ∷ [] ≡ [] = sym (tree_alone e nodes n s) ∙ h.0 in absurd (cc)
 ]
 
--- whether all of the nodes match the empty word
+-- the flag for all of the nodes: they match the empty word
 pub null_single_block : (e : Unfolded) (nodes : List PlainNode) (nulls : List Bool) → HasNoEmptyPart e → nodes ≡ nodes_of e → nulls ≡ nulls_from nodes [] →
     flag nulls (length nulls - 1) ≡ nullable e
 null_single_block e nodes nulls s n is =

@@ -1,4 +1,4 @@
--- What is made of expressions whose nodes stand last, by one node more or none.
+-- Operations on expressions whose nodes come last, which add one node or none.
 use Rattle.std.proofs.Common.{◌≡◌, ◌∙◌, ℕ, ◌+◌, ◌<◌, ◌⊎◌, inl, inr, min, true, false, ◌&&◌, ◌||◌, List, [], ◌∷◌, ◌++◌, length, refl, ap, ap₂, sym, subst, arith, append_assoc}
 use Rattle.std.proofs.lemmas.List.{length-append}
 use Rattle.lx_auto.specs.Unfolded.{Unfolded, empty, leaf, cat, alt, opt, plus, nullable}
@@ -55,11 +55,11 @@ alt_of-full a b f g = refl
 appends-along : (t u : Unfolded) (old new : List PlainNode) (p : Part) → t ≡ u → Appends t old new p → Appends u old new p
 appends-along t u old new p e h = subst (λ (v : Unfolded). Appends v old new p) e h
 
--- one node more at the end of what stands behind others
+-- one more node at the end of nodes that come after others
 behind : (base a b : List PlainNode) (n : PlainNode) → (base ++ (a ++ b)) ++ n ∷ [] ≡ base ++ (a ++ (b ++ n ∷ []))
 behind base a b n = append_assoc base (a ++ b) (n ∷ []) ∙ ap (λ (l : List PlainNode). base ++ l) (append_assoc a b (n ∷ []))
 
--- the size of a node above two others, of which memory holds all
+-- the size of a node above two others, which memory can hold
 exact-size : (base a b old new : List PlainNode) (n : PlainNode) → old ≡ base ++ (a ++ b) → new ≡ old ++ n ∷ [] → length new < 18446744073709551616
     → min 18446744073709551615 (length a + length b + 1) ≡ length (a ++ (b ++ n ∷ []))
 exact-size base a b old new n e f less =

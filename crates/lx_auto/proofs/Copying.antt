@@ -1,4 +1,4 @@
--- Copies of nodes that stand last, and what is made of them from the last one on.
+-- Copies of the last nodes, and the operations on them from the last one on.
 use Rattle.std.proofs.Common.{◌≡◌, ◌∙◌, ℕ, zero, suc, ◌+◌, ◌-◌, ◌<◌, ◌≤◌, inl, inr, ◌↔◌, IsTrue, Bool, true, false, List, [], ◌∷◌, ◌++◌, length, take, drop, slice_range, refl, ap, ap₂, sym, subst, arith, append_assoc, add-one}
 use Rattle.std.proofs.lemmas.Bool.{cases_lt, false≢true}
 use Rattle.std.proofs.lemmas.List.{length-append, length-drop, append-nil, map-append, drop-append-le}
@@ -29,7 +29,7 @@ length-view : (xs : List Node) → length (nodes_view xs) ≡ length xs
 length-view [] = refl
 length-view (x ∷ xs) = ap suc (length-view xs)
 
--- the nodes that stand last, once copies of them stand behind
+-- the last nodes, after copies of them were appended
 pub copied : (old new : List Node) (size n : ℕ) (base r : List PlainNode) → new ≡ old ++ copies n (drop (length old - size) old) → nodes_view old ≡ base ++ r → length r ≡ size
     → nodes_view new ≡ base ++ copies (suc n) r
 copied old new size n base r e f g =
@@ -40,11 +40,11 @@ copied old new size n base r e f g =
     ∙ ap₂ (λ (l m : List PlainNode). l ++ m) f (copies-view n (drop (length old - size) old) ∙ ap (copies n) last)
     ∙ append_assoc base r (copies n r)
 
--- the last so many of the copies, closed
+-- the last `closed` copies, closed
 abbrev pub last_counted : Unfolded → ℕ → ℕ → ℕ → Unfolded
 last_counted r low high closed = simplified_counted r (low + closed - high) closed
 
--- what stands there while the copies are being closed
+-- the nodes while the copies are being closed
 pub record AreClosing (part : ℕ → Unfolded) (base : List PlainNode) (r : Unfolded) (left closed : ℕ) (nodes : List PlainNode) (p : Part) : Type 0 where
   pub closing : Appends (part closed) (base ++ copies left (nodes_of r)) nodes p
 
@@ -82,7 +82,7 @@ one-closed make part base r left closed old new body p q e b h j =
     ∙ append_assoc (base ++ copies left (nodes_of r)) (nodes_of r) (nodes_of (part closed)) in
     record { closing = subst (λ (t : Unfolded). Appends t (base ++ copies left (nodes_of r)) new q) e (j (base ++ copies left (nodes_of r)) r (part closed) placed b h.closing.part) }
 
--- the nodes that stand last, which are copied from the middle of more
+-- the last nodes, which are copied from the middle of more
 pub range-last : (old more : List Node) (start : ℕ) → start ≤ length old → slice_range (old ++ more) start (length old) ≡ drop start old
 range-last old more start le =
     let long : length (drop start old) ≡ length old - start = omega (arith, length-drop start old) in
@@ -96,7 +96,7 @@ copy-more old cur new k start end le long e f =
     f ∙ ap₂ (λ (l m : List Node). l ++ m) e last ∙ append_assoc old (copies k (drop start old)) (drop start old)
     ∙ ap (λ (l : List Node). old ++ l) (sym (copies-last k (drop start old))) ∙ ap (λ (n : ℕ). old ++ copies n (drop start old)) (sym (add-one k))
 
--- the copies stand there, and none is closed
+-- the copies are appended, and none is closed
 pub counted-begin : (r : Unfolded) (low high : ℕ) (old new : List Node) (size : ℕ) (base : List PlainNode) → 0 < high → new ≡ old ++ copies (high - 1) (drop (length old - size) old)
     → nodes_view old ≡ base ++ nodes_of r → length (nodes_of r) ≡ size → AreClosing (last_counted r low high) base r (high - 0) 0 (nodes_view new) (part_of empty)
 counted-begin r low high old new size base some e f g =

@@ -25,7 +25,7 @@ product-equal (suc n) a b e =
     let h = product-equal n a b e in
     omega arith
 
--- counts of names that are equal up to the limit give counts of expressions that are
+-- counts of names that are equal up to the limit yield equal counts of expressions
 pub count-equal : (f g : List ℕ → ℕ) → ((name : List ℕ) → min 16385 (f name) ≡ min 16385 (g name)) → (tree : Regex) → min 16385 (count_in f tree) ≡ min 16385 (count_in g tree)
 count-equal f g e nil = refl
 count-equal f g e (one_of s) = refl
@@ -34,7 +34,7 @@ count-equal f g e (or a b) = sum-equal (count_in f a) (count_in g a) (count_in f
 count-equal f g e (times body low high) = product-equal (copies_of low high) (count_in f body) (count_in g body) (count-equal f g e body)
 count-equal f g e (named name) = e name
 
--- what a list of numbers has at a place, where it is seen through a function
+-- the entry of a list of numbers at an index, seen through a function
 of_option : {X : Type 0} → (X → ℕ) → Option X → ℕ
 of_option f None = 0
 of_option f (Some x) = f x
@@ -89,7 +89,7 @@ unfolding counts_at
 counts-first definitions =
     map-same _ _ (λ d. count-equal (looked_up definitions []) (count_of_name (map definition_view definitions) 0) (λ name. ap (min 16385) (no-place (place_of definitions name))) (regex_of d.expr)) definitions
 
--- where nothing changes once, nothing does later
+-- once nothing changes, nothing changes later
 settled : (definitions : List Definition) (n k : ℕ) → counts_behind definitions (counts_at definitions n) ≡ counts_at definitions n → counts_at definitions (k + n) ≡ counts_at definitions n
 settled definitions n zero e = ap (counts_at definitions) (omega arith)
 settled definitions n (suc k) e =

@@ -1,4 +1,4 @@
--- Where the names of an expression are defined and nested no deeper than so, unfolding them deeper changes nothing.
+-- If the names of an expression are defined and nested at most this deep, unfolding them deeper changes nothing.
 use Rattle.std.proofs.Common.{◌≡◌, ◌∙◌, ℕ, zero, suc, ◌+◌, ◌*◌, IsTrue, Bool, true, false, List, [], ◌∷◌, Option, Some, None, refl, ap, ap₂, arith}
 use Rattle.std.specs.List.{list_all}
 use Rattle.std.proofs.lemmas.Bool.{false≢true}
@@ -34,7 +34,7 @@ nothing-good (name ∷ names) h = h
 one-more : (k n : ℕ) → k + suc n ≡ suc (k + n)
 one-more k n = omega arith
 
--- of what a name stands for, from what holds of each expression that is one level less deep
+-- the same for a name's expression, given it for each expression one level less deep
 simplified_if-same : (p : Regex → Bool) (f g : List ℕ → Unfolded) → ((tree : Regex) → IsTrue (p tree) → simplified f tree ≡ simplified g tree) → (o : Option Regex) → IsTrue (holds_of p o) → simplified_if_defined f o ≡ simplified_if_defined g o
 simplified_if-same p f g e None w = refl
 simplified_if-same p f g e (Some tree) w = e tree w

@@ -6,7 +6,7 @@ use Rattle.lx_auto.specs.Drafting.{AreStartStates, IsDrafted}
 use Rattle.lx_auto.specs.Exploring.{start_number}
 use Rattle.lx_automaton.specs.EncodedOptions.{decoded_option, machine_of}
 
--- so many times nothing, encoded
+-- n times none, encoded
 pub none_encoded : (n : ℕ) → map decoded_option (replicate n 0) ≡ replicate n None
 none_encoded zero = refl
 none_encoded (suc n) = ap (λ (xs : List (Option ℕ)). None ∷ xs) (none_encoded n)

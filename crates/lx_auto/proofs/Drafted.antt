@@ -35,12 +35,12 @@ module _ (spec : PlainSpec) (tree_of : Regex → Unfolded) (leaves : List PlainL
     (matched targets : List (Option ℕ)) (m : Machine) (of : AreLeavesOf (numbered tree_of 0 spec.rules) leaves) (groups : AreGroupsOf leaves classes representatives)
     (explored : IsExplored spec tree_of leaves representatives sets targets (start_count spec + length sets))
     (draft : IsDrafted (length spec.conditions) classes (length representatives) matched targets m) where
-  -- what a word leads to: nowhere where it reaches no position, else to the state of its set
+  -- the target of a word: none if it reaches no position, otherwise the state of its set
   abbrev pub IsAfter : StartAndWord → Option ℕ → Type 0
   IsAfter x None = (q : ℕ) → InPositionSet spec (numbered tree_of 0 spec.rules) x q → ⊥
   IsAfter x (Some s) = (j : ℕ) × (j < length sets) × (s ≡ start_count spec + j) × IsSetOf spec (numbered tree_of 0 spec.rules) x (set_of sets j)
 
-  -- a byte and the one that stands for its group
+  -- a byte and the representative of its group
   has_representative : (b q : ℕ) → b < 256 → (has_byte leaves q (slice_index representatives (slice_index classes b)) ≡ true) ↔ HasSomeByte (numbered tree_of 0 spec.rules) q b
   has_representative b q h = (
     (λ e. (of.each q b).0 (groups.same q b h ∙ e)),
@@ -66,7 +66,7 @@ module _ (spec : PlainSpec) (tree_of : Regex → Unfolded) (leaves : List PlainL
         ),
   )
 
-  -- where a state steps on a byte
+  -- the target of a state on a byte
   target_is : (i b : ℕ) → target_of m i b ≡ option_map (λ j. 2 * length spec.conditions + j) (slice_index_or targets (i * length representatives + slice_index classes b) None)
   target_is i b =
       ap (λ (xs : List ℕ). class_target m i (slice_index xs b)) draft.classes_are
@@ -74,7 +74,7 @@ module _ (spec : PlainSpec) (tree_of : Regex → Unfolded) (leaves : List PlainL
       ∙ ap (λ (xs : List (Option ℕ)). slice_index_or xs (i * length representatives + slice_index classes b) None) draft.targets_are
       ∙ math.get_or-map (option_map (λ j. 2 * length spec.conditions + j)) targets (i * length representatives + slice_index classes b) None
 
-  -- what is known of a step of a state
+  -- the facts about a step of a state
   step_at : (i b : ℕ) → i < start_count spec + length sets → b < 256 →
       (F : List ℕ) × IsSource spec (numbered tree_of 0 spec.rules) sets i F
       × IsTarget sets (slice_index_or targets (i * length representatives + slice_index classes b) None) (positions_with_byte leaves (slice_index representatives (slice_index classes b)) F)

@@ -1,4 +1,5 @@
--- Expressions of which the same is found: parts may be replaced by such ones, and joined from the left or from the right.
+-- Equivalent expressions, for which the passes have equal results. Parts may be replaced by equivalent ones, and joined from the left or from the
+-- right.
 use Rattle.std.proofs.Common.{◌≡◌, ◌+◌, Bool, true, false, ◌&&◌, ◌||◌, refl, ◌∙◌, ap, ap₂, arith}
 use Rattle.lx_auto.specs.Unfolded.{Unfolded, position_count, nullable}
 use Rattle.lx_auto.specs.Outlines.{AreEquivalentExpressions}
@@ -67,7 +68,7 @@ or_joined : (a b c : Bool) → (a || b) || c ≡ a || (b || c)
 or_joined true b c = refl
 or_joined false b c = refl
 
--- where three end, one behind the other
+-- the ends of three expressions, one after the other
 ends_joined : (ea eb ec nb nc : Bool) → ec || ((eb || (ea && nb)) && nc) ≡ (ec || (eb && nc)) || (ea && (nb && nc))
 ends_joined true true true true true = refl
 ends_joined true true true true false = refl
@@ -102,7 +103,7 @@ ends_joined false false false true false = refl
 ends_joined false false false false true = refl
 ends_joined false false false false false = refl
 
--- where the third is entered
+-- the case that the third is entered
 enters_joined : (f na nb ea eb : Bool) → (f && (na && nb)) || (eb || (ea && nb)) ≡ (((f && na) || ea) && nb) || eb
 enters_joined true true true true true = refl
 enters_joined true true true true false = refl

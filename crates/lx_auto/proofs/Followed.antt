@@ -1,4 +1,4 @@
--- Rule by rule, the flags of what can be read are set, and the first rule that has matched is found.
+-- Rule by rule, the flags of readable positions are set, and the first rule that has matched is found.
 use Rattle.std.proofs.Common.{◌≡◌, ℕ, ◌+◌, ◌≤◌, ◌<◌, ◌↔◌, inl, inr, Bool, true, false, List, Option, Some, None, length, refl, sym, ◌∙◌, ap, subst, arith}
 use Rattle.std.proofs.lemmas.Bool.{cases_lt}
 use Rattle.std.specs.Prelude.{slice_get, slice_set}
@@ -31,7 +31,7 @@ follow_plain r marks old new is reads =
       above = λ q h. reads.above q (omega arith);
     }
 
--- with one: the newline can be read where the pattern has ended
+-- with a line end: the newline can be read after the end of the pattern
 pub follow_end : (r : NumberedRule) (marks old mid : List Bool) (ended : Bool) → r.rule.reading.line_end ≡ true → AreReadsOf r marks false old mid →
     r.base + size_of r ≤ length old → (ended ≡ true) ↔ CanEnd (λ p. flag marks p ≡ true) r.tree r.base →
     ReadsRule (FollowsMarked marks) r old (slice_set mid (r.base + position_count r.tree) ended)
@@ -62,7 +62,7 @@ follow_end r marks old mid ended is reads room ends =
       above = λ q h. flag_set_other mid (newline_of r) q ended (λ e. absurd (omega arith)) ∙ reads.above q (omega arith);
     }
 
--- whether the rule has matched
+-- the rule has matched
 pub matched_plain : (r : NumberedRule) (marks : List Bool) → r.rule.reading.line_end ≡ false → CanEnd (λ p. flag marks p ≡ true) r.tree r.base ↔ EndsMarked marks r
 matched_plain r marks is =
     let same : FinalWithEnd false r ≡ IsFinal r = ap (λ b. FinalWithEnd b r) (sym is) in
@@ -168,7 +168,7 @@ unmatched_more rules marks n r None at never so_far = λ j l h. elim (cases_lt j
 ]
 unmatched_more rules marks n r (Some i) at never so_far = let l = so_far.0 in (omega arith, so_far.1, so_far.2)
 
--- where no position of the rule is marked
+-- if no position of the rule is marked
 pub untouched_reads : (r : NumberedRule) (marks : List Bool) → ((q : ℕ) → r.base ≤ q → q < r.base + position_count r.tree + 1 → flag marks q ≡ false) →
     (q : ℕ) → FollowsMarked marks r q → ⊥
 untouched_reads r marks none q h = elim h.2 [

@@ -1,4 +1,4 @@
--- Leaves that don't tell a byte from the one that stands for it.
+-- Leaves that don't distinguish a byte from its representative.
 use Rattle.std.proofs.Common.{◌≡◌, ℕ, ◌+◌, ◌≤◌, ◌<◌, inl, inr, List, Some, length, sym, ◌∙◌, ap, subst, arith}
 use Rattle.std.proofs.lemmas.Bool.{cases_lt}
 use Rattle.std.proofs.lemmas.Option.{slice_get_past}

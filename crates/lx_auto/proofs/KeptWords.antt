@@ -1,4 +1,4 @@
--- Leaving away what has no position keeps the words.
+-- Removing parts without positions keeps the words.
 use Rattle.std.proofs.Common.{◌≡◌, ◌∙◌, ◌↔◌, ℕ, zero, suc, ◌+◌, ◌⊎◌, inl, inr, Bool, true, false, ◌&&◌, ◌||◌, List, [], ◌++◌, Option, Some, None, refl, ap, ap₂, sym, subst, arith, append_assoc}
 use Rattle.std.specs.FinSet as set
 use Rattle.std.specs.Ordering.{nat_cmp}
@@ -11,7 +11,7 @@ use Rattle.lx_auto.specs.Unfolded.{Unfolded, empty, leaf, cat, alt, opt, plus, p
 use Rattle.lx_auto.specs.WrittenOut.{counted, unbounded, repeated, written_out, written_if_defined, name_written_out, pattern_written_out}
 use Rattle.lx_auto.specs.Simplified.{opt_unless, opt_of, plus_of, cat_of, alt_of, simplified_counted, simplified_unbounded, simplified_repeated, simplified, simplified_if_defined, simplified_name, simplified_pattern}
 
--- as many positions, and the same words
+-- equally many positions, and the same words
 pub record HaveSameWords (L : set.FinSet nat_cmp → ℕ → List ℕ → Type 0) (a b : Unfolded) : Type 0 where
   pub count : position_count a ≡ position_count b
   pub into : (k : ℕ) (w : List ℕ) → WordOf L a k w → WordOf L b k w
@@ -52,7 +52,7 @@ joined_both P (suc m) n u v x y =
     let t = joined_both P m n x.1 v x.4 y in
     (suc t.0, (x.0, x.1 ++ v, ap (λ (l : List ℕ). l ++ v) x.2 ∙ append_assoc x.0 x.1 v, x.3, t.1))
 
--- one or more words, behind some
+-- one or more words after some
 joined_more : (P : List ℕ → Type 0) (m n : ℕ) (u v : List ℕ) → Joined P (suc m) u → Joined P n v → (l : ℕ) × Joined P (suc l) (u ++ v)
 joined_more P m n u v x y =
     let t = joined_both P m n x.1 v x.4 y in
@@ -87,7 +87,7 @@ any_or_none : (P : List ℕ → Type 0) (l : ℕ) (w : List ℕ) → Joined P l 
 any_or_none P zero w h = inl h
 any_or_none P (suc l) w h = inr (l, h)
 
--- what matches the empty word does
+-- a nullable expression matches the empty word
 pub nullable-word : (L : set.FinSet nat_cmp → ℕ → List ℕ → Type 0) (e : Unfolded) (k : ℕ) → nullable e ≡ true → WordOf L e k []
 nullable-word L empty k h = refl
 nullable-word L (leaf s) k h = absurd (false≢true h)
@@ -141,7 +141,7 @@ same_words-plus L a c x = record {
   back = λ k w h. (h.0, joined_map (WordOf L c k) (WordOf L a k) (x.back k) (suc h.0) w h.1);
 }
 
--- and so does leaving away what has no position
+-- removing parts without positions keeps this too
 opt_of-same_words : (L : set.FinSet nat_cmp → ℕ → List ℕ → Type 0) (a : Unfolded) → HaveSameWords L (opt_of a) (opt a)
 opt_of-same_words L a = by (nullable a) refl where
   by : (b : Bool) → nullable a ≡ b → HaveSameWords L (opt_unless b a) (opt a)

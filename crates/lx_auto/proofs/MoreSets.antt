@@ -1,4 +1,4 @@
--- The position sets are the same over both forms of the expressions, so where there are too many over the one, there are over the other.
+-- The position sets are the same over both forms of the expressions. So if there are too many over one form, there are over the other.
 use Rattle.std.proofs.Common.{◌≡◌, ◌≢◌, ℕ, zero, suc, ◌+◌, ◌<◌, ◌↔◌, inl, inr, Bool, true, false, List, [], ◌∷◌, ◌++◌, length, Some, refl, sym, ◌∙◌, ap, ap₂, subst, arith}
 use Rattle.std.specs.Prelude.{slice_get, slice_index_or, Contains, All}
 use Rattle.lx_ere.specs.Regex.{Regex}

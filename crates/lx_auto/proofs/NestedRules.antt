@@ -23,7 +23,7 @@ both-true : (b : Bool) → IsTrue b → IsTrue (b && true)
 both-true true h = refl
 both-true false h = h
 
--- each rule's expression is nested where those of all are
+-- each rule's expression is nested if those of all are
 pub rule-nested : (definitions : List PlainDefinition) (rules : List Rule) (i : ℕ) (r : Rule) → IsTrue (are_nested definitions (expressions_of (map rule_view rules))) → i < length rules → r ≡ get_or rules i r
     → IsTrue (are_nested definitions (regex_of r.pattern.expr ∷ []))
 unfolding are_nested

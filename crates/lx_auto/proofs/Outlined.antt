@@ -1,4 +1,4 @@
--- What is found of an expression's outline, a position for each block, says what is to be found of the blocks.
+-- The results for an expression's outline, which has a position for each block, determine those for the blocks.
 use Rattle.std.proofs.Common.{◌≡◌, ℕ, suc, ◌+◌, ◌≤◌, ◌<◌, inr, Bool, true, false, ◌&&◌, ◌||◌, List, [], ◌∷◌, ◌++◌, length, refl, sym, ◌∙◌, ap, ap₂, subst, arith}
 use Rattle.std.specs.FinSet as set
 use Rattle.std.specs.Ordering.{nat_cmp}
@@ -96,7 +96,7 @@ module _ (marks : List Bool) where
   outline_ended flags (chunked_opt a) j k h = outline_ended flags a j k h
   outline_ended flags (chunked_plus a) j k h = outline_ended flags a j k h
 
-  -- the flags tell each block whether it may be entered
+  -- the flag of each block is true if it may be entered
   abbrev pub AreEntered : List Bool → Chunking → Bool → ℕ → ℕ → Type 0
   AreEntered entered (one_block s e) f j k = flag entered j ≡ f
   AreEntered entered (chunked_cat a b) f j k =
@@ -124,7 +124,7 @@ module _ (marks : List Bool) where
   entered_reads entered (chunked_opt a) f j k reads h = entered_reads entered a f j k reads h
   entered_reads entered (chunked_plus a) f j k reads h = entered_reads entered a (f || ended marks (tree_of a) k) j k reads h
 
--- what can be read in the outline, each flag of a position
+-- the readable positions of the outline, with a flag for each position
 block_read : (flags : List Bool) (s : set.FinSet nat_cmp) (b f : Bool) (j : ℕ) (old : List Bool) → j < length old →
     flag (read_list flags (outline_of_block s b) f j old) j ≡ f
 block_read flags s true f j old h = flag_set_same old j f h

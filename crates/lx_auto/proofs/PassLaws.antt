@@ -1,4 +1,4 @@
--- Upwards, where an expression can end follows from its parts; downwards, whether a part may be entered follows from the whole.
+-- Upwards, an expression's ends follow from those of its parts. Downwards, the entries of a part follow from those of the whole.
 use Rattle.std.proofs.Common.{◌≡◌, ℕ, ◌+◌, ◌⊎◌, ◌↔◌, inl, inr, true}
 use Rattle.lx_auto.specs.Unfolded.{Unfolded, cat, alt, plus, position_count, nullable}
 use Rattle.lx_auto.specs.Positions.{CanEnd, CanRead}

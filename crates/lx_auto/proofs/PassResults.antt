@@ -1,4 +1,4 @@
--- The passes over the nodes come to what stands in Passing.
+-- The passes over the nodes have the results that are defined in Passing.
 use Rattle.std.proofs.Common.{◌≡◌, ℕ, ◌+◌, ◌-◌, ◌<◌, Bool, true, false, ◌&&◌, ◌||◌, List, [], ◌∷◌, ◌++◌, length, refl, sym, ◌∙◌, ap, ap₂, subst, arith, append_assoc}
 use Rattle.std.proofs.lemmas.List.{reverse-append, length-reverse}
 use Rattle.std.specs.Prelude.{reverse, slice_set}
@@ -34,11 +34,11 @@ some_nodes (alt a b) s = let x = alt_nodes a b in omega arith
 some_nodes (opt a) s = let x = opt_nodes a in omega arith
 some_nodes (plus a) s = let x = plus_nodes a in omega arith
 
--- joined in three, and one behind
+-- three lists joined, and one element after them
 regroup : {A : Type 0} → (xs a b : List A) (c : A) → xs ++ (a ++ (b ++ c ∷ [])) ≡ ((xs ++ a) ++ b) ++ c ∷ []
 regroup xs a b c = sym (append_assoc xs a (b ++ c ∷ [])) ∙ sym (append_assoc (xs ++ a) b (c ∷ []))
 
--- the last flag behind others
+-- the last flag after others
 last_flag : (xs a : List Bool) → 0 < length a → flag (xs ++ a) (length xs + length a - 1) ≡ flag a (length a - 1)
 last_flag xs a h =
     let i : length xs + length a - 1 ≡ length xs + (length a - 1) = omega arith in
@@ -62,7 +62,7 @@ null_length (alt a b) =
 null_length (opt a) = let x = null_length a in let z = opt_nodes a in let u = length_joined (null_list a) (true ∷ []) in omega arith
 null_length (plus a) = let x = null_length a in let z = plus_nodes a in let u = length_joined (null_list a) (nullable a ∷ []) in omega arith
 
--- the flag of the last node, behind others
+-- the flag of the last node after others
 pub null_last : (xs : List Bool) (e : Unfolded) (i : ℕ) → HasNoEmptyPart e → i ≡ length xs + node_count e - 1 → flag (xs ++ null_list e) i ≡ nullable e
 null_last xs empty i s h = absurd s
 null_last xs (leaf b) i s h = flag_behind xs false i (omega arith)
@@ -220,7 +220,7 @@ module _ (marks : List Bool) where
       let z = plus_nodes a in let x = end_length a p in let v = length_joined xs (end_list marks a p) in
       ap (λ l. flag l i) (sym (append_assoc xs (end_list marks a p) (ended marks a p ∷ []))) ∙ flag_behind (xs ++ end_list marks a p) (ended marks a p) i (omega arith)
 
-  -- upwards: where a marked position can stand last
+  -- upwards: the nodes in which a marked position can be last
   pub ends_pass : (nulls : List Bool) (e : Unfolded) (more : List PlainNode) (xs : List Bool) (p o : ℕ) → HasNoEmptyPart e → o ≡ length xs → NullsAt nulls o e →
       ends_from nulls marks p (nodes_of e ++ more) xs ≡ ends_from nulls marks (p + position_count e) more (xs ++ end_list marks e p)
   ends_pass nulls empty more xs p o s n at = absurd s
@@ -321,7 +321,7 @@ module _ (marks : List Bool) where
             ∙ end_last xs a p (o + node_count a - 1) s (omega arith),
       )
 
-  -- downwards: what can be read
+  -- downwards: the readable positions
   pub reads_pass : (nulls ends : List Bool) (e : Unfolded) (rest : List PlainNode) (f : Bool) (stack : List Bool) (p k : ℕ) (reads : List Bool) → HasNoEmptyPart e →
       k ≡ p + position_count e → NullsAt nulls (length rest) e → EndsAt marks ends (length rest) e p →
       reads_from nulls ends (reverse (nodes_of e) ++ rest) (f ∷ stack) k reads ≡ reads_from nulls ends rest stack p (read_list marks e f p reads)

@@ -1,4 +1,4 @@
--- What a pattern matches is what the words of bytes are of the expression that it is once it is written out.
+-- A pattern matches the byte words of its written-out expression.
 use Rattle.std.proofs.Common.{◌≡◌, ◌∙◌, ◌↔◌, ℕ, zero, suc, ◌+◌, ◌≤◌, ◌⊎◌, inl, inr, IsTrue, Bool, true, false, ◌||◌, not, cond, nat_eq, List, [], ◌∷◌, Option, Some, None, map, refl, ap, sym, subst, arith}
 use Rattle.std.specs.Prelude.{slice_get, IfSome}
 use Rattle.std.specs.List.{list_all, list_any}
@@ -103,7 +103,7 @@ words-times P r (suc low) None o x = record {
   back = λ k w t. let s = unbounded-back P r x low k w t in (s.0, s.1, tt, s.2);
 }
 
--- an expression, where its names have the same words
+-- an expression, if its names have the same words
 words-tree : (N : List ℕ → List ℕ → Type 0) (f : List ℕ → Unfolded) (good : List ℕ → Bool) → ((name : List ℕ) → IsTrue (good name) → AreWords (N name) (f name)) → (tree : Regex)
     → IsTrue (has_ordered_bounds tree) → IsTrue (list_all good (names_of tree)) → AreWords (Matches N tree) (written_out f tree)
 words-tree N f good h nil o w = record { into = λ k v t. t; back = λ k v t. t }
@@ -115,7 +115,7 @@ words-tree N f good h (or a b) o w =
 words-tree N f good h (times body low high) o w = words-times (Matches N body) (written_out f body) low high (bounds-low low high (and-left (is_ordered low high) (has_ordered_bounds body) o)) (words-tree N f good h body (and-right (is_ordered low high) (has_ordered_bounds body) o) w)
 words-tree N f good h (named name) o w = let x = h name (and-left (good name) true w) in record { into = λ k v t. x.into k v t; back = λ k v t. x.back k v t }
 
--- a definition of the list is the first with its name, where no two have the same name
+-- a definition of the list is the first with its name, if no two have the same name
 one-of_them : (ds : List PlainDefinition) (name : List ℕ) (i : ℕ) (d : PlainDefinition) → slice_get ds i ≡ Some d → pointwise nat_eq d.name name ≡ true
     → list_any (λ other. pointwise nat_eq other name) (map (λ x. x.name) ds) ≡ true
 one-of_them [] name i d at is = absurd (let f : None ≡ Some d = at in cc)
@@ -185,7 +185,7 @@ words-within ds w o zero tree b h = words-tree (NameMatches ds 0) (name_written_
 words-within ds w o (suc n) tree b h =
     words-tree (NameMatches ds (suc n)) (name_written_out ds (suc n)) (λ name. holds_of (is_within n ds) (tree_named ds name)) (words-name ds n w o (words-within ds w o n)) tree b h
 
--- what a pattern matches
+-- the words that a pattern matches
 pub pattern-words : (ds : List PlainDefinition) (tree : Regex) → IsTrue (are_definitions ds) → AreOrdered ds → IsTrue (has_ordered_bounds tree) → IsTrue (is_within 32 ds tree) → (k : ℕ) (w : List ℕ)
     → Matches (NameMatches ds 32) tree w ↔ ByteWord (pattern_written_out ds tree) k w
 unfolding are_definitions pattern_written_out

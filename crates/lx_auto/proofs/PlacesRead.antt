@@ -25,7 +25,7 @@ flag_taken (suc n) [] k h = refl
 flag_taken (suc n) (f ∷ flags) zero h = absurd (omega arith)
 flag_taken (suc n) (f ∷ flags) (suc k) h = flag_taken n flags k (omega arith)
 
--- flags that are set at the same places, however many are not set behind them
+-- flags that are set at the same places, regardless of the number of unset flags after them
 same_places : (i : ℕ) (xs ys : List Bool) → ((k : ℕ) → flag xs k ≡ flag ys k) → places_from i xs ≡ places_from i ys
 same_places i [] [] same = refl
 same_places i [] (true ∷ ys) same = let no : false ≡ true = same 0 in absurd (cc)
@@ -55,7 +55,7 @@ length_taken (suc n) (f ∷ flags) h = ap suc (length_taken n flags (omega arith
 pub no_places : (flags : List Bool) → ((q : ℕ) → flag flags q ≡ false) → places_from 0 flags ≡ []
 no_places flags clear = same_places 0 flags [] clear
 
--- flags that are new in one stretch alone, before which they are as they were, and behind which none is set
+-- flags that are new in only one stretch: before it they are unchanged, and after it none is set
 places_after : (old new : List Bool) (b e : ℕ) → b ≤ e → e ≤ length new → ((q : ℕ) → q < b → flag new q ≡ flag old q) → ((q : ℕ) → b ≤ q → flag old q ≡ false) →
     ((q : ℕ) → e ≤ q → flag new q ≡ false) → places_from 0 new ≡ places_from 0 old ++ places_from b (drop b (take e new))
 places_after old new b e order within below clear above =
@@ -78,7 +78,7 @@ bool_cases : (b : Bool) → (b ≡ true) ⊎ (b ≡ false)
 bool_cases true = inl refl
 bool_cases false = inr refl
 
--- neither the next rule's positions nor those behind them can be read by the rules before
+-- the rules before can read neither the next rule's positions nor later ones
 unread_on : (marks : List Bool) (spec : PlainSpec) (rules : List NumberedRule) (n : ℕ) (r : NumberedRule) (old : List Bool) → AreNumbered spec rules →
     slice_get rules n ≡ Some r → AreReadBelow (FollowsMarked marks) rules n old → (q : ℕ) → r.base ≤ q → flag old q ≡ false
 unread_on marks spec rules n r old numbered at so_far q low = elim (bool_cases (flag old q)) [
@@ -90,7 +90,7 @@ unread_on marks spec rules n r old numbered at so_far q low = elim (bool_cases (
   | inr f ↦ f
 ]
 
--- what the flags of one rule more say of the places before, of those in the rule and of those behind it
+-- the flags after one more rule: those of the places before it, in it and after it
 below_rule : (marks : List Bool) (r : NumberedRule) (old new : List Bool) → ReadsOrStays (FollowsMarked marks) r old new → (q : ℕ) → q < r.base → flag new q ≡ flag old q
 below_rule marks r old new step q h = elim step [ inl reads ↦ reads.below q h | inr stays ↦ ap (λ flags. flag flags q) stays.0 ]
 
@@ -101,7 +101,7 @@ newline_most : (line_end : Bool) → newline_count line_end ≤ 1
 newline_most true = omega arith
 newline_most false = omega arith
 
--- the places that can be read behind one rule more
+-- the readable places after one more rule
 pub next_all : (marks : List Bool) (spec : PlainSpec) (rules : List NumberedRule) (parts : List RulePart) (total n : ℕ) (part : RulePart) (old new : List Bool)
     (places more : List ℕ) → AreNumbered spec rules → ArePartsOf parts rules total → n < length parts → slice_get parts n ≡ Some part → length old ≡ total → length new ≡ total →
     ((r : NumberedRule) → IsPartOf part r → part.base + (part.count + newline_count part.line_end) ≤ length old → IsClear old part.base (part.base + part.count) →

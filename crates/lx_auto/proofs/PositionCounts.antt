@@ -1,4 +1,4 @@
--- Leaving away what has no position, and writing repeats out, keeps the number of positions that is counted.
+-- Removing parts without positions, and writing repeats out, keeps the counted number of positions.
 use Rattle.std.proofs.Common.{◌≡◌, ℕ, zero, suc, ◌+◌, ◌*◌, max, Bool, true, false, List, Option, Some, None, refl, ◌∙◌, ap, arith}
 use Rattle.lx_ere.specs.Regex.{Regex, nil, one_of, then, or, times, named}
 use Rattle.lx_rules.specs.Plain.{PlainDefinition}
@@ -81,7 +81,7 @@ simplified_repeated-count r low (Some high) = simplified_counted-count r low hig
 simplified_repeated-count r zero None = let e = opt_of-count (plus_of r) in let g = plus_of-count r in let f = suc_times 0 (position_count r) in omega arith
 simplified_repeated-count r (suc low) None = simplified_unbounded-count r low ∙ ap (λ (n : ℕ). n * position_count r) (one_copy low)
 
--- each expression, where what its names stand for has as many positions as are counted
+-- each expression, if the expressions of its names have the counted numbers of positions
 pub written-count : (names : List ℕ → Unfolded) (counts : List ℕ → ℕ) → ((name : List ℕ) → position_count (names name) ≡ counts name) → (tree : Regex)
     → position_count (written_out names tree) ≡ count_in counts tree
 written-count names counts f nil = refl

@@ -1,4 +1,4 @@
--- The passes say where a set of positions can end, and what can be read next.
+-- The passes determine where a set of positions can end, and which positions can be read next.
 use Rattle.std.proofs.Common.{◌≡◌, ℕ, ◌+◌, ◌≤◌, ◌<◌, ◌⊎◌, ◌↔◌, inl, inr, Bool, true, ◌&&◌, ◌||◌, List, length, refl, sym, ◌∙◌, ap, subst, arith}
 use Rattle.std.proofs.lemmas.Bool.{cases_lt}
 use Rattle.std.specs.Prelude.{slice_set}
@@ -17,7 +17,7 @@ both_true p q e f = rw (e, f) refl
 read_along : (M : ℕ → Type 0) (E F : Type 0) → (E → F) → (e : Unfolded) (k q : ℕ) → CanRead M E e k q → CanRead M F e k q
 read_along M E F f e k q c = elim c [ inl x ↦ inl (f x.0, x.1) | inr x ↦ inr x ]
 
--- what can be read lies in the range of the expression
+-- a readable position is in the range of the expression
 pub in_read : (M : ℕ → Type 0) (E : Type 0) (e : Unfolded) (k q : ℕ) → CanRead M E e k q → (k ≤ q) × (q < k + position_count e)
 in_read M E e k q c = elim c [
   | inl x ↦ in_first e k q x.1
@@ -81,7 +81,7 @@ module _ (marks : List Bool) where
   reads_apart (opt a) f p reads q h = reads_apart a f p reads q h
   reads_apart (plus a) f p reads q h = reads_apart a (f || ended marks a p) p reads q h
 
-  -- flags in its range say what can be read
+  -- the flags in its range determine the readable positions
   pub reads_mean : (e : Unfolded) (f : Bool) (p : ℕ) (reads : List Bool) (q : ℕ) → p + position_count e ≤ length reads → p ≤ q → q < p + position_count e →
       (flag (read_list marks e f p reads) q ≡ true) ↔ CanRead (λ r. flag marks r ≡ true) (f ≡ true) e p q
   reads_mean empty f p reads q long low high = absurd (omega arith)

@@ -1,4 +1,4 @@
--- A rule fits so that its reach is the whole text exactly where it matches the text, in the form in which its expression is kept.
+-- A rule fits so that its reach is the whole text exactly if it matches the text, in the kept form of its expression.
 use Rattle.std.proofs.Common.{◌≡◌, ◌≢◌, ℕ, zero, suc, ◌+◌, ◌<◌, ◌≤◌, ◌↔◌, Bool, true, false, IsTrue, List, [], ◌∷◌, ◌++◌, Option, Some, None, length, take, refl, sym, ◌∙◌, ap, subst, arith, if◌then◌else◌}
 use Rattle.std.specs.Prelude.{slice_get}
 use Rattle.std.specs.List.{list_all}
@@ -26,7 +26,7 @@ use Rattle.lx_auto.proofs.PatternWords.{AreOrdered, some-defined, pattern-words}
 use Rattle.lx_auto.proofs.Reached.{numbered_rules}
 use Rattle.lx_auto.proofs.SetStepped.{matched_by}
 
--- what is asked of the patterns and definitions of a specification
+-- the requirements on the patterns and definitions of a specification
 pub record HasSoundPatterns (spec : PlainSpec) : Type 0 where
   pub distinct : IsTrue (are_definitions spec.definitions)
   pub ordered : AreOrdered spec.definitions
@@ -121,7 +121,7 @@ module _ (spec : PlainSpec) (sound : HasSoundPatterns spec) where
   rules : List NumberedRule
   rules = numbered (simplified_pattern spec.definitions) 0 spec.rules
 
-  -- what the pattern of a rule matches
+  -- the words that the pattern of a rule matches
   rule_words : (i : ℕ) (r : NumberedRule) → slice_get (numbered (simplified_pattern spec.definitions) 0 spec.rules) i ≡ Some r → (w : List ℕ) →
       Matches (SpecNames spec) r.rule.reading.tree w ↔ ByteWord r.tree r.base w
   unfolding SpecNames

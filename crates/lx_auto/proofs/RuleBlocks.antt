@@ -1,4 +1,4 @@
--- What is found of a rule's outline and of its blocks is what is to be found of its expression.
+-- The results for a rule's outline and its blocks are those for its expression.
 use Rattle.std.proofs.Common.{◌≡◌, ℕ, ◌+◌, ◌-◌, ◌≤◌, ◌↔◌, inl, inr, Bool, true, List, [], ◌∷◌, ◌++◌, length, map, refl, sym, ◌∙◌, ap, ap₂, subst, arith}
 use Rattle.std.specs.Prelude.{reverse}
 use Rattle.std.specs.declared.alloc.Global.{Global}
@@ -23,7 +23,7 @@ use Rattle.lx_auto.proofs.Outlined.{outline_no_empty, outline_count, outline_end
 use Rattle.lx_auto.proofs.Readable.{ended_means, reads_length, reads_apart, reads_mean}
 use Rattle.lx_auto.proofs.RuleRead.{ended_at_last, reads_are}
 
--- the flags that are set anew say what can be read
+-- the flags that are set anew determine the readable positions
 reads_of : (r : NumberedRule) (marks old new : List Bool) (f : Bool) → new ≡ read_list marks r.tree f r.base old → r.base + position_count r.tree ≤ length old →
     AreReadsOf r marks f old new
 reads_of r marks old new f list room = record {

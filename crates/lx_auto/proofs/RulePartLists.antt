@@ -18,7 +18,7 @@ use Rattle.lx_auto.proofs.LeafOrder.{tree_long}
 use Rattle.lx_auto.proofs.PositionCounts.{simplified_pattern-count}
 use Rattle.lx_auto.proofs.NoEmptyParts.{is_simplified_pattern}
 
--- what is found in a list with one more
+-- the entries of a list with one more
 pub slice_get_push : {A : Type 0} → (xs : List A) (x y : A) (i : ℕ) → slice_get (xs ++ x ∷ []) i ≡ Some y → ((i < length xs) × (slice_get xs i ≡ Some y)) ⊎ ((i ≡ length xs) × (y ≡ x))
 slice_get_push [] x y zero e = inr (refl, (cc))
 slice_get_push [] x y (suc i) e = absurd (cc)
@@ -105,19 +105,19 @@ module _ (definitions : List PlainDefinition) where
     within = λ i r hr. absurd (let no_rule : None ≡ Some r = hr in cc);
   }
 
-  -- the positions of the first rules are no more than those of all
+  -- the positions of the first rules are at most those of all
   pub front_below : (rules : List Rule) (n : ℕ) → count_of_rules definitions (map rule_view (take n rules)) ≤ count_of_rules definitions (map rule_view rules)
   front_below rules zero = omega arith
   front_below [] (suc n) = omega arith
   front_below (r ∷ rules) (suc n) = let e = front_below rules n in omega arith
 
-  -- a rule's nodes have no more leaves than it has positions
+  -- a rule's nodes have at most as many leaves as it has positions
   pub leaf_count : (rule : PlainRule) (nodes : List PlainNode) → nodes ≡ nodes_of (simplified_pattern definitions rule.reading.tree) → length (leaves_in nodes) ≤ count_of_rule definitions rule
   leaf_count rule nodes e =
       let long = ap (λ (l : List PlainNode). length (leaves_in l)) e ∙ tree_long (simplified_pattern definitions rule.reading.tree) ∙ simplified_pattern-count definitions rule.reading.tree in
       omega arith
 
-  -- where a rule's part ends
+  -- the end of a rule's part
   pub part_end : (part : RulePart) (rule : PlainRule) (base : ℕ) → IsPartOver part (nodes_of (simplified_pattern definitions rule.reading.tree)) base rule.reading.line_end →
       part.base + part.count + newline_count part.line_end ≡ base + count_of_rule definitions rule
   part_end part rule base is =

@@ -1,5 +1,5 @@
--- Which positions of a rule a word reaches: those that end prefixes of its words; one byte more is one more position; and where a
--- final one is reached, the rule matches the word.
+-- The positions of a rule that a word reaches are those that end prefixes of its words. One more byte is one more position. If a final position is
+-- reached, the rule matches the word.
 use Rattle.std.proofs.Common.{◌≡◌, ◌≢◌, ℕ, ◌+◌, ◌≤◌, ◌<◌, ◌⊎◌, ◌↔◌, inl, inr, Bool, true, false, List, [], ◌∷◌, ◌++◌, refl, sym, ◌∙◌, ap, subst, arith, append_assoc, append-nil}
 use Rattle.lx_auto.specs.Unfolded.{Unfolded, empty, leaf, cat, alt, opt, plus, position_count, PositionWord, ByteWord}
 use Rattle.lx_auto.specs.Positions.{First, Last, Follow, Completes, HasByte, HasItsBytes, Spells, LeadsTo, IsReached}
@@ -81,7 +81,7 @@ pub snoc_not_nil : (xs : List ℕ) (x : ℕ) → [] ≡ xs ++ x ∷ [] → ⊥
 snoc_not_nil [] x e = absurd (cc)
 snoc_not_nil (y ∷ xs) x e = absurd (cc)
 
--- what ends with a word's last position
+-- the last position of a chain is last in a word
 last_of_chain : (e : Unfolded) (k p q : ℕ) (ps us : List ℕ) → p ∷ ps ≡ us ++ q ∷ [] → Completes e k p ps → Last e k q
 last_of_chain e k p q [] [] h c = let same : p ≡ q = cc in subst (λ x. Last e k x) same (completes_last e k p [] refl c)
 last_of_chain e k p q [] (x ∷ us) h c = let rest : [] ≡ us ++ q ∷ [] = cc in absurd (snoc_not_nil us q rest)
@@ -101,7 +101,7 @@ last_of_word e k q us ps h word =
     let c = word_cons e k t.0 t.1 ps (h ∙ t.2) word in
     last_of_chain e k t.0 q t.1 us (sym t.2) c.1
 
--- a chain that comes to a last position is a whole word
+-- a chain that ends in a last position is a whole word
 chain_to_last : (Has : ℕ → ℕ → Type 0) (e : Unfolded) (k p q : ℕ) (w : List ℕ) → LeadsTo Has e k p w q → Last e k q →
     (ps : List ℕ) × Completes e k p ps × Spells Has ps w
 chain_to_last Has e k p q [] l last = let same : q ≡ p = l in ([], last_completes e k p (subst (λ x. Last e k x) same last), tt)
@@ -120,7 +120,7 @@ pub reached_not_nil : (Has : ℕ → ℕ → Type 0) (e : Unfolded) (k q : ℕ) 
 reached_not_nil Has e k q [] h = absurd h
 reached_not_nil Has e k q (b ∷ w) h = λ e. absurd (cc)
 
--- what a word of bytes is spelled by, where it isn't empty: its last position is reached, and can stand last
+-- a non-empty word of bytes is spelled by positions: its last position is reached, and can be last
 pub reached_at_end : (Has : ℕ → ℕ → Type 0) (e : Unfolded) (k : ℕ) (w : List ℕ) → HasItsBytes Has e k → ByteWord e k w → w ≢ [] →
     (q : ℕ) × IsReached Has e k w q × Last e k q
 reached_at_end Has e k w bytes word ne =
@@ -204,7 +204,7 @@ module _ (r : NumberedRule) where
     ]),
   )
 
-  -- where a reached position is final, the rule matches the word
+  -- if a reached position is final, the rule matches the word
   matches_final_with : (line_end : Bool) → r.rule.reading.line_end ≡ line_end → (w : List ℕ) →
       WholeWithEnd line_end r w ↔ ((q : ℕ) × IsReachedInRule r w q × FinalWithEnd line_end r q)
   matches_final_with false is w = (
@@ -231,7 +231,7 @@ module _ (r : NumberedRule) where
   pub matches_final : (w : List ℕ) → MatchesWhole r w ↔ ((q : ℕ) × IsReachedInRule r w q × IsFinal r q)
   matches_final w = matches_final_with r.rule.reading.line_end refl w
 
-  -- what ends a prefix of a word of positions is reached
+  -- a position that ends a prefix of a word of positions is reached
   prefix_reached_with : (line_end : Bool) → r.rule.reading.line_end ≡ line_end → (w : List ℕ) (q : ℕ) (before behind : List ℕ) →
       WordWithEnd line_end r ((before ++ q ∷ []) ++ behind) → Spells (HasRuleByte r) (before ++ q ∷ []) w → IsReachedInRule r w q
   prefix_reached_with false is w q before behind word spelled =
@@ -282,7 +282,7 @@ module _ (r : NumberedRule) where
                 inr (is, e, (parts.0, t.1, parts.2 ∙ ap (λ l. parts.0 ++ l) last, reached, last_of_word r.tree r.base t.1 t.0 us t.2 word))
           ]
 
-  -- what is reached ends a prefix of a word of positions
+  -- a reached position ends a prefix of a word of positions
   reached_prefix_with : (line_end : Bool) → r.rule.reading.line_end ≡ line_end → (w : List ℕ) (q : ℕ) → IsReachedInRule r w q →
       (before : List ℕ) × (behind : List ℕ) × WordWithEnd line_end r ((before ++ q ∷ []) ++ behind) × Spells (HasRuleByte r) (before ++ q ∷ []) w
   reached_prefix_with false is w q h = elim h [

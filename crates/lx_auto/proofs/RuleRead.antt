@@ -1,4 +1,4 @@
--- What the two passes over the nodes of a rule's expression say.
+-- The meaning of the two passes over the nodes of a rule's expression.
 use Rattle.std.proofs.Common.{◌≡◌, ℕ, ◌+◌, ◌-◌, inl, inr, Bool, List, [], ◌∷◌, length, refl, sym, ◌∙◌, ap, arith, append-nil}
 use Rattle.std.specs.Prelude.{reverse}
 use Rattle.lx_auto.specs.Unfolded.{Unfolded, empty, position_count}

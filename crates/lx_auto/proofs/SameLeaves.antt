@@ -1,4 +1,4 @@
--- Leaving away what has no position, and writing repeats out, gives the same leaves, in the same order.
+-- Removing parts without positions, and writing repeats out, yields the same leaves, in the same order.
 use Rattle.std.proofs.Common.{◌≡◌, ℕ, zero, suc, ◌+◌, ◌-◌, ◌↔◌, Bool, true, false, List, [], ◌∷◌, ◌++◌, length, Option, Some, None, refl, sym, ◌∙◌, ap₂, subst, arith}
 use Rattle.lx_ere.specs.Regex.{Regex, nil, one_of, then, or, times, named}
 use Rattle.lx_rules.specs.Plain.{PlainDefinition}
@@ -55,7 +55,7 @@ alt_of-leaves empty b = opt_of-leaves b
 alt_of-leaves a empty = opt_of-leaves a ∙ sym (append_nil (all_leaves a))
 alt_of-leaves a b = refl
 
--- both of the same leaves: what is built of the one has those of what is built of the other
+-- the same operations on two expressions with the same leaves yield the same leaves
 counted-leaves : (t r : Unfolded) → all_leaves t ≡ all_leaves r → (low high : ℕ) → all_leaves (simplified_counted t low high) ≡ all_leaves (counted r low high)
 counted-leaves t r e low zero = refl
 counted-leaves t r e zero (suc high) =

@@ -1,4 +1,4 @@
--- Sequences of positions: what is found of them without their nodes is what the passes over these find.
+-- Sequences of positions: the results without their nodes are those of the passes over these.
 use Rattle.std.proofs.Common.{◌≡◌, ℕ, zero, suc, ◌+◌, ◌-◌, ◌≤◌, Bool, true, false, ◌&&◌, ◌||◌, List, [], ◌∷◌, ◌++◌, refl, sym, ◌∙◌, ap, ap₂, arith}
 use Rattle.std.specs.Prelude.{slice_set}
 use Rattle.lx_auto.specs.Unfolded.{Unfolded, empty, leaf, cat, alt, opt, plus, position_count, nullable}
@@ -100,7 +100,7 @@ module _ (marks : List Bool) where
       ∙ ap₂ (λ i g. shifted marks f p m (shifted marks own (p + m) n (slice_set reads i g))) (let same : p + (m + n) ≡ p + m + n = omega arith in same)
       (entered_joined f p m n)
 
-  -- and its positions can be read one behind the other
+  -- and each of its positions can be read after the previous one
   pub sequence_reads : (e : Unfolded) (f : Bool) (p : ℕ) (reads : List Bool) → HasNoEmptyPart e → IsSequence e →
       shifted marks f p (position_count e) reads ≡ read_list marks e f p reads
   sequence_reads empty f p reads s is = absurd s

@@ -42,7 +42,7 @@ module _ (spec : PlainSpec) (tree_of : Regex → Unfolded) (base : ℕ) (plain :
         }),
   )
 
-  -- one byte more: what follows the set and has it
+  -- one more byte: the positions after the set that have it
   pub next_set : (c : ℕ) (begin : Bool) (w : List ℕ) (S : List ℕ) (b q : ℕ) → w ≢ [] →
       IsSetOf spec (numbered tree_of base plain) (record { condition = c; begin = begin; word = w }) S →
       CanHaveReadLast spec (numbered tree_of base plain) c begin (w ++ b ∷ []) q ↔ (FollowsSet (numbered tree_of base plain) S q × HasSomeByte (numbered tree_of base plain) q b)

@@ -1,4 +1,4 @@
--- How many nodes an expression has at most, once what has no position is left away.
+-- Bounds on the number of an expression's nodes, once parts without positions are removed.
 use Rattle.std.proofs.Common.{◌≡◌, ℕ, zero, suc, ◌+◌, ◌*◌, ◌≤◌, Bool, true, false, ◌&&◌, ◌||◌, List, ◌++◌, [], ◌∷◌, length, Option, Some, None, refl, arith}
 use Rattle.std.proofs.lemmas.List.{length-append}
 use Rattle.std.specs.FinSet as set
@@ -34,7 +34,7 @@ two a b n = let e = length-append a (b ++ n ∷ []) in let f = length-append b (
 pub one : (a : List PlainNode) (n : PlainNode) → length (a ++ n ∷ []) ≡ length a + 1
 one a n = let e = length-append a (n ∷ []) in omega arith
 
--- beside another expression the room is enough
+-- for two expressions together the room is enough
 both : (a : Bool) (b : Bool) → unless (a && b) ≤ unless a + unless b
 unfolding unless
 both true b = omega arith
@@ -173,7 +173,7 @@ pub small-name : (definitions : List PlainDefinition) (n : ℕ) (name : List ℕ
 small-name definitions zero name = small-empty
 small-name definitions (suc n) name = small-if (simplified_name definitions n) (small-name definitions n) (tree_named definitions name)
 
--- the nodes of a pattern are at most five times as many as its positions
+-- a pattern has at most five times as many nodes as positions
 pub few_nodes : (definitions : List PlainDefinition) (tree : Regex) → length (nodes_of (simplified_pattern definitions tree)) ≤ 5 * position_count (simplified_pattern definitions tree)
 unfolding simplified_pattern
 few_nodes definitions tree = let x = (small-simplified (simplified_name definitions 32) (small-name definitions 32) tree).few in omega arith

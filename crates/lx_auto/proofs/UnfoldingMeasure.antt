@@ -5,7 +5,7 @@ use Rattle.lx_ere.specs.declared.expr.Expr.{Expr}
 use Rattle.lx_ere.specs.declared.expr.Expr.TheVariants.{Nil, Set, Then', Or', Times', Name}
 use Rattle.lx_rules.specs.declared.definition.Definition.{Definition}
 
--- how many expressions an expression is made of
+-- the number of expressions of which an expression consists
 abbrev pub tree_size : Expr → ℕ
 tree_size Nil = 1
 tree_size (Set s) = 1
@@ -14,12 +14,12 @@ tree_size (Or' p a q b) = suc (tree_size a + tree_size b)
 tree_size (Times' p body low high) = suc (tree_size body)
 tree_size (Name name) = 1
 
--- how many expressions all definitions are made of
+-- the number of expressions of which all definitions consist
 abbrev pub all_sizes : List Definition → ℕ
 all_sizes [] = 0
 all_sizes (d ∷ definitions) = tree_size (d.expr) + all_sizes definitions
 
--- an expression of so many, with names that may be unfolded so deep
+-- an expression of this size, with names that may be unfolded this deep
 abbrev pub weight : List Definition → ℕ → ℕ → ℕ
 weight definitions depth size = 2 * (size + depth * (all_sizes definitions + 2))
 

@@ -1,4 +1,4 @@
--- Where nothing is marked nothing ends, and what isn't entered isn't read.
+-- If nothing is marked, nothing ends. If an expression isn't entered, it isn't read.
 use Rattle.std.proofs.Common.{ℕ, zero, suc, ◌≡◌, ◌+◌, ◌-◌, ◌≤◌, ◌<◌, Bool, false, ◌&&◌, ◌||◌, List, [], ◌∷◌, ◌++◌, length, replicate, refl, sym, ◌∙◌, ap, ap₂, subst, append_assoc, append-nil, arith}
 use Rattle.std.specs.Prelude.{slice_set}
 use Rattle.lx_auto.specs.Nodes.{PlainNode, leaf_node, cat_node, alt_node, opt_node, plus_node}
@@ -19,7 +19,7 @@ clear_more : (xs : List Bool) (f : Bool) → AreClear xs → f ≡ false → Are
 clear_more [] f h e = clear_first f [] e clear_none
 clear_more (x ∷ xs) f h e = clear_first x (xs ++ f ∷ []) (h zero) (clear_more xs f (λ q. h (suc q)) e)
 
--- no flag is set where none of those that are there is
+-- no flag is set if none within the list is
 pub clear_below : (xs : List Bool) → ((q : ℕ) → 0 ≤ q → q < 0 + length xs → flag xs q ≡ false) → AreClear xs
 clear_below [] h = clear_none
 clear_below (x ∷ xs) h = clear_first x xs (h zero (omega arith) (omega arith)) (clear_below xs (λ q low below. h (suc q) (omega arith) (omega arith)))
@@ -44,7 +44,7 @@ no_ends_from nulls marks p (node ∷ nodes) ends m h =
     ∙ append_assoc ends (own ∷ []) (replicate (length nodes) false)
     ∙ ap (λ f. ends ++ (f ∷ replicate (length nodes) false)) none
 
--- where nothing is marked, nothing ends at any node
+-- if nothing is marked, nothing ends at any node
 pub no_ends : (nulls marks : List Bool) (p : ℕ) (nodes : List PlainNode) → AreClear marks → ends_from nulls marks p nodes [] ≡ replicate (length nodes) false
 no_ends nulls marks p nodes m = no_ends_from nulls marks p nodes [] m clear_none
 
@@ -76,7 +76,7 @@ read_clear (alt_node n) p f reads e h = refl
 read_clear opt_node p f reads e h = refl
 read_clear plus_node p f reads e h = refl
 
--- where nothing ends and nothing is entered, nothing is read
+-- if nothing ends and nothing is entered, nothing is read
 pub no_reads : (nulls ends : List Bool) (nodes : List PlainNode) (stack : List Bool) (p : ℕ) (reads : List Bool) → AreClear ends → AreClear stack → AreClear reads → reads_from nulls ends nodes stack p reads ≡ reads
 no_reads nulls ends [] stack p reads h k r = refl
 no_reads nulls ends (node ∷ nodes) stack p reads h k r =

@@ -19,7 +19,7 @@ pub or_right : (a b : Bool) → b ≡ true → a || b ≡ true
 or_right true b h = refl
 or_right false b h = h
 
--- where a joined list begins
+-- the start of a joined list
 pub cons_append : (us vs ps : List ℕ) (p : ℕ) → p ∷ ps ≡ us ++ vs →
     ((us ≡ []) × (vs ≡ p ∷ ps)) ⊎ ((xs : List ℕ) × (us ≡ p ∷ xs) × (ps ≡ xs ++ vs))
 cons_append [] vs ps p e = inl (refl, sym e)
@@ -57,7 +57,7 @@ in_completes (alt a b) k p vs h = elim h [
 in_completes (opt a) k p vs h = in_completes a k p vs h
 in_completes (plus a) k p vs h = in_completes a k p h.0 h.3
 
--- the parts of a joined list may be left out where they are empty
+-- the parts of a joined list may be left out if they are empty
 joined_nil : (P : List ℕ → Type 0) → P [] → (n : ℕ) → Joined P n []
 joined_nil P h zero = refl
 joined_nil P h (suc n) = ([], [], refl, h, joined_nil P h n)
@@ -178,7 +178,7 @@ cons_word (alt a b) k p vs f h = elim f [
 cons_word (opt a) k p vs f h = inr (cons_word a k p vs f h)
 cons_word (plus a) k p vs f h = (h.4.0, (p ∷ h.0, h.1, ap (λ l. p ∷ l) h.2, cons_word a k p h.0 f h.3, h.4.1))
 
--- nothing is left exactly where the last position was read
+-- nothing is left exactly if the last position was read
 pub last_completes : (e : Unfolded) (k p : ℕ) → Last e k p → Completes e k p []
 last_completes empty k p h = absurd h
 last_completes (leaf bytes) k p h = (h, refl)

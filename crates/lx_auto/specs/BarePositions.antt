@@ -2,7 +2,7 @@
 use Rattle.std.specs.Prelude.{ℕ, ◌<◌, ◌≤◌, List, length, slice_index}
 use Rattle.lx_auto.specs.declared.bare.Bare.{Bare}
 
--- so many members of the set stand before the first of these positions, and the next one not before their end
+-- `passed` members of the set are before the first of these positions, and the next member isn't before their end
 pub record IsBareIn (S : List ℕ) (bare : Bare) : Type 0 where
   pub within : bare.passed ≤ length S
   pub before : (j : ℕ) → j < bare.passed → slice_index S j < bare.from

@@ -1,4 +1,4 @@
--- What is kept of blocks, one behind the other, and what is found of them.
+-- Blocks, one after the other, and the results of the passes over them.
 use Rattle.std.specs.Prelude.{◌≡◌, ℕ, zero, suc, ◌+◌, ◌-◌, ◌<◌, ◌≤◌, Bool, true, false, ◌&&◌, List, [], ◌∷◌, length, slice_get, slice_set, Some}
 use Rattle.std.specs.declared.alloc.Global.{Global}
 use Rattle.std.specs.declared.vec.Vec.{Vec}
@@ -10,7 +10,7 @@ use Rattle.lx_auto.specs.Marking.{flag, nulls_from}
 use Rattle.lx_auto.specs.Passing.{HasNoEmptyPart, EndsAt, ended}
 use Rattle.lx_auto.specs.declared.block.Block.{Block}
 
--- whether a node is a position, or joins what stands one behind the other
+-- true if a node is a position, or joins two expressions one after the other
 abbrev pub is_sequence_node : PlainNode → Bool
 is_sequence_node (leaf_node s) = true
 is_sequence_node (cat_node n) = true
@@ -22,8 +22,8 @@ abbrev pub are_sequence_nodes : List PlainNode → Bool
 are_sequence_nodes [] = true
 are_sequence_nodes (node ∷ nodes) = is_sequence_node node && are_sequence_nodes nodes
 
--- The flags of positions that can be read, those of n positions of a sequence set anew, the last one first: each can be read behind the one before it, and
--- the first one, p, where the sequence is entered.
+-- The flags of readable positions, those of n positions of a sequence set anew, the last one first. Each can be read after the previous one, and the
+-- first one, p, if the sequence is entered.
 abbrev pub entered_at : List Bool → Bool → ℕ → ℕ → Bool
 entered_at marks f p zero = f
 entered_at marks f p (suc n) = flag marks (p + n)
@@ -32,7 +32,7 @@ abbrev pub shifted : List Bool → Bool → ℕ → ℕ → List Bool → List B
 shifted marks f p zero reads = reads
 shifted marks f p (suc n) reads = shifted marks f p n (slice_set reads (p + n) (entered_at marks f p n))
 
--- what is kept of a block with these nodes
+-- a block with these nodes
 pub record IsBlockOver (block : Block) (over : List PlainNode) (k : ℕ) : Type 0 where
   pub nodes : nodes_view block.nodes.items ≡ over
   pub nulls : block.nulls.items ≡ nulls_from over []
@@ -46,7 +46,7 @@ AreBlocksOver [] (n ∷ ns) k = ⊥
 AreBlocksOver (b ∷ bs) [] k = ⊥
 AreBlocksOver (b ∷ bs) (n ∷ ns) k = IsBlockOver b n k × AreBlocksOver bs ns (k + length (leaves_in n))
 
--- how many leaves the blocks with these nodes have
+-- the number of leaves of the blocks with these nodes
 abbrev pub leaf_total : List (List PlainNode) → ℕ
 leaf_total [] = 0
 leaf_total (n ∷ ns) = length (leaves_in n) + leaf_total ns
@@ -59,14 +59,15 @@ pub record IsBlock (block : Block) (e : Unfolded) : Type 0 where
   pub is_sequence : block.is_sequence ≡ are_sequence_nodes (nodes_of e)
   pub no_empty : HasNoEmptyPart e
 
--- the blocks are those of expressions, one behind the other, whose positions are numbered from k on
+-- the blocks are those of expressions, one after the other, whose positions are numbered from k on
 abbrev pub AreBlocks : List Block → List Unfolded → ℕ → Type 0
 AreBlocks [] [] k = Unit {0}
 AreBlocks [] (e ∷ es) k = ⊥
 AreBlocks (b ∷ bs) [] k = ⊥
 AreBlocks (b ∷ bs) (e ∷ es) k = IsBlock b e × (b.base ≡ k) × AreBlocks bs es (k + position_count e)
 
--- Of each node of a block whether a marked position can stand last in it, and of a sequence of the last node. Nothing is kept only where no position is marked.
+-- For each node of a block a flag that is true if a marked position can be last in it; for a sequence only the flag of the last node. The list is
+-- empty only if no position is marked.
 pub record HasEnds (marks ends : List Bool) (block : Block) (e : Unfolded) : Type 0 where
   pub at : block.is_sequence ≡ false → EndsAt marks ends 0 e block.base
   pub last : flag ends (length ends - 1) ≡ ended marks e block.base
@@ -78,7 +79,7 @@ pub record HaveEnds (marks : List Bool) (blocks : List Block) (ends : List (Vec 
   pub each : (i : ℕ) (block : Block) (own : Vec Bool Global) (e : Unfolded) → slice_get blocks i ≡ Some block → slice_get ends i ≡ Some own → IsBlock block e →
       HasEnds marks own.items block e
 
--- whether a marked position can stand last in a block
+-- true if a marked position can be last in a block
 abbrev pub last_flag : Vec Bool Global → Bool
 last_flag ends = flag ends.items (length ends.items - 1)
 

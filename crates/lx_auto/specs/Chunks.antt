@@ -18,7 +18,7 @@ use Rattle.lx_auto.specs.declared.chunk.UnaryOperator.{UnaryOperator}
 use Rattle.lx_auto.specs.declared.chunk.UnaryOperator.TheVariants.{Optional, OneOrMore}
 use Rattle.lx_auto.specs.declared.chunk.SingleBlock.{SingleBlock}
 
--- the operator of a node above two expressions: its node, whether it matches the empty word, its expression
+-- the operator of a node above two expressions: its node, a flag for the empty word, its expression
 abbrev pub binary_node : BinaryOperator → ℕ → PlainNode
 binary_node Concatenation n = cat_node n
 binary_node Alternation n = alt_node n
@@ -44,7 +44,7 @@ abbrev pub unary_expression : UnaryOperator → Unfolded → Unfolded
 unary_expression Optional a = opt a
 unary_expression OneOrMore a = plus a
 
--- On the stack stand the expressions so far, the last one first. Where there are too few, none is left.
+-- The stack has the expressions that were built, the last one first. If there are too few, none is left.
 abbrev pub binary_step : (Unfolded → Unfolded → Unfolded) → List Unfolded → List Unfolded
 binary_step make [] = []
 binary_step make (b ∷ []) = []
@@ -80,7 +80,7 @@ pub record IsOutlinedOf (o : Outlined) (e : Unfolded) : Type 0 where
   pub outline : nodes_view o.outline.items ≡ nodes_of (outlines.outline chunking)
   pub blocks : block_nodes o.blocks.items ≡ map nodes_of (outlines.blocks_of chunking)
 
--- a block, joined to what comes behind it, is equivalent to this expression
+-- a block, joined to the expression after it, is equivalent to this expression
 pub record IsGrowingChunkOf (l : GrowingChunk) (e : Unfolded) : Type 0 where
   pub one : Unfolded
   pub other : Unfolded

@@ -12,7 +12,7 @@ abbrev pub is_no_copy : Option ℕ → Bool
 is_no_copy None = false
 is_no_copy (Some high) = nat_eq high 0
 
--- one and then the other, which may be left out together where they aren't required
+-- one expression and then the other, which may be left out together if they aren't required
 abbrev pub joined_as : Bool → Unfolded → Unfolded → Unfolded
 joined_as true a b = cat_of a b
 joined_as false a b = opt_of (cat_of a b)

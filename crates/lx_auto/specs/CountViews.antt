@@ -11,14 +11,14 @@ abbrev pub count_of_place : List ℕ → Option ℕ → ℕ
 count_of_place counts None = 0
 count_of_place counts (Some i) = get_or counts i 0
 
--- how many positions a name has, by a list of those of the definitions
+-- the number of positions of a name, by a list of those of the definitions
 abbrev pub looked_up : List Definition → List ℕ → List ℕ → ℕ
 looked_up definitions counts name = count_of_place counts (place_of definitions name)
 
--- of each definition as many as it has by such a list
+-- for each definition, its number by such a list
 abbrev pub counts_behind : List Definition → List ℕ → List ℕ
 counts_behind definitions counts = map (λ d. min (max_positions + 1) (count_in (looked_up definitions counts) (regex_of d.expr))) definitions
 
--- of each definition, where names in it are unfolded at most n deep
+-- for each definition, its number with names unfolded at most n deep
 unfoldable pub counts_at : List Definition → ℕ → List ℕ
 counts_at definitions n = map (λ d. min (max_positions + 1) (count_in (count_of_name (map definition_view definitions) n) (regex_of d.expr))) definitions

@@ -1,16 +1,16 @@
--- How many positions a specification has, counted before anything is unfolded.
+-- The number of positions of a specification, counted before anything is unfolded.
 use Rattle.std.specs.Prelude.{ℕ, zero, suc, ◌+◌, ◌*◌, max, Bool, true, false, List, [], ◌∷◌, Option, Some, None}
 use Rattle.lx_ere.specs.Regex.{Regex, nil, one_of, then, or, times, named}
 use Rattle.lx_rules.specs.Plain.{PlainDefinition, PlainRule, PlainSpec}
 use Rattle.lx_rules.specs.Nesting.{tree_named}
 use Rattle.lx_rules.specs.Limits.{max_name_depth}
 
--- as many copies as the high bound says; without one as many as have to stand there, and one at least
+-- the high bound is the number of copies; without one it is the number of required copies, and at least one
 abbrev pub copies_of : ℕ → Option ℕ → ℕ
 copies_of low (Some high) = high
 copies_of low None = max 1 low
 
--- the positions of an expression, where `names` says how many a name has
+-- the number of positions of an expression, where `names` has that of a name
 abbrev pub count_in : (List ℕ → ℕ) → Regex → ℕ
 count_in names nil = 0
 count_in names (one_of s) = 1

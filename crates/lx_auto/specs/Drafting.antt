@@ -5,8 +5,7 @@ use Rattle.std.specs.Option.{option_map}
 use Rattle.lx_automaton.specs.Automata.{Machine, start_of}
 use Rattle.lx_auto.specs.Exploring.{start_number}
 
--- The draft over so many conditions: no start accepts a rule, each set accepts the rule that it matches, and a step to set j leads to
--- its state.
+-- The draft over `conditions` conditions: no start accepts a rule, each set accepts the rule that it matches, and a step to set j leads to its state.
 pub record IsDrafted (conditions : ℕ) (classes : List ℕ) (width : ℕ) (matched targets : List (Option ℕ)) (m : Machine) : Type 0 where
   pub conditions_are : length m.starts ≡ conditions
   pub starts_are : (c : ℕ) (begin : Bool) → c < conditions → start_of m c begin ≡ start_number c begin

@@ -1,4 +1,4 @@
--- What is known while position sets are reached one after the other (Rabin and Scott 1959: the subset construction).
+-- The facts about position sets while they are explored (Rabin and Scott 1959: the subset construction).
 use Rattle.std.specs.Prelude.{◌≡◌, ◌≢◌, ℕ, ◌+◌, ◌*◌, ◌<◌, ◌⊎◌, Bool, true, false, List, [], ◌∷◌, ◌++◌, length, filter, slice_index, slice_index_or, Option, None, All}
 use Rattle.lx_ere.specs.Regex.{Regex}
 use Rattle.lx_rules.specs.Plain.{PlainSpec}
@@ -27,7 +27,7 @@ pub record AreReachedSets (spec : PlainSpec) (rules : List NumberedRule) (sets :
   pub reached : (i : ℕ) → i < length sets → IsReachedSet spec rules (set_of sets i)
   pub distinct : (i j : ℕ) → i < j → j < length sets → set_of sets i ≢ set_of sets j
 
--- there are more than that: one more, of which no two are equal
+-- there are more than `limit`: one more, of which no two are equal
 pub record HasMoreSets (spec : PlainSpec) (rules : List NumberedRule) (limit : ℕ) : Type 0 where
   pub sets : List (List ℕ)
   pub count : length sets ≡ limit + 1
@@ -42,7 +42,7 @@ start_number condition true = 2 * condition + 1
 abbrev pub start_count : PlainSpec → ℕ
 start_count spec = 2 * length spec.conditions
 
--- the positions that can be read next in a state: those of a start, or what follows a set; the sets come behind the starts
+-- the positions that can be read next in a state: those of a start, or those after a set; the sets come after the starts
 abbrev pub IsSource : PlainSpec → List NumberedRule → List Positions → ℕ → List ℕ → Type 0
 IsSource spec rules sets i F =
     ((c : ℕ) × (begin : Bool) × (c < length spec.conditions) × (i ≡ start_number c begin) × AreFirst spec rules c begin F)
@@ -61,7 +61,7 @@ pub record AddsTarget (sets : List Positions) (old new : List (Option ℕ)) (set
   pub added : new ≡ old ++ target ∷ []
   pub is : IsTarget sets target set
 
--- what is asked of the rules, the table and the targets before the steps of a state are added
+-- the requirements on the rules, the table and the targets before the steps of a state are added
 pub record IsRowOf (spec : PlainSpec) (tree_of : Regex → Unfolded) (leaves : List PlainLeaf) (representatives : List ℕ) (state : ℕ) (F : List ℕ)
     (sets : List Positions) (targets : List (Option ℕ)) : Type 0 where
   pub leaves_of : AreLeavesOf (numbered tree_of 0 spec.rules) leaves

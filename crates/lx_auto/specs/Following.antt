@@ -10,12 +10,12 @@ use Rattle.lx_auto.specs.Marking.{flag}
 abbrev pub InRange : NumberedRule → ℕ → Type 0
 InRange r q = (r.base ≤ q) × (q < r.base + size_of r)
 
--- the rules of a specification, numbered so that their ranges lie one behind the other
+-- the rules of a specification, numbered so that their ranges come one after the other
 pub record AreNumbered (spec : PlainSpec) (rules : List NumberedRule) : Type 0 where
   pub rule_of : (i : ℕ) (r : NumberedRule) → slice_get rules i ≡ Some r → slice_get spec.rules i ≡ Some r.rule
   pub apart : (i j : ℕ) (r s : NumberedRule) → i < j → slice_get rules i ≡ Some r → slice_get rules j ≡ Some s → r.base + size_of r ≤ s.base
 
--- behind one of the marked positions q can stand in the rule
+-- q can come after one of the marked positions in the rule
 abbrev pub FollowsMarked : List Bool → NumberedRule → ℕ → Type 0
 FollowsMarked marks r q = (p : ℕ) × (flag marks p ≡ true) × RuleFollow r p q
 

@@ -1,4 +1,4 @@
--- The leaves of the code, without where they lie in memory, and the leaves of rules in order.
+-- The leaves of the code without their place in memory, and the leaves of rules in order.
 use Rattle.std.specs.Prelude.{Bool, true, false, List, [], ◌∷◌, ◌++◌, map}
 use Rattle.lx_auto.specs.NodeLeaves.{leaves_in}
 use Rattle.lx_auto.specs.NodeViews.{nodes_view}

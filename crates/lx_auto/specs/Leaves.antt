@@ -5,7 +5,7 @@ use Rattle.std.specs.Ordering.{nat_cmp}
 use Rattle.lx_auto.specs.PositionSets.{NumberedRule}
 use Rattle.lx_auto.specs.SetSteps.{HasSomeByte}
 
--- what a position stands for: one byte of a set, or a newline
+-- the meaning of a position: one byte of a set, or a newline
 pub data PlainLeaf : Type 0 where
   one_of_set : set.FinSet nat_cmp → PlainLeaf
   newline : PlainLeaf
@@ -18,7 +18,7 @@ abbrev pub leaf_has_at : Option PlainLeaf → ℕ → Bool
 leaf_has_at None b = false
 leaf_has_at (Some l) b = leaf_has l b
 
--- whether position q has the byte b
+-- true if position q has the byte b
 abbrev pub has_byte : List PlainLeaf → ℕ → ℕ → Bool
 has_byte leaves q b = leaf_has_at (slice_get leaves q) b
 
@@ -26,7 +26,7 @@ has_byte leaves q b = leaf_has_at (slice_get leaves q) b
 pub record AreLeavesOf (rules : List NumberedRule) (leaves : List PlainLeaf) : Type 0 where
   pub each : (q b : ℕ) → (has_byte leaves q b ≡ true) ↔ HasSomeByte rules q b
 
--- bytes of one group are alike for every position: what holds of a byte holds of its group's representative
+-- bytes of one group are equal for every position: a property of a byte holds for its group's representative
 pub record AreGroupsOf (leaves : List PlainLeaf) (classes representatives : List ℕ) : Type 0 where
   pub bytes : length classes ≡ 256
   pub below : (b : ℕ) → b < 256 → slice_index classes b < length representatives

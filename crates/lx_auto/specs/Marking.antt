@@ -1,5 +1,6 @@
--- A mirror of `marking`: two passes over the nodes of an expression, upwards where a set of its positions can end, downwards which positions can be read next. They
--- find what `CanEnd` and `CanRead` of Positions say (proofs/Readable), and that paths of these positions spell the pattern is a law, `positions_spell_patterns`.
+-- A mirror of `marking`: two passes over the nodes of an expression. Upwards they find where a set of its positions can end, and downwards the
+-- positions that can be read next. Their results are `CanEnd` and `CanRead` of Positions (proofs/Readable). A law, `positions_spell_patterns`, states
+-- that paths of these positions spell the pattern.
 use Rattle.std.specs.Prelude.{ℕ, ◌+◌, ◌-◌, Bool, true, false, ◌&&◌, ◌||◌, List, [], ◌∷◌, ◌++◌, length, slice_index_or, slice_set}
 use Rattle.lx_auto.specs.Nodes.{PlainNode, leaf_node, cat_node, alt_node, opt_node, plus_node}
 
@@ -7,11 +8,11 @@ use Rattle.lx_auto.specs.Nodes.{PlainNode, leaf_node, cat_node, alt_node, opt_no
 abbrev pub flag : List Bool → ℕ → Bool
 flag xs i = slice_index_or xs i false
 
--- where the left child of the last of i + 1 nodes stands, its right one having n nodes
+-- the index of the left child of the last of i + 1 nodes, whose right child has n nodes
 abbrev pub left_of : ℕ → ℕ → ℕ
 left_of i n = i - (n + 1)
 
--- whether the expression of a node matches the empty word, from the nodes before
+-- true if the expression of a node matches the empty word, given the flags of the nodes before
 abbrev pub null_of : PlainNode → List Bool → Bool
 null_of (leaf_node s) nulls = false
 null_of (cat_node n) nulls = flag nulls (left_of (length nulls) n) && flag nulls (length nulls - 1)
@@ -23,7 +24,7 @@ abbrev pub nulls_from : List PlainNode → List Bool → List Bool
 nulls_from [] nulls = nulls
 nulls_from (node ∷ nodes) nulls = nulls_from nodes (nulls ++ null_of node nulls ∷ [])
 
--- one more position behind a leaf
+-- one more position after a leaf
 abbrev pub behind_node : PlainNode → ℕ → ℕ
 behind_node (leaf_node s) p = p + 1
 behind_node (cat_node n) p = p
@@ -31,7 +32,7 @@ behind_node (alt_node n) p = p
 behind_node opt_node p = p
 behind_node plus_node p = p
 
--- whether a word whose last position is marked can end at a node, from the nodes before; p is the next position
+-- true if a word whose last position is marked can end at a node, given the flags of the nodes before; p is the next position
 abbrev pub end_of : List Bool → List Bool → ℕ → PlainNode → List Bool → Bool
 end_of nulls marks p (leaf_node s) ends = flag marks p
 end_of nulls marks p (cat_node n) ends = flag ends (length ends - 1) || (flag ends (left_of (length ends) n) && flag nulls (length ends - 1))
@@ -44,8 +45,8 @@ ends_from nulls marks p [] ends = ends
 ends_from nulls marks p (node ∷ nodes) ends =
     ends_from nulls marks (behind_node node p) nodes (ends ++ end_of nulls marks p node ends ∷ [])
 
--- Downwards, from the last node to the first. On the stack stands for each expression still to come whether it may be entered, that of
--- the next one first; p is the position behind those still to come.
+-- Downwards, from the last node to the first. The stack has for each expression still to come a flag that is true if it may be entered, with that of
+-- the next one first; p is the position after those still to come.
 abbrev pub before_node : PlainNode → ℕ → ℕ
 before_node (leaf_node s) p = p - 1
 before_node (cat_node n) p = p
@@ -61,7 +62,7 @@ abbrev pub other_flags : List Bool → List Bool
 other_flags [] = []
 other_flags (f ∷ stack) = stack
 
--- puts on the stack whether the children of a node that stands behind i others may be entered
+-- pushes the flags of a node's children, which are true if they may be entered; the node comes after i others
 abbrev pub entered_children : List Bool → List Bool → PlainNode → ℕ → Bool → List Bool → List Bool
 entered_children nulls ends (leaf_node s) i f stack = stack
 entered_children nulls ends (cat_node n) i f stack = ((f && flag nulls (left_of i n)) || flag ends (left_of i n)) ∷ f ∷ stack

@@ -10,7 +10,7 @@ abbrev pub place_of : List Definition → List ℕ → Option ℕ
 place_of [] name = None
 place_of (d ∷ definitions) name = if pointwise nat_eq d.name.items name then Some 0 else option_map suc (place_of definitions name)
 
--- what the definition at this place stands for
+-- the expression of the definition at this place
 abbrev pub tree_at : List Definition → Option ℕ → Option Regex
 tree_at definitions None = None
 tree_at definitions (Some i) = option_map (λ d. regex_of d.expr) (slice_get definitions i)

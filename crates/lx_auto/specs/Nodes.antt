@@ -1,4 +1,4 @@
--- Expressions as nodes in post-order: a node's only child, or its right one, stands before it, and the left one before that.
+-- Expressions as nodes in post-order: a node's only child, or its right one, comes before it, and the left one before that.
 use Rattle.std.specs.Prelude.{ℕ, List, [], ◌∷◌, ◌++◌, length}
 use Rattle.std.specs.FinSet as set
 use Rattle.std.specs.Ordering.{nat_cmp}
@@ -6,13 +6,13 @@ use Rattle.lx_auto.specs.Unfolded.{Unfolded, empty, leaf, cat, alt, opt, plus}
 
 pub data PlainNode : Type 0 where
   leaf_node : set.FinSet nat_cmp → PlainNode
-  -- with as many nodes as the right child has
+  -- with the number of the right child's nodes
   cat_node : ℕ → PlainNode
   alt_node : ℕ → PlainNode
   opt_node : PlainNode
   plus_node : PlainNode
 
--- nothing stands for the empty word
+-- the empty word has no nodes
 abbrev pub nodes_of : Unfolded → List PlainNode
 nodes_of empty = []
 nodes_of (leaf s) = leaf_node s ∷ []

@@ -8,7 +8,7 @@ use Rattle.lx_auto.specs.Passing.{HasNoEmptyPart, ended, read_list}
 
 -- a way to split an expression into blocks
 pub data Chunking : Type 0 where
-  -- one block; the set is what stands in the outline, where it means nothing
+  -- one block; the set is a placeholder in the outline, without meaning
   one_block : set.FinSet nat_cmp → Unfolded → Chunking
   chunked_cat : Chunking → Chunking → Chunking
   chunked_alt : Chunking → Chunking → Chunking
@@ -23,7 +23,7 @@ tree_of (chunked_alt a b) = alt (tree_of a) (tree_of b)
 tree_of (chunked_opt a) = opt (tree_of a)
 tree_of (chunked_plus a) = plus (tree_of a)
 
--- what stands for a block
+-- the outline of a block
 abbrev pub outline_of_block : set.FinSet nat_cmp → Bool → Unfolded
 outline_of_block s true = opt (leaf s)
 outline_of_block s false = leaf s
@@ -42,22 +42,22 @@ blocks_of (chunked_alt a b) = blocks_of a ++ blocks_of b
 blocks_of (chunked_opt a) = blocks_of a
 blocks_of (chunked_plus a) = blocks_of a
 
--- how many positions the blocks have
+-- the number of positions of the blocks
 abbrev pub positions_of : List Unfolded → ℕ
 positions_of [] = 0
 positions_of (e ∷ es) = position_count e + positions_of es
 
--- Blocks are numbered from j on, and their positions from k on. The flags say of each whether a marked position can stand last in it.
+-- Blocks are numbered from j on, and their positions from k on. Each flag is true if a marked position can be last in the block.
 abbrev pub HaveEnded : List Bool → List Bool → List Unfolded → ℕ → ℕ → Type 0
 HaveEnded marks flags [] j k = Unit {0}
 HaveEnded marks flags (e ∷ es) j k = (flag flags j ≡ ended marks e k) × HaveEnded marks flags es (suc j) (k + position_count e)
 
--- the flags of positions that can be read, those of the blocks' positions set anew where a block may be entered by its own flag
+-- the flags of readable positions, those of the blocks' positions set anew; a block may be entered if its own flag is true
 abbrev pub read_blocks : List Bool → List Bool → List Unfolded → ℕ → ℕ → List Bool → List Bool
 read_blocks marks entered [] j k reads = reads
 read_blocks marks entered (e ∷ es) j k reads = read_list marks e (flag entered j) k (read_blocks marks entered es (suc j) (k + position_count e) reads)
 
--- two expressions of which the same is found from any marked positions
+-- two expressions with equal results for all marked positions
 pub record AreEquivalentExpressions (d e : Unfolded) : Type 0 where
   pub count : position_count d ≡ position_count e
   pub null : nullable d ≡ nullable e

@@ -1,10 +1,10 @@
--- What is kept of an expression beside its nodes.
+-- The data of an expression apart from its nodes.
 use Rattle.std.specs.Prelude.{Bool, true, false, length}
 use Rattle.lx_auto.specs.Unfolded.{Unfolded, empty, leaf, cat, alt, opt, plus, nullable}
 use Rattle.lx_auto.specs.Nodes.{nodes_of}
 use Rattle.lx_auto.specs.declared.part.Part.{Part}
 
--- one or more of it is no more than it is
+-- a repetition of it equals it
 abbrev pub is_repeated : Unfolded → Bool
 is_repeated empty = false
 is_repeated (leaf s) = false

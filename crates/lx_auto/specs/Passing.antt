@@ -1,4 +1,4 @@
--- What the passes over the nodes of an expression come to.
+-- The results of the passes over the nodes of an expression.
 use Rattle.std.specs.Prelude.{◌≡◌, ◌⊎◌, ℕ, ◌+◌, ◌-◌, Bool, true, false, ◌&&◌, ◌||◌, List, [], ◌∷◌, ◌++◌, length, slice_set}
 use Rattle.lx_auto.specs.Unfolded.{Unfolded, empty, leaf, cat, alt, opt, plus, position_count, nullable}
 use Rattle.lx_auto.specs.Nodes.{nodes_of}
@@ -16,7 +16,7 @@ HasNoEmptyPart (plus a) = HasNoEmptyPart a
 abbrev pub node_count : Unfolded → ℕ
 node_count e = length (nodes_of e)
 
--- for each node whether its expression matches the empty word
+-- for each node, true if its expression matches the empty word
 abbrev pub null_list : Unfolded → List Bool
 null_list empty = []
 null_list (leaf s) = false ∷ []
@@ -25,7 +25,7 @@ null_list (alt a b) = null_list a ++ (null_list b ++ (nullable a || nullable b) 
 null_list (opt a) = null_list a ++ true ∷ []
 null_list (plus a) = null_list a ++ nullable a ∷ []
 
--- whether a marked position can stand last, positions numbered from p on
+-- true if a marked position can be last, with positions numbered from p on
 abbrev pub ended : List Bool → Unfolded → ℕ → Bool
 ended marks empty p = false
 ended marks (leaf s) p = flag marks p
@@ -42,7 +42,7 @@ end_list marks (alt a b) p = end_list marks a p ++ (end_list marks b (p + positi
 end_list marks (opt a) p = end_list marks a p ++ ended marks a p ∷ []
 end_list marks (plus a) p = end_list marks a p ++ ended marks a p ∷ []
 
--- the flags of the expression's parts, whose first node stands behind o others, say whether these match the empty word
+-- the flags of the expression's parts, whose first node comes after o others, are true if these match the empty word
 abbrev pub NullsAt : List Bool → ℕ → Unfolded → Type 0
 NullsAt nulls o empty = Unit {0}
 NullsAt nulls o (leaf s) = Unit {0}
@@ -53,7 +53,7 @@ NullsAt nulls o (alt a b) = NullsAt nulls o a × NullsAt nulls (o + node_count a
 NullsAt nulls o (opt a) = NullsAt nulls o a
 NullsAt nulls o (plus a) = NullsAt nulls o a
 
--- and whether a marked position can stand last in them
+-- and these are true if a marked position can be last in them
 abbrev pub EndsAt : List Bool → List Bool → ℕ → Unfolded → ℕ → Type 0
 EndsAt marks ends o empty p = Unit {0}
 EndsAt marks ends o (leaf s) p = Unit {0}

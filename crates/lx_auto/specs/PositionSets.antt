@@ -14,14 +14,14 @@ pub record NumberedRule : Type 0 where
   pub tree : Unfolded
   pub base : ℕ
 
--- the newline of a line end stands behind all other positions of its rule
+-- the newline of a line end comes after all other positions of its rule
 abbrev pub newline_of : NumberedRule → ℕ
 newline_of r = r.base + position_count r.tree
 
 abbrev pub size_of : NumberedRule → ℕ
 size_of r = position_count r.tree + newline_count r.rule.reading.line_end
 
--- the rules, each numbered behind the one before
+-- the rules, each numbered after the previous one
 abbrev pub numbered : (Regex → Unfolded) → ℕ → List PlainRule → List NumberedRule
 numbered tree_of base [] = []
 numbered tree_of base (rule ∷ rules) =
@@ -71,7 +71,7 @@ InPositionSet spec rules x q = CanHaveReadLast spec rules x.condition x.begin x.
 abbrev pub HaveSameSet : PlainSpec → List NumberedRule → StartAndWord → StartAndWord → Type 0
 HaveSameSet spec rules x y = (q : ℕ) → InPositionSet spec rules x q ↔ InPositionSet spec rules y q
 
--- There are more than n reached sets: n + 1 pairs of a start and a word have sets that aren't empty, and of which no two are equal.
+-- There are more than n reached sets: n + 1 pairs of a start and a word have non-empty sets, of which no two are equal.
 pub record ReachesMoreThan (spec : PlainSpec) (rules : List NumberedRule) (n : ℕ) : Type 0 where
   pub pairs : List StartAndWord
   pub count : length pairs ≡ n + 1

@@ -1,4 +1,4 @@
--- What is known of the positions of a specification.
+-- The facts about the positions of a specification.
 use Rattle.std.specs.Prelude.{◌≡◌, ℕ, ◌+◌, ◌<◌, List, length, slice_index_or, Option, None}
 use Rattle.lx_ere.specs.Regex.{Regex}
 use Rattle.lx_rules.specs.Plain.{PlainSpec}
@@ -13,7 +13,7 @@ use Rattle.lx_auto.specs.Exploring.{IsExplored, start_count}
 use Rattle.lx_auto.specs.declared.explored.Explored.{Explored}
 use Rattle.lx_auto.specs.declared.position_table.PositionTable.{PositionTable}
 
--- the parts, the leaves and the groups are those of the rules, whose expressions are what tree_of says
+-- the parts, the leaves and the groups are those of the rules, whose expressions are those of tree_of
 pub record ArePositionsOf (spec : PlainSpec) (tree_of : Regex → Unfolded) (positions : PositionTable) : Type 0 where
   pub parts : ArePartsOf positions.parts.items (numbered tree_of 0 spec.rules) positions.total
   pub leaves : AreLeavesOf (numbered tree_of 0 spec.rules) (leaves_view positions.leaves.items)

@@ -1,9 +1,9 @@
--- How the positions of an expression stand in its words (Glushkov 1961).
+-- The places of an expression's positions in its words (Glushkov 1961).
 use Rattle.std.specs.Prelude.{◌≡◌, ℕ, ◌+◌, ◌⊎◌, ◌↔◌, true, IsTrue, List, [], ◌∷◌, ◌++◌}
 use Rattle.std.specs.FinSet as set
 use Rattle.lx_auto.specs.Unfolded.{Unfolded, empty, leaf, cat, alt, opt, plus, position_count, nullable, Joined, PositionWord}
 
--- p can stand first in a word
+-- p can be first in a word
 abbrev pub First : Unfolded → ℕ → ℕ → Type 0
 First empty k p = ⊥
 First (leaf bytes) k p = p ≡ k
@@ -12,7 +12,7 @@ First (alt a b) k p = First a k p ⊎ First b (k + position_count a) p
 First (opt a) k p = First a k p
 First (plus a) k p = First a k p
 
--- p can stand last in a word
+-- p can be last in a word
 abbrev pub Last : Unfolded → ℕ → ℕ → Type 0
 Last empty k p = ⊥
 Last (leaf bytes) k p = p ≡ k
@@ -21,7 +21,7 @@ Last (alt a b) k p = Last a k p ⊎ Last b (k + position_count a) p
 Last (opt a) k p = Last a k p
 Last (plus a) k p = Last a k p
 
--- q can stand behind p in a word
+-- q can come directly after p in a word
 abbrev pub Follow : Unfolded → ℕ → ℕ → ℕ → Type 0
 Follow empty k p q = ⊥
 Follow (leaf bytes) k p q = ⊥
@@ -30,7 +30,7 @@ Follow (alt a b) k p q = Follow a k p q ⊎ Follow b (k + position_count a) p q
 Follow (opt a) k p q = Follow a k p q
 Follow (plus a) k p q = Follow a k p q ⊎ (Last a k p × First a k q)
 
--- vs completes a word whose last position so far is p
+-- vs completes a word, from its position p on
 abbrev pub Completes : Unfolded → ℕ → ℕ → List ℕ → Type 0
 Completes empty k p vs = ⊥
 Completes (leaf bytes) k p vs = (p ≡ k) × (vs ≡ [])
@@ -60,7 +60,7 @@ HasItsBytes Has (alt a b) k = HasItsBytes Has a k × HasItsBytes Has b (k + posi
 HasItsBytes Has (opt a) k = HasItsBytes Has a k
 HasItsBytes Has (plus a) k = HasItsBytes Has a k
 
--- the positions spell the word, where Has p b says that the position p has the byte b
+-- the positions spell the word, where Has p b means that the position p has the byte b
 abbrev pub Spells : (ℕ → ℕ → Type 0) → List ℕ → List ℕ → Type 0
 Spells Has [] [] = Unit {0}
 Spells Has (p ∷ ps) (b ∷ w) = Has p b × Spells Has ps w
@@ -79,15 +79,15 @@ abbrev pub LeadsTo : (ℕ → ℕ → Type 0) → Unfolded → ℕ → ℕ → L
 LeadsTo Has e k p [] q = q ≡ p
 LeadsTo Has e k p (b ∷ w) q = (r : ℕ) × Follow e k p r × Has r b × LeadsTo Has e k r w q
 
--- q is reached by the word: first a position that can stand first, then by the follow relation
+-- q is reached by the word: its first position can be first, and the others come by the follow relation
 abbrev pub IsReached : (ℕ → ℕ → Type 0) → Unfolded → ℕ → List ℕ → ℕ → Type 0
 IsReached Has e k [] q = ⊥
 IsReached Has e k (b ∷ w) q = (p : ℕ) × First e k p × Has p b × LeadsTo Has e k p w q
 
--- some position of the set can stand last in the expression
+-- some position of the set can be last in the expression
 abbrev pub CanEnd : (ℕ → Type 0) → Unfolded → ℕ → Type 0
 CanEnd Marked e k = (p : ℕ) × Marked p × Last e k p
 
--- q can be read next: first in the expression, where that may be entered, or behind a position of the set
+-- q can be read next: as first in the expression, if that may be entered, or after a position of the set
 abbrev pub CanRead : (ℕ → Type 0) → Type 0 → Unfolded → ℕ → ℕ → Type 0
 CanRead Marked Enters e k q = (Enters × First e k q) ⊎ ((p : ℕ) × Marked p × Follow e k p q)

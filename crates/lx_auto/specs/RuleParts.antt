@@ -1,4 +1,4 @@
--- What is kept of a rule to follow its positions, and what is known of it.
+-- The data of a rule for following its positions, and the facts about it.
 use Rattle.std.specs.Prelude.{◌≡◌, ℕ, ◌+◌, ◌<◌, ◌≤◌, ◌↔◌, ◌⊎◌, Bool, true, List, [], length, slice_get, Some}
 use Rattle.lx_auto.specs.Unfolded.{Unfolded, empty, position_count}
 use Rattle.lx_auto.specs.Nodes.{PlainNode, nodes_of}

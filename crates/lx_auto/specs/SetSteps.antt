@@ -1,4 +1,4 @@
--- From a set of positions to what can be read next, and to the rules that have matched.
+-- Steps from a set of positions to those that can be read next, and to the rules that have matched.
 use Rattle.std.specs.Prelude.{◌≡◌, ℕ, ◌<◌, ◌↔◌, Bool, List, length, slice_index, slice_get, Some, Contains}
 use Rattle.lx_rules.specs.Plain.{PlainSpec}
 use Rattle.lx_auto.specs.Positions.{First}
@@ -21,7 +21,7 @@ pub record IsFirstAt (spec : PlainSpec) (rules : List NumberedRule) (condition :
   pub active : IsActiveAt spec rule.rule condition begin
   pub first : First rule.tree rule.base q
 
--- in a rule this position can stand behind one of the set
+-- this position can come after one of the set in a rule
 pub record FollowsSet (rules : List NumberedRule) (S : List ℕ) (q : ℕ) : Type 0 where
   pub place : ℕ
   pub rule : NumberedRule

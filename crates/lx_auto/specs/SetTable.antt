@@ -1,4 +1,4 @@
--- A table of position sets, each of which has its number (Rabin and Scott 1959).
+-- A table of position sets with their numbers (Rabin and Scott 1959).
 use Rattle.std.specs.Prelude.{◌≡◌, ◌≢◌, ℕ, ◌+◌, ◌<◌, ◌≤◌, Bool, nat_eq, List, [], length, slice_get, Option, Some, None}
 use Rattle.std.specs.Cmp.Lexicographic.{pointwise}
 use Rattle.std.specs.declared.hash.FoldHasher.{FoldHasher}
@@ -30,7 +30,7 @@ pub record IsNumbering (sets : List Positions) (numbers : Numbers) : Type 0 wher
   pub known : (i : ℕ) (s : Positions) → slice_get sets i ≡ Some s → get same numbers s ≡ Some i
   pub numbered : (s : Positions) (i : ℕ) → get same numbers s ≡ Some i → (i < length sets) × (set_of sets i ≡ s.items)
 
--- where a step leads: nowhere with the empty set, else to the number of its set
+-- the target of a step: none for the empty set, otherwise the number of its set
 abbrev pub IsTarget : List Positions → Option ℕ → List ℕ → Type 0
 IsTarget sets None set = set ≡ []
 IsTarget sets (Some j) set = (set ≢ []) × (j < length sets) × (set_of sets j ≡ set)

@@ -1,10 +1,10 @@
--- What is found of a set of positions, and of a start.
+-- The results for a set of positions, and for a start.
 use Rattle.std.specs.Prelude.{ℕ, ◌<◌, ◌↔◌, Bool, List, Option, Contains, MatchOption}
 use Rattle.lx_rules.specs.Plain.{PlainSpec}
 use Rattle.lx_auto.specs.PositionSets.{NumberedRule}
 use Rattle.lx_auto.specs.SetSteps.{IsFirstAt, FollowsSet, IsMatchedBy, IsRising}
 
--- the positions that can stand behind those of the set, rising
+-- the positions that can come after those of the set, in ascending order
 pub record AreFollowing (rules : List NumberedRule) (S F : List ℕ) : Type 0 where
   pub rising : IsRising F
   pub each : (q : ℕ) → Contains F q ↔ FollowsSet rules S q

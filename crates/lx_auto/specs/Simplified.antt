@@ -1,5 +1,5 @@
--- A mirror of `unfold`: the expression as it is kept. What has no position is left away, and so is a second `opt` or `plus` upon the first. It has the words and the
--- positions of the expression that is written out (proofs/KeptWords), of which a law, `positions_spell_patterns`, speaks.
+-- A mirror of `unfold`: the expression in its kept form. Parts without positions are removed, and so is a second `opt` or `plus` on the first. It has
+-- the words and the positions of the written-out expression (proofs/KeptWords). The law `positions_spell_patterns` speaks of that one.
 use Rattle.std.specs.Prelude.{ℕ, zero, suc, Bool, true, false, List, Option, Some, None}
 use Rattle.lx_ere.specs.Regex.{Regex, nil, one_of, then, or, times, named}
 use Rattle.lx_rules.specs.Plain.{PlainDefinition}

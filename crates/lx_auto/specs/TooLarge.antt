@@ -9,6 +9,6 @@ use Rattle.lx_auto.specs.PositionSets.{HasMoreReachedSets}
 abbrev pub HasTooManyPositions : PlainSpec → Type 0
 HasTooManyPositions spec = max_positions < count_of_spec spec
 
--- it has no more positions than that, and texts reach more sets of them
+-- it has at most the greatest number of positions, and texts reach too many sets of them
 abbrev pub HasTooManySets : PlainSpec → Type 0
 HasTooManySets spec = (count_of_spec spec ≤ max_positions) × HasMoreReachedSets spec max_reached_sets

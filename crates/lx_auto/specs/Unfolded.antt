@@ -16,7 +16,7 @@ pub data Unfolded : Type 0 where
   -- one or more of the body, one after another
   plus : Unfolded → Unfolded
 
--- how many positions the expression has
+-- the number of positions of the expression
 abbrev pub position_count : Unfolded → ℕ
 position_count empty = 0
 position_count (leaf bytes) = 1
@@ -25,7 +25,7 @@ position_count (alt a b) = position_count a + position_count b
 position_count (opt a) = position_count a
 position_count (plus a) = position_count a
 
--- whether the expression matches the empty word
+-- true if the expression matches the empty word
 abbrev pub nullable : Unfolded → Bool
 nullable empty = true
 nullable (leaf bytes) = false
@@ -39,7 +39,7 @@ abbrev pub Joined : (List ℕ → Type 0) → ℕ → List ℕ → Type 0
 Joined P zero w = w ≡ []
 Joined P (suc n) w = (u : List ℕ) × (v : List ℕ) × (w ≡ u ++ v) × P u × Joined P n v
 
--- The words that the expression matches, its positions numbered from k on, where L says what the leaf at a position matches.
+-- The words that the expression matches, with its positions numbered from k on. L has the words of the leaf at a position.
 abbrev pub WordOf : (set.FinSet nat_cmp → ℕ → List ℕ → Type 0) → Unfolded → ℕ → List ℕ → Type 0
 WordOf L empty k w = w ≡ []
 WordOf L (leaf bytes) k w = L bytes k w
@@ -48,14 +48,14 @@ WordOf L (alt a b) k w = WordOf L a k w ⊎ WordOf L b (k + position_count a) w
 WordOf L (opt a) k w = (w ≡ []) ⊎ WordOf L a k w
 WordOf L (plus a) k w = (n : ℕ) × Joined (WordOf L a k) (suc n) w
 
--- each position stands for itself: the words of positions
+-- each position represents itself: the words of positions
 abbrev pub own_position : set.FinSet nat_cmp → ℕ → List ℕ → Type 0
 own_position bytes k w = w ≡ k ∷ []
 
 abbrev pub PositionWord : Unfolded → ℕ → List ℕ → Type 0
 PositionWord e k ps = WordOf own_position e k ps
 
--- each position stands for one byte of its set: the words of bytes
+-- each position represents one byte of its set: the words of bytes
 abbrev pub byte_of_set : set.FinSet nat_cmp → ℕ → List ℕ → Type 0
 byte_of_set bytes k w = (b : ℕ) × IsTrue (set.contains bytes b) × (w ≡ b ∷ [])
 

@@ -1,4 +1,4 @@
--- What the nodes say that are appended for an expression, where its names are defined and nested no deeper than so.
+-- The meaning of the nodes that are appended for an expression, if its names are defined and nested at most this deep.
 use Rattle.std.specs.Prelude.{◌≡◌, ℕ, suc, ◌≤◌, IsTrue, List, [], Option, Some, map, slice_get}
 use Rattle.lx_ere.specs.Regex.{Regex, regex_of}
 use Rattle.lx_rules.specs.Nesting.{is_within, holds_of}
@@ -16,7 +16,7 @@ use Rattle.lx_auto.specs.declared.part.Part.{Part}
 pub record Unfolds (definitions : List PlainDefinition) (depth : ℕ) (tree : Regex) (old new : List PlainNode) (p : Part) : Type 0 where
   pub at : (m : ℕ) → m ≤ depth → IsTrue (is_within m definitions tree) → Appends (simplified (simplified_name definitions m) tree) old new p
 
--- the same of what a name stands for, which is one level less deep
+-- the same for a name's expression, which is one level less deep
 pub record UnfoldsName (definitions : List PlainDefinition) (depth : ℕ) (tree : Option Regex) (old new : List PlainNode) (p : Part) : Type 0 where
   pub at : (m : ℕ) → suc m ≤ depth → IsTrue (holds_of (is_within m definitions) tree) → Appends (simplified_if_defined (simplified_name definitions m) tree) old new p
 

@@ -1,5 +1,5 @@
--- The expression that a pattern is once names are unfolded and repeats written out: with a high bound so many copies, of which the
--- first few are used; without one as many as have to stand there, the last of them taken again at will.
+-- The expression of a pattern with names unfolded and repeats written out. With a high bound it has that number of copies, of which the first few are
+-- used. Without one it has the required copies, the last of which may be repeated.
 use Rattle.std.specs.Prelude.{ℕ, zero, suc, List, Option, Some, None}
 use Rattle.lx_ere.specs.Regex.{Regex, nil, one_of, then, or, times, named}
 use Rattle.lx_rules.specs.Plain.{PlainDefinition}
@@ -7,7 +7,7 @@ use Rattle.lx_rules.specs.Nesting.{tree_named}
 use Rattle.lx_rules.specs.Limits.{max_name_depth}
 use Rattle.lx_auto.specs.Unfolded.{Unfolded, empty, leaf, cat, alt, opt, plus}
 
--- low copies, and then up to high in all, each only behind the one before
+-- low copies, and then up to high in total, each only after the previous one
 abbrev pub counted : Unfolded → ℕ → ℕ → Unfolded
 counted r low zero = empty
 counted r zero (suc high) = opt (cat r (counted r zero high))
@@ -23,7 +23,7 @@ repeated r low (Some high) = counted r low high
 repeated r zero None = opt (plus r)
 repeated r (suc low) None = unbounded r low
 
--- the expression written out, where `names` says what a name stands for
+-- the written-out expression, where `names` has the expression of a name
 abbrev pub written_out : (List ℕ → Unfolded) → Regex → Unfolded
 written_out names nil = empty
 written_out names (one_of s) = leaf s
@@ -36,7 +36,7 @@ abbrev pub written_if_defined : (List ℕ → Unfolded) → Option Regex → Unf
 written_if_defined names None = empty
 written_if_defined names (Some tree) = written_out names tree
 
--- what a name stands for, names unfolded at most n deep
+-- the expression of a name, with names unfolded at most n deep
 abbrev pub name_written_out : List PlainDefinition → ℕ → List ℕ → Unfolded
 name_written_out definitions zero name = empty
 name_written_out definitions (suc n) name = written_if_defined (name_written_out definitions n) (tree_named definitions name)

@@ -1,4 +1,4 @@
--- What the encoded lists of a machine say.
+-- The meaning of a machine's encoded lists.
 use Rattle.std.proofs.Common.{Option, ◌≡◌, ◌≢◌, ℕ, zero, suc, ◌+◌, ◌-◌, ◌*◌, ◌<◌, true, false, Some, None, List, [], ◌∷◌, length, map, get_or, slice_index, slice_index_or, refl, sym, ◌∙◌, ap, subst, arith, eqb, inl, inr}
 use Rattle.std.specs.Prelude.{IfSome}
 use Rattle.std.proofs.lemmas.Bool.{cases_eq}
@@ -28,7 +28,7 @@ start_below m is c x h e =
       subst (λ (y : ℕ × ℕ). y.1 < state_count m) (sym r) (is.starts c true h),
     )
 
--- where a machine's states are known to have the encoded numbers
+-- if a machine's states are known to have the encoded numbers
 pub target_below : (starts : List (ℕ × ℕ)) (classes : List ℕ) (width : ℕ) (accepted targets : List ℕ) → IsMachine (machine_of starts classes width accepted targets) →
     (s class encoded : ℕ) → s < state_count (machine_of starts classes width accepted targets) → class < width →
     encoded ≡ get_or targets (s * width + class) encoded → encoded ≢ 0 → encoded - 1 < state_count (machine_of starts classes width accepted targets)

@@ -39,7 +39,7 @@ none_met n = record {
 pub few_met : (states encoded_options : List ℕ) → AreMet states encoded_options → length states ≤ length encoded_options
 few_met states encoded_options are = (let r = are.room in omega arith)
 
--- where a state has no number, there is room for it
+-- if a state has no number, there is room for it
 pub room_for : (states encoded_options : List ℕ) (s : ℕ) → AreMet states encoded_options → s < length encoded_options → slice_index encoded_options s ≡ 0 → length states < length encoded_options
 room_for states encoded_options s are l e = (let r = are.room in let z = zeros_set encoded_options s 1 l e (λ f. absurd (omega arith)) in omega arith)
 
@@ -86,6 +86,6 @@ one_kept encoded_options s v l ne t h f = elim (cases_eq t s) [
   | inr g ↦ h (sym (get_or-set_other encoded_options s t v 0 g) ∙ f)
 ]
 
--- once all were met, there are as many
+-- once all were met, the list has all states
 pub all_met : (states encoded_options : List ℕ) → AreAllMet states encoded_options → length states ≡ length encoded_options
 all_met states encoded_options are = (let r = are.met.room in let z = zeros_none encoded_options are.each in omega arith)

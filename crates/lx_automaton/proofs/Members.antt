@@ -28,7 +28,7 @@ contains_at [] i h = absurd (omega arith)
 contains_at (x ∷ xs) zero h = contains_head x xs
 contains_at (x ∷ xs) (suc i) h = contains_tail x (get_or xs i 0) xs (contains_at xs i (omega arith))
 
--- what a test finds in a list of numbers below n
+-- the result of a test on a list of numbers below n
 pub below_from_any : (xs : List ℕ) (n q : ℕ) → list_any (eqb q) xs ≡ true → ((i : ℕ) → i < length xs → get_or xs i 0 < n) → q < n
 below_from_any xs n q h all =
     let a = Any-from_list_any (λ x. eqb q x) xs h in

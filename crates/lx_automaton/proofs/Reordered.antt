@@ -57,7 +57,7 @@ module _ (m : Machine) (states encoded_options : List ℕ) (starts : List (ℕ �
   accepted_place : (i : ℕ) → i < length states → accepted_by q i ≡ rule_below rules (accepted_by m (slice_index states i))
   accepted_place i h = decoded_at accepted i ∙ are_accepted.each i h
 
-  -- where a state of the automaton is in the new order
+  -- the place of a state in the new order
   abbrev moved : Option ℕ → Option ℕ
   moved o = decoded_option (encoded_option_of encoded_options o)
 
@@ -79,7 +79,7 @@ module _ (m : Machine) (states encoded_options : List ℕ) (starts : List (ℕ �
       let n = has_encoded_option s h in
       target_place (slice_index encoded_options s - 1) c (omega arith) hc ∙ ap (λ t. moved (class_target m t c)) (state_at s h)
 
-  -- a state, where there is one, is there
+  -- a state, if there is one, is a state of the automaton
   abbrev IsThere : Option ℕ → Type 0
   IsThere o = (s : ℕ) → o ≡ Some s → s < state_count m
 
@@ -116,7 +116,7 @@ module _ (m : Machine) (states encoded_options : List ℕ) (starts : List (ℕ �
       let n : start_of q c begin ≡ slice_index encoded_options (start_of m c begin) - 1 = (let x = start_encoded_option c begin h in omega arith) in
       ap (λ k. Some k) n ∙ sym (moved_some (start_of m c begin) (is.starts c begin h))
 
-  -- where a text leads from a start
+  -- the state to which a text leads from a start
   after_start : (c : ℕ) (begin : Bool) (w : List ℕ) → c < length m.starts → All (λ b. b < 256) w →
       state_after q (Some (start_of q c begin)) w ≡ moved (state_after m (Some (start_of m c begin)) w)
   after_start c begin w h bytes = ap (λ o. state_after q o w) (moved_start c begin h) ∙ moved_after w (Some (start_of m c begin)) (there_start c begin h) bytes
@@ -182,7 +182,7 @@ module _ (m : Machine) (states encoded_options : List ℕ) (starts : List (ℕ �
     rules = λ s r e. let l = accepts_below s r e in omega arith;
   }
 
-  -- states in the new order are told apart as they were
+  -- the new order distinguishes the same states
   moved_same : (o p : Option ℕ) → IsThere o → IsThere p → encoded_option_of encoded_options o ≡ encoded_option_of encoded_options p → o ≡ p
   moved_same None None h g e = refl
   moved_same None (Some u) h g e = absurd (has_encoded_option u (g u refl) (sym e))
@@ -200,7 +200,7 @@ module _ (m : Machine) (states encoded_options : List ℕ) (starts : List (ℕ �
         moved_same (class_target m s c) (class_target m s d) (λ t f. is.closed s c t h hc f) (λ t f. is.closed s d t h hd f) (decoded_option-same _ _ e));
   }
 
-  -- so the answers are those of the automaton, where those are rules of a specification
+  -- so the answers are those of the automaton, if they are rules of a specification
   module _ (spec : PlainSpec) (of : IsAutomatonOf spec m) (same : rules ≡ length spec.rules) where
     same_answer : (c : ℕ) (begin : Bool) (w : List ℕ) → c < length m.starts → All (λ b. b < 256) w → answer q c begin w ≡ answer m c begin w
     same_answer c begin w h bytes =

@@ -3,7 +3,7 @@ use Rattle.std.proofs.Common.{◌≡◌, ℕ, ◌<◌, Bool, true, false, Option
 use Rattle.std.proofs.lemmas.List.Elements.{All-head, All-tail}
 use Rattle.lx_automaton.specs.Automata.{Machine, IsMachine, HasSameSteps, state_count, start_of, target_of, state_after, accepted_at, answer_from, answer}
 
--- the answer after a word from where a step leads
+-- the answer after a word, from the target of a step
 abbrev pub answer_at : Machine → Option ℕ → List ℕ → Option ℕ
 answer_at q s v = accepted_at q (state_after q s v)
 

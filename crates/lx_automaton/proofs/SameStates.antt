@@ -1,4 +1,4 @@
--- A text leads to the same state in a machine that steps alike, so a text leads to each of its states where one does in the other.
+-- A text leads to the same state in a machine with equal steps. So a text leads to each of its states if one does in the other machine.
 use Rattle.std.proofs.Common.{◌≡◌, ℕ, ◌<◌, Bool, true, false, Option, Some, None, List, [], ◌∷◌, length, slice_index, slice_index_or, All, refl, ◌∙◌, ap, subst, arith}
 use Rattle.std.proofs.lemmas.List.Elements.{All-head, All-tail}
 use Rattle.lx_automaton.specs.Automata.{Machine, IsMachine, HasSameSteps, state_count, start_of, target_of, state_after}

@@ -1,4 +1,4 @@
--- States that no word of bytes tells apart, and automata without two such states (Moore 1956, Hopcroft 1971).
+-- States that no word of bytes distinguishes, and automata without two such states (Moore 1956, Hopcroft 1971).
 use Rattle.std.specs.Prelude.{◌≡◌, ◌≢◌, ℕ, ◌<◌, Bool, List, length, All, Some, None}
 use Rattle.lx_automaton.specs.Automata.{Machine, state_count, target_of, answer_from, answer}
 

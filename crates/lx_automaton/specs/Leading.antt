@@ -1,4 +1,4 @@
--- No state of an automaton is there in vain: a text leads to each.
+-- No state of an automaton is useless: a text leads to each.
 use Rattle.std.specs.Prelude.{◌≡◌, ℕ, ◌<◌, Bool, List, length, Some, All}
 use Rattle.lx_automaton.specs.Automata.{Machine, state_count, start_of, state_after}
 

@@ -1,4 +1,4 @@
--- What an automaton of a specification answers after a text: the earliest rule that fits so that its reach is the whole text.
+-- The answer of an automaton of a specification after a text: the earliest rule that fits so that its reach is the whole text.
 use Rattle.std.specs.Prelude.{◌≡◌, ℕ, ◌<◌, Bool, List, length, slice_get, Option, Some, MatchOption, All}
 use Rattle.lx_rules.specs.Plain.{PlainRule, PlainSpec}
 use Rattle.lx_rules.specs.Choice.{Fits, reach}
@@ -18,7 +18,7 @@ IsAnswer spec condition begin text found =
     MatchOption found ((j : ℕ) → ReachesWhole spec condition begin text j → ⊥)
     (λ i. ReachesWhole spec condition begin text i × ((j : ℕ) → j < i → ReachesWhole spec condition begin text j → ⊥))
 
--- An automaton of a specification: from every start condition, at line begin or elsewhere, it gives the answer after every text.
+-- An automaton of a specification: from every start condition, at line begin or elsewhere, it has the right answer after every text.
 pub record IsAutomatonOf (spec : PlainSpec) (m : Machine) : Type 0 where
   pub conditions : length m.starts ≡ length spec.conditions
   pub answers : (condition : ℕ) (begin : Bool) (text : List ℕ) → condition < length spec.conditions → All (λ b. b < 256) text →

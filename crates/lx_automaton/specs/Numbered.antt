@@ -3,7 +3,7 @@ use Rattle.std.specs.Prelude.{◌≡◌, ◌≢◌, ℕ, ◌+◌, ◌-◌, ◌*�
 use Rattle.lx_automaton.specs.Automata.{Machine, accepted_by, class_target}
 use Rattle.lx_automaton.specs.EncodedOptions.{decoded_option}
 
--- how many of the encoded options are 0
+-- the number of encoded options that are 0
 abbrev pub zeros : List ℕ → ℕ
 zeros [] = 0
 zeros (encoded_option ∷ encoded_options) = (if encoded_option == 0 then 1 else 0) + zeros encoded_options
@@ -21,12 +21,12 @@ pub record AreAllMet (states encoded_options : List ℕ) : Type 0 where
   pub met : AreMet states encoded_options
   pub each : (s : ℕ) → s < length encoded_options → slice_index encoded_options s ≢ 0
 
--- the encoded option of a target, 0 where there is none
+-- the encoded option of a target, 0 if there is none
 abbrev pub encoded_option_of : List ℕ → Option ℕ → ℕ
 encoded_option_of encoded_options None = 0
 encoded_option_of encoded_options (Some s) = slice_index encoded_options s
 
--- the rule, where it is one of so many
+-- the rule, if it is below `rules`
 abbrev pub rule_below : ℕ → Option ℕ → Option ℕ
 rule_below rules None = None
 rule_below rules (Some rule) = if nat_lt rule rules then Some rule else None
@@ -37,7 +37,7 @@ pub record AreStarts (m : Machine) (encoded_options : List ℕ) (starts : List (
   pub elsewhere : (c : ℕ) → c < n → (slice_index_or starts c (0, 0)).0 + 1 ≡ slice_index encoded_options (slice_index_or m.starts c (0, 0)).0
   pub at_begin : (c : ℕ) → c < n → (slice_index_or starts c (0, 0)).1 + 1 ≡ slice_index encoded_options (slice_index_or m.starts c (0, 0)).1
 
--- of the first n states the encoded options of the rules that they accept, where those are below
+-- for the first n states, the encoded options of the rules that they accept, if those are below `rules`
 pub record AreAccepted (m : Machine) (rules : ℕ) (states accepted : List ℕ) (n : ℕ) : Type 0 where
   pub long : length accepted ≡ n
   pub each : (i : ℕ) → i < n → decoded_option (slice_index accepted i) ≡ rule_below rules (accepted_by m (slice_index states i))

@@ -1,4 +1,4 @@
--- Findings, one behind the other.
+-- Findings, one after the other.
 use Rattle.std.proofs.Common.{◌≡◌, ℕ, suc, ◌+◌, ◌-◌, ◌<◌, ◌≤◌, List, [], ◌∷◌, ◌++◌, Option, Some, None, length, refl, sym, ap, subst, ◌∙◌, arith, append_assoc}
 use Rattle.std.proofs.lemmas.List.{append-nil}
 use Rattle.lx_rules.specs.Plain.{PlainSpec}
@@ -11,7 +11,7 @@ use Rattle.lx_check.specs.Without.{without}
 use Rattle.lx_check.specs.declared.finding.Finding.{Finding}
 use Rattle.lx_check.specs.declared.finding.Finding.TheVariants.{Specification, TooManyPositions, TooManySets}
 
--- Whatever is found in the rest, where so many faults were found, stands with these behind the first ones.
+-- All that is found in the rest, after `count` faults were found, follows the first ones.
 pub record GoesOn (most left : ℕ) (rest : Option (List ℕ)) (old : List Finding) (count left_now : ℕ) (rest_now : Option (List ℕ)) (now : List Finding) : Type 0 where
   pub more : (fs : List Finding) → AreFurther (most - count) left_now rest_now fs → HasFurther most left rest old (now ++ fs)
 

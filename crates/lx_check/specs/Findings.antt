@@ -1,4 +1,4 @@
--- What is found in the text of a specification.
+-- The findings in the text of a specification.
 use Rattle.std.specs.Prelude.{◌≡◌, ℕ, ⊤, List, [], ◌∷◌, length}
 use Rattle.lx_auto.specs.Counts.{count_of_spec}
 use Rattle.lx_automaton.specs.Automata.{state_count}
@@ -20,18 +20,18 @@ abbrev pub BeginsWithFinding : List ℕ → List Finding → Type 0
 BeginsWithFinding text [] = ⊥
 BeginsWithFinding text (finding ∷ more) = IsFinding text finding
 
--- The text is refused for what is wrong with it, or it says this specification, and these are its tables.
+-- The text is rejected for its first fault, or it is this specification, and these are its tables.
 abbrev pub IsVerdict : List ℕ → Report → Type 0
 IsVerdict text (report.Refused findings) = BeginsWithFinding text findings.items
 IsVerdict text (report.Accepted accepted) = IsRead text (spec_view accepted.spec) × AreTablesOf (spec_view accepted.spec) accepted.tables
 
--- of each rule of the specification whether it is ever chosen by the rules, and of each condition whether it is entered
+-- for each rule of the specification, true if it is ever chosen by the rules, and for each condition, true if it is entered
 abbrev pub TellsChosen : Accepted → Type 0
 TellsChosen accepted =
     AreFlagsOf (length (spec_view accepted.spec).rules) (IsEverChosenBy (spec_view accepted.spec)) accepted.chosen.items
     × AreFlagsOf (length (spec_view accepted.spec).conditions) (IsEntered accepted.tables) accepted.entered.items
 
--- how much a specification and its tables have
+-- the sizes of a specification and its tables
 pub record AreCounts (spec : PlainSpec) (table : Table) (counts : Counts) : Type 0 where
   pub rules : counts.rules ≡ length spec.rules
   pub definitions : counts.definitions ≡ length spec.definitions

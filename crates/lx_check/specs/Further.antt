@@ -1,4 +1,4 @@
--- What is found in the text of a specification behind its first fault: the first fault of the text in which that one is out of action, and so on.
+-- The findings in the text of a specification after its first fault: the first fault of the text in which that one is masked, and so on.
 use Rattle.std.specs.Prelude.{◌≡◌, ℕ, suc, ◌-◌, ◌<◌, ◌≤◌, ⊤, List, [], ◌∷◌, ◌++◌, Option, Some, None, length}
 use Rattle.lx_rules.specs.Plain.{PlainSpec}
 use Rattle.lx_spec.specs.Whole.{IsFault, IsRead}
@@ -10,17 +10,17 @@ use Rattle.lx_check.specs.declared.finding.Finding.TheVariants.{Specification}
 use Rattle.lx_check.specs.declared.report.Report.{Report}
 use Rattle.lx_check.specs.declared.report.Report.TheVariants as report
 
--- What is found in a text, if there is one: so many faults at most, where so many bytes are read at most.
+-- The findings in a text, if there is one: at most `most` faults, with at most `left` bytes read.
 pub data AreFurther : ℕ → ℕ → Option (List ℕ) → List Finding → Type 0 where
-  -- what was found hides all else
+  -- the fault before hides all else
   hidden : (most left : ℕ) → AreFurther most left None []
-  -- so many were found
+  -- enough faults were found
   enough : (left : ℕ) (rest : Option (List ℕ)) → AreFurther 0 left rest []
-  -- so many bytes were read
+  -- enough bytes were read
   too_long : (most left : ℕ) (text : List ℕ) → left < length text → AreFurther most left (Some text) []
   -- the text has no fault
   clean : (most left : ℕ) (text : List ℕ) (spec : PlainSpec) → IsRead text spec → AreFurther most left (Some text) []
-  -- the first fault of the text, and what is found where it is out of action
+  -- the first fault of the text, and the findings where it is masked
   found : (most left : ℕ) (text : List ℕ) (fault : SpecFault) (more : List Finding) → length text ≤ left → IsFault text fault →
       AreFurther most (left - length text) (without text fault) more → AreFurther (suc most) left (Some text) (Specification fault ∷ more)
 
@@ -28,13 +28,13 @@ pub data AreFurther : ℕ → ℕ → Option (List ℕ) → List Finding → Typ
 abbrev pub max_read_bytes : ℕ
 max_read_bytes = 2000000
 
--- What is found in a text that is refused: that it says a specification which is too large, or its first fault and what is found behind it.
+-- The findings in a text that is rejected: its specification is too large, or its first fault and the findings after it.
 pub data AreFindings (most : ℕ) (text : List ℕ) : List Finding → Type 0 where
   too_large : (finding : Finding) → SaysTooLarge text finding → AreFindings most text (finding ∷ [])
   faults : (fault : SpecFault) (more : List Finding) → IsFault text fault → AreFurther (most - 1) (max_read_bytes - length text) (without text fault) more →
       AreFindings most text (Specification fault ∷ more)
 
--- further findings stand behind these
+-- further findings follow these
 pub record HasFurther (most left : ℕ) (rest : Option (List ℕ)) (old new : List Finding) : Type 0 where
   pub more : List Finding
   pub new_is : new ≡ old ++ more

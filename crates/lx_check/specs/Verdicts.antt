@@ -1,4 +1,4 @@
--- What is wrong with the text of a specification.
+-- The faults of the text of a specification.
 use Rattle.std.specs.Prelude.{ℕ, List}
 use Rattle.lx_auto.specs.TooLarge.{HasTooManyPositions, HasTooManySets}
 use Rattle.lx_rules.specs.Plain.{PlainSpec}

@@ -1,4 +1,4 @@
--- A text in which what was found is out of action, so that what stands behind it is judged. The lines stay, with their numbers.
+-- A text in which a fault is masked, so that the rest can be checked. The lines stay, with their numbers.
 use Rattle.std.specs.Prelude.{Bool, true, false, ℕ, ◌+◌, ◌&&◌, nat_eq, nat_lt, if◌then◌else◌, List, [], ◌∷◌, ◌++◌, length, Option, Some, None, Result, Ok, Err}
 use Rattle.bstr.specs.Text.{lines_of}
 use Rattle.lx_rules.specs.Limits.{max_specification_bytes}
@@ -9,7 +9,7 @@ use Rattle.lx_spec.specs.declared.fault.Code.{Code}
 use Rattle.lx_spec.specs.declared.fault.Code.TheVariants as code
 use Rattle.lx_spec.specs.declared.fault.SpecFault.{SpecFault}
 
--- what stands in the place of line n: of the first line this, of those behind it up to the end nothing but a newline
+-- the replacement of line n: `this` for the first line, and only a newline for those after it up to the end
 abbrev pub line_instead : List ℕ → ℕ → ℕ → ℕ → List ℕ → List ℕ
 line_instead this first end n line = if nat_eq n first then this else if nat_lt first n && nat_lt n end then 10 ∷ [] else line
 
@@ -26,7 +26,7 @@ text_instead this first end text = lines_instead this first end 1 (lines_of text
 abbrev pub idle_rule : List ℕ
 idle_rule = 120 ∷ 32 ∷ 59 ∷ 10 ∷ []
 
--- the line behind the rule that begins on this line
+-- the line after the rule that begins on this line
 abbrev pub end_of_rule : List RawRule → ℕ → Option ℕ
 end_of_rule [] line = None
 end_of_rule (rule ∷ rules) line = if nat_eq rule.line line then Some (line + 1 + newlines rule.action) else end_of_rule rules line
@@ -43,7 +43,7 @@ abbrev pub without_lines : List ℕ → ℕ → Option ℕ → List ℕ → Opti
 without_lines this first None text = None
 without_lines this first (Some end) text = if_short (text_instead this first end text)
 
--- the line with this number, where the first of these has number n
+-- the line with this number, if the first of these has number n
 abbrev pub line_numbered : ℕ → ℕ → List (List ℕ) → List ℕ
 line_numbered n number [] = []
 line_numbered n number (line ∷ lines) = if nat_eq n number then line else line_numbered (n + 1) number lines
@@ -65,15 +65,15 @@ abbrev pub declares_one : List ℕ → Bool
 declares_one [] = true
 declares_one (c ∷ line) = if nat_eq c 37 then has_two_words (next_word (c ∷ line)) else true
 
--- the text without what is declared on this line, if that is one name
+-- the text without the declaration on this line, if that declares one name
 abbrev pub without_declaration : List ℕ → ℕ → Option (List ℕ)
 without_declaration text line = if declares_one (line_numbered 1 line (lines text)) then without_lines (10 ∷ []) line (Some (line + 1)) text else None
 
--- the text where the rule that begins on this line is idle
+-- the text in which the rule that begins on this line does nothing
 abbrev pub without_rule : List ℕ → ℕ → Option (List ℕ)
 without_rule text line = without_lines idle_rule line (end_in (sections_of text) line) text
 
--- The text in which the fault is out of action. Where a fault of the sections hides what stands behind it, there is none.
+-- The text in which the fault is masked. There is none if a fault of the sections hides the rest of the text.
 abbrev pub without_code : Code → List ℕ → ℕ → Option (List ℕ)
 without_code code.TooLong text line = None
 without_code code.NoRules text line = None

@@ -1,4 +1,4 @@
--- What the words of the command line ask for: something known where `clap` takes them, and nothing where it doesn't.
+-- The requests of command-line arguments: one if `clap` accepts the arguments, and none if it doesn't.
 use Rattle.std.proofs.Common.{◌≡◌, ◌∙◌, ◌<◌, ◌≤◌, ◌&&◌, Bool, true, false, not, refl, sym, ap, subst, inl, inr, arith, List, [], ◌∷◌, length, Option, Some, None, ⊎_elim, is_some, find, option_and_then, option_map}
 use Rattle.std.specs.Prelude.{⊤}
 use Rattle.std.proofs.lemmas.Bool.{le-leb, lt-leb, ne_eqb, true≢false}
@@ -110,7 +110,7 @@ module _ (a : App) (words : List Text) (is : a ≡ lx_app) (some : 1 < length wo
   met_by : (m : ArgMatches) → HasMatchesOf a words m → subcommand_rows_of m ≡ subcommand_of lx_app words
   met_by m h = (h (both _ _ simple).0).1 ∙ ap (λ (b : App). subcommand_of b words) is
 
-  -- where the words are taken, the subcommand asks for something, and that is what the words ask for
+  -- if the arguments are accepted, the subcommand has a request, and it is that of the arguments
   pub met_asks : (m : ArgMatches) → (is_simple_and_free a ≡ true → fault_of a words ≡ []) → HasMatchesOf a words m
       → is_some (option_and_then asked_of (subcommand_rows_of m)) ≡ true
   met_asks m none h = ap (λ (o : Option (Text × List Row)). is_some (option_and_then asked_of o)) (met_by m h) ∙ asks_something words (taken none)
@@ -120,7 +120,7 @@ module _ (a : App) (words : List Text) (is : a ≡ lx_app) (some : 1 < length wo
   unfolding asked_by
   asked_where_taken m none h = rw (lt-leb (length words) 1 some, taken none) (ap (option_and_then asked_of) (sym (met_by m h)))
 
-  -- where they are refused, they ask for nothing
+  -- if they are rejected, they have no request
   pub asked_where_refused : (e : Error) → (is_simple_and_free a ≡ true → HasKind (fault_of a words) e) → (kind_of e ≡ kind.OutOfMemory → ⊥) → asked_by words ≡ None
   unfolding asked_by
   asked_where_refused e h other =

@@ -18,7 +18,7 @@ number_as least most default t = if is_unsigned_in least most t then number_of t
 abbrev IsInRange : ℕ → ℕ → Option ℕ → Type 0
 IsInRange least most r = (v : ℕ) × (r ≡ Some v) × (least ≤ v) × (v ≤ most)
 
--- the numbers from `least` to `most` are read as ones of so many bits
+-- the numbers from `least` to `most` are read as numbers of `bits` bits
 module _ (bits least most default : ℕ) (fits : (n : ℕ) → n ≤ most → n < 2 ^ bits) (few : most < 2 ^ 64)
     {E : Type 0} (G : List ℕ → Result ℕ E → Type 0) (parses : (t : List ℕ) (x : Result ℕ E) → G t x → ParsesUnsigned bits 10 t x) where
   within : (t : List ℕ) (v : ℕ) → ParsesUnsigned {E = E} bits 10 t (Ok v) → least ≤ v → v ≤ most → v ≡ number_as least most default t

@@ -1,4 +1,4 @@
--- What `gen` and `up` ask for where the name begins with no hyphen.
+-- The requests of `gen` and `up` if the name begins with no hyphen.
 use Rattle.std.proofs.Common.{◌≡◌, ◌∙◌, ◌++◌, Bool, true, false, refl, codes, List, [], ◌∷◌, Some}
 use Rattle.clap.specs.Faults.{defaults_fault, positional_fault}
 use Rattle.clap.specs.Simple.{filled, help_rule, new_shape}

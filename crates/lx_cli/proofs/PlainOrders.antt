@@ -1,4 +1,4 @@
--- What `run` and `scan` ask for where their words begin with no hyphen, but for those of `-b` and `-j`.
+-- The requests of `run` and `scan` if their arguments begin with no hyphen, except for those of `-b` and `-j`.
 use Rattle.std.proofs.Common.{◌≡◌, ◌∙◌, ◌<◌, ◌++◌, ◌^◌, Bool, true, false, refl, subst, ap, ap₂, arith, codes, List, [], ◌∷◌, length, slice_index, Option, Some, None, IfSome, pos, All}
 use Rattle.std.proofs.lemmas.Bool.{le-leb, le-ltb, lt-ltb, ne_eqb}
 use Rattle.std.proofs.lemmas.List.{append-nil, append_assoc}
@@ -25,7 +25,7 @@ use Rattle.lx_cli.specs.CommandLine.{Asked, IsItems, IsPlainWord, IsWorkers, Pla
 
 -- ---- the two subcommands, as they are built
 
--- `run` or `scan`, with the number of `-j`, where it is given
+-- `run` or `scan`, with the number of `-j`, if it is given
 pub data Listing : Type 0 where
   of_run : Option Text → Listing
   of_scan : Option Text → Listing
@@ -50,7 +50,7 @@ files = record files_rule { index = Some 2; parser = Some parser.String }
 abbrev help : Rule
 help = record help_rule { range = Some (record { start_inclusive = 0; end_inclusive = 0 }); parser = Some parser.String }
 
--- the flag `-j`, which has a default for `scan` alone
+-- the flag `-j`, which has a default only for `scan`
 abbrev own_rules : Listing → List Rule
 own_rules (of_run w) = one_value (workers_rule []) ∷ []
 own_rules (of_scan w) = one_value (workers_rule (codes "4" ∷ [])) ∷ []
@@ -103,7 +103,7 @@ number_row id k = record { id = id; values = k ∷ []; count = None; source = So
 abbrev at_number : Text → Text → Held
 at_number id k = record { rows = []; pending = Some (id, k ∷ []); skip = 0 }
 
--- what is held behind the words of `-j`
+-- the held values after the arguments of `-j`
 abbrev held_first : Listing → Held
 held_first (of_run None) = nothing_held
 held_first (of_run (Some j)) = at_number (codes "workers") j
@@ -117,7 +117,7 @@ rows_first (of_run (Some j)) = number_row (codes "workers") j ∷ []
 rows_first (of_scan None) = []
 rows_first (of_scan (Some j)) = number_row (codes "workers") j ∷ []
 
--- the same behind the words of `-b`
+-- the same after the arguments of `-b`
 abbrev held_before : Listing → Option Text → Held
 held_before b None = held_first b
 held_before b (Some k) = record (at_number (codes "items") k) { rows = rows_first b }
@@ -332,7 +332,7 @@ all_steps (of_scan (Some j)) o r f fs ready plain first more =
     (step_then _ _ _ _ _ j _ (workers_pass (of_scan (Some j)) j ready.0.0) (workers_go (of_scan (Some j)) j ready.0.0)
     (items_steps (of_scan (Some j)) o r f fs ready plain first more))
 
--- ---- where the words end
+-- ---- the end of the arguments
 
 strings : (ignore_case : Bool) (vs : List Text) → values_kinds ignore_case parser.String vs ≡ []
 strings ignore_case [] = refl
@@ -380,7 +380,7 @@ abbrev items_default : Option Text → List Row
 items_default None = default_row (codes "items") (codes "256") ∷ []
 items_default (Some k) = []
 
--- those of the options, of which each flag has the word `false`
+-- the rows of the options; each flag has the word `false`
 abbrev flag_row : Text → Row
 flag_row id = record (default_row id (codes "false")) { reading = reading.AsWritten }
 
@@ -424,7 +424,7 @@ ends_well b o r f fs few =
 
 -- ---- what is asked
 
--- by how many workers
+-- the number of workers
 abbrev workers_of : Listing → ℕ
 workers_of (of_run w) = workers_given 0 w
 workers_of (of_scan w) = workers_given 4 w

@@ -1,4 +1,4 @@
--- What `clap` makes of words of `lx`, step by step: a subcommand's name, and words that begin with no hyphen.
+-- The steps of `clap` on arguments of `lx`: a subcommand's name, and words that begin with no hyphen.
 use Rattle.std.proofs.Common.{◌≡◌, ◌∙◌, ◌++◌, Bool, true, false, refl, sym, ap, ap₂, arith, ℕ, List, [], ◌∷◌, length, Option, Some, None, is_some, find}
 use Rattle.std.proofs.lemmas.Bool.{lt-leb, ne_eqb}
 use Rattle.std.proofs.lemmas.List.{append-nil, append_assoc}
@@ -15,7 +15,7 @@ use Rattle.lx_cli.specs.CommandLine.{IsPlainWord, asked_by, asked_of, lx_app}
 
 -- ---- steps over words
 
--- where a walk stands between two words
+-- the state of a walk between two words
 abbrev pub standing : Held → Waiting → ℕ → Walk
 standing h waiting position = record { held = h; waiting = waiting; position = position; is_trailing = false; stopped = None }
 
@@ -36,7 +36,7 @@ step_then s names w next end word rest passes is after = record {
   ends = ap (λ (v : Walk). fold (walked s.rules names) v rest) is ∙ after.ends;
 }
 
--- what is left to do where the words end
+-- the work that is left at the end of the words
 abbrev pub ending : Shape → Held → Bool → Kinds
 ending s h has = or_else (settle_fault s.rules s.args_override_self h) (or_else (defaults_fault (settled s.rules h).rows s.rules) (check_fault s (finished s.rules h) has))
 
@@ -62,7 +62,7 @@ module _ (s : Shape) (word : Text) (h : Held) (waiting : Waiting) (position : �
   pub no_fault : word_fault s [] false waiting word h ≡ []
   no_fault = rw (none, not_dashes word plain, no_hyphen word plain, no_hyphen word plain) refl
 
-  -- it is the positional's whose turn it is
+  -- it is the turn of the positional
   module _ (a : Rule) (is_value : plain_word s.rules waiting word h ≡ (h, value)) (here : arg_by_index s.rules position ≡ Some a) where
     pub value_passes : positional_fault s.rules s.args_override_self a h ≡ [] → turn_fault s [] (standing h waiting position) word ≡ []
     value_passes passes = rw (no_fault, met_plain, is_value, here) passes
@@ -125,7 +125,7 @@ module _ (program name : Text) (rest : List Text) (s : Shape) (end : Walk) (ente
       ∙ (ap₂ (λ (o : Option (Text × List Row)) (k : Kinds). level_fault a.top (names_of a) nothing_held (name ∷ rest) (is_some o) k) is_entered below
       ∙ (level_ends a.top (names_of a) (name ∷ rest) _ true [] at_top ∙ top_ends)))
 
-  -- what words ask for that begin with a subcommand's name
+  -- the request of words that begin with a subcommand's name
   pub asks : ending s end.held false ≡ [] → asked_by (program ∷ name ∷ rest) ≡ asked_of (s.name, finished s.rules end.held)
   unfolding asked_by
   asks passes = rw (lt-leb (length (program ∷ name ∷ rest)) 1 (omega arith), no_faults passes, rows_are) refl

@@ -1,4 +1,4 @@
--- The command line of `lx`, and what its words ask for.
+-- The command line of `lx`, and the requests of its arguments.
 use Rattle.std.specs.Prelude.{ℕ, Bool, true, false, not, List, [], ◌∷◌, map, length, nat_le, Option, Some, None, pos, codes, unwrap_or, if◌then◌else◌, option_map, option_and_then, slice_index, ◌≡◌, ◌≢◌, IfSome, All, ◌<◌, ◌++◌, ◌⊎◌}
 use Rattle.std.specs.Option.{option_map_or}
 use Rattle.std.specs.Str.{bytes_eq}
@@ -40,7 +40,7 @@ max_number = 4294967295
 abbrev pub rules_rule : Text → Rule
 rules_rule id = record (new_rule id) { required = true }
 
--- `-b K`, from 1 to `max_items`, and 256 where it isn't given
+-- `-b K`, from 1 to `max_items`, and 256 by default
 abbrev pub items_rule : Rule
 items_rule = record (new_rule (codes "items")) {
   short = Some 98;
@@ -70,7 +70,7 @@ list_rule = option_rule (codes "list") (codes "files-from")
 abbrev pub zeros_rule : Rule
 zeros_rule = record (new_rule (codes "zeros")) { short = Some 48; action = Some SetTrue }
 
--- `--first N`, from 0 to `max_number`, and 0 where it isn't given
+-- `--first N`, from 0 to `max_number`, and 0 by default
 abbrev pub first_rule : Rule
 first_rule = record (option_rule (codes "first") (codes "first")) {
   parser = Some (Signed (pos 0) (pos max_number));
@@ -109,7 +109,7 @@ quiet_rule = record (new_rule (codes "quiet")) { short = Some 113; action = Some
 abbrev pub warnings_rule : Rule
 warnings_rule = record (new_rule (codes "warnings")) { short = Some 87; value_names = 1; action = Some Append }
 
--- `--most N`, from 1 to `most_told`, and 20 where it isn't given
+-- `--most N`, from 1 to `most_told`, and 20 by default
 abbrev pub most_rule : Rule
 most_rule = record (option_rule (codes "most") (codes "most")) {
   parser = Some (Signed (pos 1) (pos most_told));
@@ -155,7 +155,7 @@ list_app name workers id = with_rule (with_rule (with_list (with_form (with_rule
 abbrev pub bare_app : App
 bare_app = on_top (λ s. record s { disable_help_subcommand = true; subcommand_required = true; has_version = true }) (new_app (codes "lx"))
 
--- the commands that list, and those that print what these list by
+-- the commands that list, and those that print the tables for listing
 abbrev pub with_listings : App → App
 with_listings app = with_subcommand (with_subcommand (with_subcommand (with_subcommand app
     (one_file_app (codes "gen") (codes "SPEC")).top) (one_file_app (codes "up") (codes "TABLES")).top)
@@ -168,15 +168,15 @@ with_further app = with_subcommand (with_subcommand (with_subcommand (with_subco
 unfoldable pub lx_app : App
 lx_app = with_further (with_listings bare_app)
 
--- ---- what words ask for
+-- ---- the requests of arguments
 
--- LIST, a file that names files: its name, and the byte that stands behind each of theirs
+-- LIST, a file that names files: its name, and the byte that ends each of theirs
 pub record PlainList : Type 0 where
   pub name : Text
   pub separator : ℕ
 
--- how a listing is printed: the number of the first file, whether files stand by their names, what `--only` lists, if it is given, whether texts are printed, and
--- what `--format` says, if it is given
+-- the form of a listing: the number of the first file, a flag for names instead of numbers, the kinds of `--only`, if it is given, a flag for texts,
+-- and the word of `--format`, if it is given
 pub record PlainFormWords : Type 0 where
   pub first : ℕ
   pub names : Bool
@@ -184,8 +184,8 @@ pub record PlainFormWords : Type 0 where
   pub text : Bool
   pub format : Option Text
 
--- a listing: how many workers scan the files, where with none the calling thread does; how many items a piece has; the name of the specification or of the
--- tables; the names of the files; LIST, if it is given; and how it is printed
+-- a listing: the number of workers that scan the files, with 0 for the calling thread; the number of items of a piece; the name of the specification
+-- or of the tables; the names of the files; LIST, if it is given; and the form
 pub record PlainOrder : Type 0 where
   pub workers : ℕ
   pub per_piece : ℕ
@@ -194,8 +194,8 @@ pub record PlainOrder : Type 0 where
   pub list : Option PlainList
   pub form : PlainFormWords
 
--- a scanner in C: whether it is printed, whether its declarations are, what its names begin with, if it is given, the file that declares its kinds, if it is, and
--- whether it is code for each state
+-- a C scanner: flags for the scanner and for its declarations, the prefix of its names, if it is given, the file that declares its kinds, if it is
+-- given, and a flag for direct code
 pub record PlainC : Type 0 where
   pub scanner : Bool
   pub header : Bool
@@ -203,13 +203,13 @@ pub record PlainC : Type 0 where
   pub include : Option Text
   pub direct : Bool
 
--- a text that is printed: the name of what it is made of, the file that gets it in the place of the output, if it is given, and whether it is a scanner in C
+-- a text that is printed: the name of its source, the output file, if it is given, and the options for a C scanner
 pub record PlainPrint : Type 0 where
   pub rules : Text
   pub target : Option Text
   pub c : PlainC
 
--- what is said of a specification: the name of it, whether the findings are said alone, what `-W` says, in order, how many errors at most, and whether in JSON
+-- a check of a specification: its name, a flag for quiet findings, the words of `-W`, in order, the greatest number of errors, and a flag for JSON
 pub record PlainCheck : Type 0 where
   pub rules : Text
   pub quiet : Bool
@@ -217,13 +217,13 @@ pub record PlainCheck : Type 0 where
   pub most : ℕ
   pub json : Bool
 
--- a graph: the name of a specification or of tables, and whether it may have any number of states
+-- a graph: the name of a specification or of tables, and a flag for any number of states
 pub record PlainShow : Type 0 where
   pub rules : Text
   pub all : Bool
 
--- a specification made of one for flex: the name of that, the files that get the specification and the actions, if they are given, what the names of kinds
--- begin with, if it is given, and whether what can't be brought over is left out
+-- an import of a specification for flex: its name, the files that get the new specification and the actions, if they are given, the prefix of the
+-- kinds' names, if it is given, and a flag for leaving out what can't be imported
 pub record PlainImport : Type 0 where
   pub rules : Text
   pub target : Option Text
@@ -242,7 +242,7 @@ pub data Asked : Type 0 where
   show : PlainShow → Asked
   imports : PlainImport → Asked
 
--- the number of an option, from 1 to `most`, and `default` where it isn't given
+-- the number of an option, from 1 to `most`, and `default` if it isn't given
 abbrev pub number_in : Text → ℕ → ℕ → List Row → ℕ
 number_in id most default rows = option_map_or (λ t. if is_unsigned_in 1 most t then digits_value 10 (without_leading_plus t) else default) (one_of id rows) default
 
@@ -261,7 +261,7 @@ rules_in id rows = unwrap_or (first_of id rows) []
 abbrev pub values_in : Text → List Row → List Text
 values_in id rows = unwrap_or (all_of id rows) []
 
--- whether a flag is given
+-- true if a flag is given
 abbrev pub flag_in : Text → List Row → Bool
 flag_in id rows = option_map_or (λ t. bytes_eq t (codes "true")) (first_of id rows) false
 
@@ -269,7 +269,7 @@ flag_in id rows = option_map_or (λ t. bytes_eq t (codes "true")) (first_of id r
 abbrev pub first_in : List Row → ℕ
 first_in rows = option_map_or (λ t. if is_unsigned_in 0 max_number t then digits_value 10 (without_leading_plus t) else 0) (one_of (codes "first") rows) 0
 
--- LIST, with zeros behind its names where `-0` is given, and else newlines
+-- LIST, with zeros after its names if `-0` is given, and otherwise newlines
 abbrev pub list_in : List Row → Option PlainList
 list_in rows = option_map (λ name. record { name = name; separator = if flag_in (codes "zeros") rows then 0 else 10 }) (first_of (codes "list") rows)
 
@@ -282,7 +282,7 @@ form_in rows = record {
   format = first_of (codes "format") rows;
 }
 
--- a listing, by so many workers where `-j` isn't given
+-- a listing, by `workers` workers if `-j` isn't given
 abbrev pub request_in : Text → ℕ → List Row → PlainOrder
 request_in id workers rows = record {
   workers = workers_in workers rows;
@@ -338,7 +338,7 @@ import_in rows = record {
   lossy = flag_in (codes "lossy") rows;
 }
 
--- what one of the further commands asks for
+-- the request of one of the further commands
 abbrev pub further_of : Text × List Row → Option Asked
 further_of p =
     if bytes_eq p.0 (codes "check") then Some (check (check_in p.1))
@@ -346,7 +346,7 @@ further_of p =
     else (if bytes_eq p.0 (codes "show") then Some (show (show_in p.1))
     else (if bytes_eq p.0 (codes "import") then Some (imports (import_in p.1)) else None)))
 
--- what a subcommand asks for, by the rows of its arguments
+-- the request of a subcommand, by the rows of its arguments
 abbrev pub asked_of : Text × List Row → Option Asked
 asked_of p =
     if bytes_eq p.0 (codes "gen") then Some (gen (print_in (codes "SPEC") p.1))
@@ -354,7 +354,7 @@ asked_of p =
     else (if bytes_eq p.0 (codes "scan") then Some (scan (request_in (codes "TABLES") 4 p.1))
     else (if bytes_eq p.0 (codes "run") then Some (run (request_in (codes "SPEC") 0 p.1)) else further_of p)))
 
--- `clap` may answer the words by an error of this kind, of which the help and the version are two
+-- `clap` may answer the words by an error of this kind; the help and the version are two of the kinds
 abbrev pub IsFault : List Text → ErrorKind → Type 0
 IsFault words k = IsAmong k (fault_of lx_app words)
 
@@ -366,7 +366,7 @@ IsTold k = (k ≡ ErrorKind.DisplayHelp) ⊎ (k ≡ ErrorKind.DisplayVersion)
 abbrev pub is_taken : List Text → Bool
 is_taken words = is_empty (fault_of lx_app words)
 
--- what the words ask for, of which the first is the program's name; nothing, where they are refused or ask for the help or the version
+-- the request of the words, of which the first is the program's name; none if they are rejected or ask for the help or the version
 unfoldable pub asked_by : List Text → Option Asked
 asked_by words = if nat_le (length words) 1 then Some stored
     else (if is_taken words then option_and_then asked_of (subcommand_of lx_app words) else None)
@@ -428,7 +428,7 @@ plain_import i = record {
   lossy = i.lossy;
 }
 
--- what a request was asked by; the help and the version are none
+-- the request of a parsed request; the help and the version are none
 abbrev pub asked_as : Request → Option Asked
 asked_as request.Stored = Some stored
 asked_as (request.Told text) = None
@@ -441,13 +441,13 @@ asked_as (request.Explain word) = Some (explain (option_map (λ w. w.now) word))
 asked_as (request.Show words) = Some (show (plain_show words))
 asked_as (request.Import words) = Some (imports (plain_import words))
 
--- ---- what that comes to, for words that are no flags
+-- ---- the results for words that are no flags
 
 -- the word begins with no hyphen
 abbrev pub IsPlainWord : Text → Type 0
 IsPlainWord word = slice_index word 0 ≢ 45
 
--- the words of a flag, where its number is given
+-- the words of a flag, if its number is given
 abbrev pub number_words : Text → Option Text → List Text
 number_words flag None = []
 number_words flag (Some number) = flag ∷ number ∷ []
@@ -459,7 +459,7 @@ number_given default (Some number) = digits_value 10 (without_leading_plus numbe
 abbrev pub IsNumber : ℕ → Option Text → Type 0
 IsNumber most number = IfSome number (λ n. is_unsigned_in 1 most n ≡ true)
 
--- the words of `-b`, where it is given, and its number
+-- the words of `-b`, if it is given, and its number
 abbrev pub items_words : Option Text → List Text
 items_words number = number_words (codes "-b") number
 
@@ -469,7 +469,7 @@ items_given number = number_given 256 number
 abbrev pub IsItems : Option Text → Type 0
 IsItems number = IsNumber max_items number
 
--- the words of `-j`, where it is given, and its number
+-- the words of `-j`, if it is given, and its number
 abbrev pub workers_words : Option Text → List Text
 workers_words number = number_words (codes "-j") number
 
@@ -479,7 +479,7 @@ workers_given default number = number_given default number
 abbrev pub IsWorkers : Option Text → Type 0
 IsWorkers number = IsNumber max_workers number
 
--- a listing of files that the words name alone, in the form without options
+-- a listing of only the files in the words, in the form without options
 abbrev pub plain_listing : ℕ → ℕ → Text → List Text → PlainOrder
 plain_listing workers per_piece rules files = record {
   workers = workers;
@@ -494,7 +494,7 @@ plain_listing workers per_piece rules files = record {
 abbrev pub plain_text : Text → PlainPrint
 plain_text rules = record { rules = rules; target = None; c = record { scanner = false; header = false; prefix = None; include = None; direct = false } }
 
--- Such words ask for what they say.
+-- Such words request what they say.
 pub record PlainWordsAsk : Type 0 where
   pub gens : (program spec : Text) → IsPlainWord spec → asked_by (program ∷ codes "gen" ∷ spec ∷ []) ≡ Some (gen (plain_text spec))
   pub ups : (program tables : Text) → IsPlainWord tables → asked_by (program ∷ codes "up" ∷ tables ∷ []) ≡ Some (up (plain_text tables))

@@ -1,4 +1,4 @@
--- Limits of what is said.
+-- Limits of reports.
 use Rattle.std.specs.Prelude.{ℕ}
 
 -- the greatest number of `--most`

@@ -1,5 +1,5 @@
--- The tables of commands and their words, as rules and apps of `clap`: a mirror of the loops in `app`. That what they make is the
--- command line of `specs/CommandLine` is the clause of `command`.
+-- The tables of commands and their arguments, as rules and apps of `clap`: a mirror of the loops in `app`. The contract of `command` states that they
+-- make the command line of `specs/CommandLine`.
 use Rattle.std.specs.Prelude.{List, [], ◌∷◌, Some, None, true}
 use Rattle.clap.specs.declared.builder.action.ArgAction.TheVariants.{Append, SetTrue}
 use Rattle.clap.specs.declared.builder.value_parser.ValueParser.TheVariants.{Signed}
@@ -17,7 +17,7 @@ abbrev pub named_rule : Name → Rule → Rule
 named_rule (name.Short letter) rule = record rule { short = Some letter }
 named_rule (name.Long word) rule = record rule { long = Some word.now }
 
--- a number between bounds, with or without one that stands where none is given
+-- a number between bounds, with or without a default
 abbrev pub numbered_rule : Numbers → Rule → Rule
 numbered_rule numbers rule = record rule {
   parser = Some (Signed numbers.least numbers.most);

@@ -1,4 +1,4 @@
--- Going on by a line, and how long what is left is.
+-- Steps by a line, and the length of the rest.
 use Rattle.std.proofs.Common.{ℕ, zero, suc, ◌≡◌, List, sym, subst}
 use Rattle.lx_diagnose.specs.Places.{behind_line, behind_lines}
 

@@ -1,4 +1,4 @@
--- Bytes that are printed, how others are shown, and what is put into phrases.
+-- Printable bytes, the display of others, and the parts that fill phrases.
 use Rattle.std.specs.Prelude.{ℕ, ◌≡◌, ◌+◌, ◌/◌, ◌%◌, nat_eq, nat_lt, nat_le, ◌&&◌, Bool, true, if◌then◌else◌, List, [], ◌∷◌, ◌++◌, codes, decimal, length, take}
 use Rattle.std.specs.List.{flat_map, list_all}
 
@@ -21,17 +21,17 @@ escaped byte = if is_printed byte then byte ∷ [] else codes "\\x" ++ (digit (b
 unfoldable pub shown : List ℕ → List ℕ
 shown bytes = flat_map escaped bytes
 
--- a name as it is shown, of which the first bytes stand for it where it is longer than so many
+-- a name as it is shown; of a name longer than `most`, only the first bytes are shown
 unfoldable pub shown_name : ℕ → List ℕ → List ℕ
 shown_name most name = if nat_le (length name) most then shown name else shown (take most name) ++ shown (codes "..")
 
--- what a byte of a phrase stands for: `@` for the name, `~` for the other name, `#` for the line, any other one for itself
+-- the replacement of a byte of a phrase: the name for `@`, the other name for `~`, the line for `#`, and any other byte itself
 unfoldable pub filling : List ℕ → List ℕ → ℕ → ℕ → List ℕ
 filling name other line byte =
     if nat_eq byte 64 then shown_name 64 name
     else (if nat_eq byte 126 then shown_name 64 other
     else (if nat_eq byte 35 then shown (decimal line) else escaped byte))
 
--- a phrase with what is put into it
+-- a filled phrase
 unfoldable pub filled : List ℕ → List ℕ → ℕ → List ℕ → List ℕ
 filled name other line phrase = flat_map (filling name other line) phrase

@@ -1,4 +1,4 @@
--- What `bracket_at` finds is what a front of the text spells, and nothing else.
+-- `bracket_at` finds exactly the spellings at the start of the text.
 use Rattle.std.proofs.Common.{◌≡◌, ◌≢◌, ℕ, ◌<◌, ◌⊎◌, inl, inr, Bool, true, false, ◌&&◌, ◌||◌, not, nat_eq, nat_le, cond, List, [], ◌∷◌, ◌++◌, length, take, drop, Option, Some, None, refl, sym, ap, subst, ◌∙◌, arith, append_assoc, length-append, codes}
 use Rattle.std.specs.Str.{bytes_eq}
 use Rattle.std.specs.List.{list_all}
@@ -28,7 +28,7 @@ not_is_false : (a : Bool) → not a ≡ true → a ≡ false
 not_is_false true h = absurd (false≢true h)
 not_is_false false h = refl
 
--- what a byte that stands alone is not
+-- the values that a byte which represents itself doesn't have
 pub record Alone (position : BracketPosition) (c : ℕ) (behind : List ℕ) : Type 0 where
   pub no_close : nat_eq c 93 ≡ false
   pub no_slash : nat_eq c 92 ≡ false
@@ -317,7 +317,7 @@ member_some _ _ _ _ (class position name ranges behind known) = omega arith
 pub member_closes : (text : List ℕ) → member_at inside (93 ∷ text) ≡ None
 member_closes text = refl
 
--- what follows the opening bracket of a bracket expression
+-- the text after the opening bracket of a bracket expression
 pub record BracketAt (text : List ℕ) (s : set.FinSet nat_cmp) (behind : List ℕ) : Type 0 where
   pub rest : List ℕ
   pub opens : text ≡ 91 ∷ rest
@@ -337,7 +337,7 @@ members_sound : (position : BracketPosition) (text : List ℕ) (m : List (ℕ ×
 members_sound position text m ms behind e =
     opened_sound (Member inside) (member_at inside) 93 (member_complete inside) (member_sound inside) (member_some inside) member_closes (Member position) (member_at position) (member_sound position) text m ms behind e
 
--- members directly behind `[` don't begin with `^`
+-- members directly after `[` don't begin with `^`
 pub opening_no_caret : (text : List ℕ) (m : List (ℕ × ℕ)) (ms : List (List (ℕ × ℕ))) (behind : List ℕ) → Opened (Member opening) (Member inside) 93 text m ms behind → begins_with 94 (text ++ behind) ≡ false
 opening_no_caret text m ms behind o = go (begins_with 94 (text ++ behind)) refl
   where
@@ -359,7 +359,7 @@ bracket_complete _ _ _ (excluding text m ms behind o) = record {
   found = ap (option_map {U = Set1} (λ f. (bytes_where (λ b. not (in_members (f.0 ∷ f.1) b)), f.2))) (members_complete behind_caret text m ms behind o);
 }
 
--- what stands behind the opening bracket, for a text that `bracket_at` reads
+-- the text after the opening bracket, for a text that `bracket_at` reads
 pub bracket_sound : (text : List ℕ) (s : set.FinSet nat_cmp) (behind : List ℕ) → bracket_at text ≡ Some (s, behind) → (prefix : List ℕ) × Bracket (91 ∷ prefix) s behind × (text ≡ prefix ++ behind)
 bracket_sound text s behind e =
     go (cases_of (begins_with 94 text) (option_map {U = Set1} (λ f. (bytes_where (λ b. not (in_members (f.0 ∷ f.1) b)), f.2)) (members_at behind_caret (drop 1 text))) (option_map {U = Set1} (λ f. (bytes_where (in_members (f.0 ∷ f.1)), f.2)) (members_at opening text)) (Some (s, behind)) e)

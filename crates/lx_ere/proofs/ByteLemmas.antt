@@ -1,4 +1,4 @@
--- What the set of the bytes that pass a test holds.
+-- The contents of the set of the bytes that pass a test.
 use Rattle.std.proofs.Common.{◌≡◌, ◌≢◌, ℕ, zero, suc, ◌+◌, ◌-◌, ◌*◌, ◌/◌, ◌%◌, ◌^◌, ◌<◌, ◌≤◌, max, Bool, true, false, ◌&&◌, ◌||◌, not, nat_eq, nat_lt, nat_le, cond, List, [], ◌∷◌, filter, refl, sym, ap, ◌∙◌, arith, get_or, set, length, bit_and, bit_or, inl, inr, get_or-set_same, get_or-set_other, w64, take, add-one}
 use Rattle.std.specs.List.{list_any}
 use Rattle.std.proofs.lemmas.Bool.Decides.{nat_tests}
@@ -29,7 +29,7 @@ any_number : (n k q : ℕ) → list_any (λ y. nat_eq y q) (numbers_from n k) �
 any_number n zero q = grind (arith, nat_tests)
 any_number n (suc k) q = grind (arith, nat_tests, any_number (suc n) k q)
 
--- a byte is in the set where the test is true of it
+-- a byte is in the set if the test is true of it
 pub contains_where : (test : ℕ → Bool) (q : ℕ) → q < 256 → byte_sets.contains (bytes_where test) q ≡ test q
 unfolding all_bytes
 contains_where test q h =
@@ -49,7 +49,7 @@ pub same_where : (p q : ℕ → Bool) → ((b : ℕ) → b < 256 → p b ≡ q b
 unfolding all_bytes
 same_where p q h = ap (λ xs. byte_sets.from_list xs) (filter_same p q 0 256 (λ b lt. h b (omega (arith, lt))))
 
--- what the shifted word shows is the bit
+-- the shifted word's lowest bit is the bit
 pub has_is : (words : List ℕ) (b : ℕ) → b < 256 → nat_eq (bit_and (get_or words (b / 64) 0 / 2 ^ (b % 64)) 1) 1 ≡ byte_sets.contains (bytes_where (has_bit words)) b
 has_is words b h = rw (shr_and_one (get_or words (b / 64) 0) (b % 64)) (sym (contains_where (has_bit words) b h))
 
@@ -186,7 +186,7 @@ same_word v w k within fits_v fits_w e = same_from_bits_below 64 (get_or v k 0) 
         let at : has_bit v (k * 64 + i) ≡ has_bit w (k * 64 + i) = agree (has_bit v) (has_bit w) e (k * 64 + i) (omega arith) in
         one_bit (bit_at (get_or v k 0) i) (bit_at (get_or w k 0) i) (bit_at-lt (get_or v k 0) i) (bit_at-lt (get_or w k 0) i) (rw (word, place) at at)
 
--- four words are equal exactly where they make one set
+-- four words are equal exactly if they make one set
 pub words_decide : (v w : List ℕ) → length v ≡ 4 → length w ≡ 4 → ((k : ℕ) → k < 4 → get_or v k 0 < 2 ^ 64) → ((k : ℕ) → k < 4 → get_or w k 0 < 2 ^ 64) →
     Decides (pointwise nat_eq v w) (bytes_where (has_bit v) ≡ bytes_where (has_bit w))
 words_decide v w four_v four_w fits_v fits_w = (λ e. ap (λ words. bytes_where (has_bit words)) ((bytes_decides v w).0 e), λ e. (bytes_decides v w).1 (same e))

@@ -4,7 +4,7 @@ use native.Mathlib.Decide.{ℕ_discrete}
 
 -- ---- facts put together
 
--- facts that come to the same
+-- equivalent facts
 pub along : {P Q : Type 0} → (P → Q) → (Q → P) → Dec P → Dec Q
 along f g (yes p) = yes (f p)
 along f g (no n) = no (λ q. n (g q))
@@ -31,7 +31,7 @@ pub decide_false : (b : Bool) → Dec (b ≡ false)
 decide_false true = no (λ e. absurd (cc))
 decide_false false = yes refl
 
--- what there is, or that there is none
+-- an element, or the fact that there is none
 pub some_or_none : {A : Type 0} (P : A → Type 0) → Dec ((a : A) × P a) → ((a : A) × P a) ⊎ ((a : A) → P a → ⊥)
 some_or_none P (yes h) = inl h
 some_or_none P (no n) = inr (λ a p. n (a, p))
@@ -46,7 +46,7 @@ below_or_not (suc m) (suc n) = elim (below_or_not m n) [ inl l ↦ inl (omega (a
 pub under : (k n : ℕ) → k < suc n → (k ≡ n → ⊥) → k < n
 under k n l other = elim (below_or_not n k) as (λ _. k < n) [ inl m ↦ absurd (other (omega (arith, l, m))) | inr m ↦ m ]
 
--- of a fact about numbers whether it holds of one below a bound
+-- decides if a fact about numbers holds for one below a bound
 pub decide_below : (P : ℕ → Type 0) → ((k : ℕ) → Dec (P k)) → (n : ℕ) → Dec ((k : ℕ) × (k < n) × P k)
 decide_below P d zero = no (λ h. let l = h.1 in absurd (omega arith))
 decide_below P d (suc n) = along out (λ h. into h.0 h.1 h.2) (either (d n) (decide_below P d n)) where
@@ -69,7 +69,7 @@ contains_cases : {A : Type 0} (x y : A) (xs : List A) → Contains (x ∷ xs) y 
 contains_cases x y xs (zero, l, e) = inl e
 contains_cases x y xs (suc k, l, e) = inr (k, (omega arith), e)
 
--- of a fact whether it holds of an element of a list
+-- decides if a fact holds for an element of a list
 pub decide_in : {A : Type 0} (P : A → Type 0) → ((x : A) → Dec (P x)) → (xs : List A) → Dec ((x : A) × Contains xs x × P x)
 decide_in P d [] = no (λ h. let l = h.1.1 in absurd (omega arith))
 decide_in {A} P d (x ∷ xs) = along out (λ h. into h.0 h.1 h.2) (either (d x) (decide_in P d xs)) where

@@ -1,4 +1,4 @@
--- What `pattern_end` is: the place where the pattern at the front of a text ends.
+-- The meaning of `pattern_end`: the position where the pattern at the start of a text ends.
 use Rattle.std.proofs.Common.{◌≡◌, ℕ, zero, suc, ◌-◌, ◌≤◌, ◌⊎◌, inl, inr, List, length, refl, subst, arith}
 use Rattle.lx_ere.specs.PatternGrammar.{BehindPattern, IsPatternEnd}
 use Rattle.lx_ere.specs.PatternEnd.{least, pattern_end}
@@ -24,6 +24,6 @@ is_pattern_end text =
     let there = some_end text in
     least_holds (IsPatternEnd text) (ends_or_not text) (length text) (there.0) (let h = there.1 in h.within) (there.1)
 
--- the place, by what stands behind the pattern
+-- the position, by the text after the pattern
 pub pattern_end_is : (text behind : List ℕ) → BehindPattern text behind → length text - length behind ≡ pattern_end text
 pattern_end_is text behind h = one_end text (length text - length behind) (pattern_end text) (end_of text behind h) (is_pattern_end text)

@@ -1,4 +1,4 @@
--- How far the loop over the members of brackets has come.
+-- The state of the loop over the members of brackets.
 use Rattle.std.proofs.Common.{◌≡◌, ℕ, ◌<◌, Bool, true, false, ◌||◌, not, List, [], ◌∷◌, ◌++◌, length, drop, Option, Some, None, refl, sym, ap, ◌∙◌}
 use Rattle.std.specs.Option.{option_map, option_and_then}
 use Rattle.std.specs.Ordering.{nat_cmp}
@@ -15,7 +15,7 @@ or_none : (a : Bool) → (a || false) ≡ a
 or_none true = refl
 or_none false = refl
 
--- one more in front of the bytes is one more behind the members
+-- one more before the bytes is one more after the members
 or_move : (m t d : Bool) → (m || (t || d)) ≡ (t || (d || (m || false)))
 or_move true true d = refl
 or_move true false true = refl
@@ -30,7 +30,7 @@ in_members_more (d ∷ done) m b = ap (λ x. in_ranges d b || x) (in_members_mor
     assoc true y z = refl
     assoc false y z = refl
 
--- the set has the bytes that pass the test and those of the members read so far
+-- the set has the bytes that pass the test and those of the members that were read
 pub record MembersRead (test : ℕ → Bool) (text rest : List ℕ) (s : set.FinSet nat_cmp) : Type 0 where
   pub done : List (List (ℕ × ℕ))
   pub scanned : Scanned (member_at inside) 93 text done rest
@@ -70,7 +70,7 @@ members_joined : (m : List (ℕ × ℕ)) (o : Option (List (List (ℕ × ℕ)) �
 members_joined m None = refl
 members_joined m (Some g) = ap (λ s. Some (s, g.1)) (same_where (λ b. (in_ranges m b || false) || in_members (g.0) b) (in_members (m ∷ g.0)) (λ b _. ap (λ x. x || in_members (g.0) b) (or_none (in_ranges m b))))
 
--- the first member, and those behind it
+-- the first member, and those after it
 pub members_at_is : (position : BracketPosition) (text : List ℕ) (m : List (ℕ × ℕ)) (rest : List ℕ) → member_at position text ≡ Some (m, rest) →
     option_map (with_members (λ b. in_ranges m b || false)) (all_items_at (member_at inside) 93 rest) ≡ option_map members_set (members_at position text)
 members_at_is position text m rest e =

@@ -1,4 +1,4 @@
--- Reading lexemes from left to right with a stack gives the one tree of the grammar.
+-- Reading lexemes from left to right with a stack yields the grammar's one tree.
 use Rattle.std.proofs.Common.{◌≡◌, ℕ, List, [], ◌∷◌, ◌++◌, Option, Some, None, refl, ap, subst, ◌∙◌, arith, append_assoc}
 use Rattle.std.specs.Option.{option_map, option_and_then}
 use Rattle.std.proofs.lemmas.Grind.{common_steps}
@@ -19,7 +19,7 @@ runs ls ms s t v e f = run_then ls ms (Some s) ∙ (ap (option_and_then (run ms)
 pub run_fails : (ls ms : List Lexeme) (s t : Stack) → run ls s ≡ Some t → run ms t ≡ None → run (ls ++ ms) s ≡ None
 run_fails ls ms s t e f = run_then ls ms (Some s) ∙ (ap (option_and_then (run ms)) e ∙ f)
 
--- completeness: what the grammar reads, the stack reads
+-- completeness: the stack reads all that the grammar reads
 pub record BranchRuns (ls : List Lexeme) (r : Regex) (a : Option Regex) (fs : List Frame) : Type 0 where
   pub b : Option Regex
   pub u : Option Regex
@@ -83,7 +83,7 @@ parse_complete ls r d = let h = alternation_runs ls r d [] in rw h.goes h.gives
 pub one_tree : (ls : List Lexeme) (r s : Regex) → IsAlternation ls r → IsAlternation ls s → r ≡ s
 one_tree ls r s d e = let a = parse_complete ls r d in let b = parse_complete ls s e in cc
 
--- soundness: what the stack holds is spelled by the lexemes read so far
+-- soundness: the lexemes that were read spell the contents of the stack
 abbrev pub IsBefore : Option Regex → List Lexeme → Type 0
 IsBefore None ls = ls ≡ []
 IsBefore (Some a) ls = (ms : List Lexeme) × IsAlternation ms a × (ls ≡ ms ++ bar ∷ [])
@@ -127,7 +127,7 @@ total_is a b u ls r i e = go a (whole b u) refl i.before e
         let j : ls ≡ ms ++ bar ∷ i.back = i.joins ∙ (ap (λ xs. xs ++ i.back) k ∙ append_assoc ms (bar ∷ []) (i.back)) in
         rw (j, ← h) (or_branch ms (i.back) y x d (whole_is b u (i.back) x i.started ew))
 
--- what stands before the last unit
+-- the part before the last unit
 started_whole : (b u : Option Regex) (ls : List Lexeme) → IsStarted b u ls → IsStarted (whole b u) None ls
 started_whole None None ls s = s
 started_whole None (Some u) ls s = unit_alone ls u s
@@ -152,7 +152,7 @@ stack_push f [] ls ms r i d = frame_push f ls ms r i d
 stack_push f (g ∷ fs) ls ms r (prefix, inner, s, i, j) d =
     (prefix, inner ++ ms, s, frame_push f inner ms r i d, ap (λ xs. xs ++ ms) j ∙ append_assoc prefix (open_group ∷ inner) ms)
 
--- a change of the innermost frame alone
+-- a change of only the innermost frame
 stack_change : (f g : Frame) (fs : List Frame) (ls ms : List Lexeme) → ((ls : List Lexeme) → IsFrame f ls → IsFrame g (ls ++ ms)) → IsStack f fs ls → IsStack g fs (ls ++ ms)
 stack_change f g [] ls ms change i = change ls i
 stack_change f g (h ∷ fs) ls ms change (prefix, inner, s, i, j) =

@@ -1,4 +1,4 @@
--- How far the loop over the bytes of a quoted string has come.
+-- The state of the loop over the bytes of a quoted string.
 use Rattle.std.proofs.Common.{ℕ, ◌<◌, List, length, Some, ◌≡◌}
 use Rattle.lx_ere.specs.Spelling.{QuotedByte}
 use Rattle.lx_ere.specs.Lexing.{quoted_byte_at}

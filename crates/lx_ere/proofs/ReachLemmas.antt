@@ -26,7 +26,7 @@ all_imply p q h (x ∷ xs) all = let both = and_parts (p x) (list_all p xs) all 
 octal_hexadecimal : (c : ℕ) → is_digit 8 c ≡ true → is_digit 16 c ≡ true
 octal_hexadecimal c h = grind (arith, nat_tests)
 
--- what takes an escape along, and digits
+-- a relation that skips escapes, and digits
 module _ (R : List ℕ → List ℕ → Type 0) (escape : (c : ℕ) (text b : List ℕ) → R text b → R (92 ∷ c ∷ text) b) (digit : (c : ℕ) (text b : List ℕ) → is_digit 16 c ≡ true → R text b → R (c ∷ text) b) where
   digits_passed : (digits rest b : List ℕ) → list_all (is_digit 16) digits ≡ true → R rest b → R (digits ++ rest) b
   digits_passed [] rest b all h = h
@@ -75,7 +75,7 @@ bracket_digit c text b d h = bracket_byte c text b (no_close c d) (no_slash c d)
     no_bracket : (c : ℕ) → is_digit 16 c ≡ true → nat_eq c 91 ≡ false
     no_bracket c d = grind (arith, nat_tests)
 
--- a part of the brackets is passed: the `]` at its front aside, or whole where it has none
+-- a part of the brackets is skipped: without the `]` at its start, or completely if it has none
 record SkipsBracket (text behind : List ℕ) : Type 0 where
   pub rest : List ℕ
   pub is : text ≡ 93 ∷ rest
@@ -129,7 +129,7 @@ class_passed (c ∷ name) ranges behind b known h =
     let both = and_parts (is_name_byte c) (list_all is_name_byte name) (class_name (c ∷ name) ranges known) in
     bracket_inner 58 (c ∷ (name ++ (58 ∷ 93 ∷ behind))) behind b refl (name_mark name behind both.1) h
 
--- a range behind its first point
+-- a range after its first point
 range_passed : (text text' : List ℕ) (high : ℕ) (behind : List ℕ) → RangeEnd text' high behind → SkipsBracket text (45 ∷ (text' ++ behind)) ⊎ Whole text (45 ∷ (text' ++ behind)) → SkipsBracket (text ++ (45 ∷ text')) behind ⊎ Whole (text ++ (45 ∷ text')) behind
 range_passed text text' high behind end (inl a) = inl (record {
   rest = a.rest ++ (45 ∷ text');

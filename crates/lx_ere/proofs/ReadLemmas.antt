@@ -1,4 +1,4 @@
--- How far a pattern was read, and what its reading is.
+-- The part of a pattern that was read, and its reading.
 use Rattle.std.proofs.Common.{◌≡◌, ℕ, ◌<◌, ◌≤◌, Bool, true, false, ◌||◌, nat_eq, cond, List, [], ◌∷◌, ◌++◌, Option, Some, None, length, drop, refl, sym, ap, subst, ◌∙◌, arith, append_assoc, length-append, ◌⊎◌, inl, inr}
 use Rattle.std.specs.Option.{option_and_then}
 use Rattle.std.proofs.lemmas.Bool.{eqb-true, or_cases}
@@ -17,7 +17,7 @@ use Rattle.lx_ere.proofs.Choices.{no_none, same_some, cases_of, begins_is}
 use Rattle.lx_ere.proofs.Parser.{runs, run_fails, parse_sound, parse_complete, one_tree}
 use Rattle.lx_ere.proofs.SpellingLemmas.{lexeme_sound, lexeme_complete, spelling_some}
 
--- these lexemes were read of the text, the rest stands behind them, and they lead to this stack
+-- these lexemes were read of the text, the rest follows them, and they lead to this stack
 pub record Reached (text rest : List ℕ) (st : Stack) : Type 0 where
   pub read : List Lexeme
   pub leads : run read (stack empty_frame []) ≡ Some st
@@ -43,7 +43,7 @@ Lexes-first rest l behind (k ∷ ks) ending stops e (prefix, after, d, j, more) 
     let same : after ≡ behind = sym (ap (λ p. p.1) pair) in
     (ks, subst (λ x. Lexes x ks ending) same more, ap (λ x. x ∷ ks) (sym (ap (λ p. p.0) pair)))
 
--- where no lexeme is at the front, there are none
+-- if no lexeme is at the start, there are none
 Lexes-none : (rest : List ℕ) (ks : List Lexeme) (ending : List ℕ) → lexeme_at rest ≡ None → Lexes rest ks ending → (ks ≡ []) × (rest ≡ ending)
 Lexes-none rest [] ending none h = (refl, h)
 Lexes-none rest (k ∷ ks) ending none (prefix, after, d, j, more) = absurd (no_none (k, after) (sym none ∙ (ap lexeme_at j ∙ lexeme_complete prefix k after d)))
@@ -75,7 +75,7 @@ Reached-end text rest st tree none r e = record {
 not_both : (ls : List Lexeme) (tree : Regex) → parse ls ≡ None → IsAlternation ls tree → ⊥
 not_both ls tree none d = no_none tree (sym none ∙ parse_complete ls tree d)
 
--- no reading, where the end isn't one
+-- no reading, if the end isn't one
 pub Reached-no_end : (text rest : List ℕ) (st : Stack) → lexeme_at rest ≡ None → Reached text rest st → finish (st.top) (st.below) ≡ None → (tree : Regex) (ending : List ℕ) → Reads text tree ending → ⊥
 Reached-no_end text rest st none r e tree ending p =
     let a = r.complete (p.lexemes) ending p.stops p.spelled in
@@ -83,7 +83,7 @@ Reached-no_end text rest st none r e tree ending p =
     let all : p.lexemes ≡ r.read = a.2 ∙ (ap (λ x. r.read ++ x) n.0 ∙ nil_right (r.read)) in
     not_both (p.lexemes) tree (ap parse all ∙ (ap (option_and_then (λ s. finish s.top s.below)) r.leads ∙ e)) p.alternation
 
--- no reading, where the stack doesn't take the next lexeme
+-- no reading, if the stack doesn't take the next lexeme
 pub Reached-no_step : (text rest : List ℕ) (st : Stack) (l : Lexeme) (behind : List ℕ) → lexeme_at rest ≡ Some (l, behind) → step l st ≡ None → Reached text rest st → (tree : Regex) (ending : List ℕ) → Reads text tree ending → ⊥
 Reached-no_step text rest st l behind e s r tree ending p =
     let a = r.complete (p.lexemes) ending p.stops p.spelled in
@@ -92,7 +92,7 @@ Reached-no_step text rest st l behind e s r tree ending p =
     let fails : run (r.read ++ l ∷ b.0) (stack empty_frame []) ≡ None = run_fails (r.read) (l ∷ b.0) (stack empty_frame []) st r.leads (rw s refl) in
     not_both (p.lexemes) tree (ap parse all ∙ ap (option_and_then (λ t. finish t.top t.below)) fails) p.alternation
 
--- a text is the spellings of one list of lexemes, up to where no spelling stands
+-- a text is the spellings of one list of lexemes, up to a position without a spelling
 one_lexing : (text : List ℕ) (ks ms : List Lexeme) (v w : List ℕ) → lexeme_at v ≡ None → lexeme_at w ≡ None → Lexes text ks v → Lexes text ms w → (ks ≡ ms) × (v ≡ w)
 one_lexing text [] ms v w stops_v stops_w h k =
     let n = Lexes-none text ms w (ap lexeme_at h ∙ stops_v) k in
@@ -156,7 +156,7 @@ no_caret text tree ending p = go (begins_with 94 text) refl
         let n = Lexes-none text (p.lexemes) ending none p.spelled in
         absurd (not_both [] tree refl (subst (λ ls. IsAlternation ls tree) n.0 p.alternation))
 
--- what a pattern's text says of its parts
+-- the meaning of a pattern's text for its parts
 pub record Parts (text : List ℕ) (r : Reading) : Type 0 where
   pub caret : r.line_begin ≡ begins_with 94 text
   pub ending : List ℕ

@@ -7,7 +7,7 @@ use Rattle.std.proofs.lemmas.Bool.{false≢true, cases_lt}
 use Rattle.lx_ere.specs.Escapes.{NoneFirst}
 use Rattle.lx_ere.specs.Lexing.{run_len}
 
--- a run ends where no byte that passes follows, or at the limit
+-- a run ends if no byte that passes follows, or at the limit
 pub run_len-append : (test : ℕ → Bool) (n : ℕ) (run behind : List ℕ) → list_all test run ≡ true → length run ≤ n → (length run < n → NoneFirst test behind) → run_len test n (run ++ behind) ≡ length run
 run_len-append test zero [] behind all le ends = refl
 run_len-append test zero (d ∷ run) behind all le ends = absurd (omega (arith, le))
@@ -19,7 +19,7 @@ run_len-append test (suc n) (d ∷ run) behind all le ends = go (test d) refl al
     go true e all rest = ap suc (rest all)
     go false e all rest = absurd (false≢true all)
 
--- in a text that goes on behind the run
+-- in a text that continues after the run
 pub run_whole : (test : ℕ → Bool) (run behind : List ℕ) → list_all test run ≡ true → NoneFirst test behind → run_len test (length (run ++ behind)) (run ++ behind) ≡ length run
 run_whole test run behind all ends = run_len-append test (length (run ++ behind)) run behind all (omega (arith, length-append run behind)) (λ _. ends)
 
@@ -50,7 +50,7 @@ run_is test (suc n) (c ∷ text) = go (test c) refl (run_is test n text)
     }
     go false e i = record { within = rw e (omega arith); few = rw e (omega arith); passes = rw e refl; ends = rw e (λ _. e) }
 
--- the same of a run that is bounded by the text alone, whose length is n
+-- the same for a run that only the text bounds, with length n
 pub record IsWholeRun (test : ℕ → Bool) (n : ℕ) (text : List ℕ) : Type 0 where
   pub len : length (take n text) ≡ n
   pub passes : list_all test (take n text) ≡ true

@@ -1,4 +1,4 @@
--- Items up to a closing byte: what `items_at` finds is what a front of the text spells.
+-- Items up to a closing byte: `items_at` finds exactly the spellings at the start of the text.
 use Rattle.std.proofs.Common.{◌≡◌, ℕ, zero, suc, ◌<◌, ◌≤◌, ◌⊎◌, inl, inr, Bool, true, false, nat_eq, List, [], ◌∷◌, ◌++◌, length, drop, Option, Some, None, refl, sym, ap, subst, ◌∙◌, arith, append_assoc, length-append}
 use Rattle.std.specs.Option.{option_map, option_and_then}
 use Rattle.lx_ere.specs.Sequences.{Closed, Opened}
@@ -6,7 +6,7 @@ use Rattle.lx_ere.specs.Brackets.{begins_with}
 use Rattle.lx_ere.specs.Lexing.{items_at, all_items_at, opened_at}
 use Rattle.lx_ere.proofs.Choices.{pick_first, pick_second, cases_of, no_none, same_some, map_is, then_is, eq_same, begins_is, IsSpelledPrefix}
 
--- how far a loop over items has come: these were read, and the rest stands behind them
+-- the state of a loop over items: these were read, and the rest follows them
 pub record Scanned {A : Type 0} (item_at : List ℕ → Option (A × List ℕ)) (close : ℕ) (text : List ℕ) (done : List A) (rest : List ℕ) : Type 0 where
   pub fuel : ℕ
   pub enough : length rest < fuel

@@ -1,4 +1,4 @@
--- Whether a text has a reading, as a pattern and as a substitute, is decided by reading it from left to right.
+-- Reading from left to right decides if a text has a reading, as a pattern and as a substitute.
 use Rattle.std.proofs.Common.{◌≡◌, ◌∙◌, ℕ, zero, suc, ◌<◌, ◌≤◌, ◌⊎◌, inl, inr, Bool, List, [], ◌∷◌, Option, Some, None, length, refl, ap, sym, arith}
 use Rattle.lx_ere.specs.Limits.{max_pattern_bytes}
 use Rattle.lx_ere.specs.Regex.{Regex, Reading}
@@ -13,17 +13,17 @@ use Rattle.lx_ere.proofs.ReadLemmas.{Reached, Reached-start, Reached-step, Reach
 
 -- ---- an alternation
 
--- an alternation stands at the front of the text
+-- an alternation is at the start of the text
 abbrev BeginsAlternation : List ℕ → Type 0
 BeginsAlternation text = (tree : Regex) × (ending : List ℕ) × Reads text tree ending
 
--- where a lexeme stands at the front of what is left
+-- the case of a lexeme at the start of the rest
 by_step : (text rest : List ℕ) (st : Stack) → Reached text rest st → (l : Lexeme) (behind : List ℕ) → lexeme_at rest ≡ Some (l, behind) → (o : Option Stack) → step l st ≡ o →
     ((next : Stack) → step l st ≡ Some next → Dec (BeginsAlternation text)) → Dec (BeginsAlternation text)
 by_step text rest st r l behind e None s further = no (λ h. Reached-no_step text rest st l behind e s r h.0 h.1 h.2)
 by_step text rest st r l behind e (Some next) s further = further next s
 
--- where none does
+-- the case without a lexeme there
 by_end : (text rest : List ℕ) (st : Stack) → Reached text rest st → lexeme_at rest ≡ None → (o : Option Regex) → finish st.top st.below ≡ o → Dec (BeginsAlternation text)
 by_end text rest st r stops None e = no (λ h. Reached-no_end text rest st stops r e h.0 h.1 h.2)
 by_end text rest st r stops (Some tree) e = yes (tree, rest, Reached-end text rest st tree stops r e)

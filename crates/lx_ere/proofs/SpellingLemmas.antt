@@ -1,4 +1,4 @@
--- What `lexeme_at` finds is what a front of the text spells, and nothing else.
+-- `lexeme_at` finds exactly the spellings at the start of the text.
 use Rattle.std.proofs.Common.{◌≡◌, ◌≢◌, ℕ, ◌<◌, ◌≤◌, ◌⊎◌, inl, inr, true, false, ◌||◌, nat_eq, nat_le, cond, List, [], ◌∷◌, ◌++◌, length, take, drop, Option, Some, None, refl, sym, ap, subst, ◌∙◌, arith, append_assoc}
 use Rattle.std.specs.List.{list_all}
 use Rattle.std.specs.Option.{option_map, option_and_then}
@@ -122,7 +122,7 @@ bound_complete digits n behind i ends =
     let small : number_of 10 digits < 256 = omega (arith, value, at_most) in
     ap (λ k. bound_of k (digits ++ behind)) run ∙ (pick_second (nat_eq (length digits) 0) _ _ positive ∙ (number_follows_mark 10 digits behind small ∙ ap (λ x. Some (x, behind)) i.value))
 
--- the digits of a bound, and what stands behind them
+-- the digits of a bound, and the text after them
 record BoundPrefix (text : List ℕ) (n : ℕ) (behind : List ℕ) : Type 0 where
   pub digits : List ℕ
   pub bound : IsBound digits n
@@ -176,7 +176,7 @@ between_complete digits low more high behind i k le =
 abbrev BracePrefix : List ℕ → Lexeme → List ℕ → Type 0
 BracePrefix text l behind = (prefix : List ℕ) × Spells (123 ∷ prefix) l behind × (text ≡ prefix ++ behind)
 
--- behind the comma: the closing brace, or another bound
+-- after the comma: the closing brace, or another bound
 comma_sound : (text : List ℕ) (low : ℕ) (rest : List ℕ) (l : Lexeme) (behind : List ℕ) → BoundPrefix text low (44 ∷ rest) → behind_comma_at low rest ≡ Some (l, behind) → BracePrefix text l behind
 comma_sound text low rest l behind i e = go (cases_of (begins_with 125 rest) (Some (interval low None, drop 1 rest)) (option_and_then (high_at low) (bound_at rest)) (Some (l, behind)) e)
   where

@@ -8,7 +8,7 @@ use Rattle.lx_ere.specs.Bytes.{in_ranges, bytes_where}
 use Rattle.lx_ere.specs.Escapes.{Escape}
 use Rattle.lx_ere.specs.Sequences.{Opened}
 
--- where in the brackets: directly behind `[`, directly behind `[^`, or further on
+-- the position in the brackets: directly after `[`, directly after `[^`, or later
 pub data BracketPosition : Type 0 where
   opening : BracketPosition
   behind_caret : BracketPosition
@@ -24,7 +24,7 @@ is_inside opening = false
 is_inside behind_caret = false
 is_inside inside = true
 
--- the byte stands at the front
+-- the byte is at the start
 abbrev pub begins_with : ℕ → List ℕ → Bool
 begins_with c [] = false
 begins_with c (d ∷ text) = nat_eq d c
@@ -33,17 +33,18 @@ begins_with c (d ∷ text) = nat_eq d c
 abbrev pub opens_inner : ℕ → List ℕ → Bool
 opens_inner c behind = nat_eq c 91 && (begins_with 58 behind || (begins_with 46 behind || begins_with 61 behind))
 
--- A byte that stands for itself at the position: none of `]`, `\`, `-` and a newline, no `^` directly behind `[`, no `[` before `:`, `.` or `=`.
+-- A byte that represents itself at the position: it is none of `]`, `\`, `-` and a newline, no `^` directly after `[`, and no `[` before `:`, `.` or
+-- `=`.
 abbrev pub stands_alone : BracketPosition → ℕ → List ℕ → Bool
 stands_alone position c behind = not (nat_eq c 93 || (nat_eq c 92 || (nat_eq c 45 || (nat_eq c 10 || ((is_opening position && nat_eq c 94) || opens_inner c behind)))))
 
--- `-` stands at the front, and not directly before the closing bracket
+-- `-` is at the start, and not directly before the closing bracket
 abbrev pub range_follows : List ℕ → Bool
 range_follows [] = false
 range_follows (c ∷ text) = nat_eq c 45 && not (begins_with 93 text)
 
--- With `behind` after it, the text is one byte: a byte for itself, an escape, `]` first in the brackets, `-` first or directly before
--- the closing bracket, or `[.c.]`.
+-- With `behind` after it, the text is one byte: a byte for itself, an escape, `]` first in the brackets, `-` first or directly before the closing
+-- bracket, or `[.c.]`.
 pub data Point : BracketPosition → List ℕ → ℕ → List ℕ → Type 0 where
   plain_point : (position : BracketPosition) (c : ℕ) (behind : List ℕ) → stands_alone position c behind ≡ true → Point position (c ∷ []) c behind
   escaped : (position : BracketPosition) (text : List ℕ) (c : ℕ) (behind : List ℕ) → Escape text c behind → Point position text c behind
@@ -73,8 +74,8 @@ class_ranges name =
     else if bytes_eq name (codes "cntrl") then Some ((0, 31) ∷ (127, 127) ∷ [])
     else None
 
--- With `behind` after it, the text is a member of the brackets, with its ranges of bytes: a point, `[=c=]`, a class, or a range. A point
--- begins a range exactly where `-` follows it that isn't directly before the closing bracket.
+-- With `behind` after it, the text is a member of the brackets, with its ranges of bytes: a point, `[=c=]`, a class, or a range. A point begins a
+-- range exactly if a `-` follows it that isn't directly before the closing bracket.
 pub data Member : BracketPosition → List ℕ → List (ℕ × ℕ) → List ℕ → Type 0 where
   point : (position : BracketPosition) (text : List ℕ) (c : ℕ) (behind : List ℕ) → Point position text c behind → range_follows behind ≡ false → Member position text ((c, c) ∷ []) behind
   range : (position : BracketPosition) (text : List ℕ) (low : ℕ) (text' : List ℕ) (high : ℕ) (behind : List ℕ) → Point position text low (45 ∷ (text' ++ behind)) →
@@ -83,11 +84,11 @@ pub data Member : BracketPosition → List ℕ → List (ℕ × ℕ) → List �
   class : (position : BracketPosition) (name : List ℕ) (ranges : List (ℕ × ℕ)) (behind : List ℕ) → class_ranges name ≡ Some ranges →
       Member position (91 ∷ 58 ∷ (name ++ (58 ∷ 93 ∷ []))) ranges behind
 
--- whether the byte is in one of the members
+-- true if the byte is in one of the members
 abbrev pub in_members : List (List (ℕ × ℕ)) → ℕ → Bool
 in_members members b = list_any (λ ranges. in_ranges ranges b) members
 
--- With `behind` after it, the text is a bracket expression of the set. With `^` the set has all other bytes, a newline among them.
+-- With `behind` after it, the text is a bracket expression of the set. With `^` the set has all other bytes, including a newline.
 pub data Bracket : List ℕ → set.FinSet nat_cmp → List ℕ → Type 0 where
   matching : (text : List ℕ) (m : List (ℕ × ℕ)) (members : List (List (ℕ × ℕ))) (behind : List ℕ) →
       Opened (Member opening) (Member inside) 93 text m members behind → Bracket (91 ∷ text) (bytes_where (in_members (m ∷ members))) behind

@@ -18,7 +18,7 @@ all_bytes = numbers_from 0 256
 abbrev pub bytes_where : (ℕ → Bool) → set.FinSet nat_cmp
 bytes_where test = set.from_list (filter test all_bytes)
 
--- whether bit b % 64 of word b / 64 is set
+-- true if bit b % 64 of word b / 64 is set
 abbrev pub has_bit : List ℕ → ℕ → Bool
 has_bit words b = nat_eq (bit_at (slice_index words (b / 64)) (b % 64)) 1
 
@@ -28,6 +28,6 @@ is_between first last b = nat_le first b && nat_le b last
 abbrev pub byte_set : ℕ → set.FinSet nat_cmp
 byte_set byte = bytes_where (is_between byte byte)
 
--- whether the byte is in one of the ranges, each from its first byte to its last
+-- true if the byte is in one of the ranges, each from its first byte to its last
 abbrev pub in_ranges : List (ℕ × ℕ) → ℕ → Bool
 in_ranges ranges b = list_any (λ r. is_between r.0 r.1 b) ranges

@@ -13,7 +13,7 @@ use Rattle.lx_ere.specs.Equality.{same_sets, same_trees, same_readings}
 both : (a b : Bool) → a ≡ true → b ≡ true → (a && b) ≡ true
 both a b e f = ap (λ x. x && b) e ∙ f
 
--- a test that is true at each value beside itself, and only at equal values
+-- a test that is true for each value and itself, and only for equal values
 decides : {K : Type 0} (test : K → K → Bool) → ((x y : K) → test x y ≡ true → x ≡ y) → ((x : K) → test x x ≡ true) → (x y : K) → Decides (test x y) (x ≡ y)
 decides test sound itself x y = (sound x y, λ e. subst (λ z. test x z ≡ true) e (itself x))
 

@@ -11,7 +11,7 @@ digit_of c = if nat_le c 57 then c - 48 else if nat_le c 70 then c - 55 else c -
 abbrev pub is_digit : ℕ → ℕ → Bool
 is_digit base c = (is_between 48 57 c || (is_between 65 70 c || is_between 97 102 c)) && nat_lt (digit_of c) base
 
--- the number that the digits spell behind n
+-- the number that the digits after n spell
 abbrev pub number_behind : ℕ → ℕ → List ℕ → ℕ
 number_behind base n [] = n
 number_behind base n (d ∷ digits) = number_behind base (n * base + digit_of d) digits
@@ -19,7 +19,7 @@ number_behind base n (d ∷ digits) = number_behind base (n * base + digit_of d)
 abbrev pub number_of : ℕ → List ℕ → ℕ
 number_of base digits = number_behind base 0 digits
 
--- no byte that passes the test stands at the front
+-- no byte that passes the test is at the start
 abbrev pub NoneFirst : (ℕ → Bool) → List ℕ → Type 0
 NoneFirst test [] = Unit {0}
 NoneFirst test (c ∷ text) = test c ≡ false
@@ -36,9 +36,8 @@ letter_byte c =
     else if nat_eq c 114 then Some 13
     else None
 
--- With `behind` after it, the text is a backslash and what makes it stand for the byte:
--- one of the letters above; the longest run of one to three octal digits; `x` and the longest run of hexadecimal digits;
--- `x` where none follows, for itself; any other byte but a newline, for itself.
+-- With `behind` after it, the text is a backslash with one of these: a letter above; the longest run of one to three octal digits; `x` and the
+-- longest run of hexadecimal digits; `x` for itself if none follows; any other byte except a newline, for itself.
 pub data Escape : List ℕ → ℕ → List ℕ → Type 0 where
   letter : (c byte : ℕ) (behind : List ℕ) → letter_byte c ≡ Some byte → Escape (92 ∷ c ∷ []) byte behind
   octal : (digits behind : List ℕ) → 0 < length digits → length digits ≤ 3 → list_all (is_digit 8) digits ≡ true → (length digits < 3 → NoneFirst (is_digit 8) behind) →

@@ -8,7 +8,7 @@ use Rattle.lx_ere.specs.Regex.{Regex, one_of, then, or, times, named}
 pub data Lexeme : Type 0 where
   -- a byte, an escape, a period or a bracket expression
   set_of : set.FinSet nat_cmp → Lexeme
-  -- a quoted string: its first byte, and those behind it
+  -- a quoted string: its first byte, and those after it
   quoted : (first : ℕ) (more : List ℕ) → Lexeme
   -- a name in braces
   name : List ℕ → Lexeme
@@ -21,7 +21,7 @@ pub data Lexeme : Type 0 where
   question : Lexeme
   bar : Lexeme
 
--- the bytes one after the other behind what stands first, leaning to the left
+-- the bytes one after the other, after the first expression, leaning to the left
 abbrev pub joined : Regex → List ℕ → Regex
 joined first [] = first
 joined first (b ∷ bytes) = joined (then first (one_of (byte_set b))) bytes

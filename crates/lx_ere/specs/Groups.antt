@@ -1,4 +1,4 @@
--- What the open groups of the code stand for.
+-- The meaning of the code's open groups.
 use Rattle.std.specs.Prelude.{map, reverse}
 use Rattle.std.specs.Option.{option_map}
 use Rattle.lx_ere.specs.Regex.{regex_of}

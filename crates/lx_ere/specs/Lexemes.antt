@@ -1,4 +1,4 @@
--- What the code's lexemes stand for.
+-- The meaning of the code's lexemes.
 use Rattle.lx_ere.specs.Grammar.{Lexeme, set_of, quoted, name, interval, open_group, close_group, star, plus, question, bar}
 use Rattle.lx_ere.specs.declared.lexeme.Lexeme as code
 use Rattle.lx_ere.specs.declared.lexeme.Lexeme.TheVariants as token

@@ -12,21 +12,21 @@ use Rattle.lx_ere.specs.Escapes.{is_digit, number_of, letter_byte}
 use Rattle.lx_ere.specs.Brackets.{BracketPosition, opening, behind_caret, inside, is_inside, begins_with, stands_alone, range_follows, class_ranges, in_members}
 use Rattle.lx_ere.specs.Spelling.{byte_lexeme, is_name_byte, is_identifier, Lexes}
 
--- how many bytes at the front pass the test, at most so many
+-- the number of bytes at the start that pass the test, up to a limit
 abbrev pub run_len : (ℕ → Bool) → ℕ → List ℕ → ℕ
 run_len test zero text = 0
 run_len test (suc n) [] = 0
 run_len test (suc n) (c ∷ text) = if test c then suc (run_len test n text) else 0
 
--- the number that the digits spell, where it is a byte
+-- the number that the digits spell, if it is a byte
 abbrev pub byte_of : ℕ → List ℕ → Option ℕ
 byte_of base digits = if nat_lt (number_of base digits) 256 then Some (number_of base digits) else None
 
--- the byte that the first n digits spell, and what stands behind them
+-- the byte that the first n digits spell, and the text after them
 abbrev pub number_at : ℕ → ℕ → List ℕ → Option (ℕ × List ℕ)
 number_at base n text = option_map (λ byte. (byte, drop n text)) (byte_of base (take n text))
 
--- what stands behind the byte at the front
+-- the text after the byte at the start
 abbrev pub behind_byte : ℕ → List ℕ → Option (List ℕ)
 behind_byte c [] = None
 behind_byte c (d ∷ text) = if nat_eq d c then Some text else None
@@ -45,12 +45,12 @@ abbrev pub letter_or_other : Option ℕ → ℕ → List ℕ → Option (ℕ × 
 letter_or_other (Some byte) c text = Some (byte, text)
 letter_or_other None c text = other_at c text
 
--- the byte of an escape, from behind the backslash on
+-- the byte of an escape, starting after the backslash
 abbrev pub escape_at : List ℕ → Option (ℕ × List ℕ)
 escape_at [] = None
 escape_at (c ∷ text) = letter_or_other (letter_byte c) c text
 
--- items up to the closing byte, at most so many
+-- items up to the closing byte, at most this number
 abbrev pub items_at : {A : Type 0} → (List ℕ → Option (A × List ℕ)) → ℕ → ℕ → List ℕ → Option (List A × List ℕ)
 items_at item_at close zero text = None
 items_at item_at close (suc n) text =
@@ -69,7 +69,7 @@ abbrev pub marked_byte_at : ℕ → List ℕ → Option (ℕ × List ℕ)
 marked_byte_at mark [] = None
 marked_byte_at mark (c ∷ text) = if nat_eq c 10 then None else option_map (λ rest. (c, rest)) (option_and_then (behind_byte 93) (behind_byte mark text))
 
--- the byte at the front of brackets, where it is no escape
+-- the byte at the start of brackets, if it isn't an escape
 abbrev pub bare_point_at : BracketPosition → ℕ → List ℕ → Option (ℕ × List ℕ)
 bare_point_at position c text =
     if nat_eq c 93 then (if is_inside position then None else Some (93, text))
@@ -82,18 +82,18 @@ abbrev pub point_at : BracketPosition → List ℕ → Option (ℕ × List ℕ)
 point_at position [] = None
 point_at position (c ∷ text) = if nat_eq c 92 then escape_at text else bare_point_at position c text
 
--- the end of a range, from behind the `-` on
+-- the end of a range, starting after the `-`
 abbrev pub range_end_at : List ℕ → Option (ℕ × List ℕ)
 range_end_at text = if begins_with 45 text then Some (45, drop 1 text) else point_at inside text
 
 abbrev pub range_from : ℕ → ℕ × List ℕ → Option (List (ℕ × ℕ) × List ℕ)
 range_from low f = if nat_le low (f.0) then Some ((low, f.0) ∷ [], f.1) else None
 
--- a point and what follows it, as a member
+-- a point and the text after it, as a member
 abbrev pub member_from : ℕ × List ℕ → Option (List (ℕ × ℕ) × List ℕ)
 member_from f = if range_follows (f.1) then option_and_then (range_from (f.0)) (range_end_at (drop 1 (f.1))) else Some ((f.0, f.0) ∷ [], f.1)
 
--- a class whose name has n bytes, from behind the `[:` on
+-- a class whose name has n bytes, starting after the `[:`
 abbrev pub class_of : ℕ → List ℕ → Option (List (ℕ × ℕ) × List ℕ)
 class_of n text =
     option_and_then (λ ranges. option_map (λ rest. (ranges, rest)) (option_and_then (behind_byte 93) (behind_byte 58 (drop n text)))) (class_ranges (take n text))
@@ -110,19 +110,19 @@ member_at position text =
     else if begins_pair 91 61 text then option_map (λ f. ((f.0, f.0) ∷ [], f.1)) (marked_byte_at 61 (drop 2 text))
     else option_and_then member_from (point_at position text)
 
--- the members, from behind `[` or `[^` on
+-- the members, starting after `[` or `[^`
 abbrev pub members_at : BracketPosition → List ℕ → Option (List (ℕ × ℕ) × List (List (ℕ × ℕ)) × List ℕ)
 members_at position text = opened_at (member_at position) (member_at inside) 93 text
 
--- the set of the members, and what stands behind them
+-- the set of the members, and the text after them
 abbrev pub members_set : List (ℕ × ℕ) × List (List (ℕ × ℕ)) × List ℕ → set.FinSet nat_cmp × List ℕ
 members_set f = (bytes_where (in_members (f.0 ∷ f.1)), f.2)
 
--- the bytes that pass the test or are in the members, and what stands behind these
+-- the bytes that pass the test or are in the members, and the text after these
 abbrev pub with_members : (ℕ → Bool) → List (List (ℕ × ℕ)) × List ℕ → set.FinSet nat_cmp × List ℕ
 with_members test f = (bytes_where (λ b. test b || in_members (f.0) b), f.1)
 
--- a bracket expression, from behind the `[` on
+-- a bracket expression, starting after the `[`
 abbrev pub bracket_at : List ℕ → Option (set.FinSet nat_cmp × List ℕ)
 bracket_at text =
     if begins_with 94 text then option_map (λ f. (bytes_where (λ b. not (in_members (f.0 ∷ f.1) b)), f.2)) (members_at behind_caret (drop 1 text))
@@ -136,7 +136,7 @@ abbrev pub quoted_byte_at : List ℕ → Option (ℕ × List ℕ)
 quoted_byte_at [] = None
 quoted_byte_at (c ∷ text) = if nat_eq c 92 then escape_at text else unescaped_at c text
 
--- a quoted string, from behind the `"` on
+-- a quoted string, starting after the `"`
 abbrev pub string_at : List ℕ → Option (Lexeme × List ℕ)
 string_at text = option_map (λ f. (quoted (f.0) (f.1), f.2)) (opened_at quoted_byte_at quoted_byte_at 34 text)
 
@@ -157,13 +157,13 @@ bound_at text = bound_of (run_len (is_digit 10) (length text) text) text
 abbrev pub high_at : ℕ → ℕ × List ℕ → Option (Lexeme × List ℕ)
 high_at low f = if nat_le low (f.0) then option_map (λ rest. (interval low (Some (f.0)), rest)) (behind_byte 125 (f.1)) else None
 
--- the rest of an interval behind the comma
+-- the rest of an interval after the comma
 abbrev pub behind_comma_at : ℕ → List ℕ → Option (Lexeme × List ℕ)
 behind_comma_at low text =
     if begins_with 125 text then Some (interval low None, drop 1 text)
     else option_and_then (high_at low) (bound_at text)
 
--- the rest of an interval behind the first bound
+-- the rest of an interval after the first bound
 abbrev pub behind_low_at : ℕ × List ℕ → Option (Lexeme × List ℕ)
 behind_low_at f =
     if begins_with 125 (f.1) then Some (interval (f.0) (Some (f.0)), drop 1 (f.1))
@@ -176,7 +176,7 @@ abbrev pub starts_digit : List ℕ → Bool
 starts_digit [] = false
 starts_digit (c ∷ text) = is_digit 10 c
 
--- a name or an interval, from behind the `{` on
+-- a name or an interval, starting after the `{`
 abbrev pub brace_at : List ℕ → Option (Lexeme × List ℕ)
 brace_at text = if starts_digit text then interval_at text else name_at text
 
@@ -186,11 +186,11 @@ as_set found = option_map (λ f. (set_of (byte_set (f.0)), f.1)) found
 abbrev pub as_bracket : Option (set.FinSet nat_cmp × List ℕ) → Option (Lexeme × List ℕ)
 as_bracket found = option_map (λ f. (set_of (f.0), f.1)) found
 
--- the lexeme that is the byte c alone
+-- the lexeme of the single byte c
 abbrev pub as_single : ℕ → List ℕ → Option (Lexeme × List ℕ)
 as_single c text = option_map (λ l. (l, text)) (byte_lexeme c)
 
--- the lexeme whose first byte is c, where that begins neither an escape nor a string nor brackets; then where it may begin the others
+-- the lexeme whose first byte is c, first if that begins no escape, string or brackets, then if it may begin one
 abbrev pub brace_or_byte : ℕ → List ℕ → Option (Lexeme × List ℕ)
 brace_or_byte c text = if nat_eq c 123 then brace_at text else as_single c text
 
@@ -203,23 +203,23 @@ string_or_other c text = if nat_eq c 34 then string_at text else bracket_or_othe
 abbrev pub escape_or_other : ℕ → List ℕ → Option (Lexeme × List ℕ)
 escape_or_other c text = if nat_eq c 92 then as_set (escape_at text) else string_or_other c text
 
--- the lexeme at the front, and what stands behind it
+-- the lexeme at the start, and the text after it
 abbrev pub lexeme_at : List ℕ → Option (Lexeme × List ℕ)
 lexeme_at [] = None
 lexeme_at (c ∷ text) = escape_or_other c text
 
--- the text behind a `^` at its front
+-- the text without a `^` at its start
 abbrev pub body_of : List ℕ → List ℕ
 body_of text = if begins_with 94 text then drop 1 text else text
 
--- what the ending of a pattern says of the anchor
+-- the anchor that the ending of a pattern means
 abbrev pub ending_at : List ℕ → Option Bool
 ending_at text =
     if nat_eq (length text) 0 then Some false
     else if bytes_eq text (codes "$") || bytes_eq text (codes "/\\n") then Some true
     else None
 
--- The text is the spellings of an alternation, this is its tree, and no spelling stands at the front of what is behind.
+-- The text is the spellings of an alternation, this is its tree, and no spelling is at the start of the rest.
 pub record Reads (text : List ℕ) (tree : Regex) (ending : List ℕ) : Type 0 where
   pub lexemes : List Lexeme
   pub spelled : Lexes text lexemes ending

@@ -1,4 +1,4 @@
--- What words an expression matches (POSIX.1-2017, XBD 9.4). A word is a list of bytes, and a language a fact about words.
+-- The words that an expression matches (POSIX.1-2017, XBD 9.4). A word is a list of bytes, and a language a fact about words.
 use Rattle.std.specs.Prelude.{◌≡◌, ℕ, zero, suc, ◌≤◌, ◌⊎◌, IsTrue, IfSome, Option, List, [], ◌∷◌, ◌++◌}
 use Rattle.std.specs.FinSet as set
 use Rattle.lx_ere.specs.Regex.{Regex, nil, one_of, then, or, times, named}
@@ -20,7 +20,7 @@ RepeatsBetween L low high w = (k : ℕ) × (low ≤ k) × IfSome high (λ most. 
 abbrev pub no_names : List ℕ → List ℕ → Type 0
 no_names name w = ⊥
 
--- the expression matches the word, where `names` says what words a name matches
+-- the expression matches the word, where `names` has the words of a name
 abbrev pub Matches : (List ℕ → List ℕ → Type 0) → Regex → List ℕ → Type 0
 Matches names nil w = w ≡ []
 Matches names (one_of s) w = (b : ℕ) × IsTrue (set.contains s b) × (w ≡ b ∷ [])

@@ -1,11 +1,11 @@
--- What a text says as a pattern or as a substitute (XCU `lex`, "Regular Expressions in lex", "Definitions in lex").
+-- The meaning of a text as a pattern or as a substitute (XCU `lex`, "Regular Expressions in lex", "Definitions in lex").
 use Rattle.std.specs.Prelude.{◌≡◌, ℕ, ◌≤◌, Bool, true, false, if◌then◌else◌, List, [], ◌∷◌, length}
 use Rattle.lx_ere.specs.Limits.{max_pattern_bytes}
 use Rattle.lx_ere.specs.Regex.{Regex, Reading}
 use Rattle.lx_ere.specs.Grammar.{Lexeme, IsAlternation}
 use Rattle.lx_ere.specs.Spelling.{Lexes}
 
--- What may stand behind the alternation, and whether it is the anchor: nothing; `$`; `/\n`.
+-- A text that may follow the alternation, and a flag that is true if it is the anchor: nothing; `$`; `/\n`.
 pub data IsEnding : List ℕ → Bool → Type 0 where
   nothing : IsEnding [] false
   dollar : IsEnding (36 ∷ []) true

@@ -4,7 +4,7 @@ use Rattle.std.proofs.Common.{zero, suc, inl, inr}
 use Rattle.lx_ere.specs.PatternGrammar.{IsPatternEnd}
 use Rattle.lx_ere.specs.PatternEndLaws.{ends_or_not}
 
--- The least number below the bound of which the fact holds; the bound, where there is none. Of each number it is decided whether the fact holds.
+-- The least number below the bound for which the fact holds, or the bound if there is none. The fact is decidable for each number.
 unfoldable pub least : (P : ℕ → Type 0) → ((n : ℕ) → P n ⊎ ¬ (P n)) → ℕ → ℕ
 least P decided zero = 0
 least P decided (suc bound) = elim (decided 0) [ inl _ ↦ 0 | inr _ ↦ suc (least (λ n. P (suc n)) (λ n. decided (suc n)) bound) ]

@@ -1,5 +1,5 @@
--- There is one place where the pattern at the front of a text ends, by the grammar, and only one.
--- All here are proofs: of each it is enough to read what it says.
+-- By the grammar, the pattern at the start of a text ends at one position, and only one. All here are proofs, of which only the statements need be
+-- read.
 use Rattle.std.proofs.Common.{◌≡◌, ◌≢◌, ℕ, zero, suc, ◌+◌, ◌-◌, ◌<◌, ◌≤◌, ◌⊎◌, inl, inr, Bool, true, false, ◌&&◌, ◌||◌, nat_eq, cond, List, [], ◌∷◌, length, drop, refl, sym, ap, subst, ◌∙◌, arith, length-drop, eqb-true, eq-eqb}
 use Rattle.std.proofs.lemmas.Bool.{and_parts, true≢false}
 use Rattle.std.proofs.lemmas.Bool.Decides.{nat_tests}
@@ -19,7 +19,7 @@ eq_other a b h = grind (arith, nat_tests)
 eq_same : (a : ℕ) → nat_eq a a ≡ true
 eq_same a = grind (arith, nat_tests)
 
--- ---- what stands behind is an end of the text
+-- ---- the text after a pattern is an end of the text
 
 pub record IsTail (text behind : List ℕ) : Type 0 where
   pub within : length behind ≤ length text
@@ -98,11 +98,11 @@ pattern_tail _ _ (past_brackets text rest behind q h) =
     tail_more 91 text behind (tail_tail text rest behind (tail_skip 94 text rest (tail_skip 93 (skip_first 94 text) rest (brackets_tail (skip_first 93 (skip_first 94 text)) rest q))) (pattern_tail rest behind h))
 pattern_tail _ _ (past_byte c text behind a b d e h) = tail_more c text behind (pattern_tail text behind h)
 
--- the place where the pattern ends, by what stands behind it
+-- the position where the pattern ends, by the text after it
 pub end_of : (text behind : List ℕ) → BehindPattern text behind → IsPatternEnd text (length text - length behind)
 end_of text behind h = let t = pattern_tail text behind h in record { within = omega arith; behind = subst (BehindPattern text) t.is h }
 
--- ---- the same by computation, within so many steps, to show that it is one
+-- ---- the same by computation, within a number of steps, to show that it is the only one
 abbrev quotes_at : ℕ → List ℕ → List ℕ
 quotes_at zero text = []
 quotes_at (suc n) [] = []
@@ -194,7 +194,7 @@ pattern_one _ _ (past_brackets text rest behind q h) (suc n) lt =
 pattern_one _ _ (past_byte c text behind a b d e h) (suc n) lt =
     pick_second (is_blank c) _ _ a ∙ (pick_second (nat_eq c 92) _ _ (eq_other c 92 b) ∙ (pick_second (nat_eq c 34) _ _ (eq_other c 34 d) ∙ (pick_second (nat_eq c 91) _ _ (eq_other c 91 e) ∙ pattern_one text behind h n (omega (arith, lt)))))
 
--- a text has one place where its pattern ends
+-- a text has one position where its pattern ends
 pub one_end : (text : List ℕ) (n m : ℕ) → IsPatternEnd text n → IsPatternEnd text m → n ≡ m
 one_end text n m p q =
     let same : drop n text ≡ drop m text = sym (pattern_one text (drop n text) p.behind (suc (length text)) (omega arith)) ∙ pattern_one text (drop m text) q.behind (suc (length text)) (omega arith) in
@@ -202,9 +202,9 @@ one_end text n m p q =
     let b : m ≤ length text = q.within in
     omega (arith, a, b, ap length same, length-drop n text, length-drop m text)
 
--- ---- behind each text stands something, at its end at the latest
+-- ---- each text has a rest, at its end at the latest
 
--- something no longer than the text stands behind it
+-- a rest of at most the text's length follows it
 abbrev Ends : (List ℕ → List ℕ → Type 0) → List ℕ → Type 0
 Ends R text = (behind : List ℕ) × R text behind × (length behind ≤ length text)
 

@@ -2,8 +2,8 @@
 use Rattle.std.specs.Prelude.{◌≡◌, ◌≢◌, ℕ, ◌≤◌, Bool, true, false, ◌&&◌, ◌||◌, nat_eq, if◌then◌else◌, List, [], ◌∷◌, length, drop}
 use Rattle.lx_ere.specs.Brackets.{begins_with, opens_inner}
 
--- What stands behind a quoted string, of the text behind its opening quote: all behind the next `"` that no backslash takes along;
--- nothing where the string isn't closed.
+-- The text after a quoted string, given the text after its opening quote: all after the next `"` that no backslash escapes. It is empty if the string
+-- isn't closed.
 pub data BehindQuotes : List ℕ → List ℕ → Type 0 where
   quote_closes : (text : List ℕ) → BehindQuotes (34 ∷ text) text
   quote_open : BehindQuotes [] []
@@ -11,20 +11,20 @@ pub data BehindQuotes : List ℕ → List ℕ → Type 0 where
   quote_slash : BehindQuotes (92 ∷ []) []
   quote_byte : (c : ℕ) (text behind : List ℕ) → c ≢ 34 → c ≢ 92 → BehindQuotes text behind → BehindQuotes (c ∷ text) behind
 
--- What stands behind the first mark with a `]` directly after it; nothing where there is none.
+-- The text after the first mark that a `]` follows directly. It is empty if there is none.
 pub data BehindMark : ℕ → List ℕ → List ℕ → Type 0 where
   mark_closes : (mark : ℕ) (text : List ℕ) → BehindMark mark (mark ∷ 93 ∷ text) text
   mark_open : (mark : ℕ) → BehindMark mark [] []
   mark_byte : (mark c : ℕ) (text behind : List ℕ) → (nat_eq c mark && begins_with 93 text) ≡ false → BehindMark mark text behind → BehindMark mark (c ∷ text) behind
 
--- `[` is this byte, and this mark, one of `:`, `.` and `=`, stands directly behind it.
+-- `[` is this byte, and this mark, one of `:`, `.` and `=`, follows it directly.
 pub record IsInner (mark first : ℕ) (behind : List ℕ) : Type 0 where
   pub opens : first ≡ 91
   pub is_mark : (nat_eq mark 58 || (nat_eq mark 46 || nat_eq mark 61)) ≡ true
   pub follows_mark : behind ≡ mark ∷ drop 1 behind
 
--- What stands behind brackets, of the text behind their first `^` and `]`: all behind the next `]` that no backslash takes along and that
--- stands in no `[:` to `:]`, `[.` to `.]` or `[=` to `=]`, which have a byte at least between them; nothing where the brackets aren't closed.
+-- The text after brackets, given the text after their first `^` and `]`: all after the next `]` that no backslash escapes and that is in no `[:` to
+-- `:]`, `[.` to `.]` or `[=` to `=]`. These have at least one byte between them. It is empty if the brackets aren't closed.
 pub data BehindBrackets : List ℕ → List ℕ → Type 0 where
   bracket_closes : (text : List ℕ) → BehindBrackets (93 ∷ text) text
   bracket_open : BehindBrackets [] []
@@ -34,14 +34,14 @@ pub data BehindBrackets : List ℕ → List ℕ → Type 0 where
       BehindBrackets rest behind → BehindBrackets (91 ∷ mark ∷ text) behind
   bracket_byte : (c : ℕ) (text behind : List ℕ) → c ≢ 93 → c ≢ 92 → opens_inner c text ≡ false → BehindBrackets text behind → BehindBrackets (c ∷ text) behind
 
--- the text behind the byte, where it begins with it
+-- the text after the byte, if the text begins with it
 abbrev pub skip_first : ℕ → List ℕ → List ℕ
 skip_first c text = if begins_with c text then drop 1 text else text
 
 abbrev pub is_blank : ℕ → Bool
 is_blank c = nat_eq c 32 || nat_eq c 9
 
--- What stands behind a pattern: all from the first blank on that is in no escape, quotes or brackets; nothing where there is none.
+-- The text after a pattern: all from the first blank on that is in no escape, quotes or brackets. It is empty if there is none.
 pub data BehindPattern : List ℕ → List ℕ → Type 0 where
   at_end : BehindPattern [] []
   at_blank : (c : ℕ) (text : List ℕ) → is_blank c ≡ true → BehindPattern (c ∷ text) (c ∷ text)

@@ -1,4 +1,4 @@
--- Expressions as plain trees, without where they lie in memory (POSIX.1-2017, XBD 9.4; XCU `lex`, "Regular Expressions in lex").
+-- Expressions as plain trees, without their place in memory (POSIX.1-2017, XBD 9.4; XCU `lex`, "Regular Expressions in lex").
 use Rattle.std.specs.Prelude.{ℕ, Bool, List, Option}
 use Rattle.std.specs.Ordering.{nat_cmp}
 use Rattle.std.specs.FinSet as set
@@ -17,7 +17,7 @@ pub data Regex : Type 0 where
   or : Regex → Regex → Regex
   -- the body from low to high times, or low times and any more
   times : (body : Regex) (low : ℕ) (high : Option ℕ) → Regex
-  -- what the name stands for
+  -- the expression of the name
   named : List ℕ → Regex
 
 -- the tree that an expression is
@@ -29,7 +29,7 @@ regex_of (Or' p a q b) = or (regex_of a) (regex_of b)
 regex_of (Times' p body low high) = times (regex_of body) low high
 regex_of (Name name) = named (name.items)
 
--- what a pattern's text says: its anchors, and the tree between them
+-- the meaning of a pattern's text: its anchors, and the tree between them
 pub record Reading : Type 0 where
   pub line_begin : Bool
   pub line_end : Bool

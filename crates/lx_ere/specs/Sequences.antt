@@ -1,7 +1,7 @@
 -- Texts that are items one after the other, up to a closing byte.
 use Rattle.std.specs.Prelude.{◌≡◌, ℕ, List, [], ◌∷◌, ◌++◌}
 
--- The text is items and the closing byte, and `behind` stands after it. `Item prefix x behind` says that, with `behind` after it, `prefix` spells x.
+-- The text is items and the closing byte, and `behind` follows it. `Item prefix x behind` means that, with `behind` after it, `prefix` spells x.
 abbrev pub Closed : {A : Type 0} → (List ℕ → A → List ℕ → Type 0) → ℕ → List ℕ → List A → List ℕ → Type 0
 Closed Item close text [] behind = text ≡ close ∷ []
 Closed Item close text (x ∷ xs) behind =

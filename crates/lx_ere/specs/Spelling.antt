@@ -1,4 +1,4 @@
--- How lexemes are spelled (XCU `lex`, "Regular Expressions in lex").
+-- The spellings of lexemes (XCU `lex`, "Regular Expressions in lex").
 use Rattle.std.specs.Prelude.{◌≡◌, ◌≢◌, ℕ, ◌<◌, ◌≤◌, Bool, true, false, not, ◌&&◌, ◌||◌, nat_eq, if◌then◌else◌, List, [], ◌∷◌, ◌++◌, length, Option, Some, None}
 use Rattle.std.specs.List.{list_all}
 use Rattle.std.specs.Ordering.{nat_cmp}
@@ -10,7 +10,7 @@ use Rattle.lx_ere.specs.Escapes.{is_digit, number_of, Escape}
 use Rattle.lx_ere.specs.Sequences.{Opened}
 use Rattle.lx_ere.specs.Brackets.{Bracket}
 
--- a byte that stands for itself: none of a newline, tab, space and " $ ( ) * + . / ? [ \ ^ { |
+-- a byte that represents itself: none of a newline, tab, space and " $ ( ) * + . / ? [ \ ^ { |
 abbrev pub is_plain : ℕ → Bool
 is_plain c = list_all (λ special. not (nat_eq c special)) (10 ∷ 9 ∷ 32 ∷ 34 ∷ 36 ∷ 40 ∷ 41 ∷ 42 ∷ 43 ∷ 46 ∷ 47 ∷ 63 ∷ 91 ∷ 92 ∷ 94 ∷ 123 ∷ 124 ∷ [])
 

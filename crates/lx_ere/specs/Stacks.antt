@@ -1,11 +1,11 @@
--- Reading lexemes from left to right with a stack of open groups. What it reads is the grammar's one tree (proofs/Parser.antt).
+-- Reading lexemes from left to right with a stack of open groups. The result is the grammar's one tree (proofs/Parser.antt).
 use Rattle.std.specs.Prelude.{ℕ, List, [], ◌∷◌, Option, Some, None}
 use Rattle.std.specs.Option.{option_map, option_and_then}
 use Rattle.lx_ere.specs.Bytes.{byte_set}
 use Rattle.lx_ere.specs.Regex.{Regex, one_of, then, or, times, named}
 use Rattle.lx_ere.specs.Grammar.{Lexeme, set_of, quoted, name, interval, open_group, close_group, star, plus, question, bar, joined}
 
--- what was read of a group that isn't closed: the alternatives before the last bar, the branch so far, and its last unit
+-- the part of an open group that was read: the alternatives before the last bar, the branch, and its last unit
 pub record Frame : Type 0 where
   pub before : Option Regex
   pub branch : Option Regex
@@ -28,7 +28,7 @@ abbrev pub either : Option Regex → Regex → Regex
 either None r = r
 either (Some a) r = or a r
 
--- the alternation, where something stands behind its last bar
+-- the alternation, if something follows its last bar
 abbrev pub total : Frame → Option Regex
 total f = option_map (either f.before) (whole f.branch f.unit)
 
@@ -43,7 +43,7 @@ pub record Stack : Type 0 where
 abbrev pub stack : Frame → List Frame → Stack
 stack f fs = record { top = f; below = fs }
 
--- the last unit is taken so often
+-- the last unit is repeated from low to high times
 abbrev pub again : ℕ → Option ℕ → Stack → Option Stack
 again low high s = option_map (λ u. stack (frame s.top.before s.top.branch (Some (times u low high))) s.below) s.top.unit
 

@@ -1,4 +1,4 @@
--- What the values of the code stand for.
+-- The meaning of the code's values.
 use Rattle.std.specs.Prelude.{ℕ, List, [], ◌∷◌}
 use Rattle.lx_ere.specs.Brackets.{BracketPosition, opening, behind_caret, inside}
 use Rattle.lx_ere.specs.declared.bracket.BracketPosition as code_position

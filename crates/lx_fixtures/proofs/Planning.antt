@@ -6,7 +6,7 @@ use Rattle.lx_piece.specs.Pieces.{ItemPiece, IsPieceOf, TakesInOrder, piece_at, 
 use Rattle.lx_piece.specs.PieceLaws.{takes_in_order}
 use Rattle.lx_piece.specs.NextPiece.{IsNextPiece}
 
--- the first piece of a file is what a reader that took nothing takes next
+-- the first piece of a file is the next one for a reader that took nothing
 pub first_next : (plan : Planned) (counts : List ℕ) (file : ℕ) (p : ItemPiece) → IsPlan plan → IsPieceOf plan p → p ≡ piece_at plan file 0 → counts ≡ replicate (files_of plan) 0 → IsNextPiece plan counts p
 first_next plan counts file p sound is first e =
     let none : slice_index counts p.file ≡ 0 = ap (λ (ns : List ℕ). slice_index ns p.file) e ∙ get_or-replicate (files_of plan) p.file 0 0 is.file in

@@ -1,11 +1,11 @@
--- What lx reads is what was read of the file for flex.
+-- lx reads the rules of the flex file.
 use Rattle.std.specs.Prelude.{◌≡◌, ℕ, ◌⊎◌, List, [], ◌∷◌, Option}
 use Rattle.lx_flex_pattern.specs.Tree.{Tree, Pattern}
 use Rattle.lx_flex_pattern.specs.Translation.{IsReadAs, HaveSameTexts}
 use Rattle.lx_rules.specs.Plain.{PlainSpec, PlainRule, PlainDefinition, StartCondition}
 use Rattle.lx_spec.specs.Whole.{IsRead}
 
--- a rule of flex: the numbers of its conditions, rising, and what it matches
+-- a rule of flex: the numbers of its conditions, in ascending order, and its pattern
 pub record FlexRule : Type 0 where
   pub conditions : Option (List ℕ)
   pub pattern : Pattern
@@ -15,12 +15,12 @@ pub record FlexDefinition : Type 0 where
   pub name : List ℕ
   pub tree : Tree
 
--- The rule of lx is active where that of flex is, with the same anchors and the same texts.
+-- The rule of lx is active in the conditions of the flex rule, with the same anchors and the same texts.
 pub record IsRule (rule : FlexRule) (read : PlainRule) : Type 0 where
   pub active : read.conditions ≡ rule.conditions
   pub matches : IsReadAs rule.pattern read.reading
 
--- The rules are as many, and each is that of flex at its place.
+-- There are equally many rules, and each is the flex rule at its place.
 abbrev pub AreRules : List FlexRule → List PlainRule → Type 0
 AreRules [] [] = Unit {0}
 AreRules [] (read ∷ more) = ⊥

@@ -1,4 +1,4 @@
--- What the values of the code stand for.
+-- The meaning of the code's values.
 use Rattle.std.specs.Option.{option_map}
 use Rattle.lx_flex_pattern.specs.views.{tree_of, pattern_of}
 use Rattle.lx_flex.specs.Imported.{FlexRule, FlexDefinition}

@@ -1,4 +1,4 @@
--- Trees of lx that mirror trees of flex, where their parts are equal.
+-- Trees of lx that mirror trees of flex, if their parts are equal.
 use Rattle.std.proofs.Common.{ℕ, ◌≡◌, List, Option, Some}
 use Rattle.lx_ere.specs.Regex as lx
 use Rattle.lx_flex_pattern.specs.Tree as flex

@@ -12,7 +12,7 @@ pub record HasBytes (found : set.FinSet nat_cmp) (test : ℕ → Bool) : Type 0 
   pub same : (b : ℕ) → b < 256 → set.contains found b ≡ test b
 
 pub data Mirrors : flex.Tree → lx.Regex → Type 0 where
-  -- lx has no empty word but what is taken no times
+  -- the only empty word of lx is a body repeated no times
   empties : (r : lx.Regex) → Mirrors flex.empty (lx.times r 0 (Some 0))
   sets : (excluded fold : Bool) (members : List Member) (found : set.FinSet nat_cmp) → HasBytes found (set_has excluded fold members) →
       Mirrors (flex.one_of excluded fold members) (lx.one_of found)

@@ -20,7 +20,7 @@ is_letter b = is_upper b || is_lower b
 abbrev pub other_case : ℕ → ℕ
 other_case b = if is_upper b then b + 32 else if is_lower b then b - 32 else b
 
--- The bytes of a class, in the locale C; where case is ignored, `upper` and `lower` have both cases.
+-- The bytes of a class, in the C locale. If case is ignored, `upper` and `lower` have both cases.
 abbrev pub class_has : Bool → Class → ℕ → Bool
 class_has fold Alnum b = is_letter b || is_between 48 57 b
 class_has fold Alpha b = is_letter b
@@ -35,7 +35,7 @@ class_has fold Space b = is_between 9 13 b || is_between 32 32 b
 class_has fold Upper b = is_upper b || (fold && is_lower b)
 class_has fold Xdigit b = is_between 48 57 b || (is_between 65 70 b || is_between 97 102 b)
 
--- The bytes from one to another; where case is ignored and both ends are letters, also those from the one's other case to the other's.
+-- The bytes from one to another. If case is ignored and both ends are letters, also those from the first one's other case to the last one's.
 abbrev pub range_has : Bool → ℕ → ℕ → ℕ → Bool
 range_has fold low high b = is_between low high b || (fold && (is_letter low && (is_letter high && is_between (other_case low) (other_case high) b)))
 

@@ -13,7 +13,7 @@ pub data Tree : Type 0 where
   or : Tree → Tree → Tree
   -- the body from low to high times, or low times and any more
   times : (body : Tree) (low : ℕ) (high : Option ℕ) → Tree
-  -- what a definition's name stands for, in parentheses
+  -- the expression of a definition's name, in parentheses
   named : List ℕ → Tree
 
 -- a pattern: its anchors, and the tree between them

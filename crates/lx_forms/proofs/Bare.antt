@@ -12,7 +12,7 @@ use Rattle.lx_forms.specs.Forms.{bare_form, passes}
 use Rattle.lx_forms.specs.TextLines.{fields_of, text_cut_line, text_line}
 use Rattle.lx_forms.specs.FormListings.{cut_lines_in, line_in, lines_in, listing_to_in, listing_in}
 
--- the parts of a line, where its fields stand together and where each stands by itself
+-- the parts of a line, grouped with its fields together and with each one by itself
 regrouped : (file s class kind line start len text end : List ℕ) →
     ((((file ++ s) ++ ((((((((class ++ s) ++ kind) ++ s) ++ line) ++ s) ++ start) ++ s) ++ len)) ++ (s ++ text)) ++ end)
     ≡ ((((((((((((file ++ s) ++ class) ++ s) ++ kind) ++ s) ++ line) ++ s) ++ start) ++ s) ++ len) ++ s) ++ text) ++ end

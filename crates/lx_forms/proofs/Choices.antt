@@ -6,7 +6,7 @@ use Rattle.std.proofs.lemmas.Grind.{flat_map-append}
 use Rattle.std.proofs.lemmas.List.{drop_all, drop_more, take_more, get_or-map, length-map}
 use Rattle.std.proofs.lemmas.List.Elements.{filter-append}
 
--- whether one of a list passes a test
+-- true if an element of a list passes a test
 module _ {X : Type 0} (test : X → Bool) (xs : List X) (i : ℕ) (d : X) where
   any_at : i < length xs → list_any test (drop i xs) ≡ (test (slice_index_or xs i d) || list_any test (drop (i + 1) xs))
   any_at l = ap (list_any test) (drop_more xs i d l)
@@ -37,7 +37,7 @@ module _ {X Y : Type 0} (f : X → Y) (test : Y → Bool) (xs : List X) (i : ℕ
 pub mapped_none : {X Y : Type 0} (f : X → Y) (test : Y → Bool) (xs : List X) (i : ℕ) → length xs ≤ i → list_any test (drop i (map f xs)) ≡ false
 mapped_none f test xs i l = any_none test (map f xs) i (omega (arith, l, length-map xs f))
 
--- what one more element of a list gives
+-- the result of one more element of a list
 pub flat_more : {X Y : Type 0} (f : X → List Y) (old new : List Y) (xs : List X) (i : ℕ) (d : X) → i < length xs → new ≡ (old ++ flat_map f (take i xs)) ++ f (slice_index_or xs i d) → new ≡ old ++ flat_map f (take (i + 1) xs)
 flat_more f old new xs i d l is =
     let x = slice_index_or xs i d in

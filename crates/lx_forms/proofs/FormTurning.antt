@@ -1,4 +1,4 @@
--- The lines of a piece stand between its turn and the next one.
+-- The lines of a piece are those between its turn and the next one.
 use Rattle.std.proofs.Common.{ℕ, ◌≡◌, ◌+◌, ◌*◌, ◌<◌, suc, ◌==◌, if◌then◌else◌, inl, inr, Bool, true, false, List, ◌++◌, refl, sym, ◌∙◌, ap, subst, arith, add-one, append_assoc, append-nil, drop}
 use Rattle.std.specs.Prelude.{All}
 use Rattle.std.proofs.lemmas.Bool.{cases_eq, eq-eqb, ne_eqb}
@@ -14,7 +14,7 @@ use Rattle.lx_forms.specs.FormListings.{listing_to_in}
 use Rattle.lx_forms.specs.FormPrinting.{FormedPlan, IsTurnIn, PrintsOn, PrintsSome, piece_lines_in, taken_lines_in, lines_before_in, formed_listing}
 use Rattle.lx_forms.specs.FormPrintingLaws.{formed_begins, taken_one, whole_taken}
 
--- the turn behind one, where its piece is the last one of its file or not
+-- the turn after one, if its piece is the last one of its file or not
 abbrev turn_by : Turn → Bool → Turn
 turn_by turn last = if last then record { file = turn.file + 1; number = 0 } else record { file = turn.file; number = turn.number + 1 }
 

@@ -1,4 +1,4 @@
--- The listing of files one behind the other.
+-- The listing of files one after the other.
 use Rattle.std.proofs.Common.{ℕ, zero, suc, ◌≡◌, ◌+◌, ◌<◌, ◌≤◌, List, [], ◌++◌, Option, None, Some, false, refl, sym, ◌∙◌, ap, arith, add_assoc, add-suc, add-zero, append_assoc, append-nil, length, length-append, take, drop}
 use Rattle.std.specs.Prelude.{codes, decimal}
 use Rattle.std.specs.List.{flat_map}
@@ -19,7 +19,7 @@ front_name : (names : Option (List (List ℕ))) (shown : List ℕ → List ℕ) 
 front_name None shown number count file l = refl
 front_name (Some ns) shown number count file l = ap shown (sym (get_or-take count ns file [] l))
 
--- the name of a file behind them
+-- the name of a file after the first ones
 name_behind : (names : Option (List (List ℕ))) (shown : List ℕ → List ℕ) (number : List ℕ) (count file : ℕ) →
     option_map_or (λ ns. shown (name_of ns (count + file))) names number ≡ option_map_or (λ ns. shown (name_of ns file)) (option_map (drop count) names) number
 name_behind None shown number count file = refl

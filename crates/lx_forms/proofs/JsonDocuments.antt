@@ -49,7 +49,7 @@ last_lexemes = token end_object ∷ []
 abbrev end_text : List ℕ
 end_text = codes "}\n"
 
--- a text that begins with what ends a value
+-- a text that begins with the end of a value
 abbrev EndsValue : List ℕ → Type 0
 EndsValue rest = (b : Bool) × (r : List ℕ) × (rest ≡ mark b ∷ r)
 

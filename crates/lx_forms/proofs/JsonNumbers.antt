@@ -10,7 +10,7 @@ use Rattle.json.specs.Token.{bad, boolean, number}
 use Rattle.json.specs.Word.{after_exponent, after_fraction, after_minus, after_number, after_whole, ends_word, number_before, word}
 use Rattle.json.specs.Lex.{Class, between, class, in_word, lex, lex_byte, other, token}
 
--- what ends a value: a comma, or a closing brace
+-- the byte after a value: a comma, or a closing brace
 abbrev pub mark : Bool → ℕ
 mark false = 44
 mark true = 125

@@ -18,7 +18,7 @@ use Rattle.lx_forms.specs.declared.format.Format.{Format}
 use Rattle.lx_forms.specs.declared.format.Format.TheVariants.{Json}
 use Rattle.lx_forms.specs.JsonParts.{json_prefix, rest_of_line}
 
--- the parts of a line, where its prefix stands by itself
+-- the parts of a line, with its prefix by itself
 regrouped : (file sort key line s start n len text end : List ℕ) →
     ((file ++ sort) ++ key) ++ ((((((line ++ s) ++ start) ++ n) ++ len) ++ text) ++ end)
     ≡ (((file ++ sort) ++ (((((key ++ line) ++ s) ++ start) ++ n) ++ len)) ++ text) ++ end
@@ -33,7 +33,7 @@ prefix_and_rest form plan file (Echo line start len) =
     regrouped (file_members form file) (codes ",\"echo\":true") (codes ",\"line\":") (decimal line) (codes ",\"start\":") (decimal start) (codes ",\"len\":") (decimal len)
     (text_member form (text_of (bytes_of plan file) (Echo line start len))) (codes "}\n")
 
--- both behind other bytes
+-- both after other bytes
 pub line_pushed : (before q new : List ℕ) (form : PlainForm) (plan : Planned) (file : ℕ) (item : Item) → q ≡ before ++ json_prefix form plan file (kind_of_item item) → new ≡ q ++ rest_of_line form plan file item →
     new ≡ before ++ json_line form plan file item
 line_pushed before q new form plan file item p r =
@@ -42,7 +42,7 @@ line_pushed before q new form plan file item p r =
     ∙ append_assoc before (json_prefix form plan file (kind_of_item item)) (rest_of_line form plan file item)
     ∙ ap (λ (bytes : List ℕ). before ++ bytes) (prefix_and_rest form plan file item)
 
--- a text that is UTF-8, where texts are printed
+-- a text that is UTF-8, if texts are printed
 member_is : (printed : Bool) (text : List ℕ) → (printed ≡ true → is_utf8 text ≡ true) → string_member printed text ≡ (if printed then bytes_member (codes ",\"text\":") (codes ",\"hex\":") text else [])
 member_is false text h = refl
 member_is true text h = rw (h refl) refl
@@ -50,7 +50,7 @@ member_is true text h = rw (h refl) refl
 text_same : (bytes : List ℕ) (start len : ℕ) → take len (drop start bytes) ≡ take (start + len - start) (drop start bytes)
 text_same bytes start len = ap (λ (n : ℕ). take n (drop start bytes)) (let e : len ≡ start + len - start = omega arith in e)
 
--- what was placed behind the prefix, by the numbers of the item
+-- the part after the prefix, by the numbers of the item
 rest_is : (form : PlainForm) (plan : Planned) (file : ℕ) (item : Item) (line start len : ℕ) (bytes : List ℕ) → (form.text ≡ true → is_utf8 (take len (drop start bytes)) ≡ true) → line ≡ line_number item → start ≡ start_of item → len ≡ len_of item → bytes ≡ bytes_of plan file →
     numbers_text line start len ++ (string_member form.text (take len (drop start bytes)) ++ codes "}\n") ≡ rest_of_line form plan file item
 rest_is form plan file item line start len bytes utf8 l s n t =

@@ -1,4 +1,4 @@
--- The lines in JSON are objects of what they say.
+-- JSON lines are the objects of their members.
 use Rattle.std.proofs.Common.{◌≡◌, ℕ, ◌+◌, ◌/◌, ◌%◌, Bool, true, false, List, [], ◌∷◌, ◌++◌, None, Some, Option, inl, inr, refl, sym, ap, ◌∙◌, arith, append_assoc, append-nil, decimal, if◌then◌else◌}
 use Rattle.std.specs.Prelude.{codes}
 use Rattle.std.specs.List.{flat_map}
@@ -19,7 +19,7 @@ use Rattle.lx_forms.specs.JsonValues.{AreSmall, Member, bytes_said, cut_said, fi
 use Rattle.lx_forms.proofs.JsonDocuments.{more_text, named_text, object_read, object_text}
 use Rattle.lx_forms.proofs.JsonStrings.{plain_is}
 
--- a digit stands in a string as it is
+-- a string shows a digit unescaped
 digit_plain : (n : ℕ) → string_escaped (small_digit n) ≡ small_digit n ∷ []
 digit_plain n = elim (cases_lt n 10) [
   | inl low ↦ rw (lt-ltb n 10 low) (plain_is (48 + n) (λ e. absurd (omega arith)) (λ e. absurd (omega arith)) (omega arith))
@@ -50,7 +50,7 @@ two_behind head a b end = simp append_assoc
 
 -- ---- members
 
--- a name and the colon behind it, with a comma before
+-- a name and the colon after it, with a comma before
 abbrev label : List ℕ → List ℕ
 label name = codes "," ++ string_of name ++ codes ":"
 
@@ -88,7 +88,7 @@ sort_is plan (Echo line start len) = refl
 place_is : (item : Item) → place_members item ≡ more_text (place_said item)
 place_is item = three (codes ",\"line\":") (decimal (line_number item)) (codes ",\"start\":") (decimal (start_of item)) (codes ",\"len\":") (decimal (len_of item))
 
--- members behind others
+-- members after others
 more_both : (xs ys : List Member) → more_text (xs ++ ys) ≡ more_text xs ++ more_text ys
 more_both xs ys = flat_map-append (λ (m : Member). codes "," ++ named_text m) xs ys
 

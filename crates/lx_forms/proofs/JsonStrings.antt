@@ -9,7 +9,7 @@ use Rattle.json.specs.Word.{is_operator, is_space}
 use Rattle.json.specs.Lex.{Class, Lexeme, Mode, between, class, in_string, lex, lex_byte, operator, other, quote, backslash, space}
 use Rattle.lx_forms.specs.JsonLines.{hex_pair, small_digit, string_escaped}
 
--- what a reader and a lexer make of a byte
+-- the results of a reader and a lexer for a byte
 record Passes (x : ℕ) : Type 0 where
   read : (r : List ℕ) → content plain (string_escaped x ++ r) ≡ prepend (x ∷ []) (content plain r)
   lexed : (r : List ℕ) → lex in_string (string_escaped x ++ r) ≡ lex in_string r

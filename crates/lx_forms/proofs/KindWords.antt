@@ -1,4 +1,4 @@
--- What `--only` lets pass, in the words of the listing.
+-- The selection of `--only`, in the words of the listing.
 use Rattle.std.proofs.Common.{◌≡◌, ℕ, zero, suc, ◌-◌, ◌<◌, ◌↔◌, ◌==◌, Bool, true, false, ◌&&◌, ◌||◌, List, [], ◌∷◌, length, refl, sym, ap, ◌∙◌, arith, rules, inl, inr, subst}
 use Rattle.std.specs.Prelude.{All, Contains, Option, Some, None, decimal, slice_index_or}
 use Rattle.std.specs.List.{filter, flat_map, list_any}
@@ -42,7 +42,7 @@ number_found [] n (k, l, e) = absurd (omega (arith, l))
 number_found (m ∷ ms) n (zero, l, e) = ap (λ (b : Bool). b || list_any (λ m. m == n) ms) ((Decides-eqb m n).1 e)
 number_found (m ∷ ms) n (suc k, l, e) = or_true (m == n) (list_any (λ m. m == n) ms) (number_found ms n (k, omega (arith, l), e))
 
--- a text is one of a list exactly where it stands there
+-- a text is one of a list exactly if the list contains it
 one_of_contains : (words : List (List ℕ)) (text : List ℕ) → Contains words text → is_one_of words text ≡ true
 one_of_contains [] text (k, l, e) = absurd (omega (arith, l))
 one_of_contains (word ∷ words) text (zero, l, e) = ap (λ (b : Bool). b || is_one_of words text) ((bytes_eq-Decides word text).1 e)
@@ -58,7 +58,7 @@ contains_one_of (word ∷ words) text e = elim (cases_Bool (bytes_eq word text))
   | inr other ↦ contains_behind word words text (contains_one_of words text (sym (ap (λ (b : Bool). b || is_one_of words text) other) ∙ e))
 ]
 
--- what words select is what stands in the listing by one of them
+-- words select the items that the listing shows by one of them
 selected_is : (plan : Planned) (words : List (List ℕ)) (item : Item) → HasKindOf plan.table item → is_selected (selected_by plan.table words) item ≡ is_one_of words (kind_text plan item)
 selected_is plan words (Token line start len (Name place)) h = get_or-map (is_one_of words) plan.table.kinds place [] false h.named
 selected_is plan words (Token line start len (Number number)) h =
@@ -96,7 +96,7 @@ choice_is_of : (table : Table) (choice : Option (ℕ × ℕ)) → AreOf table (s
 choice_is_of table None = λ n c. absurd (none_contained n c)
 choice_is_of table (Some found) = rule_is_of table found.0
 
--- so are those of the items that steps give
+-- so are those of the items of steps
 steps_give : (table : Table) (steps : List Step) (line start len : ℕ) → AreOf table steps → All (HasReturnedNumber table) (items_of_steps steps line start len)
 steps_give table [] line start len of = All-nil (HasReturnedNumber table)
 steps_give table (Echo ∷ steps) line start len of = All-cons (HasReturnedNumber table) (Echoed line start len) (items_of_steps steps line start len) tt (steps_give table steps line start len of)

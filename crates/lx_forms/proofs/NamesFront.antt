@@ -1,4 +1,4 @@
--- What is said of a front part of a text that has more names than are wanted.
+-- The result for a front part of a text that has too many names.
 use Rattle.std.proofs.Common.{ℕ, ◌≡◌, ◌≢◌, ◌+◌, ◌<◌, ◌≤◌, List, [], ◌∷◌, ◌++◌, inl, inr, refl, sym, ◌∙◌, ap, subst, length, All, arith, append_assoc, append-nil, if◌then◌else◌}
 use Rattle.std.specs.Prelude.{Bool}
 use Rattle.std.proofs.lemmas.Bool.{eq-eqb, ne_eqb}
@@ -7,7 +7,7 @@ use Rattle.lx_forms.specs.NameLists.{BeginsWith, EndsName, HasMoreNames, HasRead
 use Rattle.lx_forms.specs.declared.name_list.NameListFault.{NameListFault}
 use Rattle.lx_forms.specs.declared.name_list.NameListFault.TheVariants.{NoName, TooMany, Memory}
 
--- ---- how many separators a text has
+-- ---- the number of separators of a text
 joined : (s : ℕ) (a b : List ℕ) → separators s (a ++ b) ≡ separators s a + separators s b
 joined s [] b = omega arith
 joined s (byte ∷ a) b = let rest = joined s a b in omega (arith, rest)
@@ -31,7 +31,7 @@ of_ended s (name ∷ names) are =
     let rest = of_ended s names (All-tail (IsName s) name names are) in
     omega (arith, head, both, free, last, rest)
 
--- ---- a list of at most so many names is the whole
+-- ---- a list with few enough names is complete
 pub read_all : (s : ℕ) (text : List ℕ) (old new : List (List ℕ)) (rest : List ℕ) (read : HasRead s text old new rest) → length rest ≡ 0 → IsListOf s text read.names
 read_all s text old new rest read none = record {
   names_are = read.names_are;
@@ -59,7 +59,7 @@ is_whole s most whole front names part list few = elim part.enough [
   | inr many ↦ let count = few_names s front names list in absurd (omega (arith, count))
 ]
 
--- ---- what is wrong with the front part is wrong with the whole
+-- ---- a fault of the front part is a fault of the whole
 longer : (s : ℕ) (front rest : List ℕ) (names : List (List ℕ)) (more : List ℕ) → BeginsWith s front names more → BeginsWith s (front ++ rest) names (more ++ rest)
 longer s front rest names more begins = record {
   names_are = begins.names_are;

@@ -6,7 +6,7 @@ use Rattle.std.proofs.lemmas.List.{length-append}
 use Rattle.std.proofs.lemmas.List.Elements.{All-push}
 use Rattle.lx_forms.specs.NameLists.{AreParts, HasRead, IsFree, IsName, IsNoName, ended}
 
--- one name more, with the separator behind it
+-- one more name, with the separator after it
 ended_more : (separator : ℕ) (names : List (List ℕ)) (name : List ℕ) → ended separator (names ++ name ∷ []) ≡ ended separator names ++ (name ++ separator ∷ [])
 ended_more separator names name =
     flat_map-append (λ n. n ++ separator ∷ []) names (name ∷ []) ∙ ap (λ bytes. ended separator names ++ bytes) (append-nil (name ++ separator ∷ []))

@@ -1,10 +1,10 @@
--- Parts that are put one behind the other.
+-- Parts that are put one after the other.
 use Rattle.std.proofs.Common.{◌≡◌, ℕ, ◌≤◌, List, ◌++◌, length, take, drop, sym, ◌∙◌, ap, append_assoc}
 use Rattle.std.specs.List.{flat_map}
 use Rattle.std.proofs.lemmas.Grind.{flat_map-append}
 use Rattle.std.proofs.lemmas.List.{take-append-drop, take_all}
 
--- a front of a text that stands as it is, and the rest of it byte by byte
+-- an unescaped front of a text, and the rest of it byte by byte
 pub front_and_rest : (escape : ℕ → List ℕ) (text before : List ℕ) (plain count : ℕ) → flat_map escape (take plain text) ≡ take plain text → length (drop plain text) ≤ count →
     (before ++ take plain text) ++ flat_map escape (take count (drop plain text)) ≡ before ++ flat_map escape text
 front_and_rest escape text before plain count same all =

@@ -1,4 +1,4 @@
--- Which bytes of a text stand in a string as they are, and which are ASCII.
+-- The bytes of a text that a string shows unescaped, and those that are ASCII.
 use Rattle.std.proofs.Common.{◌≡◌, ℕ, zero, suc, ◌%◌, ◌^◌, ◌<◌, ◌≤◌, Bool, true, false, not, cond, ◌||◌, eqb, ltb, List, [], ◌∷◌, length, take, map, replicate, refl, ap, ◌∙◌, subst, arith, take-take, length-take-le}
 use Rattle.std.specs.List.{flat_map, prefix_len}
 use Rattle.std.specs.Int.Bits.{bit_or}
@@ -14,7 +14,7 @@ use Rattle.lx_forms.specs.JsonLines.{string_escaped}
 abbrev is_escaped : ℕ → Bool
 is_escaped x = (ltb x 32 || eqb x 34) || eqb x 92
 
--- what three comparisons of a lane say, in its top bit
+-- the result of three comparisons of a lane, in its top bit
 one_lane : (a b c : Bool) → top 7 (bit_or (bit_or (cond a 255 0) (cond b 255 0)) (cond c 255 0)) ≡ ((a || b) || c)
 one_lane true true true = refl
 one_lane true true false = refl

@@ -1,4 +1,4 @@
--- Which items `--only` lets pass: those whose kind stands in the listing by one of the words that it lists.
+-- The items that `--only` selects: those whose kind the listing shows by one of its words.
 use Rattle.std.specs.Prelude.{◌≡◌, ◌≢◌, ℕ, ◌||◌, Bool, true, false, ⊤, ◌⊎◌, List, [], ◌∷◌, All, Contains, codes, decimal, map}
 use Rattle.std.specs.List.{filter, flat_map, list_any}
 use Rattle.std.specs.Str.{bytes_eq}
@@ -38,7 +38,7 @@ numbers_of table = flat_map numbers_of_rule table.rules
 abbrev pub is_kind_word : Table → List ℕ → Bool
 is_kind_word table word = bytes_eq (codes "-") word || (is_one_of table.kinds word || is_one_of (map decimal (numbers_of table)) word)
 
--- the kinds that stand in the listing by one of these words, and echoes where `-` is one
+-- the kinds that the listing shows by one of these words, and echoes if `-` is one
 abbrev pub selected_by : Table → List (List ℕ) → Selected
 selected_by table words = record {
   names = map (is_one_of words) table.kinds;
@@ -46,7 +46,7 @@ selected_by table words = record {
   echoes = is_one_of words (codes "-");
 }
 
--- the text lists words with a comma behind each, each of a kind or the echo's, and this is what they select
+-- the text is a list of words with commas, each of a kind or of echoes, and they select this
 pub record IsChosen (table : Table) (text : List ℕ) (selected : Selected) : Type 0 where
   pub words : List (List ℕ)
   pub some : words ≢ []
@@ -71,13 +71,13 @@ IsUnknownAmong table words (NoKind word) = Contains words word.now × (is_kind_w
 IsUnknownAmong table words NoWord = ⊥
 IsUnknownAmong table words Memory = ⊥
 
--- why a text lists no words, or that memory was refused
+-- the reason why a text lists no words, or a failed allocation
 abbrev pub IsNoWords : List ℕ → ChoiceFault → Type 0
 IsNoWords text (NoKind word) = ⊥
 IsNoWords text NoWord = IsNoChoice text
 IsNoWords text Memory = ⊤
 
--- why a text chooses nothing, or that memory was refused
+-- the reason why a text chooses nothing, or a failed allocation
 abbrev pub IsRefusedChoice : Table → List ℕ → ChoiceFault → Type 0
 IsRefusedChoice table text (NoKind word) = IsUnknown table text word.now
 IsRefusedChoice table text NoWord = IsNoChoice text
@@ -89,11 +89,11 @@ HasReturnedNumber table (Token line start len (Name place)) = Unit {0}
 HasReturnedNumber table (Token line start len (Number number)) = Contains (numbers_of table) number
 HasReturnedNumber table (Echoed line start len) = Unit {0}
 
--- what kind an item has, if any, is the tables': a name that is there, or a number that an action returns
+-- the kind of an item, if it has one, is among the tables': the name of a kind, or a number that an action returns
 pub record HasKindOf (table : Table) (item : Item) : Type 0 where
   pub named : NamesKindAmong table.kinds item
   pub returned : HasReturnedNumber table item
 
--- the kind of an item stands in the listing by one of these words
+-- the listing shows the kind of an item by one of these words
 abbrev pub stands_by_one_of : Planned → List (List ℕ) → Item → Bool
 stands_by_one_of plan words item = is_one_of words (kind_text plan item)

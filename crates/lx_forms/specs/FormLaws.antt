@@ -8,11 +8,11 @@ use Rattle.lx_forms.specs.Forms.{PlainForm}
 abbrev pub form_of_front : PlainForm → ℕ → PlainForm
 form_of_front form count = record form { names = option_map (take count) form.names }
 
--- the form for the files behind the first ones, this many: their numbers begin behind those of the first ones, and so do their names
+-- the form for the files after the first `count` ones: their numbers and names begin after those
 abbrev pub form_behind : PlainForm → ℕ → PlainForm
 form_behind form count = record form { first = form.first + count; names = option_map (drop count) form.names }
 
--- the files of two plans one behind the other, by the tables of both
+-- the files of two plans one after the other, by the tables of both
 pub record IsJoined (front rest whole : Planned) : Type 0 where
   pub front_table : front.table ≡ whole.table
   pub rest_table : rest.table ≡ whole.table

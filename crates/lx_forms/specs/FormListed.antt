@@ -1,4 +1,4 @@
--- What was written by a printer to which a plan's pieces were handed on in order.
+-- The output of a printer to which a plan's pieces were passed in order.
 use Rattle.std.proofs.Common.{ℕ, ◌≡◌, inl, inr, false, List, ◌++◌, refl, sym, ◌∙◌, ap, subst, arith, append-nil, replicate}
 use Rattle.std.proofs.lemmas.Bool.{cases_Bool, cases_lt}
 use Rattle.lx_piece.specs.Passing.{Passing, PassesOn}
@@ -12,11 +12,11 @@ use Rattle.lx_forms.specs.FormListings.{listing_to_in}
 use Rattle.lx_forms.specs.FormPrinting.{FormPrinting, FormedPlan, IsTurnIn, PrintsOn, PrintsSome, taken_lines_in, lines_before_in, formed_listing}
 use Rattle.lx_forms.specs.FormPrintingLaws.{formed_begins}
 
--- to whom pieces are handed on, where it is a printer in a form
+-- the passing of pieces to a printer in a form
 abbrev pub PassedIn : {S T : Type 0} → (S → List ℕ → S → Type 0) → (T → FormPrinting S) → Passing T → Passing T → Type 0
 PassedIn {S} {T} wrote at old new = PassesOn (λ t. (at t).formed.plan) (λ t. (at t).turn) (λ s t. PrintsOn wrote (at s) (at t)) (λ s _ t. PrintsSome wrote (at s) (at t)) old new
 
--- to whom nothing was handed yet
+-- a state to which no piece was passed
 abbrev pub fresh : {T : Type 0} → Planned → T → Passing T
 fresh plan taker = record { taker = taker; counts = replicate (files_of plan) 0; faults = 0; failed = false }
 
@@ -24,7 +24,7 @@ fresh plan taker = record { taker = taker; counts = replicate (files_of plan) 0;
 first_is : (plan : Planned) → IsPlan plan → IsTurnIn plan first_turn
 first_is plan is = record { plan_is = is; within = omega arith; piece = λ _. omega arith; behind = λ _. refl }
 
--- behind all pieces all lines were written
+-- after all pieces, all lines were written
 all_before : (formed : FormedPlan) (counts : List ℕ) (turn : Turn) → IsTurnIn formed.plan turn → IsTurnBy formed.plan counts turn → AreAllTaken formed.plan counts → lines_before_in formed turn ≡ formed_listing formed
 all_before formed counts turn is by all =
     let form = formed.form in

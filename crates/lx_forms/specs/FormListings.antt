@@ -29,7 +29,7 @@ cut_line_in form file = cut_line_by form.format form file
 unfoldable pub lines_in : PlainForm → Planned → ℕ → List Item → List ℕ
 lines_in form plan file items = flat_map (line_in form plan file) (filter (passes form) items)
 
--- what stands behind them: that line where the reading failed, else nothing
+-- the lines after them: the cut line if the reading failed, otherwise none
 abbrev pub cut_lines_in : PlainForm → ℕ → Bool → List ℕ
 cut_lines_in form file cut = if cut then cut_line_in form file else []
 

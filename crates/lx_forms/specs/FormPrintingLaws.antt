@@ -50,7 +50,7 @@ open_piece form plan file number d =
     ap (λ cut. lines_in form plan file items ++ cut_lines_in form file cut) (marked_cut plan file number ∙ ap (λ last. last && is_cut plan file) (ne_eqb (number + 1) (pieces_of plan file) d))
     ∙ append-nil (lines_in form plan file items)
 
--- the last one has besides the line of a file whose reading failed
+-- the last one also has the line of a file whose reading failed
 last_piece : (form : PlainForm) (plan : Planned) (file number : ℕ) → number + 1 ≡ pieces_of plan file → piece_lines_in form plan (piece_at plan file number) ≡ lines_in form plan file (part plan.per_piece (items_of plan file) number) ++ cut_lines_in form file (is_cut plan file)
 last_piece form plan file number e =
     ap (λ cut. lines_in form plan file (part plan.per_piece (items_of plan file) number) ++ cut_lines_in form file cut)
@@ -95,7 +95,7 @@ listing_rises form plan low (suc high) l = elim (cases_eq low (suc high)) [
   | inr d ↦ prefix_then (listing_to_in form plan low) (listing_to_in form plan high) (listing_to_in form plan (suc high)) (listing_rises form plan low high (omega arith)) (prefix_before (listing_to_in form plan high) (file_lines_in form plan high))
 ]
 
--- what stands before a turn of the plan begins the listing
+-- the lines before a turn of the plan begin the listing
 pub formed_begins : (formed : FormedPlan) (turn : Turn) → IsTurnIn formed.plan turn → IsPrefix (lines_before_in formed turn) (formed_listing formed)
 formed_begins formed turn is =
     let form = formed.form in

@@ -1,4 +1,4 @@
--- Which items of a listing are printed, and how.
+-- The items of a listing that are printed, and their form.
 use Rattle.std.specs.Prelude.{ℕ, ◌+◌, ◌==◌, Bool, true, false, List, [], Option, None, slice_index_or}
 use Rattle.std.specs.List.{list_any}
 use Rattle.std.specs.Option.{option_map_or}
@@ -9,14 +9,14 @@ use Rattle.lx_scan.specs.declared.item.Item.TheVariants.{Token, Echo}
 use Rattle.lx_forms.specs.declared.format.Format.{Format}
 use Rattle.lx_forms.specs.declared.format.Format.TheVariants.{Lines}
 
--- which items are selected: of the kinds with a name those at whose place `true` stands, of the others those with these numbers, and echoes or not
+-- the selected items: of the named kinds those with the entry `true`, of the others those with these numbers, and a flag for echoes
 pub record Selected : Type 0 where
   pub names : List Bool
   pub numbers : List ℕ
   pub echoes : Bool
 
--- The form of a listing: the number of the first file; the names of the files, where they stand in the place of numbers; what alone is printed, where that
--- isn't every item; whether the texts of items are printed; and the format of a line.
+-- The form of a listing: the number of the first file, the names of the files, if they replace the numbers, the selected items, if not every item is
+-- printed, a flag for texts, and the format of a line.
 pub record PlainForm : Type 0 where
   pub first : ℕ
   pub names : Option (List (List ℕ))
@@ -36,7 +36,7 @@ abbrev pub is_selected : Selected → Item → Bool
 is_selected selected (Token line start len kind) = has_kind selected kind
 is_selected selected (Echo line start len) = selected.echoes
 
--- whether an item is printed
+-- true if an item is printed
 unfoldable pub passes : PlainForm → Item → Bool
 passes form item = option_map_or (λ selected. is_selected selected item) form.only true
 
@@ -44,6 +44,6 @@ passes form item = option_map_or (λ selected. is_selected selected item) form.o
 abbrev pub number_in : PlainForm → ℕ → ℕ
 number_in form file = form.first + file
 
--- the name of a file; where there is none, it is empty
+-- the name of a file, which is empty if there is none
 abbrev pub name_of : List (List ℕ) → ℕ → List ℕ
 name_of names file = slice_index_or names file []

@@ -4,15 +4,15 @@ use Rattle.std.specs.List.{flat_map}
 use Rattle.std.specs.Str.{is_utf8}
 use Rattle.lx_forms.specs.JsonLines.{string_escaped}
 
--- a text that is UTF-8, where texts are printed
+-- a text that is UTF-8, if texts are printed
 abbrev pub string_member : Bool → List ℕ → List ℕ
 string_member printed text = if printed then codes ",\"text\":\"" ++ flat_map string_escaped text ++ codes "\"" else []
 
--- the numbers behind the prefix
+-- the numbers after the prefix
 abbrev pub numbers_text : ℕ → ℕ → ℕ → List ℕ
 numbers_text line start len = decimal line ++ codes ",\"start\":" ++ decimal start ++ codes ",\"len\":" ++ decimal len
 
--- A text is short, so far before the end of the bytes that 16 can be read behind it, and UTF-8 where it is printed.
+-- The text is short, and 16 bytes can be read after it. A printed text is also UTF-8.
 pub record IsShortText (printed : Bool) (start len : ℕ) (bytes : List ℕ) : Type 0 where
   pub short : len ≤ 96
   pub within : start + len + 16 ≤ length bytes

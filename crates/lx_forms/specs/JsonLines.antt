@@ -19,7 +19,7 @@ small_digit n = if nat_lt n 10 then 48 + n else 87 + n
 abbrev pub hex_pair : ℕ → List ℕ
 hex_pair byte = small_digit (byte / 16) ∷ small_digit (byte % 16) ∷ []
 
--- how a byte stands in a string: a quote and a backslash behind a backslash, one below 32 by its number, each other one as it is
+-- a byte in a string: a quote and a backslash after a backslash, one below 32 by its number, each other one unchanged
 abbrev pub string_escaped : ℕ → List ℕ
 string_escaped byte =
     if byte == 34 then codes "\\\""
@@ -31,13 +31,13 @@ string_escaped byte =
 abbrev pub string_of : List ℕ → List ℕ
 string_of bytes = codes "\"" ++ flat_map string_escaped bytes ++ codes "\""
 
--- Bytes under one of two names: as a string under the first where they are UTF-8 (RFC 3629), else under the second, each by two digits.
--- `is_utf8` is the test of std's `IsUtf8`: the bytes are those of some characters.
+-- Bytes under one of two names: as a string under the first if they are UTF-8 (RFC 3629), otherwise under the second, each by two digits. `is_utf8`
+-- is the test of std's `IsUtf8`: the bytes are those of some characters.
 abbrev pub bytes_member : List ℕ → List ℕ → List ℕ → List ℕ
 bytes_member name hex_name bytes =
     if is_utf8 bytes then name ++ string_of bytes else hex_name ++ codes "\"" ++ flat_map hex_pair bytes ++ codes "\""
 
--- the name of a file, where names are printed
+-- the name of a file, if names are printed
 abbrev pub name_member : PlainForm → ℕ → List ℕ
 name_member form file = option_map_or (λ names. bytes_member (codes ",\"name\":") (codes ",\"name_hex\":") (name_of names file)) form.names []
 
@@ -59,7 +59,7 @@ abbrev pub place_members : Item → List ℕ
 place_members item =
     codes ",\"line\":" ++ decimal (line_number item) ++ codes ",\"start\":" ++ decimal (start_of item) ++ codes ",\"len\":" ++ decimal (len_of item)
 
--- a text, where texts are printed
+-- a text, if texts are printed
 abbrev pub text_member : PlainForm → List ℕ → List ℕ
 text_member form text = if form.text then bytes_member (codes ",\"text\":") (codes ",\"hex\":") text else []
 

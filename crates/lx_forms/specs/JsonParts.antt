@@ -17,11 +17,11 @@ abbrev pub sort_text : Planned → Option Kind → List ℕ
 sort_text plan None = codes ",\"echo\":true"
 sort_text plan (Some kind) = codes ",\"kind\":" ++ kind_value plan kind
 
--- what stands before the number of the line
+-- the part before the number of the line
 abbrev pub json_prefix : PlainForm → Planned → ℕ → Option Kind → List ℕ
 json_prefix form plan file kind = file_members form file ++ sort_text plan kind ++ codes ",\"line\":"
 
--- what stands behind the prefix of the line of an item
+-- the part after the prefix of the line of an item
 abbrev pub rest_of_line : PlainForm → Planned → ℕ → Item → List ℕ
 rest_of_line form plan file item = numbers_text (line_number item) (start_of item) (len_of item) ++ text_member form (text_of (bytes_of plan file) item) ++ codes "}\n"
 
@@ -30,7 +30,7 @@ pub record IsPrefixOf (form : PlainForm) (plan : Planned) (file : ℕ) (kind : O
   pub short : prefix.len ≤ 128
   pub text : 0 < prefix.len → take prefix.len prefix.text ≡ json_prefix form plan file kind
 
--- what is kept are the prefixes of an Echo and of kinds
+-- the kept prefixes are those of an Echo and of kinds
 pub record ArePrefixesOf (form : PlainForm) (plan : Planned) (file : ℕ) (prefixes : Prefixes) : Type 0 where
   pub echo : IsPrefixOf form plan file None prefixes.echo
   pub slots : All (λ (slot : Slot). IsPrefixOf form plan file (Some slot.kind) slot.prefix) prefixes.slots

@@ -1,4 +1,4 @@
--- What a line in JSON says: the value of RFC 8259 that it is.
+-- The meaning of a JSON line: its value of RFC 8259.
 use Rattle.std.specs.Prelude.{ℕ, ◌<◌, ◌^◌, true, if◌then◌else◌, List, [], ◌∷◌, ◌++◌, codes, decimal}
 use Rattle.std.specs.List.{flat_map}
 use Rattle.std.specs.Option.{option_map_or}
@@ -12,13 +12,13 @@ use Rattle.lx_piece.specs.Plans.{Planned, bytes_of, kind_of}
 use Rattle.lx_forms.specs.Forms.{PlainForm, name_of, number_in}
 use Rattle.lx_forms.specs.JsonLines.{hex_pair}
 
--- what a member says: a text, a number, or true
+-- the value of a member: a text, a number, or true
 pub data Said : Type 0 where
   text : List ℕ → Said
   count : ℕ → Said
   truth : Said
 
--- a member's name, and what it says
+-- a member's name, and its value
 abbrev pub Member : Type 0
 Member = List ℕ × Said
 
@@ -44,7 +44,7 @@ abbrev pub AreSmall : List Member → Type 0
 AreSmall [] = Unit {0}
 AreSmall (m ∷ ms) = IsSmall m.1 × AreSmall ms
 
--- bytes under the first name where they are UTF-8, else their digits under the second
+-- bytes under the first name if they are UTF-8, otherwise their digits under the second
 abbrev pub bytes_said : List ℕ → List ℕ → List ℕ → Member
 bytes_said name hex_name bytes = if is_utf8 bytes then (name, text bytes) else (hex_name, text (flat_map hex_pair bytes))
 

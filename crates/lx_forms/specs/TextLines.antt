@@ -9,15 +9,15 @@ use Rattle.lx_line.specs.Lines.{class_text, kind_text}
 use Rattle.lx_line.specs.Escapes.{escaped}
 use Rattle.lx_forms.specs.Forms.{PlainForm, name_of, number_in}
 
--- how a byte of a name stands in a line: as one of a text does, and a blank by two digits
+-- a byte of a name in a line: a blank as two digits, and any other byte like one of a text
 abbrev pub name_escaped : ℕ → List ℕ
 name_escaped byte = if byte == 32 then codes "\\x20" else escaped byte
 
--- the file: its name, where names are printed, else its number
+-- the file: its name if names are printed, otherwise its number
 abbrev pub file_text : PlainForm → ℕ → List ℕ
 file_text form file = option_map_or (λ names. flat_map name_escaped (name_of names file)) form.names (decimal (number_in form file))
 
--- a text and the blank before it, where texts are printed
+-- a blank and a text, if texts are printed
 abbrev pub text_part : PlainForm → List ℕ → List ℕ
 text_part form text = if form.text then codes " " ++ flat_map escaped text else []
 

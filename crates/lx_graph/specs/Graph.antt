@@ -5,7 +5,7 @@ use Rattle.lx_automaton.specs.Automata.{Machine, accepted_by, class_target, star
 use Rattle.lx_tables.specs.Model.{Table, TableRule, rule_at}
 use Rattle.lx_graph.specs.Labels.{action_label, condition_label, is_target, ranges}
 
--- whether the state steps to t on a class before this one
+-- true if the state steps to t on a class before this one
 unfoldable pub is_led_before : Machine → ℕ → ℕ → ℕ → Bool
 is_led_before m s t class = list_any (λ c. is_target t (class_target m s c)) (range_with_len 0 class)
 
@@ -16,7 +16,7 @@ ends_text s t = codes "    " ++ (decimal s ++ (codes " -> " ++ decimal t))
 abbrev pub edge_line : Machine → ℕ → ℕ → List ℕ
 edge_line m s t = ends_text s t ++ (codes " [label=\"" ++ (ranges m s t ++ codes "\"];\n"))
 
--- the edge to this target, where no class before has it
+-- the edge to this target, if no class before has it
 abbrev pub edge_to : Machine → ℕ → ℕ → Option ℕ → List ℕ
 edge_to m s class None = []
 edge_to m s class (Some t) = if is_led_before m s t class then [] else edge_line m s t
@@ -35,7 +35,7 @@ state_name s = codes "    " ++ decimal s
 abbrev pub accepting_name : ℕ → List ℕ
 accepting_name s = state_name s ++ (codes " [shape=doublecircle, label=\"" ++ decimal s)
 
--- a state that accepts a rule, with what is done behind the rule's matches
+-- a state that accepts a rule, with the rule's action
 abbrev pub accepting_line : Table → List (List ℕ) → ℕ → TableRule → List ℕ
 accepting_line table names s rule = accepting_name s ++ (action_label table names rule ++ codes "\"];\n")
 
@@ -57,11 +57,11 @@ begin_text c = codes "    begin" ++ decimal c
 abbrev pub begin_edge : ℕ → ℕ → List ℕ
 begin_edge c s = begin_text c ++ (codes " -> " ++ decimal s)
 
--- where a condition begins
+-- the edge to the state in which a condition begins
 abbrev pub start_edge : ℕ → ℕ → List ℕ
 start_edge c s = begin_edge c s ++ codes ";\n"
 
--- where a condition begins at the beginning of a line, if that is elsewhere
+-- the edge for a condition at the start of a line, if it begins in another state there
 abbrev pub line_edge : ℕ → ℕ → ℕ → List ℕ
 line_edge c elsewhere s =
     if s == elsewhere then []
@@ -70,7 +70,7 @@ line_edge c elsewhere s =
 abbrev pub condition_line : List (List ℕ) → ℕ → List ℕ
 condition_line names c = begin_text c ++ (codes " [shape=plaintext, label=\"" ++ (condition_label names c ++ codes "\"];\n"))
 
--- a condition and where it begins
+-- a condition with its edges
 abbrev pub condition_text : List (List ℕ) → Machine → ℕ → List ℕ
 condition_text names m c =
     condition_line names c ++ (start_edge c (start_of m c false) ++ line_edge c (start_of m c false) (start_of m c true))

@@ -1,4 +1,4 @@
--- What stands at the nodes and the edges of the graph. In a label of DOT a backslash is two.
+-- The labels of the graph's nodes and edges. In a DOT label, a backslash is doubled.
 use Rattle.std.specs.Prelude.{ℕ, ◌+◌, ◌-◌, ◌/◌, ◌%◌, ◌==◌, nat_lt, ◌&&◌, ◌||◌, not, Bool, false, if◌then◌else◌, List, [], ◌∷◌, ◌++◌, Option, Some, None, codes, decimal, length, slice_index_or}
 use Rattle.std.specs.List.{flat_map, range_with_len}
 use Rattle.lx_rules.specs.declared.rule.Kind.{Kind}
@@ -12,7 +12,7 @@ use Rattle.lx_tables.specs.Model.{Table, TableRule, kind_at}
 abbrev pub small_digit : ℕ → ℕ
 small_digit n = if nat_lt n 10 then 48 + n else 87 + n
 
--- the bytes that stand as they are: those of 33 to 126, but for the quote, the backslash, and what has a meaning of its own in brackets
+-- the bytes that are shown unchanged: those of 33 to 126, except for the quote, the backslash, and those with a special meaning in brackets
 abbrev pub is_plain : ℕ → Bool
 is_plain byte = nat_lt 32 byte && (nat_lt byte 127 && not (byte == 34 || (byte == 45 || (byte == 94 || (byte == 91 || (byte == 92 || byte == 93))))))
 
@@ -20,20 +20,20 @@ is_plain byte = nat_lt 32 byte && (nat_lt byte 127 && not (byte == 34 || (byte =
 abbrev pub byte_label : ℕ → List ℕ
 byte_label byte = if is_plain byte then byte ∷ [] else codes "\\\\x" ++ (small_digit (byte / 16) ∷ small_digit (byte % 16) ∷ [])
 
--- whether the target is this one
+-- true if the target is this one
 abbrev pub is_target : ℕ → Option ℕ → Bool
 is_target t None = false
 is_target t (Some s) = s == t
 
--- whether state s steps to t on a byte
+-- true if state s steps to t on a byte
 abbrev pub leads : Machine → ℕ → ℕ → ℕ → Bool
 leads m s t byte = is_target t (target_of m s byte)
 
--- whether the bytes of a range begin with this one
+-- true if a range of bytes begins with this one
 abbrev pub opens : (ℕ → Bool) → ℕ → Bool
 opens taken byte = byte == 0 || not (taken (byte - 1))
 
--- whether the bytes of a range end with this one
+-- true if a range of bytes ends with this one
 abbrev pub closes : (ℕ → Bool) → ℕ → Bool
 closes taken byte = byte == 255 || not (taken (byte + 1))
 
@@ -43,7 +43,7 @@ open_label closed byte = codes "[" ++ (byte_label byte ++ (if closed then codes 
 abbrev pub close_label : Bool → ℕ → List ℕ
 close_label closed byte = if closed then codes "-" ++ (byte_label byte ++ codes "]") else []
 
--- what a byte adds to the ranges of the bytes that are taken: `[a-z]`, `[a]`
+-- the part that a byte adds to the ranges of the bytes that are taken: `[a-z]`, `[a]`
 abbrev pub range_part : (ℕ → Bool) → ℕ → List ℕ
 range_part taken byte =
     if taken byte then (if opens taken byte then open_label (closes taken byte) byte else close_label (closes taken byte) byte)
@@ -53,7 +53,7 @@ range_part taken byte =
 unfoldable pub ranges : Machine → ℕ → ℕ → List ℕ
 ranges m s t = flat_map (range_part (leads m s t)) (range_with_len 0 256)
 
--- a condition by its name, or by its number where its name isn't known
+-- a condition by its name, or by its number if its name isn't known
 abbrev pub condition_label : List (List ℕ) → ℕ → List ℕ
 condition_label names c = if nat_lt c (length names) then slice_index_or names c [] else decimal c
 
@@ -67,7 +67,7 @@ step_label table names Echo = codes "\\nECHO"
 step_label table names (Begin c) = codes "\\nBEGIN " ++ condition_label names c
 step_label table names (Return kind) = codes "\\n" ++ kind_label table kind
 
--- what is done behind a match of a rule: its steps, or `;` for none; and `$` before it where the rule ends with one
+-- the action of a rule: its steps, or `;` for none; and `$` before it if the rule ends with one
 abbrev pub action_label : Table → List (List ℕ) → TableRule → List ℕ
 action_label table names rule =
     (if rule.line_end then codes "\\n$" else [])

@@ -1,4 +1,4 @@
--- What stands behind some bytes, once more stands behind it.
+-- The bytes after some bytes, once more bytes follow.
 use Rattle.std.proofs.Common.{◌≡◌, ℕ, List, ◌++◌, refl, ◌∙◌, ap, append_assoc, if◌then◌else◌}
 use Rattle.std.specs.Prelude.{Result, Ok, Err, OnOk, codes, decimal, is_ok}
 

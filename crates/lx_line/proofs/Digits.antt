@@ -112,7 +112,7 @@ is_short_by one p =
 unfoldable is_short : ℕ → Bool
 is_short p = is_short_by (ltb p 10) p
 
--- what the table of texts has of a number
+-- the entry of a number in the table of texts
 pub record IsShort (p : ℕ) : Type 0 where
   pub few : get_or SHORT (p * 4 + 3) 0 ≤ 3
   pub text : take (get_or SHORT (p * 4 + 3) 0) (drop (p * 4) SHORT) ≡ decimal p ++ 32 ∷ []
@@ -178,7 +178,7 @@ last_over front last digit from m digits place long is =
     ∙ take_more_set (drop from digits) m digit (omega arith)
     ∙ ap (λ (xs : List ℕ). xs ++ digit ∷ []) front_is
 
--- the digits of the next number, where the last one alone changes
+-- the digits of the next number, if only the last one changes
 pub next_digits : (high from : ℕ) (digits : List ℕ) → 0 < high → high % 10 < 9 → high < 2 ^ 60 → from ≤ 20 → length digits ≡ 36 → take (20 - from) (drop from digits) ≡ leading high →
     take (20 - from) (drop from (slice_set digits 19 (48 + (high + 1) % 10))) ≡ leading (high + 1)
 next_digits high from digits some low small within long is = elim (cases_lt high 10) [
@@ -203,7 +203,7 @@ next_digits high from digits some low small within long is = elim (cases_lt high
         ∙ sym new
         ∙ sym (leading_some (high + 1) (omega arith))
 
--- the last of some digits, and those of the next number where it alone changes
+-- the last of some digits, and those of the next number if only it changes
 pub record LastDigit (front : List ℕ) (len high : ℕ) : Type 0 where
   pub some : 0 < high
   pub digit : get_or front (len - 1) 0 ≡ 48 + high % 10

@@ -50,11 +50,11 @@ line_placed {a} {b} {c} {at} {mid} {end} plan file item kind line start len byte
     ∙ ap (λ (bs : List ℕ). take at a ++ (prefix_text plan file (kind_of_item item) ++ rest_text (line_number item) (start_of item) (len_of item) bs)) t
     ∙ ap (λ (bs : List ℕ). take at a ++ bs) (prefix_and_rest plan file item)
 
--- the elements behind the first ones, as they are handed on
+-- the elements after the first ones
 pub rest_all : {X : Type 0} (xs : List X) (done : ℕ) → take (length xs - done) (drop done xs) ≡ drop done xs
 rest_all xs done = take_all (length xs - done) (drop done xs) (omega (arith, length-drop done xs))
 
--- the texts of some first elements, and behind them those of further ones
+-- the texts of some first elements, and then those of further ones
 pub texts_more : {X : Type 0} (text : X → List ℕ) (before mid new : List ℕ) (xs : List X) (done count : ℕ) → mid ≡ before ++ flat_map text (take done xs) → new ≡ mid ++ flat_map text (take count (take (length xs - done) (drop done xs))) → new ≡ before ++ flat_map text (take (done + count) xs)
 texts_more {X} text before mid new xs done count p q =
     q

@@ -4,7 +4,7 @@ use Rattle.std.proofs.lemmas.Simd.{take_more_put_chunk, length-put_chunk}
 use lib.Lanes.{chunk, put_chunk}
 use Rattle.lx_line.specs.Placed.{Placed}
 
--- a second write begins where the first ended
+-- a second write begins at the end of the first
 pub Placed-then : {a b c xs ys : List ℕ} {i j k : ℕ} → Placed a b i xs j → Placed b c j ys k → Placed a c i (xs ++ ys) k
 Placed-then {a} {b} {c} {xs} {ys} {i} p q = record {
   bytes = q.bytes ∙ ap (λ l. l ++ ys) p.bytes ∙ append_assoc (take i a) xs ys;

@@ -8,7 +8,7 @@ use Rattle.lx_line.specs.Decimals.{leading, triple}
 use Rattle.lx_line.specs.declared.shared.TheConstants.{TRIPLES}
 use Rattle.lx_line.proofs.Digits.{leading_some}
 
--- the entries of so many numbers, from this one on
+-- the entries of n numbers, from this one on
 abbrev are_triples : ℕ → ℕ → List ℕ → Bool
 are_triples zero p xs = true
 are_triples (suc n) p [] = false
@@ -119,7 +119,7 @@ short_text number (suc (suc (suc (suc zero)))) few some most one two three =
     ∙ ap (λ (ds : List ℕ). ds ++ 32 ∷ []) (sym (decimal_three number (three refl) few))
 short_text number (suc (suc (suc (suc (suc n))))) few some most one two three = absurd (omega arith)
 
--- the text of a number that has what others share, and the rest of it from the table
+-- the text of a number: the shared digits, and the rest of it from the table
 pub shared_text : (front : List ℕ) (len first count base before last number : ℕ) → base < 10 ^ 18 → base % 1000 ≡ 0 → base ≤ first → first + count ≤ base + 1000 → take len front ≡ leading (base / 1000) → 2 ≤ last → last ≤ 4 → before + 2 ≡ 4 * base + last → (last ≡ 2 → first + count ≤ 10) → (last ≡ 3 → (10 ≤ first) × (first + count ≤ 100)) → (last ≡ 4 → 100 ≤ first) → first ≤ number → number < first + count →
     take len front ++ take last (drop (4 * number + 2 - before) TRIPLES) ≡ decimal number ++ 32 ∷ []
 shared_text front len first count zero before last number small thousands begin end shared some most placed one two three from below =

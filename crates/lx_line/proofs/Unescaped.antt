@@ -1,4 +1,4 @@
--- Which bytes of a text stand in a line as they are.
+-- The bytes of a text that a line shows unescaped.
 use Rattle.std.proofs.Common.{◌≡◌, ℕ, zero, suc, ◌+◌, ◌-◌, ◌%◌, ◌^◌, ◌<◌, ◌≤◌, Bool, true, false, not, cond, ◌||◌, eqb, ltb, List, [], ◌∷◌, ◌++◌, length, take, drop, map, replicate, refl, sym, append_assoc, ap, ◌∙◌, arith, take-take, append-nil, get_or, length-append, length-take-le, lit≤}
 use Rattle.std.specs.List.{flat_map, prefix_len}
 use Rattle.std.specs.Int.Bits.{bit_or}
@@ -17,7 +17,7 @@ use Rattle.lx_line.proofs.Places.{Placed-is, Placed-then}
 abbrev is_escaped : ℕ → Bool
 is_escaped x = (ltb x 32 || ltb 126 x) || eqb x 92
 
--- what three comparisons of a lane say, in its top bit
+-- the result of three comparisons of a lane, in its top bit
 one_lane : (a b c : Bool) → top 7 (bit_or (bit_or (cond a 255 0) (cond b 255 0)) (cond c 255 0)) ≡ ((a || b) || c)
 one_lane true true true = refl
 one_lane true true false = refl
@@ -55,7 +55,7 @@ plain_by false n r h = (refl, omega arith)
 pub plain_step : (p : ℕ → Bool) (x : ℕ) (xs : List ℕ) (n : ℕ) → suc n ≤ prefix_len (λ y. not (p y)) (x ∷ xs) → (p x ≡ false) × (n ≤ prefix_len (λ y. not (p y)) xs)
 plain_step p x xs n h = plain_by (p x) n (prefix_len (λ y. not (p y)) xs) h
 
--- the first bytes, none of which passes the test, where the others stand as they are
+-- the first bytes, none of which passes the test, if other bytes are unescaped
 first_plain : (p : ℕ → Bool) (escape : ℕ → List ℕ) → ((x : ℕ) → p x ≡ false → escape x ≡ x ∷ []) → (n : ℕ) (xs : List ℕ) → n ≤ prefix_len (λ y. not (p y)) xs → flat_map escape (take n xs) ≡ take n xs
 first_plain p escape same zero xs h = refl
 first_plain p escape same (suc n) [] h = refl
@@ -67,20 +67,20 @@ below_first : (none : Bool) (n r t : ℕ) → n ≤ 16 → cond none 16 t ≡ r 
 below_first true n r t few e h = omega arith
 below_first false n r t few e h = omega arith
 
--- so many of 16 bytes come before the first that passes a test
+-- the first n of 16 bytes, which come before the first that passes a test
 pub before_first : (p : ℕ → Bool) (xs : List ℕ) (n : ℕ) → length xs ≡ 16 → n ≤ 16 → n ≤ count_trailing_zeros 64 (mask_l (map p xs)) → n ≤ prefix_len (λ y. not (p y)) xs
 before_first p xs n whole few h =
     let m = mask_l (map p xs) in
     below_first (eqb m 0) n (prefix_len (λ y. not (p y)) xs) (count_trailing_zeros 64 m) few (first_set_mask_l p xs 16 whole (lit≤ tt)) h
 
--- they stand as they are
+-- they are unescaped
 pub plain_run : (p : ℕ → Bool) (escape : ℕ → List ℕ) → ((x : ℕ) → p x ≡ false → escape x ≡ x ∷ []) → (xs : List ℕ) (n : ℕ) → 16 ≤ length xs → n ≤ 16 → n ≤ count_trailing_zeros 64 (mask_l (map p (take 16 xs))) → flat_map escape (take n xs) ≡ take n xs
 plain_run p escape as_is xs n long few h =
     let whole : length (take 16 xs) ≡ 16 = length-take-le 16 xs long in
     let same = take-take n 16 xs few in
     ap (flat_map escape) (sym same) ∙ first_plain p escape as_is n (take 16 xs) (before_first p (take 16 xs) n whole few h) ∙ same
 
--- the bits of a mask, and one behind them
+-- the bits of a mask, and one after them
 mask_more : (p : ℕ → Bool) (xs : List ℕ) → mask_l (map (λ (b : Bool). b) (map p xs ++ true ∷ [])) ≡ mask_l (map p xs) + 2 ^ length xs
 mask_more p [] = refl
 mask_more p (x ∷ xs) =
@@ -92,7 +92,7 @@ before_bit : (p : ℕ → Bool) (xs : List ℕ) → prefix_len (λ b. not b) (ma
 before_bit p [] = refl
 before_bit p (x ∷ xs) = ap (λ (r : ℕ). cond (not (p x)) (1 + r) 0) (before_bit p xs)
 
--- how many of 16 bytes come before the first that passes a test, by a mask with a bit behind it
+-- the number of bytes before the first of 16 that passes a test, by a mask with a bit after it
 counted : (p : ℕ → Bool) (xs : List ℕ) → length xs ≡ 16 → count_trailing_zeros 64 (mask_l (map p xs) + 65536) ≡ prefix_len (λ y. not (p y)) xs
 counted p xs whole =
     let bits = map p xs ++ true ∷ [] in
@@ -107,7 +107,7 @@ lanes_counted xs long =
     let whole : length (take 16 xs) ≡ 16 = length-take-le 16 xs long in
     ap (λ (m : ℕ). count_trailing_zeros 64 (m + 65536)) (mask_of (take 16 xs) whole) ∙ counted is_escaped (take 16 xs) whole
 
--- a bit has room behind the mask
+-- there is room for a bit after the mask
 pub lanes_small : (xs : List ℕ) → 16 ≤ length xs → mask_l (map (top 7) (compared 16 (take 16 xs))) % 2 ^ 64 < 65536
 lanes_small xs long =
     let whole : length (take 16 xs) ≡ 16 = length-take-le 16 xs long in
@@ -115,12 +115,12 @@ lanes_small xs long =
     let many : 2 ^ length bits ≡ 65536 = ap (λ (n : ℕ). 2 ^ n) (length-map (take 16 xs) is_escaped ∙ whole) in
     omega (arith, mask_of (take 16 xs) whole, mask_l-lt bits, many)
 
--- so many are sixteen at most
+-- the count is at most sixteen
 pub lanes_few : (xs : List ℕ) (count : ℕ) → 16 ≤ length xs → count ≡ prefix_len (λ y. not (is_escaped y)) (take 16 xs) → count ≤ 16
 lanes_few xs count long is =
     omega (arith, is, length-take-le 16 xs long, prefix_len-le-length (λ y. not (is_escaped y)) (take 16 xs))
 
--- and stand as they are
+-- and its bytes are unescaped
 pub lanes_plain : (xs : List ℕ) (count n : ℕ) → 16 ≤ length xs → count ≡ prefix_len (λ y. not (is_escaped y)) (take 16 xs) → n ≤ count → flat_map escaped (take n xs) ≡ take n xs
 lanes_plain xs count n long is few =
     let same = take-take n 16 xs (omega (arith, lanes_few xs count long is)) in
@@ -143,7 +143,7 @@ plain_and_one escape bytes from count within p plain q =
     ap (λ (xs : List ℕ). flat_map escape (take 1 xs)) (drop_more bytes (from + count) 0 within) ∙ append-nil (escape (get_or bytes (from + count) 0)) in
     text_more escape bytes from count 1 (Placed-is p (sym plain)) (Placed-is q (sym one))
 
--- the same behind other bytes
+-- the same after other bytes
 pub pushed_more : (escape : ℕ → List ℕ) (before mid new text : List ℕ) (done part : ℕ) → mid ≡ before ++ flat_map escape (take done text) → new ≡ mid ++ flat_map escape (take (done + part - done) (drop done text)) → new ≡ before ++ flat_map escape (take (done + part) text)
 pushed_more escape before mid new text done part p q =
     let count : done + part - done ≡ part = omega arith in

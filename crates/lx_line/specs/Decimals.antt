@@ -9,7 +9,7 @@ pair n = (48 + n / 10) ∷ (48 + n % 10) ∷ []
 abbrev pub triple : ℕ → List ℕ
 triple n = (48 + n / 100) ∷ (48 + n / 10 % 10) ∷ (48 + n % 10) ∷ []
 
--- the digits of a number above its last two, of which this is the number: none where it is 0
+-- the digits of a number above its last two, given the number of these: none if it is 0
 abbrev pub leading : ℕ → List ℕ
 leading high = if high == 0 then [] else decimal high
 
@@ -17,6 +17,6 @@ leading high = if high == 0 then [] else decimal high
 abbrev pub IsNear : ℕ → ℕ → Type 0
 IsNear base number = (base ≤ number) × (number < base + 100)
 
--- a number is one of so many from the first on
+-- a number is one of `count` numbers from the first on
 abbrev pub IsAmong : ℕ → ℕ → ℕ → Type 0
 IsAmong first count number = (first ≤ number) × (number < first + count)

@@ -1,12 +1,12 @@
--- How bytes of a text stand in a line.
+-- The bytes of a text as a line shows them.
 use Rattle.std.specs.Prelude.{ℕ, ◌+◌, ◌/◌, ◌%◌, ◌==◌, ◌&&◌, nat_lt, nat_le, if◌then◌else◌, List, [], ◌∷◌, ◌++◌, codes}
 
 -- an upper-case hexadecimal digit
 abbrev pub hex_digit : ℕ → ℕ
 hex_digit n = if nat_lt n 10 then 48 + n else 55 + n
 
--- How a byte of a text stands in a line: a backslash twice, the other bytes from 32 to 126 as they are, and
--- each other byte as a backslash, an x and two digits.
+-- A byte of a text as a line shows it: a backslash twice, the other bytes from 32 to 126 unchanged, and each other byte as a backslash, an x and two
+-- digits.
 abbrev pub escaped : ℕ → List ℕ
 escaped byte =
     if byte == 92 then codes "\\\\"

@@ -1,4 +1,4 @@
--- The fields of a line behind its prefix.
+-- The fields of a line after its prefix.
 use Rattle.std.specs.Prelude.{ℕ, List, ◌++◌, codes, decimal, drop, take}
 use Rattle.std.specs.List.{flat_map}
 use Rattle.lx_line.specs.Decimals.{IsAmong}
@@ -6,12 +6,12 @@ use Rattle.lx_line.specs.Escapes.{escaped}
 use Rattle.lx_line.specs.declared.fields.Digits.{Digits}
 use Rattle.lx_line.specs.declared.fields.Numbers.{Numbers}
 
--- what stands in a line behind its prefix: line, start and length with a space behind each, and the text
+-- the part of a line after its prefix: line, start and length with a space after each, and the text
 abbrev pub rest_text : ℕ → ℕ → ℕ → List ℕ → List ℕ
 rest_text line start len bytes =
     (decimal line ++ codes " ") ++ ((decimal start ++ codes " ") ++ ((decimal len ++ codes " ") ++ (flat_map escaped (take len (drop start bytes)) ++ codes "\n")))
 
--- what is kept is of these numbers
+-- the kept digits are those of these numbers
 pub record AreKept (digits : Digits) (numbers : Numbers) : Type 0 where
   pub line : IsAmong digits.line.first digits.line.count numbers.line
   pub start : IsAmong digits.start.first digits.start.count numbers.start

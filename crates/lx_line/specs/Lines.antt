@@ -9,7 +9,7 @@ use Rattle.lx_scan.specs.ItemParts.{line_of as line_number, start_of, len_of, te
 use Rattle.lx_piece.specs.Plans.{Planned, bytes_of, kind_of}
 use Rattle.lx_line.specs.Escapes.{escaped}
 
--- whether it is a token or an Echo
+-- the class: a token or an Echo
 abbrev pub class_text : Item → List ℕ
 class_text (Token line start len kind) = codes "T"
 class_text (Echo line start len) = codes "E"
@@ -24,8 +24,7 @@ abbrev pub kind_text : Planned → Item → List ℕ
 kind_text plan (Token line start len kind) = name_text plan kind
 kind_text plan (Echo line start len) = codes "-"
 
--- The line of an item: the number of its file, its class, its kind, its line, its start and its length, with a space behind
--- each, and its text.
+-- The line of an item: the number of its file, its class, its kind, its line, its start and its length, with a space after each, and its text.
 abbrev pub line_of : Planned → ℕ → Item → List ℕ
 line_of plan file item =
     decimal file ++ codes " " ++ class_text item ++ codes " " ++ kind_text plan item ++ codes " "

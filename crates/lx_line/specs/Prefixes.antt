@@ -1,4 +1,4 @@
--- The prefix of a line: the number of its file, its class and its kind, with a space behind each.
+-- The prefix of a line: the number of its file, its class and its kind, with a space after each.
 use Rattle.std.specs.Prelude.{◌≡◌, All, ◌≤◌, ℕ, List, ◌++◌, take, Option, Some, None, codes, decimal}
 use Rattle.lx_rules.specs.declared.rule.Kind.{Kind}
 use Rattle.lx_tables.specs.Labels.{kind_of_label}
@@ -28,6 +28,6 @@ pub record IsPrefixOf (plan : Planned) (file : ℕ) (kind : Option Kind) (prefix
   pub short : prefix.len ≤ 32
   pub text : take prefix.len prefix.text ≡ prefix_text plan file kind
 
--- what is kept are the prefixes of labels
+-- the kept prefixes are those of labels
 pub record ArePrefixesOf (plan : Planned) (file : ℕ) (prefixes : Prefixes) : Type 0 where
   pub slots : All (λ (slot : Slot). IsPrefixOf plan file (kind_of_label slot.label) slot.prefix) prefixes.slots

@@ -25,7 +25,7 @@ pub record HasListed {S : Type 0} (wrote : S → List ℕ → S → Type 0) (pla
   pub all : items_of plan file ≡ done ++ left
   pub written : wrote old (lines_of plan file done) new
 
--- what was found, in a list that had nothing, stands before what is left
+-- the items that were found, in a list that had none, come before those that are left
 pub found_are : (old new left next : List Item) → Appends old new left next → old ≡ [] → left ≡ new ++ next
 found_are old new left next a none = a.left_is ∙ ap (λ xs. xs ++ next) (sym (a.new_is ∙ ap (λ xs. xs ++ a.added) none))
 

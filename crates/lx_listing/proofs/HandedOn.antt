@@ -1,4 +1,4 @@
--- What was held goes on.
+-- The held bytes are written.
 use Rattle.std.proofs.Common.{ℕ, ◌≡◌, Bool, false, List, [], ◌++◌, sym, ◌∙◌, ap, subst, append-nil}
 use Rattle.std.specs.Prelude.{Result, Ok, Err, OnErr, OnOk, is_err}
 use Rattle.std.proofs.lemmas.Bool.{both_ways}
@@ -11,7 +11,7 @@ use Rattle.lx_listing.specs.Parts.{WrotePart}
 use Rattle.lx_listing.specs.Printing.{WrotePrefix}
 use Rattle.lx_listing.proofs.Parting.{prefix_on}
 
--- some bytes went on, or a prefix of them where that failed, and the others are held
+-- some bytes were written, or a prefix of them if that failed, and the others are held
 went_on : {S T E : Type 0} (wrote : S → List ℕ → S → Type 0) (s : Gathered S) (bytes block held : List ℕ) (failed : Bool) (sink : S) (r : Result T E) → s.failed ≡ false → s.held ++ bytes ≡ block ++ held → failed ≡ is_err r → OnOk r (wrote s.sink block sink) → OnErr r (WrotePrefix wrote s.sink block sink) → Gathers wrote s bytes (gathered held failed sink)
 went_on wrote s bytes block held failed sink (Ok value) working all f ok err =
     record {
@@ -39,13 +39,13 @@ ok_always : {T E A : Type 0} (r : Result T E) → A → OnOk r A
 ok_always (Ok value) a = a
 ok_always (Err error) a = tt
 
--- a block, where nothing was held
+-- a block, if nothing was held
 pub block_on : {S T E : Type 0} (wrote : S → List ℕ → S → Type 0) (s : Gathered S) (block : List ℕ) (failed : Bool) (sink : S) (r : Result T E) → s.failed ≡ false → s.held ≡ [] → failed ≡ is_err r → OnOk r (wrote s.sink block sink) → OnErr r (WrotePrefix wrote s.sink block sink) → OnOk r (Gathers wrote s block (gathered s.held failed sink))
 block_on wrote s block failed sink r working none f ok err =
     ok_always r
     (went_on wrote s block block s.held failed sink r working (ap (λ bs. bs ++ block) none ∙ sym (append-nil block) ∙ ap (λ bs. block ++ bs) (sym none)) f ok err)
 
--- a block behind what was held
+-- a block after the held bytes
 pub then_ok : {S T E : Type 0} (wrote : S → List ℕ → S → Type 0) (on : (s t u : S) (xs ys : List ℕ) → wrote s xs t → wrote t ys u → wrote s (xs ++ ys) u) (s t u : Gathered S) (block : List ℕ) (r : Result T E) → Gathers wrote s [] t → OnOk r (Gathers wrote t block u) → OnOk r (Gathers wrote s block u)
 then_ok wrote on s t u block (Ok value) f h = gathers_on wrote on s t u [] block f h
 then_ok wrote on s t u block (Err error) f h = tt
@@ -58,10 +58,10 @@ then_err wrote on s t u block (Err error) f h = prefix_on (Gathers wrote) (gathe
 pub none_placed : {S : Type 0} (s : Gathered S) (placed : List ℕ) → placed ≡ s.held ++ [] → gathered placed s.failed s.sink ≡ s
 none_placed s placed e = ap (λ held. gathered held s.failed s.sink) (e ∙ append-nil s.held)
 
--- what was written of lines, since a state that is the same
+-- the written part of lines, since an equal state
 pub part_same : {S : Type 0} (wrote : S → List ℕ → S → Type 0) (s t u : S) (fault : ReaderFault) (bytes : List ℕ) → t ≡ s → WrotePart wrote t fault bytes u → WrotePart wrote s fault bytes u
 part_same {S} wrote s t u fault bytes same part = subst (λ (old : S). WrotePart wrote old fault bytes u) same part
 
--- what was written of the line of an item, which is this one
+-- the written part of the line of an item, which is this one
 pub part_of_item : {S X : Type 0} (wrote : S → List ℕ → S → Type 0) (text : X → List ℕ) (s t : S) (fault : ReaderFault) (x y : X) → x ≡ y → WrotePart wrote s fault (text x) t → WrotePart wrote s fault (text y) t
 part_of_item wrote text s t fault x y same part = subst (λ item. WrotePart wrote s fault (text item) t) same part

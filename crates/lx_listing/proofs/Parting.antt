@@ -1,4 +1,4 @@
--- What was written of lines that leave in parts.
+-- The written part of lines that are written in parts.
 use Rattle.std.proofs.Common.{ℕ, ◌≡◌, ◌+◌, ◌-◌, ◌<◌, inl, Bool, List, [], ◌∷◌, ◌++◌, length, take, drop, get_or, refl, sym, ◌∙◌, ap, subst, arith}
 use Rattle.std.specs.Prelude.{codes, decimal}
 use Rattle.std.specs.List.{flat_map}
@@ -68,19 +68,19 @@ prefix_on wrote on s t u xs ys w p = (xs ++ p.0, prefix_behind xs p.0 ys p.1, on
 pub prefix_further : {S : Type 0} (wrote : S → List ℕ → S → Type 0) (s t : S) (xs ys : List ℕ) → WrotePrefix wrote s xs t → WrotePrefix wrote s (xs ++ ys) t
 prefix_further wrote s t xs ys p = (p.0, prefix_then p.0 xs (xs ++ ys) p.1 (prefix_before xs ys), p.2)
 
--- the texts of the first elements, and of some behind them
+-- the texts of the first elements, and of some after them
 pub parts_join : {X : Type 0} (text : X → List ℕ) (xs : List X) (d n : ℕ) → flat_map text (take d xs) ++ flat_map text (take n (drop d xs)) ≡ flat_map text (take (d + n) xs)
 parts_join text xs d n = sym (flat_map-append text (take d xs) (take n (drop d xs))) ∙ ap (flat_map text) (sym (take-add d n xs))
 
--- the texts of the first elements, and of all behind them
+-- the texts of the first elements, and of all after them
 pub rest_joins : {X : Type 0} (text : X → List ℕ) (xs : List X) (d : ℕ) → flat_map text (take d xs) ++ flat_map text (drop d xs) ≡ flat_map text xs
 rest_joins text xs d = sym (flat_map-append text (take d xs) (drop d xs)) ∙ ap (flat_map text) (take-append-drop d xs)
 
--- the elements behind the first ones, as they are handed on
+-- the elements after the first ones
 pub rest_all : {X : Type 0} (xs : List X) (d : ℕ) → take (length xs - d) (drop d xs) ≡ drop d xs
 rest_all xs d = take_all (length xs - d) (drop d xs) (omega (arith, length-drop d xs))
 
--- the texts of the first elements were written, and then those of some behind them
+-- the texts of the first elements were written, and then those of some after them
 pub texts_on : {S X : Type 0} (wrote : S → List ℕ → S → Type 0) (on : (s t u : S) (xs ys : List ℕ) → wrote s xs t → wrote t ys u → wrote s (xs ++ ys) u) (text : X → List ℕ) (xs : List X) (d n : ℕ) (s t u : S) → wrote s (flat_map text (take d xs)) t → wrote t (flat_map text (take n (drop d xs))) u → wrote s (flat_map text (take (d + n) xs)) u
 texts_on wrote on text xs d n s t u a b =
     subst (λ (bytes : List ℕ). wrote s bytes u) (parts_join text xs d n)
@@ -105,14 +105,14 @@ pub part_first : {S X : Type 0} (wrote : S → List ℕ → S → Type 0) (text 
 part_first wrote text [] d s t fault some part = absurd (omega arith)
 part_first wrote text (x ∷ xs) d s t fault some part = part_more wrote s t fault (text x) (flat_map text xs) part
 
--- the lines of the first elements were written, and then a part of those of some behind them
+-- the lines of the first elements were written, and then a part of those of some after them
 pub part_on : {S X : Type 0} (wrote : S → List ℕ → S → Type 0) (on : (s t u : S) (xs ys : List ℕ) → wrote s xs t → wrote t ys u → wrote s (xs ++ ys) u) (text : X → List ℕ) (xs : List X) (d n : ℕ) (s t u : S) (fault : ReaderFault) → AreWhole (flat_map text (take d xs)) → wrote s (flat_map text (take d xs)) t → WrotePart wrote t fault (flat_map text (take n (drop d xs))) u → WrotePart wrote s fault (flat_map text xs) u
 part_on wrote on text xs d n s t u fault lines a part =
     part_taken wrote text xs (d + n) s u fault
     (subst (λ (bytes : List ℕ). WrotePart wrote s fault bytes u) (parts_join text xs d n)
     (part_then wrote on s t u fault (flat_map text (take d xs)) (flat_map text (take n (drop d xs))) lines a part))
 
--- what stands in a line before its text
+-- the part of a line before its text
 abbrev pub fields_of : Planned → ℕ → Item → List ℕ
 fields_of plan file item =
     decimal file ++ codes " " ++ class_text item ++ codes " " ++ kind_text plan item ++ codes " " ++ decimal (line_number item) ++ codes " " ++ decimal (start_of item) ++ codes " " ++ decimal (len_of item) ++ codes " "
@@ -128,7 +128,7 @@ pub three_writes : {S : Type 0} (wrote : S → List ℕ → S → Type 0) (on : 
 three_writes wrote on s t u v h x e line is a b d =
     subst (λ (bytes : List ℕ). wrote s bytes v) is (on s u v (h ++ x) e (on s t u h x a b) d)
 
--- where the first one fails
+-- the case that the first one fails
 pub first_fails : {S : Type 0} (wrote : S → List ℕ → S → Type 0) (s t : S) (fault : ReaderFault) (h x e line : List ℕ) → (h ++ x) ++ e ≡ line → fault ≡ Device → WrotePrefix wrote s h t → WrotePart wrote s fault line t
 first_fails wrote s t fault h x e line is device p =
     part_device wrote s t fault line device
@@ -146,7 +146,7 @@ third_fails wrote on s t u v fault h x e line is device a b p =
     part_device wrote s v fault line device
     (subst (λ (bytes : List ℕ). WrotePrefix wrote s bytes v) is (prefix_on wrote on s u v (h ++ x) e (on s t u h x a b) p))
 
--- a part of the lines of a piece, where they stand before the cut line
+-- a part of the lines of a piece, if they come before the cut line
 pub lines_part : {S : Type 0} (wrote : S → List ℕ → S → Type 0) (s t : S) (fault : ReaderFault) (own plan : Planned) (file : ℕ) (items : List Item) (cut : List ℕ) → own ≡ plan → WrotePart wrote s fault (lines_of plan file items) t → WrotePart wrote s fault (lines_of own file items ++ cut) t
 lines_part wrote s t fault own plan file items cut e part =
     subst (λ (p : Planned). WrotePart wrote s fault (lines_of p file items ++ cut) t) (sym e) (part_more wrote s t fault (lines_of plan file items) cut part)

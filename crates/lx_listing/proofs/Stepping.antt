@@ -1,4 +1,4 @@
--- One call of a listing, which hands a piece on.
+-- One call of a listing, which passes a piece on.
 use Rattle.std.proofs.Common.{ℕ, inl, inr, List, sym, ◌∙◌, subst}
 use Rattle.std.proofs.lemmas.Bool.{both_ways, cases_Bool}
 use Rattle.lx_piece.specs.Passing.{Passing}
@@ -7,7 +7,7 @@ use Rattle.lx_piece.specs.Turns.{IsTurnBy}
 use Rattle.lx_listing.specs.ListedLaws.{Passed}
 use Rattle.lx_listing.specs.Printing.{IsInStep, Printing}
 
--- what holds between two calls
+-- the invariant between two calls
 pub in_step : {S T : Type 0} (plan : Planned) (old new : Passing T) (at : T → Printing S) (wrote : S → List ℕ → S → Type 0) → IsInStep plan (at old.taker).plan (at old.taker).turn old.counts old.failed → Passed wrote at old new → IsInStep plan (at new.taker).plan (at new.taker).turn new.counts new.failed
 in_step plan old new at wrote s passed =
     record {

@@ -1,4 +1,4 @@
--- The lines of a piece stand between its turn and the next one.
+-- The lines of a piece are those between its turn and the next one.
 use Rattle.std.proofs.Common.{ℕ, ◌≡◌, ◌+◌, ◌<◌, suc, ◌==◌, if◌then◌else◌, inl, inr, Bool, true, false, List, ◌++◌, refl, sym, ◌∙◌, ap, subst, arith, add-one, append_assoc, append-nil}
 use Rattle.std.proofs.lemmas.Bool.{cases_eq, eq-eqb, ne_eqb}
 use Rattle.lx_piece.specs.declared.piece.Piece.{Piece}
@@ -17,7 +17,7 @@ use Rattle.lx_listing.specs.PrintingLaws.{turn_begins}
 use Rattle.lx_listing.specs.Shown.{ShownItems, shown}
 use Rattle.lx_listing.proofs.WholeLines.{piece_whole}
 
--- the turn behind one, where its piece is the last one of its file or not
+-- the turn after one, if its piece is the last one of its file or not
 abbrev turn_by : Turn → Bool → Turn
 turn_by turn last = if last then record { file = turn.file + 1; number = 0 } else record { file = turn.file; number = turn.number + 1 }
 
@@ -41,7 +41,7 @@ lines_are plan turn p has =
     ∙ ap (λ (n : ℕ). shown_lines (piece_by shown plan n p.number)) has.file
     ∙ ap (λ (n : ℕ). shown_lines (piece_by shown plan turn.file n)) has.number
 
--- where it lies
+-- its file is in the plan
 pub file_within : (plan : Planned) (turn : Turn) (p : Piece ShownItems) → HasTurn shown plan turn p → turn.file < files_of plan
 file_within plan turn p has = subst (λ (n : ℕ). n < files_of plan) has.file has.piece.file
 

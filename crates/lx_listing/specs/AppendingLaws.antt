@@ -1,4 +1,4 @@
--- Bytes that are appended one behind the other, and prefixes.
+-- Bytes that are appended one after the other, and prefixes.
 use Rattle.std.proofs.Common.{ℕ, List, [], ◌++◌, Option, Some, None, refl, sym, ◌∙◌, ap, append_assoc, append-nil}
 use Rattle.std.specs.Io.KnownBytes.{Appends}
 use Rattle.lx_piece.specs.Pieces.{IsPrefix}
@@ -15,7 +15,7 @@ appends_both (Some a) None c xs ys h k = absurd h
 appends_both (Some a) (Some b) None xs ys h k = absurd k
 appends_both (Some a) (Some b) (Some c) xs ys h k = k ∙ (ap (λ bs. bs ++ ys) h ∙ append_assoc a xs ys)
 
--- a list begins itself, and what it begins with others
+-- a list is a prefix of itself, and of itself with more
 pub prefix_all : {X : Type 0} (xs : List X) → IsPrefix xs xs
 prefix_all xs = ([], append-nil xs)
 

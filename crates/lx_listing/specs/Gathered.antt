@@ -2,7 +2,7 @@
 use Rattle.std.specs.Prelude.{ℕ, ◌≡◌, Bool, true, false, List, [], ◌++◌}
 use Rattle.lx_piece.specs.Pieces.{IsPrefix}
 
--- what is held, whether where the lines go has failed, and where that is
+-- the held bytes, a flag for a failed sink, and the sink
 pub record Gathered (S : Type 0) : Type 0 where
   pub held : List ℕ
   pub failed : Bool
@@ -11,9 +11,9 @@ pub record Gathered (S : Type 0) : Type 0 where
 abbrev pub gathered : {S : Type 0} → List ℕ → Bool → S → Gathered S
 gathered held failed sink = record { held = held; failed = failed; sink = sink }
 
--- Between one state and a later one these bytes were gathered, behind those that were held.
+-- Between one state and a later one these bytes were gathered, after the held ones.
 pub record Gathers {S : Type 0} (wrote : S → List ℕ → S → Type 0) (old : Gathered S) (bytes : List ℕ) (new : Gathered S) : Type 0 where
-  -- so many went on
+  -- these bytes were written
   pub given : List ℕ
   pub written : wrote old.sink given new.sink
   -- and the others are held,

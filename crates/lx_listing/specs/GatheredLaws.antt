@@ -1,4 +1,4 @@
--- What was gathered, and then more.
+-- Gathered bytes, and then more.
 use Rattle.std.proofs.Common.{ℕ, ◌≡◌, inl, inr, Bool, true, false, List, [], ◌++◌, refl, sym, ◌∙◌, ap, subst, append_assoc, append-nil}
 use Rattle.std.proofs.lemmas.Bool.{both_ways, cases_Bool}
 use Rattle.lx_piece.specs.Pieces.{IsPrefix}
@@ -16,7 +16,7 @@ gathers_nothing wrote nothing s =
       stopped = λ failed. (failed, refl);
     }
 
--- a prefix of some bytes that went on, and of further ones, where the first were gathered
+-- a prefix of some written bytes and further ones, if the first were gathered
 part_on : {S : Type 0} (wrote : S → List ℕ → S → Type 0) (s t u : Gathered S) (xs ys : List ℕ) (f : Gathers wrote s xs t) (h : Gathers wrote t ys u) → u.failed ≡ true → IsPrefix (f.given ++ h.given) (s.held ++ (xs ++ ys))
 part_on wrote s t u xs ys f h failed = elim (cases_Bool t.failed) [
   | inl before ↦
@@ -55,7 +55,7 @@ gathers_on wrote on s t u xs ys f h =
           (then.0, ap (λ bs. bs ++ h.given) first.1 ∙ then.1);
     }
 
--- Where all that was held went on, or that failed, a prefix of what was gathered was written.
+-- If all held bytes were written, or that failed, a prefix of the gathered bytes was written.
 gathered_part : {S : Type 0} (wrote : S → List ℕ → S → Type 0) (s t : S) (failed : Bool) (bytes : List ℕ) → Gathers wrote (gathered [] false s) bytes (gathered [] failed t) → WrotePrefix wrote s bytes t
 gathered_part wrote s t true bytes f = (f.given, f.part refl, f.written)
 gathered_part wrote s t false bytes f = (f.given, ([], sym (f.held refl)), f.written)

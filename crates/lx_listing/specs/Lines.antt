@@ -7,11 +7,11 @@ use Rattle.lx_piece.specs.Plans.{Planned, is_cut, items_of}
 pub use Rattle.lx_line.specs.Escapes.{hex_digit, escaped}
 pub use Rattle.lx_line.specs.Lines.{class_text, name_text, kind_text, line_of, lines_of, cut_line}
 
--- what stands behind the lines of items: that line where the reading failed, else nothing
+-- the lines after those of items: the cut line if the reading failed, otherwise none
 abbrev pub cut_lines : ℕ → Bool → List ℕ
 cut_lines file cut = if cut then cut_line file else []
 
--- the lines of a piece of a file: those of its items, and behind them that line where it is marked Cut
+-- the lines of a piece of a file: those of its items, and then the cut line if it is marked Cut
 abbrev pub piece_lines : Planned → ℕ → ItemPiece → List ℕ
 piece_lines plan file piece = lines_of plan file piece.items ++ cut_lines file (is_cut_short piece)
 
@@ -19,6 +19,6 @@ piece_lines plan file piece = lines_of plan file piece.items ++ cut_lines file (
 abbrev pub pieces_lines : Planned → ℕ → List ItemPiece → List ℕ
 pieces_lines plan file pieces = flat_map (piece_lines plan file) pieces
 
--- the lines of a file: those of its items, and behind them that line where its reading failed
+-- the lines of a file: those of its items, and then the cut line if its reading failed
 abbrev pub file_lines : Planned → ℕ → List ℕ
 file_lines plan file = lines_of plan file (items_of plan file) ++ cut_lines file (is_cut plan file)

@@ -1,4 +1,4 @@
--- What was written by a printer to which a plan's pieces were handed on in order.
+-- The output of a printer to which a plan's pieces were passed in order.
 use Rattle.std.proofs.Common.{ℕ, ◌≡◌, inl, inr, false, List, [], ◌++◌, Option, refl, sym, ◌∙◌, ap, subst, arith, length, replicate}
 use Rattle.std.specs.Prelude.{slice_index}
 use Rattle.std.specs.Io.KnownBytes.{Appends}
@@ -15,7 +15,7 @@ use Rattle.lx_listing.specs.AppendingLaws.{appends_nothing}
 use Rattle.lx_listing.specs.Printing.{Printing, PrintsTo, PrintsPart, WrotePrefix}
 use Rattle.lx_listing.specs.PrintingLaws.{turn_begins}
 
--- to whom pieces are handed on, where it is a printer
+-- the passing of pieces to a printer
 abbrev pub Passed : {S T : Type 0} → (S → List ℕ → S → Type 0) → (T → Printing S) → Passing T → Passing T → Type 0
 Passed {S} {T} wrote at old new = PassesOn (λ t. (at t).plan) (λ t. (at t).turn) (λ s t. PrintsTo wrote (at s) (at t)) (λ s fault t. PrintsPart wrote (at s) fault (at t)) old new
 
@@ -51,7 +51,7 @@ turn_is plan counts turn is by =
       first = λ all. by.number ∙ get_or_past counts turn.file 0 (omega arith);
     }
 
--- and what is due by them stands before it
+-- and the text that is due by them comes before it
 pub due_by_turn : (plan : Planned) (counts : List ℕ) (turn : Turn) → IsPlan plan → IsTurnBy plan counts turn → IsDue plan counts (lines_before plan turn)
 due_by_turn plan counts turn is by =
     record {
@@ -126,7 +126,7 @@ listed_part wrote at plan old new is plan_is first fresh working passed =
           )
     ]
 
--- The same of a printer to which nothing was handed yet.
+-- The same for a printer to which no piece was passed.
 pub all_listed : {S T : Type 0} (wrote : S → List ℕ → S → Type 0) (taker : T) (at : T → Printing S) (plan : Planned) (old new : Passing T) → IsPlan plan → (at taker).plan ≡ plan → (at taker).turn ≡ first_turn → old ≡ record { taker = taker; counts = replicate (files_of plan) 0; faults = 0; failed = false } → Passed wrote at old new → AreAllTaken plan new.counts → wrote (at taker).sink (listing_of plan) (at new.taker).sink
 all_listed {S} {T} wrote taker at plan old new is plan_is first start passed all =
     listed_whole wrote at plan (record { taker = taker; counts = replicate (files_of plan) 0; faults = 0; failed = false }) new is plan_is first refl refl (subst (λ (o : Passing T). Passed wrote at o new) start passed) all
@@ -135,11 +135,11 @@ pub part_listed : {S T : Type 0} (wrote : S → List ℕ → S → Type 0) (take
 part_listed {S} {T} wrote taker at plan old new is plan_is first start passed =
     listed_part wrote at plan (record { taker = taker; counts = replicate (files_of plan) 0; faults = 0; failed = false }) new is plan_is first refl refl (subst (λ (o : Passing T). Passed wrote at o new) start passed)
 
--- how far a listing came, by what was handed on
+-- the progress of a listing, by the pieces that were passed
 abbrev pub progress_of : {T : Type 0} → Planned → Passing T → Progress
 progress_of plan s = record { plan = plan; counts = s.counts; faults = s.faults; failed = s.failed }
 
--- What a listing printed while pieces were handed on to its printer.
+-- The output of a listing while pieces were passed to its printer.
 pub prints_passed : {S T : Type 0} (plan : Planned) (old new : Passing T) (at : T → Printing S) (wrote : S → List ℕ → S → Type 0) (contents : S → Option (List ℕ)) (appends : (s t : S) (bs : List ℕ) → wrote s bs t → Appends (contents s) (contents t) bs) → IsPlan plan → (at old.taker).plan ≡ plan → (old.failed ≡ false → IsTurnBy plan old.counts (at old.taker).turn) → Passed wrote at old new → Prints (printed (progress_of plan old) (contents (at old.taker).sink)) (printed (progress_of plan new) (contents (at new.taker).sink))
 prints_passed {S} {T} plan old new at wrote contents appends is plan_is turn passed = elim (cases_Bool old.failed) [
   | inl before ↦

@@ -39,7 +39,7 @@ open_piece plan file number d =
     ap (λ cut. lines_of plan file items ++ cut_lines file cut) (marked_cut plan file number ∙ ap (λ last. last && is_cut plan file) (ne_eqb (number + 1) (pieces_of plan file) d))
     ∙ append-nil (lines_of plan file items)
 
--- the last one has besides the cut line where the file's reading failed
+-- the last one also has the cut line if the file's reading failed
 last_piece : (plan : Planned) (file number : ℕ) → number + 1 ≡ pieces_of plan file → piece_lines plan file (piece_at plan file number) ≡ lines_of plan file (part plan.per_piece (items_of plan file) number) ++ cut_lines file (is_cut plan file)
 last_piece plan file number e =
     ap (λ cut. lines_of plan file (part plan.per_piece (items_of plan file) number) ++ cut_lines file cut)
@@ -54,7 +54,7 @@ open_lines plan file (suc count) l =
     ∙ ap (λ bytes. lines_of plan file (contents (pieces_to plan file count)) ++ bytes) (open_piece plan file count (λ e. absurd (omega arith)))
     ∙ sym (items_one plan file count)
 
--- behind the last one there are no items
+-- after the last one there are no items
 no_part : (plan : Planned) (file count : ℕ) → 0 < plan.per_piece → pieces_of plan file ≤ count → part plan.per_piece (items_of plan file) count ≡ []
 no_part plan file count some past =
     let all = pieces_hold plan.per_piece (items_of plan file) some in
@@ -99,14 +99,14 @@ listing_rises plan low (suc high) l = elim (cases_eq low (suc high)) [
   | inr d ↦ prefix_then (listing_to plan low) (listing_to plan high) (listing_to plan (suc high)) (listing_rises plan low high (omega arith)) (prefix_before (listing_to plan high) (file_lines plan high))
 ]
 
--- the lines of the first pieces of a file, behind those of the files before it, begin the listing
+-- the lines of the first pieces of a file, after those of the files before it, begin the listing
 pub lines_begin : (plan : Planned) (file count : ℕ) → IsPlan plan → file < files_of plan → IsPrefix (listing_to plan file ++ taken_lines plan file count) (listing_of plan)
 lines_begin plan file count is l =
     prefix_then (listing_to plan file ++ taken_lines plan file count) (listing_to plan (suc file)) (listing_of plan)
     (prefix_behind (listing_to plan file) (taken_lines plan file count) (file_lines plan file) (taken_begin plan file count is.some_items))
     (listing_rises plan (suc file) (files_of plan) (omega arith))
 
--- what is due begins the listing
+-- the due text begins the listing
 pub due_begins : (plan : Planned) (counts text : List ℕ) → IsDue plan counts text → IsPrefix text (listing_of plan)
 due_begins plan counts text d =
     let size = d.first_open.files in
@@ -122,7 +122,7 @@ due_begins plan counts text d =
           (subst (λ (bytes : List ℕ). IsPrefix bytes (listing_of plan)) (sym (append-nil (listing_of plan))) (prefix_all (listing_of plan))))
     ])
 
--- what is due once every file is closed
+-- the due text once every file is closed
 pub due_whole : (plan : Planned) (counts text : List ℕ) → AreAllTaken plan counts → IsDue plan counts text → text ≡ listing_of plan
 due_whole plan counts text closed d =
     let size = d.first_open.files in

@@ -1,4 +1,4 @@
--- The listing of a plan, and what a listing has written of it.
+-- The listing of a plan, and the part of it that a listing has written.
 use Rattle.std.specs.Prelude.{ℕ, zero, suc, ◌≡◌, ◌≤◌, ◌⊎◌, Bool, true, false, List, [], ◌∷◌, ◌++◌, Option, slice_index}
 use Rattle.std.specs.Io.KnownBytes.{Appends}
 use Rattle.lx_piece.specs.Plans.{Planned, IsPlan, files_of}
@@ -20,7 +20,7 @@ listing_of plan = listing_to plan (files_of plan)
 abbrev pub taken_lines : Planned → ℕ → ℕ → List ℕ
 taken_lines plan file count = pieces_lines plan file (pieces_to plan file count)
 
--- a turn of the plan: that of a piece, or the one behind the last file
+-- a turn of the plan: that of a piece, or the one after the last file
 pub record IsTurnOf (plan : Planned) (turn : Turn) : Type 0 where
   pub plan_is : IsPlan plan
   pub within : turn.file ≤ files_of plan
@@ -37,7 +37,7 @@ pub record IsDue (plan : Planned) (counts : List ℕ) (text : List ℕ) : Type 0
   pub first_open : IsFirstOpen plan counts first
   pub lines : text ≡ listing_to plan first ++ taken_lines plan first (slice_index counts first)
 
--- Whole lines, where the bytes begin where a line does and are of a listing: in a line a line feed stands at the end alone.
+-- Whole lines, if the bytes begin at the start of a line and belong to a listing: a line has its only line feed at the end.
 abbrev pub AreWhole : List ℕ → Type 0
 AreWhole bytes = (bytes ≡ []) ⊎ ((front : List ℕ) × (bytes ≡ front ++ 10 ∷ []))
 
@@ -45,14 +45,14 @@ AreWhole bytes = (bytes ≡ []) ⊎ ((front : List ℕ) × (bytes ≡ front ++ 1
 abbrev pub AppendsWhole : Option (List ℕ) → Option (List ℕ) → Type 0
 AppendsWhole old new = (bytes : List ℕ) × AreWhole bytes × Appends old new bytes
 
--- how far a listing has come: the pieces that it took of each file, and whether it failed
+-- the progress of a listing: the pieces that it took of each file, and a flag for failure
 pub record Progress : Type 0 where
   pub plan : Planned
   pub counts : List ℕ
   pub faults : ℕ
   pub failed : Bool
 
--- a listing, and the bytes that its writer holds, where they are known
+-- a listing, and the bytes that its writer holds, if they are known
 pub record Printed : Type 0 where
   pub progress : Progress
   pub written : Option (List ℕ)
@@ -60,7 +60,7 @@ pub record Printed : Type 0 where
 abbrev pub printed : Progress → Option (List ℕ) → Printed
 printed progress written = record { progress = progress; written = written }
 
--- What a listing wrote between two states.
+-- The output of a listing between two states.
 pub record Prints (old new : Printed) : Type 0 where
   pub plan : new.progress.plan ≡ old.progress.plan
   pub bytes : List ℕ
@@ -71,7 +71,7 @@ pub record Prints (old new : Printed) : Type 0 where
   pub prefix : old.progress.failed ≡ false → (text : List ℕ) → IsDue old.progress.plan old.progress.counts text → IsPrefix (text ++ bytes) (listing_of old.progress.plan)
   -- Once every file is closed, all of the listing.
   pub whole : old.progress.failed ≡ false → AreAllTaken new.progress.plan new.progress.counts → (text : List ℕ) → IsDue old.progress.plan old.progress.counts text → text ++ bytes ≡ listing_of new.progress.plan
-  -- Where it fails, a file stays open.
+  -- If it fails, a file stays open.
   pub stuck : old.progress.failed ≡ false → new.progress.failed ≡ true → HasOpenFile new.progress.plan new.progress.counts
   -- Once it has failed, nothing, and it takes no piece.
   pub stopped : old.progress.failed ≡ true → (new.progress.failed ≡ true) × (bytes ≡ []) × (new.progress.counts ≡ old.progress.counts)

@@ -1,4 +1,4 @@
--- What a printer writes, which takes pieces in the plan's order.
+-- The output of a printer, which takes pieces in the plan's order.
 use Rattle.std.specs.Prelude.{ℕ, ◌≡◌, Bool, false, List, ◌++◌}
 use Rattle.lx_piece.specs.declared.reader.ReaderFault.{ReaderFault}
 use Rattle.lx_piece.specs.declared.reader.ReaderFault.TheVariants.{Memory}
@@ -14,7 +14,7 @@ use Rattle.lx_listing.specs.Listings.{AreWhole, IsTurnOf, lines_before, listing_
 abbrev pub WrotePrefix : {S : Type 0} → (S → List ℕ → S → Type 0) → S → List ℕ → S → Type 0
 WrotePrefix {S} wrote old bytes new = (front : List ℕ) × IsPrefix front bytes × wrote old front new
 
--- a printer: its plan, the turn, and where its lines go
+-- a printer: its plan, the turn, and its sink
 pub record Printing (S : Type 0) : Type 0 where
   pub plan : Planned
   pub turn : Turn
@@ -26,7 +26,7 @@ turn_of file number = record { file = file; number = number }
 abbrev pub printing : {S : Type 0} → Planned → ℕ → ℕ → S → Printing S
 printing plan file number sink = record { plan = plan; turn = turn_of file number; sink = sink }
 
--- what was written between two turns: the lines of the pieces between
+-- the output between two turns: the lines of the pieces between them
 pub record PrintsTo {S : Type 0} (wrote : S → List ℕ → S → Type 0) (old new : Printing S) : Type 0 where
   pub same : new.plan ≡ old.plan
   pub bytes : List ℕ
@@ -35,22 +35,22 @@ pub record PrintsTo {S : Type 0} (wrote : S → List ℕ → S → Type 0) (old 
   pub after : IsTurnOf old.plan old.turn → IsTurnOf old.plan new.turn
   pub due : IsTurnOf old.plan old.turn → lines_before old.plan old.turn ++ bytes ≡ lines_before old.plan new.turn
 
--- where it failed: more of the listing, and whole lines of it where memory was refused
+-- the output if it failed: more of the listing, and whole lines of it if an allocation failed
 pub record PrintsPart {S : Type 0} (wrote : S → List ℕ → S → Type 0) (old : Printing S) (fault : ReaderFault) (new : Printing S) : Type 0 where
   pub bytes : List ℕ
   pub written : wrote old.sink bytes new.sink
   pub whole : fault ≡ Memory → AreWhole bytes
   pub prefix : IsTurnOf old.plan old.turn → IsPrefix (lines_before old.plan old.turn ++ bytes) (listing_of old.plan)
 
--- the lines of a piece that carries what is shown of it
+-- the lines of a piece of a listing
 abbrev pub shown_lines : Piece ShownItems → List ℕ
 shown_lines piece = lines_of piece.items.plan piece.file piece.items.items ++ cut_lines piece.file (is_cut_short piece)
 
--- the same piece, with its items as what a listing's pieces carry
+-- the same piece as a listing's piece
 abbrev pub as_shown : Planned → ItemPiece → Piece ShownItems
 as_shown plan piece = record { run = piece.run; file = piece.file; number = piece.number; mark = piece.mark; items = shown plan piece.file piece.items }
 
--- what holds of a listing between two calls
+-- the invariant of a listing between two calls
 pub record IsInStep (plan own : Planned) (turn : Turn) (counts : List ℕ) (failed : Bool) : Type 0 where
   pub same : own ≡ plan
   pub plan_is : IsPlan plan

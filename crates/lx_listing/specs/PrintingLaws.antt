@@ -1,4 +1,4 @@
--- Laws of what a printer writes between two turns.
+-- Laws of a printer's output between two turns.
 use Rattle.std.proofs.Common.{ℕ, ◌≡◌, inl, inr, List, [], ◌∷◌, ◌++◌, refl, sym, ◌∙◌, ap, subst, arith, append_assoc, append-nil}
 use Rattle.std.proofs.lemmas.Bool.{cases_lt}
 use Rattle.lx_piece.specs.declared.reader.ReaderFault.{ReaderFault}
@@ -18,7 +18,7 @@ whole_both xs ys h k = elim k [
   | inr e ↦ inr (xs ++ e.0, ap (λ bs. xs ++ bs) e.1 ∙ sym (append_assoc xs e.0 (10 ∷ [])))
 ]
 
--- what stands before a turn of the plan begins the listing
+-- the lines before a turn of the plan begin the listing
 pub turn_begins : (plan : Planned) (turn : Turn) → IsTurnOf plan turn → IsPrefix (lines_before plan turn) (listing_of plan)
 turn_begins plan turn is =
     let within = is.within in

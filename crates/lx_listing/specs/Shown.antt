@@ -1,4 +1,4 @@
--- What a piece of a listing carries: its items, or the lines of them.
+-- The contents of a listing's piece: its items, or their lines.
 use Rattle.std.specs.Prelude.{ℕ, ◌≡◌, List, All}
 use Rattle.lx_scan.specs.declared.item.Item.{Item}
 use Rattle.lx_scan.specs.ItemParts.{IsItemOf}
@@ -7,7 +7,7 @@ use Rattle.lx_listing.specs.declared.shown.Form.{Form}
 use Rattle.lx_listing.specs.declared.shown.Form.TheVariants.{Bare, Given, Lines}
 use Rattle.lx_line.specs.Lines.{lines_of}
 
--- contracts see whose items they are, and not whether they stand there as lines
+-- contracts see the items with their plan, and not if they are kept as lines
 pub record ShownItems : Type 0 where
   pub plan : Planned
   pub file : ℕ
@@ -22,7 +22,7 @@ items_in (Bare list) = list
 items_in (Given list) = list.items
 items_in (Lines block items) = items.value
 
--- the form of these items: they themselves, or their lines, one behind the other
+-- the form of these items: they themselves, or their lines, one after the other
 abbrev pub IsFormOf : Planned → ℕ → List Item → Form → Type 0
 IsFormOf plan file items (Bare list) = (list ≡ items) × All (IsItemOf (kinds_of plan) (bytes_of plan file)) items
 IsFormOf plan file items (Given list) = (list.items ≡ items) × All (IsItemOf (kinds_of plan) (bytes_of plan file)) items

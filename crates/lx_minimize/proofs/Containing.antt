@@ -34,7 +34,7 @@ take_cases (x ∷ xs) (suc i) q h = elim (contains_cases x q (take (suc i) xs) h
   | inr c ↦ elim (take_cases xs i q c) [ inl d ↦ inl (contains_tail x q (take i xs) d) | inr e ↦ inr ((let l = e.0 in omega arith), e.1) ]
 ]
 
--- states that are added where they are below the count
+-- states that are added if they are below the count
 pub adds_nothing : (states old : List ℕ) (count : ℕ) → AddsBelow (take 0 states) count old old
 adds_nothing states old count = record { below = λ f s h. f s h; kept = λ s h. h; added = λ s l h. absurd (contains_nil s h) }
 
@@ -76,7 +76,7 @@ all_contain_preimage m inside states class count e are = record {
   all = λ s l target. are.all s (omega arith);
 }
 
--- what holds below n and of n
+-- a fact for all below n, and for n
 pub below_more : (P : ℕ → Type 0) (n : ℕ) → ((k : ℕ) → k < n → P k) → P n → (k : ℕ) → k < n + 1 → P k
 below_more P n before here k h = elim (cases_lt k n) [
   | inl l ↦ before k l

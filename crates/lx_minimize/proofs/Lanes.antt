@@ -1,4 +1,4 @@
--- What is looked for 32 at a time.
+-- A search 32 at a time.
 use Rattle.std.proofs.Common.{◌≡◌, ◌≢◌, ℕ, ◌+◌, ◌<◌, ◌≤◌, ◌%◌, ◌^◌, Bool, true, false, not, cond, eqb, List, length, take, drop, map, min, replicate, refl, sym, subst, ap, ◌∙◌, arith, length-take-le, length-drop, slice_index, lit≤}
 use Rattle.std.proofs.lemmas.Bool.{eqb-true}
 use Rattle.std.proofs.lemmas.Simd.{bitmask_splat, first_set_mask_l, run_in_chunk_le, run_in_chunk_fails, run_in_chunk_stops}
@@ -24,7 +24,7 @@ module _ (xs : List ℕ) (from number : ℕ) (room : from + 32 ≤ length xs) wh
   unfolding count_trailing_zeros
   none_set m e = subst (λ k. 32 ≤ count_trailing_zeros 64 k) (sym (eqb-true m 0 e)) (lit≤ tt)
 
-  -- so many come before the first one
+  -- the number of states before the first one
   counted : min 32 (count_trailing_zeros 64 (lane_mask xs from number)) ≡ prefix_len (λ x. not (eqb x number)) (take 32 (drop from xs))
   counted =
       let m = mask_l (map (λ x. eqb x number) (take 32 (drop from xs))) in

@@ -1,4 +1,4 @@
--- What the automaton of the blocks keeps over byte classes, and that it has few states.
+-- The facts that the automaton of the blocks keeps over byte classes, and its small number of states.
 use Rattle.std.proofs.Common.{◌≡◌, ◌≢◌, ℕ, ◌+◌, ◌*◌, ◌<◌, ◌≤◌, Bool, true, false, Option, Some, List, [], ◌∷◌, ◌++◌, length, slice_index, slice_index_or, slice_set, get_or, refl, sym, ◌∙◌, ap, subst, arith, inl, inr, eqb, if◌then◌else◌}
 use Rattle.std.proofs.lemmas.Bool.{cases_lt, cases_eq}
 use Rattle.std.proofs.lemmas.List.{get_or_append_left, get_or_push, length_push, length-set, get_or-set_same, get_or-set_other, get_or_default}
@@ -45,7 +45,7 @@ module _ (q r : Machine) (is : IsMachine q) (same_steps : HasSameSteps q r) wher
         record { word = d.word; bytes = d.bytes; accepts = λ g. d.accepts (sym (same_answer q r is same_steps d.word t lt d.bytes) ∙ g) };
   }
 
--- where a start is in block 0, that block has two states, so there are fewer blocks than states
+-- if a start is in block 0, that block has two states, so there are fewer blocks than states
 module _ (m : Complete) (p : Partition) (sound : IsSound m p) (s : ℕ) (hs : s + 1 < total m) (dead : block p (s + 1) ≡ 0) where
   abbrev members : List ℕ
   members = slice_set p.representatives.items 0 (s + 1)

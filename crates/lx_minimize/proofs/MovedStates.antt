@@ -49,7 +49,7 @@ module _ (m : Complete) (blocks : List ℕ) (inside : List Bool) (from class : �
     ];
   }
 
--- where the states have all that step into the set, these have all moved states
+-- if the states have all that step into the set, these have all moved states
 pub all_moved_states : (m : Complete) (blocks : List ℕ) (inside : List Bool) (from class : ℕ) (states moved_states : List ℕ) → ContainPreimage m inside class states →
     AreMovedStatesAmong m blocks inside from class true states moved_states → AreMovedStates m blocks inside from class true (total m) moved_states
 all_moved_states m blocks inside from class states moved_states have are = record {

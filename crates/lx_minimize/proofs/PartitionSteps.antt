@@ -25,7 +25,7 @@ renumber_more old new ms fresh n are l =
       other = λ s none. there s (λ e. none n (omega arith) (sym e)) ∙ are.other s (λ j h. none j (omega arith));
     }
 
--- where each state steps like its representative, states of one block step alike
+-- if each state steps like its representative, states of one block step alike
 pub stable_from : (m : Complete) (p : Partition) → ((s : ℕ) → s < total m → StepsLikeRepresentative m p s m.width) → IsStable m p
 stable_from m p like = record {
   steps = λ s t c hs ht hc e. like s hs c hc ∙ ap (λ b. block p (step_of m (member_of p b) c)) e ∙ sym (like t ht c hc);

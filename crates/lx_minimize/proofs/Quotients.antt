@@ -76,7 +76,7 @@ module _ (a : Machine) (m : Complete) (p : Partition) (starts : List (ℕ × ℕ
         target_row (block p x - 1) c i hc ∙ ap decoded_option (stable.steps (slice_index rows (block p x - 1)) x c r.0 hx hc (r.1.0 (omega arith) ∙ omega arith));
   }
 
-  -- from a state that stands for state 0 nothing is answered
+  -- from a state that represents state 0 nothing is answered
   dead_answer : (i : ℕ) → i < length rows → slice_index rows i ≡ 0 → (v : List ℕ) → All (λ b. b < 256) v → answer_from q i v ≡ None
   dead_answer i h e [] all = accepted_row i h ∙ ap (λ x. decoded_option (label_of m x)) e ∙ ap decoded_option complete.unlabelled
   dead_answer i h e (b ∷ v) all =

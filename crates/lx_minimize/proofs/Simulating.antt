@@ -56,7 +56,7 @@ module _ (q : Machine) (m : Complete) (encode : ℕ → ℕ) (like : Simulates q
   nothing_read None = refl
   nothing_read (Some s) = refl
 
-  -- where a text leads
+  -- the state to which a text leads
   pub stepped : (v : List ℕ) (x : ℕ) → x < total m → All (λ b. b < 256) v → state_after q (decoded_option (encode x)) v ≡ decoded_option (encode (after m x (classes_of q v)))
   stepped [] x hx all = nothing_read (decoded_option (encode x))
   stepped (b ∷ v) x hx all = elim (cases_eq (encode x) 0) [

@@ -1,4 +1,4 @@
--- A block that is split keeps only states apart that some word tells apart.
+-- A block is only split into states that some word distinguishes.
 use Rattle.std.proofs.Common.{◌≡◌, ◌≢◌, ℕ, ◌+◌, ◌<◌, ◌≤◌, Bool, true, false, List, [], ◌∷◌, ◌++◌, length, slice_index, slice_set, get_or, refl, sym, ◌∙◌, ap, subst, arith, inl, inr, ◌⊎◌}
 use Rattle.std.proofs.lemmas.Bool.{cases_lt, cases_eq}
 use Rattle.std.proofs.lemmas.List.{get_or_append_left, get_or_push, length_push, length-set, get_or-set_same, get_or-set_other, get_or_default}
@@ -13,7 +13,7 @@ use Rattle.lx_minimize.specs.Partitions.{block, block_count, member_of, flag, Is
 use Rattle.lx_minimize.specs.declared.complete.Complete.{Complete}
 use Rattle.lx_minimize.specs.declared.partition.Partition.{Partition}
 
--- a word that tells the targets apart, behind the class
+-- a word that distinguishes the targets, after the class
 pub distinguishable_before : (m : Complete) (s t c : ℕ) → c < m.width → AreDistinguishableByClasses m (step_of m s c) (step_of m t c) → AreDistinguishableByClasses m s t
 distinguishable_before m s t c h d = record { word = c ∷ d.word; classes = All-cons (λ x. x < m.width) c d.word h d.classes; differ = d.differ }
 
@@ -135,7 +135,7 @@ module _ (m : Complete) (p q : Partition) (inside : List Bool) (from class : ℕ
     labels = λ s t hs ht e. sound.labels s t hs ht (same_before s t hs ht e);
   }
 
--- a block tells its states from the others
+-- a block distinguishes its states from the others
 pub splitter_from_flags : (m : Complete) (p : Partition) (number : ℕ) (inside : List Bool) → IsSound m p →
     AreFlags p.block_of.items number (length p.block_of.items) inside → IsSplitter m inside
 splitter_from_flags m p number inside sound flags = record {
@@ -149,7 +149,7 @@ splitter_from_flags m p number inside sound flags = record {
       ]);
 }
 
--- where no state is moved, or none remains, all states of the block step into the set, or all out of it
+-- if no state is moved, or none remains, all states of the block step into the set, or all out of it
 pub stable_without_moved_states : (m : Complete) (bs : List ℕ) (inside : List Bool) (from class : ℕ) (wanted : Bool) (ms : List ℕ) →
     AreMovedStates m bs inside from class wanted (total m) ms → length ms ≡ 0 → IsStableBlock m bs inside from class
 stable_without_moved_states m bs inside from class wanted ms moved_states none = record {

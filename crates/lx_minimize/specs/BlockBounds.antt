@@ -1,11 +1,11 @@
--- Between which states those of a block stand.
+-- Bounds of the states of a block.
 use Rattle.std.specs.Prelude.{◌≡◌, ℕ, ◌<◌, ◌≤◌, ◌⊎◌, length, slice_index}
 use Rattle.lx_minimize.specs.Partitions.{block, block_count}
 use Rattle.lx_minimize.specs.declared.partition.Partition.{Partition}
 use Rattle.lx_minimize.specs.declared.bounds.StateRange.{StateRange}
 use Rattle.lx_minimize.specs.declared.bounds.Bounds.{Bounds}
 
--- each of the states below n stands between the bounds of its block
+-- each of the states below n is between the bounds of its block
 pub record AreBoundsBelow (p : Partition) (bounds : Bounds) (n : ℕ) : Type 0 where
   pub low : (s : ℕ) → s < n → slice_index bounds.lows.items (block p s) ≤ s
   pub high : (s : ℕ) → s < n → s ≤ slice_index bounds.highs.items (block p s)

@@ -1,4 +1,4 @@
--- An automaton in which no step is missing, over classes of bytes: state 0 stands for a missing step, s + 1 for the state s.
+-- An automaton without missing steps, over classes of bytes: state 0 represents a missing step, and s + 1 the state s.
 use Rattle.std.specs.Prelude.{◌≡◌, ◌≢◌, ℕ, ◌+◌, ◌*◌, ◌<◌, ◌≤◌, List, [], ◌∷◌, length, slice_index, All}
 use Rattle.lx_automaton.specs.Automata.{Machine, state_count, accepted_by, class_target}
 use Rattle.lx_automaton.specs.EncodedOptions.{decoded_option}

@@ -1,4 +1,4 @@
--- Divisions of the states into blocks that are only ever split where a word tells states apart.
+-- Partitions of the states into blocks that are only split if a word distinguishes states.
 use Rattle.std.specs.Prelude.{◌≡◌, ◌≢◌, ℕ, ◌+◌, ◌-◌, ◌<◌, ◌≤◌, Bool, true, false, List, length, slice_index, slice_index_or}
 use Rattle.lx_minimize.specs.Completion.{total, label_of, step_of, AreDistinguishableByClasses}
 use Rattle.lx_minimize.specs.declared.complete.Complete.{Complete}
@@ -14,8 +14,8 @@ block_count p = length p.representatives.items
 abbrev pub member_of : Partition → ℕ → ℕ
 member_of p b = slice_index p.representatives.items b
 
--- each state is in a block, each block has a representative, state 0 is in block 0, states of different blocks are told
--- apart by some word, and those of one block have one label
+-- each state is in a block, each block has a representative, state 0 is in block 0, some word distinguishes states of different blocks, and those of
+-- one block have one label
 pub record IsSound (m : Complete) (p : Partition) : Type 0 where
   pub long : length p.block_of.items ≡ total m
   pub below : (s : ℕ) → s < total m → block p s < block_count p
@@ -45,18 +45,18 @@ pub record AreLabelledBelow (m : Complete) (n : ℕ) (blocks representatives : L
   pub apart : (a b : ℕ) → a < length representatives → b < length representatives →
       label_of m (slice_index representatives a) ≡ label_of m (slice_index representatives b) → a ≡ b
 
--- the block of each label, encoded: 0 where no block has it, else one more
+-- the block of each label, encoded: 0 if no block has it, otherwise one more
 pub record AreBlocksByLabel (m : Complete) (representatives blocks : List ℕ) : Type 0 where
   pub long : (s : ℕ) → s < total m → label_of m s < length blocks
   pub known : (b : ℕ) → b < length representatives → slice_index blocks (label_of m (slice_index representatives b)) ≡ b + 1
   pub below : (l : ℕ) → slice_index blocks l ≤ length representatives
   pub found : (l : ℕ) → slice_index blocks l ≢ 0 → label_of m (slice_index representatives (slice_index blocks l - 1)) ≡ l
 
--- whether a state is in a set, kept as flags
+-- true if a state is in a set, kept as flags
 abbrev pub flag : List Bool → ℕ → Bool
 flag inside s = slice_index_or inside s false
 
--- a set such that a word tells each of its states from each state outside
+-- a set such that a word distinguishes each of its states from each state outside
 pub record IsSplitter (m : Complete) (inside : List Bool) : Type 0 where
   pub long : length inside ≡ total m
   pub distinguishable : (s t : ℕ) → s < total m → t < total m → flag inside s ≢ flag inside t → AreDistinguishableByClasses m s t
@@ -67,7 +67,7 @@ pub record AreFlags (blocks : List ℕ) (number n : ℕ) (flags : List Bool) : T
   pub inside : (s : ℕ) → s < n → slice_index blocks s ≡ number → flag flags s ≡ true
   pub outside : (s : ℕ) → s < n → slice_index blocks s ≢ number → flag flags s ≡ false
 
--- a state that is moved out of the block: it steps into the set, or where wanted is false, out of it
+-- a state that is moved out of the block: it steps into the set, or out of it if wanted is false
 pub record IsMoved (m : Complete) (blocks : List ℕ) (inside : List Bool) (from class : ℕ) (wanted : Bool) (s : ℕ) : Type 0 where
   pub within : slice_index blocks s ≡ from
   pub target : flag inside (step_of m s class) ≡ wanted
@@ -83,7 +83,7 @@ pub record AreMovedStates (m : Complete) (blocks : List ℕ) (inside : List Bool
   pub each : (j : ℕ) → j < length moved_states → IsMoved m blocks inside from class wanted (slice_index moved_states j)
   pub all : (s : ℕ) → s < n → IsMoved m blocks inside from class wanted s → (j : ℕ) × (j < length moved_states) × (slice_index moved_states j ≡ s)
 
--- the first n states of the list have the fresh number, the others what they had
+-- the first n states of the list have the fresh number, and the others their old one
 pub record AreRenumbered (old new moved_states : List ℕ) (fresh n : ℕ) : Type 0 where
   pub long : length new ≡ length old
   pub moved : (j : ℕ) → j < n → slice_index new (slice_index moved_states j) ≡ fresh

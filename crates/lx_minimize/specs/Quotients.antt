@@ -1,4 +1,4 @@
--- The automaton of the blocks: block 0, which has the missing step, has a state only where a start is in it, and that stands last.
+-- The automaton of the blocks. Block 0, which has the missing step, has a state only if a start is in it, and that state comes last.
 use Rattle.std.specs.Prelude.{◌≡◌, ◌≢◌, ℕ, ◌+◌, ◌-◌, ◌*◌, ◌<◌, ◌≤◌, ◌==◌, if◌then◌else◌, List, length, slice_index, slice_index_or, ◌⊎◌}
 use Rattle.lx_minimize.specs.Completion.{total, label_of, step_of}
 use Rattle.lx_minimize.specs.Partitions.{block, block_count, member_of}
@@ -32,7 +32,7 @@ pub record HasDeadStart (p : Partition) (starts : List (ℕ × ℕ)) : Type 0 wh
   pub begins : ((slice_index_or starts condition (0, 0)).0 ≡ state) ⊎ ((slice_index_or starts condition (0, 0)).1 ≡ state)
   pub dead : block p (state + 1) ≡ 0
 
--- of each state of the quotient the state that it stands for: the representatives of the blocks but 0, and perhaps state 0
+-- for each state of the quotient the state that it represents: the representatives of the blocks except 0, and perhaps state 0
 pub record AreRowStates (p : Partition) (rows : List ℕ) : Type 0 where
   pub many : block_count p ≤ length rows + 1
   pub few : length rows ≤ block_count p

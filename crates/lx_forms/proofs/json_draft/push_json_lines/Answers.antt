@@ -18,7 +18,7 @@ loop-item-init c =
       lines = ap (λ len. old ++ take len c.new-draft.result.lines) c.new-draft.ensures.empty ∙ ap (λ bytes. old ++ bytes) (sym (lines_none form plan file));
     }
 
--- the line of one more item behind those of the items before it
+-- the line of one more item after those of the items before it
 pub loop-item-preserved : goal.loop-item-preserved
 loop-item-preserved c =
     let form = form_view c.args.form.now in

@@ -12,7 +12,7 @@ loop-item-init c =
     let old = c.args.block.now.items in
     sym (ap (λ bytes. old ++ bytes) (lines_none (form_view c.args.form.now) c.args.plan.now c.args.file) ∙ append-nil old)
 
--- the line of one more item behind those of the items before it
+-- the line of one more item after those of the items before it
 pub loop-item-preserved : goal.loop-item-preserved
 loop-item-preserved c =
     let form = form_view c.args.form.now in
