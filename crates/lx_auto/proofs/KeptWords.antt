@@ -209,7 +209,7 @@ plus_of-same_words L (plus a) = record {
       (t.0, joined_same (WordOf L a k) (suc t.0) (x.0 ++ x.1) w (sym x.2) t.1);
 }
 
--- of expressions with the same words
+-- the same for expressions with the same words
 cat_of-along : (L : set.FinSet nat_cmp → ℕ → List ℕ → Type 0) (a b c d : Unfolded) → HaveSameWords L a c → HaveSameWords L b d → HaveSameWords L (cat_of a b) (cat c d)
 cat_of-along L a b c d x y = same_words-trans L (cat_of a b) (cat a b) (cat c d) (cat_of-same_words L a b) (same_words-cat L a b c d x y)
 

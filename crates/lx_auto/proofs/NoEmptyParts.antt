@@ -65,7 +65,7 @@ no_empty_cat (plus c) (alt d e) s h = elim h [ inl x ↦ absurd (cc) | inr x ↦
 no_empty_cat (plus c) (opt d) s h = elim h [ inl x ↦ absurd (cc) | inr x ↦ (s, x) ]
 no_empty_cat (plus c) (plus d) s h = elim h [ inl x ↦ absurd (cc) | inr x ↦ (s, x) ]
 
--- of an expression that isn't empty
+-- a simplified expression that isn't empty has no empty part
 has_no_empty : (a : Unfolded) → IsSimplified a → (a ≡ empty → ⊥) → HasNoEmptyPart a
 has_no_empty a h ne = elim h [ inl e ↦ absurd (ne e) | inr s ↦ s ]
 

@@ -45,7 +45,7 @@ unfolding unless
 either true b = omega arith
 either false b = omega arith
 
--- of an expression that isn't empty
+-- the room for an expression that isn't empty
 pub full_room : Unfolded → ℕ
 full_room t = 2 + unless (nullable t)
 

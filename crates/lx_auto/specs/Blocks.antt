@@ -73,7 +73,7 @@ pub record HasEnds (marks ends : List Bool) (block : Block) (e : Unfolded) : Typ
   pub last : flag ends (length ends - 1) ≡ ended marks e block.base
   pub untouched : ends ≡ [] → (q : ℕ) → block.base ≤ q → q < block.base + position_count e → flag marks q ≡ false
 
--- of the first n blocks
+-- the ends of the first n blocks
 pub record HaveEnds (marks : List Bool) (blocks : List Block) (ends : List (Vec Bool Global)) (n : ℕ) : Type 0 where
   pub long : length ends ≡ n
   pub each : (i : ℕ) (block : Block) (own : Vec Bool Global) (e : Unfolded) → slice_get blocks i ≡ Some block → slice_get ends i ≡ Some own → IsBlock block e →

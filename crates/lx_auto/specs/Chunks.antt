@@ -31,7 +31,7 @@ abbrev pub binary_expression : BinaryOperator → Unfolded → Unfolded → Unfo
 binary_expression Concatenation a b = cat a b
 binary_expression Alternation a b = alt a b
 
--- of a node above one
+-- the same for the operator of a node above one expression
 abbrev pub unary_node : UnaryOperator → PlainNode
 unary_node Optional = opt_node
 unary_node OneOrMore = plus_node

@@ -19,7 +19,7 @@ pub record ArePositionsOf (spec : PlainSpec) (tree_of : Regex → Unfolded) (pos
   pub leaves : AreLeavesOf (numbered tree_of 0 spec.rules) (leaves_view positions.leaves.items)
   pub groups : AreGroupsOf (leaves_view positions.leaves.items) positions.groups.classes.items positions.groups.representatives.items
 
--- of the first n sets the earliest rule that each matches
+-- the earliest rule that each of the first n sets matches
 pub record AreMatchedBelow (spec : PlainSpec) (tree_of : Regex → Unfolded) (sets : List Positions) (matched : List (Option ℕ)) (n : ℕ) : Type 0 where
   pub long : length matched ≡ n
   pub each : (j : ℕ) → j < n → IsEarliestMatched (numbered tree_of 0 spec.rules) (set_of sets j) (slice_index_or matched j None)

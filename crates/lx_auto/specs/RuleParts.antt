@@ -38,7 +38,7 @@ pub record ArePartsOf (parts : List RulePart) (rules : List NumberedRule) (total
   pub each : (i : ℕ) (part : RulePart) (r : NumberedRule) → slice_get parts i ≡ Some part → slice_get rules i ≡ Some r → IsPartOf part r
   pub within : (i : ℕ) (r : NumberedRule) → slice_get rules i ≡ Some r → r.base + size_of r ≤ total
 
--- of the positions of an expression, the flags say which can be read next; all others are as they were
+-- The flags of an expression's positions are true for those that can be read next; all others are as they were.
 pub record AreReadsOf (r : NumberedRule) (marks : List Bool) (entered : Bool) (old new : List Bool) : Type 0 where
   pub long : length new ≡ length old
   pub own : (q : ℕ) → r.base ≤ q → q < r.base + position_count r.tree → (flag new q ≡ true) ↔ CanRead (λ p. flag marks p ≡ true) (entered ≡ true) r.tree r.base q

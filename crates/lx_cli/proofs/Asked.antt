@@ -85,7 +85,7 @@ asks_something words none =
     entered_known (built lx_app) (stop_after (built lx_app).top.rules (names_of (built lx_app)) (argument_words lx_app words)) all_known
     (met (built lx_app).top _ _ _ _ _ lx_requires none)
 
--- ---- what is asked
+-- ---- the request
 
 pub not_told : (order : Request) (text : Error) → order ≡ Told text → is_some (asked_as order) ≡ true → ⊥
 not_told order text is some = true≢false (sym some ∙ ap (λ (o : Request). is_some (asked_as o)) is)

@@ -422,7 +422,7 @@ ends_well b o r f fs few =
     ap (λ (rows : List Row). check_fault (listing b) rows false) (finished_rows b o r f fs) ∙ checks b o r (f ∷ fs) in
     ap₂ or_else (files_pass b o r f fs few) (ap₂ or_else defaults check)
 
--- ---- what is asked
+-- ---- the request
 
 -- the number of workers
 abbrev workers_of : Listing → ℕ

@@ -19,7 +19,7 @@ use Rattle.lx_listing.specs.AppendingLaws.{prefix_behind, prefix_then}
 use Rattle.lx_listing.proofs.Parting.{part_more, part_then}
 use Rattle.lx_listing.proofs.WholeLines.{lines_whole}
 
--- of the items of a file the lines of all but those that are left were written
+-- the lines of a file's items were written, except for the items that are left
 pub record HasListed {S : Type 0} (wrote : S → List ℕ → S → Type 0) (plan : Planned) (file : ℕ) (old new : S) (left : List Item) : Type 0 where
   pub done : List Item
   pub all : items_of plan file ≡ done ++ left

@@ -1,4 +1,5 @@
--- An automaton steps and accepts as a complete one does, whose states are encoded: as one more than the state that does so, or as 0 where nothing is accepted from there.
+-- An automaton steps and accepts as a complete one does. A complete state is encoded as one more than the state that simulates it, or as 0 if nothing
+-- is accepted from there.
 use Rattle.std.specs.Prelude.{◌≡◌, ◌≢◌, ℕ, ◌-◌, ◌<◌, slice_index}
 use Rattle.lx_automaton.specs.Automata.{Machine, accepted_by, class_target}
 use Rattle.lx_automaton.specs.EncodedOptions.{decoded_option}

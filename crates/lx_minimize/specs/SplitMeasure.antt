@@ -1,4 +1,4 @@
--- How much splitting is left, which falls with each turn of the worklist: each split makes a block more, and a pending one more.
+-- A bound on the splits that are left; it falls with each turn of the worklist. Each split adds a block and a pending splitter.
 use Rattle.std.specs.Prelude.{ℕ, ◌+◌, ◌-◌, ◌*◌, vec_len}
 use Rattle.lx_minimize.specs.Completion.{total}
 use Rattle.lx_minimize.specs.Partitions.{block_count}

@@ -35,7 +35,7 @@ cut_first made plan old fresh new (Ok None) end file first same h = absurd (let 
 cut_first made plan old fresh new (Ok (Some piece)) end file first same h =
     (h.0, cut_more made plan fresh new piece h.1 same h.2 ∙ ap (λ ps. ps ++ piece ∷ []) (fresh_before made plan old fresh end file first))
 
--- where it couldn't be cut
+-- if it couldn't be cut
 pub cut_none : {C E : Type 0} (made : Making C) (plan : Planned) (old fresh new : Cutting) (result : Result (Option (Piece C)) E) → old.next ≡ pieces_of plan old.file → fresh.file ≡ old.file + 1 → fresh.next ≡ 0 →
     OnErr result (new ≡ fresh) → OnErr result (pieces_before made plan new ≡ pieces_before made plan old)
 cut_none made plan old fresh new (Ok next) end file first h = tt

@@ -29,7 +29,7 @@ none_before made plan accepted p all is = false_from_ne_true (list_any (closes_b
     let number = is.number in
     absurd (omega arith))
 
--- and none comes behind the closing one
+-- and none comes after the closing one
 none_later : {C : Type 0} (made : Making C) (plan : Planned) (accepted : List (Piece C)) (p : Piece C) → All (IsPieceBy made plan) accepted → IsPieceBy made plan p → (is_closing p && list_any (is_later p) accepted) ≡ false
 none_later made plan accepted p all is = false_from_ne_true (is_closing p && list_any (is_later p) accepted) (λ h.
     let c = and_parts (is_closing p) (list_any (is_later p) accepted) h in
@@ -41,7 +41,7 @@ none_later made plan accepted p all is = false_from_ne_true (is_closing p && lis
     let number = subst (λ (f : ℕ). q.number < pieces_of plan f) (eqb-true q.file p.file b.0) found.1.number in
     absurd (omega arith))
 
--- so a piece of the plan is accepted where it wasn't before
+-- so a piece of the plan is accepted if it wasn't before
 accepted_new : {C : Type 0} (made : Making C) (plan : Planned) (accepted : List (Piece C)) (p : Piece C) → All (IsPieceBy made plan) accepted → IsPieceBy made plan p → has_piece p.file p.number accepted ≡ false → cause_against (shape_of plan) accepted p ≡ None
 accepted_new {C} made plan accepted p all is new =
     let run = not_from_true (nat_eq p.run plan.run) (eq-eqb p.run plan.run (ap (λ (q : Piece C). q.run) is.whole)) in
@@ -61,7 +61,7 @@ accepted_then made plan accepted p all is = elim (cases_Bool (has_piece p.file p
       ∙ or_right (has_piece p.file p.number accepted) (is_numbered p.file p.number p) (and_from (nat_eq p.file p.file) (nat_eq p.number p.number) (eq-eqb p.file p.file refl) (eq-eqb p.number p.number refl))
 ]
 
--- a piece in a list stands first or in the rest
+-- a piece in a list is its first element or in the rest
 first_or_rest : {C : Type 0} (q : Piece C) (came : List (Piece C)) (p : Piece C) → Contains (q ∷ came) p → (q ≡ p) ⊎ Contains came p
 first_or_rest q came p (zero, within, at) = inl at
 first_or_rest q came p (suc k, within, at) = inr (k, omega arith, at)
@@ -79,7 +79,7 @@ accepted_from made plan accepted (q ∷ came) p all honest is h =
     ] in
     accepted_from made plan (with_arrival (shape_of plan) accepted q) came p next (All-tail (IsHonestBy made plan) q came honest) is more
 
--- a file of which every piece came was taken whole
+-- a file is taken whole if each of its pieces came
 pub taken_whole : {C : Type 0} (made : Making C) (plan : Planned) (came : List (Piece C)) (counts : List ℕ) (file : ℕ) → AreHonestBy made plan came → AllDelivered (shape_of plan) came counts → file < files_of plan → slice_index counts file ≤ pieces_of plan file → AreAllAmongBy made plan file came → slice_index counts file ≡ pieces_of plan file
 taken_whole made plan came counts file honest delivered within at_most all =
     elim (cases_lt (slice_index counts file) (pieces_of plan file)) [

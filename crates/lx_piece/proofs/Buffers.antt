@@ -16,7 +16,7 @@ pub closing_number : (o : Option ℕ) (n : ℕ) → closed_before o n ≡ true �
 closing_number None n h = absurd (both_ways false refl h)
 closing_number (Some k) n h = (k, eq-eqb k k refl, h)
 
--- a file is closed before p exactly where its closing number is below p's
+-- a file is closed before p if and only if its closing number is below p's
 pub closed_alike : {C : Type 0} (buffer : Buffered C) (accepted : List (Piece C)) (p : Piece C) → BufferStandsFor buffer p.file accepted → list_any (closes_before p) accepted ≡ closed_before buffer.closing p.number
 closed_alike buffer accepted p s =
     same_tests (list_any (closes_before p) accepted) (closed_before buffer.closing p.number)
@@ -35,7 +35,7 @@ closed_alike buffer accepted p s =
     let b = and_parts (nat_eq q.file p.file) (nat_eq q.number k.0) a.1 in
     w.2 (closes_before p) (and_from (is_closing q) (nat_eq q.file p.file && nat_lt q.number p.number) a.0 (and_from (nat_eq q.file p.file) (nat_lt q.number p.number) b.0 (ap (λ i. nat_lt i p.number) (eqb-true q.number k.0 b.1) ∙ k.2))))
 
--- a later piece that was accepted is held, where p itself was not delivered
+-- a later piece that was accepted is held, if p itself was not delivered
 pub later_is_held : {C : Type 0} (buffer : Buffered C) (accepted : List (Piece C)) (p : Piece C) → BufferStandsFor buffer p.file accepted → buffer.next ≤ p.number → list_any (is_later p) accepted ≡ true → (m : ℕ) × (p.number < m) × (is_some (held_at buffer m) ≡ true)
 later_is_held buffer accepted p s l h =
     let w = any_witness (is_later p) accepted h in
@@ -53,7 +53,7 @@ held_is_later buffer accepted p m s l h =
     let b = and_parts (nat_eq q.file p.file) (nat_eq q.number m) w.1 in
     w.2 (is_later p) (and_from (nat_eq q.file p.file) (nat_lt p.number q.number) b.0 (ap (λ i. nat_lt p.number i) (eqb-true q.number m b.1) ∙ lt-ltb p.number m l))
 
--- the causes against a piece that is no double, by what the buffer keeps
+-- the causes against a piece that is no duplicate, by the buffer's contents
 pub refused_after_last : {C : Type 0} (buffer : Buffered C) (accepted : List (Piece C)) (p : Piece C) → BufferStandsFor buffer p.file accepted → has_number buffer p.number ≡ false → (nat_eq p.number top_number || closed_before buffer.closing p.number) ≡ true → Some AfterLast ≡ cause_among accepted p
 refused_after_last buffer accepted p s h e =
     let d = s.numbers p.number ∙ h in

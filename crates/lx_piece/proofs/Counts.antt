@@ -1,4 +1,4 @@
--- How many pieces were delivered of each file.
+-- The numbers of pieces delivered of each file.
 use Rattle.std.proofs.Common.{ℕ, suc, ◌≡◌, List, [], ◌∷◌, length, map, Some, refl, ◌∙◌, ap}
 use Rattle.std.specs.Prelude.{slice_get, slice_index}
 use Rattle.std.proofs.lemmas.Option.{slice_get_within, get_or_from_slice_get}

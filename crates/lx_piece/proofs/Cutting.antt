@@ -1,4 +1,4 @@
--- Lists cut in two, and how many pieces a list makes.
+-- Lists cut in two, and the number of pieces that a list makes.
 use Rattle.std.proofs.Common.{◌≡◌, ℕ, suc, ◌+◌, ◌-◌, ◌*◌, ◌<◌, ◌≤◌, Bool, true, false, inl, inr, List, [], ◌∷◌, ◌++◌, Option, Some, None, length, take, drop, nat_eq, if◌then◌else◌, is_some, not, refl, sym, ◌∙◌, ap, subst, arith, add-one, append-nil, append_assoc}
 use Rattle.std.specs.Prelude.{All, IfNone}
 use Rattle.std.proofs.lemmas.List.Elements.{All-drop, All-take}
@@ -22,8 +22,8 @@ use Rattle.lx_piece.specs.Cutting.{Cutting, IsCutterOf, items_ahead}
 use Rattle.lx_piece.specs.Plans.{IsPlan, Planned, bytes_of, is_cut, items_of, kinds_of}
 use Rattle.lx_piece.specs.Pieces.{IsPieceBy, mark_of, part, piece_by, piece_count, pieces_of, top_number}
 
--- ---- a list as what was taken of it and what is left
--- where one more than so many were taken, or all
+-- ---- a list as the part that was taken of it and the part that is left 
+--  if at least most + 1 items were taken, or all
 enough : (items left : List Item) (most : ℕ) → (length items < most + 1 → left ≡ []) → (take most items ≡ take most (items ++ left)) × (drop most items ++ left ≡ drop most (items ++ left))
 enough items left most end = elim (cases_lt (length items) (most + 1)) [
   | inl fewer ↦
@@ -32,7 +32,7 @@ enough items left most end = elim (cases_lt (length items) (most + 1)) [
   | inr more ↦ (sym (take-append-le most items left (omega arith)), sym (drop-append-le most items left (omega arith)))
 ]
 
--- items that were appended to a first one, until there was one more than so many, or none was left
+-- items that were appended to a first one, until there were most + 1 of them, or none was left
 all_ahead : (first items ahead left : List Item) → Appends first items ahead left → items ++ left ≡ first ++ ahead
 all_ahead first items ahead left appends =
     ap (λ xs. xs ++ left) appends.new_is ∙ append_assoc first appends.added left ∙ ap (λ xs. first ++ xs) (sym appends.left_is)
@@ -45,15 +45,15 @@ pub enough_rest : (first items ahead left : List Item) (most : ℕ) → Appends 
 enough_rest first items ahead left most appends end =
     (enough items left most end).1 ∙ ap (λ (xs : List Item). drop most xs) (all_ahead first items ahead left appends)
 
--- where none was behind so many, nothing is left
+-- if there is no item after the first most ones, nothing is left
 pub none_ahead : (behind : Option Item) (items left rest : List Item) (most : ℕ) → listed behind ≡ drop most items → (length items < most + 1 → left ≡ []) → listed behind ++ left ≡ rest → IfNone behind (rest ≡ [])
 none_ahead (Some item) items left rest most is end whole = tt
 none_ahead None items left rest most is end whole =
     let short : length items - most ≡ 0 = sym (length-drop most items) ∙ ap length (sym is) in
     sym whole ∙ end (omega arith)
 
--- ---- how many pieces there are
--- no more than so many where nothing is behind them
+-- ---- the number of pieces 
+--  at most k pieces, if no item follows them
 pub count_reached : (per_piece : ℕ) (items : List Item) (k : ℕ) → 0 < per_piece → 0 < k → drop (k * per_piece) items ≡ [] → piece_count per_piece items ≤ k
 count_reached per_piece items k some first none =
     let left : length items - k * per_piece ≡ 0 = sym (length-drop (k * per_piece) items) ∙ ap length none in
@@ -67,7 +67,7 @@ count_reached per_piece items k some first none =
     ] in
     omega arith
 
--- more than so many where an item is behind them
+-- more than k pieces, if an item follows them
 pub count_more : (per_piece : ℕ) (items : List Item) (k : ℕ) (item : Item) (rest : List Item) → 0 < per_piece → drop (k * per_piece) items ≡ item ∷ rest → k < piece_count per_piece items
 count_more per_piece items k item rest some there =
     let long : length items - k * per_piece ≡ suc (length rest) = sym (length-drop (k * per_piece) items) ∙ ap length there in
@@ -79,7 +79,7 @@ count_more per_piece items k item rest some there =
           absurd (omega arith)
     ]
 
--- the items behind one piece more
+-- the items after one piece more
 pub drop_piece : (per_piece : ℕ) (items : List Item) (k : ℕ) → drop per_piece (drop (k * per_piece) items) ≡ drop ((k + 1) * per_piece) items
 drop_piece per_piece items k =
     let times : suc k * per_piece ≡ k * per_piece + per_piece = suc-mul k per_piece in
@@ -87,7 +87,7 @@ drop_piece per_piece items k =
     let one : (k + 1) * per_piece ≡ k * per_piece + per_piece = omega arith in
     drop-drop _ _ items ∙ ap (λ n. drop n items) (sym one)
 
--- The piece with this number is the last one exactly where no item is behind it.
+-- The piece with this number is the last one if and only if no item follows it.
 last_is : (per_piece : ℕ) (items : List Item) (number : ℕ) (next : Option Item) (left : List Item) (last : Bool) → 0 < per_piece →
     listed next ++ left ≡ drop ((number + 1) * per_piece) items → IfNone next (drop ((number + 1) * per_piece) items ≡ []) → number < piece_count per_piece items →
     is_some next ≡ not last → last ≡ nat_eq (number + 1) (piece_count per_piece items)
@@ -100,8 +100,8 @@ last_is per_piece items number (Some item) left false some rest end there h =
     let more = count_more per_piece items (number + 1) item left some (sym rest) in
     sym (ne_eqb (number + 1) (piece_count per_piece items) (λ e. absurd (omega arith)))
 
--- ---- the next piece
--- behind the last one there is none
+-- ---- the next piece 
+--  after the last one there is none
 pub none_next : (plan : Planned) (cutter : Cutting) → 0 < plan.per_piece → IsCutterOf plan cutter → 0 < cutter.next → is_some cutter.ahead ≡ false → cutter.next ≡ pieces_of plan cutter.file
 none_next plan cutter some is first none =
     let reached = count_reached plan.per_piece (items_of plan cutter.file) cutter.next some first (is.end first (nothing cutter.ahead none)) in
@@ -123,15 +123,15 @@ next_there plan cutter some is ahead = at cutter.ahead ahead is.items
     at None h e = absurd (both_ways false refl h)
     at (Some item) h e = count_more plan.per_piece (items_of plan cutter.file) cutter.next item (items_left plan.table (bytes_of plan cutter.file) cutter.cursor) some (sym e)
 
--- ---- what is remembered
--- what a cutter remembers is of the tables and the file by which it is asked for a piece
+-- ---- memory 
+--  a cutter's memory is of the tables and the file by which it is asked for a piece
 pub remembers : (plan own : Planned) (file : ℕ) (table : Table) (text : List ℕ) (m : ScanMemory) → own ≡ plan → table ≡ plan.table → text ≡ bytes_of plan file → IsMemoryOf own.table (bytes_of own file) m → IsMemoryOf table text m
 remembers plan own file table text m same e f is = rw (e, f) (subst (λ (p : Planned). IsMemoryOf p.table (bytes_of p file) m) same is)
 
 pub remembers_on : (plan own : Planned) (file : ℕ) (table : Table) (text : List ℕ) (m : ScanMemory) → own ≡ plan → table ≡ plan.table → text ≡ bytes_of plan file → IsMemoryOf table text m → IsMemoryOf own.table (bytes_of own file) m
 remembers_on plan own file table text m same e f is = subst (λ (p : Planned). IsMemoryOf p.table (bytes_of p file) m) (sym same) (rw (e, f) at is)
 
--- what is taken from a cutter: the items of a piece, the item behind them, and the cursor behind that one
+-- the result of taking from a cutter: the items of a piece, the item after them, and the cursor after that one
 pub record TakesPiece (plan : Planned) (cutter : Cutting) (items : List Item) (next : Option Item) (cursor : Cursor) : Type 0 where
   pub in_text : IsInText plan.table (bytes_of plan cutter.file) cursor
   pub items_are : items ≡ take plan.per_piece (items_ahead plan.table (bytes_of plan cutter.file) cutter.ahead cutter.cursor)
@@ -146,7 +146,7 @@ pub takes_from : (plan : Planned) (cutter : Cutting) (items : List Item) (next :
 takes_from plan cutter items next cursor table text most e f g in_text items_are rest end =
     record { in_text = rw (e, f) at in_text; items_are = rw (e, f, g) at items_are; rest = rw (e, f, g) at rest; end = rw (e, f, g) at end }
 
--- what is taken are items of the file
+-- the items taken are items of the file
 pub items_taken : (plan : Planned) (cutter : Cutting) (items : List Item) (table : Table) (text : List ℕ) (most : ℕ) → table ≡ plan.table → text ≡ bytes_of plan cutter.file → most ≡ plan.per_piece → IsCutterOf plan cutter →
     items ≡ take most (items_ahead table text cutter.ahead cutter.cursor) → IsPlan plan → All (IsItemOf (kinds_of plan) (bytes_of plan cutter.file)) items
 items_taken plan cutter items table text most e f g is items_are whole =

@@ -36,7 +36,7 @@ accepted_planned made plan accepted [] h honest = h
 accepted_planned made plan accepted (p ∷ came) h honest =
     accepted_planned made plan (with_arrival (shape_of plan) accepted p) came (with_planned made plan accepted p h (All-head (IsHonestBy made plan) p came honest)) (All-tail (IsHonestBy made plan) p came honest)
 
--- so is what a collector holds that stands for the list
+-- so are the pieces held by a collector that represents the list
 pub planned_from : {C : Type 0} (made : Making C) (plan : Planned) (kept : Kept C) (came : List (Piece C)) → shape_of_kept kept ≡ shape_of plan → StandsFor kept came → AreHonestBy made plan came → HoldsPlanned made plan kept.buffers
 planned_from made plan kept came e s honest =
     record {
@@ -47,7 +47,7 @@ planned_from made plan kept came e s honest =
           (All-contains (IsPieceBy made plan) (accepted_of (shape_of plan) came) p (accepted_planned made plan [] came (All-nil (IsPieceBy made plan)) honest) there, is.0, is.1);
     }
 
--- where nothing more can be delivered, all was
+-- if nothing more can be delivered, all was
 pub all_delivered : {C : Type 0} (shape : RunShape) (kept : Kept C) (came : List (Piece C)) (counts : List ℕ) → shape_of_kept kept ≡ shape → StandsFor kept came → NoneReady kept.buffers → counts ≡ delivered_counts kept → AllDelivered shape came counts
 all_delivered shape kept came counts e s ready c =
     record {
@@ -64,7 +64,7 @@ all_delivered shape kept came counts e s ready c =
           };
     }
 
--- what was delivered was accepted
+-- each delivered piece was accepted
 pub at_most_delivered : {C : Type 0} (shape : RunShape) (kept : Kept C) (came : List (Piece C)) (counts : List ℕ) → shape_of_kept kept ≡ shape → StandsFor kept came → AreAtMost counts (delivered_counts kept) → AtMostDelivered shape came counts
 at_most_delivered shape kept came counts e s c =
     record {
@@ -117,7 +117,7 @@ fresh_delivered plan kept run files k f = sym (ap delivered_counts k ∙ fresh_c
 abbrev pub IsEager : {C : Type 0} → Planned → List (Piece C) → List ℕ → Type 0
 IsEager {C} plan came counts = (before : List (Piece C)) (last : Piece C) → came ≡ before ++ last ∷ [] → (file k : ℕ) → file < files_of plan → IsLeastMissing (accepted_of (shape_of plan) before) file k → k ≤ slice_index counts file
 
--- so it is where all of the list before was delivered and no count has fallen since
+-- so it is if all of the list before was delivered and no count has fallen since
 eager_behind : {C : Type 0} (plan : Planned) (came : List (Piece C)) (p : Piece C) (counts after : List ℕ) → AllDelivered (shape_of plan) came counts → AreAtMost counts after → IsEager plan (came ++ p ∷ []) after
 eager_behind {C} plan came p counts after h rise = λ before last e file k within least.
     let here = subst (λ (list : List (Piece C)). IsLeastMissing (accepted_of (shape_of plan) list) file k) (sym (same_from_push came before p last e).0) least in
@@ -141,11 +141,11 @@ so_far_with made plan leads goes_on s t u old new replies p reply so led honest 
       stands = stands so.came so.stands;
     }
 
--- what is delivered out changes nothing of that
+-- a delivery changes nothing of that
 pub so_far_still : {C : Type 0} (made : Making C) (plan : Planned) (leads : List (Piece C) → Type 0) (old new : Kept C) (replies : List Reply) → SoFar made plan leads old replies → ((came : List (Piece C)) → StandsFor old came → StandsFor new came) → SoFar made plan leads new replies
 so_far_still made plan leads old new replies so stands = record { came = so.came; led = so.led; honest = so.honest; replied = so.replied; stands = stands so.came so.stands }
 
--- of each file no more was taken than its pieces
+-- no more pieces of a file were taken than it has
 pub taken_from : {C : Type 0} (made : Making C) (plan : Planned) (came : List (Piece C)) (counts : List ℕ) → 0 < plan.per_piece → AreHonestBy made plan came → AtMostDelivered (shape_of plan) came counts → TakesAllInOrder plan counts
 taken_from made plan came counts some honest h =
     let within : (file : ℕ) → file < files_of plan → slice_index counts file ≤ pieces_of plan file = λ file l.
@@ -166,7 +166,7 @@ in_part made plan leads kept replies counts some so e c eager =
     let delivered = at_most_delivered (shape_of plan) kept so.came counts e so.stands c in
     record { came = so.came; led = so.led; honest = so.honest; delivered = delivered; eager = eager; taken = taken_from made plan so.came counts some so.honest delivered }
 
--- an arrival behind which some was delivered, and then the reader failed
+-- an arrival after which pieces were delivered until the reader failed
 pub in_part_behind : {C : Type 0} {S : Type 0} (made : Making C) (plan : Planned) (leads : S → List (Piece C) → S → Type 0) (goes_on : (s t u : S) (xs ys : List (Piece C)) → leads s xs t → leads t ys u → leads s (xs ++ ys) u) (s t u : S) (old mid new : Kept C) (replies : List Reply) (before counts : List ℕ) (p : Piece C) (reply : Reply) → 0 < plan.per_piece → SoFar made plan (λ came. leads s came t) old replies → leads t (p ∷ []) u → IsHonestBy made plan p → shape_of_kept old ≡ shape_of plan → NoneReady old.buffers → before ≡ delivered_counts old → ((came : List (Piece C)) → StandsFor old came → reply ≡ reply_to (shape_of_kept old) (accepted_of (shape_of_kept old) came) p) → ((came : List (Piece C)) → StandsFor old came → StandsFor mid (came ++ p ∷ [])) → ((came : List (Piece C)) → StandsFor mid came → StandsFor new came) → shape_of_kept new ≡ shape_of plan → AreAtMost counts (delivered_counts new) → AreAtMost before counts → RelayedInPartBy made plan (λ came. leads s came u) counts
 unfolding so_far_with so_far_still
 in_part_behind made plan leads goes_on s t u old mid new replies before counts p reply some so led honest e ready c answers stands still shape most risen =

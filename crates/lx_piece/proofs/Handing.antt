@@ -1,4 +1,4 @@
--- Pieces handed on in the plan's order: those of a file that wait, and those of the files behind it.
+-- Pieces delivered in the plan's order: the waiting ones of a file, and those of the files after it.
 use Rattle.std.proofs.Common.{ℕ, zero, suc, ◌≡◌, ◌≢◌, ◌+◌, ◌<◌, ◌≤◌, ◌==◌, inl, inr, Bool, true, false, List, [], ◌∷◌, ◌++◌, refl, sym, ◌∙◌, ap, subst, arith, length, get_or, append_assoc, add-one, Global}
 use Rattle.std.specs.Prelude.{slice_index, slice_set}
 use Rattle.std.specs.declared.collections.VecDeque.{VecDeque}
@@ -35,9 +35,9 @@ piece_in made plan file (suc count) number d l =
       | inr less ↦ get_or_append_left front (piece_by made plan file count ∷ []) d number (omega arith) ∙ piece_in made plan file count number d (omega arith)
     ]
 
--- ---- what waits of one file
+-- ---- the waiting pieces of one file
 
--- in the midst of it: what was taken, and what is left
+-- part of them were taken: the taken ones, and those that are left
 pub record TookSome {C : Type 0} (made : Making C) (plan : Planned) (file : ℕ) (all rest : List (Piece C)) (closed : Bool) (turn : Turn) : Type 0 where
   pub count : ℕ
   pub parts : all ≡ pieces_by made plan file count ++ rest
@@ -110,9 +110,9 @@ some_all made plan file all rest closed turn some none =
     let size : some.count ≡ length all = omega (arith, ap length some.parts, length-append (pieces_by made plan file some.count) rest, length-pieces made plan file some.count) in
     (some.closing ∙ ap (λ (n : ℕ). n == pieces_of plan file) size, some.turn_is ∙ ap (turn_at plan file) size)
 
--- ---- what waits of the files
+-- ---- the waiting pieces of the files
 
--- what waits of a file is in the queue that was read
+-- the waiting pieces of a file are in the queue that was read
 pub queue_read : {C : Type 0} (queues : List (VecDeque (Piece C) Global)) (file : ℕ) (queue : VecDeque (Piece C) Global) → file < length queues → queue ≡ get_or queues file queue → waiting_of (queued queues) file ≡ queue.items
 queue_read {C} queues file queue l e = get_or-map (λ (q : VecDeque (Piece C) Global). q.items) queues file queue [] l ∙ ap (λ (q : VecDeque (Piece C) Global). q.items) (sym e)
 
@@ -136,7 +136,7 @@ pub files_none : {C : Type 0} (plan : Planned) (from : ℕ) (old : List (List (P
 files_none plan from old turn l e = record { rises = omega arith; within = l; closed = λ g a b. absurd (omega arith); lists = refl; others = λ g _. refl; turn_is = e }
 
 module _ {C : Type 0} (made : Making C) (plan : Planned) (from : ℕ) (old : List (List (Piece C))) (file : ℕ) (mid : List (List (Piece C))) (turn : Turn) (waits : Waits made plan from old) (w : TookFiles plan from old file mid turn) (l : file < files_of plan) where
-  -- what waits of the next file is its first pieces
+  -- the waiting pieces of the next file are its first ones
   pub next_pieces : AreFirstPieces made plan file (waiting_of mid file)
   next_pieces = subst (AreFirstPieces made plan file) (sym (w.others file (omega arith))) (waits.each file w.rises l)
 
@@ -213,7 +213,7 @@ module _ {C : Type 0} (made : Making C) (plan : Planned) (turn : Turn) (counts :
   same : slice_index (counted counts p.file) p.file ≡ slice_index counts p.file + 1
   same = counted_same counts p.file there
 
-  -- of a file before the first open one no piece comes
+  -- no piece comes of a file before the first open one
   not_before : first ≤ p.file
   not_before = elim (cases_lt p.file first) [
     | inl before ↦
@@ -280,11 +280,11 @@ module _ {C : Type 0} (made : Making C) (plan : Planned) (turn : Turn) (counts :
         ];
       }
 
-  -- it is marked exactly where it is the file's last one
+  -- it is marked if and only if it is the file's last one
   last : is_closing p ≡ (p.number + 1 == pieces_of plan p.file)
   last = ap is_closing next.planned.whole ∙ marked_last plan p.file p.number
 
-  -- what is taken of the first open file, and leaves it open
+  -- a piece is taken of the first open file, and leaves it open
   pub taken_open : p.file ≡ first → is_closing p ≡ false → (after : Turn) → after ≡ turn_after plan turn → KeepsUp made plan after (counted counts p.file) first waiting
   taken_open e unmarked after a =
       let f = files in
@@ -313,7 +313,7 @@ module _ {C : Type 0} (made : Making C) (plan : Planned) (turn : Turn) (counts :
         came = λ g l m. k.came g l m ∙ sym (other g (λ s. absurd (omega arith)));
       }
 
-  -- behind it comes the first piece of the next file
+  -- after it comes the first piece of the next file
   pub turn_closed : p.file ≡ first → is_closing p ≡ true → (after : Turn) → after ≡ turn_after plan turn → after ≡ record { file = first + 1; number = 0 }
   turn_closed e marked after a =
       let number = next.number in
@@ -321,7 +321,7 @@ module _ {C : Type 0} (made : Making C) (plan : Planned) (turn : Turn) (counts :
       a ∙ ap (turn_after plan) k.turn_is
       ∙ turn_over plan first (slice_index counts first + 1) (ap (λ (n : ℕ). n + 1) (sym (ap (slice_index counts) e) ∙ sym number) ∙ all ∙ ap (pieces_of plan) e)
 
-  -- what is taken of it closes it, and what waits behind it is taken
+  -- the taken piece closes its file, and the pieces waiting after it are taken
   pub taken_closed : (next_file : ℕ) (new : List (List (Piece C))) (after : Turn) → p.file ≡ first → is_closing p ≡ true → TookWaiting plan (first + 1) waiting next_file new after → KeepsUp made plan after (counted counts p.file) next_file new
   taken_closed next_file new after e marked w =
       let f = files in

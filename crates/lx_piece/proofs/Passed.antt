@@ -1,4 +1,4 @@
--- A reader that hands pieces on in order: before anything came, and behind a piece that it took.
+-- A reader that delivers pieces in order: before anything came, and after a piece that it took.
 use Rattle.std.proofs.Common.{ℕ, ◌≡◌, ◌+◌, ◌<◌, inl, inr, Bool, false, List, [], refl, sym, ◌∙◌, ap, subst, arith, length, get_or, replicate}
 use Rattle.std.specs.Prelude.{slice_index, slice_set}
 use Rattle.std.proofs.lemmas.Bool.{both_ways, cases_lt}
@@ -45,7 +45,7 @@ fresh_keeps made plan turn counts waiting t e w =
 pub count_raised : (counts : List ℕ) (file count : ℕ) → file < length counts → count ≡ get_or counts file count → slice_set counts file (count + 1) ≡ counted counts file
 count_raised counts file count l e = ap (λ (n : ℕ). slice_set counts file (n + 1)) (e ∙ get_or_default counts file count 0 l)
 
--- ---- what a reader did that took a piece
+-- ---- a reader after it took a piece
 
 -- it is the turn of the first open file's next piece
 pub turn_by : {C : Type 0} (made : Making C) (plan : Planned) (turn : Turn) (counts : List ℕ) (first : ℕ) (waiting : List (List (Piece C))) → KeepsUp made plan turn counts first waiting → IsTurnBy plan counts turn

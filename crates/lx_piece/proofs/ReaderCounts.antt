@@ -51,7 +51,7 @@ counts_follow made plan counts after old new file p s e h a =
     ∙ ap (λ (n : ℕ). slice_set (nexts old) n (slice_index (nexts old) n + 1)) is.1
     ∙ sym (counts_delivered old new file p h)
 
--- what is held stays the plan's
+-- the held pieces are still the plan's
 pub planned_delivered : {C : Type 0} (made : Making C) (plan : Planned) (old new : List (Buffered C)) (file : ℕ) (p : Piece C) → HoldsPlanned made plan old → Delivers old file p new → HoldsPlanned made plan new
 planned_delivered made plan old new file p s h =
     record {

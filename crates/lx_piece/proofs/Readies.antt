@@ -9,12 +9,12 @@ use Rattle.std.proofs.lemmas.Option.{unwrap_or-slice_get}
 use Rattle.lx_piece.specs.declared.piece.Piece.{Piece}
 use Rattle.lx_piece.specs.Kept.{Buffered, Advances, Delivers, IsReadySet, has_file, is_ready, is_ready_at, held_at}
 
--- where a file is ready, it has a buffer
+-- a ready file has a buffer
 pub ready_buffer : {C : Type 0} (o : Option (Buffered C)) → is_ready_at o ≡ true → (buffer : Buffered C) × (o ≡ Some buffer) × (is_ready buffer ≡ true)
 ready_buffer None h = absurd (both_ways false refl h)
 ready_buffer (Some buffer) h = (buffer, refl, h)
 
--- the lowest of the ready files hands its next piece on
+-- the lowest of the ready files delivers its next piece
 pub lowest_delivers : {C : Type 0} (buffers : List (Buffered C)) (ready : List ℕ) (file : ℕ) (buffer advanced : Buffered C) (p : Piece C) → IsReadySet buffers ready → has_file ready file ≡ true → ((q : ℕ) → has_file ready q ≡ true → file ≤ q) → buffer ≡ get_or buffers file buffer → held_at buffer buffer.next ≡ Some p → Advances buffer advanced → Delivers buffers file p (slice_set buffers file advanced)
 lowest_delivers buffers ready file buffer advanced p set has least at next moves =
     let r = ready_buffer (slice_get buffers file) (sym (set.each file) ∙ has) in
@@ -42,7 +42,7 @@ get_set_other (x ∷ xs) zero (suc j) y d = refl
 get_set_other (x ∷ xs) (suc i) zero y d = refl
 get_set_other (x ∷ xs) (suc i) (suc j) y d = get_set_other xs i j y (λ e. d (ap suc e))
 
--- what `is_at` tests
+-- the meaning of `is_at`
 pub at_number : (k n : ℕ) → is_at (nat_cmp k) n ≡ nat_eq n k
 at_number k n = elim (cases_eq n k) [
   | inl e ↦ grind (arith, nat_tests)

@@ -6,7 +6,7 @@ use Rattle.lx_piece.specs.Pieces.{Making}
 use Rattle.lx_piece.specs.Arrivals.{shape_of, AreHonestBy, replies_of}
 use Rattle.lx_piece.specs.Kept.{Kept, StandsFor}
 
--- in the midst of a run: the list that came, which the collector stands for, and the replies to it
+-- in the midst of a run: the list that came, which the collector represents, and the replies to it
 pub record SoFar {C : Type 0} (made : Making C) (plan : Planned) (leads : List (Piece C) → Type 0) (kept : Kept C) (replies : List Reply) : Type 0 where
   pub came : List (Piece C)
   pub led : leads came

@@ -37,7 +37,7 @@ known shape accepted p h =
 pub same_some : {X : Type 0} (x y : X) → Some x ≡ Some y → x ≡ y
 same_some x y h = cc
 
--- the buffers stand for one accepted piece more
+-- the buffers represent one accepted piece more
 kept_buffers : {C : Type 0} (old new : List (Buffered C)) (accepted : List (Piece C)) (p : Piece C) → ((file : ℕ) (buffer : Buffered C) → slice_get old file ≡ Some buffer → BufferStandsFor buffer file accepted) → KeepsIn old p new → None ≡ cause_among accepted p → (file : ℕ) (buffer : Buffered C) → slice_get new file ≡ Some buffer → BufferStandsFor buffer file (accepted ++ p ∷ [])
 kept_buffers old new accepted p s k none file buffer at =
     elim (cases_eq file p.file) [
@@ -78,7 +78,7 @@ stands_delivered run old new at_file p came s k = record {
       (advanced_buffers old new at_file p (accepted_of (record { run = run; files = length old }) came) s.each k file buffer at);
 }
 
--- a refused arrival changes nothing that a collector stands for
+-- a refused arrival doesn't change the list that a collector represents
 pub stands_still : {C : Type 0} (kept : Kept C) (came : List (Piece C)) (p : Piece C) (why : Why) → StandsFor kept came → Some why ≡ cause_against (shape_of_kept kept) (accepted_of (shape_of_kept kept) came) p → StandsFor kept (came ++ p ∷ [])
 stands_still kept came p why s h = record { each = λ file buffer at. subst (λ xs. BufferStandsFor buffer file xs) (sym (accepted_same (shape_of_kept kept) came p why h)) (s.each file buffer at) }
 

@@ -12,7 +12,7 @@ use Rattle.lx_piece.specs.Arrivals.{has_piece, has_closing, has_truncated, close
 use Rattle.lx_piece.specs.Kept.{Buffered, BufferStandsFor, KeepsPiece, Advances, is_ready, held_at, is_number}
 use Rattle.lx_piece.proofs.AnyOf.{same_tests, any_witness, any_last, choice_none, or_none}
 
--- what no cause against p says
+-- the facts that hold if there is no cause against p
 pub record NoCause {C : Type 0} (accepted : List (Piece C)) (p : Piece C) : Type 0 where
   pub new : has_piece p.file p.number accepted ≡ false
   pub countable : nat_eq p.number top_number ≡ false
@@ -79,7 +79,7 @@ kept_mark {C} test accepted p old new n clear closes is stands =
           ∙ sym (ap (λ o. is_number o n) (is ∙ ap (λ b. if b then Some p.number else old) hasnt))
     ]
 
--- a buffer that keeps an accepted piece stands for it too
+-- a buffer that keeps an accepted piece represents it too
 pub kept_stands : {C : Type 0} (old new : Buffered C) (accepted : List (Piece C)) (p : Piece C) → BufferStandsFor old p.file accepted → KeepsPiece old p new → None ≡ cause_among accepted p → BufferStandsFor new p.file (accepted ++ p ∷ [])
 kept_stands {C} old new accepted p s k none =
     let clear = no_cause accepted p none in
@@ -122,7 +122,7 @@ other_stands buffer file accepted p s other =
 one_more : (n k : ℕ) → (n ≡ k → ⊥) → nat_lt n (k + 1) ≡ nat_lt n k
 one_more n k d = same_tests (nat_lt n (k + 1)) (nat_lt n k) (λ h. let l = ltb-true n (k + 1) h in lt-ltb n k (omega arith)) (λ h. let l = ltb-true n k h in lt-ltb n (k + 1) (omega arith))
 
--- a buffer that delivered its next piece on stands for the same
+-- a buffer that delivered its next piece represents the same ones
 pub advanced_stands : {C : Type 0} (old new : Buffered C) (file : ℕ) (accepted : List (Piece C)) → BufferStandsFor old file accepted → Advances old new → is_ready old ≡ true → BufferStandsFor new file accepted
 advanced_stands {C} old new file accepted s m ready =
     record {

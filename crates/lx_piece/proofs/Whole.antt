@@ -10,7 +10,7 @@ use Rattle.lx_piece.proofs.SoFar.{SoFar}
 use Rattle.lx_piece.proofs.Deliveries.{all_delivered, taken_from}
 use Rattle.lx_piece.proofs.Arrived.{taken_whole}
 
--- where all was delivered, no more than that was
+-- if the counts are exactly those delivered, they are at most those
 at_most_all : {C : Type 0} (shape : RunShape) (came : List (Piece C)) (counts : List ℕ) → AllDelivered shape came counts → AtMostDelivered shape came counts
 at_most_all shape came counts h = record { files = h.files; each = λ file j within l. (h.each file within).below j l }
 

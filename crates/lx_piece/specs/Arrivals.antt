@@ -1,4 +1,4 @@
--- Arrivals: pieces of a plan and strangers, which of them count, and what is answered to each.
+-- Arrivals, from a plan or foreign: the accepted ones, and the replies to all.
 use Rattle.std.specs.Prelude.{ℕ, ◌≡◌, ◌<◌, ◌==◌, Bool, true, false, not, ◌&&◌, ◌||◌, if◌then◌else◌, nat_lt, List, [], ◌∷◌, ◌++◌, Option, Some, None, All}
 use Rattle.std.specs.List.{list_any}
 use Rattle.lx_piece.specs.declared.piece.Piece.{Piece}
@@ -9,7 +9,7 @@ use Rattle.lx_piece.specs.declared.reply.Reply.TheVariants.{Accepted, Refused}
 use Rattle.lx_piece.specs.Plans.{Planned, files_of}
 use Rattle.lx_piece.specs.Pieces.{ItemPiece, Making, bare, is_closing, is_cut_short, IsPieceBy, top_number}
 
--- the run that pieces are of: its number, and how many files it has
+-- the run that pieces are of: its number, and its number of files
 pub record RunShape : Type 0 where
   pub run : ℕ
   pub files : ℕ
@@ -42,15 +42,15 @@ closes_before p q = is_closing q && ((q.file == p.file) && nat_lt q.number p.num
 abbrev pub is_later : {C : Type 0} → Piece C → Piece C → Bool
 is_later p q = (q.file == p.file) && nat_lt p.number q.number
 
--- whether a piece of this file and number is among these
+-- true if a piece of this file and number is among these
 abbrev pub has_piece : {C : Type 0} → ℕ → ℕ → List (Piece C) → Bool
 has_piece file number pieces = list_any (is_numbered file number) pieces
 
--- whether a closing piece of this file and number is among these
+-- true if a closing piece of this file and number is among these
 abbrev pub has_closing : {C : Type 0} → ℕ → ℕ → List (Piece C) → Bool
 has_closing file number pieces = list_any (λ p. is_closing p && is_numbered file number p) pieces
 
--- whether one marked Cut is
+-- true if one marked Cut is
 abbrev pub has_truncated : {C : Type 0} → ℕ → ℕ → List (Piece C) → Bool
 has_truncated file number pieces = list_any (λ p. is_cut_short p && is_numbered file number p) pieces
 
@@ -62,7 +62,7 @@ cause_among accepted p =
     else if is_closing p && list_any (is_later p) accepted then Some Contradicts
     else None
 
--- the first cause against an arrival behind those that were accepted
+-- the first cause against an arrival after the accepted ones
 abbrev pub cause_against : {C : Type 0} → RunShape → List (Piece C) → Piece C → Option Why
 cause_against shape accepted p =
     if not (p.run == shape.run) then Some WrongRun
@@ -76,7 +76,7 @@ reply_for (Some why) = Refused why
 abbrev pub reply_to : {C : Type 0} → RunShape → List (Piece C) → Piece C → Reply
 reply_to shape accepted p = reply_for (cause_against shape accepted p)
 
--- those accepted, with the arrival where it is accepted
+-- the accepted ones, followed by the arrival if it is accepted
 abbrev pub joined : {C : Type 0} → Option Why → List (Piece C) → Piece C → List (Piece C)
 joined None accepted p = accepted ++ p ∷ []
 joined (Some why) accepted p = accepted

@@ -1,4 +1,4 @@
--- What a collector holds of a plan, and how many pieces of each file were delivered.
+-- The pieces that a collector holds of a plan, and the numbers of pieces delivered of each file.
 use Rattle.std.specs.Prelude.{ℕ, ◌≡◌, ◌≤◌, List, Some, length, slice_index, slice_get}
 use Rattle.lx_piece.specs.declared.piece.Piece.{Piece}
 use Rattle.lx_piece.specs.Plans.{Planned, files_of}

@@ -1,4 +1,4 @@
--- What a collector keeps, and what it is to keep of the arrivals that came.
+-- The contents of a collector, and those that the arrivals require.
 use Rattle.std.specs.Prelude.{ℕ, ◌≡◌, ◌+◌, ◌<◌, ◌≤◌, ◌==◌, Bool, true, false, ◌||◌, nat_lt, is_some, List, [], ◌∷◌, Option, Some, None, Contains, length, slice_get, slice_set, map, sum_by, if◌then◌else◌}
 use Rattle.std.specs.Ordering.{nat_cmp}
 use Rattle.std.specs.BTreeMap.{is_at}
@@ -11,8 +11,8 @@ use Rattle.lx_piece.specs.Plans.{max_files}
 use Rattle.lx_piece.specs.Pieces.{is_closing, is_cut_short}
 use Rattle.lx_piece.specs.Arrivals.{RunShape, accepted_of, cause_against, has_piece, has_closing, has_truncated}
 
--- What a collector keeps of one file: how many pieces were delivered, the number of the closing piece, the same where that piece is marked
--- Cut, and the pieces held by their numbers.
+-- A collector's buffer of one file: the number of its next piece, the number of the closing piece, the same if that piece is marked Cut, and the held
+-- pieces. The pieces below the next one were delivered; each held one is under its number.
 pub record Buffered (C : Type 0) : Type 0 where
   pub next : ℕ
   pub closing : Option ℕ
@@ -24,7 +24,7 @@ abbrev pub with_next : {C : Type 0} → ℕ → Option (Piece C) → List (ℕ �
 with_next next None pieces = pieces
 with_next next (Some piece) pieces = (next, piece) ∷ pieces
 
--- what a collector keeps
+-- the contents of a collector
 pub record Kept (C : Type 0) : Type 0 where
   pub run : ℕ
   pub buffers : List (Buffered C)
@@ -36,7 +36,7 @@ shape_of_kept kept = record { run = kept.run; files = length kept.buffers }
 abbrev pub accepted_by : {C : Type 0} → Kept C → List (Piece C) → List (Piece C)
 accepted_by kept came = accepted_of (shape_of_kept kept) came
 
--- the first cause that it has against an arrival behind these
+-- the first cause that it has against an arrival after these
 abbrev pub cause_by : {C : Type 0} → Kept C → List (Piece C) → Piece C → Option Why
 cause_by kept came p = cause_against (shape_of_kept kept) (accepted_by kept came) p
 
@@ -44,27 +44,27 @@ cause_by kept came p = cause_against (shape_of_kept kept) (accepted_by kept came
 abbrev pub held_at : {C : Type 0} → Buffered C → ℕ → Option (Piece C)
 held_at buffer number = lookup (is_at (nat_cmp number)) buffer.held
 
--- whether a piece of this number was delivered or is held
+-- true if a piece of this number was delivered or is held
 abbrev pub has_number : {C : Type 0} → Buffered C → ℕ → Bool
 has_number buffer number = nat_lt number buffer.next || is_some (held_at buffer number)
 
--- whether the number is the closing one
+-- true if the number is the closing one
 abbrev pub is_number : Option ℕ → ℕ → Bool
 is_number None n = false
 is_number (Some m) n = m == n
 
--- a file's buffer stands for these accepted pieces
+-- a file's buffer represents these accepted pieces
 pub record BufferStandsFor {C : Type 0} (buffer : Buffered C) (file : ℕ) (accepted : List (Piece C)) : Type 0 where
   pub numbers : (n : ℕ) → has_piece file n accepted ≡ has_number buffer n
   pub held : (n : ℕ) (p : Piece C) → held_at buffer n ≡ Some p → (p.file ≡ file) × (p.number ≡ n) × Contains accepted p
   pub closing : (n : ℕ) → has_closing file n accepted ≡ is_number buffer.closing n
   pub truncated : (n : ℕ) → has_truncated file n accepted ≡ is_number buffer.truncated n
 
--- a collector stands for a list of arrivals
+-- a collector represents a list of arrivals
 pub record StandsFor {C : Type 0} (kept : Kept C) (came : List (Piece C)) : Type 0 where
   pub each : (file : ℕ) (buffer : Buffered C) → slice_get kept.buffers file ≡ Some buffer → BufferStandsFor buffer file (accepted_by kept came)
 
--- whether the file's next piece is held
+-- true if the file's next piece is held
 abbrev pub is_ready : {C : Type 0} → Buffered C → Bool
 is_ready buffer = is_some (held_at buffer buffer.next)
 
@@ -76,7 +76,7 @@ pub record Advances {C : Type 0} (old new : Buffered C) : Type 0 where
   pub held : (n : ℕ) → held_at new n ≡ (if n == old.next then None else held_at old n)
   pub fewer : length new.held + 1 ≡ length old.held
 
--- whether the closing number is below n
+-- true if the closing number is below n
 abbrev pub closed_before : Option ℕ → ℕ → Bool
 closed_before None n = false
 closed_before (Some m) n = nat_lt m n
@@ -103,7 +103,7 @@ pub record KeepsPiece {C : Type 0} (old : Buffered C) (p : Piece C) (new : Buffe
   pub truncated : new.truncated ≡ truncated_with old.truncated p
   pub held : (n : ℕ) → held_at new n ≡ (if n == p.number then Some p else held_at old n)
 
--- whether the file's next piece is held, and false where there is no such file
+-- true if the file's next piece is held; false if there is no such file
 abbrev pub is_ready_at : {C : Type 0} → Option (Buffered C) → Bool
 is_ready_at None = false
 is_ready_at (Some buffer) = is_ready buffer
@@ -135,12 +135,12 @@ abbrev pub with_lowest : Option ℕ → List ℕ → List ℕ
 with_lowest None files = files
 with_lowest (Some lowest) files = lowest ∷ files
 
--- the others are above the lowest, and none where there is no lowest
+-- the others are above the lowest; there are none if there is no lowest
 abbrev pub AreAbove : Option ℕ → BTreeSet ℕ → Type 0
 AreAbove None others = (file : ℕ) → contains nat_cmp others file ≡ false
 AreAbove (Some lowest) others = (file : ℕ) → contains nat_cmp others file ≡ true → lowest < file
 
--- whether the file is among these
+-- true if the file is among these
 abbrev pub has_file : List ℕ → ℕ → Bool
 has_file files file = list_any (is_at (nat_cmp file)) files
 
@@ -149,15 +149,15 @@ pub record IsReadySet {C : Type 0} (buffers : List (Buffered C)) (ready : List �
   pub few : length buffers ≤ max_files
   pub each : (g : ℕ) → has_file ready g ≡ is_ready_at (slice_get buffers g)
 
--- what is kept of a file of which nothing came
+-- the buffer of a file of which no piece came
 abbrev pub fresh_buffer : {C : Type 0} → Buffered C
 fresh_buffer = record { next = 0; closing = None; truncated = None; held = [] }
 
--- how many pieces of each file were delivered
+-- the number of delivered pieces of each file
 abbrev pub delivered_counts : {C : Type 0} → Kept C → List ℕ
 delivered_counts kept = map (λ buffer. buffer.next) kept.buffers
 
--- how many pieces are held
+-- the number of held pieces
 abbrev pub held_total : {C : Type 0} → List (Buffered C) → ℕ
 held_total buffers = sum_by (λ buffer. length buffer.held) buffers
 

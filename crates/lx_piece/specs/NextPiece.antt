@@ -4,7 +4,7 @@ use Rattle.lx_piece.specs.declared.piece.Piece.{Piece}
 use Rattle.lx_piece.specs.Plans.{Planned}
 use Rattle.lx_piece.specs.Pieces.{ItemPiece, Making, bare, IsPieceBy, TakesInOrder}
 
--- p is the piece that a reader with these counts takes next of its file, of which it took the first ones, in order
+-- p is the next piece of its file for a reader with these counts, which took the file's first pieces in order
 pub record IsNextPieceBy {C : Type 0} (made : Making C) (plan : Planned) (counts : List ℕ) (p : Piece C) : Type 0 where
   pub planned : IsPieceBy made plan p
   pub number : p.number ≡ slice_index counts p.file

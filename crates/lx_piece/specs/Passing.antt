@@ -1,4 +1,4 @@
--- Pieces that are handed on in the plan's order: how far this has come.
+-- Pieces that are delivered in the plan's order: the progress of the delivery.
 use Rattle.std.specs.Prelude.{ℕ, ◌≡◌, Bool, true, false, List}
 use Rattle.lx_piece.specs.declared.piece.Piece.{Piece}
 use Rattle.lx_piece.specs.declared.reader.ReaderFault.{ReaderFault}
@@ -8,15 +8,16 @@ use Rattle.lx_piece.specs.Relayed.{HasOpenFile}
 use Rattle.lx_piece.specs.Turns.{Turn, IsTurnBy}
 use Rattle.lx_piece.specs.Waiting.{KeepsUp}
 
--- To whom pieces are handed on, how many came of each file, how often the taker's device failed or was asked for more after a fault, and whether it failed.
+-- The taker of the pieces, the numbers of pieces that came of each file, the count of faults, and true if the taker failed. Each failure of the
+-- taker's device counts as a fault, and so does each later request to it.
 pub record Passing (T : Type 0) : Type 0 where
   pub taker : T
   pub counts : List ℕ
   pub faults : ℕ
   pub failed : Bool
 
--- What became of the taker between two states: until it fails it took the pieces of the turns between; then one was no longer taken; and behind that it stays
--- as it is. Where it fails a file stays open.
+-- The taker's change between two states. Until it fails, it takes the pieces of the turns between; then one isn't taken any more. After that it stays
+-- as it is. If it fails, a file stays open.
 pub record PassesOn {T : Type 0} (plan : T → Planned) (turn : T → Turn) (follows : T → T → Type 0) (fails : T → ReaderFault → T → Type 0) (old new : Passing T) : Type 0 where
   pub same : plan new.taker ≡ plan old.taker
   pub took : old.failed ≡ false → new.failed ≡ false → follows old.taker new.taker
@@ -25,7 +26,7 @@ pub record PassesOn {T : Type 0} (plan : T → Planned) (turn : T → Turn) (fol
   pub stuck : old.failed ≡ false → new.failed ≡ true → HasOpenFile (plan new.taker) new.counts
   pub stopped : old.failed ≡ true → (new.failed ≡ true) × (new.taker ≡ old.taker) × (new.counts ≡ old.counts)
 
--- what holds between two calls
+-- the facts that hold between two calls
 pub record IsInOrder {C : Type 0} (made : Making C) (plan : Planned) (turn : Turn) (counts : List ℕ) (first : ℕ) (waiting : List (List (Piece C))) (failed : Bool) : Type 0 where
   pub plan_is : IsPlan plan
   pub keeps : failed ≡ false → KeepsUp made plan turn counts first waiting

@@ -1,4 +1,4 @@
--- What a reader that hands pieces on in order did between two states, and between the second and a third one.
+-- Changes of a reader that delivers pieces in order: between two states, and between the second and a third one.
 use Rattle.std.specs.Prelude.{List, ℕ, refl}
 use Rattle.std.proofs.Common.{inl, inr, sym, ◌∙◌, subst}
 use Rattle.std.proofs.lemmas.Bool.{both_ways, cases_Bool}

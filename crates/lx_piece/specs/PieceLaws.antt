@@ -31,7 +31,7 @@ pub prefix_to : (plan : Planned) (file count : ℕ) → IsPrefix (contents (piec
 prefix_to plan file count =
     (drop (count * plan.per_piece) (items_of plan file), ap (λ items. items ++ drop (count * plan.per_piece) (items_of plan file)) (contents_to plan file count) ∙ take-append-drop (count * plan.per_piece) (items_of plan file))
 
--- a mark is a last piece's exactly where it is the last
+-- a mark is a last piece's if and only if the piece is the last
 pub closing_mark : (last cut : Bool) → is_closing_mark (if last then (if cut then Cut else Whole) else More) ≡ last
 closing_mark false cut = refl
 closing_mark true false = refl
@@ -40,7 +40,7 @@ closing_mark true true = refl
 pub marked_last : (plan : Planned) (file number : ℕ) → is_closing (piece_at plan file number) ≡ (number + 1 == pieces_of plan file)
 marked_last plan file number = closing_mark (number + 1 == pieces_of plan file) (is_cut plan file)
 
--- it is Cut where besides the file's reading failed
+-- it is Cut if the file's reading failed, too
 cut_mark : (last cut : Bool) → is_cut_mark (if last then (if cut then Cut else Whole) else More) ≡ (last && cut)
 cut_mark false cut = refl
 cut_mark true false = refl
@@ -72,7 +72,7 @@ uncut_below plan file (suc count) l =
     ∙ or_from (list_any is_cut_short (pieces_to plan file count)) (is_cut_short (piece_at plan file count)) (uncut_below plan file count (omega arith))
     (marked_cut plan file count ∙ ap (λ b. b && is_cut plan file) (ne_eqb (count + 1) (pieces_of plan file) (λ e. absurd (omega arith))))
 
--- the last one is, exactly where the file's reading failed
+-- the last one is marked Cut if and only if the file's reading failed
 pub cut_at : (plan : Planned) (file count : ℕ) → count ≡ pieces_of plan file → list_any is_cut_short (pieces_to plan file count) ≡ is_cut plan file
 cut_at plan file zero e = absurd (omega arith)
 cut_at plan file (suc count) e =

@@ -8,23 +8,23 @@ use Rattle.lx_piece.specs.declared.piece.Mark.TheVariants.{More, Whole, Cut}
 use Rattle.lx_piece.specs.declared.piece.Piece.{Piece}
 use Rattle.lx_piece.specs.Plans.{Planned, files_of, is_cut, items_of}
 
--- whether a mark is that of a last piece
+-- true if a mark is that of a last piece
 abbrev pub is_closing_mark : Mark → Bool
 is_closing_mark More = false
 is_closing_mark Whole = true
 is_closing_mark Cut = true
 
--- whether it is that of the last piece of a file whose reading failed
+-- true if it is that of the last piece of a file whose reading failed
 abbrev pub is_cut_mark : Mark → Bool
 is_cut_mark More = false
 is_cut_mark Whole = false
 is_cut_mark Cut = true
 
--- whether it is marked as the last piece of its file
+-- true if it is marked as the last piece of its file
 abbrev pub is_closing : {C : Type 0} → Piece C → Bool
 is_closing piece = is_closing_mark piece.mark
 
--- whether it is marked as the last piece of a file whose reading failed
+-- true if it is marked as the last piece of a file whose reading failed
 abbrev pub is_cut_short : {C : Type 0} → Piece C → Bool
 is_cut_short piece = is_cut_mark piece.mark
 
@@ -32,11 +32,11 @@ is_cut_short piece = is_cut_mark piece.mark
 abbrev pub top_number : ℕ
 top_number = 18446744073709551615
 
--- how many pieces a list of items makes: one at least
+-- the number of pieces that a list of items makes: at least one
 abbrev pub piece_count : ℕ → List Item → ℕ
 piece_count per_piece items = max 1 (div_ceil (length items) per_piece)
 
--- how many pieces a file has
+-- the number of pieces of a file
 abbrev pub pieces_of : Planned → ℕ → ℕ
 pieces_of plan file = piece_count plan.per_piece (items_of plan file)
 
@@ -44,11 +44,11 @@ pieces_of plan file = piece_count plan.per_piece (items_of plan file)
 abbrev pub part : ℕ → List Item → ℕ → List Item
 part per_piece items number = take per_piece (drop (number * per_piece) items)
 
--- the mark of the piece with this number: the last one is marked Cut where its file's reading failed, else Whole
+-- the mark of the piece with this number: Cut for the last one if its file's reading failed, Whole for the last one otherwise, More before it
 abbrev pub mark_of : Planned → ℕ → ℕ → Mark
 mark_of plan file number = if number + 1 == pieces_of plan file then (if is_cut plan file then Cut else Whole) else More
 
--- what is made of items of a file of a plan, for a piece to carry
+-- the contents made of a file's items, for a piece to carry
 abbrev pub Making : Type 0 → Type 0
 Making C = Planned → ℕ → List Item → C
 
@@ -56,7 +56,7 @@ Making C = Planned → ℕ → List Item → C
 abbrev pub bare : Making (List Item)
 bare plan file items = items
 
--- the piece of a file with this number, which carries what is made of its items
+-- the piece of a file with this number; it carries the contents made of its items
 abbrev pub piece_by : {C : Type 0} → Making C → Planned → ℕ → ℕ → Piece C
 piece_by made plan file number =
     record {
@@ -100,8 +100,8 @@ contents pieces = flat_map (λ (piece : ItemPiece). piece.items) pieces
 abbrev pub IsPrefix : {X : Type 0} → List X → List X → Type 0
 IsPrefix {X} xs ys = (rest : List X) × (xs ++ rest ≡ ys)
 
--- What is taken of a file by its first pieces: a prefix of its items. The closing piece is among them exactly
--- where they are all of the file's pieces; then it is all of the items, and one is marked Cut exactly where the file's reading failed.
+-- The first pieces of a file take a prefix of its items. The closing piece is among them if and only if they are all of the file's pieces. Then they
+-- take all of the items, and one is marked Cut if and only if the file's reading failed.
 pub record TakesInOrder (plan : Planned) (file count : ℕ) : Type 0 where
   pub prefix : IsPrefix (contents (pieces_to plan file count)) (items_of plan file)
   pub closed : (list_any is_closing (pieces_to plan file count) ≡ true) ↔ (count ≡ pieces_of plan file)

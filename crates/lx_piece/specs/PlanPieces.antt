@@ -15,13 +15,13 @@ pieces_below made plan (suc file) = pieces_below made plan file ++ pieces_by mad
 abbrev pub pieces_before : {C : Type 0} → Making C → Planned → Cutting → List (Piece C)
 pieces_before made plan cutter = pieces_below made plan cutter.file ++ pieces_by made plan cutter.file cutter.next
 
--- the pieces of a plan that were cut, and whether memory was refused for one
+-- the pieces of a plan that were cut, and true if an allocation failed for one
 pub record CutSoFar (C : Type 0) : Type 0 where
   pub plan : Planned
   pub cut : List (Piece C)
   pub refused : Bool
 
--- what was cut between two states
+-- the pieces cut between two states
 abbrev pub Cuts : {C : Type 0} → CutSoFar C → List (Piece C) → CutSoFar C → Type 0
 Cuts s came t = (t.plan ≡ s.plan) × (t.cut ≡ s.cut ++ came)
 

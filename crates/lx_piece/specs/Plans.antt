@@ -18,27 +18,27 @@ max_items = 4096
 abbrev pub max_workers : ℕ
 max_workers = 8
 
--- a file as far as it was read, and whether its reading failed behind these bytes
+-- the bytes of a file that were read, and true if its reading failed after them
 pub record PlainInput : Type 0 where
   pub bytes : List ℕ
   pub cut : Bool
 
--- an input without where it lies in memory
+-- an input without its place in memory
 abbrev pub input_view : Input → PlainInput
 input_view input = record { bytes = input.bytes.items; cut = input.cut }
 
--- A plan as contracts see it: what its pieces' run is and how many items a piece has, the tables, and the files.
+-- A plan as contracts see it: the number of its pieces' run, the number of items of a piece, the tables, and the files.
 pub record Planned : Type 0 where
   pub run : ℕ
   pub per_piece : ℕ
   pub table : Table
   pub inputs : List PlainInput
 
--- how many files it has
+-- the number of its files
 abbrev pub files_of : Planned → ℕ
 files_of plan = length plan.inputs
 
--- a file; where there is none, an empty one
+-- a file; an empty one if there is none
 abbrev pub input_of : Planned → ℕ → PlainInput
 input_of plan file = slice_index_or plan.inputs file (record { bytes = []; cut = false })
 
@@ -46,7 +46,7 @@ input_of plan file = slice_index_or plan.inputs file (record { bytes = []; cut =
 abbrev pub bytes_of : Planned → ℕ → List ℕ
 bytes_of plan file = (input_of plan file).bytes
 
--- whether its reading failed behind them
+-- true if its reading failed after them
 abbrev pub is_cut : Planned → ℕ → Bool
 is_cut plan file = (input_of plan file).cut
 
@@ -58,11 +58,11 @@ kinds_of plan = plan.table.kinds
 abbrev pub kind_of : Planned → ℕ → List ℕ
 kind_of plan number = kind_at plan.table number
 
--- the items of a file: those that the tables give of its bytes
+-- the items of a file: those that the tables give for its bytes
 abbrev pub items_of : Planned → ℕ → List Item
 items_of plan file = scan.items_of plan.table (bytes_of plan file)
 
--- what holds of every plan
+-- the facts about every plan
 pub record IsPlan (plan : Planned) : Type 0 where
   pub some_files : 0 < files_of plan
   pub few_files : files_of plan ≤ max_files

@@ -1,4 +1,4 @@
--- What of a plan's files was taken.
+-- The pieces taken of a plan's files.
 use Rattle.std.specs.Prelude.{ℕ, ◌≡◌, ◌≢◌, ◌<◌, ◌≤◌, true, List, [], ◌∷◌, ◌++◌, Contains, length, slice_index}
 use Rattle.lx_piece.specs.declared.piece.Piece.{Piece}
 use Rattle.lx_piece.specs.declared.reply.Reply.{Reply}
@@ -6,16 +6,16 @@ use Rattle.lx_piece.specs.Plans.{Planned, files_of}
 use Rattle.lx_piece.specs.Pieces.{ItemPiece, Making, bare, TakesInOrder, pieces_of, piece_by}
 use Rattle.lx_piece.specs.Arrivals.{RunShape, shape_of, AreHonestBy, accepted_of, replies_of, has_piece, IsLeastMissing}
 
--- of each file the pieces taken are some of its first ones, and so in order and none twice
+-- the pieces taken of each file are some of its first ones, and so in order and none twice
 pub record TakesAllInOrder (plan : Planned) (counts : List ℕ) : Type 0 where
   pub within : (file : ℕ) → file < files_of plan → slice_index counts file ≤ pieces_of plan file
   pub each : (file : ℕ) → file < files_of plan → TakesInOrder plan file (slice_index counts file)
 
--- of every file each piece was taken
+-- each piece of every file was taken
 abbrev pub AreAllTaken : Planned → List ℕ → Type 0
 AreAllTaken plan counts = (file : ℕ) → file < files_of plan → slice_index counts file ≡ pieces_of plan file
 
--- of some file not each piece was taken
+-- some file has a piece that wasn't taken
 abbrev pub HasOpenFile : Planned → List ℕ → Type 0
 HasOpenFile plan counts = (file : ℕ) × (file < files_of plan) × (slice_index counts file ≢ pieces_of plan file)
 
@@ -36,8 +36,8 @@ AreAllAmongBy made plan file came = (number : ℕ) → number < pieces_of plan f
 abbrev pub AreAllAmong : Planned → ℕ → List ItemPiece → Type 0
 AreAllAmong plan file came = AreAllAmongBy bare plan file came
 
--- What a whole run answered and delivered: the list that came, its replies, all that it delivers, and of each
--- file no more than its pieces. A file of which every piece came was taken whole.
+-- The replies and the delivery of a whole run: the list that came, its replies, all that it delivers, and of each file no more than its pieces. A
+-- file of which every piece came was taken whole.
 pub record RelayedBy {C : Type 0} (made : Making C) (plan : Planned) (leads : List (Piece C) → Type 0) (replies : List Reply) (counts : List ℕ) : Type 0 where
   pub came : List (Piece C)
   pub led : leads came
@@ -50,7 +50,7 @@ pub record RelayedBy {C : Type 0} (made : Making C) (plan : Planned) (leads : Li
 abbrev pub Relayed : Planned → (List ItemPiece → Type 0) → List Reply → List ℕ → Type 0
 Relayed plan leads replies counts = RelayedBy bare plan leads replies counts
 
--- what a run that failed delivered: no more than the list taken so far delivers, and no less than the list before its last arrival delivers
+-- the delivery of a run that failed: no more than the list taken delivers, and no less than the list before its last arrival delivers
 pub record RelayedInPartBy {C : Type 0} (made : Making C) (plan : Planned) (leads : List (Piece C) → Type 0) (counts : List ℕ) : Type 0 where
   pub came : List (Piece C)
   pub led : leads came

@@ -12,11 +12,11 @@ pub record Turn : Type 0 where
 abbrev pub first_turn : Turn
 first_turn = record { file = 0; number = 0 }
 
--- the turn once so many pieces of a file were taken: that of its next one, or behind the last one that of the first of the file behind it
+-- the turn after this number of pieces of a file: that of its next one, or after the last one that of the first of the file after it
 abbrev pub turn_at : Planned → ℕ → ℕ → Turn
 turn_at plan file count = if count == pieces_of plan file then record { file = file + 1; number = 0 } else record { file = file; number = count }
 
--- behind the piece of this turn
+-- the turn after the piece of this turn
 abbrev pub turn_after : Planned → Turn → Turn
 turn_after plan turn = turn_at plan turn.file (turn.number + 1)
 
@@ -26,7 +26,7 @@ pub record HasTurn {C : Type 0} (made : Making C) (plan : Planned) (turn : Turn)
   pub file : p.file ≡ turn.file
   pub number : p.number ≡ turn.number
 
--- By these counts of pieces taken, it is the first file that isn't closed, or the number of files where each is.
+-- By these counts of pieces taken, it is the first file that isn't closed, or the number of files if each is.
 pub record IsFirstOpen (plan : Planned) (counts : List ℕ) (first : ℕ) : Type 0 where
   pub files : length counts ≡ files_of plan
   pub within : first ≤ files_of plan

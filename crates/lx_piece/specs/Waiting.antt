@@ -1,4 +1,4 @@
--- The pieces of later files that wait, behind the first file that isn't closed.
+-- The waiting pieces of later files, after the first file that isn't closed.
 use Rattle.std.specs.Prelude.{ℕ, ◌≡◌, ◌+◌, ◌<◌, ◌≤◌, List, [], length, slice_index, slice_index_or, slice_set, map}
 use Rattle.std.specs.declared.alloc.Global.{Global}
 use Rattle.std.specs.declared.collections.VecDeque.{VecDeque}
@@ -21,12 +21,13 @@ pub record AreFirstPieces {C : Type 0} (made : Making C) (plan : Planned) (file 
   pub countable : length pieces ≤ top_number
   pub same : pieces ≡ pieces_by made plan file (length pieces)
 
--- of each file from one on, what waits is its first pieces
+-- the waiting pieces of each file from one on are its first ones
 pub record Waits {C : Type 0} (made : Making C) (plan : Planned) (from : ℕ) (waiting : List (List (Piece C))) : Type 0 where
   pub lists : length waiting ≡ files_of plan
   pub each : (file : ℕ) → from ≤ file → file < files_of plan → AreFirstPieces made plan file (waiting_of waiting file)
 
--- What waited was taken, of the files from one on, up to and with the first that isn't closed by it, which is next.
+-- The waiting pieces were taken of the files from one on, up to the first that they don't close. That file is next; its waiting pieces were taken,
+-- too.
 pub record TookWaiting {C : Type 0} (plan : Planned) (from : ℕ) (old : List (List (Piece C))) (next : ℕ) (new : List (List (Piece C))) (turn : Turn) : Type 0 where
   pub rises : from ≤ next
   pub within : next ≤ files_of plan
@@ -36,7 +37,7 @@ pub record TookWaiting {C : Type 0} (plan : Planned) (from : ℕ) (old : List (L
   pub others : (file : ℕ) → next < file → waiting_of new file ≡ waiting_of old file
   pub turn_is : turn ≡ record { file = next; number = length (waiting_of old next) }
 
--- Behind the first file that isn't closed wait the pieces that came of each file, and it is the turn of that file's next one.
+-- After the first file that isn't closed, the pieces that came of each file wait. It is the turn of that first file's next piece.
 pub record KeepsUp {C : Type 0} (made : Making C) (plan : Planned) (turn : Turn) (counts : List ℕ) (first : ℕ) (waiting : List (List (Piece C))) : Type 0 where
   pub first_open : IsFirstOpen plan counts first
   pub turn_is : turn ≡ record { file = first; number = slice_index counts first }

@@ -1,4 +1,4 @@
--- What a name stands for, definition by definition.
+-- The meaning of a name, definition by definition.
 use Rattle.std.proofs.Common.{◌≡◌, ℕ, zero, suc, ◌+◌, ◌-◌, ◌<◌, ◌≤◌, ◌⊎◌, inl, inr, List, length, subst, arith, Some}
 use Rattle.std.specs.Prelude.{slice_get}
 use Rattle.std.proofs.lemmas.Bool.{cases_lt}
@@ -7,7 +7,7 @@ use Rattle.lx_ere.specs.Matching.{Matches}
 use Rattle.lx_rules.specs.Plain.{PlainDefinition}
 use Rattle.lx_rules.specs.Names.{DefinedMatches, NameMatches}
 
--- the word is one of what one of the first k definitions has under this name
+-- the word is in the language that one of the first k definitions gives to this name
 pub record DefinedBelow (inner : List ℕ → List ℕ → Type 0) (definitions : List PlainDefinition) (name : List ℕ) (k : ℕ) (word : List ℕ) : Type 0 where
   pub place : ℕ
   pub below : place < k

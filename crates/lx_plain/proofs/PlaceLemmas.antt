@@ -1,4 +1,4 @@
--- Places that words of a language lead to: one language behind another, repeats, and the closing of a set.
+-- Places that words of a language lead to: one language after another, repeats, and the closure of a set.
 use Rattle.std.proofs.Common.{◌≡◌, ℕ, zero, suc, ◌+◌, ◌-◌, ◌<◌, ◌≤◌, ◌⊎◌, inl, inr, Bool, true, false, List, [], ◌∷◌, ◌++◌, Some, None, length, drop, take, refl, sym, ap, subst, ◌∙◌, arith, append_assoc, append-nil, length-append, drop-drop, add-zero, true≢false, not, ◌||◌, ◌&&◌, length-drop}
 use Rattle.std.proofs.Math.Seq.{drop-append_seam}
 use Rattle.std.proofs.lemmas.Bool.{cases_lt, or_cases, or_left, or_right, and_parts}
@@ -17,8 +17,8 @@ use Rattle.lx_ere.specs.Matching.{Splits, Repeats, RepeatsBetween, Matches}
 use Rattle.lx_plain.specs.Places.{Between, IsReached, AreEnds, AreWithin, AnyNumber, AtMost, AreBehind, AreLengths, is_byte_at}
 use Rattle.lx_plain.proofs.SetLemmas.{is_empty, at_number}
 
--- ---- words
--- a word of repeats is one of so many, and then of the rest
+-- ---- words 
+--  a word of m + n repeats is one of m, followed by one of n
 pub repeats_join : (L : List ℕ → Type 0) (m n : ℕ) (u v : List ℕ) → Repeats L m u → Repeats L n v → Repeats L (m + n) (u ++ v)
 repeats_join L zero n u v e r = let h : 0 + n ≡ n = omega arith in let g : u ≡ [] = e in rw (h, g) r
 repeats_join L (suc m) n u v s r =
@@ -39,14 +39,14 @@ repeats_one L w m = (w, [], m, refl, sym (append-nil w))
 pub repeats_one_from : (L : List ℕ → Type 0) (w : List ℕ) → Repeats L 1 w → L w
 repeats_one_from L w s = let e : s.1 ≡ [] = s.3 in subst L (sym (s.4 ∙ ap (λ (v : List ℕ). s.0 ++ v) e ∙ append-nil (s.0))) (s.2)
 
--- one word more behind so many
+-- one word more after k of them
 pub repeats_more : (L : List ℕ → Type 0) (k : ℕ) (w : List ℕ) → Splits (Repeats L k) L w → Repeats L (k + 1) w
 repeats_more L k w s = subst (Repeats L (k + 1)) (sym (s.4)) (repeats_join L k 1 (s.0) (s.1) (s.2) (repeats_one L (s.1) (s.3)))
 
 pub repeats_fewer : (L : List ℕ → Type 0) (k : ℕ) (w : List ℕ) → Repeats L (k + 1) w → Splits (Repeats L k) L w
 repeats_fewer L k w r = let s : Splits (Repeats L k) (Repeats L 1) w = repeats_split L k 1 w r in (s.0, s.1, s.2, repeats_one_from L (s.1) (s.3), s.4)
 
--- no more than n + 1 words are no more than n, or n + 1
+-- at most n + 1 words are at most n, or n + 1
 pub at_most_more : (L : List ℕ → Type 0) (n : ℕ) (w : List ℕ) → AtMost L n w ⊎ Repeats L (n + 1) w → AtMost L (n + 1) w
 at_most_more L n w h = elim h [ inl a ↦ (a.0, (let p : a.0 ≤ n = a.1 in omega arith), a.2) | inr r ↦ (n + 1, omega arith, r) ]
 
@@ -56,7 +56,7 @@ at_most_fewer L n w a = elim (cases_lt (a.0) (n + 1)) [
   | inr more ↦ let e : a.0 ≡ n + 1 = (let p : a.0 ≤ n + 1 = a.1 in omega arith) in inr (subst (λ (k : ℕ). Repeats L k w) e (a.2))
 ]
 
--- from low words on: low of them, and then any number, or as many as are left
+-- at least low words: low of them, and then any number of them
 pub between_any : (L : List ℕ → Type 0) (low : ℕ) (w : List ℕ) → Splits (Repeats L low) (AnyNumber L) w → RepeatsBetween L low None w
 between_any L low w s =
     let more : AnyNumber L (s.1) = s.3 in
@@ -124,7 +124,7 @@ between_within L text i j h b =
 pub ends_within : (L : List ℕ → Type 0) (text : List ℕ) (starts ends : BTreeSet ℕ) → AreWithin text starts → AreEnds L text starts ends → AreWithin text ends
 ends_within L text starts ends within e j h = let r = e.sound j h in between_within L text (r.from) j (within (r.from) (r.start)) (r.between)
 
--- what two sets hold together lies within where both do
+-- a union of two sets lies within if both do
 pub all_within : (text : List ℕ) (left right both : BTreeSet ℕ) → AreWithin text left → AreWithin text right → ((j : ℕ) → contains nat_cmp both j ≡ (contains nat_cmp left j || contains nat_cmp right j)) → AreWithin text both
 all_within text left right both a b is j h = elim (or_cases (contains nat_cmp left j) (contains nat_cmp right j) (sym (is j) ∙ h)) as (λ _. j ≤ length text) [ inl l ↦ a j l | inr r ↦ b j r ]
 
@@ -134,7 +134,7 @@ ends_map L M text starts ends into from e = record {
   whole = λ j r. e.whole j (record { from = r.from; start = r.start; between = between_map M L text (r.from) j from (r.between) });
 }
 
--- one language behind another
+-- one language after another
 pub ends_then : (L M : List ℕ → Type 0) (text : List ℕ) (starts middles ends : BTreeSet ℕ) → AreEnds L text starts middles → AreEnds M text middles ends → AreEnds (Splits L M) text starts ends
 ends_then L M text starts middles ends a b = record {
   sound = λ j h. let second = b.sound j h in let first = a.sound (second.from) (second.start) in
@@ -177,7 +177,7 @@ ends_none L text starts ends never is = record {
   whole = λ j r. let b = r.between in absurd (never (b.word) (b.matches));
 }
 
--- ---- the closing of a set: what is reached so far, and what of it is new
+-- ---- the closure of a set: the places reached, and the new ones among them
 pub record IsClosing (L : List ℕ → Type 0) (text : List ℕ) (starts reached fresh : BTreeSet ℕ) : Type 0 where
   pub sound : (j : ℕ) → contains nat_cmp reached j ≡ true → IsReached (AnyNumber L) text starts j
   pub begun : (j : ℕ) → contains nat_cmp starts j ≡ true → contains nat_cmp reached j ≡ true
@@ -281,7 +281,7 @@ ends_byte names s text starts ends b = record { sound = sound; whole = whole }
         let m : Matches names (one_of s) (b'.word) = b'.matches in
         at_word j (r.from) (m.0) (b'.rest) (r.start) (m.1) (b'.there ∙ ap (λ (w : List ℕ). w ++ b'.rest) (m.2)) (b'.end ∙ ap (λ (w : List ℕ). r.from + length w) (m.2))
 
--- ---- how far a closing can grow
+-- ---- a bound on the growth of a closure
 set_len_le : (text : List ℕ) (s : BTreeSet ℕ) → IsOrdered nat_cmp s → AreWithin text s → btree_set_len s ≤ length text + 1
 set_len_le text s ordered within = length-le_from_below (length text + 1) (s.keys) ordered (λ k d h.
     let q : ℕ = get_or (s.keys) k d in

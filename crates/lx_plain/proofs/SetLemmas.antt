@@ -16,7 +16,7 @@ has xs q = list_any (is_at (nat_cmp q)) xs
 pub at_number : (k q : ℕ) → is_at (nat_cmp k) q ≡ nat_eq k q
 at_number k q = grind (arith, nat_tests)
 
--- what stands one behind the numbers seen that pass a test, with one number more
+-- one after a seen number that passes a test, with one number more
 pub next_more : (start i : ℕ) (seen : List ℕ) (passes : Bool) (old new : Bool) → new ≡ cond (is_at (nat_cmp (start + 1)) (i + 1)) true old → old ≡ (has seen i && passes) → (i ≡ start → passes ≡ true) →
     new ≡ (has (seen ++ start ∷ []) i && passes)
 next_more start i seen passes old new is before pass =
@@ -27,7 +27,7 @@ next_more start i seen passes old new is before pass =
       | inr other ↦ grind (arith, nat_tests, step, test, is, before)
     ]
 
--- nothing stands at 0
+-- 0 is not among them
 pub first_more : (start : ℕ) (old new : Bool) → new ≡ cond (is_at (nat_cmp (start + 1)) 0) true old → old ≡ false → new ≡ false
 first_more start old new is before = let test : is_at (nat_cmp (start + 1)) 0 ≡ nat_eq (start + 1) 0 = at_number (start + 1) 0 in grind (arith, nat_tests, test, is, before)
 

@@ -5,7 +5,7 @@ use Rattle.lx_ere.specs.declared.expr.Expr.{Expr}
 use Rattle.lx_ere.specs.declared.expr.Expr.TheVariants.{Nil, Set, Then', Or', Times', Name}
 use Rattle.lx_rules.specs.declared.definition.Definition.{Definition}
 
--- how many expressions an expression is made of
+-- the number of subexpressions of an expression, itself included
 abbrev pub count_of : Expr → ℕ
 count_of Nil = 1
 count_of (Set s) = 1
@@ -14,12 +14,12 @@ count_of (Or' p a q b) = suc (count_of a + count_of b)
 count_of (Times' p body low high) = suc (count_of body)
 count_of (Name name) = 1
 
--- how many expressions all definitions are made of
+-- the number of subexpressions of all definitions
 abbrev pub count_all : List Definition → ℕ
 count_all [] = 0
 count_all (d ∷ definitions) = count_of (d.expr) + count_all definitions
 
--- an expression of so many, with names that may be unfolded so deep
+-- the weight of an expression with this number of subexpressions, whose names may be unfolded to this depth
 abbrev pub weight : List Definition → ℕ → ℕ → ℕ
 weight definitions depth count = 2 * (count + depth * (count_all definitions + 2))
 

@@ -1,4 +1,4 @@
--- What lies between two places of a text, and the places that words lead to.
+-- The bytes between two places of a text, and the places that words lead to.
 use Rattle.std.specs.Prelude.{◌≡◌, ℕ, ◌+◌, ◌≤◌, true, false, Bool, ◌&&◌, nat_lt, List, ◌++◌, length, take, drop, slice_index}
 use Rattle.std.specs.FinSet as set
 use Rattle.std.specs.Ordering.{nat_cmp}
@@ -42,11 +42,11 @@ AnyNumber L w = (k : ℕ) × Repeats L k w
 abbrev pub AtMost : (List ℕ → Type 0) → ℕ → List ℕ → Type 0
 AtMost L n w = (k : ℕ) × (k ≤ n) × Repeats L k w
 
--- a byte of the set stands at place i
+-- a byte of the set is at place i
 abbrev pub is_byte_at : set.FinSet nat_cmp → List ℕ → ℕ → Bool
 is_byte_at s text i = nat_lt i (length text) && set.contains s (slice_index text i)
 
--- the ends are the places one behind the starts at which a byte of the set stands
+-- the ends are one after the starts that have a byte of the set
 pub record AreBehind (s : set.FinSet nat_cmp) (text : List ℕ) (starts ends : BTreeSet ℕ) : Type 0 where
   pub first : contains nat_cmp ends 0 ≡ false
   pub next : (i : ℕ) → contains nat_cmp ends (i + 1) ≡ (contains nat_cmp starts i && is_byte_at s text i)

@@ -1,4 +1,4 @@
--- What came by a post, after one note more.
+-- The pieces and faults received by a post, after one note more.
 use Rattle.std.proofs.Common.{◌≡◌, ℕ, List, [], ◌∷◌, ◌++◌, Option, None, Some, length, drop, sym, refl, ap, ◌∙◌, append_assoc}
 use Rattle.std.proofs.Math.Seq.{drop-append_seam}
 use Rattle.lx_piece.specs.declared.piece.Piece.{Piece}
@@ -9,7 +9,7 @@ use Rattle.lx_post.specs.Notes.{fault_with, first_fault, pieces_among}
 use Rattle.lx_post.specs.Posted.{Arriving, CameBetween, with_arrival}
 use Rattle.lx_post.specs.Arrived.{came_on}
 
--- what was received since then has the note as its last
+-- the note is the last of those received since then
 pub since_push : {C : Type 0} (before all : List (Note C)) (n : Note C) → all ≡ before ++ drop (length before) all → drop (length before) (all ++ n ∷ []) ≡ drop (length before) all ++ n ∷ []
 since_push before all n is =
     ap (λ l. drop (length before) (l ++ n ∷ [])) is

@@ -27,7 +27,7 @@ past_of = sum_by (λ (v : SeatView). v.past)
 abbrev times_of : ℕ → List SeatView → ℕ
 times_of x = sum_by (λ (v : SeatView). times x v.drawn)
 
--- how often a number stands in a longer list
+-- the number of times that a number occurs in a longer list
 pub times-push : (x : ℕ) (xs : List ℕ) (n : ℕ) → times x (xs ++ n ∷ []) ≡ times x xs + cond (eqb n x) 1 0
 times-push x xs n = sum_by_push (λ y. cond (eqb y x) 1 0) xs n
 
@@ -40,7 +40,7 @@ times-cons x y ys = sum_by-cons (λ z. cond (eqb z x) 1 0) y ys
 here : (n y k : ℕ) → (n ≤ y → cond (eqb y y) 1 0 + k ≡ 0) → y < n
 here n y k h = grind (arith, nat_tests)
 
--- what stands nowhere from n on is below n
+-- if no number from n on occurs, all are below n
 all_below : (n : ℕ) (xs : List ℕ) → ((x : ℕ) → n ≤ x → times x xs ≡ 0) → All (λ x. x < n) xs
 all_below n [] h = All-nil (λ x. x < n)
 all_below n (y ∷ ys) h = All-cons (λ x. x < n) y ys (here n y (times y ys) (λ le. sym (times-cons y y ys) ∙ h y le)) (all_below n ys (λ x le. let z : cond (eqb y x) 1 0 + times x ys ≡ 0 = sym (times-cons x y ys) ∙ h x le in omega arith))
@@ -203,7 +203,7 @@ set_again_or (x ∷ xs) e = refl
 enough_once : (x word files own : ℕ) → own ≡ files → files ≤ word → once_below x (min word files) ≡ once_below x own
 enough_once x word files own is le = ap (once_below x) (omega arith)
 
--- beside a seat with all parts no other has drawn
+-- if a seat has all parts, no other has drawn
 idle : (x files word : ℕ) {workers : ℕ} (s : St) (rule : AreDrawnOnce files workers s) (id : ℕ) (v : SeatView) → get_elem? s.views id ≡ some v → workers ≤ v.parts
     → (j : ℕ) (u : SeatView) → get_elem? s.views j ≡ some u → j ≢ id → times x u.drawn ≡ 0
 idle x files word s rule id v at all j u at' other =

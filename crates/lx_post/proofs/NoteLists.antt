@@ -1,4 +1,4 @@
--- The notes of one worker in a longer list, what follows an end, and the flags of the workers that ended.
+-- The notes of one worker in a longer list, the notes after an end, and the flags of the workers that ended.
 use Rattle.std.proofs.Common.{◌≡◌, ◌≢◌, ℕ, ◌<◌, List, [], ◌∷◌, ◌++◌, length, set, sym, refl, ap, ◌∙◌, subst, arith, Option, cond, eqb, eq-eqb, ne_eqb, Bool, true, false, ◌||◌, true≢false, get_or, get_or-set_same, get_or-set_other}
 use mathlib.Core.Logic.{dite}
 use native.Mathlib.Decide.{ℕ_discrete}
@@ -59,7 +59,7 @@ end_or_not : {P : Type 0} (a b : Bool) → (a || b) ≡ true → (a ≡ true →
 end_or_not true b e f g = f refl
 end_or_not false b e f g = g e
 
--- behind an end nothing comes
+-- nothing follows an end
 pub ends_here : {C : Type 0} (xs ys : List (Note C)) → NothingFollowsEnd (xs ++ ys) → has_end xs ≡ true → ys ≡ []
 ends_here [] ys h some = absurd (true≢false (sym some))
 ends_here (x ∷ xs) ys h some =
@@ -105,7 +105,7 @@ pub not_end : {C : Type 0} (n : Note C) → ((w f : ℕ) (x : Option WorkerFault
 not_end (note_piece w p) h = refl
 not_end (note_end w f x) h = absurd (h w f x refl)
 
--- what stays true of the pass that takes, once it has taken a note
+-- the facts about the pass that takes remain, once it has taken a note
 pub took : {C : Type 0} (v w : PassView C) (workers : ℕ) (flags : List Bool) (n : Note C) → v ≡ taker v.plan workers v.received v.worker v.sent → w ≡ taker v.plan v.given (v.received ++ n ∷ []) v.worker v.sent
     → ((k : ℕ) → k < max_workers → get_or flags k false ≡ has_end (notes_of k (v.received ++ n ∷ [])))
     → (w ≡ taker w.plan workers w.received w.worker w.sent) × ((k : ℕ) → k < max_workers → get_or flags k false ≡ has_end (notes_of k w.received))

@@ -1,4 +1,4 @@
--- From what each worker drew and sent to what was received of all.
+-- From the draws and notes of each worker to the notes received of all.
 use Rattle.std.proofs.Common.{◌≡◌, ⊎_elim, ℕ, suc, ◌<◌, Bool, true, false, List, [], ◌∷◌, ◌++◌, None, Some, Contains, map, All, cond, eqb, sym, refl, ap, ◌∙◌, subst, arith}
 use mathlib.Core.Logic.{dite}
 use native.Mathlib.Decide.{dec_lt}
@@ -41,12 +41,12 @@ keeps_faultless false (note_end w f None) xs ns more e = more e
 keeps_faultless true (note_end w f (Some x)) xs ns more e = e
 keeps_faultless false (note_end w f (Some x)) xs ns more e = absurd (cc)
 
--- where no end names a fault, none of one worker's does
+-- if no end names a fault, none of one worker's does
 pub faultless_of_one : {C : Type 0} (worker : ℕ) (ns : List (Note C)) → first_fault ns ≡ None → first_fault (notes_of worker ns) ≡ None
 faultless_of_one worker [] e = refl
 faultless_of_one worker (n ∷ ns) e = keeps_faultless (eqb (worker_of n) worker) n (notes_of worker ns) ns (faultless_of_one worker ns) e
 
--- where there is no end, there is no fault
+-- if there is no end, there is no fault
 no_end_no_fault : {C : Type 0} (ns : List (Note C)) → has_end ns ≡ false → first_fault ns ≡ None
 no_end_no_fault [] e = refl
 no_end_no_fault (note_piece w q ∷ ns) e = no_end_no_fault ns e
@@ -81,7 +81,7 @@ done_of made claims post plan old new ready has =
       sent = λ e file some. subst (λ p. HasSent made p file new.pass) named ((has.drawn (none e)).sent file some);
     }
 
--- what was received of a worker that sent all pieces of a file
+-- the pieces received of a worker that sent all pieces of a file
 pub all_received : {C : Type 0} (made : Making C) (plan : Planned) (file : ℕ) (take : Taken C) (pass : Sent C) → IsAllReceived take pass → HasSent made plan file pass → AreAllAmongBy made plan file (pieces_among take.received)
 all_received made plan file take pass is has number below = piece_of_one pass.worker take.received (piece_by made plan file number) (subst (λ ns. Contains (pieces_among ns) (piece_by made plan file number)) (sym is) (has.all number below))
 
@@ -89,7 +89,7 @@ sum_mapped : {X Y : Type 0} (f : Y → ℕ) (g : X → Y) (xs : List X) → sum_
 sum_mapped f g [] = refl
 sum_mapped f g (x ∷ xs) = let a = sum_by-cons f (g x) (map g xs) in let b = sum_mapped f g xs in let c = sum_by-cons (λ x. f (g x)) x xs in omega arith
 
--- what holds of each element of a mapped list
+-- a property of each element of a mapped list
 all_of_map : {X Y : Type 0} (P : Y → Type 0) (f : X → Y) (xs : List X) → All P (map f xs) → All (λ x. P (f x)) xs
 all_of_map P f [] all = All-nil (λ x. P (f x))
 all_of_map P f (x ∷ xs) all =
@@ -107,7 +107,7 @@ passes_of made claims post plan jobs passes done p =
 drawn_once : (file files n : ℕ) → n ≡ once_below file files → file < files → 0 < n
 drawn_once file files n is lt = grind (arith, nat_tests)
 
--- where all seats together drew each file once, and all that each pass sent was received without a fault, every piece of every file was received
+-- Every piece of every file was received, if all seats together drew each file once, and all notes of each pass were received without a fault.
 pub every_file_received : {C : Type 0} (made : Making C) (claims : Claimed) (post : Posted) (plan : Planned) (take : Taken C) (jobs : List (Job C)) (seats : List Drawn) (passes : List (Sent C)) (files : ℕ)
     → All (IsDone made claims post plan) jobs → seats ≡ map (λ (job : Job C). job.seat) jobs → passes ≡ map (λ (job : Job C). job.pass) jobs → files ≡ files_of plan
     → ((file : ℕ) → times_drawn file seats ≡ once_below file files) → All (IsAllReceived take) passes → first_fault take.received ≡ None → AreAllReceived made plan take
@@ -125,7 +125,7 @@ every_file_received made claims post plan take jobs seats passes files done s p 
           all_received made plan file take found.0.pass all (own.sent none file found.2);
     }
 
--- with one more, where it found room
+-- a list that gets one element more, if there is room
 pub all_pushed : {X : Type 0} (P : X → Type 0) (b : Bool) (xs ys : List X) (x : X) → All P xs → P x → ys ≡ cond b (xs ++ x ∷ []) xs → All P ys
 all_pushed P true xs ys x all one is = All-same P ys (xs ++ x ∷ []) is (All-append P xs (x ∷ []) all (All-cons P x [] one (All-nil P)))
 all_pushed P false xs ys x all one is = All-same P ys xs is all

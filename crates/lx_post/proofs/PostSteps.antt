@@ -49,7 +49,7 @@ begins made = inl (refl, refl)
 spent_fits : {C : Type 0} (shared : Shared C) (all : List (Note C)) (id : ℕ) → Fits shared all id spent_pass
 spent_fits shared all id = record { not_blank = λ e. cc; sends = λ e. absurd (cc); takes = λ e. absurd (cc) }
 
--- what fits holds as well of an equal number and an equal view
+-- an equal view with an equal number fits, too
 fits_as : {C : Type 0} (shared : Shared C) (all : List (Note C)) (id j : ℕ) (v u : PassView C) → j ≡ id → v ≡ u → Fits shared all id v → Fits shared all j u
 fits_as shared all id j v u same is fits = let P : ℕ × PassView _ → Type 0 = λ z. Fits shared all z.0 z.1 in subst P (λ i. (sym same i, is i)) fits
 

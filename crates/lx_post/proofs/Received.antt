@@ -1,4 +1,4 @@
--- What the thread that hands pieces on has received, and what the reader took of it.
+-- The notes that the delivering thread has received, and the pieces that the reader took of them.
 use Rattle.std.proofs.Common.{◌≡◌, ℕ, ◌<◌, false, List, [], ◌++◌, Option, None, Some, is_some, slice_index, replicate, refl, sym, ap, ◌∙◌, subst, arith}
 use Rattle.std.proofs.lemmas.List.{get_or-replicate}
 use Rattle.lx_piece.specs.declared.reply.Reply.{Reply}
@@ -44,6 +44,6 @@ collected made post plan old new take fault replies counts first nothing is name
       whole = λ file below all. relayed.whole file below (subst (AreAllAmongBy made plan file) (ap pieces_among received ∙ sym between.pieces) all);
     }
 
--- where every piece of every file was received, and the reader took those files whole, it took all
+-- if every piece of every file was received, and the reader took those files whole, it took all
 pub all_whole : {C : Type 0} (made : Making C) (plan : Planned) (take : Taken C) (counts : List ℕ) → IsCollected made plan take counts → AreAllReceived made plan take → IsWhole plan counts
 all_whole made plan take counts collected received = record { each = λ file below. collected.whole file below (received.each file below) }

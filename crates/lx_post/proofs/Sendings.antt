@@ -1,4 +1,4 @@
--- What a worker has sent and drawn, after one piece or one file more.
+-- The notes that a worker has sent and the files it has drawn, after one piece or one file more.
 use Rattle.std.proofs.Common.{◌≡◌, ◌⊎◌, ⊎_elim, ℕ, ◌+◌, ◌<◌, true, false, List, [], ◌∷◌, ◌++◌, Option, None, All, Contains, length, cond, eqb, sym, refl, ap, ◌∙◌, subst, arith, append_assoc, append-nil}
 use mathlib.Core.Logic.{dite}
 use native.Mathlib.Decide.{dec_lt}
@@ -46,7 +46,7 @@ sends_piece s t worker piece f = sends_on s t (with_sent t (note_piece worker pi
 pub still_going : {C : Type 0} (s t : Sent C) → SendsPieces s t → has_end s.sent ≡ false → has_end t.sent ≡ false
 still_going s t f going = ap (λ (pass : Sent _). has_end pass.sent) f.pass ∙ no_end s.sent f.notes going f.pieces
 
--- what was sent stays sent
+-- sent pieces remain sent
 pub kept_sent : {C : Type 0} (made : Making C) (plan : Planned) (file : ℕ) (s t : Sent C) (notes : List (Note C)) → t.sent ≡ s.sent ++ notes → HasSent made plan file s → HasSent made plan file t
 kept_sent made plan file s t notes is has =
     record {

@@ -16,7 +16,7 @@ module _ {V : Type 0} (f : V → ℕ) where
       let rest = sum_set xs k v w e in
       omega (arith, sum_by-cons f x (set xs k w), sum_by-cons f x xs)
 
-  -- one view is no more than the sum
+  -- the term of one view is at most the sum
   pub one_le_sum : (l : List V) (k : ℕ) (v : V) → get_elem? l k ≡ some v → f v ≤ sum_by f l
   one_le_sum [] k v e = absurd (some-ne-none v (sym e))
   one_le_sum (x ∷ xs) zero v e =
@@ -34,7 +34,7 @@ module _ {V : Type 0} (f : V → ℕ) where
       let rest = sum_le_sum g xs (λ k. h (suc k)) in
       omega (arith, sum_by-cons f x xs, sum_by-cons g x xs)
 
-  -- two views are no more than the sum
+  -- the terms of two views are at most the sum
   pub two_le_sum : (l : List V) (k j : ℕ) (v u : V) → get_elem? l k ≡ some v → get_elem? l j ≡ some u → j ≢ k → f v + f u ≤ sum_by f l
   two_le_sum [] k j v u e e' other = absurd (some-ne-none v (sym e))
   two_le_sum (x ∷ xs) zero zero v u e e' other = absurd (other refl)
@@ -57,7 +57,7 @@ module _ {V : Type 0} (f : V → ℕ) where
       let rest = sum_none xs (λ j. h (suc j)) in
       omega (arith, sum_by-cons f x xs)
 
-  -- where f is 0 at all views but one, the sum is f of that one
+  -- if f is 0 at all views but one, the sum is f of that one
   pub sum_alone : (l : List V) (k : ℕ) (v : V) → get_elem? l k ≡ some v → ((j : ℕ) (u : V) → get_elem? l j ≡ some u → j ≢ k → f u ≡ 0) → sum_by f l ≡ f v
   sum_alone [] k v e h = absurd (some-ne-none v (sym e))
   sum_alone (x ∷ xs) zero v e h =

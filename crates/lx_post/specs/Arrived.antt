@@ -1,4 +1,4 @@
--- Laws of what comes by a post between one state and a later one.
+-- Laws of the notes that come by a post between one state and a later one.
 use Rattle.std.specs.Prelude.{◌≡◌, List, [], ◌∷◌, ◌++◌, refl}
 use Rattle.std.proofs.Common.{sym, ◌∙◌, ap, append_assoc, append-nil}
 use Rattle.lx_piece.specs.declared.piece.Piece.{Piece}

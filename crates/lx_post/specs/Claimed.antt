@@ -3,13 +3,13 @@ use Rattle.std.specs.Prelude.{◌≡◌, ◌≤◌, ℕ, ◌==◌, if◌then◌e
 use Rattle.atomic_table.specs.Seated.{TableId}
 use Rattle.lx_piece.specs.Plans.{Planned, files_of, max_files}
 
--- claims: which word it is, how many files there are, and how many workers draw them
+-- claims: their word, the number of files, and the number of workers that draw them
 pub record Claimed : Type 0 where
   pub word : TableId
   pub files : ℕ
   pub workers : ℕ
 
--- a seat: from which word it draws, how many files there are, whether it was answered that none is left, and what it drew, in order
+-- a seat: the word that it draws from, the number of files, true if the answer came that none is left, and the files drawn, in order
 pub record Drawn : Type 0 where
   pub word : TableId
   pub files : ℕ
@@ -28,14 +28,14 @@ AreClaimsOf plan claims = (claims.files ≡ files_of plan) × (claims.files ≤ 
 abbrev pub fresh_seat : Claimed → Drawn
 fresh_seat claims = record { word = claims.word; files = claims.files; done = false; drawn = [] }
 
--- how often x stands in the list
+-- the number of times that x occurs in the list
 abbrev pub times : ℕ → List ℕ → ℕ
 times x xs = count_by (λ y. y == x) xs
 
--- how often x stands in the lists of all seats together
+-- the number of times that x occurs in the lists of all seats together
 abbrev pub times_drawn : ℕ → List Drawn → ℕ
 times_drawn x seats = sum_by (λ seat. times x seat.drawn) seats
 
--- once where it is below n, and else never
+-- 1 if x is below n, else 0
 abbrev pub once_below : ℕ → ℕ → ℕ
 once_below x n = if nat_lt x n then 1 else 0

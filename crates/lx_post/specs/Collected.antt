@@ -1,4 +1,4 @@
--- What the thread that hands pieces on has received of a run that met no fault.
+-- The notes that the delivering thread has received of a run that met no fault.
 use Rattle.std.specs.Prelude.{◌≡◌, ◌<◌, ◌≤◌, ℕ, List, None, All, Result, Err, OnOk, replicate, slice_index}
 use Rattle.lx_piece.specs.Plans.{Planned, files_of, max_files, max_workers}
 use Rattle.lx_piece.specs.Pieces.{Making, pieces_of, top_number}
@@ -13,7 +13,7 @@ use Rattle.lx_post.specs.declared.run_fault.RunFault.TheVariants as fault
 use Rattle.lx_post.specs.Posted.{Posted, Taken, IsTakePassOf, fresh_take}
 use Rattle.lx_post.specs.Working.{IsDone, IsIdle, IsReady}
 
--- No worker's end named a fault, and a reader with these counts took every file whole of which every piece was received.
+-- No worker's end named a fault. If every piece of a file was received, a reader with these counts took it whole.
 pub record IsCollected {C : Type 0} (made : Making C) (plan : Planned) (take : Taken C) (counts : List ℕ) : Type 0 where
   pub faultless : first_fault take.received ≡ None
   pub whole : (file : ℕ) → file < files_of plan → AreAllAmongBy made plan file (pieces_among take.received) → slice_index counts file ≡ pieces_of plan file
@@ -24,7 +24,7 @@ pub record TookNothing (plan of_reader : Planned) (counts : List ℕ) (faults : 
   pub nothing : counts ≡ replicate (files_of plan) 0
   pub countable : faults < top_number
 
--- what an answer tells of the reader's faults before and after
+-- the meaning of an answer for the reader's faults before and after
 pub record TellsFaults {T : Type 0} (answer : Result T RunFault) (before after : ℕ) : Type 0 where
   pub failed : answer ≡ Err fault.Reader → before < after
   pub none : OnOk answer (after ≡ before)
@@ -45,20 +45,20 @@ pub record IsPrepared {C : Type 0} (plan : Planned) (claims : Claimed) (post : P
   pub nothing_received : take ≡ fresh_take post plan
   pub ready : All (IsReady claims post plan) jobs
 
--- What was received where no fault was met, and the jobs of the workers: those that ended, and those that never began.
+-- The received notes of a run that met no fault, and the jobs of the workers: those that ended, and those that never began.
 pub record HasReceived {C : Type 0} (made : Making C) (plan : Planned) (claims : Claimed) (post : Posted) (take : Taken C) (ended idle : List (Job C)) (counts : List ℕ) : Type 0 where
   pub pass : IsTakePassOf post take
   pub done : All (IsDone made claims post plan) ended
   pub unbegun : All (IsIdle claims post plan) idle
   pub collected : IsCollected made plan take counts
 
--- what the threads of a run came to, where the reader has these counts
+-- the outcome of a run's threads, if the reader has these counts
 abbrev pub HasRun : {C : Type 0} → Making C → Planned → Claimed → Posted → List ℕ → Ran C → Type 0
 HasRun made plan claims post counts Whole = IsWhole plan counts
 HasRun made plan claims post counts (Received take ended idle) = HasReceived made plan claims post take ended.items idle.items counts
 HasRun made plan claims post counts (Failed named) = Unit {0}
 
--- what that tells of the reader's faults before and after
+-- the meaning of that outcome for the reader's faults before and after
 abbrev pub TellsFaultsOf : {C : Type 0} → Ran C → ℕ → ℕ → Type 0
 TellsFaultsOf Whole before after = after ≡ before
 TellsFaultsOf (Received take ended idle) before after = after ≡ before

@@ -54,7 +54,7 @@ first_fault (note_piece worker piece ∷ notes) = first_fault notes
 first_fault (note_end worker files None ∷ notes) = first_fault notes
 first_fault (note_end worker files (Some fault) ∷ notes) = Some fault
 
--- the first fault, once this note has come behind those that named this one
+-- the first fault, once this note has come after those that named this one
 abbrev pub fault_with : {C : Type 0} → Option WorkerFault → Note C → Option WorkerFault
 fault_with fault (note_piece worker piece) = fault
 fault_with fault (note_end worker files named) = option_or fault named

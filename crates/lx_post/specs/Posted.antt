@@ -7,19 +7,19 @@ use Rattle.lx_piece.specs.Plans.{Planned}
 use Rattle.lx_post.specs.declared.note.Note.{Note}
 use Rattle.lx_post.specs.Notes.{worker_of, IsHonestNote, notes_of, has_end, pieces_among}
 
--- a post: which queue it is, and of how many workers
+-- a post: its queue, and its number of workers
 pub record Posted : Type 0 where
   pub queue : TableId
   pub workers : ℕ
 
--- a pass that sends: to which queue, for which plan, of which worker, and what was sent, in order
+-- a pass that sends: its queue, its plan, its worker, and the notes sent, in order
 pub record Sent (C : Type 0) : Type 0 where
   pub queue : TableId
   pub plan : Planned
   pub worker : ℕ
   pub sent : List (Note C)
 
--- a pass that takes: of which queue, for which plan, of how many workers, and what was received, in order
+-- a pass that takes: its queue, its plan, its number of workers, and the notes received, in order
 pub record Taken (C : Type 0) : Type 0 where
   pub queue : TableId
   pub plan : Planned
@@ -46,7 +46,7 @@ pub record MaySend {C : Type 0} (made : Making C) (pass : Sent C) (note : Note C
   pub honest : IsHonestNote made pass.plan note
   pub going : has_end pass.sent ≡ false
 
--- a note that comes to this pass: of a worker that hasn't ended, and honest
+-- a note that comes to this pass: honest, and of a worker that hasn't ended
 pub record MayCome {C : Type 0} (made : Making C) (pass : Taken C) (note : Note C) : Type 0 where
   pub worker : worker_of note < pass.workers
   pub honest : IsHonestNote made pass.plan note
@@ -63,15 +63,15 @@ with_received pass note = record pass { received = pass.received ++ note ∷ [] 
 abbrev pub AllEnded : {C : Type 0} → Taken C → Type 0
 AllEnded pass = (worker : ℕ) → worker < pass.workers → has_end (notes_of worker pass.received) ≡ true
 
--- each of so many workers has a pass among these
+-- each worker below this number has a pass among these
 abbrev pub HaveAllWorkers : {C : Type 0} → ℕ → List (Sent C) → Type 0
 HaveAllWorkers workers passes = (worker : ℕ) → worker < workers → Any (λ pass. pass.worker ≡ worker) passes
 
--- what was received of the pass's worker is all that it sent
+-- the notes received of the pass's worker are all that it sent
 abbrev pub IsAllReceived : {C : Type 0} → Taken C → Sent C → Type 0
 IsAllReceived take pass = notes_of pass.worker take.received ≡ pass.sent
 
--- arrivals from a post: the pass, and what was received since they were made
+-- arrivals from a post: the pass, and the notes received since the arrivals were made
 pub record Arriving (C : Type 0) : Type 0 where
   pub pass : Taken C
   pub since : List (Note C)

@@ -1,4 +1,4 @@
--- The rule of the post: what its passes know, whatever stands in its queue.
+-- The rule of the post: the facts that its passes know, for any contents of its queue.
 use Rattle.std.specs.Prelude.{◌≡◌, ◌≢◌, ℕ, ◌+◌, ◌<◌, ◌≤◌, ◌⊎◌, true, false, List, [], ◌∷◌, ◌++◌}
 use mathlib.Core.Option.{some}
 use lib.ListN.{get_elem?}
@@ -30,7 +30,7 @@ spent_pass = record { role = Spent; plan = no_plan; worker = 0; sent = []; given
 abbrev pub sender : {C : Type 0} → Planned → ℕ → List (Note C) → PassView C
 sender plan worker sent = record { role = Sends; plan = plan; worker = worker; sent = sent; given = 0; received = [] }
 
--- the pass that takes, with the worker whose pass was joined to it last, and what that one sent
+-- the pass that takes, with the worker whose pass was joined to it last, and the notes that that one sent
 abbrev pub taker : {C : Type 0} → Planned → ℕ → List (Note C) → ℕ → List (Note C) → PassView C
 taker plan given received worker sent = record { role = Takes; plan = plan; worker = worker; sent = sent; given = given; received = received }
 
@@ -53,22 +53,23 @@ next_worker v = sender v.plan v.given []
 abbrev pub joined : {C : Type 0} → PassView C → PassView C → PassView C
 joined v w = taker v.plan v.given v.received w.worker w.sent
 
--- a note goes behind what the worker sent
+-- a note is appended to those that the worker sent
 abbrev pub Sending : {C : Type 0} → PassView C → Note C → PassView C → Type 0
 Sending v n w = w ≡ sender v.plan v.worker (v.sent ++ n ∷ [])
 
--- a note goes behind what was received; it is honest, and of a worker that has a pass and hasn't ended
+-- a note is appended to the received ones; it is honest, and of a worker that has a pass and hasn't ended
 pub record Taking {C : Type 0} (made : Making C) (v : PassView C) (n : Note C) (w : PassView C) : Type 0 where
   pub view : w ≡ taker v.plan v.given (v.received ++ n ∷ []) v.worker v.sent
   pub honest : IsHonestNote made v.plan n
   pub has_pass : worker_of n < v.given
   pub going : has_end (notes_of (worker_of n) v.received) ≡ false
 
--- where the end of the worker that joined last was received, all that it sent was
+-- if the end of the worker that joined last was received, all its notes were
 abbrev pub IsWhole : {C : Type 0} → PassView C → Type 0
 IsWhole v = has_end (notes_of v.worker v.received) ≡ true → notes_of v.worker v.received ≡ v.sent
 
--- What all passes rest on: the plan, the number of the pass that takes, the number of each worker's pass, how many workers have one, and what was received.
+-- The facts that all passes share: the plan, the number of the pass that takes, the number of each worker's pass, the number of workers that have
+-- one, and the received notes.
 pub record Shared (C : Type 0) : Type 0 where
   pub plan : Planned
   pub taker : ℕ
@@ -76,14 +77,16 @@ pub record Shared (C : Type 0) : Type 0 where
   pub given : ℕ
   pub received : List (Note C)
 
--- A worker's pass, where `all` is what was received and behind it what stands in the queue: it is the only one of its worker, and knows all that the worker sent.
+-- A worker's pass, given all notes: the received ones, followed by those in the queue. It is its worker's only pass, and knows all that the worker
+-- sent.
 pub record IsSender {C : Type 0} (shared : Shared C) (all : List (Note C)) (id : ℕ) (v : PassView C) : Type 0 where
   pub plan : v.plan ≡ shared.plan
   pub alone : shared.pass_of v.worker ≡ id
   pub has_pass : v.worker < shared.given
   pub sent : v.sent ≡ notes_of v.worker all
 
--- The pass that takes: it is the only one, knows how many workers have a pass and what was received, and all that was sent by the worker that joined last.
+-- The pass that takes is the only one. It knows the number of workers that have a pass, the received notes, and the notes of the worker that joined
+-- last.
 pub record IsTaker {C : Type 0} (shared : Shared C) (all : List (Note C)) (id : ℕ) (v : PassView C) : Type 0 where
   pub plan : v.plan ≡ shared.plan
   pub alone : shared.taker ≡ id
@@ -105,6 +108,6 @@ pub record IsRunning {C : Type 0} (made : Making C) (items : List (Note C)) (vie
   pub unmade : (worker : ℕ) → shared.given ≤ worker → notes_of worker (shared.received ++ items) ≡ []
   pub fits : (id : ℕ) (v : PassView C) → get_elem? views id ≡ some v → Fits shared (shared.received ++ items) id v
 
--- what holds of the notes that stand in the queue and of all passes
+-- the facts about the notes in the queue and about all passes
 abbrev pub IsPosting : {C : Type 0} → Making C → List (Note C) → List (PassView C) → Type 0
 IsPosting made items views = ((items ≡ []) × (views ≡ blank ∷ [])) ⊎ IsRunning made items views

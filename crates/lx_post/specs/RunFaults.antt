@@ -1,4 +1,4 @@
--- Why a run ended whose relay ended before its arrivals did.
+-- The fault of a run whose relay ended before its arrivals did.
 use Rattle.lx_piece.specs.declared.delivering.RelayFault.{RelayFault}
 use Rattle.lx_piece.specs.declared.delivering.RelayFault.TheVariants as relay
 use Rattle.lx_post.specs.declared.run_fault.RunFault.{RunFault}

@@ -1,4 +1,4 @@
--- What a worker has drawn and sent, in its work and at its end.
+-- The files that a worker has drawn and the notes that it has sent, during its work and at its end.
 use Rattle.std.specs.Prelude.{◌≡◌, ◌<◌, ◌≤◌, ℕ, true, false, List, [], ◌∷◌, ◌++◌, Option, None, All, Contains, length}
 use Rattle.lx_piece.specs.Plans.{Planned}
 use Rattle.lx_piece.specs.Pieces.{Making, piece_by}
@@ -27,7 +27,7 @@ pub record HasSentTo {C : Type 0} (made : Making C) (plan : Planned) (file count
 pub record HasSent {C : Type 0} (made : Making C) (plan : Planned) (file : ℕ) (pass : Sent C) : Type 0 where
   pub all : AreAllAmongBy made plan file (pieces_among pass.sent)
 
--- between one state of a pass and a later one pieces alone were sent
+-- between one state of a pass and a later one, only pieces were sent
 pub record SendsPieces {C : Type 0} (old new : Sent C) : Type 0 where
   pub notes : List (Note C)
   pub pass : new ≡ record old { sent = old.sent ++ notes }
@@ -49,8 +49,8 @@ pub record IsReady {C : Type 0} (claims : Claimed) (post : Posted) (plan : Plann
   pub pass : job.pass ≡ fresh_send post plan job.pass.worker
   pub worker : job.pass.worker < post.workers
 
--- A worker that ended: pieces and at last its end were sent. Where that has no fault, it drew until it was answered that no file is left, the end has the number of the
--- files that it drew, and every piece of each was sent.
+-- A worker that ended: it sent pieces and at last its end. If the end names no fault, the worker drew until no file was left. Then the end has the
+-- number of the files that it drew, and every piece of each was sent.
 pub record HasWorked {C : Type 0} (made : Making C) (old new : Job C) : Type 0 where
   pub word : new.seat.word ≡ old.seat.word
   pub total : new.seat.files ≡ old.seat.files
@@ -62,12 +62,13 @@ pub record HasWorked {C : Type 0} (made : Making C) (old new : Job C) : Type 0 w
   pub done : fault ≡ None → new.seat.done ≡ true
   pub drawn : fault ≡ None → HasDrawn made old.pass.plan files new.seat new.pass
 
--- what may become of a job: the worker ended, or never began
+-- the possible outcomes of a job: the worker ended, or never began
 abbrev pub IsOutcome : {C : Type 0} → Making C → Job C → Outcome C → Type 0
 IsOutcome made job (Done new) = HasWorked made job new
 IsOutcome made job (Back new) = new ≡ job
 
--- A worker's job at its end: its seat and its pass are of these, and where its end named no fault, it drew until no file was left and sent every piece of each that it drew.
+-- A worker's job at its end: its seat and its pass are of these. If its end named no fault, it drew until no file was left, and sent every piece of
+-- each file that it drew.
 pub record IsDone {C : Type 0} (made : Making C) (claims : Claimed) (post : Posted) (plan : Planned) (job : Job C) : Type 0 where
   pub word : job.seat.word ≡ claims.word
   pub total : job.seat.files ≡ claims.files

@@ -1,4 +1,4 @@
--- What tables choose is what the rules choose.
+-- The tables choose as the rules do.
 use Rattle.std.proofs.Common.{◌≡◌, ◌↔◌, ℕ, ◌<◌, Bool, List, Option, All, length, sym, subst}
 use Rattle.lx_rules.specs.Choice.{IsChoice}
 use Rattle.lx_rules.specs.Plain.{PlainSpec}
@@ -6,7 +6,7 @@ use Rattle.lx_tables.specs.Model.{AreTablesOf, Table}
 use Rattle.lx_scan.specs.Answers.{choice_of}
 use Rattle.lx_reach.specs.Chosen.{IsChosenBy, IsChosenIn, IsEverChosen, IsEverChosenBy}
 
--- what lx_scan says of the choice
+-- the theorem of lx_scan about the choice
 abbrev pub ByRules : Type 0
 ByRules = (spec : PlainSpec) (table : Table) (condition : ℕ) (begin : Bool) (text : List ℕ) → AreTablesOf spec table → condition < length spec.conditions → All (λ b. b < 256) text →
     IsChoice spec condition begin text (choice_of table condition begin text)

@@ -33,7 +33,7 @@ behind_known table rule condition is h =
     steps_known (rule_at table rule).steps condition (length table.machine.starts) (length table.kinds) h
     (all_or (λ r. are_steps (length table.machine.starts) (length table.kinds) r.steps) table.rules rule _ is.steps refl)
 
--- the conditions behind the rules of one that was met are met, and so all that follows from it
+-- the conditions after the rules of a met condition are met, and the consequences of that
 pub entered_more : (table : Table) (w0 w1 met0 met1 : List ℕ) (flags : List Bool) (place condition : ℕ) → AreMet met0 w0 → place < length met0 → condition ≡ slice_index met0 place →
     AreFlagsOf (length table.rules) (IsChosenIn table condition) flags →
     ((c : ℕ) → slice_index w0 c ≢ 0 → IsEntered table c) →
@@ -74,7 +74,7 @@ all_entered table met places place are all start closed c (Begun condition rule 
     subst (λ x. slice_index places (condition_after (rule_at table rule).steps x) ≢ 0) p.2
     (closed p.0 rule (let l = p.1 in omega arith) (subst (λ x. IsChosenIn table x rule) (sym p.2) chosen))
 
--- ---- of each number whether it isn't 0
+-- ---- for each number, true if it isn't 0
 abbrev pub mark : ℕ → Bool
 mark w = not (nat_eq w 0)
 

@@ -38,7 +38,7 @@ none_met n = record {
 pub few_met : (states words : List ℕ) → AreMet states words → length states ≤ length words
 few_met states words are = (let r = are.room in omega arith)
 
--- where a state has no number, there is room for it
+-- if a state has no number, there is room for it
 pub room_for : (states words : List ℕ) (s : ℕ) → AreMet states words → s < length words → slice_index words s ≡ 0 → length states < length words
 room_for states words s are l e = (let r = are.room in let z = zeros_set words s 1 l e (λ f. absurd (omega arith)) in omega arith)
 

@@ -104,7 +104,7 @@ closed_more m first end w0 w1 states0 states1 place state met inside is reached 
   ]),
 )
 
--- where all targets of the listed states are listed, all reached states are
+-- if all targets of the listed states are listed, all reached states are
 pub reach_closed : (m : Machine) (first end : ℕ) (states words : List ℕ) (place : ℕ) → AreMet states words → length states ≤ place →
     ((s : ℕ) → IsStart m first end s → slice_index words s ≢ 0) → ((i t : ℕ) → i < place → IsTarget m (slice_index states i) t → slice_index words t ≢ 0) →
     (t : ℕ) → IsReached m first end 0 t → slice_index words t ≢ 0
@@ -148,7 +148,7 @@ are_targets m from to states place met all old closed = record {
   all = λ s t h step. let p = place_of states from s met h in closed p.0 t (let l = p.1 in omega arith) (subst (λ x. IsTarget m x t) (sym p.2) step);
 }
 
--- ---- targets of what texts of n bytes lead to
+-- ---- the targets of the states that texts of n bytes lead to
 abbrev pub Marks : Machine → ℕ → ℕ → ℕ → List ℕ → Type 0
 Marks m first end n words = ((s : ℕ) → slice_index words s ≢ 0 → IsReached m first end n s) × ((s : ℕ) → IsReached m first end n s → slice_index words s ≢ 0)
 

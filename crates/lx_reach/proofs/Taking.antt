@@ -12,7 +12,7 @@ use Rattle.lx_reach.specs.Reached.{AreMet, IsReached}
 use Rattle.lx_reach.specs.Taken.{IsTaken, AreCounted}
 use Rattle.lx_reach.proofs.Reaching.{Marks, listed, place_of}
 
--- a rule counts: without `$`, or where those with it count
+-- a rule counts if it has no `$`, or if those with `$` count
 counted_cut : (table : Table) (r : ℕ) → (false || not ((rule_at table r).line_end)) ≡ true → (rule_at table r).line_end ≡ false
 counted_cut table r h = on ((rule_at table r).line_end) h
   where
@@ -20,7 +20,7 @@ counted_cut table r h = on ((rule_at table r).line_end) h
     on true h = absurd (true≢false (sym h))
     on false h = refl
 
--- how many bytes a text needs for a token
+-- the number of bytes that a text needs for a token
 token_some : (table : Table) (r n : ℕ) → ((rule_at table r).line_end ≡ false → 1 ≤ n) → ((rule_at table r).line_end ≡ true → 2 ≤ n) → 0 < token_len table r n
 token_some table r n one two = on ((rule_at table r).line_end) refl
   where
@@ -32,7 +32,7 @@ token_needs : (cut : Bool) (n : ℕ) → 0 < (if cut then n - 1 else n) → (1 �
 token_needs true n h = (omega arith, λ _. omega arith)
 token_needs false n h = (omega arith, λ e. absurd (true≢false (sym e)))
 
--- a rule that is accepted behind a text, and has a token there, is the choice for it
+-- a rule that is accepted after a text, and has a token there, is the choice for it
 pub take_it : (table : Table) (first end : ℕ) (n s rule : ℕ) (r : IsReached table.machine first end n s) → accepted_by table.machine s ≡ Some rule → 0 < token_len table rule (length r.text) → 0 < length r.text → IsTaken table first end rule
 take_it table first end n s rule r accepted token some = record {
   condition = r.condition;
@@ -58,7 +58,7 @@ take_it table first end n s rule r accepted token some = record {
         ∙ ap (λ (b : Bool). option_or {T = ℕ × ℕ} (if b then Some (rule, suc k) else None) (furthest table r.condition r.begin r.text k)) holds
         ∙ ap (λ x. Some (rule, x)) e
 
--- what a choice says
+-- the facts that a choice gives
 pub record IsAnsweredAt (table : Table) (condition : ℕ) (begin : Bool) (text : List ℕ) (rule : ℕ) : Type 0 where
   pub k : ℕ
   pub within : k ≤ length text

@@ -19,7 +19,7 @@ pub record IsEverChosen (table : Table) (rule : ℕ) : Type 0 where
   pub known : condition < length table.machine.starts
   pub chosen : IsChosenIn table condition rule
 
--- The flags say of each of the numbers below the count whether this holds of it; of no other number it holds.
+-- For each number below the count, the flag is true if and only if the property holds. It holds of no other number.
 pub record AreFlagsOf (count : ℕ) (Holds : ℕ → Type 0) (flags : List Bool) : Type 0 where
   pub long : length flags ≡ count
   pub holds : (n : ℕ) → slice_index_or flags n false ≡ true → Holds n

@@ -2,12 +2,12 @@
 use Rattle.std.specs.Prelude.{◌≡◌, ◌≢◌, ℕ, ◌+◌, ◌-◌, ◌<◌, ◌≤◌, ◌==◌, if◌then◌else◌, Bool, All, List, [], ◌∷◌, Some, length, slice_index}
 use Rattle.lx_automaton.specs.Automata.{Machine, start_of, target_of, state_after}
 
--- how many of the numbers are 0
+-- the number of zeros among the numbers
 abbrev pub zeros : List ℕ → ℕ
 zeros [] = 0
 zeros (word ∷ words) = (if word == 0 then 1 else 0) + zeros words
 
--- What was met, in that order; and of each number 0 before it is met, or one more than its place there.
+-- The met states, in that order; and for each state 0 before it is met, then one more than its place among them.
 pub record AreMet (met places : List ℕ) : Type 0 where
   pub room : length met + zeros places ≡ length places
   pub below : (i : ℕ) → i < length met → slice_index met i < length places

@@ -1,4 +1,4 @@
--- The rules that are chosen in a range of conditions, and how they are marked.
+-- The rules that are chosen in a range of conditions, and their marks.
 use Rattle.std.specs.Prelude.{◌≡◌, ℕ, ◌<◌, ◌≤◌, ◌⊎◌, ◌||◌, Bool, true, false, not, All, List, Some, slice_index, slice_index_or}
 use Rattle.lx_automaton.specs.Automata.{accepted_by}
 use Rattle.lx_tables.specs.Model.{Table, rule_at}
@@ -15,7 +15,7 @@ pub record IsTaken (table : Table) (first end rule : ℕ) : Type 0 where
   pub len : ℕ
   pub choice : choice_of table condition begin text ≡ Some (rule, len)
 
--- the state accepts the rule, which counts: one that ends with `$` only where such rules do
+-- the state accepts the rule, which counts: a rule that ends with `$` counts only if such rules do
 pub record IsCounted (table : Table) (with_line_ends : Bool) (s r : ℕ) : Type 0 where
   pub accepted : accepted_by table.machine s ≡ Some r
   pub counts : (with_line_ends || not (rule_at table r).line_end) ≡ true

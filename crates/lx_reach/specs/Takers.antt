@@ -1,13 +1,13 @@
--- The rules that take the texts of a rule that is never chosen: by tables of that rule alone, and by those of all rules.
+-- The rules that are chosen for the texts of a rule that is never chosen: by tables of that rule alone, and by those of all rules.
 use Rattle.std.specs.Prelude.{◌≡◌, ℕ, ◌<◌, ◌≤◌, Bool, All, List, Some, length}
 use Rattle.lx_automaton.specs.Automata.{Machine, answer, start_of, state_after, state_count}
 use Rattle.lx_reach.specs.declared.takers.Pair.{Pair}
 
--- the most pairs of states that are looked at
+-- the greatest number of pairs of states that are tried
 abbrev pub max_pairs : ℕ
 max_pairs = 20000
 
--- A text of one byte or more that the rule alone matches is answered by this rule where all are asked.
+-- A text of at least one byte that the rule alone matches is answered by this rule if all rules take part.
 pub record IsTaker (alone all : Machine) (rule : ℕ) : Type 0 where
   pub condition : ℕ
   pub begin : Bool
@@ -19,7 +19,7 @@ pub record IsTaker (alone all : Machine) (rule : ℕ) : Type 0 where
   pub matched : answer alone condition begin text ≡ Some own
   pub taken : answer all condition begin text ≡ Some rule
 
--- one text leads to both states of the pair, and has as many bytes as the pair says, or more
+-- one text leads to both states of the pair, and has at least as many bytes as the pair's level
 pub record IsPair (alone all : Machine) (pair : Pair) : Type 0 where
   pub condition : ℕ
   pub begin : Bool

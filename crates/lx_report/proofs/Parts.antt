@@ -2,7 +2,7 @@
 use Rattle.std.proofs.Common.{ℕ, ◌≡◌, ◌-◌, List, arith, ap, ◌∙◌, length, take, min, drop}
 use Rattle.std.proofs.lemmas.List.{take_all, take_min, drop_min, length-drop}
 
--- what stands behind a place is all of the rest
+-- the part after a place is all of the rest
 rest_is : (line : List ℕ) (front : ℕ) → take (length line - front) (drop front line) ≡ drop front line
 rest_is line front = take_all (length line - front) (drop front line) (omega (arith, length-drop front line))
 

@@ -1,4 +1,4 @@
--- What is told, and what stands behind it.
+-- The reports, and the texts after them.
 use Rattle.std.proofs.Common.{ℕ, ◌≡◌, ◌<◌, Bool, true, false, List, [], ◌∷◌, ◌++◌, codes, sym, ap, subst, ◌∙◌, append_assoc, append-nil}
 use Rattle.std.proofs.lemmas.List.Elements.{All-head, All-same}
 use Rattle.lx_report.specs.Lines.{code_text, finding_line, head_text, shown, tag_text}
@@ -77,7 +77,7 @@ no_warning file false old new is none h = subst (λ bs. TellsSummary file bs new
 begins_more : (file : List ℕ) (asked : KindSet) (mid new : List ℕ) → Extends mid new → BeginsWithWarning file (has_kind asked) mid → BeginsWithWarning file (has_kind asked) new
 begins_more file asked mid new k h = record { kind = h.kind; asked = h.asked; told = warning_more file h.kind [] mid new h.told k }
 
--- what is said with the counts behind the warnings
+-- the report with the counts after the warnings
 pub tells_counted : (file : List ℕ) (quiet : Bool) (asked : KindSet) (count : ℕ) (old mid new : List ℕ) → quiet ≡ false → (count ≡ 0 → mid ≡ old)
     → (0 < count → old ≡ [] → BeginsWithWarning file (has_kind asked) mid) → TellsSummary file mid new → old ≡ [] → TellsWarnings file quiet (has_kind asked) count new
 tells_counted file quiet asked count old mid new loud none first h empty =

@@ -1,4 +1,4 @@
--- Texts that stand behind one another, one for each number.
+-- Texts that follow one another, one for each number.
 use Rattle.std.proofs.Common.{ℕ, ◌≡◌, ◌<◌, ◌≤◌, ◌+◌, arith, List, [], ◌∷◌, ◌++◌, length, take, get_or, sym, ap, subst, ◌∙◌, append_assoc, append-nil}
 use Rattle.std.proofs.lemmas.Grind.{flat_map-append}
 use Rattle.std.proofs.lemmas.List.{take_all, take_more}
@@ -24,11 +24,11 @@ pub text_end : (text : ℕ → List ℕ) (old mid : List ℕ) (n i : ℕ) → n 
 text_end text old mid n i l h =
     h ∙ ap (λ xs. old ++ flat_map text xs) (take_all i (range_with_len 0 n) (omega (arith, length-range_with_len 0 n)))
 
--- two texts, one behind the other
+-- two texts, one after the other
 pub two : (old one new x y : List ℕ) → one ≡ old ++ x → new ≡ one ++ y → new ≡ old ++ (x ++ y)
 two old one new x y h k = k ∙ (ap (λ bs. bs ++ y) h ∙ append_assoc old x y)
 
--- three texts, one behind the other
+-- three texts, one after the other
 pub three : (old one two new x y z : List ℕ) → one ≡ old ++ x → two ≡ one ++ y → new ≡ two ++ z → new ≡ old ++ (x ++ (y ++ z))
 three old one two new x y z h k l =
     l ∙ (ap (λ bs. bs ++ z) (k ∙ ap (λ bs. bs ++ y) h) ∙ (append_assoc (old ++ x) y z ∙ append_assoc old x (y ++ z)))

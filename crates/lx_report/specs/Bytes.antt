@@ -1,8 +1,8 @@
--- Bytes as they stand in a report.
+-- Bytes as a report shows them.
 use Rattle.std.specs.Prelude.{ℕ, ◌+◌, ◌/◌, ◌%◌, ◌==◌, nat_le, nat_lt, ◌&&◌, ◌||◌, Bool, if◌then◌else◌, List, [], ◌∷◌, ◌++◌, codes}
 use Rattle.std.specs.List.{flat_map, range_with_len}
 
--- so many of a byte
+-- a byte, repeated
 unfoldable pub times : ℕ → ℕ → List ℕ
 times byte n = flat_map (λ k. byte ∷ []) (range_with_len 0 n)
 
@@ -22,7 +22,7 @@ shown_byte byte = if nat_le 32 byte && nat_lt byte 127 then byte ∷ [] else cod
 abbrev pub source_byte : ℕ → List ℕ
 source_byte byte = if byte == 9 then codes " " else shown_byte byte
 
--- a byte as it is shown, in a string of JSON (RFC 8259, 7), where a quote and a backslash have a backslash before them
+-- a byte as it is shown, in a string of JSON (RFC 8259, 7): a quote and a backslash have a backslash before them
 abbrev pub string_byte : ℕ → List ℕ
 string_byte byte =
     if byte == 34 || byte == 92 then 92 ∷ byte ∷ []

@@ -34,11 +34,11 @@ tag_text Error name = []
 tag_text Warning name = codes " [" ++ (shown name ++ codes "]")
 tag_text Note name = []
 
--- where it is, and how much it weighs
+-- its place and its severity
 abbrev pub head_text : List ℕ → Place → Severity → List ℕ
 head_text file place severity = shown file ++ (place_text place ++ severity_text severity)
 
--- what it is
+-- its message
 abbrev pub said_text : Severity → List ℕ → List ℕ → List ℕ → List ℕ
 said_text severity code words name = code_text code ++ (shown words ++ (tag_text severity name ++ codes "\n"))
 
@@ -48,18 +48,18 @@ finding_line file severity place code words name = head_text file place severity
 
 -- ---- the line of the source, with a mark below the place
 
--- how many bytes of a line are shown before the place, and how many in all
+-- the greatest numbers of bytes of a line that are shown: before the place, and in all
 abbrev pub most_before : ℕ
 most_before = 50
 
 abbrev pub most_shown : ℕ
 most_shown = 100
 
--- how many bytes at the line's begin are not shown
+-- the number of bytes at the line's begin that are not shown
 abbrev pub hidden : ℕ → ℕ
 hidden column = column - 1 - most_before
 
--- the part of the line that is shown, and what of it stands before the place
+-- the part of the line that is shown, and its bytes before the place
 abbrev pub part : ℕ → List ℕ → List ℕ
 part column line = take most_shown (drop (hidden column) line)
 
@@ -69,23 +69,23 @@ before column line = take (column - 1 - hidden column) (part column line)
 abbrev pub source : List ℕ → List ℕ
 source bytes = flat_map source_byte bytes
 
--- what shows that a part of the line is left out
+-- the sign that a part of the line is left out
 abbrev pub cut : Bool → List ℕ
 cut false = []
 cut true = codes "..."
 
--- bytes before the part are left out, or bytes behind it
+-- bytes before the part are left out, or bytes after it
 abbrev pub is_cut_before : ℕ → Bool
 is_cut_before column = nat_lt 0 (hidden column)
 
 abbrev pub is_cut_behind : ℕ → List ℕ → Bool
 is_cut_behind column line = nat_lt most_shown (length line - hidden column)
 
--- what is printed of a line before the place
+-- the printed text of a line before the place
 abbrev pub printed_before : ℕ → List ℕ → List ℕ
 printed_before column line = cut (is_cut_before column) ++ source (before column line)
 
--- what is printed of a line
+-- the printed text of a line
 abbrev pub printed : ℕ → List ℕ → List ℕ
 printed column line = cut (is_cut_before column) ++ (source (part column line) ++ cut (is_cut_behind column line))
 
@@ -93,11 +93,11 @@ printed column line = cut (is_cut_before column) ++ (source (part column line) +
 abbrev pub source_line : ℕ → ℕ → List ℕ → List ℕ
 source_line number column line = codes "    " ++ (decimal number ++ (codes " | " ++ (printed column line ++ codes "\n")))
 
--- blanks as wide as what stands before a line
+-- blanks as wide as the text before a line
 abbrev pub margin : ℕ → List ℕ
 margin number = codes "    " ++ (times 32 (length (decimal number)) ++ codes " | ")
 
--- the mark, behind so many columns, and as wide
+-- the mark, after a number of columns, and of this width
 abbrev pub mark : ℕ → ℕ → List ℕ
 mark before width = times 32 before ++ (codes "^" ++ (times 126 (width - 1) ++ codes "\n"))
 

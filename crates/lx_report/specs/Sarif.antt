@@ -7,14 +7,14 @@ use Rattle.lx_report.specs.declared.finding.Place.{Place}
 use Rattle.lx_report.specs.declared.finding.Severity.{Severity}
 use Rattle.lx_report.specs.declared.finding.Severity.TheVariants.{Error, Warning, Note}
 
--- what stands before the results
+-- the text before the results
 unfoldable pub schema : List ℕ
 schema = codes "{\"$schema\":\"https://json.schemastore.org/sarif-2.1.0.json\",\"version\":\"2.1.0\",\"runs\":[{\"tool\":{\"driver\":{\"name\":\"lx\",\"version\":"
 
 abbrev pub start : List ℕ → List ℕ
 start version = schema ++ (shown_string version ++ codes "}},\"results\":[")
 
--- what stands behind them
+-- the text after them
 abbrev pub end : List ℕ
 end = codes "]}]}\n"
 
@@ -23,7 +23,7 @@ level Error = codes ",\"level\":\"error\""
 level Warning = codes ",\"level\":\"warning\""
 level Note = codes ",\"level\":\"note\""
 
--- the code and the name, with a slash between them where both are there
+-- the code and the name, with a slash between them if both exist
 abbrev pub rule : List ℕ → List ℕ → List ℕ
 rule code name = shown code ++ ((if not (length code == 0) && not (length name == 0) then codes "/" else []) ++ shown name)
 
@@ -43,7 +43,7 @@ first_column column = codes ",\"startColumn\":" ++ decimal column
 abbrev pub end_column : ℕ → List ℕ
 end_column behind = codes ",\"endColumn\":" ++ decimal behind
 
--- the columns of a region; the last is the one behind it
+-- the columns of a region; its end is the column after it
 abbrev pub columns : ℕ → ℕ → List ℕ
 columns column behind =
     if column == 0 then [] else first_column column ++ end_column behind
@@ -52,7 +52,7 @@ columns column behind =
 abbrev pub max_column : ℕ
 max_column = 18446744073709551615
 
--- the column behind a place
+-- the column after a place
 abbrev pub behind : Place → ℕ
 behind place = min (place.column + max place.width 1) max_column
 

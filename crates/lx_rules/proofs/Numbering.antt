@@ -1,4 +1,4 @@
--- What a map from names to numbers has at each name, after a number was added.
+-- The numbers that a map has at each name, after a number was added.
 use Rattle.std.proofs.Common.{◌≡◌, ◌∙◌, ℕ, Bool, true, false, cond, List, Option, Ordering, Some, None, refl, ap, sym, subst}
 use Rattle.std.specs.Prelude.{is_some}
 use Rattle.std.specs.declared.alloc.Global.{Global}
@@ -32,7 +32,7 @@ are_apart name q e k h = by (is_eq (slice_cmp nat_cmp q k.items)) refl where
       let same : name ≡ q = same_name name k.items h ∙ sym (same_name q k.items g) in
       absurd (false≢true (sym e ∙ (bytes_eq-Decides name q).1 same))
 
--- what the map has at each name, after a change at one
+-- the numbers at all names, after a change at one
 pub number-after : (name : List ℕ) (m n : BTreeMap (Vec ℕ Global) ℕ) (w : Option ℕ) → UpdatesBy names_cmp (λ (k : Vec ℕ Global). slice_cmp nat_cmp name k.items) m n w
     → (q : List ℕ) → number_at n q ≡ cond (bytes_eq name q) w (number_at m q)
 unfolding KeepsOthers
@@ -45,7 +45,7 @@ or-none : (o : Option ℕ) → o ≡ option_or o None
 or-none None = refl
 or-none (Some x) = refl
 
--- the number is added where the name had none
+-- the number is added if the name had none
 pub number-added : (name key : List ℕ) (m n : BTreeMap (Vec ℕ Global) ℕ) (number : ℕ) → key ≡ name → is_some (number_at m name) ≡ false
     → UpdatesBy names_cmp (λ (k : Vec ℕ Global). slice_cmp nat_cmp key k.items) m n (Some number) → (q : List ℕ) → number_at n q ≡ option_or (number_at m q) (cond (bytes_eq name q) (Some number) None)
 number-added name key m n number e absent u q = by (bytes_eq name q) refl where

@@ -1,4 +1,4 @@
--- Identifiers, and the bytes of which they are made.
+-- Identifiers, and their bytes.
 use Rattle.std.specs.Prelude.{ℕ, Bool, false, ◌&&◌, ◌||◌, nat_eq, nat_le, List, [], ◌∷◌}
 use Rattle.std.specs.List.{list_all}
 

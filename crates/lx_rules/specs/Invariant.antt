@@ -1,4 +1,4 @@
--- What every specification keeps of its conditions, kinds and rules.
+-- The invariant of every specification, about its conditions, kinds and rules.
 use Rattle.std.specs.Prelude.{ℕ, ◌+◌, ◌<◌, ◌≤◌, Bool, true, false, not, ◌&&◌, nat_lt, nat_eq, if◌then◌else◌, List, [], ◌∷◌, length, map, Option, Some, None, IsTrue}
 use Rattle.std.specs.List.{list_all, list_any, flat_map}
 use Rattle.std.specs.Cmp.Lexicographic.{pointwise}
@@ -39,12 +39,12 @@ are_definitions definitions = are_distinct (map (λ d. d.name) definitions)
 unfoldable pub are_ordered : List PlainDefinition → List Regex → Bool
 are_ordered definitions trees = list_all (λ d. has_ordered_bounds d.tree) definitions && list_all has_ordered_bounds trees
 
--- the kind is one of so many identifiers, or a number below 2 ^ 31
+-- the kind is the number of an identifier, or a number below 2 ^ 31
 abbrev pub is_kind : ℕ → Kind → Bool
 is_kind kinds (Name n) = nat_lt n kinds
 is_kind kinds (Number n) = nat_lt n returned_number_limit
 
--- the steps name conditions and kinds that are there, and a return stands last
+-- the steps name conditions and kinds that exist, and a return is the last step
 abbrev pub are_steps : ℕ → ℕ → List Step → Bool
 are_steps conditions kinds [] = true
 are_steps conditions kinds (Echo ∷ steps) = are_steps conditions kinds steps
@@ -62,7 +62,7 @@ abbrev pub are_conditions : ℕ → Option (List ℕ) → Bool
 are_conditions most None = true
 are_conditions most (Some list) = are_rising_below most list
 
--- what a rule says names conditions and kinds that are there, and its line counts from 1
+-- the steps of a rule name conditions and kinds that exist, its conditions exist, and its line counts from 1
 abbrev pub is_rule : ℕ → ℕ → PlainRule → Bool
 is_rule conditions kinds rule = nat_lt 0 rule.line && (are_steps conditions kinds rule.steps && are_conditions conditions rule.conditions)
 
@@ -74,7 +74,7 @@ returned_names (Begin c ∷ steps) = returned_names steps
 returned_names (Return (Name n) ∷ steps) = n ∷ returned_names steps
 returned_names (Return (Number n) ∷ steps) = returned_names steps
 
--- The number behind those that appear, where each appears first behind all smaller ones, and n of them appeared before.
+-- The next number after those that appear, if each appears first after all smaller ones, and n of them appeared before.
 abbrev pub next_number : ℕ → List ℕ → Option ℕ
 next_number n [] = Some n
 next_number n (k ∷ numbers) = if nat_lt k n then next_number n numbers else if nat_eq k n then next_number (n + 1) numbers else None
@@ -88,8 +88,8 @@ unfoldable pub are_kinds : List (List ℕ) → List PlainRule → Bool
 are_kinds kinds rules =
     list_all is_identifier kinds && (are_distinct kinds && is_number (length kinds) (next_number 0 (flat_map (λ r. returned_names r.steps) rules)))
 
--- What every specification keeps: the limits, INITIAL first, distinct names, names that are defined and at most 32 deep, intervals
--- with bounds in order, kinds in order of first appearance, and rules that name conditions and kinds that are there.
+-- The invariant of every specification. The limits are kept, INITIAL is first, and names are distinct. Names are defined and at most 32 deep, and
+-- intervals have bounds in order. Kinds are in order of first appearance, and rules name conditions and kinds that exist.
 pub record IsWellFormed (spec : PlainSpec) : Type 0 where
   pub some_conditions : 0 < length spec.conditions
   pub few_conditions : length spec.conditions ≤ max_start_conditions

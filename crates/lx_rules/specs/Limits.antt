@@ -15,7 +15,7 @@ max_definitions = 1024
 abbrev pub max_rules : ℕ
 max_rules = 4096
 
--- the most names in a row: one in an expression, one in the substitute that it stands for, and so on
+-- the most names in a row: one in an expression, one in its substitute, and so on
 abbrev pub max_name_depth : ℕ
 max_name_depth = 32
 
@@ -27,7 +27,7 @@ returned_number_limit = 2147483648
 abbrev pub max_positions : ℕ
 max_positions = 16384
 
--- the most sets of positions at which a text can stand
+-- the most sets of positions that texts can lead to
 abbrev pub max_reached_sets : ℕ
 max_reached_sets = 16384
 

@@ -1,4 +1,4 @@
--- A specification as plain values, without where it lies in memory.
+-- A specification as plain values, without its place in memory.
 use Rattle.std.specs.Prelude.{ℕ, Bool, List, Option}
 use Rattle.lx_ere.specs.Regex.{Regex, Reading}
 use Rattle.lx_rules.specs.declared.rule.Step.{Step}
@@ -6,10 +6,10 @@ use Rattle.lx_rules.specs.declared.rule.Step.{Step}
 -- a start condition (XCU `lex`, "Definitions in lex": `%s` and `%x`)
 pub record StartCondition : Type 0 where
   pub name : List ℕ
-  -- whether only rules that name the condition are active in it
+  -- true if only rules that name the condition are active in it
   pub exclusive : Bool
 
--- a name, and the expression that it stands for
+-- a name, and its expression
 pub record PlainDefinition : Type 0 where
   pub name : List ℕ
   pub tree : Regex

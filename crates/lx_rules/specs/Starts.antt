@@ -1,4 +1,4 @@
--- Where a rule is active at a start, in the condition and at line begin where it asks for that; and the flags of the rules that are.
+-- A rule is active at a start if it is in the condition, and at line begin if it asks for that; and the flags of the active rules.
 use Rattle.std.specs.Prelude.{◌≡◌, ℕ, ◌<◌, ◌↔◌, Bool, true, false, IsTrue, List, length, slice_get, slice_index_or, Some}
 use Rattle.lx_rules.specs.Plain.{PlainRule, PlainSpec}
 use Rattle.lx_rules.specs.Choice.{IsActive}

@@ -1,4 +1,4 @@
--- What the values of the code stand for: each without where it lies in memory.
+-- The values of the code as contracts see them, without their places in memory.
 pub mod Conditions
 pub mod NameTables
 pub mod Rules

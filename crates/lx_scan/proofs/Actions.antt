@@ -1,4 +1,4 @@
--- What the steps of a rule lead to: a condition and kinds that are there.
+-- The effect of a rule's steps: a condition and kinds that exist.
 use Rattle.std.proofs.Common.{◌≡◌, ℕ, zero, suc, ◌+◌, ◌<◌, ◌≤◌, Bool, true, nat_lt, List, [], ◌∷◌, Option, Some, None, length, All, refl, sym, ltb-true}
 use Rattle.std.specs.Prelude.{slice_index_or}
 use Rattle.std.specs.List.{list_all}
@@ -28,7 +28,7 @@ kind_known : (names : List (List ℕ)) (kind : Kind) → is_kind (length names) 
 kind_known names (Name n) is = ltb-true n (length names) is
 kind_known names (Number n) is = tt
 
--- what steps give of bytes of the text lies in the text, has kinds that are there and the line of the bytes
+-- the items that steps give of bytes of the text lie in the text, have kinds that exist and the line of the bytes
 pub items_known : (names : List (List ℕ)) (text : List ℕ) (steps : List Step) (conditions line start len : ℕ) → start + len ≤ length text → line ≡ line_at text start → are_steps conditions (length names) steps ≡ true →
     All (IsItemOf names text) (items_of_steps steps line start len)
 items_known names text [] conditions line start len h l is = All-nil (IsItemOf names text)
@@ -40,7 +40,7 @@ items_known names text (Return kind ∷ []) conditions line start len h l is =
     All-cons (IsItemOf names text) _ [] (record { inside = h; named = kind_known names kind is; line = l }) (All-nil (IsItemOf names text))
 items_known names text (Return kind ∷ step ∷ steps) conditions line start len h l is = absurd (true≢false (sym is))
 
--- a test that all of a list pass, and what stands in place of a missing one
+-- a test that all elements of a list pass, and so does the substitute of a missing one
 all_or : {X : Type 0} (test : X → Bool) (xs : List X) (i : ℕ) (d : X) → list_all test xs ≡ true → test d ≡ true → test (slice_index_or xs i d) ≡ true
 all_or test [] i d all default = default
 all_or test (x ∷ xs) zero d all default = (and_parts (test x) (list_all test xs) all).0

@@ -82,7 +82,7 @@ module _ (spec : PlainSpec) (condition : ℕ) (begin : Bool) (text : List ℕ) w
       cases true some within newline = let l : n < length text = newline refl in (omega arith, omega arith)
       cases false some within newline = (omega arith, omega arith)
 
-  -- a rule that fits is one whose reach is all of the text up to there
+  -- the reach of a fitting rule is all of the text up to there
   reaches_front : (j : ℕ) (rule : PlainRule) (n : ℕ) → slice_get spec.rules j ≡ Some rule → Fits spec rule condition begin text n → ReachesWhole spec condition begin (take (reach rule n) text) j
   reaches_front j rule n at f =
       let within : reach rule n ≤ length text = (reach_within rule n f).1 in
@@ -103,7 +103,7 @@ module _ (spec : PlainSpec) (condition : ℕ) (begin : Bool) (text : List ℕ) w
         let line_end : (rule_at table i).line_end ≡ rule.reading.line_end = ap (λ (rules : List TableRule). (slice_index_or rules i (record { line_end = false; steps = [] })).line_end) of.rules ∙ line_end_at spec.rules i rule (record { line_end = false; steps = [] }) at in
         ap (λ (b : Bool). if b then m - 1 else m) line_end ∙ token_is rule.reading.line_end n m e
 
-    -- where a rule reaches so far, some rule is answered there, one that isn't later
+    -- if a rule has this reach, a rule is answered there that isn't later
     answered_at : (j : ℕ) (rule : PlainRule) (n : ℕ) → slice_get spec.rules j ≡ Some rule → Fits spec rule condition begin text n →
         (i : ℕ) × (k : ℕ) × IsAnswered table condition begin text (reach rule n) i k × (i ≤ j)
     answered_at j rule n at f = on (answer table.machine condition begin (take (reach rule n) text)) refl (answers (reach rule n))

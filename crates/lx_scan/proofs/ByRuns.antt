@@ -32,7 +32,7 @@ alone : (choice : Option (ℕ × ℕ)) → option_map {T = ℕ × ℕ} {U = ℕ}
 alone None e = refl
 alone (Some found) e = absurd (let f : Some found.0 ≡ None = e in cc)
 
--- what stands in place of a rule that isn't there
+-- the substitute for a missing rule
 abbrev no_rule : TableRule
 no_rule = record { line_end = false; steps = [] }
 
@@ -49,7 +49,7 @@ module _ (spec : PlainSpec) (table : Table) (is : IsTable table) (of : AreTables
       steps_same spec.rules found.0 no_rule refl ∙ ap (λ (rules : List TableRule). (slice_index_or rules found.0 no_rule).steps) (sym of.rules)
 
   module _ (text : List ℕ) (are_bytes : All (λ b. b < 256) text) where
-    -- the place behind a match is the same
+    -- the place after a match is the same
     places_are : (rest : List ℕ) (place : Place) (choice : Option (ℕ × ℕ)) → drop place.offset text ≡ rest → 0 < len_at choice →
         place_behind (actions_of spec) text place (match_of place choice) ≡ place_after table rest place choice
     places_are rest place choice at some =
@@ -74,7 +74,7 @@ module _ (spec : PlainSpec) (table : Table) (is : IsTable table) (of : AreTables
       pub whole : end.offset ≡ length text
       pub items_are : items ≡ items_of_run (actions_of spec) text place matches
 
-    -- a match, and then those behind it
+    -- a match, and then those after it
     one_more : (rest : List ℕ) (place : Place) (choice : Option (ℕ × ℕ)) (items : List Item) → drop place.offset text ≡ rest → place.offset < length text → place.condition < length table.machine.starts → 0 < len_at choice →
         IsByAnswers table place.condition place.at_line_begin rest choice → Reaches (place_after table rest place choice) items → Reaches place (items_at table place choice ++ items)
     one_more rest place choice items at more known some by r =

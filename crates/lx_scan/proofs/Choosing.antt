@@ -89,7 +89,7 @@ accepted_known table is condition begin text rule read e =
     let last : IsLast table condition begin text (length text) rule read = subst (λ (o : Option (ℕ × ℕ)). IsFurthest table condition begin text (length text) o) e (furthest_is table condition begin text (length text)) in
     (answered_known table.machine (length table.rules) is.accepted (state_after table.machine (Some (start_of table.machine condition begin)) (take read text)) rule last.ends.answered, last.ends.some)
 
--- What is chosen by answers is a rule that is there, and a token in the text, of one byte at least.
+-- The choice by answers is a rule that exists, and a token in the text, of one byte at least.
 pub record IsThere (table : Table) (text : List ℕ) (rule n : ℕ) : Type 0 where
   pub below : rule < length table.rules
   pub some : 0 < n

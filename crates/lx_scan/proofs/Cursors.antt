@@ -1,4 +1,4 @@
--- The items behind a cursor.
+-- The items after a cursor.
 use Rattle.std.proofs.Common.{◌≡◌, ℕ, zero, suc, ◌+◌, ◌<◌, List, [], ◌∷◌, ◌++◌, length, drop, get_or, refl, sym, ap, ◌∙◌, add-one, arith}
 use Rattle.lx_rules.specs.declared.rule.Step.{Step}
 use Rattle.lx_rules.specs.declared.rule.Step.TheVariants.{Echo, Begin, Return}
@@ -12,7 +12,7 @@ pub begins : (table : Table) (text : List ℕ) → items_after table text first_
 unfolding items_of
 begins table text = refl
 
--- behind the end there is none
+-- after the end there is none
 pub none_at_end : (table : Table) (text : List ℕ) (place : Place) → place.offset ≡ length text → items_after table text place ≡ []
 none_at_end table text place e = ap (λ (rest : List ℕ). items_from table rest 0 place) (all_dropped text place.offset e)
   where

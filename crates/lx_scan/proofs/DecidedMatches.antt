@@ -1,4 +1,4 @@
--- Whether an expression matches a word is decided, where it is decided what its names match.
+-- It is decidable if an expression matches a word, provided that the same is decidable for its names.
 use Rattle.std.proofs.Common.{◌≡◌, ℕ, zero, suc, ◌+◌, ◌<◌, ◌≤◌, ◌⊎◌, inl, inr, IsTrue, IfSome, List, [], ◌∷◌, ◌++◌, Option, Some, None, length, refl, ap, ap₂, sym, subst, arith, length-append}
 use Rattle.std.specs.FinSet as set
 use Rattle.std.specs.Ordering.{nat_cmp}
@@ -67,7 +67,7 @@ decide_repeats : (L : List ℕ → Type 0) → ((u : List ℕ) → Dec (L u)) �
 decide_repeats L d zero w = decide_same w []
 decide_repeats L d (suc k) w = decide_splits L (Repeats L k) d (decide_repeats L d k) w
 
--- of more words than there are bytes one is empty, and can be left out
+-- if there are more words than bytes, one is empty and can be left out
 fewer : (L : List ℕ → Type 0) (k : ℕ) (u v w : List ℕ) → length w ≤ k → L u → Repeats L k v → w ≡ u ++ v → Repeats L k w
 fewer L k [] v w l x r e = subst (Repeats L k) (sym e) r
 fewer L zero (b ∷ u) v w l x r e = let n : length w ≡ suc (length (u ++ v)) = ap (λ (t : List ℕ). length t) e in absurd (omega (arith, n))
@@ -75,7 +75,7 @@ fewer L (suc k) (b ∷ u) v w l x r e =
     let n : length w ≡ suc (length (u ++ v)) = ap (λ (t : List ℕ). length t) e in
     (b ∷ u, v, x, fewer L k r.0 r.1 v (omega (arith, n, l, length-append u v)) r.2 r.3 r.4, e)
 
--- no more words than there are bytes
+-- at most one word for each byte
 no_more : (L : List ℕ → Type 0) (k n : ℕ) (w : List ℕ) → length w ≤ n → n ≤ k → Repeats L k w → Repeats L n w
 no_more L zero n w l m r = subst (λ (j : ℕ). Repeats L j w) (let e : 0 ≡ n = omega arith in e) r
 no_more L (suc k) n w l m r = elim (below_or_not n k) as (λ _. Repeats L n w) [
@@ -91,7 +91,7 @@ decide_most : (high : Option ℕ) (k : ℕ) → Dec (IfSome high (λ most. k ≤
 decide_most None k = yes tt
 decide_most (Some most) k = decide_at_most k most
 
--- the body so often, of a number that the bounds let pass
+-- k repeats of the body, if the bounds allow that number
 abbrev RepeatsWithin : (List ℕ → Type 0) → ℕ → Option ℕ → List ℕ → ℕ → Type 0
 RepeatsWithin L low high w k = (low ≤ k) × IfSome high (λ most. k ≤ most) × Repeats L k w
 

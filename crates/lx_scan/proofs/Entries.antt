@@ -1,4 +1,5 @@
--- The law of an entry of the joined table: what ends where a step is missing is what the scanner chooses, and the next match begins as the entry says.
+-- The law of an entry of the joined table: the match that ends if a step is missing is the scanner's choice, and the next match begins as the entry
+-- says.
 use Rattle.std.proofs.Common.{◌≡◌, ◌≢◌, ℕ, zero, suc, ◌+◌, ◌-◌, ◌<◌, ◌≤◌, Bool, true, false, nat_eq, nat_le, nat_lt, not, if◌then◌else◌, List, [], ◌∷◌, Option, Some, None, length, take, drop, refl, sym, ap, subst, ◌∙◌, arith, add-zero, length-drop}
 use Rattle.std.specs.Prelude.{slice_index}
 use Rattle.std.specs.Option.{option_map, option_or}
@@ -55,7 +56,7 @@ pub steps_alike : (table : Table) (rule : Option ℕ) (n : ℕ) → steps_at tab
 steps_alike table None n = refl
 steps_alike table (Some rule) n = refl
 
--- ---- what is chosen where a step is missing
+-- ---- the choice if a step is missing
 module _ (table : Table) (condition : ℕ) (begin : Bool) (rest : List ℕ) where
   abbrev start : Option ℕ
   start = Some (start_of table.machine condition begin)
@@ -76,7 +77,7 @@ module _ (table : Table) (condition : ℕ) (begin : Bool) (rest : List ℕ) wher
       let whole : furthest table condition begin rest (length rest) ≡ Some (rule, n) = sym (reads_no_more table condition begin rest n s byte (furthest table condition begin rest n) more is missing read) ∙ here in
       ap (λ (o : Option (ℕ × ℕ)). option_map (λ found. (found.0, token_len table found.0 found.1)) o) whole ∙ ap (λ k. Some (rule, k)) len
 
-  -- nothing, where the start has no step on the first byte
+  -- none, if the start has no step on the first byte
   pub none_chosen : start_of table.machine condition begin < state_count table.machine → 0 < length rest → state_after table.machine start (take 1 rest) ≡ None → choice_of table condition begin rest ≡ None
   none_chosen known more none =
       let missing : target_of table.machine (start_of table.machine condition begin) (slice_index rest 0) ≡ None
@@ -85,9 +86,9 @@ module _ (table : Table) (condition : ℕ) (begin : Bool) (rest : List ℕ) wher
       = reads_no_more table condition begin rest 0 (start_of table.machine condition begin) (slice_index rest 0) None more refl missing (nothing_read table condition begin rest known) in
       ap (λ (o : Option (ℕ × ℕ)). option_map (λ found. (found.0, token_len table found.0 found.1)) o) (sym whole)
 
--- ---- where a run stands
+-- ---- the state of a run
 module _ (table : Table) (text : List ℕ) where
-  -- in a match that began at a place, behind so many bytes of the text
+  -- in a match that began at a place, with these bytes of the text read
   pub record Stands (place : Place) (read : ℕ) (q : JoinedState) : Type 0 where
     pub further : place.offset < read
     pub within : read ≤ length text
@@ -142,7 +143,7 @@ module _ (table : Table) (text : List ℕ) where
           state_after_byte table.machine (Some (start_of table.machine place.condition place.at_line_begin)) (drop place.offset text) (read - place.offset) p (omega (arith, long)) there
           ∙ ap (λ b. target_of table.machine p b) (byte_there place.offset (read - place.offset) read byte (omega arith) is) ∙ step
 
-  -- what a code tells of the match that has ended
+  -- the meaning of a code for the match that has ended
   pub record Tells (place : Place) (read : ℕ) (q : JoinedState) (code : ℕ) : Type 0 where
     pub choice : choice_at table (drop place.offset text) place ≡ option_map (λ r. (r, read - place.offset)) (rule_of_code table code)
     pub condition : condition_behind_rule table (accepted_at table.machine q.state) q.condition ≡ condition_after (steps_of_code table code) place.condition
@@ -220,7 +221,7 @@ module _ (table : Table) (text : List ℕ) where
     abbrev pub ended_match : Match
     ended_match = record { rule = rule_of_code table code; start = place.offset; len = read - place.offset }
 
-    -- where the next match begins
+    -- the begin of the next match
     abbrev pub next_place : Place
     next_place = record {
       offset = read;

@@ -11,8 +11,8 @@ use Rattle.lx_scan.specs.Failing.{IsFailed}
 use Rattle.lx_scan.proofs.Stepping.{HasRead, nothing_read, reads_on, state_after_both}
 use Rattle.lx_scan.proofs.Turns.{drop_further}
 
--- ---- one byte
--- what a state answers where a step is missing, and where there is one
+-- ---- one byte 
+--  the answers of a state, with a missing step and with a step
 answers_none : (m : Machine) (w : List ℕ) → accepted_at m (state_after m None w) ≡ None
 answers_none m w = refl
 
@@ -23,7 +23,7 @@ module _ (m : Machine) (text : List ℕ) (at s : ℕ) (more : at < length text) 
   abbrev byte : ℕ
   byte = slice_index text at
 
-  -- what the rest of the text is read as
+  -- the first bytes of the rest of the text
   reads_byte : (k : ℕ) → take (suc k) (drop at text) ≡ byte ∷ take k (drop (at + 1) text)
   reads_byte k = ap (λ (xs : List ℕ). take (suc k) xs) (drop_more text at 0 more)
 
@@ -67,7 +67,7 @@ fails_end m text at s end = record { silent = λ k some within. absurd (omega (a
 
 -- ---- a run
 module _ (table : Table) (condition : ℕ) (begin : Bool) (rest : List ℕ) where
-  -- where nothing more is accepted, what was accepted last is what is accepted furthest on
+  -- if nothing more is accepted, the last match is the furthest one
   silent_further : (read state : ℕ) (last : Option (ℕ × ℕ)) → HasRead table condition begin rest read state last → IsFailed table.machine (drop read rest) state →
       (k n : ℕ) → k + read ≡ n → n ≤ length rest → last ≡ furthest table condition begin rest n
   silent_further read state last r f zero n e within = let same : read ≡ n = omega arith in r.furthest ∙ ap (λ (j : ℕ). furthest table condition begin rest j) same
@@ -89,7 +89,8 @@ module _ (table : Table) (condition : ℕ) (begin : Bool) (rest : List ℕ) wher
   reads_in_vain read state last r f = let within = r.within in silent_further read state last r f (length rest - read) (length rest) (omega arith) (omega arith)
 
 module _ (table : Table) (condition : ℕ) (begin : Bool) (text : List ℕ) (from : ℕ) where
-  -- A run from a place stands before byte `at` in a state. It accepted this last; and since a place, where it was in the state `back`, nothing.
+  -- A run from a place is before byte `at` in a state, with its last accepted match. Since the place at which it was in state `back`, it has accepted
+  -- nothing.
   pub record Running (at state : ℕ) (last : Option (ℕ × ℕ)) (since back : ℕ) : Type 0 where
     pub read : ℕ
     pub at_is : at ≡ from + read
@@ -99,7 +100,7 @@ module _ (table : Table) (condition : ℕ) (begin : Bool) (text : List ℕ) (fro
     pub known : back < state_count table.machine
     pub silent : IsFailed table.machine (drop at text) state → IsFailed table.machine (drop since text) back
 
-  -- what a run has found
+  -- the results of a run
   pub record HasRun (last : Option (ℕ × ℕ)) (since back end : ℕ) : Type 0 where
     pub last_is : last ≡ furthest table condition begin (drop from text) (length (drop from text))
     pub failed : IsFailed table.machine (drop since text) back

@@ -1,4 +1,4 @@
--- What a match gives whose action gives one item at most.
+-- The items of a match whose action gives at most one.
 use Rattle.std.proofs.Common.{◌≡◌, ℕ, ◌+◌, ◌-◌, ◌<◌, ◌≤◌, Bool, true, false, nat_eq, if◌then◌else◌, List, [], ◌∷◌, ◌++◌, Option, Some, None, length, inl, inr, refl, sym, ap, ◌∙◌, arith, add-zero, append-nil, append_assoc}
 use Rattle.std.specs.Prelude.{slice_index, slice_set, take}
 use Rattle.std.proofs.lemmas.Bool.{cases_lt, eqb-false, eqb-true}
@@ -32,7 +32,7 @@ one_given (Echo ∷ steps) line start len h = ap (λ xs. listed (item_of_step Ec
 one_given (Begin next ∷ steps) line start len h = one_given steps line start len h
 one_given (Return kind ∷ steps) line start len h = ap (λ xs. listed (item_of_step (Return kind) line start len) ++ xs) (none_given steps line start len (omega arith))
 
--- what is kept of a code is what its steps give
+-- the label kept of a code is the item that its steps give
 given_is : (table : Table) (labels : List ℕ) (code : ℕ) → AreLabels table labels → 0 < code → code ≤ echoed table → step_of_label (slice_index labels code) ≡ giving (steps_of_code table code)
 given_is table labels code are some known = on (nat_eq code (echoed table)) refl
   where
@@ -66,7 +66,7 @@ labels_give table labels start line e are is =
     ∙ ap (λ g. items_given g line start (e.offset - start)) (sym (given_is table labels e.code are is.some is.known))
     ∙ label_gives (slice_index labels e.code) line start (e.offset - start)
 
--- an item is placed behind so many, and counts where there is one
+-- an item is placed after the first len ones, and counts if there is one
 placed : (room : List Item) (len label line start n one : ℕ) → len < length room → one ≡ (if nat_eq label 0 then 0 else 1) →
     take (len + one) (slice_set room len (item_of_kind (kind_of_label label) line start n)) ≡ take len room ++ items_of_label label line start n
 placed room len label line start n one more one_is = on (nat_eq label 0) refl

@@ -11,7 +11,7 @@ use Rattle.lx_scan.specs.declared.place.Match.{Match}
 use Rattle.lx_scan.specs.ByRules.{IsNext, Run, place_behind, items_of_run, actions_of, AreItemsBy}
 use Rattle.lx_scan.specs.Items.{first_place}
 
--- of equal reaches of one rule the lengths are equal
+-- equal reaches of one rule have equal lengths
 pub same_length : (b : Bool) (m n : ℕ) → (if b then m + 1 else m) ≡ (if b then n + 1 else n) → m ≡ n
 same_length true m n e = omega (arith, e)
 same_length false m n e = e

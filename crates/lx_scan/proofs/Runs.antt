@@ -1,4 +1,4 @@
--- A run over the joined table: the ends that it has found, and where it stands.
+-- A run over the joined table: the ends that it has found, and its state.
 use Rattle.std.proofs.Common.{◌≡◌, ◌≢◌, ℕ, zero, suc, ◌+◌, ◌-◌, ◌*◌, ◌<◌, ◌≤◌, Bool, true, false, nat_eq, nat_le, if◌then◌else◌, List, [], ◌∷◌, ◌++◌, Option, Some, None, length, take, drop, refl, sym, ap, ap₂, subst, ◌∙◌, arith, append_assoc, append-nil, add-zero}
 use Rattle.std.specs.Prelude.{slice_index, slice_set}
 use Rattle.std.specs.Option.{option_map}
@@ -38,8 +38,8 @@ items_more table start line (x ∷ es) e =
     let last = items_of_steps (steps_of_code table e.code) (line_of x.line es) (end_of x.offset es) (e.offset - end_of x.offset es) in
     ap (λ (xs : List Item). here ++ xs) (items_more table x.offset x.line es e) ∙ sym (append_assoc here (items_of_ends table x.offset x.line es) last)
 
--- ---- codes
--- something has ended where a step is missing
+-- ---- codes 
+--  a match has ended if a step is missing
 ended_some : (table : Table) (state : Option ℕ) → ended table state ≢ 0
 ended_some table None e = absurd (omega arith)
 ended_some table (Some p) e = accepted (accepted_by table.machine p) e
@@ -67,7 +67,7 @@ is_entry table columns entries labels joined q row byte entry known small row_is
       row = ap (λ (t : Transition). t.row) whole;
     }
 
--- a newline has the last column alone
+-- only a newline has the last column
 pub last_column : (table : Table) → IsTable table → (columns : List ℕ) (entries : List Transition) (labels : List ℕ) → IsJoined table columns entries labels → (byte : ℕ) → byte < 256 →
     ◌≡◌ {A = ℕ} (if nat_le (slice_index columns 10) (slice_index columns byte) then 1 else 0) (if nat_eq byte 10 then 1 else 0)
 last_column table is columns entries labels joined byte small =
@@ -77,8 +77,8 @@ last_column table is columns entries labels joined byte small =
     on true = ap (λ (t : Bool). if t then 1 else 0) (le-leb table.machine.width table.machine.width (omega arith))
     on false = ap (λ (t : Bool). if t then 1 else 0) (lt-leb table.machine.width (slice_index table.machine.classes byte) (is.machine.below byte small))
 
--- ---- a run
--- From a place these ends were found, and it stands behind so many bytes of the text, on this line and in this row.
+-- ---- a run 
+--  From a place a run found these ends. It has read this number of bytes of the text, and is on this line and in this row.
 pub record Runs (table : Table) (text : List ℕ) (from : Place) (ends : List End) (read line row : ℕ) : Type 0 where
   pub place : Place
   pub q : JoinedState
@@ -224,7 +224,7 @@ runs_turn table is columns entries labels joined text from ends count read line 
         (runs_further table is columns entries labels joined text from (take count ends) read line row byte entry r more is_byte small entry_is
         (λ zero_is. let yes = eq-eqb entry.code 0 zero_is in let no : true ≡ false = sym yes ∙ some in cc) told)
 
--- where matches have ended the place behind them is known by the last end and the condition
+-- if matches have ended, the last end and the condition determine the place after them
 pub runs_behind : (table : Table) (text : List ℕ) (from : Place) (ends : List End) (count read line row condition : ℕ) → Runs table text from (take count ends) read line row → count ≤ length ends →
     ((q : JoinedState) → IsJoinedState table q → row ≡ joined_number table q * joined_width table → condition ≡ q.condition) →
     0 < count → LeadTo table text from (take count ends) (place_behind text from (take count ends) condition)
@@ -238,7 +238,7 @@ runs_behind table text from ends count read line row condition r room condition_
     parts : (o p c d l k : ℕ) (a b : Bool) → o ≡ p → c ≡ d → a ≡ b → l ≡ k → ◌≡◌ {A = Place} (record { offset = o; condition = c; at_line_begin = a; line = l }) (record { offset = p; condition = d; at_line_begin = b; line = k })
     parts o p c d l k a b e f g h = cc
 
--- behind some ends it is further on
+-- after some ends the place is further on
 pub ends_rise : (table : Table) (start : ℕ) (ends : List End) → AreEnds table start ends → 0 < length ends → start < end_of start ends
 ends_rise table start [] are some = absurd (omega arith)
 ends_rise table start (e ∷ []) (is, are) some = is.further
@@ -266,7 +266,7 @@ run_appends table text from ends condition offset line old new leads some offset
       },
     )
 
--- and behind those of runs before it
+-- and those of the next run are appended to those of the runs before it
 pub appends_both : (a b d x y z : List Item) → Appends a b x y → Appends b d y z → Appends a d x z
 appends_both a b d x y z first second = record {
   added = first.added ++ second.added;

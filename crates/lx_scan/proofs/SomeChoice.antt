@@ -1,4 +1,5 @@
--- There is a choice at each place of a text, by the rules of any specification: of the lengths and rules that fit one is the best, since whether a rule fits can be decided.
+-- There is a choice at each place of a text, by the rules of any specification. Of the lengths and rules that fit, one is the best, since it is
+-- decidable if a rule fits.
 use Rattle.std.proofs.Common.{◌≡◌, ◌∙◌, ℕ, zero, suc, ◌+◌, ◌<◌, ◌≤◌, ◌⊎◌, inl, inr, Bool, true, false, List, [], ◌∷◌, Option, Some, None, MatchOption, Contains, length, take, refl, ap, sym, subst, arith, if◌then◌else◌}
 use Rattle.std.specs.Prelude.{slice_get}
 use Rattle.std.specs.Option.{option_map}
@@ -78,7 +79,7 @@ module _ (spec : PlainSpec) (condition : ℕ) (begin : Bool) (text : List ℕ) w
       (both (decide_matches (SpecNames spec) (decide_spec_names spec) rule.reading.tree (take n text))
       (decide_where rule.reading.line_end (slice_get text n ≡ Some 10) (decide_byte (slice_get text n) 10)))))))
 
-  -- rule j fits n bytes, which reach so far
+  -- rule j fits n bytes, with reach r
   Reaches : ℕ → ℕ → ℕ → Type 0
   Reaches r j n = (rule : PlainRule) × (slice_get spec.rules j ≡ Some rule) × Fits spec rule condition begin text n × (reach rule n ≡ r)
 
@@ -94,7 +95,7 @@ module _ (spec : PlainSpec) (condition : ℕ) (begin : Bool) (text : List ℕ) w
               let one : other ≡ rule = cc in
               (subst (λ (x : PlainRule). Fits spec x condition begin text n) one fits, subst (λ (x : PlainRule). reach x n ≡ r) one is)
 
-  -- rule j fits bytes that reach so far; some rule does
+  -- rule j fits bytes with this reach; some rule does
   OfRule : ℕ → ℕ → Type 0
   OfRule r j = (n : ℕ) × (n < suc (length text)) × Reaches r j n
 
@@ -123,7 +124,7 @@ module _ (spec : PlainSpec) (condition : ℕ) (begin : Bool) (text : List ℕ) w
     by true = omega (arith, l)
     by false = omega (arith, l)
 
-  -- of the greatest reach the earliest rule
+  -- the earliest rule of the greatest reach
   chosen : (r : ℕ) → OfSome r → ((m : ℕ) → m < length text + 2 → OfSome m → m ≤ r) → (choice : Option (ℕ × ℕ)) × IsChoice spec condition begin text choice
   unfolding OfSome OfRule Reaches
   chosen r some most = elim (least (OfRule r) (decide_of_rule r) (length spec.rules)) as (λ _. (choice : Option (ℕ × ℕ)) × IsChoice spec condition begin text choice) [

@@ -22,7 +22,7 @@ module _ (spec : PlainSpec) (text : List ℕ) where
   is_next place None more is = record { more = more; start = refl; choice = is; alone = λ e. refl }
   is_next place (Some found) more is = record { more = more; start = refl; choice = is; alone = λ e. absurd (cc) }
 
-  -- a match is of some bytes, all of which are there
+  -- a match has at least one byte, and all its bytes exist
   takes_some : (condition : ℕ) (begin : Bool) (start : ℕ) (rest : List ℕ) (choice : Option (ℕ × ℕ)) → 0 < length rest → IsChoice spec condition begin rest choice →
       (0 < (match_of start choice).len) × ((match_of start choice).len ≤ length rest)
   unfolding match_of

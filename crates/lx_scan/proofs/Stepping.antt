@@ -1,4 +1,4 @@
--- Tables that read a text byte by byte and remember where they last accepted a rule with a token.
+-- Tables that read a text byte by byte and remember the last place at which they accepted a rule with a token.
 use Rattle.std.proofs.Common.{◌≡◌, ℕ, zero, suc, ◌+◌, ◌-◌, ◌<◌, ◌≤◌, Bool, List, [], ◌∷◌, ◌++◌, Option, Some, None, length, take, drop, refl, sym, ap, subst, ◌∙◌, arith, add-one}
 use Rattle.std.specs.Prelude.{slice_index}
 use Rattle.std.specs.Option.{option_or}
@@ -37,7 +37,7 @@ state_after_none m s text n k h none =
 
 -- ---- the last place at which a rule with a token is accepted
 module _ (table : Table) (condition : ℕ) (begin : Bool) (text : List ℕ) where
-  -- what holds once so many bytes are read
+  -- the facts once this number of bytes is read
   pub record HasRead (read state : ℕ) (last : Option (ℕ × ℕ)) : Type 0 where
     pub within : read ≤ length text
     pub known : state < state_count table.machine

@@ -1,4 +1,4 @@
--- One match of a scanner: it stays in the text, and the items go on behind it.
+-- One match of a scanner: it stays in the text, and the items continue after it.
 use Rattle.std.proofs.Common.{◌≡◌, ℕ, zero, suc, ◌+◌, ◌-◌, ◌<◌, ◌≤◌, Bool, nat_eq, List, [], ◌∷◌, ◌++◌, Option, Some, None, length, take, drop, refl, sym, ap, ap₂, subst, ◌∙◌, arith, append_assoc}
 use Rattle.std.specs.Prelude.{slice_index}
 use Rattle.std.specs.Option.{option_map, ForSome}
@@ -16,8 +16,8 @@ use Rattle.lx_scan.specs.Steps.{condition_after, items_of_steps, newlines}
 use Rattle.lx_scan.proofs.Actions.{condition_known, steps_known}
 use Rattle.lx_scan.proofs.Choosing.{by_answers, chosen_there}
 
--- ---- the rest of a text
--- behind its first byte
+-- ---- the rest of a text 
+--  after its first byte
 pub drop_tail : (text : List ℕ) (p byte : ℕ) (rest : List ℕ) → drop p text ≡ byte ∷ rest → drop (suc p) text ≡ rest
 drop_tail [] p byte rest e = absurd (let nothing : [] ≡ byte ∷ rest = sym (drop-nil p) ∙ e in cc)
 drop_tail (x ∷ text) zero byte rest e = cc
@@ -28,7 +28,7 @@ rest_more text p byte rest e =
     let long : length (drop p text) ≡ suc (length rest) = ap length e in
     omega (arith, long, length-drop p text)
 
--- where it is empty, all is taken
+-- if it is empty, all is taken
 pub rest_none : (text : List ℕ) (p : ℕ) → drop p text ≡ [] → length text ≤ p
 rest_none text p e =
     let none : length (drop p text) ≡ 0 = ap length e in
@@ -39,7 +39,7 @@ pub newlines_both : (xs ys : List ℕ) → newlines (xs ++ ys) ≡ newlines xs +
 newlines_both [] ys = omega arith
 newlines_both (x ∷ xs) ys = let more = newlines_both xs ys in omega (arith, more)
 
--- the line behind some bytes
+-- the line after some bytes
 pub line_behind : (text : List ℕ) (line start len : ℕ) → line ≡ line_at text start → line + newlines (take len (drop start text)) ≡ line_at text (start + len)
 line_behind text line start len is =
     let both : newlines (take (start + len) text) ≡ newlines (take start text) + newlines (take len (drop start text))
@@ -86,15 +86,15 @@ len_of_match m alone = at m.rule m.len alone
     at None len alone = sym (alone refl)
     at (Some r) len alone = refl
 
--- ---- items
--- A match takes the bytes up to its end: what follows are the items of the rest behind them.
+-- ---- items 
+--  A match takes the bytes up to its end; the next items are those of the rest after them.
 items_behind : (table : Table) (rest : List ℕ) (taken : ℕ) (place : Place) → items_from table rest taken place ≡ items_from table (drop taken rest) 0 place
 items_behind table [] zero place = refl
 items_behind table [] (suc taken) place = refl
 items_behind table (byte ∷ rest) zero place = refl
 items_behind table (byte ∷ rest) (suc taken) place = items_behind table rest taken place
 
--- What a scanner does at a place: the items of the match there, and then those of the rest behind it.
+-- The items from a place on: those of the match there, and then those of the rest after it.
 pub items_next : (table : Table) (rest : List ℕ) (place : Place) (choice : Option (ℕ × ℕ)) → 0 < length rest → choice ≡ choice_at table rest place → 0 < len_at choice →
     items_from table rest 0 place ≡ items_at table place choice ++ items_from table (drop (len_at choice) rest) 0 (place_after table rest place choice)
 items_next table [] place choice more is some = absurd (omega arith)
@@ -131,7 +131,7 @@ items_step table text place m next found after =
     = ap₂ (λ (r : List ℕ) (p : Place). items_from table r 0 p) there after in
     one ∙ sym (ap₂ (λ (xs ys : List Item). xs ++ ys) here more)
 
--- what stands behind a match, where the rest of the text from its place on is cut off as a slice
+-- the place after a match, if the rest of the text from the match's place on is a slice
 pub goes_on : (table : Table) (text rest : List ℕ) (place : Place) (m : Match) (next : Place) → IsTable table → rest ≡ take (length text - place.offset) (drop place.offset text) → place.offset < length text → place.condition < length table.machine.starts →
     place.line ≤ place.offset + 1 → 1 ≤ place.line → IsFound table rest place m → next.line ≤ place.line + m.len →
     next.offset ≡ place.offset + m.len → next.condition ≡ condition_after (steps_at table (choice_in m)) place.condition →

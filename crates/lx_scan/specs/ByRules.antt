@@ -1,5 +1,5 @@
--- The items of a text by the rules of a specification (XCU `lex`, "Rules in lex" and "Actions in lex"): a list of matches that runs from the text's begin to its
--- end, and what is done at each. How a match is chosen is an argument.
+-- The items of a text by the rules of a specification (XCU `lex`, "Rules in lex" and "Actions in lex"). They are given by matches that cover the text
+-- from begin to end, and by the steps at each. The choice of a match is an argument.
 use Rattle.std.specs.Prelude.{◌≡◌, ℕ, ◌+◌, ◌-◌, ◌<◌, Bool, nat_eq, List, [], ◌∷◌, ◌++◌, Option, Some, None, slice_index, slice_index_or, length, drop, take, map}
 use Rattle.lx_rules.specs.declared.rule.Step.{Step}
 use Rattle.lx_rules.specs.declared.rule.Step.TheVariants.{Echo}
@@ -12,7 +12,7 @@ use Rattle.lx_scan.specs.Items.{first_place}
 use Rattle.lx_scan.specs.Matching.{choice_in}
 use Rattle.lx_scan.specs.Steps.{condition_after, items_of_steps, newlines}
 
--- what is done at a match: a byte that no rule matches is echoed
+-- the steps at a match: a byte that no rule matches is echoed
 abbrev pub steps_of : List (List Step) → Option ℕ → List Step
 steps_of actions None = Echo ∷ []
 steps_of actions (Some rule) = slice_index_or actions rule []
@@ -24,7 +24,7 @@ pub record IsNext (Chooses : ℕ → Bool → List ℕ → Option (ℕ × ℕ) �
   pub choice : Chooses place.condition place.at_line_begin (drop place.offset text) (choice_in m)
   pub alone : m.rule ≡ None → m.len ≡ 1
 
--- Where the scanner goes on behind a match: a newline ends a line, and the next line begins behind it.
+-- The place at which the scanner continues after a match. A newline ends a line, and the next line begins after it.
 abbrev pub place_behind : List (List Step) → List ℕ → Place → Match → Place
 place_behind actions text place m = record {
   offset = place.offset + m.len;
@@ -38,13 +38,13 @@ abbrev pub Run : (ℕ → Bool → List ℕ → Option (ℕ × ℕ) → Type 0) 
 Run Chooses actions text from [] to = to ≡ from
 Run Chooses actions text from (m ∷ ms) to = IsNext Chooses text from m × Run Chooses actions text (place_behind actions text from m) ms to
 
--- what is done at the matches from a place on
+-- the items of the matches from a place on
 abbrev pub items_of_run : List (List Step) → List ℕ → Place → List Match → List Item
 items_of_run actions text place [] = []
 items_of_run actions text place (m ∷ ms) =
     items_of_steps (steps_of actions m.rule) place.line m.start m.len ++ items_of_run actions text (place_behind actions text place m) ms
 
--- The items of the text: what is done at the matches that run from its begin to its end.
+-- The items of the text: those of the matches that cover it from its begin to its end.
 pub record AreItems (Chooses : ℕ → Bool → List ℕ → Option (ℕ × ℕ) → Type 0) (actions : List (List Step)) (text : List ℕ) (items : List Item) : Type 0 where
   pub matches : List Match
   pub end : Place
@@ -52,7 +52,7 @@ pub record AreItems (Chooses : ℕ → Bool → List ℕ → Option (ℕ × ℕ)
   pub whole : end.offset ≡ length text
   pub items_are : items ≡ items_of_run actions text first_place matches
 
--- what each rule does
+-- the steps of each rule
 abbrev pub actions_of : PlainSpec → List (List Step)
 actions_of spec = map (λ rule. rule.steps) spec.rules
 

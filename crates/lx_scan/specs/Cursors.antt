@@ -16,7 +16,7 @@ abbrev pub listed : Option Item → List Item
 listed None = []
 listed (Some i) = i ∷ []
 
--- the item that a step gives of len bytes from start, which stands on this line
+-- the item that a step gives of len bytes from start, which are on this line
 abbrev pub item_of_step : Step → ℕ → ℕ → ℕ → Option Item
 item_of_step Echo line start len = Some (item.Echo line start len)
 item_of_step (Begin next) line start len = None
@@ -26,11 +26,11 @@ item_of_step (Return kind) line start len = Some (item.Token line start len kind
 abbrev pub steps_left : Table → Cursor → List Step
 steps_left table c = drop c.done (steps_at table (choice_in c.found))
 
--- the items behind it: those of the steps that are left, and then those from the place behind its match on
+-- the items after it: those of the steps that are left, and then those from the place after its match on
 abbrev pub items_left : Table → List ℕ → Cursor → List Item
 items_left table text c = items_of_steps (steps_left table c) c.line c.found.start c.found.len ++ items_after table text c.place
 
--- It stands in this text, and its rule is one of the tables.
+-- It is in this text, and its rule is one of the tables.
 pub record IsInText (table : Table) (text : List ℕ) (c : Cursor) : Type 0 where
   pub within : c.place.offset ≤ length text
   pub known : c.place.condition < length table.machine.starts

@@ -1,4 +1,4 @@
--- The ends of matches one behind the other, as a run over the joined table finds them, and the items that are made of them.
+-- The ends of consecutive matches, as a run over the joined table finds them, and the items that are made of them.
 use Rattle.std.specs.Prelude.{◌≡◌, ℕ, ◌+◌, ◌-◌, ◌<◌, ◌≤◌, nat_eq, if◌then◌else◌, List, [], ◌∷◌, ◌++◌, Option, Some, None, length, slice_index}
 use Rattle.lx_rules.specs.declared.rule.Step.{Step}
 use Rattle.lx_rules.specs.declared.rule.Step.TheVariants.{Echo}
@@ -10,11 +10,11 @@ use Rattle.lx_scan.specs.declared.place.Place.{Place}
 use Rattle.lx_scan.specs.Items.{items_after}
 use Rattle.lx_scan.specs.Steps.{items_of_steps}
 
--- the rule whose match a code says to have ended; none where a byte is echoed that no rule matches
+-- the rule of the match that ended, by its code; none if a byte is echoed that no rule matches
 abbrev pub rule_of_code : Table → ℕ → Option ℕ
 rule_of_code table code = if nat_eq code (echoed table) then None else Some (code - 1)
 
--- what is done at it
+-- the steps at it
 abbrev pub steps_of_rule : Table → Option ℕ → List Step
 steps_of_rule table None = Echo ∷ []
 steps_of_rule table (Some rule) = (rule_at table rule).steps
@@ -22,14 +22,14 @@ steps_of_rule table (Some rule) = (rule_at table rule).steps
 abbrev pub steps_of_code : Table → ℕ → List Step
 steps_of_code table code = steps_of_rule table (rule_of_code table code)
 
--- A match from this place on ended there: of a rule that is there, or a byte that no rule matches; and it gives one item at most.
+-- A match from this place on ended there, of a rule that exists, or of a byte that no rule matches. It gives at most one item.
 pub record IsEnd (table : Table) (start : ℕ) (e : End) : Type 0 where
   pub further : start < e.offset
   pub some : 0 < e.code
   pub known : e.code ≤ echoed table
   pub few : item_count (steps_of_code table e.code) ≤ 1
 
--- each of the matches begins where the one before it ended
+-- each of the matches begins at the end of the one before it
 abbrev pub AreEnds : Table → ℕ → List End → Type 0
 AreEnds table start [] = Unit {0}
 AreEnds table start (e ∷ es) = IsEnd table start e × AreEnds table e.offset es
@@ -39,7 +39,7 @@ abbrev pub items_of_ends : Table → ℕ → ℕ → List End → List Item
 items_of_ends table start line [] = []
 items_of_ends table start line (e ∷ es) = items_of_steps (steps_of_code table e.code) line start (e.offset - start) ++ items_of_ends table e.offset e.line es
 
--- where the last one ended, and on which line
+-- the end of the last one, and its line
 abbrev pub end_of : ℕ → List End → ℕ
 end_of start [] = start
 end_of start (e ∷ es) = end_of e.offset es
@@ -48,7 +48,7 @@ abbrev pub line_of : ℕ → List End → ℕ
 line_of line [] = line
 line_of line (e ∷ es) = line_of e.line es
 
--- the place behind them, under a condition
+-- the place after them, under a condition
 abbrev pub place_behind : List ℕ → Place → List End → ℕ → Place
 place_behind text place ends condition = record {
   offset = end_of place.offset ends;
@@ -57,7 +57,7 @@ place_behind text place ends condition = record {
   line = line_of place.line ends;
 }
 
--- a place at which a scanner may stand in the text
+-- a place of a scanner in the text
 pub record IsPlace (table : Table) (text : List ℕ) (place : Place) : Type 0 where
   pub within : place.offset ≤ length text
   pub known : place.condition < length table.machine.starts

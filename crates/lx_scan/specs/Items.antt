@@ -1,5 +1,5 @@
--- A mirror of the scanner: the items of a text by tables, match after match, the choice by answers at each, and what the chosen rule does. That they are the items by the
--- rules of a specification (XCU `lex`, "Rules in lex" and "Actions in lex") is a law, `items_are_by_rules`.
+-- A mirror of the scanner: the items of a text by tables, match after match. Each match is a choice by answers, with the chosen rule's steps. A law,
+-- `items_are_by_rules`, says that they are the items by the rules of a specification (XCU `lex`, "Rules in lex" and "Actions in lex").
 use Rattle.std.specs.Prelude.{ℕ, zero, suc, ◌+◌, ◌-◌, true, nat_eq, List, [], ◌∷◌, ◌++◌, Option, Some, None, slice_index, drop, take}
 use Rattle.lx_rules.specs.declared.rule.Step.{Step}
 use Rattle.lx_rules.specs.declared.rule.Step.TheVariants.{Echo}
@@ -17,12 +17,12 @@ first_place = record { offset = 0; condition = 0; at_line_begin = true; line = 1
 abbrev pub choice_at : Table → List ℕ → Place → Option (ℕ × ℕ)
 choice_at table rest place = choice_of table place.condition place.at_line_begin rest
 
--- what is done at a choice: without one the byte is echoed
+-- the steps at a choice: without one the byte is echoed
 abbrev pub steps_at : Table → Option (ℕ × ℕ) → List Step
 steps_at table None = Echo ∷ []
 steps_at table (Some found) = (rule_at table found.0).steps
 
--- how many bytes are taken at it
+-- the number of bytes taken at it
 abbrev pub len_at : Option (ℕ × ℕ) → ℕ
 len_at None = 1
 len_at (Some found) = found.1
@@ -31,7 +31,7 @@ len_at (Some found) = found.1
 abbrev pub items_at : Table → Place → Option (ℕ × ℕ) → List Item
 items_at table place choice = items_of_steps (steps_at table choice) place.line place.offset (len_at choice)
 
--- the place behind it: at line begin exactly where the last byte taken is a newline
+-- the place after it: at line begin if and only if the last byte taken is a newline
 abbrev pub place_after : Table → List ℕ → Place → Option (ℕ × ℕ) → Place
 place_after table rest place choice = record {
   offset = place.offset + len_at choice;
@@ -40,7 +40,7 @@ place_after table rest place choice = record {
   line = place.line + newlines (take (len_at choice) rest);
 }
 
--- The items of the rest of a text, where so many of its bytes were taken by the match before.
+-- The items of the rest of a text. This number of its bytes was taken by the match before.
 abbrev pub items_from : Table → List ℕ → ℕ → Place → List Item
 items_from table [] taken place = []
 items_from table (byte ∷ rest) (suc taken) place = items_from table rest taken place

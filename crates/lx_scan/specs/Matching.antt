@@ -1,4 +1,4 @@
--- What a scanner finds at a place of a text.
+-- The matches that a scanner finds at a place of a text.
 use Rattle.std.specs.Prelude.{◌≡◌, ℕ, ◌+◌, ◌<◌, ◌≤◌, ◌++◌, List, Option, None, length, drop}
 use Rattle.std.specs.Option.{option_map, ForSome}
 use Rattle.lx_tables.specs.Model.{Table}
@@ -12,7 +12,7 @@ use Rattle.lx_scan.specs.Steps.{items_of_steps}
 abbrev pub choice_in : Match → Option (ℕ × ℕ)
 choice_in m = option_map (λ rule. (rule, m.len)) m.rule
 
--- At a place with this rest of the text, which isn't empty, this match is found: the choice by the answers of the tables, or one byte alone where there is none.
+-- At a place with this non-empty rest of the text, this match is found: the choice by the answers of the tables, or one byte alone if there is none.
 pub record IsFound (table : Table) (rest : List ℕ) (place : Place) (m : Match) : Type 0 where
   pub start : m.start ≡ place.offset
   pub choice : choice_in m ≡ choice_at table rest place
@@ -22,8 +22,8 @@ pub record IsFound (table : Table) (rest : List ℕ) (place : Place) (m : Match)
   pub within : m.len ≤ length rest
   pub rule : ForSome m.rule (λ i. i < length table.rules)
 
--- At a place before the end of the text this match is found, and the scanner goes on behind it, at the next place, which is further on in the text, in a condition
--- that is there and on a line that there can be. The items from the place on are those of the match, and then those from the next place on.
+-- At a place before the end of the text this match is found, and the scanner continues at the next place. That place is further on in the text, in a
+-- condition that exists and on a possible line. The items from the place on are those of the match, and then those from the next place on.
 pub record GoesOn (table : Table) (text : List ℕ) (place : Place) (m : Match) (next : Place) : Type 0 where
   pub more : place.offset < length text
   pub found : IsFound table (drop place.offset text) place m

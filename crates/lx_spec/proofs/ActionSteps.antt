@@ -41,7 +41,7 @@ in_none _ _ _ (opened d ws rest ss e a) h = let both : opens rest ≡ no_stateme
 in_none _ _ _ (closed d ws rest ss e a) h = let both : closes rest ≡ no_statement = sym e ∙ h in cc
 in_none _ _ _ (stated d ws rest s ss e a) h = let both : states s rest ≡ no_statement = sym e ∙ h in cc
 
--- The statements read so far, where these words are left and so many braces are open.
+-- The statements read, with the words that are left and the number of open braces.
 pub record StatementsRead (whole : List Word) (depth : ℕ) (rest : List Word) (read : List Statement) : Type 0 where
   pub sound : (ss : List Statement) → AreStatements depth rest ss → AreStatements 0 whole (read ++ ss)
   pub complete : (ks : List Statement) → AreStatements 0 whole ks → (ss : List Statement) × AreStatements depth rest ss × (ks ≡ read ++ ss)
@@ -149,14 +149,14 @@ one_action text _ _ (some_statements ws ss is s) (some_statements vs ts is' t) =
     let same : vs ≡ ws = one_words text vs ws is' is in
     ap own (one_statements 0 ws ss ts s (subst (λ (l : List Word). AreStatements 0 l ts) same t))
 
--- the words from one place on, and so many further on
+-- the words from one place on, and those n further on
 pub words-further : (words : List CodeWord) (at n : ℕ) → words_view (drop n (take (length words - at) (drop at words))) ≡ words_view (drop (at + n) words)
 words-further words at n = ap (λ (l : List CodeWord). words_view (drop n l)) (take_rest words at) ∙ ap words_view (drop-drop n at words)
 
 pub words-rest : (words : List CodeWord) (at : ℕ) → words_view (take (length words - at) (drop at words)) ≡ words_view (drop at words)
 words-rest words at = ap words_view (take_rest words at)
 
--- what a turn says of the words from a place on
+-- the meaning of a turn for the words from a place on
 pub turn-opens : (words : List CodeWord) (at : ℕ) → opens (words_view (drop 1 (take (length words - at) (drop at words)))) ≡ turn_at (words_view (take (length words - at) (drop at words)))
     → opens (words_view (drop (at + 1) words)) ≡ turn_at (words_view (drop at words))
 turn-opens words at e = ap opens (sym (words-further words at 1)) ∙ e ∙ ap turn_at (words-rest words at)

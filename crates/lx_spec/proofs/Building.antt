@@ -25,7 +25,7 @@ pub last-rule : (rules : List Rule) (r : Rule) → slice_get rules (length rules
 last-rule [] r e = cc
 last-rule (x ∷ rules) r e = last-at x rules r (subst (λ (n : ℕ). slice_get (x ∷ rules) n ≡ Some r) (omega arith) e)
 
--- what is a clone of the steps of the last rule
+-- a clone of the steps of the last rule
 pub last-shared : {E : Type 0} (Q : E → Type 0) (result : Result (List Step) E) (rules : List Rule) (r : Rule) → Some r ≡ slice_get rules (length rules - 1) → MatchResult result (λ steps. steps ≡ r.action) Q →
     IfOk result (λ steps. steps ≡ steps_at_end (map rule_view rules))
 last-shared Q result rules r at clone = MatchResult-weaker result clone (λ steps e. e ∙ sym (last-rule rules r (sym at))) (λ _ _. tt)
@@ -39,13 +39,13 @@ pub before-is : (start_conditions : List StartCondition) (kinds : List (List ℕ
 before-is start_conditions kinds shared actions next e = e
 before-is start_conditions kinds (own ss) actions next e = refl
 
--- what stands from place i on, where an element stands there
+-- the elements from place i on, if there is one at that place
 pub drop-item : {X : Type 0} (xs : List X) (i : ℕ) (d : X) → i < length xs → drop i xs ≡ get_or xs i d ∷ drop (suc i) xs
 drop-item [] i d less = absurd (omega arith)
 drop-item (x ∷ xs) zero d less = refl
 drop-item (x ∷ xs) (suc i) d less = drop-item xs i d (omega arith)
 
--- what stands from place n on, where what stands before the next place is known
+-- the elements from place n on, given those before the next place
 pub drop-last : {X : Type 0} (all front : List X) (x : X) (n : ℕ) → length front ≡ n → front ++ x ∷ [] ≡ take (suc n) all → drop n all ≡ x ∷ drop (suc n) all
 drop-last {X} [] [] x zero len e = cc
 drop-last {X} (y ∷ all) [] x zero len e = let same : x ≡ y = cc in ap (λ (z : X). z ∷ all) (sym same)

@@ -28,7 +28,7 @@ fault-behind table xs ys f n e = record { case = e.case; first = first-behind (H
 pub fault-here : (table : SymbolTable) (rule : RawRule) (is_last : Bool) (cause : Cause) (more : List Case) → IsCase table (case_of rule is_last cause) cause → IsFirstFault table (case_of rule is_last cause ∷ more) (fault_of (case_of rule is_last cause))
 fault-here table rule is_last cause more h = record { case = case_of rule is_last cause; first = here (case_of rule is_last cause) more h; is = refl }
 
--- What is answered of the first list is answered of the second.
+-- The answer for the first list is that for the second.
 pub record Answers (table : SymbolTable) (rest whole : List Case) : Type 0 where
   pub none : HoldsOfNone (Holds table) rest → HoldsOfNone (Holds table) whole
   pub fault : (f : SpecFault) → IsFirstFault table rest f → IsFirstFault table whole f

@@ -1,4 +1,4 @@
--- Whether a text is an action is decided: whether it is words, and whether these are statements, turn by turn.
+-- It is decidable if a text is an action: if it is words, and if these are statements, turn by turn.
 use Rattle.std.proofs.Common.{◌≡◌, ℕ, zero, suc, ◌<◌, ◌≤◌, Bool, true, false, cond, nat_eq, Option, Some, None, List, [], ◌∷◌, length, refl, subst, arith}
 use Rattle.std.specs.Prelude.{IfSome, codes}
 use Rattle.std.specs.Cmp.Lexicographic.{pointwise}
@@ -8,9 +8,9 @@ use Rattle.lx_spec.specs.Actions.{Value, value_of, condition_of, Statement, echo
 use Rattle.lx_spec.proofs.ActionSteps.{in_finished, in_opened, in_closed, in_stated, in_none, bar-is, no_action, no_words}
 use Rattle.lx_spec.proofs.DecidingWords.{decide_words}
 
--- ---- what stands behind a turn
+-- ---- the words after a turn
 
--- fewer words than n stand behind the turn
+-- fewer than n words follow the turn
 abbrev LeavesFewer : ℕ → Turn → Type 0
 LeavesFewer n finished = Unit {0}
 LeavesFewer n (opens rest) = length rest < n
@@ -18,7 +18,7 @@ LeavesFewer n (closes rest) = length rest < n
 LeavesFewer n (states s rest) = length rest < n
 LeavesFewer n no_statement = Unit {0}
 
--- n words at most stand behind what was found
+-- at most n words follow the result
 abbrev LeavesAtMost : {X : Type 0} → ℕ → Option (X × List Word) → Type 0
 LeavesAtMost n found = IfSome found (λ f. length f.1 ≤ n)
 

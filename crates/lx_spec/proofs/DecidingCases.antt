@@ -1,4 +1,4 @@
--- Of each thing that can be wrong with a rule it is decided whether it is; so there is a first one, or none.
+-- Each fault of a rule is decidable, so there is a first one, or none.
 use Rattle.std.proofs.Common.{◌≡◌, ℕ, ◌⊎◌, inl, inr, false, List, [], ◌∷◌, subst}
 use Rattle.std.specs.List.{list_all}
 use Rattle.lx_ere.specs.Regex.{Regex, Reading}
@@ -58,7 +58,7 @@ decide_formless text d = along (λ n a is. n (a, is)) (λ n h. n h.0 h.1) (decid
 
 module _ (readings : (text : List ℕ) → ((r : Reading) × IsPattern text r) ⊎ ((r : Reading) → IsPattern text r → ⊥))
     (unique : (text : List ℕ) (r s : Reading) → IsPattern text r → IsPattern text s → r ≡ s) where
-  -- of a fact about expressions whether it holds of what a pattern reads as
+  -- it is decidable if the expression of a pattern has a property
   decide_read : (Q : Regex → Type 0) → ((tree : Regex) → Dec (Q tree)) → (text : List ℕ) → ((r : Reading) × IsPattern text r) ⊎ ((r : Reading) → IsPattern text r → ⊥) → Dec ((r : Reading) × IsPattern text r × Q r.tree)
   decide_read Q d text (inl r) = along (λ q. (r.0, r.1, q)) (λ h. subst (λ (s : Reading). Q s.tree) (unique text h.0 r.0 h.1 r.1) h.2) (d r.0.tree)
   decide_read Q d text (inr never) = no (λ h. never h.0 h.1)
@@ -83,7 +83,7 @@ module _ (readings : (text : List ℕ) → ((r : Reading) × IsPattern text r) �
 
 -- ---- the first case
 
--- the first element of which a fact holds, or it holds of none
+-- the first element that has a property, or none has it
 pub first_or_none : {A : Type 0} (P : A → Type 0) → ((a : A) → Dec (P a)) → (list : List A) → ((a : A) × IsFirst P list a) ⊎ HoldsOfNone P list
 first_or_none P d [] = inr tt
 first_or_none {A} P d (x ∷ list) = by (d x) (first_or_none P d list) where

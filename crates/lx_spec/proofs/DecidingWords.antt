@@ -1,4 +1,4 @@
--- Whether a text is words is decided, piece by piece: what stands behind a piece is shorter than the text.
+-- It is decidable if a text is words, piece by piece: the text after a piece is shorter than the text.
 use Rattle.std.proofs.Common.{◌≡◌, ℕ, zero, suc, ◌<◌, ◌≤◌, Bool, true, false, ◌||◌, cond, nat_eq, Option, Some, None, List, [], ◌∷◌, length, drop, refl, ap, arith, length-drop}
 use Rattle.std.specs.Prelude.{IfSome}
 use Rattle.std.specs.List.{prefix_len}
@@ -11,9 +11,9 @@ use Rattle.lx_spec.proofs.EscapeSteps.{LeavesAtMost, either as chosen, behind-es
 use Rattle.lx_spec.proofs.Words.{behind-more}
 use Rattle.lx_spec.proofs.WordSteps.{in_passed, in_word, in_none}
 
--- ---- what stands behind a piece
+-- ---- the text after a piece
 
--- fewer bytes than n stand behind the piece
+-- fewer than n bytes follow the piece
 abbrev LeavesBelow : ℕ → Piece → Type 0
 LeavesBelow n ended = Unit {0}
 LeavesBelow n (passed rest) = length rest < n
@@ -24,7 +24,7 @@ either : (n : ℕ) (b : Bool) (x y : Piece) → (b ≡ true → LeavesBelow n x)
 either n true x y h g = h refl
 either n false x y h g = g
 
--- n bytes at most are left, where any are
+-- at most n bytes are left, if the result has any
 abbrev NoLonger : ℕ → Option (List ℕ) → Type 0
 NoLonger n found = IfSome found (λ rest. length rest ≤ n)
 

@@ -1,11 +1,11 @@
--- What stands behind an escape is no longer than the text that it was read from.
+-- The text after an escape is no longer than the text that it was read from.
 use Rattle.std.proofs.Common.{◌≡◌, ℕ, ◌≤◌, Bool, true, false, nat_eq, cond, Option, Some, None, List, [], ◌∷◌, length, drop, sym, subst, arith, length-drop}
 use Rattle.std.specs.Prelude.{IfSome, take}
 use Rattle.std.specs.Option.{option_map}
 use Rattle.lx_ere.specs.Escapes.{is_digit, letter_byte}
 use Rattle.lx_ere.specs.Lexing.{run_len, byte_of, number_at, hexadecimal_at, other_at, letter_or_other, escape_at}
 
--- what was found leaves n bytes at most
+-- the result leaves at most n bytes
 abbrev pub LeavesAtMost : ℕ → Option (ℕ × List ℕ) → Type 0
 LeavesAtMost n found = IfSome found (λ f. length f.1 ≤ n)
 
@@ -42,6 +42,6 @@ behind-viewed : {F : Type 0} (view : F → ℕ × List ℕ) (n : ℕ) (found : O
 behind-viewed view n None h = tt
 behind-viewed view n (Some f) h = h
 
--- the same of what code found, seen by view
+-- the same for the result of the code, seen by view
 pub escape-leaves : {F : Type 0} (view : F → ℕ × List ℕ) (n : ℕ) (text : List ℕ) (found : Option F) → option_map view found ≡ escape_at text → length text ≤ n → IfSome found (λ f. length (view f).1 ≤ n)
 escape-leaves view n text found e le = behind-viewed view n found (subst (LeavesAtMost n) (sym e) (behind-escape n text le))

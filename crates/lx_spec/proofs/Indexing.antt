@@ -1,4 +1,4 @@
--- Where the first one that passes stands in a list with one element more.
+-- The place of the first element that passes, in a list with one element more.
 use Rattle.std.proofs.Common.{◌≡◌, ◌∙◌, ℕ, suc, ◌+◌, ◌<◌, ◌≤◌, Bool, true, false, not, ◌||◌, cond, nat_lt, List, [], ◌∷◌, ◌++◌, length, take, get_or, Option, Some, None, refl, ap, sym, arith, add-one}
 use Rattle.std.specs.Prelude.{is_some}
 use Rattle.std.specs.List.{list_any, position, position_or_len}
@@ -57,7 +57,7 @@ any-placed : {X : Type 0} (p : X → Bool) (xs : List X) → nat_lt (position_or
 any-placed p [] = refl
 any-placed p (x ∷ xs) = placed-behind (p x) (position_or_len p xs) (length xs) (list_any p xs) (any-placed p xs)
 
--- there is a place exactly where one passes
+-- there is a place if and only if an element passes
 pub position-any : {X : Type 0} (p : X → Bool) (xs : List X) → is_some (position p xs) ≡ list_any p xs
 position-any p xs = by (nat_lt (position_or_len p xs) (length xs)) ∙ any-placed p xs where
   by : (b : Bool) → is_some (cond b (Some (position_or_len p xs)) None) ≡ b

@@ -1,4 +1,4 @@
--- What the marks say of a rule's pattern.
+-- The meaning of the marks for a rule's pattern.
 use Rattle.std.proofs.Common.{◌≡◌, ◌∙◌, ◌↔◌, ℕ, ◌<◌, Bool, true, false, not, ◌||◌, ◌⊎◌, inl, inr, List, length, sym, ap, subst, arith}
 use Rattle.std.specs.Prelude.{IsTrue, Contains, slice_index}
 use Rattle.std.proofs.lemmas.Bool.{false≢true}
@@ -17,7 +17,7 @@ use Rattle.lx_spec.proofs.Below.{row-within, trees-length}
 pub not-true : {b : Bool} → b ≡ false → IsTrue b → ⊥
 not-true e h = false≢true (sym e ∙ h)
 
--- what a look for a mark in a row says, where the marks say something of each number
+-- the result of looking for a mark in a row, given the meaning of each mark
 pub marked-iff : (b : Bool) (row row' : List ℕ) (marks marks' : List Bool) (P : ℕ → Type 0) → row ≡ row' → marks ≡ marks' → (IsTrue b ↔ ((j : ℕ) × Contains row j × IsTrue (is_marked marks j)))
     → ((i : ℕ) → IsTrue (is_marked marks' i) ↔ P i) → IsTrue b ↔ ((j : ℕ) × Contains row' j × P j)
 marked-iff b row row' marks marks' P e f found says = (
@@ -48,7 +48,7 @@ row-marks b is tree row marks marks' e f len k less =
     let at : slice_index row k ≡ slice_index (row_of (symbols_view b).definitions tree) k = ap (λ (l : List ℕ). slice_index l k) e in
     omega (arith, same, within, at, ap length f, len)
 
--- A text has one reading at most, so that what isn't so of one is so of none.
+-- A text has at most one reading, so a property that its reading lacks is one that no reading has.
 pub no-other : (unique : (text : List ℕ) (r s : Reading) → IsPattern text r → IsPattern text s → r ≡ s) (text : List ℕ) (r : Reading) → IsPattern text r → (Q : Regex → Type 0) → (Q r.tree → ⊥)
     → ((s : Reading) × IsPattern text s × Q s.tree) → ⊥
 no-other unique text r is Q never (s, is', q) = never (subst Q (ap (λ (x : Reading). x.tree) (unique text s r is' is)) q)
@@ -58,7 +58,7 @@ pub no-unreadable : (unique : (text : List ℕ) (r s : Reading) → IsPattern te
 no-unreadable unique text r is table never (inl none) = none r is
 no-unreadable unique text r is table never (inr h) = no-other unique text r is (LeadsUnreadable table) never h
 
--- a name that isn't defined, in the expression or in what it leads to
+-- a name that isn't defined, in the expression or in a definition that it leads to
 pub undefined-some : (table : SymbolTable) (tree : Regex) (complete undefined : Bool) → complete ≡ all_defined table.definitions tree
     → (IsTrue undefined ↔ ((j : ℕ) × Contains (row_of table.definitions tree) j × Leads (mentions_of table.definitions table.trees) (incomplete_marks table.definitions table.trees) j)) → (not complete || undefined) ≡ true → LeadsUndefined table tree
 undefined-some table tree false undefined e says h = inl (sym e)

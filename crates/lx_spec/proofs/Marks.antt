@@ -1,4 +1,4 @@
--- Who mentions a definition, marks that spread from mentioner to mentioner, and depths, one mention further.
+-- The mentioners of a definition, marks that spread from mentioner to mentioner, and depths, one mention further.
 use Rattle.std.proofs.lemmas.Bool.{eqb-true, eqb-false}
 use Rattle.std.proofs.Math.ListN.{set}
 use Rattle.std.proofs.Common.{[], ◌∷◌, ◌++◌, map, replicate, ◌≡◌, ◌≢◌, ◌∙◌, ◌↔◌, get_or-set_same, get_or-set_other, nat_eq, nat_le, ℕ, zero, suc, ◌+◌, ◌<◌, ◌≤◌, min, max, Bool, true, false, ◌⊎◌, inl, inr, List, Global, length, length-append, get_or, refl, sym, ap, subst, arith}
@@ -203,7 +203,7 @@ Spreading-more ms initial marks new rest stack numbers j s each m = record {
   closed i k e false u (inl h) = absurd (false≢true (sym u ∙ h))
   closed i k e false u (inr c) = inl ((m.stack k).1 (inr (u, c)))
 
--- once the stack is empty, what leads to a mark is marked
+-- once the stack is empty, each definition that leads to a mark is marked
 pub Spreading-done : (ms : List Mention) (initial marks : List Bool) (stack : List ℕ) → Spreading ms initial marks stack → length stack ≡ 0 → (i : ℕ) → Leads ms initial i → IsTrue (is_marked marks i)
 Spreading-done ms initial marks stack s none _ (itself i h) = s.stay i h
 Spreading-done ms initial marks stack s none _ (along i j m l) = by (s.closed i j m (Spreading-done ms initial marks stack s none j l)) where
@@ -268,7 +268,7 @@ sound_zero M count i n le = none_yet M n i (omega (arith, all_zero count i))
 pub reach_zero : (M : ℕ → ℕ → Type 0) (depths : List ℕ) → Reach M depths 0
 reach_zero M depths i n le f = omega arith
 
--- an element that was read, whatever stands past the end
+-- an element that was read, with any default past the end
 pub read_at : {A : Type 0} (xs : List A) (i : ℕ) (r d : A) → i < length xs → r ≡ get_or xs i r → get_or xs i d ≡ r
 read_at [] i r d less e = absurd (omega arith)
 read_at (x ∷ xs) zero r d less e = sym e
@@ -280,7 +280,7 @@ deep_marks [] i = refl
 deep_marks (d ∷ ds) zero = refl
 deep_marks (d ∷ ds) (suc i) = deep_marks ds i
 
--- one of the numbers is marked, where the mark was found at a place; or none is
+-- one of the numbers is marked, if the mark was found at a place; or none is
 pub some_marked : (numbers : List ℕ) (marks : List Bool) (k : ℕ) → k < length numbers → is_marked marks (get_or numbers k 0) ≡ true → (j : ℕ) × Contains numbers j × IsTrue (is_marked marks j)
 some_marked numbers marks k less e = (get_or numbers k 0, Contains-get_or numbers k 0 less, e)
 

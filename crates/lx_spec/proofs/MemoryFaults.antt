@@ -1,4 +1,4 @@
--- No fault of a text is E90: it is answered for memory alone, and at line 0.
+-- No fault of a text is E90: that code is answered only if an allocation failed, and at line 0.
 use Rattle.std.proofs.Common.{◌≡◌, ◌≢◌, ◌∙◌, ℕ, zero, suc, Bool, true, false, cond, List, [], ◌∷◌, Ok, Err, Result, refl, sym, ap, subst, arith, length, nat_eq, nat_lt}
 use Rattle.std.specs.List.{list_any}
 use Rattle.std.specs.Cmp.Lexicographic.{pointwise}
@@ -67,7 +67,7 @@ fault-none text _ (too_long long) e = cc
 fault-none text _ (in_sections f short is) e = subst IsNoMemory is (entries-none (entries definitions 1 (lines text)) only_initial) e
 fault-none text _ (in_rules sections trees f short is read first) e = cause-none first.case.cause (sym (ap (λ (g : SpecFault). g.code) first.is) ∙ e)
 
--- What is a fault of the text, unless memory was refused, stands at line 0 where its code is E90.
+-- If a fault is one of the text unless it is the one of memory, and its code is E90, it is at line 0.
 pub memory-line : (text : List ℕ) (f : SpecFault) → (f ≢ out_of_memory → IsFault text f) → f.code ≡ code.Memory → f.line ≡ 0
 memory-line text f is e = by f.line (λ other. is (λ same. other (ap (λ (g : SpecFault). g.line) same))) where
   by : (n : ℕ) → ((n ≢ 0) → IsFault text f) → n ≡ 0

@@ -1,4 +1,4 @@
--- The names of an accepted specification: each is defined, and at most 32 stand in a row.
+-- The names of an accepted specification: each is defined, and at most 32 follow one another.
 use Rattle.std.proofs.Common.{◌≡◌, ◌∙◌, inl, ℕ, zero, suc, ◌+◌, Bool, true, false, not, cond, nat_eq, nat_lt, List, [], ◌∷◌, length, map, get_or, Option, Some, None, refl, ap, sym, subst, arith}
 use Rattle.std.specs.Prelude.{IsTrue, Contains, slice_get, is_some}
 use Rattle.std.specs.List.{list_all, filter_map, cons_option, position, position_or_len}
@@ -25,7 +25,7 @@ use Rattle.lx_spec.proofs.Words.{pick_first, pick_second}
 use Rattle.lx_spec.proofs.Conjunctions.{both, left-of, right-of}
 use Rattle.lx_spec.proofs.Reached.{safe-patterns, reached-complete}
 
--- the place of the first that passes, where the front one does, and where it doesn't
+-- the place of the first that passes: if the front element does, and if it doesn't
 place-first : {X : Type 0} (p : X → Bool) (x : X) (xs : List X) (j : ℕ) → p x ≡ true → position p (x ∷ xs) ≡ Some j → j ≡ 0
 place-first p x xs j e h =
     let n : position_or_len p (x ∷ xs) ≡ 0 = ap (λ (b : Bool). cond (not b) (1 + position_or_len p xs) 0) e in
@@ -56,7 +56,7 @@ place-later p x xs j e h = by (nat_lt n (length xs)) refl where
       let same : None ≡ Some j = sym (pick_second _ _ t') ∙ at in
       cc
 
--- a name that is defined finds the tree of its definition, where that is reached
+-- a defined name finds the tree of its definition, if that one is reached
 pub tree-found : (R : ℕ → Type 0) (i : ℕ) (raw_definitions : List RawDefinition) (trees : List (Option Regex)) (ds : List PlainDefinition) (name : List ℕ) (j : ℕ)
     → AreReached R i raw_definitions trees ds → number_of raw_definitions name ≡ Some j → R (i + j) → (u : Regex) × (tree_named ds name ≡ Some u) × (slice_get trees j ≡ Some (Some u))
 tree-found R _ _ _ _ name j (none i) e r = cc
@@ -91,7 +91,7 @@ tree-found R _ _ _ _ name j (passed i d t raw_definitions trees ds never are) e 
 contains-map : {X Y : Type 0} (f : X → Y) (xs : List X) (x : X) → Contains xs x → Contains (map f xs) (f x)
 contains-map f xs x (k, less, e) = (k, omega (arith, length-map xs f), get_or-map f xs k x ∙ ap f e)
 
--- what stands in the row of a definition is mentioned by it
+-- a definition mentions the elements of its row
 mention-in : (raw_definitions : List RawDefinition) (i : ℕ) (trees : List (Option Regex)) (j : ℕ) (u : Regex) (k : ℕ) → slice_get trees j ≡ Some (Some u) → Contains (row_of raw_definitions u) k → Contains (mentions_from raw_definitions i trees) (mention_of (i + j) k)
 mention-in raw_definitions i [] j u k at in_row = cc
 mention-in raw_definitions i (t ∷ trees) zero u k at in_row =
@@ -126,7 +126,7 @@ not-false false e = cc
 complete-at : (raw_definitions : List RawDefinition) (trees : List (Option Regex)) (j : ℕ) (u : Regex) → slice_get trees j ≡ Some (Some u) → is_marked (incomplete_marks raw_definitions trees) j ≡ false → all_defined raw_definitions u ≡ true
 complete-at raw_definitions trees j u at e = not-false (all_defined raw_definitions u) (sym (mark-of (is_incomplete raw_definitions) trees j (Some u) at) ∙ e)
 
--- names that are defined, each of which finds a tree of which something holds
+-- names that are defined, if each finds a tree that has a property
 names-hold : (raw_definitions : List RawDefinition) (ds : List PlainDefinition) (p : Regex → Bool) (names : List (List ℕ)) → IsTrue (list_all (λ name. is_some (number_of raw_definitions name)) names)
     → ((name : List ℕ) (j : ℕ) → number_of raw_definitions name ≡ Some j → Contains (filter_map (number_of raw_definitions) names) j → IsTrue (holds_of p (tree_named ds name))) → IsTrue (list_all (λ name. holds_of p (tree_named ds name)) names)
 names-hold raw_definitions ds p [] defined each = refl
@@ -156,7 +156,7 @@ no-names raw_definitions (name ∷ names) defined never = by (number_of raw_defi
 
 module _ (raw_definitions : List RawDefinition) (trees : List (Option Regex)) (from : List Regex) (ds : List PlainDefinition) (are : AreReached (IsReached raw_definitions trees from) 0 raw_definitions trees ds)
     (complete : (i : ℕ) → IsReached raw_definitions trees from i → is_marked (incomplete_marks raw_definitions trees) i ≡ false) where
-  -- an expression whose names are defined and reached, and behind which not so many stand in a row
+  -- an expression whose names are defined and reached, if fewer names follow one another after it
   pub within : (n : ℕ) (tree : Regex) → all_defined raw_definitions tree ≡ true → ((j : ℕ) → Contains (row_of raw_definitions tree) j → IsReached raw_definitions trees from j)
       → ((j : ℕ) → Contains (row_of raw_definitions tree) j → Follow (IsMention (mentions_of raw_definitions trees)) n j → ⊥) → IsTrue (is_within n ds tree)
   within zero tree defined reach never = no-names raw_definitions (names_of tree) defined (λ j at. never j at tt)
@@ -174,7 +174,7 @@ not-false_then : (b : Bool) → (b ≡ false → ⊥) → b ≡ true
 not-false_then true never = refl
 not-false_then false never = absurd (never refl)
 
--- In an accepted specification each name is defined, and at most 32 stand in a row.
+-- In an accepted specification each name is defined, and at most 32 follow one another.
 pub nested : (table : SymbolTable) (raws : List RawRule) (resolved : List ResolvedRule) (ds : List PlainDefinition) → HoldsOfNone (Holds table) (cases raws) → AreResolved table.start_conditions raws resolved
     → AreReached (IsReached table.definitions table.trees (patterns_in resolved)) 0 table.definitions table.trees ds → IsTrue (are_nested ds (patterns_in resolved))
 unfolding are_nested

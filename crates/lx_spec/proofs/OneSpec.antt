@@ -58,7 +58,7 @@ module _ (unique : (text : List ℕ) (r s : Reading) → IsPattern text r → Is
   one_resolved start_conditions (raw ∷ raws) (s ∷ resolved) [] a b = absurd b
   one_resolved start_conditions (raw ∷ raws) (s ∷ resolved) (t ∷ others) a b = ap (λ (x : ResolvedRule). x ∷ resolved) (one_rule_resolved start_conditions raw s t a.0 b.0) ∙ ap (λ (l : List ResolvedRule). t ∷ l) (one_resolved start_conditions raws resolved others a.1 b.1)
 
--- What rules say makes one specification.
+-- Resolved rules make one specification.
 pub one_spec-of : (table : SymbolTable) (raws : List RawRule) (resolved : List ResolvedRule) (s t : PlainSpec) → AreSpec table raws resolved s → AreSpec table raws resolved t → s ≡ t
 one_spec-of table raws resolved s t a b =
     spec-same s t (a.conditions ∙ sym b.conditions) (one_reached (IsReached table.definitions table.trees (patterns_in resolved)) 0 table.definitions table.trees s.definitions t.definitions a.definitions b.definitions) (a.kinds ∙ sym b.kinds) (a.rules ∙ sym b.rules)

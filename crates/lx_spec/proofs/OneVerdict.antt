@@ -26,7 +26,7 @@ one-fault-of : (table : SymbolTable) (list : List Case) (e f : SpecFault) → Is
 one-fault-of table list e f a b = a.is ∙ ap fault_of (one-first (Holds table) list a.case b.case a.first b.first) ∙ sym b.is
 
 module _ (one_substitute : (text : List ℕ) (r s : Regex) → IsSubstitute text r → IsSubstitute text s → r ≡ s) where
-  -- what is said over the trees of the sections is said over any others
+  -- a fact about the trees of the sections is one about any others
   moved : (R : ParsedSections → List (Option Regex) → Type 0) (sections other : ParsedSections) (trees others : List (Option Regex)) → other ≡ sections → AreTrees sections.definitions trees → AreTrees other.definitions others → R other others → R sections trees
   moved R sections other trees others same read read_too r =
       let there = subst (λ (s : ParsedSections). AreTrees s.definitions others) same read_too in
@@ -60,7 +60,7 @@ module _ (one_substitute : (text : List ℕ) (r s : Regex) → IsSubstitute text
       let there = moved (λ s ts. IsFirstFault (symbols_of s ts) (cases s.rules) f) r.sections sections r.trees trees same r.read read first in
       none-first (Holds (symbols_of r.sections r.trees)) (cases r.sections.rules) there.case r.clean there.first
 
--- what the rules of the sections say of a specification
+-- the meaning of the sections' rules for a specification
 record IsSpecOf (spec : PlainSpec) (sections : ParsedSections) (trees : List (Option Regex)) : Type 0 where
   resolved : List ResolvedRule
   resolves : AreResolved sections.start_conditions sections.rules resolved

@@ -102,7 +102,7 @@ same-expressions start_conditions kinds raws resolved rules are e = ap expressio
   resolves (raw ∷ raws) [] are = absurd are
   resolves (raw ∷ raws) (s ∷ resolved) are = ap (λ (l : List Regex). s.reading.tree ∷ l) (resolves raws resolved are.1)
 
--- definitions that are reached have distinct names, where all have
+-- the reached definitions have distinct names, if all have
 definitions-among : (Reached : ℕ → Type 0) (i : ℕ) (raw_definitions : List RawDefinition) (trees : List (Option Regex)) (definitions : List PlainDefinition) (n : List ℕ) → AreReached Reached i raw_definitions trees definitions →
     list_any (λ other. pointwise nat_eq other n) (map (λ d. d.name) raw_definitions) ≡ false → list_any (λ other. pointwise nat_eq other n) (map (λ d. d.name) definitions) ≡ false
 definitions-among R _ _ _ _ n (none i) h = refl

@@ -17,7 +17,7 @@ use Rattle.lx_spec.specs.Verdict.{SymbolTable, Holds, LeadsUnreadable, LeadsUnde
 use Rattle.lx_spec.specs.declared.graph.Mention.{Mention}
 use Rattle.lx_spec.proofs.Below.{row-below}
 
--- the elements of lists that stand one behind the other
+-- the elements of concatenated lists
 contains-joined : {X Y : Type 0} (f : X → List Y) (xs : List X) (x : X) (y : Y) → Contains xs x → Contains (f x) y → Contains (flat_map f xs) y
 contains-joined f [] x y (k, less, e) h = absurd (omega arith)
 contains-joined f (z ∷ xs) x y at h = by (Contains-append_cases (z ∷ []) xs x at) (λ more. contains-joined f xs x y more h) where
@@ -33,7 +33,7 @@ contained-of_joined {X} f (z ∷ xs) y at = by (Contains-append_cases (f z) (fla
   by (inl h) behind = (z, Contains-append_left (z ∷ []) xs z (0, omega arith, refl), h)
   by (inr h) behind = let w = behind h in (w.0, Contains-append_right (z ∷ []) xs w.0 w.1, w.2)
 
--- the mention of what mentions by what is mentioned
+-- the reversed mention
 abbrev pub turned : Mention → Mention
 turned m = mention_of m.to m.from
 
@@ -87,7 +87,7 @@ all-joined raw_definitions (tree ∷ from) = all-append (λ j. j < length raw_de
 pub rows-within : (raw_definitions : List RawDefinition) (from : List Regex) (k : ℕ) → k < length (flat_map (row_of raw_definitions) from) → slice_index (flat_map (row_of raw_definitions) from) k < length raw_definitions
 rows-within raw_definitions from k less = All-from_recursion (λ j. j < length raw_definitions) (flat_map (row_of raw_definitions) from) (all-joined raw_definitions from) k 0 less
 
--- one definition more, where they stand in the other order
+-- one definition more, given the reached ones in reverse order
 pub marked-push : (R : ℕ → Type 0) (i : ℕ) (d : RawDefinition) (more : List RawDefinition) (o : Option Regex) (t : Regex) (trees : List (Option Regex)) (old new : List PlainDefinition) (name : List ℕ)
     → R i → o ≡ Some t → name ≡ d.name → new ≡ record { name = name; tree = t } ∷ old → AreReached R (suc i) more trees old → AreReached R i (d ∷ more) (o ∷ trees) new
 marked-push R i d more o t trees old new name r is same e are =
@@ -98,7 +98,7 @@ marked-push R i d more o t trees old new name r is same e are =
 pub backwards-push : {X Y : Type 0} (f : X → Y) (old new : List X) (x : X) → new ≡ old ++ x ∷ [] → map f (reverse new) ≡ f x ∷ map f (reverse old)
 backwards-push f old new x e = ap (λ l. map f (reverse l)) e ∙ ap (map f) (reverse-append old (x ∷ []))
 
--- behind all definitions none is left
+-- after all definitions none is left
 pub reached-none : (R : ℕ → Type 0) (n : ℕ) (raw_definitions : List RawDefinition) (trees : List (Option Regex)) → length raw_definitions ≤ n → length trees ≤ n → AreReached R n (drop n raw_definitions) (drop n trees) []
 reached-none R n raw_definitions trees a b =
     subst (λ (ds : List RawDefinition). AreReached R n ds (drop n trees) []) (sym (drop_all n raw_definitions a)) (subst (λ (ts : List (Option Regex)). AreReached R n [] ts []) (sym (drop_all n trees b)) (none n))
@@ -107,7 +107,7 @@ no_end : {X : Type 0} (new : List X) (x : X) → [] ≡ new ++ x ∷ [] → ⊥
 no_end [] x e = cc
 no_end (z ∷ new) x e = cc
 
--- those from one place on, where those behind it are known
+-- those from one place on, given those after it
 pub reached-before : (R : ℕ → Type 0) (i : ℕ) (d : RawDefinition) (raw_definitions : List RawDefinition) (o : Option Regex) (trees : List (Option Regex)) (old new : List PlainDefinition) (n : ℕ) → n ≡ suc i
     → drop i raw_definitions ≡ d ∷ drop (suc i) raw_definitions → drop i trees ≡ o ∷ drop (suc i) trees → AreReached R n (drop n raw_definitions) (drop n trees) old → (k : ℕ) → k ≡ i
     → ((more : List RawDefinition) (ts : List (Option Regex)) → AreReached R (suc k) more ts old → AreReached R k (d ∷ more) (o ∷ ts) new) → AreReached R i (drop i raw_definitions) (drop i trees) new
@@ -116,7 +116,7 @@ reached-before R i d raw_definitions o trees old new n one at_d at_o are k same 
     let step = subst (λ (m : ℕ). (more : List RawDefinition) (ts : List (Option Regex)) → AreReached R (suc m) more ts old → AreReached R m (d ∷ more) (o ∷ ts) new) same before in
     subst (λ (ds : List RawDefinition). AreReached R i ds (drop i trees) new) (sym at_d) (subst (λ (ts : List (Option Regex)). AreReached R i (d ∷ drop (suc i) raw_definitions) ts new) (sym at_o) (step (drop (suc i) raw_definitions) (drop (suc i) trees) behind))
 
--- the last of the first so many
+-- the last of the first n elements
 pub popped : {X : Type 0} (xs new : List X) (x : X) (n : ℕ) → take n xs ≡ new ++ x ∷ [] → (new ≡ take (length new) xs) × (drop (length new) xs ≡ x ∷ drop (suc (length new)) xs)
 popped [] new x zero e = absurd (no_end new x e)
 popped [] new x (suc n) e = absurd (no_end new x e)
@@ -144,7 +144,7 @@ drop-at [] i less = absurd (omega arith)
 drop-at (x ∷ xs) zero less = (x, refl, refl)
 drop-at (x ∷ xs) (suc i) less = drop-at xs i (omega arith)
 
--- The list is the same where the same numbers are reached.
+-- The list is the same if the same numbers are reached.
 pub reached-same : (R Q : ℕ → Type 0) (i : ℕ) (raw_definitions : List RawDefinition) (trees : List (Option Regex)) (ds : List PlainDefinition) → ((j : ℕ) → R j ↔ Q j) → AreReached R i raw_definitions trees ds → AreReached Q i raw_definitions trees ds
 reached-same R Q _ _ _ _ same (none i) = none i
 reached-same R Q _ _ _ _ same (reached i d tree raw_definitions trees ds r are) = reached i d tree raw_definitions trees ds ((same i).0 r) (reached-same R Q (suc i) raw_definitions trees ds same are)
@@ -155,7 +155,7 @@ reached-few R _ _ _ _ (none i) = omega arith
 reached-few R _ _ _ _ (reached i d tree raw_definitions trees ds r are) = let h = reached-few R (suc i) raw_definitions trees ds are in let table : suc (length ds) ≤ suc (length raw_definitions) = omega arith in table
 reached-few R _ _ _ _ (passed i d t raw_definitions trees ds never are) = let h = reached-few R (suc i) raw_definitions trees ds are in let table : length ds ≤ suc (length raw_definitions) = omega arith in table
 
--- No fault of what an expression leads to: each substitute has a reading, each name is defined, and at most 32 stand in a row.
+-- The definitions that an expression leads to have no fault: each substitute has a reading, each name is defined, and at most 32 follow one another.
 pub record IsSafe (table : SymbolTable) (tree : Regex) : Type 0 where
   pub unreadable : LeadsUnreadable table tree → ⊥
   pub undefined : LeadsUndefined table tree → ⊥
@@ -179,7 +179,7 @@ safe-patterns table (raw ∷ raws) (s ∷ resolved) clean are tree at =
     by (inl (suc k, less, e)) this behind = absurd (omega arith)
     by (inr more) this behind = behind more
 
--- where no pattern leads to a mark, nothing does that is reached
+-- if no pattern leads to a mark, no reached definition does
 pub never-led : (raw_definitions : List RawDefinition) (trees : List (Option Regex)) (from : List Regex) (marks : List Bool)
     → ((tree : Regex) → Contains from tree → ((j : ℕ) × Contains (row_of raw_definitions tree) j × Leads (mentions_of raw_definitions trees) marks j) → ⊥)
     → (i : ℕ) → IsReached raw_definitions trees from i → Leads (mentions_of raw_definitions trees) marks i → ⊥
@@ -194,12 +194,12 @@ never-marked raw_definitions trees from marks never i r = by (is_marked marks i)
   by true e = absurd (never-led raw_definitions trees from marks never i r (itself i e))
   by false e = e
 
--- What rules without a fault reach has a reading.
+-- A definition that rules without a fault reach has a reading.
 pub reached-readable : (table : SymbolTable) (raws : List RawRule) (resolved : List ResolvedRule) → HoldsOfNone (Holds table) (cases raws) → AreResolved table.start_conditions raws resolved
     → (i : ℕ) → IsReached table.definitions table.trees (patterns_in resolved) i → is_marked (unreadable_marks table.trees) i ≡ false
 reached-readable table raws resolved clean are = never-marked table.definitions table.trees (patterns_in resolved) (unreadable_marks table.trees) (λ tree at. (safe-patterns table raws resolved clean are tree at).unreadable)
 
--- What rules without a fault reach names what is defined.
+-- A definition that rules without a fault reach has only defined names.
 pub reached-complete : (table : SymbolTable) (raws : List RawRule) (resolved : List ResolvedRule) → HoldsOfNone (Holds table) (cases raws) → AreResolved table.start_conditions raws resolved
     → (i : ℕ) → IsReached table.definitions table.trees (patterns_in resolved) i → is_marked (incomplete_marks table.definitions table.trees) i ≡ false
 reached-complete table raws resolved clean are = never-marked table.definitions table.trees (patterns_in resolved) (incomplete_marks table.definitions table.trees) (λ tree at l. (safe-patterns table raws resolved clean are tree at).undefined (inr l))

@@ -1,4 +1,4 @@
--- The definitions that were read so far.
+-- The definitions that were read.
 use Rattle.std.proofs.Common.{◌≡◌, ℕ, zero, suc, ◌+◌, ◌≤◌, Bool, List, [], ◌∷◌, ◌++◌, length, map, take, Option, Some, refl, ap, sym, subst, ◌∙◌, append_assoc, arith, add-one, length-append}
 use Rattle.std.specs.Prelude.{slice_get}
 use Rattle.std.proofs.lemmas.List.{append-nil, map_push}
@@ -8,7 +8,7 @@ use Rattle.lx_spec.specs.Dictionary.{IsTreeOf, AreTrees, mentions_in, mentions_f
 use Rattle.lx_spec.specs.views.Dictionaries.{Known, AddsTree, IsDictionary}
 use Rattle.lx_spec.specs.declared.graph.Mention.{Mention}
 
--- The first so many definitions were read.
+-- The first i definitions were read.
 pub record ReadSome (raw_definitions : List RawDefinition) (i : ℕ) (known : Known) : Type 0 where
   pub count : length known.trees ≡ i
   pub trees : AreTrees (take i raw_definitions) known.trees

@@ -1,4 +1,4 @@
--- The kinds that rules return, and where they stand in the list of kinds.
+-- The kinds that rules return, and their places in the list of kinds.
 use Rattle.std.proofs.Common.{◌≡◌, ◌∙◌, ℕ, suc, ◌+◌, ◌<◌, Bool, true, false, cond, not, ◌||◌, nat_eq, nat_lt, List, [], ◌∷◌, ◌++◌, length, Option, Some, None, refl, ap, sym, subst, append_assoc, arith}
 use Rattle.std.specs.Prelude.{IsTrue, unwrap_or}
 use Rattle.std.specs.List.{list_all, list_any, position, position_or_len, flat_map}
@@ -46,7 +46,7 @@ with-more kinds (Some (name text)) = by (is_found kinds text) where
   by true = ([], sym (append-nil kinds))
   by false = (text ∷ [], refl)
 
--- the kinds before stay where they stand
+-- the kinds before keep their places
 pub kinds-more : (lists : List (List Statement)) (kinds : List (List ℕ)) → (more : List (List ℕ)) × (kinds_behind kinds lists ≡ kinds ++ more)
 kinds-more [] kinds = ([], sym (append-nil kinds))
 kinds-more (ss ∷ lists) kinds =
@@ -80,7 +80,7 @@ kinds-identifiers (ss ∷ lists) kinds are h =
     kinds-identifiers lists (with_kind kinds (returned_by ss)) (right-of (are_statements ss) (list_all are_statements lists) are)
     (with-identifiers kinds (returned_by ss) (λ v e. is-returned ss v (left-of (are_statements ss) (list_all are_statements lists) are) e) h)
 
--- where the first of a list stands for which a test passes
+-- the place of the first element of a list that passes a test
 found-below : {X : Type 0} (p : X → Bool) (xs : List X) → list_any p xs ≡ true → position_or_len p xs < length xs
 found-below p [] e = cc
 found-below p (x ∷ xs) e = by (p x) e (found-below p xs) where
@@ -152,12 +152,12 @@ with-same kinds (Some (name text)) = by (is_found kinds text) refl where
   by true e = ap (λ (b : Bool). cond b kinds (kinds ++ text ∷ [])) e
   by false e = ap (λ (b : Bool). cond b (kinds ++ text ∷ []) ((kinds ++ text ∷ []) ++ text ∷ [])) (pushed-found kinds text)
 
--- what the first of some rules returns is found behind
+-- the kind of the first of some rules is found again
 first-again : (resolved : List ResolvedRule) (kinds : List (List ℕ)) → kinds_behind (with_kind kinds (returned_by (first_own (actions_in resolved)))) (statements_in resolved) ≡ kinds_behind kinds (statements_in resolved)
 first-again [] kinds = refl
 first-again (s ∷ resolved) kinds = ap (λ (k : List (List ℕ)). kinds_behind k (statements_in resolved)) (with-same kinds (returned_by (first_own (actions_in (s ∷ resolved)))))
 
--- one more rule, whose own action was looked at
+-- one more rule, whose own action was taken
 pub kinds-own : (resolved : List ResolvedRule) (s : ResolvedRule) (kinds : List (List ℕ)) →
     kinds_behind (with_kind kinds (returned_by (first_own (s.action ∷ [])))) (statements_in resolved) ≡ kinds_behind kinds (statements_in (s ∷ resolved))
 kinds-own resolved s kinds = by s.action where
@@ -178,14 +178,14 @@ found-more (k ∷ kinds) more text e = by (pointwise nat_eq k text) e (found-mor
   by true e rest = refl
   by false e rest = rest e
 
--- what some statements return is one of the kinds in the end
+-- the kind that some statements return is one of the kinds in the end
 pub returned-found : (ss : List Statement) (lists : List (List Statement)) (kinds : List (List ℕ)) (text : List ℕ) → returned_by ss ≡ Some (name text) → is_found (kinds_behind (with_kind kinds (returned_by ss)) lists) text ≡ true
 returned-found ss lists kinds text e =
     let rest = kinds-more lists (with_kind kinds (returned_by ss)) in
     ap (λ (l : List (List ℕ)). is_found l text) rest.1
     ∙ found-more (with_kind kinds (returned_by ss)) rest.0 text (ap (λ (o : Option Value). is_found (with_kind kinds o) text) e ∙ with-found kinds text)
 
--- the number of a value's kind, where it has one
+-- the number of a value's kind, if it has one
 abbrev numbers_in : List (List ℕ) → Option Value → List ℕ
 numbers_in kinds None = []
 numbers_in kinds (Some (number n)) = []

@@ -21,7 +21,7 @@ use Rattle.lx_spec.proofs.DecidingCases.{decide_case, first_or_none}
 use Rattle.lx_spec.proofs.Reached.{reached-readable}
 use Rattle.lx_spec.proofs.Walking.{decide_reached}
 
--- ---- what the substitutes read as
+-- ---- the readings of the substitutes
 
 some_tree : (text : List ℕ) → ((u : Regex) × IsSubstitute text u) ⊎ ((u : Regex) → IsSubstitute text u → ⊥) → (t : Option Regex) × IsTreeOf text t
 some_tree text (inl u) = (Some u.0, u.1)
@@ -34,7 +34,7 @@ some_trees substitutes (d ∷ raw_definitions) =
     let more = some_trees substitutes raw_definitions in
     (t.0 ∷ more.0, (t.1, more.1))
 
--- ---- what the rules say, where nothing is wrong with them
+-- ---- the resolved rules, if they have no fault
 
 its_reading : (text : List ℕ) → ((r : Reading) × IsPattern text r) ⊎ ((r : Reading) → IsPattern text r → ⊥) → (((r : Reading) → IsPattern text r → ⊥) → ⊥) → (r : Reading) × IsPattern text r
 its_reading text (inl r) some = r
@@ -70,7 +70,7 @@ some_definitions R decided i (d ∷ raw_definitions) (t ∷ trees) are readable 
     one_more R i d raw_definitions t trees (decided i) (readable i 0 (omega arith))
     (some_definitions R decided (suc i) raw_definitions trees are.1 (λ j k e r. readable j (suc k) (omega (arith, e)) r))
 
--- the specification that rules say of which no case holds
+-- the specification of rules that have no fault
 some_spec : (table : SymbolTable) (raws : List RawRule) (resolved : List ResolvedRule) → AreTrees table.definitions table.trees → HoldsOfNone (Holds table) (cases raws) → AreResolved table.start_conditions raws resolved →
     (spec : PlainSpec) × AreSpec table raws resolved spec
 some_spec table raws resolved read clean resolves =

@@ -1,4 +1,5 @@
--- Whether mentions lead from a definition to a mark, how many more names follow, and what is reached: each is decided, one mention after the other.
+-- Three facts are decidable, one mention after the other: if mentions lead from a definition to a mark, the number of names that follow, and the
+-- reached definitions.
 use Rattle.std.proofs.Common.{◌≡◌, ℕ, zero, suc, ◌<◌, ◌⊎◌, inl, inr, Bool, List, [], ◌∷◌, Option, length, get_or, Contains, refl, sym, subst, arith}
 use Rattle.std.specs.Prelude.{IsTrue}
 use native.Mathlib.Decide.{ℕ_discrete}
@@ -72,7 +73,7 @@ decide_walks : (ms : List Mention) (P : ℕ → Type 0) → ((i : ℕ) → Dec (
 decide_walks [] P d i = alike (ends i) (stays P i) (d i)
 decide_walks (e ∷ ms) P d i = decide_parts e ms P i (decide_walks ms P d i) (decide_walks ms (λ k. k ≡ e.from) (λ k. ℕ_discrete k e.from) i) (decide_walks ms P d e.to)
 
--- ---- what leads to a mark
+-- ---- the definitions that lead to a mark
 
 abbrev Marked : List Bool → ℕ → Type 0
 Marked marks k = IsTrue (is_marked marks k)
@@ -88,9 +89,9 @@ leads_walk ms marks _ (along i j m l) = steps i j m (leads_walk ms marks j l)
 pub decide_leads : (ms : List Mention) (marks : List Bool) (i : ℕ) → Dec (Leads ms marks i)
 decide_leads ms marks i = alike (walks_lead ms marks i) (leads_walk ms marks i) (decide_walks ms (Marked marks) (λ k. decide_true (is_marked marks k)) i)
 
--- ---- how many more names follow
+-- ---- the number of names that follow
 
--- mention k is one by definition i, and so many more names follow what it mentions
+-- mention k is one by definition i, and n more names follow the mentioned one
 abbrev FollowsAt : List Mention → ℕ → ℕ → ℕ → Type 0
 FollowsAt ms n i k = ((get_or ms k nowhere).from ≡ i) × Follow (IsMention ms) n (get_or ms k nowhere).to
 
@@ -106,7 +107,7 @@ decide_follow ms (suc n) i =
     alike (λ h. follows ms n i h.0 h.1 h.2) (λ h. follows_at ms n i h.0 h.1 h.2)
     (decide_below (FollowsAt ms n i) (λ k. both (ℕ_discrete (get_or ms k nowhere).from i) (decide_follow ms n (get_or ms k nowhere).to)) (length ms))
 
--- ---- what is reached
+-- ---- the reached definitions
 
 one_further : (ms : List Mention) (i j : ℕ) → IsMention ms i j → (s : ℕ) → Walks ms (λ k. k ≡ i) s → Walks ms (λ k. k ≡ j) s
 one_further ms i j m _ (ends s is) = steps s j (subst (λ (k : ℕ). IsMention ms k j) (sym is) m) (ends j refl)

@@ -27,7 +27,7 @@ in_ended _ _ (none text e) h = refl
 in_ended _ _ (behind_passed text rest ws e a) h = let both : passed rest ≡ ended = sym e ∙ h in cc
 in_ended _ _ (behind_word text rest v ws e a) h = let both : word v rest ≡ ended = sym e ∙ h in cc
 
--- The words read so far, where this text is left.
+-- The words read, with the text that is left.
 pub record Reached (text rest : List ℕ) (read : List Word) : Type 0 where
   pub sound : (ws : List Word) → AreWords rest ws → AreWords text (read ++ ws)
   pub complete : (ks : List Word) → AreWords text ks → (ws : List Word) × AreWords rest ws × (ks ≡ read ++ ws)

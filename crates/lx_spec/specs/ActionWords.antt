@@ -16,12 +16,12 @@ pub data Word : Type 0 where
   open_group : Word
   close_group : Word
 
--- what stands at the front of a text
+-- the front of a text
 pub data Piece : Type 0 where
   ended : Piece
-  -- a blank, a line's end or a comment, and the text behind it
+  -- a blank, a line's end or a comment, and the text after it
   passed : (rest : List ℕ) → Piece
-  -- a word, and the text behind it
+  -- a word, and the text after it
   word : (w : Word) (rest : List ℕ) → Piece
   no_word : Piece
 
@@ -44,7 +44,7 @@ abbrev pub constant_or_none : Option (ℕ × List ℕ) → Piece
 constant_or_none None = no_word
 constant_or_none (Some (b, rest)) = word (byte b) rest
 
--- The text behind the first `*/`, where there is one.
+-- The text after the first `*/`, if there is one.
 abbrev pub behind_comment : List ℕ → Option (List ℕ)
 behind_comment [] = None
 behind_comment (c ∷ text) = if begins_with 42 47 (c ∷ text) then Some (drop 1 text) else behind_comment text
@@ -56,7 +56,7 @@ passed_or_none (Some rest) = passed rest
 abbrev pub is_no_newline : ℕ → Bool
 is_no_newline c = not (nat_eq c 10)
 
--- a comment over lines, from behind its `/` on
+-- a comment over lines, from after its `/` on
 abbrev pub comment_at : List ℕ → Piece
 comment_at [] = no_word
 comment_at (c ∷ text) = passed_or_none (behind_comment text)

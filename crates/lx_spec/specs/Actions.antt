@@ -1,4 +1,4 @@
--- Actions: their statements, and what is kept of them (XCU `lex`, "Actions in lex").
+-- Actions: their statements, and the parts of them that are kept (XCU `lex`, "Actions in lex").
 use Rattle.std.specs.Prelude.{◌≡◌, ℕ, suc, Bool, true, false, not, ◌&&◌, ◌||◌, nat_eq, if◌then◌else◌, List, [], ◌∷◌, Option, Some, None, codes}
 use Rattle.std.specs.List.{list_all}
 use Rattle.std.specs.Cmp.Lexicographic.{pointwise}
@@ -8,7 +8,7 @@ use Rattle.lx_spec.specs.Lines.{is_empty}
 use Rattle.lx_spec.specs.Constants.{decimal_below}
 use Rattle.lx_spec.specs.ActionWords.{Word, letters, byte, bar, semicolon, open_brace, close_brace, open_group, close_group, AreWords}
 
--- what is returned, as it stands in the text
+-- a returned value, as the text has it
 pub data Value : Type 0 where
   name : (text : List ℕ) → Value
   number : (n : ℕ) → Value
@@ -33,7 +33,7 @@ abbrev pub letters_value : List ℕ → Option Value
 letters_value text =
     if is_identifier text then Some (name text) else if is_decimal text then number_or_none (decimal_below returned_number_limit text) else None
 
--- what a word is where a value is asked for
+-- the value of a word that is returned
 abbrev pub value_of : Word → Option Value
 value_of (letters text) = letters_value text
 value_of (byte b) = Some (number b)
@@ -48,7 +48,7 @@ value_of close_group = None
 abbrev pub is_condition_name : List ℕ → Bool
 is_condition_name text = is_identifier text || pointwise nat_eq text (48 ∷ [])
 
--- what a word is where a condition is asked for
+-- the condition of a word after BEGIN
 abbrev pub condition_of : Word → Option (List ℕ)
 condition_of (letters text) = if is_condition_name text then Some text else None
 condition_of (byte b) = None
@@ -68,13 +68,13 @@ abbrev pub in_group : List Word → Option (Word × List Word)
 in_group [] = None
 in_group (w ∷ ws) = behind_word w ws
 
--- one word, or one word in parentheses, and the words behind it
+-- one word, or one word in parentheses, and the words after it
 abbrev pub operand_at : List Word → Option (Word × List Word)
 operand_at [] = None
 operand_at (open_group ∷ ws) = in_group ws
 operand_at (w ∷ ws) = Some (w, ws)
 
--- the statement, where a semicolon stands behind it
+-- the statement, if a semicolon follows it
 abbrev pub ended : Statement → List Word → Option (Statement × List Word)
 ended s [] = None
 ended s (semicolon ∷ ws) = Some (s, ws)
@@ -104,13 +104,13 @@ letters_at text ws =
     else if pointwise nat_eq text (codes "BEGIN") then begin_at (operand_at ws)
     else None
 
--- what stands at the front of some words
+-- the front of some words
 pub data Turn : Type 0 where
   finished : Turn
-  -- a brace, and the words behind it
+  -- a brace, and the words after it
   opens : (rest : List Word) → Turn
   closes : (rest : List Word) → Turn
-  -- a statement, and the words behind it
+  -- a statement, and the words after it
   states : (s : Statement) (rest : List Word) → Turn
   no_statement : Turn
 
@@ -126,7 +126,7 @@ turn_at (semicolon ∷ ws) = states nothing ws
 turn_at (letters text ∷ ws) = stated_or_none (letters_at text ws)
 turn_at (_ ∷ ws) = no_statement
 
--- With so many braces open, the words are these statements, one after the other, and as many braces are closed as opened.
+-- With this number of open braces, the words are these statements, one after the other, and each brace is closed.
 pub data AreStatements : ℕ → List Word → List Statement → Type 0 where
   none : (ws : List Word) → turn_at ws ≡ finished → AreStatements 0 ws []
   opened : (depth : ℕ) (ws rest : List Word) (ss : List Statement) → turn_at ws ≡ opens rest → AreStatements (suc depth) rest ss → AreStatements depth ws ss

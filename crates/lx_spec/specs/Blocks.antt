@@ -1,4 +1,4 @@
--- The lines of an action: the shortest run at whose end no comment is open and as many braces at least are closed as opened.
+-- The lines of an action: the shortest run at whose end no comment is open and no fewer braces are closed than opened.
 use Rattle.std.specs.Prelude.{ℕ, ◌+◌, Bool, true, false, ◌&&◌, nat_eq, nat_le, if◌then◌else◌, List, [], ◌∷◌}
 use Rattle.lx_spec.specs.declared.block.Mode.{Mode}
 use Rattle.lx_spec.specs.declared.block.Mode.TheVariants.{Code, Slash, Comment, Star, LineComment, Quoted, Escaped}
@@ -7,7 +7,7 @@ use Rattle.lx_spec.specs.declared.block.Count.{Count}
 abbrev pub behind_code : ℕ → Mode
 behind_code c = if nat_eq c 47 then Slash else if nat_eq c 34 then Quoted 34 else if nat_eq c 39 then Quoted 39 else Code
 
--- where the byte leads
+-- the mode after the byte
 abbrev pub next_mode : Mode → ℕ → Mode
 next_mode Code c = behind_code c
 next_mode Slash c = if nat_eq c 42 then Comment else if nat_eq c 47 then LineComment else behind_code c
@@ -17,7 +17,7 @@ next_mode LineComment c = LineComment
 next_mode (Quoted end) c = if nat_eq c 92 then Escaped end else if nat_eq c end then Code else Quoted end
 next_mode (Escaped end) c = Quoted end
 
--- whether a brace counts
+-- true if a brace counts
 abbrev pub counts : Mode → Bool
 counts Code = true
 counts Slash = true

@@ -21,7 +21,7 @@ abbrev pub begins_with : ℕ → ℕ → List ℕ → Bool
 begins_with a b [] = false
 begins_with a b (c ∷ text) = nat_eq c a && begins (λ d. nat_eq d b) text
 
--- the two bytes stand somewhere in the text, one behind the other
+-- the two bytes occur in the text, one after the other
 abbrev pub has_pair : ℕ → ℕ → List ℕ → Bool
 has_pair a b [] = false
 has_pair a b (c ∷ text) = begins_with a b (c ∷ text) || has_pair a b text
@@ -63,6 +63,6 @@ abbrev pub word_at : List ℕ → Option (List ℕ × List ℕ)
 word_at [] = None
 word_at (c ∷ text) = Some (run is_no_blank (c ∷ text), behind_run is_no_blank (c ∷ text))
 
--- the first word, and the text behind it
+-- the first word, and the text after it
 abbrev pub next_word : List ℕ → Option (List ℕ × List ℕ)
 next_word text = word_at (behind_run is_blank text)

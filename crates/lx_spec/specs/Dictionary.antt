@@ -1,4 +1,4 @@
--- What the definitions of a specification read as, and which mentions which (XCU `lex`, "Definitions in lex": `{name}`).
+-- The readings of a specification's definitions, and their mentions of one another (XCU `lex`, "Definitions in lex": `{name}`).
 use Rattle.std.specs.Prelude.{ℕ, suc, Bool, false, true, not, List, [], ◌∷◌, ◌++◌, map, Option, Some, None, is_some, nat_eq}
 use Rattle.std.specs.List.{filter_map, list_all, position}
 use Rattle.std.specs.Cmp.Lexicographic.{pointwise}
@@ -16,11 +16,11 @@ number_of raw_definitions name = position (λ d. pointwise nat_eq d.name name) r
 abbrev pub row_of : List RawDefinition → Regex → List ℕ
 row_of raw_definitions tree = filter_map (number_of raw_definitions) (names_of tree)
 
--- each name that stands in an expression is defined
+-- each name in an expression is defined
 abbrev pub all_defined : List RawDefinition → Regex → Bool
 all_defined raw_definitions tree = list_all (λ name. is_some (number_of raw_definitions name)) (names_of tree)
 
--- what a substitute reads as; nothing where it has no reading
+-- the reading of a substitute; none if it has no reading
 abbrev pub IsTreeOf : List ℕ → Option Regex → Type 0
 IsTreeOf substitute None = (u : Regex) → IsSubstitute substitute u → ⊥
 IsTreeOf substitute (Some u) = IsSubstitute substitute u
@@ -38,7 +38,7 @@ abbrev pub row_in : List RawDefinition → Option Regex → List ℕ
 row_in raw_definitions None = []
 row_in raw_definitions (Some u) = row_of raw_definitions u
 
--- what definition i mentions, by the numbers of both
+-- the mentions by definition i, with the numbers of both
 abbrev pub mentions_in : List RawDefinition → ℕ → Option Regex → List Mention
 mentions_in raw_definitions i t = map (mention_of i) (row_in raw_definitions t)
 
@@ -54,12 +54,12 @@ abbrev pub is_unreadable : Option Regex → Bool
 is_unreadable None = true
 is_unreadable (Some u) = false
 
--- a name stands there that isn't defined
+-- the expression has a name that isn't defined
 abbrev pub is_incomplete : List RawDefinition → Option Regex → Bool
 is_incomplete raw_definitions None = false
 is_incomplete raw_definitions (Some u) = not (all_defined raw_definitions u)
 
--- which definitions have no reading; which name what isn't defined
+-- true for each definition that has no reading; true for each with a name that isn't defined
 abbrev pub unreadable_marks : List (Option Regex) → List Bool
 unreadable_marks trees = map is_unreadable trees
 

@@ -7,6 +7,6 @@ use Rattle.lx_spec.specs.declared.fault.SpecFault.{SpecFault}
 abbrev pub fault : Code → ℕ → SpecFault
 fault c n = record { code = c; line = n }
 
--- what is answered where memory was refused
+-- the fault if an allocation failed
 abbrev pub out_of_memory : SpecFault
 out_of_memory = fault Memory 0

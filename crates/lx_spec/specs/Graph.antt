@@ -1,4 +1,4 @@
--- Which definition mentions which, by their numbers; what is led to a mark, and how many more names follow in a chain.
+-- The mentions of definitions by definitions, by their numbers; the definitions that lead to a mark, and the number of names that follow in a chain.
 use Rattle.std.specs.Prelude.{◌≡◌, ℕ, zero, suc, ◌+◌, ◌<◌, ◌≤◌, ◌↔◌, ◌⊎◌, Bool, false, true, IsTrue, List, [], ◌∷◌, length, map, slice_index, slice_index_or, Contains}
 use Rattle.std.specs.declared.alloc.Global.{Global}
 use Rattle.std.specs.declared.vec.Vec.{Vec}
@@ -26,7 +26,7 @@ pub data Leads (mentions : List Mention) (marks : List Bool) : ℕ → Type 0 wh
   itself : (i : ℕ) → IsTrue (is_marked marks i) → Leads mentions marks i
   along : (i j : ℕ) → IsMention mentions i j → Leads mentions marks j → Leads mentions marks i
 
--- how many of the definitions aren't marked
+-- the number of definitions that aren't marked
 abbrev pub unmarked : List Bool → ℕ
 unmarked [] = 0
 unmarked (true ∷ marks) = unmarked marks
@@ -43,7 +43,7 @@ pub record AreMarked (numbers : List ℕ) (old new : List Bool) (before after : 
   pub stack : (i : ℕ) → Contains after i ↔ (Contains before i ⊎ ((is_marked old i ≡ false) × Contains numbers i))
   pub each_once : unmarked new + length after ≡ unmarked old + length before
 
--- So many more names follow definition i in a chain.
+-- This number of further names follows definition i in a chain.
 abbrev pub Follow : (ℕ → ℕ → Type 0) → ℕ → ℕ → Type 0
 Follow Mentions zero i = Unit {0}
 Follow Mentions (suc n) i = (j : ℕ) × Mentions i j × Follow Mentions n j
@@ -52,6 +52,6 @@ Follow Mentions (suc n) i = (j : ℕ) × Mentions i j × Follow Mentions n j
 abbrev pub AreSound : (ℕ → ℕ → Type 0) → List ℕ → Type 0
 AreSound M depths = (i n : ℕ) → n ≤ slice_index depths i → Follow M n i
 
--- Each chain of at most so many further names is as long as the depth says.
+-- Each chain of at most this number of further names is as long as the depth says.
 abbrev pub Reach : (ℕ → ℕ → Type 0) → List ℕ → ℕ → Type 0
 Reach M depths most = (i n : ℕ) → n ≤ most → Follow M n i → n ≤ slice_index depths i

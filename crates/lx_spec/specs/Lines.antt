@@ -1,5 +1,5 @@
--- A mirror of the reader of lines: what a line of the first section says by itself (XCU `lex`, "Definitions in lex"), by the first form that fits it. The verdict on a text
--- rests on it, of which there is one, and there is one of each text (laws, `one_verdict` and `some_verdict`).
+-- A mirror of the reader of lines: the meaning of a line of the first section by itself (XCU `lex`, "Definitions in lex"), by the first form that
+-- fits it. The verdict on a text depends on it. Each text has one verdict and no other (laws, `one_verdict` and `some_verdict`).
 use Rattle.std.specs.Prelude.{ℕ, ◌==◌, Bool, true, false, not, ◌&&◌, ◌||◌, nat_eq, if◌then◌else◌, List, [], ◌∷◌, length, drop, codes}
 use Rattle.std.specs.List.{list_all}
 use Rattle.std.specs.Cmp.Lexicographic.{pointwise}
@@ -19,11 +19,11 @@ pub data Line : Type 0 where
 abbrev pub is_empty : List ℕ → Bool
 is_empty text = length text == 0
 
--- A declaration without effect, where it has its form.
+-- A declaration without effect, if it has its form.
 abbrev pub plain_line : Bool → Line
 plain_line b = if b then skipped else no_form
 
--- behind the word that declares conditions: blanks, and names with blanks between
+-- after the word that declares conditions: blanks, and names with blanks between
 abbrev pub conditions_line : Bool → List ℕ → Line
 conditions_line exclusive text =
     if begins is_blank text && (not (is_empty (behind_run is_blank text)) && list_all is_identifier (words_of text)) then declares exclusive (words_of text) else no_form
@@ -37,7 +37,7 @@ is_size_word (c ∷ text) = is_empty text && (nat_eq c 112 || (nat_eq c 110 || (
 abbrev pub is_number : List ℕ → Bool
 is_number text = not (is_empty text) && list_all is_digit text
 
--- behind the word of a size: blanks, a number, and blanks
+-- after the word of a size: blanks, a number, and blanks
 abbrev pub size_line : List ℕ → Line
 size_line text = plain_line (begins is_blank text && is_number (trimmed (behind_run is_blank text)))
 
@@ -46,7 +46,7 @@ abbrev pub is_option : List ℕ → Bool
 is_option word =
     pointwise nat_eq word (codes "noyywrap") || (pointwise nat_eq word (codes "nounput") || pointwise nat_eq word (codes "noinput"))
 
--- behind the word `option`: blanks, and options with blanks between
+-- after the word `option`: blanks, and options with blanks between
 abbrev pub options_line : List ℕ → Line
 options_line text = plain_line (begins is_blank text && (not (is_empty (behind_run is_blank text)) && list_all is_option (words_of text)))
 
@@ -58,18 +58,18 @@ plain_percent_line word text =
     else if pointwise nat_eq word (codes "option") then options_line text
     else no_form
 
--- a line that begins with % and this word, by what stands behind the word
+-- a line that begins with % and this word, by the text after the word
 abbrev pub percent_line : List ℕ → List ℕ → Line
 percent_line word text =
     if begins (λ c. nat_eq c 115 || nat_eq c 83) word then conditions_line false text
     else if begins (λ c. nat_eq c 120 || nat_eq c 88) word then conditions_line true text
     else plain_percent_line word text
 
--- a line by what stands behind its %
+-- a line by the text after its %
 abbrev pub percent_text : List ℕ → Line
 percent_text text = percent_line (run is_alphanumeric text) (behind_run is_alphanumeric text)
 
--- a name, and behind blanks what it stands for
+-- a name, and after blanks its substitute
 abbrev pub definition_line : List ℕ → List ℕ → Line
 definition_line name text =
     if is_identifier name && (begins is_blank text && not (is_empty (behind_run is_blank text))) then defines name (trimmed (behind_run is_blank text)) else no_form

@@ -1,4 +1,4 @@
--- What the rules of a specification say, where nothing is wrong with them.
+-- The meaning of a specification's rules, if they have no fault.
 use Rattle.std.specs.Prelude.{◌≡◌, ℕ, zero, suc, Bool, false, nat_eq, if◌then◌else◌, List, [], ◌∷◌, ◌++◌, length, map, filter, Option, Some, None, unwrap_or, Contains, slice_get}
 use Rattle.std.specs.List.{list_any, position}
 use Rattle.std.specs.Cmp.Lexicographic.{pointwise}
@@ -20,7 +20,7 @@ use Rattle.lx_spec.specs.Verdict.{SymbolTable, condition_number, fields_of}
 abbrev pub number_or_first : List StartCondition → List ℕ → ℕ
 number_or_first start_conditions text = unwrap_or (condition_number start_conditions text) 0
 
--- so many numbers from this one on
+-- n numbers from this one on
 abbrev pub numbers_from : ℕ → ℕ → List ℕ
 numbers_from i zero = []
 numbers_from i (suc n) = i ∷ numbers_from (suc i) n
@@ -37,7 +37,7 @@ conditions_of start_conditions absent = None
 conditions_of start_conditions unclosed = None
 conditions_of start_conditions (listed text) = Some (named_conditions start_conditions (fields_of text))
 
--- what a rule says: its conditions, its pattern and its action
+-- a resolved rule: its conditions, its pattern and its action
 pub record ResolvedRule : Type 0 where
   pub conditions : Option (List ℕ)
   pub reading : Reading
@@ -48,14 +48,14 @@ pub record IsResolved (start_conditions : List StartCondition) (raw : RawRule) (
   pub reading : IsPattern raw.pattern s.reading
   pub action : IsAction raw.action s.action
 
--- what each of the rules says
+-- the resolved rules, one for each rule
 abbrev pub AreResolved : List StartCondition → List RawRule → List ResolvedRule → Type 0
 AreResolved start_conditions [] [] = Unit {0}
 AreResolved start_conditions [] (s ∷ resolved) = ⊥
 AreResolved start_conditions (raw ∷ raws) [] = ⊥
 AreResolved start_conditions (raw ∷ raws) (s ∷ resolved) = IsResolved start_conditions raw s × AreResolved start_conditions raws resolved
 
--- what the first return of some statements returns
+-- the value of the first return of some statements
 abbrev pub returned_by : List Statement → Option Value
 returned_by [] = None
 returned_by (nothing ∷ ss) = returned_by ss
@@ -63,7 +63,7 @@ returned_by (echo ∷ ss) = returned_by ss
 returned_by (begin c ∷ ss) = returned_by ss
 returned_by (return v ∷ ss) = Some v
 
--- one more kind, where it is a name that isn't there
+-- one more kind, if it is a name that isn't in the list
 abbrev pub with_kind : List (List ℕ) → Option Value → List (List ℕ)
 with_kind kinds None = kinds
 with_kind kinds (Some (name text)) = if list_any (λ k. pointwise nat_eq k text) kinds then kinds else kinds ++ text ∷ []
@@ -83,7 +83,7 @@ abbrev pub statements_in : List ResolvedRule → List (List Statement)
 statements_in [] = []
 statements_in (s ∷ resolved) = first_own (actions_in (s ∷ resolved)) ∷ statements_in resolved
 
--- the names that rules return, each once, in order of first appearance behind those before
+-- the names that rules return, each once, in order of first appearance after those before
 abbrev pub kinds_behind : List (List ℕ) → List (List Statement) → List (List ℕ)
 kinds_behind kinds [] = kinds
 kinds_behind kinds (ss ∷ lists) = kinds_behind (with_kind kinds (returned_by ss)) lists
@@ -134,12 +134,12 @@ AreReachedBy resolved raw_definitions trees definitions = AreReached (IsReached 
 abbrev pub AreReadable : List ResolvedRule → List RawDefinition → List (Option Regex) → Type 0
 AreReadable resolved raw_definitions trees = (i : ℕ) → IsReached raw_definitions trees (patterns_in resolved) i → is_marked (unreadable_marks trees) i ≡ false
 
--- Where definition i stands in front of the others, what is reached from it on is there, once what is reached behind it was.
+-- Definition i comes before the others: it extends their reached definitions to the reached ones from it on.
 abbrev pub PutsReached : (ℕ → Type 0) → List RawDefinition → ℕ → Option Regex → List PlainDefinition → List PlainDefinition → Type 0
 PutsReached Reached raw_definitions i tree old new = (d : RawDefinition) → slice_get raw_definitions i ≡ Some d → (more : List RawDefinition) (trees : List (Option Regex)) →
     AreReached Reached (suc i) more trees old → AreReached Reached i (d ∷ more) (tree ∷ trees) new
 
--- The specification that rules say which stand on these conditions and definitions.
+-- The specification of these resolved rules, with these conditions and definitions.
 pub record AreSpec (table : SymbolTable) (raws : List RawRule) (resolved : List ResolvedRule) (spec : PlainSpec) : Type 0 where
   pub conditions : spec.conditions ≡ table.start_conditions
   pub definitions : AreReachedBy resolved table.definitions table.trees spec.definitions

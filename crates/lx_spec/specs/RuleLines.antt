@@ -1,10 +1,10 @@
--- A mirror of the reader of lines: what a line of the second section says by itself (XCU `lex`, "Rules in lex"), by the first form that fits it. Where its pattern ends is
--- what the grammar says (a law, `patterns_end`).
+-- A mirror of the reader of lines: the meaning of a line of the second section by itself (XCU `lex`, "Rules in lex"), by the first form that fits it.
+-- A law, `patterns_end`, says that its pattern ends as the grammar requires.
 use Rattle.std.specs.Prelude.{ℕ, Bool, not, nat_eq, if◌then◌else◌, List, [], ◌∷◌, take, drop}
 use Rattle.lx_ere.specs.PatternEnd.{pattern_end}
 use Rattle.lx_spec.specs.Bytes.{is_blank, begins_with, run, behind_run}
 
--- what stands before a pattern: nothing, a `<` with no `>` on its line, or what `<` and `>` enclose
+-- the prefix of a pattern: nothing, a `<` with no `>` on its line, or the text between `<` and `>`
 pub data Prefix : Type 0 where
   absent : Prefix
   unclosed : Prefix
@@ -21,17 +21,17 @@ pub data RuleLine : Type 0 where
 abbrev pub is_inside : ℕ → Bool
 is_inside c = not (nat_eq c 62)
 
--- what `<` encloses, and the text behind its `>`
+-- the text that `<` encloses, and the text after its `>`
 abbrev pub closed_prefix : List ℕ → List ℕ → Prefix × List ℕ
 closed_prefix names [] = (unclosed, [])
 closed_prefix names (c ∷ rest) = (listed names, rest)
 
--- the prefix, and the text behind it
+-- the prefix, and the text after it
 abbrev pub split_prefix : List ℕ → Prefix × List ℕ
 split_prefix [] = (absent, [])
 split_prefix (c ∷ text) = if nat_eq c 60 then closed_prefix (run is_inside text) (behind_run is_inside text) else (absent, c ∷ text)
 
--- a rule's line behind its prefix: a pattern of n bytes, and behind blanks the action
+-- a rule's line after its prefix: a pattern of n bytes, and after blanks the action
 abbrev pub rule_split : ℕ → Prefix → List ℕ → RuleLine
 rule_split n prefix text = begins_rule prefix (take n text) (behind_run is_blank (drop n text))
 

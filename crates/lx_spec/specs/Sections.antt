@@ -1,4 +1,4 @@
--- The sections of a text: their entries, and what these declare or the first fault among them (XCU `lex`, "Input Files").
+-- The sections of a text: their entries, and the declarations of these or the first fault among them (XCU `lex`, "Input Files").
 use Rattle.std.specs.Prelude.{◌≡◌, ◌≢◌, ℕ, ◌+◌, Bool, true, false, nat_eq, nat_lt, if◌then◌else◌, List, [], ◌∷◌, ◌++◌, length, Option, Some, None, Result, Ok, Err}
 use Rattle.std.specs.List.{list_any}
 use Rattle.std.specs.Cmp.Lexicographic.{pointwise}
@@ -14,29 +14,29 @@ use Rattle.lx_spec.specs.declared.block.Count.{Count}
 use Rattle.lx_spec.specs.declared.fault.Code.TheVariants as code
 use Rattle.lx_spec.specs.declared.fault.SpecFault.{SpecFault}
 
--- a rule as it stands in the text: the line on which it begins, its prefix, its pattern and its action
+-- a rule as the text has it: the line on which it begins, its prefix, its pattern and its action
 pub record RawRule : Type 0 where
   pub line : ℕ
   pub prefix : Prefix
   pub pattern : List ℕ
   pub action : List ℕ
 
--- where a line stands
+-- the place of a line
 pub data Place : Type 0 where
   -- by itself in the first section, or in a comment or a group there that began at a line
   definitions : Place
   comment : (since : ℕ) → Place
   group : (since : ℕ) → Place
-  -- by itself in the second section, in a group there, or in the action of a rule, with the braces counted so far
+  -- by itself in the second section, in a group there, or in the action of a rule, with the braces counted before it
   rules : Place
   rules_group : (since : ℕ) → Place
   action : (rule : RawRule) (count : Count) → Place
 
--- what the sections say, in order, each with its line
+-- the entries of the sections, in order, each with its line
 pub data Entry : Type 0 where
   conditions : (line : ℕ) (exclusive : Bool) (names : List (List ℕ)) → Entry
   definition : (line : ℕ) (name substitute : List ℕ) → Entry
-  -- a rule, and whether its action was closed before the text ended
+  -- a rule, and true if its action was closed before the text ended
   rule : (raw : RawRule) (closed : Bool) → Entry
   formless : (line : ℕ) → Entry
   unclosed : (line : ℕ) → Entry
@@ -78,16 +78,16 @@ entries (action raw count) n (line ∷ rest) =
     if is_closed (with_line count line) then rule (longer raw line) true ∷ entries rules (n + 1) rest
     else entries (action (longer raw line) (with_line count line)) (n + 1) rest
 
--- the entries where a rule's action was read so far: the rule, if it is closed, and those from line n on
+-- the entries after a part of a rule's action was read: the rule, if it is closed, and those from line n on
 abbrev pub entries_behind : RawRule → Count → ℕ → List (List ℕ) → List Entry
 entries_behind raw count n rest = if is_closed count then rule raw true ∷ entries rules n rest else entries (action raw count) n rest
 
--- a definition as it stands in the text
+-- a definition as the text has it
 pub record RawDefinition : Type 0 where
   pub name : List ℕ
   pub substitute : List ℕ
 
--- what the sections say, in order
+-- the contents of the sections, in order
 pub record ParsedSections : Type 0 where
   pub start_conditions : List StartCondition
   pub definitions : List RawDefinition
@@ -140,29 +140,29 @@ with_entries before (entry ∷ more) = with_entry before entry >>= λ d. with_en
 abbrev pub only_initial : ParsedSections
 only_initial = record { start_conditions = record { name = 73 ∷ 78 ∷ 73 ∷ 84 ∷ 73 ∷ 65 ∷ 76 ∷ []; exclusive = false } ∷ []; definitions = []; rules = [] }
 
--- what the lines from number n on say, behind what was said before
+-- the contents of the lines from number n on, after those before
 abbrev pub sections_behind : ParsedSections → Place → ℕ → List (List ℕ) → Result ParsedSections SpecFault
 sections_behind before place n rest = with_entries before (entries place n rest)
 
--- what the sections of a text say, or their first fault in the order of the text
+-- the contents of a text's sections, or their first fault in the order of the text
 abbrev pub sections_of : List ℕ → Result ParsedSections SpecFault
 sections_of text = sections_behind only_initial definitions 1 (lines text)
 
--- What a function returned, seen by view, is what reading gives, unless memory ran out.
+-- A function's result, seen by view, is that of reading, unless memory ran out.
 abbrev pub Gives : {X Y : Type 0} → (X → Y) → Result X SpecFault → Result Y SpecFault → Type 0
 Gives view (Ok x) read = read ≡ Ok (view x)
 Gives view (Err f) read = f ≢ out_of_memory → read ≡ Err f
 
--- what is said where a line was taken: no place follows the line that ends the rules
+-- the contents after a line was taken: no place follows the line that ends the rules
 abbrev pub continued : Option Place → ParsedSections → ℕ → List (List ℕ) → Result ParsedSections SpecFault
 continued None before n rest = Ok before
 continued (Some place) before n rest = sections_behind before place n rest
 
--- What taking a line gave, seen by view, goes on to what reading gives, unless memory ran out.
+-- The result of taking a line, seen by view, continues to that of reading, unless memory ran out.
 abbrev pub Goes : {X : Type 0} → (X → ParsedSections × Option Place) → ℕ → List (List ℕ) → Result X SpecFault → Result ParsedSections SpecFault → Type 0
 Goes view n rest (Ok x) read = read ≡ continued (view x).1 (view x).0 (n + 1) rest
 Goes view n rest (Err f) read = f ≢ out_of_memory → read ≡ Err f
 
--- Taking line n, which stands at a place, gave what reading from there gives, whatever lines follow.
+-- Taking line n at a place gave the result of reading from there, for any lines that follow.
 abbrev pub TakesLine : {X : Type 0} → (X → ParsedSections × Option Place) → ParsedSections → Place → ℕ → List ℕ → Result X SpecFault → Type 0
 TakesLine view before place n line result = (rest : List (List ℕ)) → Goes view n rest result (sections_behind before place n (line ∷ rest))

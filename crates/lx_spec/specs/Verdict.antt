@@ -1,4 +1,4 @@
--- The verdict on the rules of a specification: what can be wrong with a rule, in the order in which it is answered.
+-- The verdict on the rules of a specification: the possible faults of a rule, in the order in which they are answered.
 use Rattle.std.specs.Prelude.{◌≡◌, ◌≢◌, ℕ, Bool, true, false, IsTrue, not, nat_eq, if◌then◌else◌, List, [], ◌∷◌, ◌++◌, ◌⊎◌, Option, Some, is_some, Result, Ok, Err, Contains}
 use Rattle.std.specs.List.{list_all, position}
 use Rattle.std.specs.Cmp.Lexicographic.{pointwise}
@@ -41,7 +41,7 @@ is_prefix absent = true
 is_prefix unclosed = false
 is_prefix (listed text) = list_all is_condition_name (fields_of text)
 
--- the number of the condition with this name, where 0 is INITIAL
+-- the number of the condition with this name; the name 0 is INITIAL
 abbrev pub condition_number : List StartCondition → List ℕ → Option ℕ
 condition_number start_conditions name = if pointwise nat_eq name (48 ∷ []) then Some 0 else position (λ s. pointwise nat_eq s.name name) start_conditions
 
@@ -55,7 +55,7 @@ begin_is_declared start_conditions echo = true
 begin_is_declared start_conditions (begin c) = is_some (condition_number start_conditions c)
 begin_is_declared start_conditions (return v) = true
 
--- what can be wrong with a rule
+-- the possible faults of a rule
 pub data Cause : Type 0 where
   -- the prefix is no list of names
   prefix_form : Cause
@@ -89,13 +89,13 @@ pub record Case : Type 0 where
   pub is_last : Bool
   pub cause : Cause
 
--- what the rules stand on: the conditions, the definitions, and what these read as
+-- the symbols that the rules use: the conditions, the definitions, and the readings of these
 pub record SymbolTable : Type 0 where
   pub start_conditions : List StartCondition
   pub definitions : List RawDefinition
   pub trees : List (Option Regex)
 
--- what the rules of the sections stand on
+-- the symbols that the rules of the sections use
 abbrev pub symbols_of : ParsedSections → List (Option Regex) → SymbolTable
 symbols_of sections trees = record { start_conditions = sections.start_conditions; definitions = sections.definitions; trees = trees }
 
@@ -103,11 +103,11 @@ symbols_of sections trees = record { start_conditions = sections.start_condition
 abbrev pub LeadsUnreadable : SymbolTable → Regex → Type 0
 LeadsUnreadable table tree = (j : ℕ) × Contains (row_of table.definitions tree) j × Leads (mentions_of table.definitions table.trees) (unreadable_marks table.trees) j
 
--- A name stands in an expression that isn't defined, or in what it leads to.
+-- A name isn't defined, in an expression or in a definition that it leads to.
 abbrev pub LeadsUndefined : SymbolTable → Regex → Type 0
 LeadsUndefined table tree = (all_defined table.definitions tree ≡ false) ⊎ ((j : ℕ) × Contains (row_of table.definitions tree) j × Leads (mentions_of table.definitions table.trees) (incomplete_marks table.definitions table.trees) j)
 
--- Too many names stand in a row: one in the expression, and `max_name_depth` more behind it.
+-- Too many names follow one another: one in the expression, and `max_name_depth` more after it.
 abbrev pub LeadsDeep : SymbolTable → Regex → Type 0
 LeadsDeep table tree = (j : ℕ) × Contains (row_of table.definitions tree) j × Follow (IsMention (mentions_of table.definitions table.trees)) max_name_depth j
 
@@ -137,7 +137,7 @@ cases_of rule is_last =
     case_of rule is_last prefix_form ∷ case_of rule is_last prefix_name ∷ case_of rule is_last reading ∷ case_of rule is_last undefined ∷ case_of rule is_last depth
     ∷ case_of rule is_last action_form ∷ case_of rule is_last begin_name ∷ case_of rule is_last no_next ∷ []
 
--- what can be wrong with the rules, in the order in which it is answered
+-- the possible faults of the rules, in the order in which they are answered
 abbrev pub cases : List RawRule → List Case
 cases [] = []
 cases (rule ∷ rules) = cases_of rule (is_empty rules) ++ cases rules
@@ -151,7 +151,7 @@ pub record IsFirstFault (table : SymbolTable) (list : List Case) (f : SpecFault)
   pub first : IsFirst (Holds table) list case
   pub is : f ≡ fault_of case
 
--- No case holds of what was read; the fault of the first that holds was answered, unless memory was refused.
+-- No case holds of the rules that were read. Otherwise the fault of the first that holds was answered, unless an allocation failed.
 abbrev pub Checked : {X : Type 0} → SymbolTable → List Case → Result X SpecFault → Type 0
 Checked table list (Ok x) = HoldsOfNone (Holds table) list
 Checked table list (Err f) = f ≢ out_of_memory → IsFirstFault table list f

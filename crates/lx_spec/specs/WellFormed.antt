@@ -1,4 +1,4 @@
--- What the sections of a text keep of the names that they declare.
+-- The invariant of a text's sections, about the names that they declare.
 use Rattle.std.specs.Prelude.{Bool, List, map, IsTrue}
 use Rattle.lx_rules.specs.Invariant.{are_distinct, are_start_conditions}
 use Rattle.lx_spec.specs.Sections.{RawDefinition, ParsedSections}

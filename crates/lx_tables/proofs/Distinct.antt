@@ -1,4 +1,4 @@
--- Whether names are distinct, told from the last one on.
+-- A test that names are distinct, from the last one on.
 use Rattle.std.proofs.Common.{◌≡◌, ℕ, zero, suc, ◌+◌, ◌<◌, Bool, true, false, Option, Some, None, List, [], ◌∷◌, length, drop, get_or, refl, sym, ◌∙◌, ap, ap₂, arith}
 use Rattle.std.specs.Prelude.{not, ◌&&◌, ◌||◌, cond, nat_eq}
 use Rattle.std.specs.Cmp.Lexicographic.{pointwise}
@@ -10,7 +10,7 @@ use Rattle.std.proofs.lemmas.List.{drop_more, drop_all, get_or-map, length-map}
 use Rattle.lx_rules.specs.Invariant.{are_distinct}
 use Rattle.lx_rules.specs.views.Rules.{names_view}
 
--- whether a name is one of these
+-- true if a name is one of these
 abbrev pub is_among : List (List ℕ) → List ℕ → Bool
 is_among names name = list_any (λ other. pointwise nat_eq other name) names
 

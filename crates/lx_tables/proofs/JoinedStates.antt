@@ -121,7 +121,7 @@ state_is table q known =
     parts : (c d : ℕ) (a b : Bool) (s t : Option ℕ) → c ≡ d → a ≡ b → s ≡ t → ◌≡◌ {A = JoinedState} (record { condition = c; newline = a; state = s }) (record { condition = d; newline = b; state = t })
     parts c d a b s t e f g = cc
 
--- of the state whose row begins there
+-- the condition of the state whose row begins there
 pub row_condition : (table : Table) (row : ℕ) (q : JoinedState) → IsJoinedState table q → row ≡ joined_number table q * joined_width table → row / joined_width table / (state_count table.machine + 1) / 2 ≡ q.condition
 row_condition table row q known e =
     let whole : row ≡ joined_number table q * joined_width table + 0 = omega (arith, e) in
@@ -130,8 +130,8 @@ row_condition table row q known e =
 pub row_condition_below : (table : Table) (row : ℕ) → row < joined_len table → row / joined_width table / (state_count table.machine + 1) / 2 < length table.machine.starts
 row_condition_below table row h = condition_below table (row / joined_width table) (div_below row (joined_width table) (joined_states table) (omega arith) h)
 
--- ---- the lists while they are made
--- what stands past the end
+-- ---- the lists while they are made 
+--  the entry past the end
 abbrev nothing : Transition
 nothing = record { row = 0; code = 0 }
 
@@ -167,8 +167,8 @@ entry_push table entries i c x are l e fits = record {
   ];
 }
 
--- ---- the lists when they are made
--- the column of a byte stands for its class, and the last one for a newline
+-- ---- the lists when they are made 
+--  the column of a byte represents its class, and the last column a newline
 columns_tell : (table : Table) (b : ℕ) → slice_index table.machine.classes b < table.machine.width →
     (class_of_column table (column_of table b) ≡ slice_index table.machine.classes b) × (nat_eq (column_of table b) table.machine.width ≡ nat_eq b 10)
 columns_tell table b below = elim (cases_eq b 10) [

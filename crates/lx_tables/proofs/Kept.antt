@@ -1,4 +1,4 @@
--- What a specification keeps of its kinds and rules, its tables keep.
+-- Tables have the invariant of their specification's kinds and rules.
 use Rattle.std.proofs.Common.{◌≡◌, ℕ, ◌+◌, ◌<◌, ◌≤◌, ◌&&◌, nat_lt, nat_eq, if◌then◌else◌, Bool, true, false, Option, Some, None, List, [], ◌∷◌, length, map, refl, sym, subst, arith}
 use Rattle.std.specs.Prelude.{IsTrue}
 use Rattle.std.specs.List.{list_all, flat_map}
@@ -25,7 +25,7 @@ both : (a b : Bool) → IsTrue a → IsTrue b → IsTrue (a && b)
 both true b h g = g
 both false b h g = h
 
--- numbers that appear one by one are at most as many as there are
+-- numbers that appear one by one are no more than the elements of their list
 next_at_most : (ks : List ℕ) (n k : ℕ) → next_number n ks ≡ Some k → k ≤ n + length ks
 next_at_most [] n k e = let f : n ≡ k = cc in omega arith
 next_at_most (j ∷ ks) n k e = at (nat_lt j n) (nat_eq j n) (next_at_most ks n k) (next_at_most ks (n + 1) k) e

@@ -156,7 +156,7 @@ rule_parts false steps behind h =
 pub rule_read : (rule : TableRule) (behind : List ℕ) → AreSmall rule.steps → read_rule (rule_line rule ++ behind) ≡ with_rest rule behind
 rule_read rule behind h = rule_parts rule.line_end rule.steps behind h
 
--- what stands behind a number or `-`
+-- the text after a number or `-`
 pub record Stops (text : List ℕ) : Type 0 where
   pub digit : NoDigit text
   pub dash : slice_index text 0 == 45 ≡ false

@@ -20,11 +20,11 @@ module _ (n : ℕ) where
   StepAlike R Q (c ∷ cs) [] = ⊥
   StepAlike R Q (c ∷ cs) (d ∷ ds) = ((s : ℕ) → s < n → R c s ≡ Q d s) × StepAlike R Q cs ds
 
-  -- below so many classes both step alike
+  -- below this class both step alike
   abbrev pub AlikeBelow : Steps → Steps → ℕ → Type 0
   AlikeBelow R Q k = (c : ℕ) → c < k → (s : ℕ) → s < n → R c s ≡ Q c s
 
-  -- what the next class is: a new one, or one that was seen
+  -- the next class: a new one, or one that was seen
   next_class : (k w c : ℕ) (cs : List ℕ) → are_numbered k w (c ∷ cs) ≡ true → ((c ≡ k) × (are_numbered (k + 1) w cs ≡ true)) ⊎ ((c < k) × (are_numbered k w cs ≡ true))
   next_class k w c cs h = at (c == k) refl h
     where

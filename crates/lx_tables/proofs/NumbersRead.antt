@@ -22,7 +22,7 @@ read_on n (c ∷ cs) = read_on (10 * n + (c - 48)) cs
 pub own : IsNumeralModel (λ ds. all_ascii_digits ds ≡ true) (read_on 0)
 own = numerals_by_fold _ (search rules) read_on (search rules)
 
--- no digit stands at the front
+-- the text doesn't begin with a digit
 abbrev pub NoDigit : List ℕ → Type 0
 NoDigit [] = Unit {0}
 NoDigit (b ∷ bs) = is_ascii_digit b ≡ false
@@ -45,7 +45,7 @@ number_read n behind small stop =
     let value : read_on 0 (decimal n) ≡ n = digits_value-decimal own n (omega arith) in
     digits_read 0 (decimal n) behind (digits_decimal own n (omega arith)) stop (subst (λ (v : ℕ). v < 2147483648) (sym value) small) ∙ ap (λ (v : ℕ). (v, behind)) value
 
--- what stands behind a number that is written is no digit
+-- the text after a written number doesn't begin with a digit
 pub start_read : (s : ℕ × ℕ) (behind : List ℕ) → s.0 < 2147483648 → s.1 < 2147483648 → read_start (start_line s ++ behind) ≡ (s, behind)
 start_read s behind l0 l1 =
     let first : read_digits 0 (decimal s.0 ++ (32 ∷ (decimal s.1 ++ (10 ∷ behind)))) ≡ (s.0, 32 ∷ (decimal s.1 ++ (10 ∷ behind))) = number_read s.0 (32 ∷ (decimal s.1 ++ (10 ∷ behind))) l0 refl in
@@ -65,7 +65,7 @@ abbrev pub IsSmall : Option ℕ → Type 0
 IsSmall None = Unit {0}
 IsSmall (Some n) = n < 16512
 
--- what is read of a run that lies in the places that are left
+-- the result of reading a run, if it lies in the places that are left
 pub run_is : (version : Version) (width most from low end v : ℕ) (text : List ℕ) → from ≤ low → low ≤ end → end ≤ width → v < 16512 →
     run_then version width most from ((low, end, v), text) ≡ put version width most from low end (Some v) text
 run_is version width most from low end v text lf ll lw lv =
@@ -76,7 +76,7 @@ run_is version width most from low end v text lf ll lw lv =
     ∙ ap (λ (k : ℕ). put version width most from low k (below 16512 v) text) last
     ∙ ap (λ (o : Option ℕ). put version width most from low end o text) value
 
--- of a run from `low` to `high`, and the values behind it, read from byte `from` on
+-- the values of a run from `low` to `high`, and of those after it, read from byte `from` on
 abbrev pub row_from : ℕ → ℕ → ℕ → Option ℕ → List (Option ℕ) → List (Option ℕ)
 row_from from low high value more = replicate (low - from) None ++ replicate (high + 1 - low) value ++ more
 
@@ -130,7 +130,7 @@ join_none from low high f l =
 pub one_value : (n : ℕ) (v : Option ℕ) → replicate (n + 1 - n) v ≡ v ∷ []
 one_value n v = let one : n + 1 - n ≡ 1 = omega arith in ap (λ (k : ℕ). replicate k v) one
 
--- a run grows by the value behind it
+-- a run grows by the value after it
 grows : (from low high : ℕ) (value : Option ℕ) (more : List (Option ℕ)) → low ≤ high → row_from from low (high + 1) value more ≡ row_from from low high value (value ∷ more)
 grows from low high value more l =
     let longer : high + 1 + 1 - low ≡ high + 1 - low + 1 = omega arith in

@@ -1,4 +1,4 @@
--- Lists that grow by what is read.
+-- Lists that grow as they are read.
 use Rattle.std.proofs.Common.{ℕ, zero, suc, ◌≡◌, ◌≢◌, ◌-◌, ◌+◌, ◌<◌, Bool, List, [], ◌∷◌, ◌++◌, Option, None, map, drop, refl, sym, ◌∙◌, ap, arith, append_assoc, eq-eqb}
 use Rattle.std.specs.Prelude.{if◌then◌else◌, replicate, slice_index}
 use Rattle.std.specs.List.{range_with_len}
@@ -76,7 +76,7 @@ module _ (version : Version) (width : ℕ) where
       ∙ ap (λ (xs : List (Option ℕ)). pair (accepted ++ (state.0.0 ∷ more.0)) xs) (append_assoc targets state.0.1 more.1)
       ∙ ap (λ (k : ℕ). lines_onto accepted targets (read_lines version width k text)) (sym e)
 
-  -- the values of a run, and what is read behind it
+  -- the values of a run, and those read after it
   abbrev pub put : ℕ → ℕ → ℕ → ℕ → Option ℕ → List ℕ → List (Option ℕ) × List ℕ
   put m from low end value rest =
       (replicate (low - from) None ++ replicate (end - low) value ++ (read_row version width m end rest).0, (read_row version width m end rest).1)
@@ -119,7 +119,7 @@ module _ (version : Version) (width : ℕ) where
       ap (λ (ws : List ℕ). pair (map decoded_option ws) text) e ∙ ap (λ (xs : List (Option ℕ)). pair xs text) (map_encoded_options encoded_options (width - from) 0)
       ∙ ap (λ more. onto (map decoded_option encoded_options) more) (sym (row_stops n from text h))
 
--- the bytes, one behind the other
+-- the bytes, in order
 range_more : (a n : ℕ) → range_with_len a (suc n) ≡ range_with_len a n ++ ((a + n) ∷ [])
 range_more a zero = (let e : a ≡ a + 0 = omega arith in ap (λ (k : ℕ). k ∷ []) e)
 range_more a (suc n) =
@@ -134,7 +134,7 @@ pub bytes_all : (n : ℕ) → n ≡ 256 → range_with_len 0 n ≡ all_bytes
 unfolding all_bytes
 bytes_all n e = ap (λ (k : ℕ). range_with_len 0 k) e
 
--- what was read of a whole text
+-- the result of reading a whole text
 pub second_is : (text : List ℕ) (front : Front) (width : ℕ) (classes : List ℕ) (accepted targets : List (Option ℕ)) (r₁ r₂ r₃ : List ℕ) →
     pair front r₁ ≡ read_front (drop 12 text) → pair width r₂ ≡ read_count 256 8 r₁ → pair classes r₃ ≡ read_classes (drop 5 r₂) →
     pair accepted targets ≡ read_states Second width (drop 1 r₃) → table_of front classes width (pair accepted targets) ≡ read_2 text

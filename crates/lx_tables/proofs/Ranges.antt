@@ -82,7 +82,7 @@ module _ (value : ℕ → Option ℕ) where
       ∙ ap (λ (c : Bool). if c then ranges_from low at (decoded_option encoded_option) rest else range_text low (at - 1) (decoded_option encoded_option) ++ ranges_from at at (decoded_option encoded_option) rest) (same_encoded_option encoded_option)
       ∙ ap (λ (n : ℕ). ranges_from low n (decoded_option encoded_option) rest) back
 
-  -- behind the last byte one run is left
+  -- after the last byte one run is left
   pub run_last : (low at encoded_option : ℕ) → at ≡ 256 → ranges_from low (at - 1) (decoded_option encoded_option) (drop at V) ≡ range_text low 255 (decoded_option encoded_option)
   run_last low at encoded_option e =
       let none : drop at V ≡ [] = drop_all at V (omega (arith, value_count)) in

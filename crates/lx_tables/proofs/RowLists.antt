@@ -1,4 +1,4 @@
--- Rows one behind the other.
+-- Rows, one after the other.
 use Rattle.std.proofs.Common.{ℕ, zero, suc, ◌≡◌, ◌≤◌, ◌+◌, ◌*◌, List, ◌++◌, Option, None, length, take, drop, map, get_or, sym, ◌∙◌, ap, ap₂, arith, length-drop}
 use Rattle.std.specs.List.{flat_map, range_with_len}
 use Rattle.std.proofs.Math.Seq.{take-add}

@@ -1,4 +1,4 @@
--- A text that is read, tested, classed and compared is a table's, and where one of these fails, it is no table's.
+-- A text that is read, tested, classed and compared is a table's. If one of these fails, it is no table's.
 use Rattle.std.proofs.Common.{ℕ, ◌≡◌, ◌≢◌, Bool, true, false, List, Option, None, length, inl, inr, sym, ◌∙◌, ap, subst}
 use Rattle.std.specs.Prelude.{IsTrue, ◌==◌, if◌then◌else◌, slice_index, slice_index_or}
 use Rattle.std.specs.List.{list_all}

@@ -33,7 +33,7 @@ prefix_more {a} {b} {xs} ys h = record { prefix = h.prefix; rest = h.rest ++ ys;
 pub prefix_then : {a b c : Option (List ℕ)} {xs ys : List ℕ} → Wrote a b xs → WrotePrefix b c ys → WrotePrefix a c (xs ++ ys)
 prefix_then {a} {b} {c} {xs} {ys} h k = record { prefix = xs ++ k.prefix; rest = k.rest; whole = append_assoc xs k.prefix k.rest ∙ ap (λ bs. xs ++ bs) k.whole; appends = appends_both a b c xs k.prefix h.appends k.appends }
 
--- of the whole text all that stands before the rest was written
+-- the part of the whole text before the rest was written
 pub record WroteBefore (old new : Option (List ℕ)) (whole rest : List ℕ) : Type 0 where
   pub front : List ℕ
   pub whole_is : front ++ rest ≡ whole

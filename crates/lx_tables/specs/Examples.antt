@@ -1,4 +1,4 @@
--- Four tables and their eight texts: what the definitions of the texts compute.
+-- Four tables and their eight texts, as the definitions of the texts compute them.
 use Rattle.std.specs.Prelude.{ℕ, ◌≡◌, [], ◌∷◌, ◌++◌, Some, None, Bool, true, false, codes, replicate}
 use Rattle.lx_rules.specs.declared.rule.Kind.TheVariants.{Name}
 use Rattle.lx_rules.specs.declared.rule.Step.TheVariants.{Return}

@@ -1,5 +1,5 @@
--- The joined table: an automaton joined with its own restart. Where a state has no step on a byte, its entry says what has ended, and leads to where the next match
--- stands behind that byte; so matches are cut by one look-up a byte. The form is this project's own.
+-- The joined table: an automaton joined with its own restart. If a state has no step on a byte, its entry has the code of the match that ended. It
+-- leads to the state of the next match after that byte, so matches are cut by one look-up a byte. The form is this project's own.
 use Rattle.std.specs.Prelude.{◌≡◌, ℕ, suc, ◌+◌, ◌*◌, ◌/◌, ◌%◌, ◌<◌, ◌≤◌, ◌&&◌, nat_eq, nat_le, if◌then◌else◌, not, Bool, List, [], ◌∷◌, Option, Some, None, length, slice_index, slice_index_or}
 use Rattle.lx_rules.specs.declared.rule.Step.{Step}
 use Rattle.lx_rules.specs.declared.rule.Step.TheVariants.{Echo, Begin, Return}
@@ -10,21 +10,21 @@ use Rattle.lx_tables.specs.declared.joined.JoinedState.{JoinedState}
 use Rattle.lx_tables.specs.declared.joined.Transition.{Transition}
 use Rattle.lx_tables.specs.Labels.{step_of_label}
 
--- a state of the joined table whose condition and state are there
+-- a state of the joined table whose condition and state exist
 pub record IsJoinedState (table : Table) (q : JoinedState) : Type 0 where
   pub condition : q.condition < length table.machine.starts
   pub state : (s : ℕ) → q.state ≡ Some s → s < state_count table.machine
 
--- ---- what has ended, as a code: 0 for nothing
--- a byte that no rule matches
+-- ---- the match that has ended, as a code: 0 for none 
+--  a byte that no rule matches
 abbrev pub echoed : Table → ℕ
 echoed table = length table.rules + 1
 
--- what the state alone doesn't tell
+-- the code of a match that the state alone doesn't determine
 abbrev pub untold : ℕ
 untold = 8191
 
--- how many items an action gives
+-- the number of items that an action gives
 abbrev pub item_count : List Step → ℕ
 item_count [] = 0
 item_count (Echo ∷ steps) = suc (item_count steps)
@@ -38,7 +38,7 @@ giving (Echo ∷ steps) = Some Echo
 giving (Begin next ∷ steps) = giving steps
 giving (Return kind ∷ steps) = Some (Return kind)
 
--- a rule's match is told by the state in which it ends: all its bytes are the token, and its action gives one item at most
+-- a rule's match is determined by the state in which it ends: all its bytes are the token, and its action gives at most one item
 abbrev pub is_told : TableRule → Bool
 is_told rule = not rule.line_end && nat_le (item_count rule.steps) 1
 
@@ -47,37 +47,37 @@ abbrev pub rule_ended : Table → Option ℕ → ℕ
 rule_ended table None = untold
 rule_ended table (Some rule) = if is_told (rule_at table rule) then rule + 1 else untold
 
--- what has ended in a state without a step further, or behind a byte on which the start has none
+-- the match that ended in a state without a further step, or after a byte on which the start has none
 abbrev pub ended : Table → Option ℕ → ℕ
 ended table None = echoed table
 ended table (Some s) = rule_ended table (accepted_by table.machine s)
 
--- ---- the condition behind it
--- behind an action
+-- ---- the condition after it 
+--  after an action
 abbrev pub condition_behind : List Step → ℕ → ℕ
 condition_behind [] condition = condition
 condition_behind (Echo ∷ steps) condition = condition_behind steps condition
 condition_behind (Begin next ∷ steps) condition = condition_behind steps next
 condition_behind (Return kind ∷ steps) condition = condition_behind steps condition
 
--- behind a rule, if there is one
+-- after a rule, if there is one
 abbrev pub condition_behind_rule : Table → Option ℕ → ℕ → ℕ
 condition_behind_rule table None condition = condition
 condition_behind_rule table (Some rule) condition = condition_behind (rule_at table rule).steps condition
 
--- ---- steps
--- behind the first byte of a match: under a condition, at line begin or not, by a byte of this class, which is a newline or not
+-- ---- steps 
+--  after the first byte of a match: under a condition, at line begin or not, by a byte of this class, which is a newline or not
 abbrev pub begun : Table → ℕ → Bool → ℕ → Bool → JoinedState
 begun table condition begin class newline =
     record { condition = condition; newline = newline; state = class_target table.machine (start_of table.machine condition begin) class }
 
--- where a state steps on a class, if there is one
+-- the target of a state on a class, if there is one
 abbrev pub target_from : Machine → Option ℕ → ℕ → Option ℕ
 target_from m None class = None
 target_from m (Some s) class = class_target m s class
 
--- What has ended before a byte of this class, which is a newline or not, and the state behind it: by the step from the state, if there is one, else by the first
--- step of the next match. Its condition is the one behind the rule, and it is at line begin behind a newline.
+-- The match that ended before a byte of this class, which is a newline or not, and the state after the byte. The step is from the state, if it has
+-- one, and else the first step of the next match. That match's condition is the one after the rule, and it is at line begin after a newline.
 abbrev pub stepped : Table → JoinedState → ℕ → Bool → Option ℕ → ℕ × JoinedState
 stepped table q class newline (Some next) = (0, record { condition = q.condition; newline = newline; state = Some next })
 stepped table q class newline None =
@@ -86,8 +86,8 @@ stepped table q class newline None =
 abbrev pub joined_step : Table → JoinedState → ℕ → Bool → ℕ × JoinedState
 joined_step table q class newline = stepped table q class newline (target_from table.machine q.state class)
 
--- ---- the same in numbers
--- a row has an entry for each class, and one more for the newline alone
+-- ---- the same in numbers 
+--  a row has an entry for each class, and one more for the newline alone
 abbrev pub joined_width : Table → ℕ
 joined_width table = table.machine.width + 1
 
@@ -98,7 +98,7 @@ abbrev pub encoded : Option ℕ → ℕ
 encoded None = 0
 encoded (Some s) = s + 1
 
--- of each condition, elsewhere and behind a newline, the states of the automaton, and the one that is none
+-- the numbers go through each condition, elsewhere and after a newline, and there through none and the states of the automaton
 abbrev pub joined_number : Table → JoinedState → ℕ
 joined_number table q = (q.condition * 2 + (if q.newline then 1 else 0)) * (state_count table.machine + 1) + encoded q.state
 
@@ -112,7 +112,7 @@ joined_len table = joined_states table * joined_width table
 abbrev pub max_joined_entries : ℕ
 max_joined_entries = 524288
 
--- an entry: where the row of the state begins, and what has ended
+-- an entry: the begin of the state's row, and the code of the match that ended
 abbrev pub joined_entry : Table → ℕ × JoinedState → Transition
 joined_entry table found = record { row = joined_number table found.1 * joined_width table; code = found.0 }
 
@@ -120,13 +120,14 @@ joined_entry table found = record { row = joined_number table found.1 * joined_w
 abbrev pub transition_at : List Transition → ℕ → Transition
 transition_at entries k = slice_index_or entries k (record { row = 0; code = 0 })
 
--- Of each code the label of what is given: of a rule that of the step of its action that gives an item, and of a byte that no rule matches that of the echo.
+-- The label of each code is that of its item: for a rule that of the step of its action that gives an item, for a byte that no rule matches that of
+-- the echo.
 pub record AreLabels (table : Table) (labels : List ℕ) : Type 0 where
   pub long : length labels ≡ length table.rules + 2
   pub rules : (rule : ℕ) → rule < length table.rules → step_of_label (slice_index labels (rule + 1)) ≡ giving (rule_at table rule).steps
   pub echo : step_of_label (slice_index labels (echoed table)) ≡ Some Echo
 
--- Of each byte its column, and of each state row by row what has ended and the state behind, which is one of the joined table again.
+-- Each byte has its column. Each state has, row by row, the match that ended and the next state, which is one of the joined table again.
 pub record IsJoined (table : Table) (columns : List ℕ) (entries : List Transition) (labels : List ℕ) : Type 0 where
   pub are_labels : AreLabels table labels
   pub bytes : length columns ≡ 256

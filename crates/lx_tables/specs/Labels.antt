@@ -1,4 +1,4 @@
--- What an item is, as a number: 1 for an echo, and above that a kind of tokens. 0 stands for no item.
+-- The kind of an item, as a number: 1 for an echo, and above that a kind of tokens. 0 represents no item.
 use Rattle.std.specs.Prelude.{ℕ, ◌-◌, ◌/◌, ◌%◌, nat_eq, nat_le, if◌then◌else◌, Option, Some, None}
 use Rattle.lx_rules.specs.declared.rule.Kind.{Kind}
 use Rattle.lx_rules.specs.declared.rule.Kind.TheVariants.{Name, Number}

@@ -17,7 +17,7 @@ abbrev pub HasState : Machine → ByteValues → Type 0
 HasState m Classes = Unit {0}
 HasState m (Targets s) = s < state_count m
 
--- where a state steps, and its line, by the version
+-- the targets of a state, and its line, by the version
 abbrev pub targets_text : Version → Machine → ℕ → List ℕ
 targets_text First m s = byte_ranges (value_of m (Targets s))
 targets_text Second m s = entries_text m s

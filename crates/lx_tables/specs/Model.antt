@@ -1,5 +1,5 @@
--- Tables of a scanner as plain data, and what holds of each: a deterministic automaton (Rabin and Scott 1959), and what rules do (XCU `lex`, "Actions in
--- lex"). The form of tables is this project's own, as POSIX leaves it open.
+-- Tables of a scanner as plain data, and their invariant: a deterministic automaton (Rabin and Scott 1959), and the effects of rules (XCU `lex`,
+-- "Actions in lex"). The form of tables is this project's own, as POSIX leaves it open.
 use Rattle.std.specs.Prelude.{◌≡◌, ℕ, ◌<◌, ◌≤◌, ◌↔◌, Bool, false, IsTrue, List, [], Some, length, map, slice_index, slice_index_or}
 use Rattle.std.specs.List.{list_all}
 use Rattle.lx_rules.specs.Plain.{PlainRule, PlainSpec}
@@ -10,7 +10,7 @@ use Rattle.lx_rules.specs.Limits.{max_kinds, max_rules}
 use Rattle.lx_automaton.specs.Automata.{Machine, IsMachine, HasByteClasses, state_count, accepted_by, target_of, are_numbered}
 use Rattle.lx_automaton.specs.Meaning.{IsAutomatonOf}
 
--- a rule: whether it ends with `$`, and what its action does
+-- a rule: true if it ends with `$`, and the steps of its action
 pub record TableRule : Type 0 where
   pub line_end : Bool
   pub steps : List Step
@@ -21,7 +21,7 @@ pub record Table : Type 0 where
   pub kinds : List (List ℕ)
   pub rules : List TableRule
 
--- the rule with this number; where there is none, one that does nothing
+-- the rule with this number; one without effect if there is none
 abbrev pub rule_at : Table → ℕ → TableRule
 rule_at table rule = slice_index_or table.rules rule (record { line_end = false; steps = [] })
 
@@ -29,9 +29,9 @@ rule_at table rule = slice_index_or table.rules rule (record { line_end = false;
 abbrev pub kind_at : Table → ℕ → List ℕ
 kind_at table kind = slice_index_or table.kinds kind []
 
--- What holds of all tables: 1 to 64 conditions, 1 to 16,512 states and 1 to 256 classes, as of each automaton, whose classes are its byte classes; at most
--- 4,096 kinds, which are identifiers and each once; at most 4,096 rules, whose steps name conditions and kinds that are there, a return last; and each rule that
--- is accepted is there.
+-- The invariant of all tables. There are 1 to 64 conditions, 1 to 16,512 states and 1 to 256 classes, as in each automaton; the classes are its byte
+-- classes. There are at most 4,096 kinds, which are distinct identifiers, and at most 4,096 rules. Their steps name conditions and kinds that exist,
+-- and a return is the last. Each rule that is accepted exists.
 pub record IsTable (table : Table) : Type 0 where
   pub machine : IsMachine table.machine
   pub classes : HasByteClasses table.machine
@@ -42,14 +42,13 @@ pub record IsTable (table : Table) : Type 0 where
   pub steps : IsTrue (list_all (λ rule. are_steps (length table.machine.starts) (length table.kinds) rule.steps) table.rules)
   pub accepted : (s r : ℕ) → accepted_by table.machine s ≡ Some r → r < length table.rules
 
--- The byte classes: two bytes are of one class exactly where every state steps alike on both, and the classes are numbered from 0 by
--- their least bytes.
+-- The byte classes: two bytes have one class if and only if every state steps alike on both. The classes are numbered from 0 by their least bytes.
 pub record AreByteClasses (m : Machine) : Type 0 where
   pub alike : (a b : ℕ) → a < 256 → b < 256 →
       (slice_index m.classes a ≡ slice_index m.classes b) ↔ ((s : ℕ) → s < state_count m → target_of m s a ≡ target_of m s b)
   pub numbered : IsTrue (are_numbered 0 m.width m.classes)
 
--- what tables keep of a rule of a specification
+-- the part of a specification's rule that tables keep
 abbrev pub table_rule : PlainRule → TableRule
 table_rule rule = record { line_end = rule.reading.line_end; steps = rule.steps }
 

@@ -1,6 +1,6 @@
--- A mirror of `lenient`: what is read at the front of a text, whatever it is. Total functions give a value and what stands behind it. Words are skipped by their length,
--- and a value that can't be is read as another, so what was read is still to be compared with the text: that it is the text's table is the contract of `Tables::read`,
--- and that there is no other a law, `texts_are_one_to_one`.
+-- A mirror of `lenient`: the values read at the front of a text, whatever it is. Total functions give a value and the text after it. They skip words
+-- by their length, and read an impossible value as another, so the result has to be compared with the text afterwards. The contract of `Tables::read`
+-- says that it is the text's table. That there is no other is a law, `texts_are_one_to_one`.
 use Rattle.std.specs.Prelude.{ℕ, zero, suc, ◌+◌, ◌*◌, ◌-◌, ◌/◌, ◌==◌, nat_lt, min, if◌then◌else◌, List, [], ◌∷◌, ◌++◌, Option, Some, None, drop, length, map, replicate, slice_index}
 use Rattle.std.specs.List.{flat_map, range_with_len}
 use Rattle.std.specs.Char.{is_ascii_digit}
@@ -14,16 +14,16 @@ use Rattle.lx_tables.specs.Texts.{all_bytes}
 use Rattle.lx_tables.specs.declared.version.Version.{Version}
 use Rattle.lx_tables.specs.declared.version.Version.TheVariants.{First, Second}
 
--- the number that digits say behind those of n, which stays below 2 ^ 32
+-- the number that digits spell after those of n; it stays below 2 ^ 32
 abbrev pub read_digits : ℕ → List ℕ → ℕ × List ℕ
 read_digits n [] = (n, [])
 read_digits n (b ∷ bs) = if is_ascii_digit b then read_digits (if nat_lt n 429496729 then 10 * n + (b - 48) else n) bs else (n, b ∷ bs)
 
--- a number behind so many bytes, and one byte; what is above `most` is read as that
+-- a number after the skipped bytes, and one byte; a number above `most` is read as `most`
 abbrev pub read_count : ℕ → ℕ → List ℕ → ℕ × List ℕ
 read_count most skipped text = let n = read_digits 0 (drop skipped text) in (min most n.0, drop 1 n.1)
 
--- the number, where it is one of so many
+-- the number, if it is below the limit
 abbrev pub below : ℕ → ℕ → Option ℕ
 below limit n = if nat_lt n limit then Some n else None
 
@@ -37,7 +37,7 @@ read_start text =
     let t = read_digits 0 (drop 1 s.1) in
     ((s.0, t.0), drop 1 t.1)
 
--- so many values, one behind the other
+-- n values, one after the other
 abbrev pub read_many : {A : Type 0} → (List ℕ → A × List ℕ) → ℕ → List ℕ → List A × List ℕ
 read_many read zero text = ([], text)
 read_many read (suc n) text =
@@ -45,11 +45,11 @@ read_many read (suc n) text =
     let more = read_many read n first.1 in
     (first.0 ∷ more.0, more.1)
 
--- a count and so many values, of which there are so many at most
+-- a count, at most `most`, and that number of values
 abbrev pub read_list : {A : Type 0} → ℕ → ℕ → (List ℕ → A × List ℕ) → List ℕ → List A × List ℕ
 read_list most skipped read text = let n = read_count most skipped text in read_many read n.0 n.1
 
--- values before what is read
+-- values before those that are read
 abbrev pub onto : {A : Type 0} → List A → List A × List ℕ → List A × List ℕ
 onto xs more = (xs ++ more.0, more.1)
 
@@ -67,12 +67,12 @@ step_of letter n =
     if letter == 98 then (if nat_lt n max_start_conditions then Begin n else Echo)
     else if letter == 107 then Return (Name n) else Return (Number n)
 
--- a step behind its space
+-- a step after its space
 abbrev pub read_step : List ℕ → Step × List ℕ
 read_step [] = (Echo, [])
 read_step (letter ∷ text) = if letter == 101 then (Echo, text) else (let n = read_digits 0 text in (step_of letter n.0, n.1))
 
--- steps up to the line's end, so many at most
+-- the steps up to the line's end, at most `most`
 abbrev pub read_steps : ℕ → List ℕ → List Step × List ℕ
 read_steps zero text = ([], drop 1 text)
 read_steps (suc most) text =
@@ -102,7 +102,7 @@ read_front text =
 abbrev pub read_accepts : List ℕ → Option ℕ × List ℕ
 read_accepts text = let n = read_digits 0 text in if slice_index n.1 0 == 45 then (None, drop 1 n.1) else (below max_rules n.0, n.1)
 
--- one range: its first byte, the one behind its last, and its value
+-- one range: its first byte, the one after its last, and its value
 abbrev pub read_range : List ℕ → (ℕ × ℕ × ℕ) × List ℕ
 read_range text =
     let low = read_digits 0 (drop 1 text) in
@@ -117,13 +117,13 @@ read_entry text =
     let target = read_digits 0 (drop 1 class.1) in
     ((class.0, class.0 + 1, target.0), target.1)
 
--- so many places with one value, by the version: a range of bytes, or one class
+-- a run of places with one value, by the version: a range of bytes, or one class
 abbrev pub read_run : Version → List ℕ → (ℕ × ℕ × ℕ) × List ℕ
 read_run First text = read_range text
 read_run Second text = read_entry text
 
--- The values of places `from` to `width`, by runs, of which there are so many at most. A run begins where the one before it ends, or behind that; where there is
--- no run there is no value.
+-- The values of places `from` to `width`, by at most `most` runs. A run begins at the end of the one before it or later; a place without a run has no
+-- value.
 abbrev pub read_row : Version → ℕ → ℕ → ℕ → List ℕ → List (Option ℕ) × List ℕ
 read_row version width zero from text = (replicate (width - from) None, text)
 read_row version width (suc most) from text =
@@ -146,7 +146,7 @@ read_state version width text =
 abbrev pub state_onto : List (Option ℕ) → List (Option ℕ) → (Option ℕ × List (Option ℕ)) × List ℕ → List (Option ℕ) × List (Option ℕ) × List ℕ
 state_onto accepted targets state = (accepted ++ state.0.0 ∷ [], targets ++ state.0.1, state.1)
 
--- the lines of so many states: the rules that they accept, and their rows one behind the other
+-- the lines of n states: the rules that they accept, and their rows one after the other
 abbrev pub read_lines : Version → ℕ → ℕ → List ℕ → List (Option ℕ) × List (Option ℕ)
 read_lines version width zero text = ([], [])
 read_lines version width (suc n) text =

@@ -1,4 +1,4 @@
--- What reading tables from a text tells.
+-- The result of reading tables from a text.
 use Rattle.std.specs.Prelude.{◌≡◌, ℕ, ◌==◌, ◌⊎◌, if◌then◌else◌, List, slice_index}
 use Rattle.lx_automaton.specs.Automata.{HasSameSteps}
 use Rattle.lx_tables.specs.Model.{Table, IsTable}

@@ -8,7 +8,7 @@ use Rattle.lx_rules.specs.declared.rule.Step.TheVariants.{Echo, Begin, Return}
 use Rattle.lx_automaton.specs.Automata.{Machine, state_count, accepted_by, class_target, target_of}
 use Rattle.lx_tables.specs.Model.{TableRule, Table}
 
--- `decimal`, opened only where a proof says so
+-- `decimal`, opened only if a proof says so
 abbrev pub number : ℕ → List ℕ
 number n = decimal n
 
@@ -26,7 +26,7 @@ step_text (Begin c) = codes " b" ++ number c
 step_text (Return (Name k)) = codes " k" ++ number k
 step_text (Return (Number n)) = codes " n" ++ number n
 
--- 1 where the rule ends with `$`
+-- 1 if the rule ends with `$`
 abbrev pub line_end_text : Bool → List ℕ
 line_end_text true = codes "1"
 line_end_text false = codes "0"
@@ -35,7 +35,7 @@ line_end_text false = codes "0"
 abbrev pub rule_line : TableRule → List ℕ
 rule_line rule = codes "rule " ++ line_end_text rule.line_end ++ flat_map step_text rule.steps ++ codes "\n"
 
--- bytes `low` to `high`, where they have a value
+-- bytes `low` to `high`, if they have a value
 abbrev pub range_text : ℕ → ℕ → Option ℕ → List ℕ
 range_text low high None = []
 range_text low high (Some value) = codes " " ++ number low ++ codes "-" ++ number high ++ codes ":" ++ number value
@@ -46,14 +46,14 @@ same_value None (Some n) = false
 same_value (Some m) None = false
 same_value (Some m) (Some n) = m == n
 
--- the ranges of a run of one value that began at `low` and has come to `high`, and of the values behind it
+-- the ranges of a run of one value from `low` to `high`, and of the values after it
 abbrev pub ranges_from : ℕ → ℕ → Option ℕ → List (Option ℕ) → List ℕ
 ranges_from low high value [] = range_text low high value
 ranges_from low high value (other ∷ more) =
     if same_value value other then ranges_from low (high + 1) value more
     else range_text low high value ++ ranges_from (high + 1) (high + 1) other more
 
--- the ranges of one value: as long as they can be, and none where there is no value
+-- the ranges of one value: as long as possible, and none without a value
 abbrev pub ranges_text : List (Option ℕ) → List ℕ
 ranges_text [] = []
 ranges_text (value ∷ more) = ranges_from 0 0 value more
@@ -70,7 +70,7 @@ abbrev pub accepts_text : Option ℕ → List ℕ
 accepts_text None = codes "-"
 accepts_text (Some rule) = number rule
 
--- a class that goes to a state; nothing where it has no step
+-- a class that goes to a state; nothing if it has no step
 abbrev pub entry_text : ℕ → Option ℕ → List ℕ
 entry_text class None = []
 entry_text class (Some target) = codes " " ++ number class ++ codes ":" ++ number target
@@ -91,7 +91,7 @@ state_line_2 m s = codes "state " ++ accepts_text (accepted_by m s) ++ entries_t
 abbrev pub count_line : List ℕ → ℕ → List ℕ
 count_line word n = word ++ number n ++ codes "\n"
 
--- what both versions have: conditions, kinds and rules
+-- the part that both versions have: conditions, kinds and rules
 abbrev pub front_text : Table → List ℕ
 front_text table =
     count_line (codes "conditions ") (length table.machine.starts) ++ flat_map start_line table.machine.starts

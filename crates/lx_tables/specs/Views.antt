@@ -1,4 +1,4 @@
--- What was read of tables in the code, without where it lies in memory.
+-- The values read of tables in the code, without their places in memory.
 use Rattle.std.specs.Prelude.{List, map}
 use Rattle.lx_rules.specs.views.Rules.{names_view}
 use Rattle.lx_automaton.specs.EncodedOptions.{machine_of}

@@ -1,4 +1,4 @@
--- Listings of files that sources give, by other words, and what follows where they fail.
+-- Listings of files that sources give, in other terms, and the consequences if they fail.
 use Rattle.std.proofs.Common.{ℕ, ◌≡◌, List, [], Option, inl, inr, length, refl, subst, sym}
 use Rattle.std.proofs.lemmas.List.{nil_from_length}
 use Rattle.lx_piece.specs.Plans.{PlainInput}
@@ -12,7 +12,7 @@ use Rattle.lx_tool.specs.declared.failure.Failure.TheVariants.{Specification, Au
 use Rattle.lx_post.specs.declared.run_fault.RunFault.{RunFault}
 use Rattle.lx_post.specs.declared.run_fault.RunFault.TheVariants as run
 
--- of no files nothing is listed
+-- nothing is listed of no files
 listed_nothing : (table : Table) (inputs : List PlainInput) (written : Option (List ℕ)) → length inputs ≡ 0 → ListsBy table inputs written written
 listed_nothing table inputs written none = subst (λ (xs : List PlainInput). ListsBy table xs written written) (sym (nil_from_length inputs none)) (record {
   plan = record { run = 1; per_piece = 1; table = table; inputs = [] };
@@ -25,7 +25,7 @@ fails_late : {S : Type 0} (P : Failure → Type 0) (Part : Type 0) (names : List
 fails_late P Part names before after old new part run.Memory = inr part
 fails_late P Part names before after old new part run.Reader = part
 
--- what was read was listed, or a part of it
+-- the inputs that were read were listed, or a part of them
 module _ {S : Type 0} (gives : S → List ℕ → PlainInput → S → Type 0) (names : List (List ℕ)) (before after : S) (inputs : List PlainInput) (cut : List (List ℕ)) (read : AreRead gives names before after inputs cut) where
   pub listed_of : (Lists : List PlainInput → Type 0) → Lists inputs → AreListed gives Lists names before after cut
   listed_of Lists listed = record { inputs = inputs; read = read; listed = listed }

@@ -1,4 +1,4 @@
--- Words that ask for nothing and were not refused ask for the help or the version.
+-- Arguments that ask for nothing and were not rejected ask for the help or the version.
 use Rattle.std.proofs.Common.{ℕ, ◌≡◌, List, Option, Some, None, Result, Ok, Err, IfOk, IfErr, refl, sym, ◌∙◌, subst, arith}
 use Rattle.clap.specs.declared.error.Error.{Error}
 use Rattle.clap.specs.Words.{kind_of}
@@ -25,12 +25,12 @@ ask_for_help words (request.Explain w) asked is told none = absurd (let e = sym 
 ask_for_help words (request.Show w) asked is told none = absurd (let e = sym is ∙ none in cc)
 ask_for_help words (request.Import w) asked is told none = absurd (let e = sym is ∙ none in cc)
 
--- what is known is known where it went well
+-- a known fact holds after success, too
 pub known_anyway : {V : Type 0} (P : Type 0) (ended : Result V Failure) → P → IfOk ended (λ cut. P)
 known_anyway P (Ok cut) held = held
 known_anyway P (Err failure) held = tt
 
--- what is known where it went well is known at status 0
+-- a fact that holds after success holds at status 0
 pub at_status_0 : {V : Type 0} (P : Type 0) (ended : Result V Failure) (status : ℕ) → IfOk ended (λ cut. P) → IfErr ended (λ failure. status ≡ status_of failure) → status ≡ 0 → P
 at_status_0 P (Ok cut) status held other none = held
 at_status_0 P (Err failure) status held other none = let some = some_status failure in absurd (omega (arith, some, other, none))

@@ -1,4 +1,4 @@
--- The bytes that a text stands for, character by character.
+-- The bytes that a text represents, character by character.
 use Rattle.std.proofs.Common.{ℕ, zero, suc, ◌≡◌, ◌+◌, ◌-◌, ◌<◌, true, false, List, [], ◌∷◌, ◌++◌, Bor, refl, sym, ◌∙◌, ap, subst, drop, take, map, length, arith, append_assoc}
 use Rattle.std.specs.Prelude.{slice_index_or}
 use Rattle.std.proofs.lemmas.List.{drop_more, get_or-map, length-map, map-append, take_more}

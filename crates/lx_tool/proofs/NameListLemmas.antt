@@ -1,4 +1,4 @@
--- What a front part of a list of names says of the whole.
+-- The meaning of a front part of a list of names for the whole.
 use Rattle.std.proofs.Common.{ℕ, ◌≡◌, List, sym, subst}
 use Rattle.lx_forms.specs.NameLists.{AreNamed, IsFront}
 use Rattle.lx_piece.specs.Plans.{PlainInput}

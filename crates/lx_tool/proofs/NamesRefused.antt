@@ -1,4 +1,4 @@
--- Names of files that are refused, as a listing's refusal.
+-- Names of files that are rejected, as a listing's rejection.
 use Rattle.std.proofs.Common.{ℕ, ◌≡◌, ◌-◌, ◌<◌, List, Option, Some, None, inl, inr, arith, length, refl, subst}
 use Rattle.std.specs.Prelude.{IsSomeAnd}
 use Rattle.std.specs.Io.KnownBytes.{Keeps}

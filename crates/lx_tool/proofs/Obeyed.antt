@@ -1,4 +1,4 @@
--- What was done by what the words ask for, or why it wasn't.
+-- The arguments' request was carried out, or failed for a reason.
 use Rattle.std.proofs.Common.{ℕ, zero, suc, ◌≡◌, ◌≢◌, ◌<◌, List, [], ◌∷◌, ◌++◌, Option, Some, None, All, Bor, Ok, Err, Result, IfOk, IfErr, inl, inr, length, arith, refl, sym, ◌∙◌, ap, ap₂, subst}
 use Rattle.std.specs.Prelude.{◌⊎◌, Contains, IfSome, IsOk, MatchOption, OnOk}
 use Rattle.std.proofs.lemmas.List.{length-map}
@@ -28,7 +28,7 @@ use Rattle.lx_tool.specs.declared.failure.RequestFault.TheVariants.{NoTargets, O
 use Rattle.lx_tool.specs.declared.failure.OutputFault.{OutputFault}
 use Rattle.lx_tool.specs.declared.failure.Failure.TheVariants.{Specification, Automaton, Tables, Unprintable, Words, TooManyFiles, InputTwice, Refused, NotRead, Output, Memory}
 
--- ---- what a writer holds
+-- ---- the contents of a writer
 
 pub keeps_itself : (written : Option (List ℕ)) → Keeps written written
 keeps_itself None = tt
@@ -89,7 +89,7 @@ module _ (old mid new : Option (List ℕ)) (kept : Keeps mid new) where
     shown_kept : (s : PlainShow) → IsShown gives s before after old mid → IsShown gives s before after old new
     shown_kept s h = record { text = h.text; given = h.given; table = h.table; names = h.names; shown = h.shown; few = h.few; wrote = appends_kept old mid new _ h.wrote kept }
 
-    -- what was done stands after the last flush
+    -- the result is still there after the last flush
     pub obeyed_kept : (asked : Option Asked) → HasObeyed gives before after old mid cut asked → HasObeyed gives before after old new cut asked
     obeyed_kept None h = h
     obeyed_kept (Some stored) h = (rules_kept stored_specification _ h.0, h.1)
@@ -154,7 +154,7 @@ only_one name other (zero, within, is) = is
 only_one name other (suc n, within, is) = absurd (omega (arith, within))
 
 module _ {S : Type 0} (gives : S → List ℕ → PlainInput → S → Type 0) (before : S) (old new : Option (List ℕ)) where
-  -- a specification or tables were refused
+  -- a specification or tables were rejected
   pub rules_refused : (asked : Asked) (Refuses : Failure → Type 0) → ((failure : Failure) → Refuses failure → AreRulesRefused gives before asked failure) →
       ((failure : Failure) → Refuses failure → HidesNoMemory failure) → Keeps old new →
       (Refuses TooManyFiles → ⊥) → (Refuses InputTwice → ⊥) → ((fault : _) → Refuses (Refused fault) → ⊥) → ((name : _) → Refuses (NotRead name) → ⊥) → ((error : _) → Refuses (Words error) → ⊥) →
@@ -171,14 +171,14 @@ module _ {S : Type 0} (gives : S → List ℕ → PlainInput → S → Type 0) (
   rules_refused asked Refuses refused tells kept few once listing known words Output h = λ low. absurd (omega (arith, low))
   rules_refused asked Refuses refused tells kept few once listing known words Memory h = λ low. absurd (omega (arith, low))
 
-  -- the words of a listing were refused
+  -- the arguments of a listing were rejected
   pub words_refused : (asked : Asked) (order : PlainOrder) → (max_files < length order.files → max_files < length (files_asked asked)) → (1 < input_uses order order.files → 1 < inputs_asked asked) →
       ((fault : RequestFault) → IsWordsFault order fault → IsFormRefused asked fault) → Keeps old new → (failure : Failure) → AreWordsRefused order failure → HasFailed gives (Some asked) before old new failure
   words_refused asked order many twice form kept failure (inl h) = rw h.0 (λ low. record { cause = inl (many h.1); tells = tt; kept = kept })
   words_refused asked order many twice form kept failure (inr (inl h)) = rw h.0 (λ low. record { cause = inl (twice h.1); tells = tt; kept = kept })
   words_refused asked order many twice form kept failure (inr (inr h)) = rw h.1 (λ low. record { cause = inl (form h.0 h.2); tells = tt; kept = kept })
 
-  -- a listing was refused once its tables were made
+  -- a listing was rejected once its tables were made
   pub later_refused : (asked : Asked) (order : PlainOrder) (table : Table) (between : S) → ((failure : Failure) → IsListingRefused gives order table between failure → IsRefusedLater gives before asked failure) →
       (failure : Failure) → (status_of failure < 4 → IsListingRefused gives order table between failure × HidesNoMemory failure × Keeps old new) → HasFailed gives (Some asked) before old new failure
   later_refused asked order table between later (Specification fault) h = λ low. absurd (h low).0
@@ -220,13 +220,13 @@ module _ {S : Type 0} (gives : S → List ℕ → PlainInput → S → Type 0) (
     rules_no_table asked refused kept =
         rules_refused asked (IsNoTable text) refused (no_table_tells text) kept (λ r. absurd r) (λ r. absurd r) (λ fault r. absurd r) (λ name r. absurd r) (λ error r. absurd r)
 
-  -- the words on a scanner in C were refused
+  -- the arguments for a scanner in C were rejected
   pub scanner_refused : (asked : Asked) (c : PlainC) → ((fault : RequestFault) → IsScannerFault c fault → IsFormRefused asked fault) → Keeps old new →
       (failure : Failure) → AreScannerWordsRefused c failure → HasFailed gives (Some asked) before old new failure
   scanner_refused asked c form kept failure (inl h) = rw h (λ low. absurd (omega (arith, low)))
   scanner_refused asked c form kept failure (inr h) = rw h.1 (λ low. record { cause = inl (form h.0 h.2); tells = tt; kept = kept })
 
-  -- no file was made, or the kinds were refused
+  -- no file was made, or the kinds were rejected
   module _ (asked : Asked) (c : PlainC) (o : Options) (table : Table) (target : Option (List ℕ)) (form : target ≢ None → IsFormRefused asked NoTargets)
       (kinds : (failure : Failure) → AreKindsRefused c o table failure → AreRulesRefused gives before asked failure) where
     for_cause : (failure : Failure) → Keeps old new → ((failure ≡ Refused NoTargets) × (target ≢ None)) ⊎ AreKindsRefused c o table failure → IsRefused gives (Some asked) before old new failure
@@ -249,7 +249,7 @@ module _ {S : Type 0} (gives : S → List ℕ → PlainInput → S → Type 0) (
       (failure : Failure) → HasManyStates s.all table failure → HasFailed gives (Some (show s)) before old new failure
   show_too_large s table refused kept failure h = rw h.told (λ low. record { cause = subst (AreRulesRefused gives before (show s)) h.told (refused failure h); tells = tt; kept = kept })
 
-  -- the text is refused, as the report says
+  -- the text is rejected, as reported
   check_reported : (c : PlainCheck) (text : List ℕ) → ((failure : Failure) → IsReported c text failure → AreRulesRefused gives before (check c) failure) → Keeps old new →
       (failure : Failure) → IsReported c text failure → HasFailed gives (Some (check c)) before old new failure
   check_reported c text refused kept (Specification fault) h = λ low. let carried = h.carried in absurd cc
@@ -278,7 +278,7 @@ module _ {S : Type 0} (gives : S → List ℕ → PlainInput → S → Type 0) (
   explain_refused word failure h = λ low. let known = (h low).0 in
       rw known.0 (record { cause = subst (IsUnexplained word) known.0 known; tells = tt; kept = (h low).1 })
 
-  -- what flex reads wasn't brought over
+  -- the flex specification wasn't imported
   pub import_refused : (i : PlainImport) → ((failure : Failure) → IsNotImported failure → AreRulesRefused gives before (imports i) failure) → Keeps old new →
       (failure : Failure) → (failure ≡ Memory) ⊎ IsNotImported failure → HasFailed gives (Some (imports i)) before old new failure
   import_refused i refused kept failure (inl h) = rw h (λ low. absurd (omega (arith, low)))
@@ -301,7 +301,7 @@ module _ {S : Type 0} (gives : S → List ℕ → PlainInput → S → Type 0) (
   outputs_refused asked Is form kept failure (inl h) = rw h (λ low. absurd (omega (arith, low)))
   outputs_refused asked Is form kept failure (inr h) = rw h.1 (λ low. record { cause = inl (form h.0 h.2); tells = tt; kept = kept })
 
-  -- the stored specification was refused
+  -- the stored specification was rejected
   pub stored_refused : (failure : Failure) → (status_of failure < 4 → HasNoTables stored_specification failure × Keeps old new) → HasFailed gives (Some stored) before old new failure
   stored_refused failure h = λ low. rules_refused stored (HasNoTables stored_specification) (λ f r. r) (no_tables_tells stored_specification) (h low).1 (λ r. absurd r) (λ r. absurd r) (λ fault r. absurd r) (λ name r. absurd r) (λ error r. absurd r) failure (h low).0 low
 
@@ -318,7 +318,7 @@ pub ended_cut : {S : Type 0} (gives : S → List ℕ → PlainInput → S → Ty
 ended_cut gives before after old new cut None some h = absurd (some h)
 ended_cut gives before after old new cut (Some asked) some h = record { cut = cut; some = some; done = h }
 
--- what happened, once what is to be said of it is on the output
+-- the outcome, once its report is on the output
 module _ (old mid new : Option (List ℕ)) where
   kept_wrote : (report : Option (List ℕ)) → Keeps old mid → MatchOption report (Keeps mid new) (λ bytes. Appends mid new bytes) → MatchOption report (Keeps old new) (λ bytes. Appends old new bytes)
   kept_wrote None h k = keeps_both old mid new h k
@@ -337,7 +337,7 @@ module _ (old mid new : Option (List ℕ)) where
       let refused = failed low in
       record { cause = refused.cause; tells = refused.tells; wrote = kept_wrote (report_in failure) refused.kept wrote.1 }
 
--- what stands on the output stands there once it was sent on
+-- the contents of the output remain when they are flushed
 module _ (old mid new : Option (List ℕ)) (kept : Keeps mid new) where
   report_kept : (report : Option (List ℕ)) → MatchOption report (Keeps old mid) (λ bytes. Appends old mid bytes) → MatchOption report (Keeps old new) (λ bytes. Appends old new bytes)
   report_kept None h = keeps_both old mid new h kept
@@ -361,13 +361,13 @@ pub sent_as_well : {V : Type 0} (A P : Type 0) (ended sent : Result V Failure) �
 sent_as_well A P ended (Ok cut) h k = rw k.0 at h
 sent_as_well A P ended (Err failure) h k = tt
 
--- all was sent on where it went well
+-- after success all was flushed
 pub sent_on : {V U E : Type 0} (P : Type 0) (ended sent : Result V Failure) (answer : Result U E) → IfOk sent (λ cut. (ended ≡ Ok cut) × IsOk answer) → OnOk answer P → IfOk sent (λ cut. P)
 sent_on P ended (Ok cut) (Ok u) k h = h
 sent_on P ended (Ok cut) (Err e) k h = absurd (let is_ok = k.1 in cc)
 sent_on P ended (Err failure) answer k h = tt
 
--- what is known at an exit status from 1 to 3
+-- the facts at an exit status from 1 to 3
 pub has_ended : {S V : Type 0} (gives : S → List ℕ → PlainInput → S → Type 0) (asked : Option Asked) (before after : S) (old new : Option (List ℕ)) (items : V → List (Bor (List ℕ))) (ended : Result V Failure) (status : ℕ) →
     IfOk ended (λ cut. HasObeyed gives before after old new (texts_of (items cut)) asked) → IfErr ended (HasToldFailure gives asked before old new) →
     IfOk ended (λ cut. HasStatusOfCut status (items cut)) → IfErr ended (λ failure. status ≡ status_of failure) → 0 < status → status < 4 → HasEnded gives asked before after old new status
@@ -397,7 +397,7 @@ none_cut : {X : Type 0} (status : ℕ) (cut : List X) → HasStatusOfCut status 
 none_cut status [] told is = refl
 none_cut status (x ∷ xs) told is = let three = told.some (omega arith) in absurd (omega (arith, is, three))
 
--- what is known at exit status 0
+-- the facts at exit status 0
 pub has_done : {S V : Type 0} (gives : S → List ℕ → PlainInput → S → Type 0) (asked : Option Asked) (before after : S) (old new : Option (List ℕ)) (items : V → List (Bor (List ℕ))) (ended : Result V Failure) (status : ℕ) →
     IfOk ended (λ cut. HasObeyed gives before after old new (texts_of (items cut)) asked) →
     IfOk ended (λ cut. HasStatusOfCut status (items cut)) → IfErr ended (λ failure. status ≡ status_of failure) → status ≡ 0 → IfSome asked (HasDone gives before after old new [])

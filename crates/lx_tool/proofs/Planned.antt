@@ -13,7 +13,7 @@ use Rattle.lx_cli.specs.CommandLine.{PlainFormWords}
 use Rattle.lx_tool.specs.Planning.{AreBytes, IsPlanBy, IsPlanByRules, ListsAsked, ListsBy, ListsByRules, ListsByRulesIn, ListsPrefixBy, ListsPrefixByRules}
 use Rattle.lx_tool.specs.Tabling.{AreTablesOfText}
 
--- tables of a specification give of bytes its items by the rules
+-- the items that tables of a specification give for bytes are those by the rules
 pub record GiveItems : Type 0 where
   pub by_rules : (spec : PlainSpec) (table : Table) (bytes : List ℕ) → IsTable table → AreTablesOf spec table → All (λ b. b < 256) bytes → AreItemsBy spec bytes (scan.items_of table bytes)
 

@@ -1,4 +1,4 @@
--- Bytes that were read, and more behind them.
+-- Bytes that were read, and more after them.
 use Rattle.std.proofs.Common.{ℕ, zero, suc, ◌≡◌, ◌+◌, List, [], ◌∷◌, ◌++◌, Option, Some, None, sym, ◌∙◌, ap, refl, subst, append_assoc, arith, drop, length, take}
 use Rattle.lx_forms.specs.NameLists.{separators}
 use Rattle.std.specs.Io.KnownBytes.{Consumes}
@@ -17,7 +17,7 @@ reads_more (Some all) (Some rest) (Some behind) xs ys h k = h ∙ ap (λ l. xs +
 pub reads_on : (a b c : Option (List ℕ)) (old new : List ℕ) → Consumes a b old → ReadsOn b c old new → Consumes a c new
 reads_on a b c old new before on = subst (λ (bytes : List ℕ). Consumes a c bytes) (sym on.behind) (reads_more a b c old on.more before on.read)
 
--- ---- separators among the first bytes, and among those behind them
+-- ---- separators among the first bytes, and among those after them
 pub split : (s n : ℕ) (bytes : List ℕ) → separators s (take n bytes) + separators s (drop n bytes) ≡ separators s bytes
 split s zero bytes = omega arith
 split s (suc n) [] = refl

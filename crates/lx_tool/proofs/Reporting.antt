@@ -1,4 +1,4 @@
--- Reports of texts that are refused, or accepted.
+-- Reports of texts that are rejected, or accepted.
 use Rattle.std.proofs.Common.{ℕ, zero, suc, ◌≡◌, ◌<◌, Bool, true, false, List, ◌⊎◌, inl, inr, refl, sym, ◌∙◌, arith}
 use Rattle.lx_check.specs.Findings.{IfAccepted}
 use Rattle.lx_check.specs.declared.report.Report.{Report}
@@ -17,7 +17,7 @@ none_accepted P (report.Accepted accepted) h = absurd h
 asked_told : (check : PlainCheck) (kinds : KindSet) (said : List ℕ) → AreKindsAsked check kinds → BeginsWithWarning check.rules (has_kind kinds) said → TellsOne check said
 asked_told check kinds said k h = record { kind = h.kind; asked = sym (k.each h.kind) ∙ h.asked; told = h.told }
 
--- what is known of a text that is accepted and has warnings that are errors
+-- the facts about a text that is accepted and has warnings that are errors
 pub had_errors : (check : PlainCheck) (kinds : KindSet) (are_errors : Bool) (count : ℕ) (said : List ℕ) (r : Report) → are_errors ≡ has_error check.warnings → AreKindsAsked check kinds
     → (are_errors ≡ true) × (0 < count) → (check.json ≡ false → IfAccepted (λ accepted. TellsWarnings check.rules check.quiet (has_kind kinds) count said) r)
     → IfAccepted (λ accepted. HasErrors check said) r
@@ -30,7 +30,7 @@ told_or_none : (check : PlainCheck) (kinds : KindSet) (count : ℕ) (said : List
 told_or_none check kinds zero said k h = inr (h.none refl)
 told_or_none check kinds (suc n) said k h = inl (asked_told check kinds said k (h.some (omega arith)))
 
--- what is said of a text that is accepted, and has no warnings that are errors
+-- the report on a text that is accepted, and has no warnings that are errors
 pub accepted_told : (check : PlainCheck) (kinds : KindSet) (are_errors : Bool) (count : ℕ) (said : List ℕ) (r : Report) → IsAccepted r → are_errors ≡ has_error check.warnings
     → AreKindsAsked check kinds → (are_errors ≡ true → count ≡ 0) → IfAccepted (λ accepted. TellsWarnings check.rules check.quiet (has_kind kinds) count said) r → TellsAccepted check said
 accepted_told check kinds are_errors count said (report.Refused findings) is errors k none h = absurd is

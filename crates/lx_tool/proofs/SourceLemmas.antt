@@ -29,7 +29,7 @@ module _ (cut : List (List ℕ)) (files : List NamedBytes) (name : List ℕ) (i 
     is_name : same ≡ true → (slice_index_or files i d).0.now ≡ name
     is_name equal = (bytes_eq-Decides (slice_index_or files i d).0.now name).0 (sym is ∙ equal)
 
-    -- a file of this name stands at this place
+    -- a file of this name is at this place
     pub not_none : same ≡ true → NoneIsNamed (inputs_of cut files) name → ⊥
     not_none equal none_named =
         none_named i (named_input cut d) shown_within (ap (λ (file : List ℕ × PlainInput). file.0) shown_at ∙ is_name equal)

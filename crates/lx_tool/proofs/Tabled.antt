@@ -1,4 +1,4 @@
--- What is known where tables aren't made.
+-- The facts if tables aren't made.
 use Rattle.std.specs.Prelude.{◌≡◌, ℕ, List}
 use Rattle.lx_rules.specs.Plain.{PlainSpec}
 use Rattle.lx_spec.specs.Whole.{IsRead}

@@ -1,4 +1,4 @@
--- What `check` says of a specification.
+-- The report of `check` on a specification.
 use Rattle.std.specs.Prelude.{◌≡◌, ◌⊎◌, ⊤, ℕ, Bool, true, false, List, [], ◌∷◌, ◌++◌, Option, Some, Contains, codes, if◌then◌else◌}
 use Rattle.std.specs.Str.{bytes_eq}
 use Rattle.std.specs.Borrow.{Bor}
@@ -24,7 +24,7 @@ abbrev pub IsAccepted : Report → Type 0
 IsAccepted (report.Refused findings) = ⊥
 IsAccepted (report.Accepted accepted) = ⊤
 
--- This is to be said of the text: its verdict, so many faults at most, and of rules whether they are ever chosen.
+-- The report on the text: its verdict, at most this number of faults, and for each rule if it is ever chosen.
 pub record IsReportOf (most : ℕ) (text : List ℕ) (report : Report) : Type 0 where
   pub verdict : IsVerdict text report
   pub each : IfRefused (AreFindings most text) report
@@ -37,14 +37,14 @@ pub record IsAcceptedText (most : ℕ) (text : List ℕ) : Type 0 where
 
 -- ---- which warnings are asked for
 
--- a kind is asked for behind a word of `-W`, by whether it was before
+-- true if a kind is enabled after a word of `-W`, given its state before
 abbrev pub asked_by_word : WarningKind → Bool → List ℕ → Bool
 asked_by_word kind was word =
     if bytes_eq word (codes "all") then true
     else (if bytes_eq word (name_text kind) then true
     else (if bytes_eq word (codes "no-" ++ name_text kind) then false else was))
 
--- a kind is asked for behind some words, which switch it on and off in turn
+-- true if a kind is enabled after some words, which switch it on and off in turn
 abbrev pub asked_by_words : WarningKind → Bool → List (List ℕ) → Bool
 asked_by_words kind was [] = was
 asked_by_words kind was (word ∷ words) = asked_by_words kind (asked_by_word kind was word) words
@@ -62,22 +62,22 @@ has_error (word ∷ words) = if bytes_eq word (codes "error") then true else has
 abbrev pub HasErrorWord : PlainCheck → Type 0
 HasErrorWord check = has_error check.warnings ≡ true
 
--- ---- what is said
+-- ---- the report
 
--- A warning that is asked for is told first.
+-- The report begins with a warning that is enabled.
 abbrev pub TellsOne : PlainCheck → List ℕ → Type 0
 TellsOne check said = BeginsWithWarning check.rules (is_asked check) said
 
--- None is told.
+-- No warning is reported.
 abbrev pub TellsNone : PlainCheck → List ℕ → Type 0
 TellsNone check said = TellsNoWarning check.rules check.quiet said
 
--- It is said of a text that is accepted: where `-W error` is asked for, no warning is told.
+-- The report on a text that is accepted: with `-W error` it has no warning.
 pub record TellsAccepted (check : PlainCheck) (said : List ℕ) : Type 0 where
   pub warnings : TellsOne check said ⊎ TellsNone check said
   pub no_errors : HasErrorWord check → TellsNone check said
 
--- A text that is accepted is refused here: `-W error` is asked for, and there is a warning that is asked for. In JSON no more is known of what is said.
+-- A text that is accepted is rejected here, because of `-W error` and an enabled warning. In JSON no more is known of the report.
 pub record HasErrors (check : PlainCheck) (said : List ℕ) : Type 0 where
   pub word : HasErrorWord check
   pub warning : check.json ≡ false → TellsOne check said
@@ -91,8 +91,8 @@ pub record IsChecked {S : Type 0} (gives : S → List ℕ → PlainInput → S �
   pub tells : check.json ≡ false → TellsAccepted check said
   pub wrote : Appends old new said
 
--- The failure carries what is to be said of the text: that it is refused, or, where that is asked for, has warnings that are errors. Where that isn't in JSON, it begins with
--- the verdict.
+-- The failure carries the report on the text: it is rejected, or has warnings that are errors, if those are asked for. Unless it is in JSON, the
+-- report begins with the verdict.
 pub record IsReported (check : PlainCheck) (text : List ℕ) (failure : Failure) : Type 0 where
   pub report : Report
   pub of_text : IsReportOf check.most text report

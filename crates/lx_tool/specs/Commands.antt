@@ -1,4 +1,4 @@
--- What the program does, by what its words ask for.
+-- The effects of the program, by the request of its arguments.
 use Rattle.std.specs.Prelude.{◌≡◌, ◌≢◌, ℕ, Bool, ◌<◌, ◌⊎◌, List, [], ◌∷◌, ◌++◌, Option, Some, None, Contains, IsSomeAnd, MatchOption, codes, length}
 use Rattle.std.specs.Option.{option_map_or}
 use Rattle.std.specs.Io.KnownBytes.{Keeps}
@@ -30,9 +30,10 @@ stored_specification = codes "%%\n[a-z]+ return ID;\n[0-9]+ return NUM;\n[ \\n]+
 abbrev pub stored_text : List ℕ
 stored_text = codes "ab 12\n"
 
--- ---- what is done
+-- ---- success
 
--- The sources gave the text with the order's first name, whole, and behind it the files, in order, which were listed as the text says and the words ask.
+-- The sources gave the text with the order's first name, whole, and after it the files, in order. They were listed by the text, in the form of the
+-- arguments.
 pub record AreListedBy {S : Type 0} (gives : S → List ℕ → PlainInput → S → Type 0) (Lists : List ℕ → List (List ℕ) → List PlainInput → Type 0) (order : PlainOrder) (before after : S) (cut : List (List ℕ)) : Type 0 where
   pub text : List ℕ
   pub between : S
@@ -51,7 +52,7 @@ pub record AreListedAs {S : Type 0} (gives : S → List ℕ → PlainInput → S
   pub judged : AreJudged order names
   pub listed : AreListed gives (λ inputs. ListsAsked order.form table names inputs old new) names behind after cut
 
--- They gave the text of which the words print something, whole; `Prints` says what that is, and it went to the output, unless a file gets it.
+-- They gave the text that the print order names, whole. `Prints` gives the printed text, which went to the output, unless a file gets it.
 pub record IsPrinted {S : Type 0} (gives : S → List ℕ → PlainInput → S → Type 0) (Prints : List ℕ → List ℕ → Type 0) (print : PlainPrint) (before after : S) (old new : Option (List ℕ)) : Type 0 where
   pub text : List ℕ
   pub given : gives before print.rules (whole text) after
@@ -59,7 +60,7 @@ pub record IsPrinted {S : Type 0} (gives : S → List ℕ → PlainInput → S �
   pub prints : Prints text printed
   pub written : IsWritten print.target printed old new
 
--- What the words ask for was done; `cut` names the files that were cut short.
+-- The request was carried out; `cut` names the files that were cut short.
 abbrev pub HasDone : {S : Type 0} → (S → List ℕ → PlainInput → S → Type 0) → S → S → Option (List ℕ) → Option (List ℕ) → List (List ℕ) → Asked → Type 0
 HasDone gives before after old new cut stored = ListsByRules stored_specification (whole stored_text ∷ []) old new × (cut ≡ [])
 HasDone gives before after old new cut (run order) = AreListedBy gives (λ text names inputs. ListsByRulesIn order.form text names inputs old new) order before after cut
@@ -71,9 +72,9 @@ HasDone gives before after old new cut (explain word) = IsExplained word old new
 HasDone gives before after old new cut (show s) = IsShown gives s before after old new × (cut ≡ [])
 HasDone gives before after old new cut (imports i) = IsBroughtOver gives i before after old new × (cut ≡ [])
 
--- ---- what is put into files
+-- ---- the texts put into files
 
--- They gave that text, and the file of `-o`, which isn't the input, got what is printed of it, where it is given; and else none was made.
+-- They gave that text. The file of `-o`, if it is given, isn't the input, and got the printed text; else no file was made.
 pub record HasPlacedText {S T : Type 0} (gives : S → List ℕ → PlainInput → S → Type 0) (places : T → List ℕ → List ℕ → T → Type 0) (same : T → List ℕ → List ℕ → Bool → Type 0) (Prints : List ℕ → List ℕ → Type 0) (print : PlainPrint) (before : S) (old new : T) : Type 0 where
   pub text : List ℕ
   pub after : S
@@ -83,7 +84,7 @@ pub record HasPlacedText {S T : Type 0} (gives : S → List ℕ → PlainInput �
   pub apart : IsApart same old print.target print.rules
   pub placed : IsPlaced places print.target printed old new
 
--- What files were made for what the words ask for.
+-- The files that were made for the request.
 abbrev pub HasPlaced : {S T : Type 0} → (S → List ℕ → PlainInput → S → Type 0) → (T → List ℕ → List ℕ → T → Type 0) → (T → List ℕ → List ℕ → Bool → Type 0) → S → T → T → Option Asked → Type 0
 HasPlaced gives places same before old new (Some (gen print)) = HasPlacedText gives places same (PrintsSpecification print.c) print before old new
 HasPlaced gives places same before old new (Some (up print)) = HasPlacedText gives places same (PrintsTables print.c) print before old new
@@ -126,7 +127,7 @@ names_asked (explain word) = []
 names_asked (show s) = s.rules ∷ []
 names_asked (imports i) = i.rules ∷ []
 
--- how many of them are standard input
+-- the number of them that are standard input
 abbrev pub inputs_asked : Asked → ℕ
 inputs_asked stored = 0
 inputs_asked (run order) = input_uses order order.files
@@ -138,14 +139,14 @@ inputs_asked (explain word) = 0
 inputs_asked (show s) = input_count s.rules
 inputs_asked (imports i) = input_count i.rules
 
--- The sources gave the text with this name, whole, which is refused.
+-- The sources gave the text with this name, whole, which is rejected.
 pub record IsTextRefused {S : Type 0} (gives : S → List ℕ → PlainInput → S → Type 0) (Refuses : List ℕ → Type 0) (name : List ℕ) (before : S) : Type 0 where
   pub text : List ℕ
   pub after : S
   pub given : gives before name (whole text) after
   pub refused : Refuses text
 
--- the specification or the tables are refused, or nothing is known of the word
+-- the specification or the tables are rejected, or the word is unknown
 abbrev pub AreRulesRefused : {S : Type 0} → (S → List ℕ → PlainInput → S → Type 0) → S → Asked → Failure → Type 0
 AreRulesRefused gives before stored failure = HasNoTables stored_specification failure
 AreRulesRefused gives before (run order) failure = IsTextRefused gives (λ text. HasNoTables text failure) order.rules before
@@ -157,7 +158,7 @@ AreRulesRefused gives before (explain word) failure = IsUnexplained word failure
 AreRulesRefused gives before (show s) failure = IsTextRefused gives (λ text. IsNotShown s text failure) s.rules before
 AreRulesRefused gives before (imports i) failure = IsTextRefused gives (λ text. IsNotImported failure) i.rules before
 
--- the words of a listing are refused
+-- the arguments of a listing are rejected
 abbrev pub AreWordsRefused : PlainOrder → Failure → Type 0
 AreWordsRefused order failure =
     ((failure ≡ TooManyFiles) × (max_files < length order.files))
@@ -173,7 +174,7 @@ pub record RulesGiven {S : Type 0} (gives : S → List ℕ → PlainInput → S 
   pub tables : AreTables text table
   pub holds : Holds table between
 
--- a listing was refused once its specification or its tables were taken
+-- a listing was rejected once its specification or its tables were taken
 abbrev pub IsRefusedLater : {S : Type 0} → (S → List ℕ → PlainInput → S → Type 0) → S → Asked → Failure → Type 0
 IsRefusedLater gives before stored failure = ⊥
 IsRefusedLater gives before (run order) failure = RulesGiven gives AreTablesOfText order before (λ table between. IsListingRefused gives order table between failure)
@@ -193,7 +194,7 @@ IsTargetRefused print fault = ((fault ≡ NoTargets) × (print.target ≢ None))
 abbrev pub IsPlacingFault : Failure → Type 0
 IsPlacingFault failure = (failure ≡ Refused NoTargets) ⊎ ((failure ≡ Output) ⊎ (failure ≡ Memory))
 
--- the words on the form of a listing, on its files, on the file of `-o`, or on a scanner in C are refused
+-- the arguments for the form of a listing, for its files, for the file of `-o`, or for a scanner in C are rejected
 abbrev pub IsFormRefused : Asked → RequestFault → Type 0
 IsFormRefused stored fault = ⊥
 IsFormRefused (run order) fault = IsWordsFault order fault
@@ -205,7 +206,7 @@ IsFormRefused (explain word) fault = ⊥
 IsFormRefused (show s) fault = ⊥
 IsFormRefused (imports i) fault = AreImportWordsRefused i fault
 
--- why what the words ask for was not done
+-- the cause for which a request was not carried out
 abbrev pub HasCause : {S : Type 0} → (S → List ℕ → PlainInput → S → Type 0) → S → Asked → Failure → Type 0
 HasCause gives before asked (Specification fault) = AreRulesRefused gives before asked (Specification fault)
 HasCause gives before asked (Automaton fault) = AreRulesRefused gives before asked (Automaton fault)
@@ -219,7 +220,7 @@ HasCause gives before asked (NotRead name) = Contains (names_asked asked) name.n
 HasCause gives before asked Output = ⊥
 HasCause gives before asked Memory = ⊥
 
--- ---- both, by what the words ask for, if they ask for anything
+-- ---- both, by the request, if the arguments make one
 
 -- It was done; or they ask for nothing, but for help.
 abbrev pub HasObeyed : {S : Type 0} → (S → List ℕ → PlainInput → S → Type 0) → S → S → Option (List ℕ) → Option (List ℕ) → List (List ℕ) → Option Asked → Type 0
@@ -232,17 +233,17 @@ pub record IsCutShort {S : Type 0} (gives : S → List ℕ → PlainInput → S 
   pub some : cut ≢ []
   pub done : IsSomeAnd asked (HasDone gives before after old new cut)
 
--- Nothing was written: the words ask for nothing, or what they ask for was not done, for a cause that isn't the output or memory.
+-- Nothing was written: the arguments make no request, or it was not carried out, for a cause that isn't the output or memory.
 pub record IsRefused {S : Type 0} (gives : S → List ℕ → PlainInput → S → Type 0) (asked : Option Asked) (before : S) (old new : Option (List ℕ)) (failure : Failure) : Type 0 where
   pub cause : MatchOption asked (status_of failure ≡ 2) (λ a. HasCause gives before a failure)
   pub tells : HidesNoMemory failure
   pub kept : Keeps old new
 
--- Where a command failed for a cause that isn't the output or memory, it was refused.
+-- If a command failed for a cause that isn't the output or memory, it was rejected.
 abbrev pub HasFailed : {S : Type 0} → (S → List ℕ → PlainInput → S → Type 0) → Option Asked → S → Option (List ℕ) → Option (List ℕ) → Failure → Type 0
 HasFailed gives asked before old new failure = status_of failure < 4 → IsRefused gives asked before old new failure
 
--- What the words ask for was not done, for a cause that isn't the output or memory; nothing was written but the report of `check`.
+-- The request was not carried out, for a cause that isn't the output or memory. Only the report of `check` was written, if there is one.
 pub record IsTold {S : Type 0} (gives : S → List ℕ → PlainInput → S → Type 0) (asked : Option Asked) (before : S) (old new : Option (List ℕ)) (failure : Failure) : Type 0 where
   pub cause : MatchOption asked (status_of failure ≡ 2) (λ a. HasCause gives before a failure)
   pub tells : HidesNoMemory failure
@@ -251,7 +252,7 @@ pub record IsTold {S : Type 0} (gives : S → List ℕ → PlainInput → S → 
 abbrev pub HasToldFailure : {S : Type 0} → (S → List ℕ → PlainInput → S → Type 0) → Option Asked → S → Option (List ℕ) → Option (List ℕ) → Failure → Type 0
 HasToldFailure gives asked before old new failure = status_of failure < 4 → IsTold gives asked before old new failure
 
--- What is known at an exit status from 1 to 3: a cut file, or why the words were refused or not obeyed.
+-- The facts at an exit status from 1 to 3: a cut file, or the cause for which the arguments were rejected or not carried out.
 abbrev pub HasEnded : {S : Type 0} → (S → List ℕ → PlainInput → S → Type 0) → Option Asked → S → S → Option (List ℕ) → Option (List ℕ) → ℕ → Type 0
 HasEnded gives asked before after old new status =
     ((status ≡ 3) × IsCutShort gives asked before after old new)

@@ -1,4 +1,4 @@
--- What `explain` prints: what a code of an error or a cause means, or a list of all.
+-- The text that `explain` prints: the meaning of a code of an error or of a cause, or a list of all.
 use Rattle.std.specs.Prelude.{◌≡◌, ◌≢◌, Option, None, true, nat_eq, IfSome, List, ℕ}
 use Rattle.std.specs.Io.KnownBytes.{Appends}
 use Rattle.std.specs.List.{starts_with}
@@ -6,7 +6,7 @@ use Rattle.lx_tool.specs.declared.failure.Failure.{Failure}
 use Rattle.lx_tool.specs.declared.failure.Failure.TheVariants.{Unprintable}
 use Rattle.lx_tool.specs.declared.failure.PrintFault.TheVariants.{Unexplained}
 
--- Something was written; where a word is given, it begins with that.
+-- Something was written; if a word is given, it begins with that.
 pub record IsExplained (word : Option (List ℕ)) (old new : Option (List ℕ)) : Type 0 where
   pub said : List ℕ
   pub wrote : Appends old new said

@@ -1,4 +1,4 @@
--- What is listed of the files that sources give, and why they aren't listed.
+-- The listings of files that sources give, and the causes for which they aren't listed.
 use Rattle.std.specs.Prelude.{◌≡◌, ℕ, ◌⊎◌, ⊤, List, Option, Contains}
 use Rattle.std.specs.Io.KnownBytes.{Keeps}
 use Rattle.lx_piece.specs.Plans.{PlainInput}
@@ -28,12 +28,12 @@ pub record ArePartlyListed {S : Type 0} (gives : S → List ℕ → PlainInput �
   pub bytes : AreBytes inputs
   pub listed : ListsPrefix inputs
 
--- The sources gave inputs for these names, in this order, whose listing, as `Lists` says, is what was written; `cut` names those that were cut short.
+-- The sources gave inputs for these names, in this order. Their listing by `Lists` was written; `cut` names those that were cut short.
 abbrev pub ListsGiven : {S : Type 0} → (S → List ℕ → PlainInput → S → Type 0) → (List PlainInput → Option (List ℕ) → Option (List ℕ) → Type 0) → List (List ℕ) → S → S →
     Option (List ℕ) → Option (List ℕ) → List (List ℕ) → Type 0
 ListsGiven gives Lists names before after old new cut = AreListed gives (λ inputs. Lists inputs old new) names before after cut
 
--- one of the files with these names can't be opened, or memory was refused
+-- one of the files with these names can't be opened, or an allocation failed
 abbrev pub IsUnread : List (List ℕ) → Failure → Type 0
 IsUnread names (Specification fault) = ⊥
 IsUnread names (Automaton fault) = ⊥
@@ -47,7 +47,7 @@ IsUnread names (NotRead name) = Contains names name.now
 IsUnread names Output = ⊥
 IsUnread names Memory = ⊤
 
--- why a text is no table's, or that memory was refused
+-- the cause for which a text is no table's, or a failed allocation
 abbrev pub IsNoTable : List ℕ → Failure → Type 0
 IsNoTable text (Specification fault) = ⊥
 IsNoTable text (Automaton fault) = ⊥
@@ -66,8 +66,8 @@ pub record IsUntouched {S : Type 0} (before after : S) (old new : Option (List �
   pub sources : after ≡ before
   pub output : Keeps old new
 
--- The text that files are listed by was refused, as `Cause` says, before a file was read; or a file can't be opened, and nothing was written;
--- or the output failed behind a prefix, as `Part` says; or memory was refused, and nothing was written or a prefix.
+-- A listing fails in four ways. The text that files are listed by was rejected, by `Cause`, before a file was read. A file can't be opened, and
+-- nothing was written. The output failed after a prefix, by `Part`. An allocation failed, and nothing was written or a prefix.
 abbrev pub FailsListing : {S : Type 0} → (Failure → Type 0) → Type 0 → List (List ℕ) → S → S → Option (List ℕ) → Option (List ℕ) → Failure → Type 0
 FailsListing Cause Part names before after old new (Specification fault) = Cause (Specification fault) × IsUntouched before after old new
 FailsListing Cause Part names before after old new (Automaton fault) = Cause (Automaton fault) × IsUntouched before after old new

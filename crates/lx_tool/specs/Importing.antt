@@ -1,4 +1,4 @@
--- What `import` prints: a specification made of one for flex.
+-- The text that `import` prints: a specification made of one for flex.
 use Rattle.std.specs.Prelude.{◌≡◌, ◌≢◌, ◌⊎◌, ℕ, Bool, true, false, List, Option, None}
 use Rattle.lx_flex.specs.Imported.{FlexDefinition, FlexRule, IsImported}
 use Rattle.lx_rules.specs.Plain.{StartCondition}
@@ -16,7 +16,7 @@ use Rattle.lx_tool.specs.declared.failure.RequestFault.{RequestFault}
 use Rattle.lx_tool.specs.declared.failure.RequestFault.TheVariants.{NoTargets, Outputs}
 use Rattle.lx_tool.specs.declared.failure.OutputFault.{OutputFault}
 
--- the words of a scanner in C whose kinds begin as those of the actions do
+-- the options of a scanner in C whose kinds have the prefix of the actions' kinds
 abbrev pub kinds_words : PlainImport → PlainC
 kinds_words i = record { scanner = true; header = false; prefix = i.prefix; include = None; direct = false }
 
@@ -25,7 +25,8 @@ pub record HasTables (text : List ℕ) : Type 0 where
   pub table : Table
   pub of_text : AreTablesOfText text table
 
--- lx accepts the text, has tables of it, and reads it as rules of flex: as many, in their order, each active in the same conditions, with the same anchors and the same texts
+-- lx accepts the text, has tables of it, and reads it as the rules of flex. Their number and order are the same, and each has the same conditions,
+-- anchors and texts.
 pub record IsOfFlex (text : List ℕ) : Type 0 where
   pub conditions : List StartCondition
   pub definitions : List FlexDefinition
@@ -33,7 +34,7 @@ pub record IsOfFlex (text : List ℕ) : Type 0 where
   pub imported : IsImported conditions definitions rules text
   pub tables : HasTables text
 
--- They gave the text that the words name, whole; what is printed is of flex, and went to the output, unless a file gets it.
+-- They gave the text that the arguments name, whole. The printed text is of flex, and went to the output, unless a file gets it.
 pub record IsBroughtOver {S : Type 0} (gives : S → List ℕ → PlainInput → S → Type 0) (i : PlainImport) (before after : S) (old new : Option (List ℕ)) : Type 0 where
   pub text : List ℕ
   pub given : gives before i.rules (whole text) after
@@ -41,7 +42,8 @@ pub record IsBroughtOver {S : Type 0} (gives : S → List ℕ → PlainInput →
   pub of_flex : IsOfFlex printed
   pub written : IsWritten i.target printed old new
 
--- They gave that text; the file of `-c` got some text, where it is given, and after it the file of `-o` what is printed. Neither is the input, nor are both one.
+-- They gave that text. The file of `-c`, if it is given, got some text, and after it the file of `-o` the printed one. Neither is the input, nor are
+-- both the same.
 pub record HasPlacedImport {S T : Type 0} (gives : S → List ℕ → PlainInput → S → Type 0) (places : T → List ℕ → List ℕ → T → Type 0) (same : T → List ℕ → List ℕ → Bool → Type 0) (i : PlainImport) (before : S) (old new : T) : Type 0 where
   pub text : List ℕ
   pub after : S
@@ -54,14 +56,14 @@ pub record HasPlacedImport {S T : Type 0} (gives : S → List ℕ → PlainInput
   pub first : IsPlaced places i.actions actions old between
   pub second : IsPlaced places i.target printed between new
 
--- a text isn't written: the output failed, memory was refused, or there is a file for it and none can be made
+-- a text isn't written: the output failed, an allocation failed, or there is a file for it and none can be made
 abbrev pub IsUnplaced : Option (List ℕ) → Failure → Type 0
 IsUnplaced target failure = (failure ≡ Output) ⊎ ((failure ≡ Memory) ⊎ ((failure ≡ Refused NoTargets) × (target ≢ None)))
 
--- files are asked for, and none can be made; or they are the input or one another; or the prefix is refused
+-- files are asked for, and none can be made; or they are the input or one another; or the prefix is rejected
 abbrev pub AreImportWordsRefused : PlainImport → RequestFault → Type 0
 AreImportWordsRefused i fault = ((fault ≡ NoTargets) × ((i.actions ≢ None) ⊎ (i.target ≢ None))) ⊎ (((f : OutputFault) × (fault ≡ Outputs f) × AreOutputsOfImportRefused i f) ⊎ IsScannerFault (kinds_words i) fault)
 
--- what flex reads can't all be brought over
+-- the flex specification can't be imported
 abbrev pub IsNotImported : Failure → Type 0
 IsNotImported failure = failure ≡ Unprintable NotImported

@@ -1,8 +1,9 @@
--- Names of files of any bytes. A text that stands for such a name has, for each byte that is no text, a character that carries it: one of those from U+10FE00
--- to U+10FEFF, which are for private use. In UTF-8 it is the bytes 244 and 143, one from 184 to 187, and one from 128 to 191.
+-- Names of files of any bytes. A text represents such a name: for each byte that isn't text, it has a character that carries the byte. These
+-- characters are those from U+10FE00 to U+10FEFF, for private use. In UTF-8 each is the bytes 244 and 143, one from 184 to 187, and one from 128 to
+-- 191.
 use Rattle.std.specs.Prelude.{ℕ, suc, zero, ◌+◌, ◌-◌, ◌*◌, ◌∷◌, [], Bool, false, ◌&&◌, if◌then◌else◌, List, nat_eq, nat_le}
 
--- a character that carries a byte stands at the front
+-- the text begins with a character that carries a byte
 abbrev pub carries_byte : List ℕ → Bool
 carries_byte [] = false
 carries_byte (a ∷ []) = false
@@ -18,12 +19,12 @@ carried_byte (a ∷ b ∷ []) = 0
 carried_byte (a ∷ b ∷ c ∷ []) = 0
 carried_byte (a ∷ b ∷ c ∷ d ∷ rest) = (c - 184) * 64 + (d - 128)
 
--- the bytes that a text stands for, of which the first ones, this many, are passed over
+-- the bytes that a text represents, after this number of skipped bytes
 unfoldable pub bytes_after : ℕ → List ℕ → List ℕ
 bytes_after passed [] = []
 bytes_after (suc passed) (x ∷ text) = bytes_after passed text
 bytes_after zero (x ∷ text) = if carries_byte (x ∷ text) then carried_byte (x ∷ text) ∷ bytes_after 3 text else x ∷ bytes_after zero text
 
--- the bytes that a text stands for
+-- the bytes that a text represents
 abbrev pub name_bytes : List ℕ → List ℕ
 name_bytes text = bytes_after 0 text

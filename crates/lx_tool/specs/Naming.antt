@@ -1,4 +1,4 @@
--- The files that a listing's words name, and those that LIST names behind them; and the form that the words ask for.
+-- The files that a listing's arguments name, and those that LIST names after them; and the form that the arguments ask for.
 use Rattle.std.specs.Prelude.{◌≡◌, ◌≢◌, ℕ, ◌+◌, ◌-◌, ◌<◌, ◌≤◌, ◌⊎◌, ⊤, Bool, if◌then◌else◌, List, [], ◌∷◌, Option, Some, None, Contains, IsSomeAnd, MatchOption, codes, length, map}
 use Rattle.std.specs.Option.{option_map_or}
 use Rattle.std.specs.Str.{bytes_eq}
@@ -21,13 +21,13 @@ use Rattle.lx_tool.specs.declared.failure.RequestFault.TheVariants.{NoKind, Empt
 
 -- ---- the names of files
 
--- The sources gave the text of LIST, whole, and its names stand behind these.
+-- The sources gave the text of LIST, whole, and its names come after these.
 pub record AreListNames {S : Type 0} (gives : S → List ℕ → PlainInput → S → Type 0) (list : PlainList) (files : List (List ℕ)) (before after : S) (names : List (List ℕ)) : Type 0 where
   pub text : List ℕ
   pub given : gives before list.name (whole text) after
   pub named : AreNamed list.separator text files names
 
--- the names of a listing's files: those of the words, and behind them those of LIST, if it is given
+-- the names of a listing's files: those of the arguments, and after them those of LIST, if it is given
 abbrev pub AreFileNames : {S : Type 0} → (S → List ℕ → PlainInput → S → Type 0) → PlainOrder → S → S → List (List ℕ) → Type 0
 AreFileNames gives order before after names =
     MatchOption order.list ((names ≡ order.files) × (after ≡ before)) (λ list. AreListNames gives list order.files before after names)
@@ -36,16 +36,16 @@ AreFileNames gives order before after names =
 abbrev pub input_count : List ℕ → ℕ
 input_count name = if bytes_eq name (codes "-") then 1 else 0
 
--- how many of the names are that of standard input
+-- the number of names that are that of standard input
 abbrev pub inputs_among : List (List ℕ) → ℕ
 inputs_among [] = 0
 inputs_among (name ∷ names) = input_count name + inputs_among names
 
--- one for LIST where it is standard input
+-- one for LIST if it is standard input
 abbrev pub list_input : PlainOrder → ℕ
 list_input order = option_map_or (λ list. input_count list.name) order.list 0
 
--- how many of the specification or tables, of LIST and of these files are standard input
+-- the number of uses of standard input: as specification or tables, as LIST and as one of these files
 abbrev pub input_uses : PlainOrder → List (List ℕ) → ℕ
 input_uses order names = input_count order.rules + list_input order + inputs_among names
 
@@ -68,7 +68,8 @@ abbrev pub IsKnownFormat : Option (List ℕ) → Type 0
 IsKnownFormat None = ⊤
 IsKnownFormat (Some word) = (word ≡ codes "json") ⊎ (word ≡ codes "text")
 
--- What holds of the words and of the names of files that are listed: the form is known, there is a name, standard input is read once at most, and each file has a number.
+-- The facts about the arguments and the names of listed files. The form is known, there is a name, standard input is read at most once, and each file
+-- has a number.
 pub record AreJudged (order : PlainOrder) (names : List (List ℕ)) : Type 0 where
   pub format : IsKnownFormat order.form.format
   pub some : 0 < length names
@@ -77,7 +78,7 @@ pub record AreJudged (order : PlainOrder) (names : List (List ℕ)) : Type 0 whe
 
 -- ---- the form
 
--- what `--format` says: nothing, `text` or `json`
+-- the word of `--format`: none, `text` or `json`
 abbrev pub is_json : List ℕ → Bool
 is_json word = bytes_eq word (codes "json")
 
@@ -85,7 +86,7 @@ abbrev pub format_by : Option (List ℕ) → Format
 format_by None = Lines
 format_by (Some word) = if is_json word then Json else Lines
 
--- what `--only` lets pass, by the kinds of the tables
+-- the kinds that `--only` selects, by the kinds of the tables
 abbrev pub IsOnly : Table → Option (List ℕ) → Option Selected → Type 0
 IsOnly table None only = only ≡ None
 IsOnly table (Some text) only = IsSomeAnd only (IsChosen table text)
@@ -98,9 +99,9 @@ pub record IsFormOf (words : PlainFormWords) (table : Table) (names : List (List
   pub text : form.text ≡ words.text
   pub format : form.format ≡ format_by words.format
 
--- ---- what is refused
+-- ---- rejections
 
--- why a listing's words alone are refused
+-- the fault for which a listing's arguments alone are rejected
 abbrev pub IsWordsFault : PlainOrder → RequestFault → Type 0
 IsWordsFault order (NoFormat word) = (order.form.format ≡ Some word.now) × (word.now ≢ codes "json") × (word.now ≢ codes "text")
 IsWordsFault order NoFile = (order.files ≡ []) × (order.list ≡ None)
@@ -115,7 +116,7 @@ IsWordsFault order NoScanner = ⊥
 IsWordsFault order (Scanner f) = ⊥
 IsWordsFault order NumberTooLarge = ⊥
 
--- why a listing's files or its form are refused, where its tables are these
+-- the fault for which a listing's files or its form are rejected, given its tables
 abbrev pub IsListingFault : {S : Type 0} → (S → List ℕ → PlainInput → S → Type 0) → PlainOrder → Table → S → RequestFault → Type 0
 IsListingFault gives order table before (NoFormat word) = ⊥
 IsListingFault gives order table before NoFile = FilesHave gives order before (λ names. names ≡ [])
@@ -131,11 +132,11 @@ IsListingFault gives order table before NoScanner = ⊥
 IsListingFault gives order table before (Scanner f) = ⊥
 IsListingFault gives order table before NumberTooLarge = FilesHave gives order before (λ names. max_number + 1 < order.form.first + length names)
 
--- LIST names more files than may stand behind those of the words
+-- LIST names more files than may follow those of the arguments
 abbrev pub IsListTooLong : {S : Type 0} → (S → List ℕ → PlainInput → S → Type 0) → PlainOrder → S → Type 0
 IsListTooLong gives order before = IsSomeAnd order.list (λ l. ListSays gives l before (λ text. HasMoreNames l.separator text (max_files - length order.files)))
 
--- why a listing is refused before its first line, where its tables are these: its form, its names, or a file that can't be read
+-- the cause for which a listing is rejected before its first line, given its tables: its form, its names, or a file that can't be read
 abbrev pub IsListingRefused : {S : Type 0} → (S → List ℕ → PlainInput → S → Type 0) → PlainOrder → Table → S → Failure → Type 0
 IsListingRefused gives order table before (Specification fault) = ⊥
 IsListingRefused gives order table before (Automaton fault) = ⊥
@@ -150,7 +151,7 @@ IsListingRefused gives order table before (NotRead name) =
 IsListingRefused gives order table before Output = ⊥
 IsListingRefused gives order table before Memory = ⊤
 
--- ---- each of them, by the step at which it is refused
+-- ---- each of them, by the step at which it is rejected
 
 -- `--format` has a word that isn't known
 abbrev pub IsFormatFault : PlainFormWords → RequestFault → Type 0
@@ -167,14 +168,14 @@ IsFormatFault words NoScanner = ⊥
 IsFormatFault words (Scanner f) = ⊥
 IsFormatFault words NumberTooLarge = ⊥
 
--- these names of files are refused
+-- these names of files are rejected
 abbrev pub AreNamesRefused : PlainOrder → List (List ℕ) → Failure → Type 0
 AreNamesRefused order names failure =
     ((failure ≡ Refused NoFile) × (names ≡ []))
     ⊎ (((failure ≡ InputTwice) × (1 < input_uses order names))
     ⊎ ((failure ≡ Refused NumberTooLarge) × (max_number + 1 < order.form.first + length names)))
 
--- LIST can't be read, or what it names is refused, or memory was
+-- LIST can't be read, or its names are rejected, or an allocation failed
 abbrev pub IsListRefused : {S : Type 0} → (S → List ℕ → PlainInput → S → Type 0) → PlainList → List (List ℕ) → S → Failure → Type 0
 IsListRefused gives list files before failure =
     (failure ≡ Memory)
@@ -186,6 +187,6 @@ IsListRefused gives list files before failure =
 abbrev pub AreNamesUnread : {S : Type 0} → (S → List ℕ → PlainInput → S → Type 0) → PlainOrder → S → Failure → Type 0
 AreNamesUnread gives order before failure = (failure ≡ Memory) ⊎ IsSomeAnd order.list (λ list. IsListRefused gives list order.files before failure)
 
--- `--only` is refused, or memory was
+-- `--only` is rejected, or an allocation failed
 abbrev pub IsOnlyRefused : Table → Option (List ℕ) → Failure → Type 0
 IsOnlyRefused table only failure = IsSomeAnd only (λ text. (fault : ChoiceFault) × (failure ≡ failure_of_choice fault) × IsRefusedChoice table text fault)

@@ -12,7 +12,7 @@ use Rattle.lx_tool.specs.declared.failure.RequestFault.TheVariants.{Outputs}
 abbrev pub IsApart : {T : Type 0} → (T → List ℕ → List ℕ → Bool → Type 0) → T → Option (List ℕ) → List ℕ → Type 0
 IsApart same targets output name = MatchOption output ⊤ (λ file. same targets file name false)
 
--- They answered so of the files of `-o` and `-c`, where both are given.
+-- They gave this answer for the files of `-o` and `-c`, if both are given.
 abbrev pub AreApart : {T : Type 0} → (T → List ℕ → List ℕ → Bool → Type 0) → T → PlainImport → Type 0
 AreApart same targets i = MatchOption i.target ⊤ (λ file. MatchOption i.actions ⊤ (λ actions. same targets file actions false))
 
@@ -39,7 +39,7 @@ pub record AreOneFile (fault : OutputFault) (i : PlainImport) : Type 0 where
   pub first : i.target ≡ Some target.now
   pub second : i.actions ≡ Some actions.now
 
--- why the outputs of `import` are refused
+-- the fault for which the outputs of `import` are rejected
 abbrev pub AreOutputsOfImportRefused : PlainImport → OutputFault → Type 0
 AreOutputsOfImportRefused i fault =
     IsOverwritten fault i.target i.rules
@@ -47,6 +47,6 @@ AreOutputsOfImportRefused i fault =
     ⊎ (AreOneFile fault i
     ⊎ ((fault ≡ ActionsOnOutput) × (i.actions ≡ Some (codes "-")))))
 
--- Words are refused for such a fault, or memory was.
+-- Arguments are rejected for such a fault, or an allocation failed.
 abbrev pub IsRefusedFor : (OutputFault → Type 0) → Failure → Type 0
 IsRefusedFor Is failure = (failure ≡ Memory) ⊎ ((fault : OutputFault) × (failure ≡ Refused (Outputs fault)) × Is fault)

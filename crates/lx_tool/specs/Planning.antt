@@ -1,4 +1,4 @@
--- What is listed of files, by tables and by the rules of a specification.
+-- The listings of files, by tables and by the rules of a specification.
 use Rattle.std.specs.Prelude.{◌≡◌, ℕ, ◌<◌, List, Option, All, length}
 use Rattle.std.specs.Io.KnownBytes.{Appends}
 use Rattle.lx_rules.specs.Plain.{PlainSpec}
@@ -14,7 +14,7 @@ use Rattle.lx_forms.specs.FormListings.{listing_in}
 use Rattle.lx_cli.specs.CommandLine.{PlainFormWords}
 use Rattle.lx_tool.specs.Naming.{IsFormOf}
 
--- what was read of files are bytes
+-- the contents of the files are bytes
 abbrev pub AreBytes : List PlainInput → Type 0
 AreBytes inputs = All (λ input. All (λ b. b < 256) input.bytes) inputs
 
@@ -25,13 +25,13 @@ pub record IsPlanBy (table : Table) (inputs : List PlainInput) (plan : Planned) 
   pub table_is : plan.table ≡ table
   pub inputs_are : plan.inputs ≡ inputs
 
--- What was written are the lines of the items of these files by the tables.
+-- The lines of the items of these files by the tables were written.
 pub record ListsBy (table : Table) (inputs : List PlainInput) (old new : Option (List ℕ)) : Type 0 where
   pub plan : Planned
   pub by_tables : IsPlanBy table inputs plan
   pub wrote : Appends old new (listing_of plan)
 
--- What was written is a prefix of those lines.
+-- A prefix of those lines was written.
 pub record ListsPrefixBy (table : Table) (inputs : List PlainInput) (old new : Option (List ℕ)) : Type 0 where
   pub plan : Planned
   pub by_tables : IsPlanBy table inputs plan
@@ -45,7 +45,7 @@ pub record IsPlanByRules (spec : PlainSpec) (inputs : List PlainInput) (plan : P
   pub inputs_are : plan.inputs ≡ inputs
   pub items : (file : ℕ) → file < length inputs → AreItemsBy spec (bytes_of plan file) (items_of plan file)
 
--- What was written are the lines of the items of these files by the rules of the specification that the text says.
+-- The lines of the items of these files by the rules of the text's specification were written.
 pub record ListsByRules (text : List ℕ) (inputs : List PlainInput) (old new : Option (List ℕ)) : Type 0 where
   pub spec : PlainSpec
   pub read : IsRead text spec
@@ -53,7 +53,7 @@ pub record ListsByRules (text : List ℕ) (inputs : List PlainInput) (old new : 
   pub by_rules : IsPlanByRules spec inputs plan
   pub wrote : Appends old new (listing_of plan)
 
--- What was written is a prefix of those lines.
+-- A prefix of those lines was written.
 pub record ListsPrefixByRules (text : List ℕ) (inputs : List PlainInput) (old new : Option (List ℕ)) : Type 0 where
   pub spec : PlainSpec
   pub read : IsRead text spec
@@ -63,14 +63,14 @@ pub record ListsPrefixByRules (text : List ℕ) (inputs : List PlainInput) (old 
 
 -- ---- by the text of tables
 
--- What was written are the lines of the items of these files by the tables whose text it is.
+-- The lines of the items of these files by the tables whose text it is were written.
 pub record ListsByText (text : List ℕ) (inputs : List PlainInput) (old new : Option (List ℕ)) : Type 0 where
   pub table : Table
   pub is_table : IsTable table
   pub of_text : IsTextOf table text
   pub listed : ListsBy table inputs old new
 
--- What was written is a prefix of those lines.
+-- A prefix of those lines was written.
 pub record ListsPrefixByText (text : List ℕ) (inputs : List PlainInput) (old new : Option (List ℕ)) : Type 0 where
   pub table : Table
   pub is_table : IsTable table
@@ -79,7 +79,7 @@ pub record ListsPrefixByText (text : List ℕ) (inputs : List PlainInput) (old n
 
 -- ---- in the form that words ask for
 
--- What was written is this form of the items of these files by the tables.
+-- This form of the items of these files by the tables was written.
 pub record ListsIn (form : PlainForm) (table : Table) (inputs : List PlainInput) (old new : Option (List ℕ)) : Type 0 where
   pub plan : Planned
   pub by_tables : IsPlanBy table inputs plan
@@ -91,13 +91,13 @@ pub record ListsPrefixIn (form : PlainForm) (table : Table) (inputs : List Plain
   pub by_tables : IsPlanBy table inputs plan
   pub wrote : AppendsPrefix old new (listing_in form plan)
 
--- What was written is the form that the words ask for, of the items of these files with these names, by the tables.
+-- The form that the arguments ask for was written, of the items of these files with these names, by the tables.
 pub record ListsAsked (words : PlainFormWords) (table : Table) (names : List (List ℕ)) (inputs : List PlainInput) (old new : Option (List ℕ)) : Type 0 where
   pub form : PlainForm
   pub asked : IsFormOf words table names form
   pub listed : ListsIn form table inputs old new
 
--- The same of the items by the rules of the specification that the text says; what `--only` lists is judged by tables of it.
+-- The same of the items by the rules of the text's specification; its tables determine the kinds that `--only` lists.
 pub record ListsByRulesIn (words : PlainFormWords) (text : List ℕ) (names : List (List ℕ)) (inputs : List PlainInput) (old new : Option (List ℕ)) : Type 0 where
   pub spec : PlainSpec
   pub read : IsRead text spec

@@ -1,4 +1,4 @@
--- What `gen` and `up` print: tables in version 2, or a scanner in C.
+-- The texts that `gen` and `up` print: tables in version 2, or a scanner in C.
 use Rattle.std.specs.Prelude.{◌≡◌, ◌≢◌, ◌⊎◌, ◌&&◌, ◌||◌, ℕ, Bool, not, if◌then◌else◌, IsTrue, List, [], Option, Some, None, MatchOption, codes, is_some, map, slice_index_or, unwrap_or}
 use Rattle.std.specs.Io.KnownBytes.{Keeps}
 use Rattle.std.specs.declared.alloc.Global.{Global}
@@ -26,26 +26,26 @@ use Rattle.lx_tool.specs.declared.failure.RequestFault.TheVariants.{NoScanner, N
 
 -- ---- the words on a scanner in C
 
--- whether it, or its declarations, are printed
+-- true if it, or its declarations, are printed
 abbrev pub is_in_c : PlainC → Bool
 is_in_c c = c.scanner || c.header
 
--- what it is to be like, but for the names of its conditions
+-- its options, without the names of its conditions
 abbrev pub options_by : PlainC → Options
 options_by c = record { prefix = unwrap_or c.prefix (codes "lx"); conditions = []; include = c.include; direct = c.direct }
 
--- words that ask for one thing, and say more of it only where they ask for it
+-- options that ask for one of both, and give details only if they ask for it
 abbrev pub are_scanner_words : PlainC → Bool
 are_scanner_words c = not (c.scanner && c.header) && (is_in_c c || not (is_some c.prefix || (is_some c.include || c.direct)))
 
--- what is wrong with them
+-- the fault of them
 abbrev pub IsScannerFault : PlainC → RequestFault → Type 0
 IsScannerFault c fault =
     ((fault ≡ ScannerAndHeader) × IsTrue (c.scanner && c.header))
     ⊎ (((fault ≡ NoScanner) × IsTrue (not (is_in_c c) && (is_some c.prefix || (is_some c.include || c.direct))))
     ⊎ ((f : OptionFault) × (fault ≡ Scanner f) × (Some f ≡ option_fault (options_by c))))
 
--- They are refused, or memory was.
+-- They are rejected, or an allocation failed.
 abbrev pub AreScannerWordsRefused : PlainC → Failure → Type 0
 AreScannerWordsRefused c failure = (failure ≡ Memory) ⊎ ((fault : RequestFault) × (failure ≡ Refused fault) × IsScannerFault c fault)
 
@@ -54,7 +54,7 @@ AreScannerWordsRefused c failure = (failure ≡ Memory) ⊎ ((fault : RequestFau
 abbrev pub printed_text : PlainC → Options → Table → List ℕ
 printed_text c o table = if c.scanner then c_text o table else if c.header then header_text o table else text_2 table
 
--- what is wrong with the states or the kinds of tables, where a scanner in C is printed
+-- the fault of the tables' states or kinds, if a scanner in C is printed
 abbrev pub kinds_fault : PlainC → Options → Table → Option KindFault
 kinds_fault c o table = if is_in_c c then kind_fault o table else None
 
@@ -76,7 +76,7 @@ pub record PlacesTables {T : Type 0} (places : T → List ℕ → List ℕ → T
   pub kinds : kinds_fault c o table ≡ None
   pub placed : IsPlaced places target (printed_text c o table) old new
 
--- what is printed of tables, with these names of conditions, if they are known
+-- the printed text of tables, with these names of conditions, if they are known
 pub record IsTextPrinted (c : PlainC) (conditions : List (List ℕ)) (table : Table) (printed : List ℕ) : Type 0 where
   pub words : IsTrue (are_scanner_words c)
   pub kinds : kinds_fault c (named (options_by c) conditions) table ≡ None
@@ -86,7 +86,7 @@ pub record IsTextPrinted (c : PlainC) (conditions : List (List ℕ)) (table : Ta
 abbrev pub condition_names : PlainSpec → List (List ℕ)
 condition_names spec = map (λ condition. condition.name) spec.conditions
 
--- That is what is printed of the specification that a text says.
+-- It is the printed text of the text's specification.
 pub record PrintsSpecification (c : PlainC) (text printed : List ℕ) : Type 0 where
   pub spec : PlainSpec
   pub read : IsRead text spec
@@ -94,7 +94,7 @@ pub record PrintsSpecification (c : PlainC) (text printed : List ℕ) : Type 0 w
   pub of_spec : AreTablesOf spec table
   pub prints : IsTextPrinted c (condition_names spec) table printed
 
--- That is what is printed of the tables whose text it is.
+-- It is the printed text of the tables whose text it is.
 pub record PrintsTables (c : PlainC) (text printed : List ℕ) : Type 0 where
   pub table : Table
   pub is_table : IsTable table
@@ -106,7 +106,7 @@ pub record PrintsTables (c : PlainC) (text printed : List ℕ) : Type 0 where
 abbrev pub kind_named : Table → ℕ → List ℕ
 kind_named table number = slice_index_or table.kinds number []
 
--- the fault, as it is told: a kind by its name
+-- the reported fault: a kind by its name
 abbrev pub IsToldAs : Table → KindFault → PrintFault → Type 0
 IsToldAs table kind.Numbers told = told ≡ Numbers
 IsToldAs table (kind.Reserved number) told = (name : Vec ℕ Global) × (told ≡ Reserved name) × (name.items ≡ kind_named table number)
@@ -134,7 +134,7 @@ pub record AreKindsOfTablesRefused (c : PlainC) (text : List ℕ) (failure : Fai
   pub of_text : IsTextOf table text
   pub refused : AreKindsRefused c (named (options_by c) []) table failure
 
--- Nothing was written: no files can be made and one is asked for, or the kinds were refused.
+-- Nothing was written: no files can be made and one is asked for, or the kinds were rejected.
 pub record FailsPrinting (c : PlainC) (o : Options) (table : Table) (target : Option (List ℕ)) (old new : Option (List ℕ)) (failure : Failure) : Type 0 where
   pub kept : Keeps old new
   pub cause : ((failure ≡ Refused NoTargets) × (target ≢ None)) ⊎ AreKindsRefused c o table failure

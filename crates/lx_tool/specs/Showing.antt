@@ -1,4 +1,4 @@
--- What `show` prints: the automaton of a specification, or of tables, as a graph.
+-- The graph that `show` prints: the automaton of a specification, or of tables.
 use Rattle.std.specs.Prelude.{◌≡◌, ◌<◌, ◌≤◌, ◌⊎◌, ℕ, Bool, true, false, nat_eq, List, [], Option, codes}
 use Rattle.std.specs.Io.KnownBytes.{Appends}
 use Rattle.std.specs.List.{starts_with}
@@ -17,11 +17,11 @@ use Rattle.lx_tool.specs.declared.failure.Failure.{Failure}
 use Rattle.lx_tool.specs.declared.failure.Failure.TheVariants.{Unprintable}
 use Rattle.lx_tool.specs.declared.failure.PrintFault.TheVariants.{TooManyStates}
 
--- how many states are shown where not all are asked for
+-- the greatest number of states that are shown, unless all are asked for
 abbrev pub max_shown : ℕ
 max_shown = 200
 
--- whether a text is one of tables, and else of a specification
+-- true if a text is one of tables, and else it is one of a specification
 abbrev pub begins_as_tables : List ℕ → Bool
 begins_as_tables text = starts_with nat_eq text (codes "lx-tables ")
 

@@ -1,4 +1,4 @@
--- Files by name, and what sources give for names.
+-- Files by name, and the inputs that sources give for names.
 use Rattle.std.specs.Prelude.{◌≡◌, ◌≢◌, ℕ, Bool, false, ◌||◌, if◌then◌else◌, List, [], ◌∷◌, ◌++◌, All, Option, map}
 use Rattle.std.specs.Borrow.{Bor}
 use Rattle.std.specs.Io.KnownBytes.{Consumes}
@@ -20,13 +20,13 @@ pub data AreGiven {S : Type 0} (gives : S → List ℕ → PlainInput → S → 
   first : {s t u : S} {name : List ℕ} {input : PlainInput} {names : List (List ℕ)} {inputs : List PlainInput} →
       gives s name input t → AreGiven gives t names inputs u → AreGiven gives s (name ∷ names) (input ∷ inputs) u
 
--- Between one state of the sources and a later one a file was given for the name, and this is all of it, or a front part that has more names than so many.
+-- Between one state of the sources and a later one a file was given for the name. This is all of it, or a front part with more than `most` names.
 pub record GivesFront {S : Type 0} (gives : S → List ℕ → PlainInput → S → Type 0) (before : S) (name : List ℕ) (separator most : ℕ) (input : PlainInput) (after : S) : Type 0 where
   pub text : List ℕ
   pub given : gives before name (record { bytes = text; cut = input.cut }) after
   pub front : IsFront separator most text input.bytes
 
--- of files with these names, the names of those that were cut short
+-- the names of the files that were cut short
 abbrev pub cut_names : List (List ℕ) → List PlainInput → List (List ℕ)
 cut_names [] inputs = []
 cut_names (name ∷ names) [] = []
@@ -45,12 +45,12 @@ pub record IsFirstNamed (files : List (List ℕ × PlainInput)) (name : List ℕ
   pub there : files ≡ before ++ (name, input) ∷ behind
   pub first : NoneIsNamed before name
 
--- whether a name is one of these
+-- true if a name is one of these
 abbrev pub is_among : List (List ℕ) → List ℕ → Bool
 is_among [] name = false
 is_among (known ∷ names) name = bytes_eq known name || is_among names name
 
--- a file of a name and bytes, whose reading failed behind them where its name is one of these
+-- a file of a name and bytes; its reading failed after them if its name is one of these
 abbrev pub named_input : List (List ℕ) → Bor (List ℕ) × Bor (List ℕ) → List ℕ × PlainInput
 named_input cut file = (file.0.now, record { bytes = file.1.now; cut = is_among cut file.0.now })
 
@@ -60,7 +60,7 @@ inputs_of cut files = map (named_input cut) files
 
 -- ---- reading
 
--- Bytes were read, which stand behind those that were read before.
+-- Bytes were read, after those that were read before.
 pub record ReadsOn (before after : Option (List ℕ)) (old new : List ℕ) : Type 0 where
   pub more : List ℕ
   pub behind : new ≡ old ++ more

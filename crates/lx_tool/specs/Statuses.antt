@@ -59,21 +59,21 @@ report_in (NotRead name) = None
 report_in Output = None
 report_in Memory = None
 
--- What was written where a command is not done: its report, and else nothing.
+-- A command that fails writes its report, if it has one, and else nothing.
 abbrev pub WroteReport : Failure → Option (List ℕ) → Option (List ℕ) → Type 0
 WroteReport failure old new = MatchOption (report_in failure) (Keeps old new) (λ report. Appends old new report)
 
--- the exit status where all was done, but that these files were cut short
+-- the exit status if all was done, except that these files were cut short
 pub record HasStatusOfCut {X : Type 0} (status : ℕ) (cut : List X) : Type 0 where
   pub none : length cut ≡ 0 → status ≡ 0
   pub some : 0 < length cut → status ≡ 3
 
--- why a command is not done whose listing is not written whole
+-- the failure of a command whose listing is not written whole
 abbrev pub failure_of_run : RunFault → Failure
 failure_of_run run.Memory = Memory
 failure_of_run run.Reader = Output
 
--- why a listing is not done whose `--only` is refused
+-- the failure of a listing whose `--only` is rejected
 abbrev pub failure_of_choice : ChoiceFault → Failure
 failure_of_choice (choice.NoKind word) = Refused (NoKind word)
 failure_of_choice choice.NoName = Refused EmptyKind
@@ -85,22 +85,22 @@ failure_of_target target.NotServed = Refused NoTargets
 failure_of_target target.NotWritten = Output
 failure_of_target target.Memory = Memory
 
--- A fault of a specification is answered as it is, but where memory was refused.
+-- A fault of a specification is answered as it is, except for a failed allocation.
 abbrev pub AnswersFault : SpecFault → Failure → Type 0
 AnswersFault fault failure = ((fault.code ≡ code.Memory) × (failure ≡ Memory)) ⊎ ((fault.code ≢ code.Memory) × (failure ≡ Specification fault))
 
--- why a command is not done whose specification has no automaton
+-- the failure of a command whose specification has no automaton
 abbrev pub failure_of_build : BuildFault → Failure
 failure_of_build build.TooManyPositions = Automaton build.TooManyPositions
 failure_of_build build.TooManySets = Automaton build.TooManySets
 failure_of_build build.Memory = Memory
 
--- why a command is not done whose tables are not read
+-- the failure of a command whose tables are not read
 abbrev pub failure_of_table : TableFault → Failure
 failure_of_table table.NoTables = Tables table.NoTables
 failure_of_table table.Memory = Memory
 
--- That memory was refused is told by no other failure than Memory.
+-- A failed allocation is reported by no other failure than Memory.
 abbrev pub HidesNoMemory : Failure → Type 0
 HidesNoMemory (Specification fault) = fault.code ≢ code.Memory
 HidesNoMemory (Automaton fault) = fault ≢ build.Memory

@@ -14,7 +14,7 @@ pub record IsSwitched (name : List ℕ) (is_in : Bool) (old new : KindSet) : Typ
   pub named : name ≡ name_text kind
   pub each : (other : WarningKind) → has_kind new other ≡ (if bytes_eq (name_text kind) (name_text other) then is_in else has_kind old other)
 
--- The new set has the kinds that are asked for behind a word.
+-- The new set has the kinds that are enabled after a word.
 pub record IsAskedBehind (word : List ℕ) (old new : KindSet) : Type 0 where
   pub each : (kind : WarningKind) → has_kind new kind ≡ asked_by_word kind (has_kind old kind) word
 

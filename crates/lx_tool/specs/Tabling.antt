@@ -1,4 +1,4 @@
--- What tables a text has, and why it has none.
+-- The tables of a text, and the cause for which it has none.
 use Rattle.std.specs.Prelude.{◌≡◌, ◌≢◌, ℕ, ⊤, List}
 use Rattle.lx_rules.specs.Plain.{PlainSpec}
 use Rattle.lx_spec.specs.Whole.{IsFault, IsRead}
@@ -29,7 +29,7 @@ pub record IsTooLarge (text : List ℕ) (fault : BuildFault) : Type 0 where
   pub positions : fault ≡ build.TooManyPositions → HasTooManyPositions spec
   pub sets : fault ≡ build.TooManySets → HasTooManySets spec
 
--- why a text has no tables: what is wrong with it, or that memory was refused
+-- the cause for which a text has no tables: its fault, or a failed allocation
 abbrev pub HasNoTables : List ℕ → Failure → Type 0
 HasNoTables text (Specification fault) = (fault.code ≢ code.Memory) × IsFault text fault
 HasNoTables text (Automaton fault) = IsTooLarge text fault

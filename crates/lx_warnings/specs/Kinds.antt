@@ -29,7 +29,7 @@ number UnreadBytes = 17
 abbrev pub has_kind : KindSet → WarningKind → Bool
 has_kind set kind = slice_index_or set.flags (number kind) false
 
--- the kind is told unless others are asked for
+-- the kind is reported by default
 abbrev pub is_usual : WarningKind → Bool
 is_usual ConditionWord = true
 is_usual NeverEntered = true

@@ -1,4 +1,4 @@
--- What is told of a text.
+-- The warnings about a text.
 use Rattle.std.specs.Prelude.{ℕ, ◌<◌, List, length}
 use Rattle.lx_diagnose.specs.Places.{IsInText}
 use Rattle.lx_diagnose.specs.Printed.{ArePrinted}

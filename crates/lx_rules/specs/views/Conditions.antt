@@ -1,4 +1,4 @@
--- The conditions of a specification, without where they lie in memory.
+-- The conditions of a specification, without their places in memory.
 use Rattle.lx_rules.specs.Plain.{StartCondition}
 use Rattle.lx_rules.specs.declared.condition.Condition.{Condition}
 

@@ -1,4 +1,4 @@
--- The rules and definitions of the code, without where they lie in memory.
+-- The rules and definitions of the code, without their places in memory.
 use Rattle.std.specs.Prelude.{ℕ, List, map}
 use Rattle.std.specs.Option.{option_map}
 use Rattle.std.specs.declared.alloc.Global.{Global}

@@ -1,4 +1,4 @@
--- The specification of the code, without where it lies in memory.
+-- The specification of the code, without its place in memory.
 use Rattle.std.specs.Prelude.{map}
 use Rattle.lx_rules.specs.Plain.{PlainSpec}
 use Rattle.lx_rules.specs.views.Conditions.{condition_view}

@@ -1,4 +1,4 @@
--- The statements of actions in the code, without where they lie in memory.
+-- The statements of actions in the code, without their places in memory.
 use Rattle.std.specs.Prelude.{List, map}
 use Rattle.lx_spec.specs.Actions as actions
 use Rattle.lx_spec.specs.declared.returned_value.Value.{Value}

@@ -1,4 +1,4 @@
--- The dictionary of the code, without where it lies in memory, and what it says of the definitions.
+-- The dictionary of the code, without its place in memory, and its meaning for the definitions.
 use Rattle.std.specs.Prelude.{◌≡◌, ℕ, Bool, List, [], ◌∷◌, ◌++◌, Option, Some, slice_get}
 use Rattle.lx_ere.specs.Regex.{Regex}
 use Rattle.lx_spec.specs.Sections.{RawDefinition}

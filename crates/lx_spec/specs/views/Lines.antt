@@ -1,4 +1,4 @@
--- The lines of the code, without where they lie in memory.
+-- The lines of the code, without their places in memory.
 use Rattle.lx_spec.specs.Bytes.{words_of}
 use Rattle.lx_spec.specs.Lines as line
 use Rattle.lx_spec.specs.declared.line.Line.{Line}

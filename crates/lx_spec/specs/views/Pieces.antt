@@ -1,4 +1,4 @@
--- The pieces of actions in the code, without where they lie in memory.
+-- The pieces of actions in the code, without their places in memory.
 use Rattle.std.specs.Prelude.{ℕ, ◌<◌, length}
 use Rattle.lx_spec.specs.ActionWords as words
 use Rattle.lx_spec.specs.views.Words.{word_view}
@@ -11,7 +11,7 @@ piece_view (Passed rest) = words.passed rest.now
 piece_view (Found w rest) = words.word (word_view w) rest.now
 piece_view NoWord = words.no_word
 
--- what stands behind the piece is shorter
+-- the text after the piece is shorter
 abbrev pub LeavesLess : Piece → ℕ → Type 0
 LeavesLess Ended n = Unit {0}
 LeavesLess (Passed rest) n = length rest.now < n

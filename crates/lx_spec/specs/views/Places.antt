@@ -1,4 +1,4 @@
--- Where a line stands, in the code, without where it lies in memory.
+-- The place of a line, in the code, without its place in memory.
 use Rattle.std.specs.Prelude.{Option}
 use Rattle.std.specs.Option.{option_map}
 use Rattle.lx_spec.specs.Sections as plain
@@ -15,6 +15,6 @@ place_view Rules = plain.rules
 place_view (RulesGroup since) = plain.rules_group since
 place_view (Action begun) = plain.action (raw_rule_view begun.rule) begun.count
 
--- what is said once a line was taken, and where the next one stands
+-- the contents once a line was taken, and the place of the next line
 abbrev pub taken_view : ParsedSections × Option Place → plain.ParsedSections × Option plain.Place
 taken_view taken = (sections_view taken.0, option_map place_view taken.1)

@@ -1,4 +1,4 @@
--- What rules say, in the code, without where it lies in memory.
+-- Resolved rules, in the code, without their places in memory.
 use Rattle.std.specs.Option.{option_map}
 use Rattle.lx_ere.specs.Regex.{reading_of}
 use Rattle.lx_spec.specs.Outcome.{ResolvedRule}

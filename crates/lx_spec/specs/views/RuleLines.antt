@@ -1,4 +1,4 @@
--- The lines of rules of the code, without where they lie in memory.
+-- The lines of rules of the code, without their places in memory.
 use Rattle.lx_spec.specs.RuleLines as line
 use Rattle.lx_spec.specs.declared.rule_line.Prefix.{Prefix}
 use Rattle.lx_spec.specs.declared.rule_line.Prefix.TheVariants.{Absent, Unclosed, Listed}

@@ -1,4 +1,4 @@
--- What the sections say, in the code, without where it lies in memory.
+-- The contents of the sections, in the code, without their places in memory.
 use Rattle.std.specs.Prelude.{map}
 use Rattle.lx_rules.specs.Plain as spec
 use Rattle.lx_spec.specs.Sections as plain

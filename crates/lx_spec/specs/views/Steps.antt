@@ -1,4 +1,4 @@
--- The steps of rules in the code, without where they lie in memory.
+-- The steps of rules in the code, without their places in memory.
 use Rattle.std.specs.Prelude.{ℕ, List, [], ◌∷◌}
 use Rattle.lx_rules.specs.Plain.{StartCondition, PlainRule}
 use Rattle.lx_rules.specs.declared.rule.Step.{Step}
@@ -11,11 +11,11 @@ steps_at_end [] = []
 steps_at_end (r ∷ []) = r.steps
 steps_at_end (r ∷ s ∷ rules) = steps_at_end (s ∷ rules)
 
--- the steps of an action, where those of the next rule are these
+-- the steps of an action, given those of the next rule
 abbrev pub steps_before : List StartCondition → List (List ℕ) → Action → List Step → List Step
 steps_before start_conditions kinds shared next = next
 steps_before start_conditions kinds (own ss) next = steps_of start_conditions kinds ss
 
--- what a rule says, with the steps of its action
+-- a resolved rule, with the steps of its action
 abbrev pub with_steps : ℕ → ResolvedRule → List Step → PlainRule
 with_steps line s steps = record { line = line; conditions = s.conditions; reading = s.reading; steps = steps }

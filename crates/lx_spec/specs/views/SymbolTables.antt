@@ -1,4 +1,4 @@
--- The symbol table: what the rules stand on, in the code, without where it lies in memory.
+-- The symbol table that the rules use, in the code, without its place in memory.
 use Rattle.std.specs.Prelude.{◌<◌, length, map}
 use Rattle.lx_spec.specs.Verdict.{SymbolTable}
 use Rattle.lx_spec.specs.views.Sections.{start_condition_view, raw_definition_view}

@@ -1,4 +1,4 @@
--- The trees of the code, without where they lie in memory.
+-- The trees of the code, without their places in memory.
 use Rattle.std.specs.Prelude.{List, Option, map}
 use Rattle.std.specs.Option.{option_map}
 use Rattle.lx_ere.specs.declared.expr.Expr.{Expr}

@@ -1,4 +1,4 @@
--- What stands at the front of some words, in the code, without where it lies in memory.
+-- The front of some words, in the code, without its place in memory.
 use Rattle.std.specs.Prelude.{ℕ, ◌<◌, ◌≤◌, List, drop}
 use Rattle.lx_spec.specs.Actions as actions
 use Rattle.lx_spec.specs.views.Words.{words_view}
@@ -14,7 +14,7 @@ turn_view words Closes = actions.closes (words_view (drop 1 words))
 turn_view words (States s n) = actions.states (statement_view s) (words_view (drop n words))
 turn_view words NoStatement = actions.no_statement
 
--- so many words are there, of which it takes one at least
+-- it takes at least one of this number of words, and no more than all
 abbrev pub TakesWords : Turn → ℕ → Type 0
 TakesWords Finished n = Unit {0}
 TakesWords Opens n = 0 < n

@@ -1,4 +1,4 @@
--- The words of actions in the code, without where they lie in memory.
+-- The words of actions in the code, without their places in memory.
 use Rattle.std.specs.Prelude.{List, map}
 use Rattle.lx_spec.specs.ActionWords as words
 use Rattle.lx_spec.specs.declared.word.Word.{Word}

@@ -5,7 +5,7 @@ use Rattle.lx_piece.specs.Relayed.{AreAllAmongBy}
 use Rattle.lx_piece.proofs.AllCut.{all_came}
 use Rattle.lx_piece.proofs.plan_pieces.relay_plan.Goals as goal
 
--- no piece was refused, so that every piece of every file came
+-- no piece was refused, so every piece of every file came
 pub returns-clause-ok : goal.returns-clause-ok
 returns-clause-ok g c = λ file within.
     let e = c.in_ok-_replies.ensures in

@@ -4,7 +4,7 @@ use Rattle.lx_piece.specs.Kept.{NoneReady, shape_of_kept, delivered_counts}
 use Rattle.lx_piece.proofs.SoFar.{SoFar}
 use Rattle.lx_piece.proofs.relaying.relay_of.Given as goal
 
--- the collector stands for what came, the replies are those to it, and all that can be delivered is delivered
+-- the collector represents the list that came, the replies are those to it, and all that can be delivered is delivered
 abbrev pub invariant-loop-piece : goal.invariant-loop-piece
 invariant-loop-piece g l =
     record {

@@ -13,7 +13,7 @@ returns-then-is_none-clause-piece g c =
     let per_piece = c.per_piece-most.ensures in
     (ap (λ (k : Cutting). k.next) (sym c.self.view_is) ∙ none_next c.args.plan.now _ (omega arith) is c.if-self-gt0.true (c.is_none.ensures ∙ ap not c.if-is_none.true) ∙ ap (λ (k : Cutting). pieces_of c.args.plan.now k.file) c.self.view_is, refl)
 
--- the cutter as it was, where a piece is ahead, and what was taken from it
+-- the cutter as it was, if a piece is ahead, and the result of taking from it
 abbrev cutter : (g : Over) → goal.After-self-3-1 g → Cutting
 cutter g c = record { plan = c.self.inside.plan.value; file = c.self.inside.file; next = c.self.inside.number; cursor = c.self.inside.cursor; ahead = c.self.inside.ahead }
 
